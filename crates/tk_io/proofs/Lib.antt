@@ -1,0 +1,2 @@
+-- Lemmas on bytes that are known in part.
+pub mod KnownBytes

@@ -1,0 +1,27 @@
+//! Streams of bytes in and out, each with a count of its faults.
+//!
+//! A [`Source`] is read by [`read_all`], which takes everything up to a limit; a [`Sink`] is written
+//! by [`put`], which sends everything. Both say what reached the other side when they fail, and fail
+//! only where the stream's own count of faults rose: no caller can be told of a fault that didn't
+//! happen.
+//!
+//! [`MemSource`] and [`MemSink`] stand in memory, [`FlakySource`] and [`FlakySink`] fail at calls that
+//! are chosen beforehand, [`StdSource`] and [`StdSink`] are the process's own streams.
+#![tactic(auto)]
+
+mod failure;
+mod flaky;
+mod memory;
+mod sink;
+mod source;
+mod standard;
+
+pub use failure::{Failed, NoMemory, ReadAll};
+pub use flaky::{FlakySink, FlakySource};
+pub use memory::{MemSink, MemSource};
+pub use sink::{Sink, put};
+pub use source::{Source, read_all};
+pub use standard::{StdSink, StdSource};
+
+#[cfg(test)]
+mod tests;

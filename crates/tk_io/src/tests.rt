@@ -1,0 +1,61 @@
+use super::*;
+use std::test::Fail;
+
+#[test]
+fn a_source_is_read_to_its_end(rt: HostRuntime) -> Result<(), Fail> {
+    let alloc = rt.alloc();
+    for (limit, want) in [(4, Ok(3)), (3, Ok(3)), (2, Err(ReadAll::TooLong))] {
+        let mut source = MemSource::new(b"abc".to_vec(alloc)?);
+        let answer = read_all(alloc, &mut source, limit).map(|bytes| bytes.len());
+        assert_eq!(rt; answer, want, "limit {limit}");
+        assert_eq!(rt; source.left().len(), 0);
+    }
+    Ok(())
+}
+
+#[test]
+fn a_fault_in_mid_stream_is_told(rt: HostRuntime) -> Result<(), Fail> {
+    let alloc = rt.alloc();
+    let mut source = FlakySource::new(b"abc".to_vec(alloc)?, [2].to_vec(alloc)?);
+    let answer = read_all(alloc, &mut source, 9).map(|bytes| bytes.len());
+    assert_eq!(rt; answer, Err(ReadAll::Fault));
+    assert_eq!(rt; source.left().len(), 0);
+    Ok(())
+}
+
+#[test]
+fn a_sink_takes_what_is_put(rt: HostRuntime) -> Result<(), Fail> {
+    let alloc = rt.alloc();
+    let mut sink = MemSink::new(alloc, 4).map_err(|_| "no memory")?;
+    assert_eq!(rt; put(&mut sink, b"abc"), Ok(()));
+    assert_eq!(rt; put(&mut sink, b"de"), Err(Failed));
+    assert_eq!(rt; sink.taken(), b"abcd".as_slice());
+    Ok(())
+}
+
+#[test]
+fn a_listed_call_of_a_sink_fails(rt: HostRuntime) -> Result<(), Fail> {
+    let alloc = rt.alloc();
+    let failing = [2].to_vec(alloc)?;
+    let mut sink = FlakySink::new(alloc, 9, failing).map_err(|_| "no memory")?;
+    assert_eq!(rt; put(&mut sink, b"abc"), Ok(()));
+    assert_eq!(rt; put(&mut sink, b"de"), Err(Failed));
+    assert_eq!(rt; put(&mut sink, b"fg"), Ok(()));
+    assert_eq!(rt; sink.taken(), b"abcfg".as_slice());
+    Ok(())
+}
+
+#[test]
+fn readers_and_writers_of_std_serve(rt: HostRuntime) -> Result<(), Fail> {
+    let alloc = rt.alloc();
+    let mut source = StdSource::new(b"abc".as_slice());
+    let answer = read_all(alloc, &mut source, 9).map(|bytes| bytes.len());
+    assert_eq!(rt; answer, Ok(3));
+
+    let mut room = [0; 4];
+    let mut sink = StdSink::new(room.as_mut_slice());
+    assert_eq!(rt; put(&mut sink, b"abc"), Ok(()));
+    // The writer takes one byte, and then none.
+    assert_eq!(rt; put(&mut sink, b"de"), Err(Failed));
+    Ok(())
+}
