@@ -22,7 +22,11 @@ ReadsAll limit old new (Err TooLong) = Takes (limit + 1) old new
 ReadsAll limit old new (Err Fault) = TakesAtMost limit old new
 ReadsAll limit old new (Err NoMemory) = TakesAtMost limit old new
 
+-- a shorter part of the bytes from the front was added
+abbrev pub CutShort : Option (List ℕ) → Option (List ℕ) → List ℕ → Type 0
+CutShort old new bytes = (n : ℕ) × (n < length bytes) × Appends old new (take n bytes)
+
 -- Writing all of the bytes, or a part from the front where the sink failed.
 abbrev pub Puts : {T E : Type 0} → Option (List ℕ) → Option (List ℕ) → Result T E → List ℕ → Type 0
 Puts old new (Ok x) bytes = Appends old new bytes
-Puts old new (Err e) bytes = (n : ℕ) × (n < length bytes) × Appends old new (take n bytes)
+Puts old new (Err e) bytes = CutShort old new bytes

@@ -1,0 +1,20 @@
+-- `the_form` is the meaning of two words.
+use Rattle.std.proofs.Common.{◌≡◌, ℕ, ◌<◌, Some, IsTrue}
+use Rattle.avr_isa.specs.declared.form.Form.{Form}
+use Rattle.avr_isa.specs.Instruction.{is_valid}
+use Rattle.avr_isa.specs.Encoding.{IsRow, IsDecoded}
+use Rattle.avr_decode.specs.Decoding.{the_form}
+use Rattle.avr_decode.proofs.Complete.{complete}
+use Rattle.avr_decode.proofs.Sound.{sound}
+
+-- a valid form that has these words is what they mean
+pub the_form_only : (f : Form) (first second : ℕ) → IsTrue (is_valid f) → IsRow f first second → the_form first second ≡ Some f
+the_form_only f first second valid row = rw row.opcode (complete f second valid row.address)
+
+-- what two words mean is valid and has these words
+pub the_form_row : (f : Form) (first second : ℕ) → first < 65536 → second < 65536 → the_form first second ≡ Some f → IsTrue (is_valid f) × IsRow f first second
+the_form_row f first second first_fits second_fits same = rw same at (sound first second first_fits second_fits)
+
+pub the_form_is_decoded : (first second : ℕ) → first < 65536 → second < 65536 → IsDecoded first second (the_form first second)
+the_form_is_decoded first second first_fits second_fits =
+    record { row = sound first second first_fits second_fits; only = λ f. the_form_only f first second }

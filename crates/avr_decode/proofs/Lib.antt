@@ -1,0 +1,5 @@
+pub mod Decoded
+pub mod Lengths
+mod Complete
+mod Sound
+mod Tables

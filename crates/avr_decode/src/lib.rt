@@ -1,0 +1,64 @@
+//! Decoding: the instruction that the words of a program mean.
+//!
+//! ```rust
+//! use avr_decode::decode;
+//! use avr_isa::Form;
+//!
+//! let jump = decode(0x940C, 0x1234).ok_or("an instruction")?;
+//! assert_eq!(rt; *jump.form(), Form::Jmp(0x1234));
+//! ```
+//!
+//! What words mean is defined in `avr_isa` by one row for each instruction (`IsDecoded` of its
+//! `Encoding`). `specs/Decoding` has the same meaning as a function that computes, `the_form`, for the
+//! proofs above. Public laws: `Decoded` (the two are the same) and `Lengths` (the first word tells the
+//! number of words).
+#![tactic(auto)]
+
+ghost use Rattle.std.specs.Prelude.{◌≡◌, ◌↔◌, IsTrue};
+ghost use Rattle.avr_isa.specs.Encoding.{BeginsTwoWords, IsDecoded};
+ghost use Rattle.avr_decode.specs.Decoding.{is_absolute, is_direct, is_long, the_form};
+
+use avr_isa::Instr;
+
+mod fields;
+mod rows;
+#[cfg(test)]
+mod tests;
+
+/// The instruction that two words begin with; the second matters only where the first begins an
+/// instruction of two words. None where no instruction of the ATmega128 has these words, as for
+/// EICALL, for JMP and CALL beyond word 65,535, and for the undefined pairs of `Instr::new`.
+#[tactic(auto, unfolding(crate::specs::Decoding::the_form, crate::specs::Decoding::defined_form, crate::specs::Decoding::if_defined))]
+pub fn decode(w0: u16, w1: u16) -> Option<Instr>
+    ensures value { result ≡ the_form w0 w1 }
+    ensures decoded { IsDecoded w0 w1 result }
+{
+    if two_words(w0) {
+        Instr::new(rows::two_word(w0, w1))
+    } else {
+        rows::one_word(w0).and_then(Instr::new)
+    }
+}
+
+/// Whether an instruction of two words begins with this word: LDS, STS, JMP or CALL.
+#[tactic(auto, unfolding(crate::specs::Decoding::is_long))]
+pub fn two_words(w: u16) -> bool
+    ensures value { result ≡ is_long w }
+    ensures rows { IsTrue result ↔ BeginsTwoWords w }
+{
+    is_direct(w) | is_absolute(w)
+}
+
+// LDS and STS.
+fn is_direct(w: u16) -> bool
+    ensures value { result ≡ is_direct w }
+{
+    w >> 10 == 0x24 && w & 0xF == 0
+}
+
+// JMP and CALL.
+fn is_absolute(w: u16) -> bool
+    ensures value { result ≡ is_absolute w }
+{
+    w == 0x940C || w == 0x940E
+}

@@ -1,0 +1,33 @@
+-- Words that begin with an instruction's words are its row, and the other way round.
+use Rattle.std.proofs.Common.{◌≡◌, ℕ, Option, MatchOption, ◌∙◌, sym, subst}
+use Rattle.std.specs.Bool.{⊤}
+use Rattle.avr_isa.specs.declared.form.Form.{Form}
+use Rattle.avr_isa.specs.Encoding.{first_word, second_word, IsRow}
+use Rattle.avr_decode.proofs.Decoded.{the_form_only, the_form_row}
+use Rattle.avr_encode.specs.declared.Words.{Words}
+use Rattle.avr_encode.specs.Words.{BeginWith}
+use Rattle.avr_encode.proofs.encode.Goals as goal
+
+row_of : (f : Form) (words : Words) (a b : ℕ) → words.first ≡ first_word f → words.second ≡ second_word f → BeginWith words a b → IsRow f a b
+row_of f words a b opcode address begin =
+    record {
+      opcode = begin.opcode ∙ opcode;
+      address = subst (λ (o : Option ℕ). MatchOption o ⊤ (λ s. b ≡ s)) address begin.address;
+    }
+
+begins : (f : Form) (words : Words) (a b : ℕ) → words.first ≡ first_word f → words.second ≡ second_word f → IsRow f a b → BeginWith words a b
+begins f words a b opcode address row =
+    record {
+      opcode = row.opcode ∙ sym opcode;
+      address = subst (λ (o : Option ℕ). MatchOption o ⊤ (λ s. b ≡ s)) (sym address) row.address;
+    }
+
+pub returns-clause-decodes : goal.returns-clause-decodes
+returns-clause-decodes c = λ a b begin.
+    the_form_only c.args.i.now a b (rw (← c.form-form.ensures.value) c.form-form.ensures.valid)
+    (row_of c.args.i.now _ a b (cc) (cc) begin)
+
+pub returns-clause-only : goal.returns-clause-only
+returns-clause-only c = λ a b first_fits second_fits same.
+    begins c.args.i.now _ a b (cc) (cc)
+    (the_form_row c.args.i.now a b first_fits second_fits same).1

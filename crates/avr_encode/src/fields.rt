@@ -1,0 +1,140 @@
+// Each operand at the places of its bits in the first word.
+ghost use Rattle.std.specs.Prelude.{◌≡◌, ◌+◌, ◌*◌, ◌<◌};
+ghost use Rattle.avr_isa.specs.Encoding.{flag, flag_and_branch, high_register_and_byte, io_and_bit, jump, one_register, pair_and_six_bits, register_and_bit, register_and_displacement, register_and_io, two_high_registers, two_pairs, two_registers};
+
+use avr_isa::{Bit, EvenReg, HighReg, IoAddr, LowIo, MidReg, PairReg, Reg, Rel7, Rel12, Six};
+
+// .... ..rd dddd rrrr
+pub fn registers(d: &Reg, r: &Reg) -> u16
+    ensures value { result ≡ two_registers d.now r.now }
+    ensures range { result < 1024 }
+{
+    let d = u16::from(d.get());
+    let r = u16::from(r.get());
+    512 * (r >> 4) + (d << 4) + (r & 0xF)
+}
+
+// .... .... dddd rrrr
+pub fn register_pairs(d: &EvenReg, r: &EvenReg) -> u16
+    ensures value { result ≡ two_pairs d.now r.now }
+    ensures range { result < 256 }
+{
+    let d = u16::from(d.get());
+    let r = u16::from(r.get());
+    16 * (d >> 1) + (r >> 1)
+}
+
+// .... .... dddd rrrr
+pub fn high_registers(d: &HighReg, r: &HighReg) -> u16
+    ensures value { result ≡ two_high_registers d.now r.now }
+    ensures range { result < 256 }
+{
+    let d = u16::from(d.get());
+    let r = u16::from(r.get());
+    16 * (d - 16) + (r - 16)
+}
+
+// .... .... .ddd .rrr
+pub fn mid_registers(d: &MidReg, r: &MidReg) -> u16
+    ensures value { result ≡ two_high_registers d.now r.now }
+    ensures range { result < 120 }
+{
+    let d = u16::from(d.get());
+    let r = u16::from(r.get());
+    16 * (d - 16) + (r - 16)
+}
+
+// .... KKKK dddd KKKK
+pub fn high_register_with(d: &HighReg, k: u8) -> u16
+    ensures value { result ≡ high_register_and_byte d.now k }
+    ensures range { result < 4096 }
+{
+    let d = u16::from(d.get());
+    let k = u16::from(k);
+    256 * (k >> 4) + 16 * (d - 16) + (k & 0xF)
+}
+
+// .... .... KKdd KKKK
+pub fn pair_with(p: &PairReg, k: &Six) -> u16
+    ensures value { result ≡ pair_and_six_bits p.now k.now }
+    ensures range { result < 256 }
+{
+    let p = u16::from(p.get());
+    let k = u16::from(k.get());
+    64 * (k >> 4) + 16 * ((p - 24) >> 1) + (k & 0xF)
+}
+
+// .... ...d dddd ....
+pub fn register(d: &Reg) -> u16
+    ensures value { result ≡ one_register d.now }
+    ensures range { result < 512 }
+{
+    u16::from(d.get()) << 4
+}
+
+// ..q. qq.d dddd .qqq
+pub fn displaced(d: &Reg, q: &Six) -> u16
+    ensures value { result ≡ register_and_displacement d.now q.now }
+    ensures range { result < 0x2E00 }
+{
+    let d = u16::from(d.get());
+    let q = u16::from(q.get());
+    8192 * (q >> 5) + 1024 * (q >> 3 & 3) + (d << 4) + (q & 7)
+}
+
+// .... .AAd dddd AAAA
+pub fn register_with_io(d: &Reg, a: &IoAddr) -> u16
+    ensures value { result ≡ register_and_io d.now a.now }
+    ensures range { result < 2048 }
+{
+    let d = u16::from(d.get());
+    let a = u16::from(a.get());
+    512 * (a >> 4) + (d << 4) + (a & 0xF)
+}
+
+// .... .... AAAA Abbb
+pub fn io_bit(a: &LowIo, b: &Bit) -> u16
+    ensures value { result ≡ io_and_bit a.now b.now }
+    ensures range { result < 256 }
+{
+    let a = u16::from(a.get());
+    let b = u16::from(b.get());
+    (a << 3) + b
+}
+
+// .... ...d dddd .bbb
+pub fn register_bit(d: &Reg, b: &Bit) -> u16
+    ensures value { result ≡ register_and_bit d.now b.now }
+    ensures range { result < 512 }
+{
+    let d = u16::from(d.get());
+    let b = u16::from(b.get());
+    (d << 4) + b
+}
+
+// .... .... .sss ....
+pub fn flag_place(s: &Bit) -> u16
+    ensures value { result ≡ flag s.now }
+    ensures range { result < 128 }
+{
+    u16::from(s.get()) << 4
+}
+
+// .... ..kk kkkk ksss
+pub fn branch(s: &Bit, k: &Rel7) -> u16
+    ensures value { result ≡ flag_and_branch s.now k.now }
+    ensures range { result < 1024 }
+{
+    let k = k.get();
+    let distance = if k < 0 { (k + 128) as u16 } else { k as u16 };
+    (distance << 3) + u16::from(s.get())
+}
+
+// .... kkkk kkkk kkkk
+pub fn distance(k: &Rel12) -> u16
+    ensures value { result ≡ jump k.now }
+    ensures range { result < 4096 }
+{
+    let k = k.get();
+    if k < 0 { (k + 4096) as u16 } else { k as u16 }
+}

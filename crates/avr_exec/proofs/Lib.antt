@@ -1,0 +1,4 @@
+mod BitTables
+pub mod OneAnswer
+mod OtherCounter
+pub mod OtherPlace

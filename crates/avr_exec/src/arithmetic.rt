@@ -1,0 +1,125 @@
+// The arithmetic instructions.
+
+ghost use Rattle.std.specs.Prelude.{◌≡◌, ◌<◌, ◌≤◌};
+ghost use Rattle.avr_exec.specs.Arithmetic.{with_byte, compared, with_word, two_of, immediate_of, word_of, one_of, product_of};
+
+use crate::cpu::Cpu;
+use avr_flags::{
+    adc, add, adiw, and_bits, asr, com, dec, eor, fmul, fmuls, fmulsu, inc, lsr, mul, mulsu, neg,
+    or_bits, ror, sbc, sbiw, sub,
+};
+use avr_isa::{ImmOp, OneOp, ProductOp, TwoOp, WordOp};
+
+/// Keeps a result in register `d`, and SREG.
+fn keep_byte(cpu: &mut Cpu, d: u8, outcome: (u8, u8))
+    requires { d < 32 }
+    ensures { cpu.new ≡ with_byte cpu.old d outcome }
+{
+    cpu.set_register(d, outcome.0);
+    cpu.sreg = outcome.1;
+}
+
+/// Keeps SREG alone, after a comparison.
+fn compare(cpu: &mut Cpu, outcome: (u8, u8))
+    ensures { cpu.new ≡ compared cpu.old outcome }
+{
+    cpu.sreg = outcome.1;
+}
+
+/// Keeps a result in a pair, and SREG.
+pub(crate) fn keep_word(cpu: &mut Cpu, low: u8, outcome: (u16, u8))
+    requires { low < 31 }
+    ensures { cpu.new ≡ with_word cpu.old low outcome }
+{
+    cpu.set_pair(low, outcome.0);
+    cpu.sreg = outcome.1;
+}
+
+/// An operation on two registers.
+#[tactic(auto, unfolding(crate::specs::Arithmetic::two_of))]
+pub(crate) fn two(op: &TwoOp, cpu: &mut Cpu, d: u8, r: u8)
+    requires left { d < 32 }
+    requires right { r < 32 }
+    ensures { cpu.new ≡ two_of op.now cpu.old d r }
+{
+    let (sreg, left, right) = (cpu.sreg, cpu.register(d), cpu.register(r));
+    match op {
+        TwoOp::Cpc => compare(cpu, sbc(sreg, left, right)),
+        TwoOp::Sbc => keep_byte(cpu, d, sbc(sreg, left, right)),
+        TwoOp::Add => keep_byte(cpu, d, add(sreg, left, right)),
+        TwoOp::Cp => compare(cpu, sub(sreg, left, right)),
+        TwoOp::Sub => keep_byte(cpu, d, sub(sreg, left, right)),
+        TwoOp::Adc => keep_byte(cpu, d, adc(sreg, left, right)),
+        TwoOp::And => keep_byte(cpu, d, and_bits(sreg, left, right)),
+        TwoOp::Eor => keep_byte(cpu, d, eor(sreg, left, right)),
+        TwoOp::Or => keep_byte(cpu, d, or_bits(sreg, left, right)),
+        TwoOp::Mov => cpu.set_register(d, right),
+        TwoOp::Mul => keep_word(cpu, 0, mul(sreg, left, right)),
+    }
+}
+
+/// An operation on a register and a constant.
+#[tactic(auto, unfolding(crate::specs::Arithmetic::immediate_of))]
+pub(crate) fn immediate(op: &ImmOp, cpu: &mut Cpu, d: u8, k: u8)
+    requires { d < 32 }
+    ensures { cpu.new ≡ immediate_of op.now cpu.old d k }
+{
+    let (sreg, left) = (cpu.sreg, cpu.register(d));
+    match op {
+        ImmOp::Cpi => compare(cpu, sub(sreg, left, k)),
+        ImmOp::Sbci => keep_byte(cpu, d, sbc(sreg, left, k)),
+        ImmOp::Subi => keep_byte(cpu, d, sub(sreg, left, k)),
+        ImmOp::Ori => keep_byte(cpu, d, or_bits(sreg, left, k)),
+        ImmOp::Andi => keep_byte(cpu, d, and_bits(sreg, left, k)),
+        ImmOp::Ldi => cpu.set_register(d, k),
+    }
+}
+
+/// An operation on a pair and a constant.
+#[tactic(auto, unfolding(crate::specs::Arithmetic::word_of))]
+pub(crate) fn word(op: &WordOp, cpu: &mut Cpu, p: u8, k: u8)
+    requires pair { p < 31 }
+    requires constant { k ≤ 63 }
+    ensures { cpu.new ≡ word_of op.now cpu.old p k }
+{
+    let (sreg, left) = (cpu.sreg, cpu.pair(p));
+    match op {
+        WordOp::Adiw => keep_word(cpu, p, adiw(sreg, left, k)),
+        WordOp::Sbiw => keep_word(cpu, p, sbiw(sreg, left, k)),
+    }
+}
+
+/// An operation on one register.
+#[tactic(auto, unfolding(crate::specs::Arithmetic::one_of))]
+pub(crate) fn one(op: &OneOp, cpu: &mut Cpu, d: u8)
+    requires { d < 32 }
+    ensures { cpu.new ≡ one_of op.now cpu.old d }
+{
+    let (sreg, left) = (cpu.sreg, cpu.register(d));
+    match op {
+        OneOp::Com => keep_byte(cpu, d, com(sreg, left)),
+        OneOp::Neg => keep_byte(cpu, d, neg(sreg, left)),
+        OneOp::Swap => cpu.set_register(d, ((left & 0xF) << 4) + (left >> 4)),
+        OneOp::Inc => keep_byte(cpu, d, inc(sreg, left)),
+        OneOp::Asr => keep_byte(cpu, d, asr(sreg, left)),
+        OneOp::Lsr => keep_byte(cpu, d, lsr(sreg, left)),
+        OneOp::Ror => keep_byte(cpu, d, ror(sreg, left)),
+        OneOp::Dec => keep_byte(cpu, d, dec(sreg, left)),
+    }
+}
+
+/// A product of r16 to r23, except MUL and MULS.
+#[tactic(auto, unfolding(crate::specs::Arithmetic::product_of))]
+pub(crate) fn product(op: &ProductOp, cpu: &mut Cpu, d: u8, r: u8)
+    requires left { d < 32 }
+    requires right { r < 32 }
+    ensures { cpu.new ≡ product_of op.now cpu.old d r }
+{
+    let (sreg, left, right) = (cpu.sreg, cpu.register(d), cpu.register(r));
+    match op {
+        ProductOp::Mulsu => keep_word(cpu, 0, mulsu(sreg, left, right)),
+        ProductOp::Fmul => keep_word(cpu, 0, fmul(sreg, left, right)),
+        ProductOp::Fmuls => keep_word(cpu, 0, fmuls(sreg, left, right)),
+        ProductOp::Fmulsu => keep_word(cpu, 0, fmulsu(sreg, left, right)),
+    }
+}

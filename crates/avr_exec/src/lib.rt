@@ -1,0 +1,38 @@
+//! One instruction of an AVR core, executed over any memory.
+//!
+//! [`exec`] takes the registers ([`Cpu`]) and anything that is a [`Bus`]: data memory, I/O registers, the
+//! stack's bytes and the program's bytes. An instruction asks its bus for one thing at most ([`Ask`]);
+//! the registers, SPL, SPH and SREG are answered from the `Cpu`, also at their data addresses. Where the
+//! bus stops, `exec` gives that stop, and nothing was changed.
+//!
+//! ```rust
+//! let pop = Instr::new(Form::Pop(r16)).ok_or("defined")?;
+//! exec(&pop, &mut cpu, &mut bus, 1)?; // r16 is the byte at SP + 1, and SP is raised by one
+//! ```
+//!
+//! What a bus stands for is a *space*, plain data with its ten calls as functions (`specs/Spaces`). The
+//! definition of execution over any space is three short tables: what each instruction asks
+//! (`specs/Asks`), what the space answers (`specs/Execution`) and what the registers become
+//! (`specs/Effects`, `specs/Arithmetic`). `proofs/OneAnswer` and `proofs/OtherPlace` have the laws by which
+//! two executions are compared: over two spaces, and at two places of the program.
+#![tactic(auto)]
+
+mod answer;
+mod arithmetic;
+mod ask;
+mod bits;
+mod bus;
+mod cpu;
+mod execution;
+mod finish;
+mod stop;
+
+pub use answer::Answer;
+pub use ask::{Ask, asks};
+pub use bus::Bus;
+pub use cpu::Cpu;
+pub use execution::exec;
+pub use stop::BusStop;
+
+#[cfg(test)]
+mod tests;

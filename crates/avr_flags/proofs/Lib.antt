@@ -1,0 +1,2 @@
+pub mod StatusTables
+pub mod StatusLaws

@@ -1,0 +1,104 @@
+// Products of two bytes.
+
+ghost use Rattle.std.specs.Prelude.{◌≡◌, ℕ, ◌+◌, ◌-◌, ◌*◌, ◌/◌, ◌%◌, ◌≤◌, ◌==◌, nat_le};
+ghost use Rattle.avr_flags.specs.Sums.{signed_byte};
+ghost use Rattle.avr_flags.specs.Products.{signed_product as product_of_signed, mixed_product as product_of_mixed, product_status as status_of_product, whole_of, fractional_of, mul_of, muls_of, mulsu_of, fmul_of, fmuls_of, fmulsu_of};
+
+use crate::pairs::bit_15;
+use crate::status::Status;
+
+/// The number that a byte stands for in two's complement.
+fn signed(byte: u8) -> i16
+    ensures { result ≡ signed_byte byte }
+{
+    i16::from(byte.cast_signed())
+}
+
+/// The product of two unsigned bytes.
+fn unsigned_product(d: u8, r: u8) -> u16
+    ensures { result ≡ d * r }
+{
+    u16::from(d) * u16::from(r)
+}
+
+/// The product of two signed bytes, as its 16 bits.
+fn signed_product(d: u8, r: u8) -> u16
+    ensures { result ≡ product_of_signed d r }
+{
+    (signed(d) * signed(r)).cast_unsigned()
+}
+
+/// The product of a signed byte `d` and an unsigned byte `r`, as its 16 bits.
+fn mixed_product(d: u8, r: u8) -> u16
+    ensures { result ≡ product_of_mixed d r }
+{
+    (signed(d) * i16::from(r)).cast_unsigned()
+}
+
+/// SREG after a product, with Z of `value`.
+#[tactic(auto, unfolding(crate::specs::Products::product_status))]
+fn product_status(sreg: u8, product: u16, value: u16) -> u8
+    ensures { result ≡ status_of_product sreg product value }
+{
+    Status::new(sreg)
+        .with(Status::ZERO, value == 0)
+        .with(Status::CARRY, bit_15(product))
+        .sreg()
+}
+
+/// A product, and SREG after it.
+fn whole(sreg: u8, product: u16) -> (u16, u8)
+    ensures { result ≡ whole_of sreg product }
+{
+    (product, product_status(sreg, product, product))
+}
+
+/// A product shifted left by one, and SREG after it.
+fn fractional(sreg: u8, product: u16) -> (u16, u8)
+    ensures { result ≡ fractional_of sreg product }
+{
+    let value = product.wrapping_mul(2);
+    (value, product_status(sreg, product, value))
+}
+
+/// MUL: the product of two unsigned bytes.
+pub fn mul(sreg: u8, d: u8, r: u8) -> (u16, u8)
+    ensures outcome { result ≡ mul_of sreg d r }
+{
+    whole(sreg, unsigned_product(d, r))
+}
+
+/// MULS: the product of two signed bytes.
+pub fn muls(sreg: u8, d: u8, r: u8) -> (u16, u8)
+    ensures outcome { result ≡ muls_of sreg d r }
+{
+    whole(sreg, signed_product(d, r))
+}
+
+/// MULSU: the product of a signed byte `d` and an unsigned byte `r`.
+pub fn mulsu(sreg: u8, d: u8, r: u8) -> (u16, u8)
+    ensures outcome { result ≡ mulsu_of sreg d r }
+{
+    whole(sreg, mixed_product(d, r))
+}
+
+/// FMUL: as `mul`, with the product shifted left by one. C is the bit that leaves.
+pub fn fmul(sreg: u8, d: u8, r: u8) -> (u16, u8)
+    ensures outcome { result ≡ fmul_of sreg d r }
+{
+    fractional(sreg, unsigned_product(d, r))
+}
+
+/// FMULS: as `muls`, with the product shifted left by one. C is the bit that leaves.
+pub fn fmuls(sreg: u8, d: u8, r: u8) -> (u16, u8)
+    ensures outcome { result ≡ fmuls_of sreg d r }
+{
+    fractional(sreg, signed_product(d, r))
+}
+
+/// FMULSU: as `mulsu`, with the product shifted left by one. C is the bit that leaves.
+pub fn fmulsu(sreg: u8, d: u8, r: u8) -> (u16, u8)
+    ensures outcome { result ≡ fmulsu_of sreg d r }
+{
+    fractional(sreg, mixed_product(d, r))
+}

@@ -1,0 +1,5 @@
+pub mod Instruction
+pub mod Encoding
+pub mod IoTable
+pub mod Image
+pub mod Crossing

@@ -1,0 +1,35 @@
+//! The instructions of the ATmega128, as types that only hold what an opcode can hold.
+//!
+//! A [`Form`] is an operation with its operands; each operand has a type of its own, which keeps its
+//! range. An [`Instr`] is a form whose effect the manual defines. [`io_access`] says which I/O
+//! registers a program may read and write.
+//!
+//! ```rust
+//! use avr_isa::{Form, HighReg, ImmOp, Instr, size};
+//!
+//! let r24 = HighReg::new(24).ok_or("r16 to r31")?;
+//! let load = Instr::new(Form::Imm(ImmOp::Ldi, r24, 200)).ok_or("defined")?;
+//! assert_eq!(rt; size(&load), 1);
+//! ```
+//!
+//! The definitions that other crates cite stand in `specs/`: `Instruction` (ranges, undefined pairs,
+//! number of words), `Encoding` (the words of each instruction), `IoTable`, `Image` (a program's words
+//! and bytes) and `Crossing` (transfers between pages of flash). In a clause an operand is its number,
+//! and an `Instr` is its `Form`.
+#![tactic(auto)]
+
+mod form;
+mod instr;
+mod io;
+mod operand;
+mod operation;
+mod register;
+#[cfg(test)]
+mod tests;
+
+pub use form::Form;
+pub use instr::{Instr, size};
+pub use io::{IoAccess, io_access};
+pub use operand::{Bit, IoAddr, LowIo, Rel7, Rel12, Six};
+pub use operation::{Base, ImmOp, OneOp, ProductOp, Ptr, TwoOp, WordOp};
+pub use register::{EvenReg, HighReg, MidReg, PairReg, Reg};

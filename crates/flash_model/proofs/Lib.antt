@@ -1,0 +1,4 @@
+mod Pieces
+mod Programming
+pub mod PageLaws
+pub mod LoadedLaws

@@ -1,0 +1,12 @@
+-- How flash is divided between the image, the code pool and the kernel.
+use Rattle.std.specs.Prelude.{◌+◌, ◌*◌, ◌≤◌}
+use Rattle.flash_model.specs.Pages.{page_words}
+use Rattle.flash_model.specs.declared.layout.Layout.{Layout}
+
+-- the image is below the pool, and the pool below the kernel's pages
+pub record IsRight (layout : Layout) : Type 0 where
+  pub image_fits : layout.image_words ≤ 24576
+  pub image_below_pool : layout.image_words ≤ page_words * layout.pool_first
+  pub pool_first : 128 ≤ layout.pool_first
+  pub pool_pages : 1 ≤ layout.pool_pages
+  pub pool_below_kernel : layout.pool_first + layout.pool_pages ≤ 480

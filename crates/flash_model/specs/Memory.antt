@@ -1,0 +1,21 @@
+-- The flash as contracts see it, and as it is first.
+use Rattle.std.specs.Prelude.{◌≡◌, ℕ, ◌-◌, List, ◌++◌, length}
+use Rattle.flash_model.specs.Pages.{word_count, page_count, many}
+
+-- the words from address 0 on, and how often each page was erased
+pub record Memory : Type 0 where
+  pub words : List ℕ
+  pub erases : List ℕ
+
+-- the part has 65,536 words in 512 pages
+pub record IsWhole (memory : Memory) : Type 0 where
+  pub words : length memory.words ≡ word_count
+  pub erases : length memory.erases ≡ page_count
+
+-- the first word of the kernel's pages 480 to 511
+abbrev pub kernel_first : ℕ
+kernel_first = 0xF000
+
+-- the image from word 0 on, erased words up to the kernel's pages, and RET in each word of these
+unfoldable pub loaded : List ℕ → List ℕ
+loaded image = image ++ many (kernel_first - length image) 0xFFFF ++ many (word_count - kernel_first) 0x9508

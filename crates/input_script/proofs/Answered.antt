@@ -1,0 +1,47 @@
+-- What each answer of `read` says of the text.
+use Rattle.std.specs.Prelude.{◌==◌, IsErrAnd}
+use Rattle.std.proofs.Common.{true, arith, ◌≡◌, ℕ, ◌+◌, ◌⊎◌, List, [], ◌∷◌, length, Result, Ok, Err, ap, ap₂, sym, refl, subst, inl, inr}
+use Rattle.std.proofs.lemmas.Bool.Decides.{nat_tests}
+use Rattle.input_script.specs.declared.input.Event.{Event}
+use Rattle.input_script.specs.declared.fault.ScriptFault.{ScriptFault}
+use Rattle.input_script.specs.declared.fault.ScriptError.{ScriptError}
+use Rattle.input_script.specs.declared.fault.ScriptError.TheVariants.{Bad, NoMemory}
+use Rattle.input_script.specs.Lines.{lines_of}
+use Rattle.input_script.specs.Script.{IsScript, IsBad}
+use Rattle.input_script.specs.Judging.{IsRefusal}
+use Rattle.input_script.proofs.Done.{IsDone, done_fault}
+use Rattle.input_script.proofs.Judgement.{one_judgement}
+
+-- the error is want of memory, or names the text's fault
+abbrev pub Tells : List ℕ → ScriptError → Type 0
+Tells text NoMemory = Unit {0}
+Tells text (Bad line fault) = IsBad text line fault
+
+pub refusal_tells : (text : List ℕ) (rest : List (List ℕ)) (line : List ℕ) (number : ℕ) (before : List Event) (error : ScriptError) → IsDone (lines_of text) number before (line ∷ rest) → IsRefusal error (number + 1) line before → Tells text error
+refusal_tells text rest line number before NoMemory done refusal = tt
+refusal_tells text rest line number before (Bad at fault) done refusal =
+    let P : ℕ → Type 0 = λ n. IsBad text n fault in
+    subst P (sym refusal.0) (done_fault (lines_of text) rest line number before fault done refusal.1)
+
+pub refused_text : (text : List ℕ) (error : ScriptError) → Tells text error → (events : List Event) → IsScript text events → error ≡ NoMemory
+refused_text text NoMemory tells events script = refl
+refused_text text (Bad line fault) tells events script = absurd ((one_judgement text).apart events line fault script tells)
+
+pub refused_as : (text : List ℕ) (error : ScriptError) → Tells text error → (line : ℕ) (fault : ScriptFault) → IsBad text line fault → (error ≡ Bad line fault) ⊎ (error ≡ NoMemory)
+refused_as text NoMemory tells line fault bad = inr refl
+refused_as text (Bad at other) tells line fault bad =
+    let one = one_judgement text in
+    inl (ap₂ (λ n f. Bad n f) (one.one_line at line other fault tells bad) (one.one_fault at line other fault tells bad))
+
+-- an answer that passes an error on
+pub err_is : {T : Type 0} (result : Result T ScriptError) (error : ScriptError) → IsErrAnd result (λ e. e ≡ error) → result ≡ Err error
+err_is (Ok x) error passed = absurd passed
+err_is (Err e) error passed = ap (λ x. Err x) passed
+
+zero_from : (n : ℕ) → true ≡ (n == 0) → n ≡ 0
+zero_from n test = grind (arith, nat_tests)
+
+-- a text without a byte has no line
+pub no_lines : (text : List ℕ) → true ≡ (length text == 0) → lines_of text ≡ []
+no_lines [] empty = refl
+no_lines (b ∷ text) empty = let none : length (b ∷ text) ≡ 0 = zero_from (length (b ∷ text)) empty in absurd (omega arith)

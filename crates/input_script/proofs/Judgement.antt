@@ -1,0 +1,156 @@
+-- A text has at most one list of events, or one fault, and not both.
+use Rattle.std.proofs.Common.{◌≡◌, ℕ, ◌<◌, cond, eqb, List, [], ◌∷◌, ◌++◌, length, arith, ap, ap₂, ◌∙◌, sym, refl, subst, inl, inr}
+use Rattle.std.proofs.lemmas.Bool.{cases_lt}
+use Rattle.input_script.specs.declared.input.Event.{Event}
+use Rattle.input_script.specs.declared.fault.ScriptFault.{ScriptFault}
+use Rattle.input_script.specs.declared.fault.ScriptFault.TheVariants.{Form, Order, Range, TooMany}
+use Rattle.input_script.specs.Lines.{lines_of}
+use Rattle.input_script.specs.Grammar.{IsSkipped, IsEvent}
+use Rattle.input_script.specs.Script.{IsInRange, IsSchedule, Accepts, Has, number_of, IsFirstFault, IsFaulty, HasOneJudgement}
+use Rattle.input_script.specs.Judging.{IsLate, IsNext, IsWrong}
+use Rattle.input_script.proofs.Events.{event_one, skipped_no_event}
+use Rattle.input_script.proofs.Spelling.{spells_split, spells_one}
+use Rattle.input_script.proofs.Schedules.{schedule_next}
+
+skipped_no_fault : (line : List ℕ) (before : List Event) → IsSkipped line → (fault : ScriptFault) → ¬ Has fault before line
+skipped_no_fault line before skipped Form = λ has. has.0 skipped
+skipped_no_fault line before skipped Order = λ has. skipped_no_event line has.0 skipped has.1
+skipped_no_fault line before skipped Range = λ has. skipped_no_event line has.0 skipped has.1
+skipped_no_fault line before skipped TooMany = λ has. skipped_no_event line has.0 skipped has.1
+
+next_no_fault : (line : List ℕ) (before : List Event) (event : Event) → IsEvent line event → IsNext before event → (fault : ScriptFault) → ¬ Has fault before line
+next_no_fault line before event written next Form = λ has. has.1 event written
+next_no_fault line before event written next Order = λ has.
+    let P : Event → Type 0 = λ e. IsLate before e in
+    next.in_order (subst P (event_one line has.0 event has.1 written) has.2)
+next_no_fault line before event written next Range = λ has.
+    let P : Event → Type 0 = λ e. IsInRange e in
+    has.2 (subst P (event_one line event has.0 written has.1) next.in_range)
+next_no_fault line before event written next TooMany = λ has. omega (arith, next.room, has.2)
+
+-- a line whose event is wrong after those before it
+pub wrong_is_first : (line : List ℕ) (before : List Event) (event : Event) (fault : ScriptFault) → IsEvent line event → IsWrong fault before event → IsFirstFault fault before line
+wrong_is_first line before event Form written wrong = absurd wrong
+wrong_is_first line before event Order written wrong = record {
+  has = (event, written, wrong);
+  first = λ other less. elim other as (λ f. number_of f < 2 → ¬ Has f before line) [
+    | Form ↦ λ l h. h.1 event written
+    | Order ↦ λ l h. omega arith
+    | Range ↦ λ l h. omega arith
+    | TooMany ↦ λ l h. omega arith
+  ] less;
+}
+wrong_is_first line before event Range written wrong = record {
+  has = (event, written, wrong.1);
+  first = λ other less. elim other as (λ f. number_of f < 3 → ¬ Has f before line) [
+    | Form ↦ λ l h. h.1 event written
+    | Order ↦ λ l h.
+        let P : Event → Type 0 = λ e. IsLate before e in
+        wrong.0 (subst P (event_one line h.0 event h.1 written) h.2)
+    | Range ↦ λ l h. omega arith
+    | TooMany ↦ λ l h. omega arith
+  ] less;
+}
+wrong_is_first line before event TooMany written wrong = record {
+  has = (event, written, wrong.2);
+  first = λ other less. elim other as (λ f. number_of f < 4 → ¬ Has f before line) [
+    | Form ↦ λ l h. h.1 event written
+    | Order ↦ λ l h.
+        let P : Event → Type 0 = λ e. IsLate before e in
+        wrong.0 (subst P (event_one line h.0 event h.1 written) h.2)
+    | Range ↦ λ l h.
+        let P : Event → Type 0 = λ e. IsInRange e in
+        h.2 (subst P (event_one line event h.0 written h.1) wrong.1)
+    | TooMany ↦ λ l h. omega arith
+  ] less;
+}
+
+-- a line of accepted lines has no fault after the events of those before it
+no_fault_inside : (front rest : List (List ℕ)) (line : List ℕ) (before events : List Event) → Accepts (front ++ line ∷ rest) events → Accepts front before → (fault : ScriptFault) → ¬ Has fault before line
+no_fault_inside front rest line before events whole accepted fault =
+    let parts = spells_split front (line ∷ rest) events whole.spelled in
+    let same : parts.a ≡ before = spells_one front parts.a before parts.first accepted.spelled in
+    elim parts.second [
+      | inl s ↦ skipped_no_fault line before s.0 fault
+      | inr s ↦
+          let joined : events ≡ before ++ s.0 ∷ s.1 = parts.joined ∙ ap₂ (λ a b. a ++ b) same s.2 in
+          let P : List Event → Type 0 = λ es. IsSchedule es in
+          next_no_fault line before s.0 s.3 (schedule_next before s.1 s.0 (subst P joined whole.schedule)) fault
+    ]
+
+-- of two cuts of the same lines, the longer front has the shorter one, and the line after it
+longer_front : (xs ys r s : List (List ℕ)) (x : List ℕ) → xs ++ x ∷ r ≡ ys ++ s → length xs < length ys → (mid : List (List ℕ)) × (ys ≡ xs ++ x ∷ mid)
+longer_front [] [] r s x same shorter = absurd (omega arith)
+longer_front [] (y ∷ ys) r s x same shorter = let head : y ≡ x = cc in (ys, ap (λ z. z ∷ ys) head)
+longer_front (z ∷ xs) [] r s x same shorter = absurd (omega arith)
+longer_front (z ∷ xs) (y ∷ ys) r s x same shorter =
+    let rest = longer_front xs ys r s x (cc) (omega arith) in
+    let head : y ≡ z = cc in (rest.0, ap₂ (λ a b. a ∷ b) head rest.1)
+
+same_front : (xs ys r s : List (List ℕ)) (x y : List ℕ) → xs ++ x ∷ r ≡ ys ++ y ∷ s → length xs ≡ length ys → (xs ≡ ys) × (x ≡ y)
+same_front [] [] r s x y same long = (refl, cc)
+same_front [] (z ∷ ys) r s x y same long = absurd (omega arith)
+same_front (z ∷ xs) [] r s x y same long = absurd (omega arith)
+same_front (z ∷ xs) (w ∷ ys) r s x y same long =
+    let head : z ≡ w = cc in
+    let rest = same_front xs ys r s x y (cc) (omega arith) in
+    (ap₂ (λ a b. a ∷ b) head rest.0, rest.1)
+
+no_earlier_fault : (lines : List (List ℕ)) (n m : ℕ) (f g : ScriptFault) → IsFaulty lines n f → IsFaulty lines m g → ¬ (n < m)
+no_earlier_fault lines n m f g a b earlier =
+    let mid = longer_front a.front b.front a.rest (b.line ∷ b.rest) a.line (sym a.cut ∙ b.cut) (omega (arith, a.number_is, b.number_is)) in
+    let P : List (List ℕ) → Type 0 = λ front. Accepts front b.before in
+    no_fault_inside a.front mid.0 a.line a.before b.before (subst P mid.1 b.accepted) a.accepted f a.fault_is.has
+
+one_line : (lines : List (List ℕ)) (n m : ℕ) (f g : ScriptFault) → IsFaulty lines n f → IsFaulty lines m g → n ≡ m
+one_line lines n m f g a b =
+    let left = no_earlier_fault lines n m f g a b in
+    let right = no_earlier_fault lines m n g f b a in
+    elim (cases_lt n m) [
+      | inl less ↦ absurd (left less)
+      | inr ge ↦ elim (cases_lt m n) [ inl less ↦ absurd (right less) | inr le ↦ omega arith ]
+    ]
+
+fault_with : ℕ → ScriptFault
+fault_with n = cond (eqb n 1) Form (cond (eqb n 2) Order (cond (eqb n 3) Range TooMany))
+
+fault_numbered : (f : ScriptFault) → fault_with (number_of f) ≡ f
+unfolding fault_with
+fault_numbered Form = refl
+fault_numbered Order = refl
+fault_numbered Range = refl
+fault_numbered TooMany = refl
+
+first_one : (before : List Event) (line : List ℕ) (f g : ScriptFault) → IsFirstFault f before line → IsFirstFault g before line → f ≡ g
+first_one before line f g a b = elim (cases_lt (number_of f) (number_of g)) [
+  | inl less ↦ absurd (b.first f less a.has)
+  | inr ge ↦ elim (cases_lt (number_of g) (number_of f)) [
+    | inl less ↦ absurd (a.first g less b.has)
+    | inr le ↦
+        let same : number_of f ≡ number_of g = omega arith in
+        sym (fault_numbered f) ∙ ap fault_with same ∙ fault_numbered g
+  ]
+]
+
+one_fault : (lines : List (List ℕ)) (n m : ℕ) (f g : ScriptFault) → IsFaulty lines n f → IsFaulty lines m g → f ≡ g
+one_fault lines n m f g a b =
+    let numbers = one_line lines n m f g a b in
+    let same = same_front a.front b.front a.rest b.rest a.line b.line (sym a.cut ∙ b.cut) (omega (arith, a.number_is, b.number_is)) in
+    let P : List (List ℕ) → Type 0 = λ front. Accepts front b.before in
+    let events : b.before ≡ a.before = spells_one a.front b.before a.before (subst P (sym same.0) b.accepted).spelled a.accepted.spelled in
+    let Q : List Event → Type 0 = λ es. IsFirstFault g es b.line in
+    let R : List ℕ → Type 0 = λ line. IsFirstFault g a.before line in
+    first_one a.before a.line f g a.fault_is (subst R (sym same.1) (subst Q events b.fault_is))
+
+apart : (lines : List (List ℕ)) (events : List Event) (n : ℕ) (f : ScriptFault) → Accepts lines events → ¬ IsFaulty lines n f
+apart lines events n f accepted a =
+    let P : List (List ℕ) → Type 0 = λ all. Accepts all events in
+    no_fault_inside a.front a.rest a.line a.before events (subst P a.cut accepted) a.accepted f a.fault_is.has
+
+pub one_judgement : (text : List ℕ) → HasOneJudgement text
+one_judgement text = record {
+  one_list = λ events others a b. spells_one (lines_of text) events others a.spelled b.spelled;
+  one_line = λ n m f g a b. one_line (lines_of text) n m f g a b;
+  one_fault = λ n m f g a b. one_fault (lines_of text) n m f g a b;
+  apart = λ events n f a b. apart (lines_of text) events n f a b;
+}

@@ -1,0 +1,9 @@
+mod Cutting
+mod Digits
+mod Events
+mod Reading
+mod Spelling
+mod Schedules
+mod Judgement
+mod Done
+mod Answered

@@ -1,0 +1,14 @@
+use Rattle.std.proofs.Common.{◌+◌, ◌≤◌, length}
+use Rattle.input_script.specs.Lines.{lines_of}
+use Rattle.input_script.proofs.Done.{IsDone}
+use Rattle.input_script.proofs.script.read.Given as goal
+
+-- the lines before `rest` are accepted with the events so far
+abbrev pub invariant-loop-rest : goal.invariant-loop-rest
+invariant-loop-rest l = record {
+  done : IsDone (lines_of l.text) l.line l.events.items (lines_of l.rest);
+  left : l.line + length l.rest ≤ length l.text;
+}
+
+abbrev pub decreases-loop-rest : goal.decreases-loop-rest
+decreases-loop-rest l = length l.rest

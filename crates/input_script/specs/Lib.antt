@@ -1,0 +1,5 @@
+pub mod Lines
+pub mod Kinds
+pub mod Grammar
+pub mod Script
+pub mod Judging

@@ -1,0 +1,29 @@
+//! Why a script is refused.
+
+use thiserror::Error;
+
+/// What is wrong with a line, in the order in which faults are looked for.
+#[derive(Debug, Clone, Copy, PartialEq, Eq, Error)]
+pub enum ScriptFault {
+    /// The line is no event, no comment and not empty.
+    #[error("form")]
+    Form,
+    /// An earlier event has a greater number.
+    #[error("order")]
+    Order,
+    /// The number is above 4,294,967,295, or an adc value above 0x3FF.
+    #[error("range")]
+    Range,
+    /// 65,536 events came before.
+    #[error("events")]
+    TooMany,
+}
+
+/// Why a script was not read.
+#[derive(Debug, Clone, Copy, PartialEq, Eq)]
+pub enum ScriptError {
+    /// The first faulty line, counted from 1, and its first fault.
+    Bad { line: u32, fault: ScriptFault },
+    /// Memory was wanting.
+    NoMemory,
+}

@@ -1,0 +1,61 @@
+//! The inputs of the mote's devices.
+
+ghost use Rattle.std.specs.Prelude.{◌≡◌, ◌<◌, ◌^◌};
+ghost use Rattle.input_script.specs.Kinds.{word_of, width_of, input_of};
+
+/// What a device receives.
+#[derive(Debug, Clone, Copy, PartialEq, Eq)]
+pub enum Input {
+    /// The pins of a port, 0 to 3 for ports A to D, are as in this byte.
+    Pin(u8, u8),
+    /// The serial port receives this byte.
+    Uart(u8),
+    /// The converter's result, 0 to 0x3FF.
+    Adc(u16),
+}
+
+/// An input, and the number of the poll at which it takes effect: the first poll is number 1, and an
+/// event with number 0 or 1 takes effect at it.
+#[derive(Debug, Clone, Copy, PartialEq, Eq)]
+pub struct Event {
+    pub at: u32,
+    pub input: Input,
+}
+
+/// The kinds of input that a script has words for.
+#[derive(Debug, Clone, Copy, PartialEq, Eq)]
+pub(crate) enum Kind {
+    PinA,
+    PinB,
+    PinC,
+    PinD,
+    Serial,
+    Analog,
+}
+
+impl Kind {
+    /// How many hexadecimal digits a value of this kind has.
+    pub(crate) fn width(self) -> usize
+        ensures value { result ≡ width_of self }
+    {
+        match self {
+            Kind::Analog => 3,
+            _ => 2,
+        }
+    }
+
+    /// The input of this kind with a value of as many digits as it has.
+    pub(crate) fn input(self, value: u16) -> Input
+        requires { value < 16 ^ width_of self }
+        ensures value { result ≡ input_of self value }
+    {
+        match self {
+            Kind::PinA => Input::Pin(0, value as u8),
+            Kind::PinB => Input::Pin(1, value as u8),
+            Kind::PinC => Input::Pin(2, value as u8),
+            Kind::PinD => Input::Pin(3, value as u8),
+            Kind::Serial => Input::Uart(value as u8),
+            Kind::Analog => Input::Adc(value),
+        }
+    }
+}

@@ -1,0 +1,22 @@
+//! Scripts of device inputs: which input comes at which poll.
+//!
+//! A script is lines such as `at 5 uart 0x41`: at poll 5 the serial port receives the byte 0x41.
+//! The other inputs are `pina 0xHH` to `pind 0xHH` and `adc 0xHHH`; a line is empty, begins with `#`,
+//! or is one event. [`read`] answers the events, or the first faulty line and its first fault.
+//!
+//! `specs/Lines.antt` says what lines are, `specs/Grammar.antt` which forms a line has, and
+//! `specs/Script.antt` what is accepted as a whole.
+#![tactic(auto)]
+
+mod fault;
+mod input;
+mod line;
+mod lines;
+mod script;
+
+pub use fault::{ScriptError, ScriptFault};
+pub use input::{Event, Input};
+pub use script::{Script, read};
+
+#[cfg(test)]
+mod tests;

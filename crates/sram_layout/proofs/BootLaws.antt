@@ -1,0 +1,32 @@
+-- What SRAM holds at boot, byte by byte.
+use Rattle.std.proofs.Common.{◌≡◌, ℕ, ◌-◌, ◌<◌, ◌≤◌, ◌⊎◌, length, get_or, arith, ◌∙◌}
+use Rattle.std.proofs.lemmas.List.{length-replicate, get_or-replicate}
+use Rattle.sram_layout.specs.Bytes.{byte_count, many, byte_at}
+use Rattle.sram_layout.specs.Cells.{slot_cell}
+use Rattle.sram_layout.specs.Boot.{at_boot}
+use Rattle.sram_layout.proofs.Laws.{length-with_block, byte_in_block, byte_out_of_block}
+
+length-many : (n b : ℕ) → length (many n b) ≡ n
+unfolding many
+length-many n b = length-replicate n b
+
+get_or-many : (n b k : ℕ) → k < n → get_or (many n b) k 0 ≡ b
+unfolding many
+get_or-many n b k below = get_or-replicate n k b 0 below
+
+pub length-at_boot : length at_boot ≡ byte_count
+unfolding at_boot
+length-at_boot =
+    length-with_block (many byte_count 0) (many 256 0xFF) (slot_cell 0) (length-many 256 0xFF) (omega arith) (omega (arith, length-many byte_count 0)) ∙ length-many byte_count 0
+
+-- no page has a slot
+pub boot_slot : (page : ℕ) → page < 256 → byte_at at_boot (slot_cell page) ≡ 0xFF
+unfolding at_boot
+boot_slot page below =
+    byte_in_block (many byte_count 0) (many 256 0xFF) (slot_cell 0) (slot_cell page) (length-many 256 0xFF) (omega arith) (omega (arith, length-many byte_count 0)) (omega arith) (omega arith) ∙ get_or-many 256 0xFF (slot_cell page - slot_cell 0) (omega arith)
+
+-- every other byte is 0
+pub boot_zero : (a : ℕ) → 0x0100 ≤ a → a ≤ 0x10FF → (a < 0x0400) ⊎ (0x0500 ≤ a) → byte_at at_boot a ≡ 0
+unfolding at_boot byte_at
+boot_zero a from to outside =
+    byte_out_of_block (many byte_count 0) (many 256 0xFF) (slot_cell 0) a (length-many 256 0xFF) (omega arith) (omega (arith, length-many byte_count 0)) from outside ∙ get_or-many byte_count 0 (a - 256) (omega arith)

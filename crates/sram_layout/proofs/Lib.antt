@@ -1,0 +1,4 @@
+mod Pieces
+pub mod Laws
+pub mod CellLaws
+pub mod BootLaws

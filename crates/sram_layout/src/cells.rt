@@ -1,0 +1,135 @@
+//! The kernel's cells of one byte or one word.
+
+ghost use Rattle.std.specs.Prelude.{◌≡◌, length};
+ghost use Rattle.sram_layout.specs.Bytes.{byte_count, byte_at, with_byte, word_at, with_word};
+ghost use Rattle.sram_layout.specs.Cells.{count_cell, r24_cell, sreg_cell, vsp_cell, z_cell, victim_cell, given_cell};
+
+use crate::sram::Sram;
+
+const COUNT: u16 = 0x0100;
+
+const R24: u16 = 0x0101;
+
+const SREG: u16 = 0x0102;
+
+const VSP: u16 = 0x0103;
+
+const Z: u16 = 0x0105;
+
+const VICTIM: u16 = 0x0140;
+
+const GIVEN: u16 = 0x0141;
+
+impl Sram {
+    /// COUNT: crossings left before the next checkpoint.
+    pub fn count(&self) -> u8
+        ensures value { result ≡ byte_at self.now count_cell }
+        ensures size { length self.now ≡ byte_count }
+    {
+        self.byte(COUNT)
+    }
+
+    /// Writes what [`count`](Self::count) reads.
+    pub fn set_count(&mut self, v: u8)
+        ensures after { self.new ≡ with_byte self.old count_cell v }
+        ensures size { (length self.old ≡ byte_count) × (length self.new ≡ byte_count) }
+    {
+        self.set(COUNT, v);
+    }
+
+    /// The program's r24 while a crossing stub uses the register.
+    pub fn r24(&self) -> u8
+        ensures value { result ≡ byte_at self.now r24_cell }
+        ensures size { length self.now ≡ byte_count }
+    {
+        self.byte(R24)
+    }
+
+    /// Writes what [`r24`](Self::r24) reads.
+    pub fn set_r24(&mut self, v: u8)
+        ensures after { self.new ≡ with_byte self.old r24_cell v }
+        ensures size { (length self.old ≡ byte_count) × (length self.new ≡ byte_count) }
+    {
+        self.set(R24, v);
+    }
+
+    /// The program's status register while a template uses it.
+    pub fn sreg(&self) -> u8
+        ensures value { result ≡ byte_at self.now sreg_cell }
+        ensures size { length self.now ≡ byte_count }
+    {
+        self.byte(SREG)
+    }
+
+    /// Writes what [`sreg`](Self::sreg) reads.
+    pub fn set_sreg(&mut self, v: u8)
+        ensures after { self.new ≡ with_byte self.old sreg_cell v }
+        ensures size { (length self.old ≡ byte_count) × (length self.new ≡ byte_count) }
+    {
+        self.set(SREG, v);
+    }
+
+    /// The program's stack pointer.
+    pub fn vsp(&self) -> u16
+        ensures value { result ≡ word_at self.now vsp_cell }
+        ensures size { length self.now ≡ byte_count }
+    {
+        self.word(VSP)
+    }
+
+    /// Writes what [`vsp`](Self::vsp) reads.
+    pub fn set_vsp(&mut self, v: u16)
+        ensures after { self.new ≡ with_word self.old vsp_cell v }
+        ensures size { (length self.old ≡ byte_count) × (length self.new ≡ byte_count) }
+    {
+        self.set_word(VSP, v);
+    }
+
+    /// The program's Z pointer while a template uses r31:r30.
+    pub fn z(&self) -> u16
+        ensures value { result ≡ word_at self.now z_cell }
+        ensures size { length self.now ≡ byte_count }
+    {
+        self.word(Z)
+    }
+
+    /// Writes what [`z`](Self::z) reads.
+    pub fn set_z(&mut self, v: u16)
+        ensures after { self.new ≡ with_word self.old z_cell v }
+        ensures size { (length self.old ≡ byte_count) × (length self.new ≡ byte_count) }
+    {
+        self.set_word(Z, v);
+    }
+
+    /// The frame to replace next, 0 to 7.
+    pub fn victim(&self) -> u8
+        ensures value { result ≡ byte_at self.now victim_cell }
+        ensures size { length self.now ≡ byte_count }
+    {
+        self.byte(VICTIM)
+    }
+
+    /// Writes what [`victim`](Self::victim) reads.
+    pub fn set_victim(&mut self, v: u8)
+        ensures after { self.new ≡ with_byte self.old victim_cell v }
+        ensures size { (length self.old ≡ byte_count) × (length self.new ≡ byte_count) }
+    {
+        self.set(VICTIM, v);
+    }
+
+    /// How many swap slots are given, 0 to 251.
+    pub fn given(&self) -> u8
+        ensures value { result ≡ byte_at self.now given_cell }
+        ensures size { length self.now ≡ byte_count }
+    {
+        self.byte(GIVEN)
+    }
+
+    /// Writes what [`given`](Self::given) reads.
+    pub fn set_given(&mut self, v: u8)
+        ensures after { self.new ≡ with_byte self.old given_cell v }
+        ensures size { (length self.old ≡ byte_count) × (length self.new ≡ byte_count) }
+    {
+        self.set(GIVEN, v);
+    }
+}

@@ -1,0 +1,179 @@
+-- What the program answers: to which words and which input, with which status and text.
+use Rattle.std.specs.Prelude.{◌≡◌, ◌⊎◌, ℕ, ◌+◌, ◌<◌, ◌≤◌, List, [], ◌∷◌, length, codes, Option, Some, None, Result, Ok, Err}
+use Rattle.std.specs.Io.KnownBytes.{Appends, Consumes, IsAtEnd}
+use Rattle.tk_io.specs.Faults.{Rose}
+use Rattle.tk_io.specs.Streams.{CutShort, Takes, TakesAtMost}
+use Rattle.hex_image.specs.Contiguous.{IsContiguous}
+use Rattle.tkernel_cli.specs.declared.machine.Machine.{Machine}
+use Rattle.tkernel_cli.specs.declared.refusal.Refusal.{Refusal}
+use Rattle.tkernel_cli.specs.declared.refusal.Refusal.TheVariants.{Usage, ReadFault, TooLong, UnbuiltInput, UnbuiltProgram, NoMemory}
+use Rattle.tkernel_cli.specs.declared.status.Status.{Status}
+use Rattle.tkernel_cli.specs.declared.status.Status.TheVariants as status
+use Rattle.tkernel_cli.specs.declared.top.Exit.{Exit}
+use Rattle.tkernel_cli.specs.Original.{Halted, original}
+use Rattle.tkernel_cli.specs.Program.{IsBuilt}
+use Rattle.tkernel_cli.specs.Running.{Follows, HasHalted, last_address}
+use Rattle.tkernel_cli.specs.Text.{default_steps, program_text}
+
+-- a stream at a moment: the bytes that it tells, and how often it failed
+pub record Stream : Type 0 where
+  pub told : Option (List ℕ)
+  pub faults : ℕ
+
+-- the words that are a command so far
+abbrev pub IsRun : List (List ℕ) → Type 0
+IsRun words = words ≡ codes "run" ∷ []
+
+-- the most bytes of an input
+abbrev pub most_input : ℕ
+most_input = 2097152
+
+-- the source gave this text, at most that many bytes, and has nothing left
+pub record Gave (before now : Stream) (text : List ℕ) : Type 0 where
+  pub taken : Consumes before.told now.told text
+  pub end : IsAtEnd now.told
+  pub short : length text ≤ most_input
+
+-- an input that has no image so far
+abbrev pub IsOtherInput : List ℕ → Type 0
+IsOtherInput text = (image : List ℕ) → IsContiguous text image → ⊥
+
+-- an input whose image is no built program
+pub record IsOtherProgram (text : List ℕ) : Type 0 where
+  pub image : List ℕ
+  pub contiguous : IsContiguous text image
+  pub other : IsBuilt image → ⊥
+
+-- an input whose image is this built program
+pub record IsProgram (program text : List ℕ) : Type 0 where
+  pub contiguous : IsContiguous text program
+  pub built : IsBuilt program
+
+-- the words are `run`, and the source gave a text of which this holds
+pub record HasRead (words : List (List ℕ)) (before now : Stream) (P : List ℕ → Type 0) : Type 0 where
+  pub run : IsRun words
+  pub text : List ℕ
+  pub gave : Gave before now text
+  pub judged : P text
+
+-- Why a request is refused, and what was read by then. Want of memory needs no reason.
+abbrev pub IsRefused : List (List ℕ) → Stream → Stream → Refusal → Type 0
+IsRefused words before now Usage = (IsRun words → ⊥) × (now ≡ before)
+IsRefused words before now ReadFault = IsRun words × Rose before.faults now.faults × TakesAtMost most_input before.told now.told
+IsRefused words before now TooLong = IsRun words × Takes (most_input + 1) before.told now.told
+IsRefused words before now UnbuiltInput = HasRead words before now IsOtherInput
+IsRefused words before now UnbuiltProgram = HasRead words before now IsOtherProgram
+IsRefused words before now NoMemory = IsRun words × TakesAtMost most_input before.told now.told
+
+-- a request that is run
+abbrev pub IsAccepted : List (List ℕ) → Stream → Stream → List ℕ → Type 0
+IsAccepted words before now program = HasRead words before now (IsProgram program)
+
+-- a request, judged
+abbrev pub Judges : List (List ℕ) → Stream → Stream → Result (List ℕ) Refusal → Type 0
+Judges words before now (Ok program) = IsAccepted words before now program
+Judges words before now (Err refusal) = IsRefused words before now refusal
+
+-- a text, judged
+abbrev pub JudgesText : List ℕ → Result (List ℕ) Refusal → Type 0
+JudgesText text (Ok program) = IsProgram program text
+JudgesText text (Err UnbuiltInput) = IsOtherInput text
+JudgesText text (Err UnbuiltProgram) = IsOtherProgram text
+JudgesText text (Err NoMemory) = Unit {0}
+JudgesText text (Err Usage) = ⊥
+JudgesText text (Err ReadFault) = ⊥
+JudgesText text (Err TooLong) = ⊥
+
+-- the status and the text of a refusal
+abbrev pub status_of : Refusal → Status
+status_of Usage = status.Usage
+status_of ReadFault = status.ReadFault
+status_of TooLong = status.BadInput
+status_of UnbuiltInput = status.Unbuilt
+status_of UnbuiltProgram = status.Unbuilt
+status_of NoMemory = status.NoMemory
+
+abbrev pub text_of : Refusal → List ℕ
+text_of Usage = codes "usage: tkernel run [--steps N] [--quantum Q] [--swap S]\n"
+text_of ReadFault = codes "read fault\n"
+text_of TooLong = codes "input too long\n"
+text_of UnbuiltInput = codes "unbuilt input\n"
+text_of UnbuiltProgram = codes "unbuilt program\n"
+text_of NoMemory = codes "no memory\n"
+
+-- A text goes out whole, and the status is its own; or the sink fails, and the text is cut short.
+abbrev pub Says : Status → List ℕ → Stream → Stream → Status → Type 0
+Says own text before now told =
+    ((told ≡ own) × Appends before.told now.told text)
+    ⊎ ((told ≡ status.WriteFault) × Rose before.faults now.faults × CutShort before.told now.told text)
+
+-- a built program that is run, or refused for want of memory
+pub record HasRun (program : List ℕ) (sink sink' : Stream) (exit : Exit) : Type 0 where
+  pub said : Says status.Done (program_text program) sink sink' exit.status
+  pub machine : Machine
+  pub kept : exit.kept ≡ Some machine
+  pub follows : Follows program machine
+  pub halted : exit.status ≡ status.Done → HasHalted program machine
+
+pub record HasNoMemory (sink sink' : Stream) (exit : Exit) : Type 0 where
+  pub said : Says status.NoMemory (text_of NoMemory) sink sink' exit.status
+  pub kept : exit.kept ≡ None
+
+abbrev pub Ran : List ℕ → Stream → Stream → Exit → Type 0
+Ran program sink sink' exit = HasRun program sink sink' exit ⊎ HasNoMemory sink sink' exit
+
+-- a request that is refused: there is a reason, and its status and text are the answer
+pub record Refuses (words : List (List ℕ)) (source source' sink sink' : Stream) (exit : Exit) : Type 0 where
+  pub refusal : Refusal
+  pub reason : IsRefused words source source' refusal
+  pub said : Says (status_of refusal) (text_of refusal) sink sink' exit.status
+  pub kept : exit.kept ≡ None
+
+-- the original program halts at its last word, after a step for each word before it, with no crossing
+pub record HaltsAtLastWord (program : List ℕ) : Type 0 where
+  pub ending : (original program default_steps).ending ≡ Halted (last_address program)
+  pub steps : (original program default_steps).state.steps ≡ last_address program
+  pub crossings : (original program default_steps).state.crossings ≡ 0
+
+-- A request that is run: the text is that of the original program's run, and the machine that is kept
+-- stands where the original program stands after as many steps.
+pub record Runs (words : List (List ℕ)) (source source' sink sink' : Stream) (exit : Exit) : Type 0 where
+  pub program : List ℕ
+  pub accepted : IsAccepted words source source' program
+  pub halts : HaltsAtLastWord program
+  pub run : HasRun program sink sink' exit
+
+abbrev pub IsAnswer : List (List ℕ) → Stream → Stream → Stream → Stream → Exit → Type 0
+IsAnswer words source source' sink sink' exit = Refuses words source source' sink sink' exit ⊎ Runs words source source' sink sink' exit
+
+-- What words and a whole input warrant, if streams and memory serve: a program to run, or a refusal.
+abbrev pub Warrants : List (List ℕ) → List ℕ → Result (List ℕ) Refusal → Type 0
+Warrants words text (Ok program) = IsRun words × length text ≤ most_input × IsProgram program text
+Warrants words text (Err Usage) = IsRun words → ⊥
+Warrants words text (Err TooLong) = IsRun words × most_input < length text
+Warrants words text (Err UnbuiltInput) = IsRun words × length text ≤ most_input × IsOtherInput text
+Warrants words text (Err UnbuiltProgram) = IsRun words × length text ≤ most_input × IsOtherProgram text
+Warrants words text (Err ReadFault) = ⊥
+Warrants words text (Err NoMemory) = ⊥
+
+-- the status and the text of what is warranted
+abbrev pub status_for : Result (List ℕ) Refusal → Status
+status_for (Ok program) = status.Done
+status_for (Err refusal) = status_of refusal
+
+abbrev pub text_for : Result (List ℕ) Refusal → List ℕ
+text_for (Ok program) = program_text program
+text_for (Err refusal) = text_of refusal
+
+-- The source tells this text, and neither stream fails: what is warranted is the answer, unless memory is
+-- wanted.
+pub record Serves (source source' sink sink' : Stream) (text : List ℕ) : Type 0 where
+  pub told : source.told ≡ Some text
+  pub read : Rose source.faults source'.faults → ⊥
+  pub written : Rose sink.faults sink'.faults → ⊥
+
+abbrev pub IsExact : List (List ℕ) → Stream → Stream → Stream → Stream → Exit → Type 0
+IsExact words source source' sink sink' exit =
+    (text : List ℕ) (verdict : Result (List ℕ) Refusal)
+    → Serves source source' sink sink' text → Warrants words text verdict
+    → (exit.status ≡ status.NoMemory) ⊎ ((exit.status ≡ status_for verdict) × Appends sink.told sink'.told (text_for verdict))

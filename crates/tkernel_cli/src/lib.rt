@@ -1,0 +1,28 @@
+//! The command line of tkernel as a library: words and an input in, lines and a status out.
+//!
+//! [`tkernel`] is the whole program but for the process around it. So far it runs programs of LDI and OUT
+//! to PORTA that end in a jump to themselves. A program's words are rewritten into a page of the code pool
+//! and executed there by plain AVR steps; what is printed is what the original program would do.
+//!
+//! ```rust
+//! let mut input = MemSource::new(b":060000000FE00BBBFFCF77\n:00000001FF\n".to_vec(alloc)?);
+//! let exit = tkernel(alloc, &words, &mut input, &mut out);
+//! // PORTA 0x0F
+//! // halted 0x0002 steps 2 checkpoints 0
+//! // natural 3 entries 1 pages 1
+//! assert_eq!(rt; exit.status, Status::Done);
+//! ```
+#![tactic(auto)]
+
+mod machine;
+mod page;
+mod program;
+mod refusal;
+mod running;
+mod status;
+mod text;
+mod top;
+
+pub use machine::{End, Machine, Stop};
+pub use status::Status;
+pub use top::{Exit, tkernel};

@@ -1,0 +1,51 @@
+//! The exit statuses of the program.
+ghost use Rattle.std.specs.Prelude.{◌≡◌};
+ghost use Rattle.tkernel_cli.specs.Status.{number_of};
+
+/// How a call ended.
+#[derive(Clone, Copy, Debug, PartialEq, Eq)]
+pub enum Status {
+    /// The program halted, or sleeps.
+    Done,
+    /// The bound of steps was reached.
+    Spent,
+    /// The program ended by a fault of its own.
+    Fault,
+    /// The input is too long, or broken.
+    BadInput,
+    /// The words are no command.
+    Usage,
+    /// The input could not be read.
+    ReadFault,
+    /// The output could not be written.
+    WriteFault,
+    /// The code pool is used up.
+    CodeFull,
+    /// Memory was wanted and not found.
+    NoMemory,
+    /// Flash failed.
+    FlashFault,
+    /// The input, or its program, is of a form that isn't built yet.
+    Unbuilt,
+}
+
+impl Status {
+    /// The number that the process ends with.
+    pub fn number(self) -> u8
+        ensures number { result ≡ number_of self }
+    {
+        match self {
+            Status::Done => 0,
+            Status::Spent => 1,
+            Status::Fault => 2,
+            Status::BadInput => 3,
+            Status::Usage => 4,
+            Status::ReadFault => 5,
+            Status::WriteFault => 6,
+            Status::CodeFull => 7,
+            Status::NoMemory => 8,
+            Status::FlashFault => 9,
+            Status::Unbuilt => 10,
+        }
+    }
+}

@@ -1,0 +1,5 @@
+//! Worked examples of the whole program, and tests that cross crates.
+#![tactic(auto)]
+
+#[cfg(test)]
+mod first_program;
