@@ -1,6 +1,11 @@
--- Lemmas on records and on the lines of a text.
-pub mod RecordLemmas
+-- Lemmas on lines, places and texts.
+pub mod PieceLemmas
 pub mod LineLemmas
-pub mod ContentLemmas
-pub mod ImageLemmas
+pub mod PlaceLemmas
+pub mod ReadingLemmas
+pub mod TextLemmas
+pub mod GrammarLemmas
+pub mod LawLemmas
+pub mod WrittenLemmas
+pub mod BackLemmas
 pub mod Worked

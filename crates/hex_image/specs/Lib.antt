@@ -1,4 +1,9 @@
--- The Intel HEX texts that are read, and the images that they give.
-pub mod Record
+-- Texts of Intel HEX, and the images that they give.
+pub mod Image
+pub mod Pieces
 pub mod Lines
-pub mod Contiguous
+pub mod Places
+pub mod HexText
+pub mod Written
+pub mod Reading
+pub mod Laws

@@ -1,21 +1,36 @@
-//! Program images in Intel HEX, in its simplest form: lines of upper-case records, of which the data
-//! records stand one right after the other from address 0 on, with 256 bytes at most, and then the end
-//! record.
+//! Program images, and their texts in Intel HEX.
 //!
 //! ```rust
-//! let image = read_contiguous(alloc, b":060000000FE00BBBFFCF77\n:00000001FF\n")?;
+//! let (image, position) = read(alloc, b":060000000FE00BBBFFCF77\n:00000001FF\nrest")?;
 //! assert_eq!(rt; image.words(), &[0xE00F, 0xBB0B, 0xCFFF]);
+//! assert_eq!(rt; position, 36);
 //! ```
 //!
-//! [`read_contiguous`] accepts exactly these texts, and gives each of them its one image.
+//! [`read`] gives the image of a text and the position behind its end record's line, or the first faulty
+//! line and the first of its faults; [`write`] gives the text of an image. What a text's image and its
+//! first fault are is defined over all lines at once: `specs/Pieces.antt` cuts the text into lines,
+//! `specs/Lines.antt` says what one line says, `specs/Places.antt` where the bytes of lines stand, and
+//! `specs/HexText.antt` which texts have an image and what is wrong with the others. The code reads line
+//! by line, with a running base, and keeps each byte at its place. [`one_image`], [`one_fault`] and
+//! [`image_or_fault`] are laws of these definitions, for callers' proofs.
 #![tactic(auto)]
 
-mod content;
+mod fault;
 mod image;
+mod kind;
+mod laws;
 mod line;
-mod record;
+mod piece;
+mod places;
+mod reading;
+mod text;
+mod written;
 
-pub use image::{ContiguousError, Image, one_image, read_contiguous};
+pub use fault::{HexError, HexFault};
+pub use image::Image;
+pub use laws::{image_or_fault, one_fault, one_image};
+pub use text::read;
+pub use written::write;
 
 #[cfg(test)]
 mod tests;

@@ -1,63 +1,179 @@
-//! Lines of a text, and what stands at the front of it.
-ghost use Rattle.std.specs.Prelude.{◌≡◌, ◌↔◌, ℕ, List, [], ◌∷◌, ◌++◌, MatchOption, IsTrue, ⊤};
+//! What a line says by itself.
+ghost use Rattle.std.specs.Prelude.{◌≡◌, ◌<◌, ◌≤◌, ◌%◌, ◌∷◌, true, drop, length, sum, IfErr, IfOk, MatchResult, None, Some};
 ghost use Rattle.std.specs.List.{AllPass};
-ghost use Rattle.hex_image.specs.Lines.{IsFront, is_in_line};
+ghost use Rattle.hex.specs.Hex.{is_hex_digit};
+ghost use Rattle.hex_image.specs.Lines.{has_right_count, meaning_of, own_fault, record_meaning, word_in};
+ghost use Rattle.hex_image.specs.Reading.{IsRecordOf, IsRecordOfBytes, seen};
 
-use crate::record::Record;
+use crate::fault::HexFault;
+use crate::kind::{
+    DATA, END_OF_FILE, EXTENDED_LINEAR_ADDRESS, EXTENDED_SEGMENT_ADDRESS, START_LINEAR_ADDRESS,
+    START_SEGMENT_ADDRESS,
+};
 use arrayvec::ArrayVec;
 
-/// What stands at the front of a text.
-pub(crate) enum Front<'a> {
-    /// A data record for the place that was asked for: its bytes, and the text after its line.
-    Data(ArrayVec<u8, 255>, &'a [u8]),
-    /// The end record, with nothing behind its line.
-    End,
-    /// Neither of these.
-    Other,
+/// The most bytes of a record: the count, the address, the kind, 255 bytes of content, and the checksum.
+const MOST_BYTES: usize = 260;
+
+/// The most bytes of a record's content.
+const MOST_CONTENT: usize = 255;
+
+/// What a line says.
+#[derive(Drop)]
+pub(crate) enum Line {
+    /// Nothing: the line is empty.
+    Blank,
+    /// Bytes at an address, which counts from the base.
+    Data {
+        address: u16,
+        content: ArrayVec<u8, MOST_CONTENT>,
+    },
+    /// That the text ends.
+    EndOfFile,
+    /// The base of the addresses behind it, in bytes.
+    Base(u32),
+    /// A start address, which isn't used.
+    StartAddress,
+    /// Nothing, since it has a fault.
+    Faulty(HexFault),
 }
 
-/// What stands at the front of a text whose next byte is for `place`.
-pub(crate) fn read_front(text: &[u8], place: usize) -> Front<'_>
-    ensures front { IsFront place text.now result }
+/// What a line says, which stands without its line end.
+pub(crate) fn judge(line: &[u8]) -> Line
+    ensures value { seen result ≡ meaning_of line.now }
 {
-    let (line, rest) = first_line(text);
-    let Some(record) = Record::read(line) else {
-        return Front::Other;
+    if line.is_empty() {
+        return Line::Blank;
+    }
+    match read_record(line) {
+        Ok(record) => record,
+        Err(fault) => Line::Faulty(fault),
+    }
+}
+
+/// What the record of a line says, or the first fault of the line.
+fn read_record(line: &[u8]) -> Result<Line, HexFault>
+    ensures answer { MatchResult result (IsRecordOf line.now) (λ fault. own_fault line.now ≡ Some fault) }
+{
+    let digits = digits_of(line)?;
+    from_digits(digits)
+}
+
+/// What stands behind the colon of a line, if there is a colon and all the rest are digits.
+fn digits_of(line: &[u8]) -> Result<&[u8], HexFault>
+    ensures found { IfOk result (λ digits. (line.now ≡ 58 ∷ digits.now)
+        × AllPass is_hex_digit digits.now) }
+    ensures fault { IfErr result (λ fault. own_fault line.now ≡ Some fault) }
+{
+    let [b':', digits @ ..] = line else {
+        return Err(HexFault::Start);
     };
-    if record.is_data_for(place) {
-        return match rest {
-            Some(rest) => Front::Data(record.content, rest),
-            None => Front::Other,
-        };
-    }
-    if !record.is_end() {
-        return Front::Other;
-    }
-    if is_nothing(rest) {
-        Front::End
+    if digits.iter().all(|digit| is_hex_digit(*digit)) {
+        Ok(digits)
     } else {
-        Front::Other
+        Err(HexFault::Digit)
     }
 }
 
-/// Whether nothing comes after a line: no line feed, or nothing after it.
-fn is_nothing(rest: Option<&[u8]>) -> bool
-    ensures value { IsTrue result ↔ MatchOption rest.entry ⊤ (λ after. after.now ≡ []) }
+fn is_hex_digit(digit: u8) -> bool
+    ensures value { result ≡ is_hex_digit digit }
 {
-    match rest {
-        Some(after) => after.is_empty(),
-        None => true,
+    matches!(digit, b'0'..=b'9' | b'A'..=b'F' | b'a'..=b'f')
+}
+
+/// What the record says that these digits spell behind a colon.
+fn from_digits(digits: &[u8]) -> Result<Line, HexFault>
+    requires { AllPass is_hex_digit digits.now }
+    ensures answer { MatchResult result (IsRecordOf (58 ∷ digits.now)) (λ fault. own_fault (58 ∷ digits.now) ≡ Some fault) }
+{
+    let count = digits.len() / 2;
+    let mut buffer = [0; MOST_BYTES];
+    if count > MOST_BYTES {
+        return Err(HexFault::Length);
+    }
+    if hex::decode_to_slice(digits, &mut buffer[..count]).is_err() {
+        return Err(HexFault::Length);
+    }
+    from_bytes(&buffer[..count])
+}
+
+/// What a record of these bytes says.
+fn from_bytes(bytes: &[u8]) -> Result<Line, HexFault>
+    ensures answer { IsRecordOfBytes bytes.now result }
+{
+    let [count, high, low, kind, content @ .., _checksum] = bytes else {
+        return Err(HexFault::Length);
+    };
+    if content.len() != usize::from(*count) {
+        return Err(HexFault::Length);
+    }
+    if byte_sum(bytes) != 0 {
+        return Err(HexFault::Checksum);
+    }
+    if !has_right_count(*kind, *count) {
+        return Err(HexFault::Kind);
+    }
+    Ok(meaning(*kind, u16::from_be_bytes([*high, *low]), content))
+}
+
+/// The sum modulo 256.
+pub(crate) fn byte_sum(bytes: &[u8]) -> u8
+    ensures value { result ≡ sum bytes.now % 256 }
+{
+    let mut total: u8 = 0;
+    for byte in bytes {
+        total = total.wrapping_add(*byte);
+    }
+    total
+}
+
+/// Whether a record of this kind may have this count.
+fn has_right_count(kind: u8, count: u8) -> bool
+    ensures value { result ≡ has_right_count kind count }
+{
+    match kind {
+        DATA => true,
+        END_OF_FILE => count == 0,
+        EXTENDED_SEGMENT_ADDRESS | EXTENDED_LINEAR_ADDRESS => count == 2,
+        START_SEGMENT_ADDRESS | START_LINEAR_ADDRESS => count == 4,
+        _ => false,
     }
 }
 
-/// The first line without its line feed, and what comes after the line feed, if there is one.
-fn first_line(text: &[u8]) -> (&[u8], Option<&[u8]>)
-    ensures line { AllPass is_in_line result.0.now }
-    ensures parts { MatchOption result.1 (text.now ≡ result.0.now)
-        (λ rest. text.now ≡ result.0.now ++ 10 ∷ rest.now) }
+/// What a record of this kind says.
+fn meaning(kind: u8, address: u16, content: &[u8]) -> Line
+    requires short { length content.now ≤ 255 }
+    requires count { has_right_count kind (length content.now) ≡ true }
+    ensures value { seen result ≡ record_meaning kind address content.now }
 {
-    match text.iter().position(|byte| *byte == b'\n') {
-        None => (text, None),
-        Some(end) => (&text[..end], Some(&text[end + 1..])),
+    match kind {
+        DATA => Line::Data {
+            address,
+            content: copy_of(content),
+        },
+        END_OF_FILE => Line::EndOfFile,
+        EXTENDED_SEGMENT_ADDRESS => Line::Base(16 * word_in(content)),
+        EXTENDED_LINEAR_ADDRESS => Line::Base(65_536 * word_in(content)),
+        _ => Line::StartAddress,
     }
+}
+
+/// The number of two bytes, the high one first.
+fn word_in(content: &[u8]) -> u32
+    requires { length content.now ≡ 2 }
+    ensures value { result ≡ word_in content.now }
+    ensures small { result < 65536 }
+{
+    u32::from(u16::from_be_bytes([content[0], content[1]]))
+}
+
+fn copy_of(content: &[u8]) -> ArrayVec<u8, MOST_CONTENT>
+    requires { length content.now ≤ 255 }
+    ensures items { result.items ≡ content.now }
+{
+    let mut copy = ArrayVec::new();
+    for byte in content {
+        copy.push(*byte);
+    }
+    copy
 }

@@ -4,6 +4,6 @@ mod Events
 mod Reading
 mod Spelling
 mod Schedules
-mod Judgement
+pub mod Judgement
 mod Done
 mod Answered

@@ -1,45 +1,63 @@
--- One AVR step over the mote (AVR Instruction Set Manual, "Operation" of LDI, OUT and CALL).
-use Rattle.std.specs.Prelude.{ℕ, ◌+◌, ◌/◌, ◌%◌, Bool, true, false, ◌==◌, [], ◌∷◌, slice_index, slice_set, Option, Some}
+-- One AVR step over the mote, and the mote at reset.
+use Rattle.std.specs.Prelude.{◌≡◌, ℕ, if◌then◌else◌, List, Option, Some, None}
+use Rattle.std.specs.Option.{option_map}
+use Rattle.input_script.specs.declared.input.Event.{Event}
 use Rattle.avr_isa.specs.declared.form.Form.{Form}
-use Rattle.avr_isa.specs.declared.form.Form.TheVariants.{Imm, OutIo, Call}
-use Rattle.avr_isa.specs.declared.operation.ImmOp.TheVariants.{Ldi}
-use Rattle.avr_decode.specs.Decoding.{the_form}
-use Rattle.flash_model.specs.Pages.{word_at}
+use Rattle.avr_decode.specs.Decoding.{the_form, is_long}
+use Rattle.avr_exec.specs.declared.cpu.Cpu.{Cpu}
+use Rattle.avr_exec.specs.Registers.{raised}
+use Rattle.avr_exec.specs.Spaces.{Outcome, Went}
+use Rattle.avr_exec.specs.Execution.{exec_of}
+use Rattle.flash_model.specs.Memory.{loaded}
+use Rattle.flash_model.specs.Pages.{word_at, page_count, many}
+use Rattle.sram_layout.specs.Boot.{at_boot}
+use Rattle.mote_devices.specs.declared.line.Line.{Line}
+use Rattle.mote_devices.specs.State.{at_reset}
 use Rattle.mote_core.specs.declared.mote.Mote.{Mote}
-use Rattle.mote_core.specs.declared.mote.Port.TheVariants.{PortA}
 use Rattle.mote_core.specs.declared.mote.Plain.{Plain}
-use Rattle.mote_core.specs.declared.mote.Plain.TheVariants.{Went, Wrote}
+use Rattle.mote_core.specs.Physical.{Physical, physical_calls}
+use Rattle.mote_core.specs.Shown.{line_of}
 
--- the address of the word after: addresses have 16 bits
-abbrev pub next_address : ℕ → ℕ
-next_address a = (a + 1) % 65536
+-- the word at the pc, and the one after it
+abbrev pub first_at : Mote → ℕ
+first_at m = word_at m.flash.words m.cpu.pc
 
--- the instruction at the pc
+abbrev pub second_at : Mote → ℕ
+second_at m = word_at m.flash.words (raised m.cpu.pc 1)
+
+-- the instruction at the pc, if there is one
 abbrev pub form_at : Mote → Option Form
-form_at m = the_form (word_at m.flash.words m.pc) (word_at m.flash.words (next_address m.pc))
+form_at m = the_form (first_at m) (second_at m)
 
--- PORTA as the field A of IN and OUT (ATmega128 datasheet, "Register Summary")
-abbrev pub port_a_field : ℕ
-port_a_field = 0x1B
+-- how many words a skip passes over: those of the instruction that follows one word on
+abbrev pub next_size : Mote → ℕ
+next_size m = if is_long (second_at m) then 2 else 1
 
--- the instructions that pages are made of so far
-unfoldable pub is_stepped : Option Form → Bool
-is_stepped (Some (Imm Ldi d k)) = true
-is_stepped (Some (OutIo a r)) = a == port_a_field
-is_stepped (Some (Call a)) = true
-is_stepped _ = false
+-- what the instruction reaches of the mote, where a write has shown this outside
+abbrev pub space_of : Mote → Option Line → Physical
+space_of m line = record { sram = m.sram; devices = m.devices; words = m.flash.words; line = line }
 
--- The mote after the instruction. CALL pushes the address of the instruction after it, two words on, with
--- the low byte at the higher address.
-unfoldable pub after : Mote → Option Form → Mote
-after m (Some (Imm Ldi d k)) = record m { registers = slice_set m.registers d k; pc = next_address m.pc }
-after m (Some (OutIo a r)) = record m { port_a = slice_index m.registers r; pc = next_address m.pc }
-after m (Some (Call a)) =
-    let back = next_address (next_address m.pc) in
-    record m { kernel_stack = back / 256 ∷ back % 256 ∷ []; pc = a }
-after m _ = m
+-- the instruction at the pc, executed over the physical space
+unfoldable pub stepped : Mote → Option (Outcome Physical Cpu)
+stepped m = option_map (λ (form : Form). exec_of physical_calls form m.cpu (space_of m None) (next_size m)) (form_at m)
 
--- what the instruction shows outside
-unfoldable pub told : Mote → Option Form → Plain
-told m (Some (OutIo a r)) = Wrote (record { port = PortA; value = slice_index m.registers r })
-told m _ = Went
+-- One plain step, with what it shows outside: the instruction doesn't stop, and it leaves flash.
+pub record IsPlainStep (m : Mote) (shown : Plain) (next : Mote) : Type 0 where
+  pub executed : stepped m ≡ Some (Went next.cpu (space_of next (line_of shown)))
+  pub flash : next.flash ≡ m.flash
+
+-- where the kernel's own stack is empty
+abbrev pub kernel_stack_top : ℕ
+kernel_stack_top = 0x011F
+
+-- the core at reset
+abbrev pub cpu_at_reset : Cpu
+cpu_at_reset = record { r = many 32 0; sreg = 0; sp = kernel_stack_top; pc = 0 }
+
+-- at reset flash holds the image and the kernel, and no page was erased
+pub record IsAtReset (image : List ℕ) (events : List Event) (m : Mote) : Type 0 where
+  pub cpu : m.cpu ≡ cpu_at_reset
+  pub sram : m.sram ≡ at_boot
+  pub words : m.flash.words ≡ loaded image
+  pub erases : m.flash.erases ≡ many page_count 0
+  pub devices : m.devices ≡ at_reset events

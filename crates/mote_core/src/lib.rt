@@ -1,10 +1,25 @@
-//! The mote: flash, registers and a port, and the plain AVR step over them.
+//! The mote: a core, SRAM, flash and devices, and one AVR step over them.
 //!
-//! [`Mote::plain_step`] executes one instruction of flash at the pc. It knows the instructions that
-//! rewritten pages are made of so far: LDI, OUT to PORTA, and CALL, which pushes the address of the
-//! word after it onto the kernel's own stack.
+//! [`Mote::plain_step`] executes the instruction of flash at the pc over the physical data space: the
+//! devices' registers, and SRAM at its own addresses. Nothing is virtual here, and nothing is tested:
+//! the step asks of its caller that the instruction touches no other address (`can_step`), and then it
+//! never stops.
+//!
+//! ```rust
+//! let mut mote = Mote::new(rt.alloc(), image.words(), script)?;
+//! if let Plain::Wrote(line) = mote.plain_step() { .. } // an OUT to a port, say
+//! ```
+//!
+//! `specs/Physical` is the data space, `specs/Conditions` says which addresses it has and when a step
+//! may be made, and `specs/Step` what the step is. `proofs/NeverStops` has the law that no step which
+//! may be made stops, and `proofs/KnownSteps` the mote after LDI, OUT to a port, and CALL.
 #![tactic(auto)]
 
 mod mote;
+mod space;
 
-pub use mote::{Line, Mote, Plain, Port};
+pub use mote::{Mote, Plain};
+pub use mote_devices::{Line, Port};
+
+#[cfg(test)]
+mod tests;

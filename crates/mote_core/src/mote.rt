@@ -1,98 +1,124 @@
 //! The mote and its step.
-ghost use Rattle.std.specs.Prelude.{◌≡◌, ◌≤◌, length, replicate, IsTrue, IfOk};
-ghost use Rattle.flash_model.specs.Memory.{loaded};
-ghost use Rattle.flash_model.specs.Pages.{many};
-ghost use Rattle.mote_core.specs.Step.{after, form_at, is_stepped, told};
 
-use avr_decode::decode;
-use avr_isa::{Form, ImmOp};
+ghost use Rattle.std.specs.Prelude.{◌≡◌, ◌<◌, ◌≤◌, ◌^◌, true, if◌then◌else◌};
+ghost use Rattle.avr_decode.specs.Decoding.{is_long};
+ghost use Rattle.avr_exec.specs.Asks.{ask_of};
+ghost use Rattle.avr_exec.specs.Execution.{exec_of, is_executed};
+ghost use Rattle.avr_exec.specs.Spaces.{Went};
+ghost use Rattle.mote_core.specs.Physical.{physical_calls};
+ghost use Rattle.mote_core.specs.Conditions.{is_mapped};
+ghost use Rattle.mote_core.specs.Shown.{line_of};
+
+use crate::space::PhysicalSpace;
+use avr_decode::{decode, two_words};
+use avr_exec::{Cpu, exec};
+use avr_isa::Instr;
 use flash_model::Flash;
+use input_script::Script;
+use mote_devices::{Devices, Line};
+use sram_layout::Sram;
 use std::alloc::Global;
 use tk_io::NoMemory;
-
-/// A port whose writes are seen outside.
-#[derive(Clone, Copy, Debug, PartialEq, Eq)]
-pub enum Port {
-    PortA,
-}
-
-/// What a write to a port shows outside.
-#[derive(Clone, Copy, Debug, PartialEq, Eq)]
-pub struct Line {
-    pub port: Port,
-    pub value: u8,
-}
 
 /// What a plain step shows outside.
 #[derive(Clone, Copy, Debug, PartialEq, Eq)]
 pub enum Plain {
     /// Nothing.
     Went,
-    /// It wrote to a port.
+    /// It wrote to an output of a device.
     Wrote(Line),
 }
 
 /// The physical mote.
 #[derive(Debug, Drop)]
 pub struct Mote {
+    /// The core's registers. The stack pointer is the physical one.
+    pub cpu: Cpu,
+    pub sram: Sram,
     pub flash: Flash,
-    /// r0 to r31.
-    pub registers: [u8; 32],
-    /// The address of the next instruction, in words of flash.
-    pub pc: u16,
-    /// The kernel's own stack: the bytes at the data addresses 0x011E and 0x011F.
-    pub kernel_stack: [u8; 2],
-    /// PORTA, at I/O address 0x1B.
-    pub port_a: u8,
+    pub devices: Devices,
 }
 
 impl Mote {
-    /// A mote at reset, with the image in flash and no code page.
+    ghost use Rattle.std.specs.Prelude.{◌≡◌, ◌<◌, ◌≤◌, ◌^◌, true, length, IfOk};
+    ghost use Rattle.mote_core.specs.Step.{IsAtReset, form_at, IsPlainStep};
+    ghost use Rattle.mote_core.specs.Conditions.{can_step};
+
+    /// A mote at reset, with the image in flash and the kernel's memory as at boot. The stack pointer is
+    /// at the top of the kernel's own stack.
     #[tactic(auto, unfolding(flash_model::specs::Pages::many))]
-    pub fn new(alloc: Global, image: &[u16]) -> Result<Mote, NoMemory>
-        requires { length image.now ≤ 16384 }
-        ensures flash { IfOk result (λ m. m.flash.words ≡ loaded image.now) }
-        ensures registers { IfOk result (λ m. m.registers ≡ many 32 0) }
-        ensures rest { IfOk result (λ m. (m.pc ≡ 0) × (m.kernel_stack ≡ many 2 0) × (m.port_a ≡ 0)) }
+    pub fn new(alloc: Global, image: &[u16], script: Script) -> Result<Mote, NoMemory>
+        requires image { length image.now ≤ 16384 }
+        ensures reset { IfOk result (IsAtReset image.now script) }
     {
         Ok(Mote {
+            cpu: Cpu {
+                r: [0; 32],
+                sreg: 0,
+                sp: 0x011F,
+                pc: 0,
+            },
+            sram: Sram::new(),
             flash: Flash::new(alloc, image)?,
-            registers: [0; 32],
-            pc: 0,
-            kernel_stack: [0; 2],
-            port_a: 0,
+            devices: Devices::new(script),
         })
     }
 
-    /// Executes the instruction at the pc.
-    #[tactic(auto, unfolding(crate::specs::Step::after, crate::specs::Step::is_stepped, crate::specs::Step::told))]
+    /// Executes the instruction of flash at the pc.
     pub fn plain_step(&mut self) -> Plain
-        requires { IsTrue (is_stepped (form_at self.old)) }
-        ensures state { self.new ≡ after self.old (form_at self.old) }
-        ensures line { result ≡ told self.old (form_at self.old) }
+        requires step { can_step (form_at self.old) self.old.cpu ≡ true }
+        requires room { self.old.devices.polls < 2 ^ 63 }
+        ensures step { IsPlainStep self.old result self.new }
     {
-        let next = self.pc.wrapping_add(1);
-        let instr = decode(self.flash.word(self.pc), self.flash.word(next)).unwrap();
-        match instr.form() {
-            Form::Imm(ImmOp::Ldi, d, k) => {
-                self.registers[d.get() as usize] = *k;
-                self.pc = next;
-                Plain::Went
-            }
-            Form::OutIo(_, r) => {
-                self.port_a = self.registers[r.get() as usize];
-                self.pc = next;
-                Plain::Wrote(Line {
-                    port: Port::PortA,
-                    value: self.port_a,
-                })
-            }
-            Form::Call(target) => {
-                self.kernel_stack = next.wrapping_add(1).to_be_bytes();
-                self.pc = *target;
-                Plain::Went
-            }
-            _ => unreachable!(),
-        }
+        let pc = self.cpu.pc;
+        let second = self.flash.word(pc.wrapping_add(1));
+        let instr = decode(self.flash.word(pc), second).unwrap();
+        execute(
+            &instr,
+            &mut self.cpu,
+            &mut self.sram,
+            &mut self.devices,
+            &self.flash,
+            words_of(second),
+        )
+    }
+}
+
+/// How many words the instruction with this first word has.
+fn words_of(first: u16) -> u16
+    ensures value { result ≡ if is_long first then 2 else 1 }
+    ensures range { (1 ≤ result) × (result ≤ 2) }
+{
+    if two_words(first) { 2 } else { 1 }
+}
+
+/// Executes an instruction that touches no other address than the physical space has.
+fn execute(
+    instr: &Instr,
+    cpu: &mut Cpu,
+    sram: &mut Sram,
+    devices: &mut Devices,
+    flash: &Flash,
+    next_size: u16,
+) -> Plain
+    requires executed { is_executed instr.now ≡ true }
+    requires mapped { is_mapped (ask_of instr.now cpu.old) ≡ true }
+    requires next { (1 ≤ next_size) × (next_size ≤ 2) }
+    requires room { devices.old.polls < 2 ^ 63 }
+    ensures outcome { exec_of physical_calls instr.now cpu.old (record { sram = sram.old; devices = devices.old; words = flash.now.words; line = None }) next_size
+        ≡ Went cpu.new (record { sram = sram.new; devices = devices.new; words = flash.now.words; line = line_of result }) }
+{
+    let mut space = PhysicalSpace {
+        sram,
+        devices,
+        flash,
+        line: None,
+    };
+    match exec(instr, cpu, &mut space, next_size) {
+        Ok(()) => match space.line {
+            Some(line) => Plain::Wrote(line),
+            None => Plain::Went,
+        },
+        Err(_) => unreachable!(),
     }
 }

@@ -1,5 +1,5 @@
 -- The end of a run: the jump to itself, in the page a call of the kernel.
-use Rattle.std.proofs.Common.{◌≡◌, ℕ, zero, suc, ◌+◌, ◌-◌, ◌*◌, ◌/◌, ◌<◌, true, refl, sym, ap, ◌∙◌, subst, arith, ◌==◌, append_assoc, append-nil, zero-add, Some, List, [], ◌∷◌, ◌++◌, length, slice_index, inr}
+use Rattle.std.proofs.Common.{◌≡◌, ℕ, zero, suc, ◌+◌, ◌-◌, ◌*◌, ◌/◌, ◌%◌, ◌<◌, true, refl, sym, ap, ◌∙◌, subst, arith, ◌==◌, append_assoc, append-nil, zero-add, Some, List, [], ◌∷◌, ◌++◌, length, slice_index, inr}
 use Rattle.std.specs.Prelude.{negsuc}
 use Rattle.std.proofs.lemmas.Bool.Decides.{nat_tests}
 use Rattle.std.proofs.lemmas.List.{get_or_default}
@@ -10,19 +10,25 @@ use Rattle.avr_isa.specs.Image.{word, is_inside}
 use Rattle.avr_decode.specs.Decoding.{the_form, is_long, if_defined, defined_form, two_word_form, one_word_form}
 use Rattle.flash_model.specs.Pages.{word_at}
 use Rattle.flash_model.specs.Memory.{Memory}
-use Rattle.mote_core.specs.declared.mote.Line.{Line}
+use Rattle.avr_exec.specs.Registers.{raised, lowered}
+use Rattle.sram_layout.specs.Bytes.{byte_at, with_byte, byte_count}
+use Rattle.sram_layout.proofs.Laws.{byte_same, byte_other, length-with_byte}
+use Rattle.mote_devices.specs.declared.line.Line.{Line}
 use Rattle.mote_core.specs.declared.mote.Mote.{Mote}
 use Rattle.mote_core.specs.declared.mote.Plain.{Plain}
 use Rattle.mote_core.specs.declared.mote.Plain.TheVariants.{Went, Wrote}
-use Rattle.mote_core.specs.Step.{next_address, after, is_stepped, form_at}
+use Rattle.mote_core.specs.Conditions.{can_step}
+use Rattle.mote_core.specs.Physical.{is_sram}
+use Rattle.mote_core.specs.Step.{form_at, kernel_stack_top, IsPlainStep}
+use Rattle.mote_core.proofs.KnownSteps.{after_call, can_step_call}
 use Rattle.tkernel_cli.specs.declared.machine.Machine.{Machine}
 use Rattle.tkernel_cli.specs.declared.machine.End.TheVariants.{Stopped}
 use Rattle.tkernel_cli.specs.declared.machine.Stop.TheVariants as stops
-use Rattle.tkernel_cli.specs.Original.{State, Run, Halted, Stops, run, tried, instruction_at, start, original, jump_target}
+use Rattle.tkernel_cli.specs.Original.{State, Run, Halted, Stops, run, next_address, tried, instruction_at, start, original, jump_target}
 use Rattle.tkernel_cli.specs.Page.{call_word, code_page, self_entry}
 use Rattle.tkernel_cli.specs.Program.{IsBuilt, halt_word}
 use Rattle.tkernel_cli.specs.Answer.{HaltsAtLastWord}
-use Rattle.tkernel_cli.specs.Running.{HasHalted, Follows, last_address}
+use Rattle.tkernel_cli.specs.Running.{HasHalted, IsServed, Follows, last_address}
 use Rattle.tkernel_cli.specs.Text.{line_text, lines_text, plain_text, stop_text, count_text, run_text, program_text, default_steps, default_quantum}
 use Rattle.tkernel_cli.proofs.PageWords.{call_words}
 use Rattle.tkernel_cli.proofs.Steps.{prepend, lines_of, lines_after, state_after, straight_run}
@@ -38,12 +44,8 @@ halt_form : (behind : ℕ) → the_form 0xCFFF behind ≡ Some (Rjmp (negsuc 0))
 unfolding the_form is_long one_word_form if_defined defined_form is_undefined
 halt_form behind = refl
 
-call_stepped : (target : ℕ) → is_stepped (Some (Call target)) ≡ true
-unfolding is_stepped
-call_stepped target = refl
-
 -- the three words at the end of the page
-end_word : (program : List ℕ) (lines : List Line) (m : Machine) (k : ℕ) → IsBuilt program → IsAt program lines m → m.steps ≡ last_address program → k < 3 → word_at m.mote.flash.words (m.mote.pc + k) ≡ slice_index (call_word ∷ self_entry ∷ last_address program ∷ []) k
+end_word : (program : List ℕ) (lines : List Line) (m : Machine) (k : ℕ) → IsBuilt program → IsAt program lines m → m.steps ≡ last_address program → k < 3 → word_at m.mote.flash.words (m.mote.cpu.pc + k) ≡ slice_index (call_word ∷ self_entry ∷ last_address program ∷ []) k
 end_word program lines m k built here done below =
     let some = built.some in
     let place : length program + 2 + m.steps + k ≡ length program + 2 + (length program - 1) + k = omega (arith, done) in
@@ -55,58 +57,77 @@ pub call_here : (program : List ℕ) (lines : List Line) (m : Machine) → IsBui
 call_here program lines m built here done =
     let words = m.mote.flash.words in
     let short = built.short in
-    let same : m.mote.pc ≡ m.mote.pc + 0 = omega arith in
-    let next : next_address m.mote.pc ≡ m.mote.pc + 1 = omega (arith, here.pc, here.within) in
-    let first : word_at words m.mote.pc ≡ call_word = ap (λ z. word_at words z) same ∙ end_word program lines m 0 built here done (omega arith) in
-    let second : word_at words (next_address m.mote.pc) ≡ self_entry = ap (λ z. word_at words z) next ∙ end_word program lines m 1 built here done (omega arith) in
-    ap (λ z. the_form z (word_at words (next_address m.mote.pc))) first ∙ ap (λ z. the_form call_word z) second ∙ call_form self_entry
+    let same : m.mote.cpu.pc ≡ m.mote.cpu.pc + 0 = omega arith in
+    let next : next_address m.mote.cpu.pc ≡ m.mote.cpu.pc + 1 = omega (arith, here.pc, here.within) in
+    let first : word_at words m.mote.cpu.pc ≡ call_word = ap (λ z. word_at words z) same ∙ end_word program lines m 0 built here done (omega arith) in
+    let second : word_at words (next_address m.mote.cpu.pc) ≡ self_entry = ap (λ z. word_at words z) next ∙ end_word program lines m 1 built here done (omega arith) in
+    ap (λ z. the_form z (word_at words (next_address m.mote.cpu.pc))) first ∙ ap (λ z. the_form call_word z) second ∙ call_form self_entry
 
-pub can_halt : (program : List ℕ) (lines : List Line) (m : Machine) → IsBuilt program → IsAt program lines m → m.steps ≡ last_address program → is_stepped (form_at m.mote) ≡ true
-can_halt program lines m built here done = rw (call_here program lines m built here done) (call_stepped self_entry)
+-- a call can be made where the stack is empty
+stack_in_sram : (sp : ℕ) → sp ≡ kernel_stack_top → (is_sram sp ≡ true) × (is_sram (lowered sp 1) ≡ true)
+stack_in_sram sp top = subst (λ z. (is_sram z ≡ true) × (is_sram (lowered z 1) ≡ true)) (sym top) (refl, refl)
 
--- the machine after the kernel served the call
-pub record IsServed (m n : Machine) : Type 0 where
-  pub mote : n.mote ≡ after m.mote (form_at m.mote)
-  pub at : n.at ≡ m.at
-  pub ending : n.end ≡ Some (Stopped (stops.Halted (word_at n.mote.flash.words (256 * slice_index n.mote.kernel_stack 0 + slice_index n.mote.kernel_stack 1))))
-  pub steps : n.steps ≡ m.steps
-  pub natural : n.natural ≡ m.natural + 1
-  pub entries : n.entries ≡ m.entries + 1
-  pub pages : n.pages ≡ m.pages
+pub can_halt : (program : List ℕ) (lines : List Line) (m : Machine) → IsBuilt program → IsAt program lines m → m.steps ≡ last_address program → can_step (form_at m.mote) m.mote.cpu ≡ true
+can_halt program lines m built here done =
+    let inside = stack_in_sram m.mote.cpu.sp here.stack.top in
+    rw (call_here program lines m built here done) (can_step_call m.mote.cpu self_entry inside.0 inside.1)
 
-pub served_machine : (m n : Machine) → (let mote = after m.mote (form_at m.mote) in
-    n ≡ record m { mote = mote; end = Some (Stopped (stops.Halted (word_at mote.flash.words (256 * slice_index mote.kernel_stack 0 + slice_index mote.kernel_stack 1)))); natural = m.natural + 1; entries = m.entries + 1 }) → IsServed m n
-served_machine m n is =
-    let mote : n.mote ≡ after m.mote (form_at m.mote) = ap (λ (z : Machine). z.mote) is in
+-- a memory with a return address pushed
+abbrev with_return : List ℕ → ℕ → ℕ → List ℕ
+with_return m sp ret = with_byte (with_byte m sp (ret % 256)) (lowered sp 1) (ret / 256)
+
+-- the return address on the empty stack: its high byte first
+pushed_at_top : (m : List ℕ) (ret : ℕ) → length m ≡ byte_count
+    → (let after = with_return m kernel_stack_top ret in
+    (256 * byte_at after (kernel_stack_top - 1) + byte_at after kernel_stack_top ≡ ret) × (length after ≡ byte_count))
+pushed_at_top m ret size =
+    let low = with_byte m kernel_stack_top (ret % 256) in
+    let after = with_byte low 0x011E (ret / 256) in
+    let length_low : length low ≡ byte_count = length-with_byte m kernel_stack_top (ret % 256) ∙ size in
+    let high_byte : byte_at after 0x011E ≡ ret / 256 = byte_same low 0x011E (ret / 256) (omega arith) (omega (arith, length_low)) in
+    let low_byte : byte_at after kernel_stack_top ≡ ret % 256 =
+    byte_other low 0x011E kernel_stack_top (ret / 256) (omega arith) (omega arith) (λ same. absurd (omega (arith, same)))
+    ∙ byte_same m kernel_stack_top (ret % 256) (omega arith) (omega (arith, size)) in
+    (omega (arith, high_byte, low_byte), length-with_byte low 0x011E (ret / 256) ∙ length_low)
+
+pushed : (m : List ℕ) (sp ret : ℕ) → sp ≡ kernel_stack_top → length m ≡ byte_count
+    → (let after = with_return m sp ret in
+    (256 * byte_at after (kernel_stack_top - 1) + byte_at after kernel_stack_top ≡ ret) × (length after ≡ byte_count))
+pushed m sp ret top size =
+    subst (λ z. (256 * byte_at (with_return m z ret) (kernel_stack_top - 1) + byte_at (with_return m z ret) kernel_stack_top ≡ ret) × (length (with_return m z ret) ≡ byte_count)) (sym top) (pushed_at_top m ret size)
+
+-- the call leaves registers and flash, and the address behind it lies on the stack
+record HasCalled (mote next : Mote) : Type 0 where
+  registers : next.cpu.r ≡ mote.cpu.r
+  flash : next.flash ≡ mote.flash
+  sram : length next.sram ≡ byte_count
+  stack : 256 * byte_at next.sram (kernel_stack_top - 1) + byte_at next.sram kernel_stack_top ≡ raised mote.cpu.pc 2
+
+has_called : (mote next : Mote) (shown : Plain) (target : ℕ) → form_at mote ≡ Some (Call target) → mote.cpu.sp ≡ kernel_stack_top → length mote.sram ≡ byte_count → IsPlainStep mote shown next → HasCalled mote next
+has_called mote next shown target is top size step =
+    let inside = stack_in_sram mote.cpu.sp top in
+    let after = after_call mote next shown target step is inside.0 inside.1 in
+    let sram = ap (λ (z : Mote). z.sram) after.0 in
+    let bytes = pushed mote.sram mote.cpu.sp (raised mote.cpu.pc 2) top size in
     record {
-      mote = mote;
-      at = ap (λ (z : Machine). z.at) is;
-      ending = ap (λ (z : Machine). z.end) is ∙ ap (λ (z : Mote). Some (Stopped (stops.Halted (word_at z.flash.words (256 * slice_index z.kernel_stack 0 + slice_index z.kernel_stack 1))))) (sym mote);
-      steps = ap (λ (z : Machine). z.steps) is;
-      natural = ap (λ (z : Machine). z.natural) is;
-      entries = ap (λ (z : Machine). z.entries) is;
-      pages = ap (λ (z : Machine). z.pages) is;
+      registers = ap (λ (z : Mote). z.cpu.r) after.0;
+      flash = ap (λ (z : Mote). z.flash) after.0;
+      sram = ap length sram ∙ bytes.1;
+      stack = ap (λ z. 256 * byte_at z (kernel_stack_top - 1) + byte_at z kernel_stack_top) sram ∙ bytes.0;
     }
-
--- the call leaves registers and flash, and the address of its second word behind lies on the stack
-called : (mote : Mote) (target : ℕ) → mote.pc + 2 < 65536
-    → ((after mote (Some (Call target))).registers ≡ mote.registers) × ((after mote (Some (Call target))).flash ≡ mote.flash)
-    × (256 * slice_index (after mote (Some (Call target))).kernel_stack 0 + slice_index (after mote (Some (Call target))).kernel_stack 1 ≡ mote.pc + 2)
-unfolding after
-called mote target below = (refl, refl, omega arith)
 
 pub has_halted : (program : List ℕ) (lines : List Line) (m n : Machine) → IsBuilt program → IsAt program lines m → m.steps ≡ last_address program → IsServed m n → HasHalted program n × Follows program n
 has_halted program lines m n built here done served =
     let short = built.short in
     let before = at_follows program lines m built here in
-    let moved = called m.mote self_entry (omega (arith, here.pc, here.within)) in
-    let mote : n.mote ≡ after m.mote (Some (Call self_entry)) = served.mote ∙ ap (λ z. after m.mote z) (call_here program lines m built here done) in
-    let registers : n.mote.registers ≡ m.mote.registers = ap (λ (z : Mote). z.registers) mote ∙ moved.0 in
-    let words : n.mote.flash.words ≡ m.mote.flash.words = ap (λ (z : Mote). z.flash.words) mote ∙ ap (λ (z : Memory). z.words) moved.1 in
-    let stack : 256 * slice_index n.mote.kernel_stack 0 + slice_index n.mote.kernel_stack 1 ≡ m.mote.pc + 2 = ap (λ (z : Mote). 256 * slice_index z.kernel_stack 0 + slice_index z.kernel_stack 1) mote ∙ moved.2 in
-    let address : word_at n.mote.flash.words (256 * slice_index n.mote.kernel_stack 0 + slice_index n.mote.kernel_stack 1) ≡ last_address program =
-    ap (λ z. word_at z (256 * slice_index n.mote.kernel_stack 0 + slice_index n.mote.kernel_stack 1)) words
-    ∙ ap (λ z. word_at m.mote.flash.words z) stack
+    let next = served.called in
+    let moved = has_called m.mote next served.shown self_entry (call_here program lines m built here done) here.stack.top here.stack.sram served.step in
+    let registers : n.mote.cpu.r ≡ m.mote.cpu.r = ap (λ (z : Mote). z.cpu.r) served.mote ∙ moved.registers in
+    let words : next.flash.words ≡ m.mote.flash.words = ap (λ (z : Memory). z.words) moved.flash in
+    let behind : raised m.mote.cpu.pc 2 ≡ m.mote.cpu.pc + 2 = omega (arith, here.pc, here.within) in
+    let address : word_at next.flash.words (256 * byte_at next.sram (kernel_stack_top - 1) + byte_at next.sram kernel_stack_top) ≡ last_address program =
+    ap (λ z. word_at z (256 * byte_at next.sram (kernel_stack_top - 1) + byte_at next.sram kernel_stack_top)) words
+    ∙ ap (λ z. word_at m.mote.flash.words z) (moved.stack ∙ behind)
     ∙ end_word program lines m 2 built here done (omega arith) in
     let halted : HasHalted program n = record {
       ending = served.ending ∙ ap (λ z. Some (Stopped (stops.Halted z))) address;
@@ -116,9 +137,10 @@ has_halted program lines m n built here done served =
     } in (
       halted,
       record {
-        flash = words ∙ here.flash;
+        flash = ap (λ (z : Mote). z.flash.words) served.mote ∙ words ∙ here.flash;
         pages = served.pages ∙ here.pages;
         within = omega (arith, served.steps, here.within);
+        stack = record { top = ap (λ (z : Mote). z.cpu.sp) served.mote; sram = ap (λ (z : Mote). length z.sram) served.mote ∙ moved.sram };
         registers = registers ∙ before.registers ∙ ap (λ z. (original program z).state.registers) (sym served.steps);
         at = served.at ∙ before.at ∙ ap (λ z. (original program z).state.pc) (sym served.steps);
         stage = inr halted;

@@ -1,43 +1,84 @@
 -- What words and input warrant is one thing, and it is what is answered.
-use Rattle.std.proofs.Common.{◌≡◌, ℕ, ◌+◌, ◌≤◌, List, ◌++◌, length, refl, sym, ap, ◌∙◌, subst, arith, append-nil, length-append, Option, Some, None, Result, Ok, Err, inl, inr}
+use Rattle.std.proofs.Common.{◌≡◌, ℕ, ◌+◌, ◌≤◌, List, ◌++◌, length, drop, refl, sym, ap, ◌∙◌, subst, arith, append-nil, length-append, Option, Some, None, Result, Ok, Err, inl, inr}
 use Rattle.std.specs.Io.KnownBytes.{Appends, Consumes, IsAtEnd}
 use Rattle.tk_io.specs.Faults.{Rose}
 use Rattle.tk_io.specs.Streams.{Takes}
-use Rattle.hex_image.proofs.ImageLemmas.{has_one_image}
+use Rattle.hex_image.specs.HexText.{HexBad, HexText}
+use Rattle.hex_image.proofs.LawLemmas.{never_both, same_fault, same_image}
+use Rattle.hex_image.specs.declared.fault.HexFault.{HexFault}
+use Rattle.input_script.specs.Script.{IsBad}
+use Rattle.input_script.specs.declared.fault.ScriptFault.{ScriptFault}
+use Rattle.input_script.specs.declared.input.Event.{Event}
+use Rattle.input_script.proofs.Judgement.{one_judgement}
 use Rattle.tkernel_cli.specs.declared.refusal.Refusal.{Refusal}
-use Rattle.tkernel_cli.specs.declared.refusal.Refusal.TheVariants.{Usage, ReadFault, TooLong, UnbuiltInput, UnbuiltProgram, NoMemory}
+use Rattle.tkernel_cli.specs.declared.refusal.Refusal.TheVariants.{Usage, ReadFault, TooLong, BadHex, BadScript, UnbuiltProgram, NoMemory}
 use Rattle.tkernel_cli.specs.declared.status.Status.{Status}
 use Rattle.tkernel_cli.specs.declared.status.Status.TheVariants as status
 use Rattle.tkernel_cli.specs.declared.top.Exit.{Exit}
-use Rattle.tkernel_cli.specs.Answer.{Gave, HasRead, IsAnswer, IsExact, IsOtherInput, IsOtherProgram, IsProgram, IsRefused, IsRun, Refuses, Says, Stream, Warrants, most_input, status_for, status_of, text_for}
+use Rattle.tkernel_cli.specs.Answer.{Gave, HasRead, HasBadScript, IsAnswer, IsExact, IsInput, IsOtherProgram, IsProgram, IsRefused, IsRun, Refuses, Says, Stream, Warrants, most_input, status_for, status_of, text_for}
 use Rattle.tkernel_cli.specs.Program.{IsBuilt}
+
+-- a text has one image, one end of it, and one judgement of what stands behind
+one_input : (text a b : List ℕ) (events others : List Event) → IsInput text a events → IsInput text b others → a ≡ b
+one_input text a b events others x y = (same_image text a b x.position y.position x.hex y.hex).0
+
+hex_apart : (text words : List ℕ) (position line : ℕ) (fault : HexFault) → HexText text words position → HexBad text line fault → ⊥
+hex_apart text words position line fault good bad = never_both text words position line fault good bad
+
+one_bad_hex : (text : List ℕ) (line other : ℕ) (fault fault' : HexFault) → HexBad text line fault → HexBad text other fault' → BadHex line fault ≡ BadHex other fault'
+one_bad_hex text line other fault fault' x y =
+    let same = same_fault text line other fault fault' x y in
+    ap (λ z. BadHex z fault) same.0 ∙ ap (λ z. BadHex other z) same.1
+
+script_apart : (text : List ℕ) (line : ℕ) (fault : ScriptFault) (words : List ℕ) (events : List Event) → HasBadScript line fault text → IsInput text words events → ⊥
+script_apart text line fault words events bad input =
+    let same = (same_image text bad.words words bad.position input.position bad.hex input.hex).1 in
+    (one_judgement (drop input.position text)).apart events line fault input.script (subst (λ z. IsBad (drop z text) line fault) same bad.bad)
+
+one_bad_script : (text : List ℕ) (line other : ℕ) (fault fault' : ScriptFault) → HasBadScript line fault text → HasBadScript other fault' text → BadScript line fault ≡ BadScript other fault'
+one_bad_script text line other fault fault' x y =
+    let same = (same_image text x.words y.words x.position y.position x.hex y.hex).1 in
+    let bad = subst (λ z. IsBad (drop z text) line fault) same x.bad in
+    let one = one_judgement (drop y.position text) in
+    ap (λ z. BadScript z fault) (one.one_line line other fault fault' bad y.bad) ∙ ap (λ z. BadScript other z) (one.one_fault line other fault fault' bad y.bad)
 
 -- no two verdicts are warranted
 only_one : (words : List (List ℕ)) (text : List ℕ) (r s : Result (List ℕ) Refusal) → Warrants words text r → Warrants words text s → r ≡ s
-only_one words text (Ok p) (Ok q) v w = ap Ok (has_one_image text p q v.2.contiguous w.2.contiguous)
+only_one words text (Ok p) (Ok q) v w = ap Ok (one_input text p q _ _ v.2.input w.2.input)
 only_one words text (Ok p) (Err Usage) v w = absurd (w v.0)
 only_one words text (Ok p) (Err TooLong) v w = absurd (omega (arith, v.1, w.1))
-only_one words text (Ok p) (Err UnbuiltInput) v w = absurd (w.2 p v.2.contiguous)
-only_one words text (Ok p) (Err UnbuiltProgram) v w = absurd (w.2.other (subst IsBuilt (has_one_image text p w.2.image v.2.contiguous w.2.contiguous) v.2.built))
+only_one words text (Ok p) (Err (BadHex m g)) v w = absurd (hex_apart text _ _ m g (v.2.input.hex) w.2)
+only_one words text (Ok p) (Err (BadScript m g)) v w = absurd (script_apart text m g _ _ w.2 v.2.input)
+only_one words text (Ok p) (Err UnbuiltProgram) v w = absurd (w.2.other (subst IsBuilt (one_input text p _ _ _ v.2.input w.2.input) v.2.built))
 only_one words text (Err Usage) (Ok q) v w = absurd (v w.0)
 only_one words text (Err Usage) (Err Usage) v w = refl
 only_one words text (Err Usage) (Err TooLong) v w = absurd (v w.0)
-only_one words text (Err Usage) (Err UnbuiltInput) v w = absurd (v w.0)
+only_one words text (Err Usage) (Err (BadHex m g)) v w = absurd (v w.0)
+only_one words text (Err Usage) (Err (BadScript m g)) v w = absurd (v w.0)
 only_one words text (Err Usage) (Err UnbuiltProgram) v w = absurd (v w.0)
 only_one words text (Err TooLong) (Ok q) v w = absurd (omega (arith, v.1, w.1))
 only_one words text (Err TooLong) (Err Usage) v w = absurd (w v.0)
 only_one words text (Err TooLong) (Err TooLong) v w = refl
-only_one words text (Err TooLong) (Err UnbuiltInput) v w = absurd (omega (arith, v.1, w.1))
+only_one words text (Err TooLong) (Err (BadHex m g)) v w = absurd (omega (arith, v.1, w.1))
+only_one words text (Err TooLong) (Err (BadScript m g)) v w = absurd (omega (arith, v.1, w.1))
 only_one words text (Err TooLong) (Err UnbuiltProgram) v w = absurd (omega (arith, v.1, w.1))
-only_one words text (Err UnbuiltInput) (Ok q) v w = absurd (v.2 q w.2.contiguous)
-only_one words text (Err UnbuiltInput) (Err Usage) v w = absurd (w v.0)
-only_one words text (Err UnbuiltInput) (Err TooLong) v w = absurd (omega (arith, v.1, w.1))
-only_one words text (Err UnbuiltInput) (Err UnbuiltInput) v w = refl
-only_one words text (Err UnbuiltInput) (Err UnbuiltProgram) v w = absurd (v.2 w.2.image w.2.contiguous)
-only_one words text (Err UnbuiltProgram) (Ok q) v w = absurd (v.2.other (subst IsBuilt (has_one_image text q v.2.image w.2.contiguous v.2.contiguous) w.2.built))
+only_one words text (Err (BadHex l f)) (Ok q) v w = absurd (hex_apart text _ _ l f (w.2.input.hex) v.2)
+only_one words text (Err (BadHex l f)) (Err Usage) v w = absurd (w v.0)
+only_one words text (Err (BadHex l f)) (Err TooLong) v w = absurd (omega (arith, v.1, w.1))
+only_one words text (Err (BadHex l f)) (Err (BadHex m g)) v w = ap Err (one_bad_hex text l m f g v.2 w.2)
+only_one words text (Err (BadHex l f)) (Err (BadScript m g)) v w = absurd (hex_apart text _ _ l f (w.2.hex) v.2)
+only_one words text (Err (BadHex l f)) (Err UnbuiltProgram) v w = absurd (hex_apart text _ _ l f (w.2.input.hex) v.2)
+only_one words text (Err (BadScript l f)) (Ok q) v w = absurd (script_apart text l f _ _ v.2 w.2.input)
+only_one words text (Err (BadScript l f)) (Err Usage) v w = absurd (w v.0)
+only_one words text (Err (BadScript l f)) (Err TooLong) v w = absurd (omega (arith, v.1, w.1))
+only_one words text (Err (BadScript l f)) (Err (BadHex m g)) v w = absurd (hex_apart text _ _ m g (v.2.hex) w.2)
+only_one words text (Err (BadScript l f)) (Err (BadScript m g)) v w = ap Err (one_bad_script text l m f g v.2 w.2)
+only_one words text (Err (BadScript l f)) (Err UnbuiltProgram) v w = absurd (script_apart text l f _ _ v.2 w.2.input)
+only_one words text (Err UnbuiltProgram) (Ok q) v w = absurd (v.2.other (subst IsBuilt (one_input text q _ _ _ w.2.input v.2.input) w.2.built))
 only_one words text (Err UnbuiltProgram) (Err Usage) v w = absurd (w v.0)
 only_one words text (Err UnbuiltProgram) (Err TooLong) v w = absurd (omega (arith, v.1, w.1))
-only_one words text (Err UnbuiltProgram) (Err UnbuiltInput) v w = absurd (w.2 v.2.image v.2.contiguous)
+only_one words text (Err UnbuiltProgram) (Err (BadHex m g)) v w = absurd (hex_apart text _ _ m g (v.2.input.hex) w.2)
+only_one words text (Err UnbuiltProgram) (Err (BadScript m g)) v w = absurd (script_apart text m g _ _ w.2 v.2.input)
 only_one words text (Err UnbuiltProgram) (Err UnbuiltProgram) v w = refl
 only_one words text (Err ReadFault) r v w = absurd v
 only_one words text (Err NoMemory) r v w = absurd v
@@ -47,8 +88,10 @@ only_one words text (Err Usage) (Err ReadFault) v w = absurd w
 only_one words text (Err Usage) (Err NoMemory) v w = absurd w
 only_one words text (Err TooLong) (Err ReadFault) v w = absurd w
 only_one words text (Err TooLong) (Err NoMemory) v w = absurd w
-only_one words text (Err UnbuiltInput) (Err ReadFault) v w = absurd w
-only_one words text (Err UnbuiltInput) (Err NoMemory) v w = absurd w
+only_one words text (Err (BadHex l f)) (Err ReadFault) v w = absurd w
+only_one words text (Err (BadHex l f)) (Err NoMemory) v w = absurd w
+only_one words text (Err (BadScript l f)) (Err ReadFault) v w = absurd w
+only_one words text (Err (BadScript l f)) (Err NoMemory) v w = absurd w
 only_one words text (Err UnbuiltProgram) (Err ReadFault) v w = absurd w
 only_one words text (Err UnbuiltProgram) (Err NoMemory) v w = absurd w
 
@@ -87,7 +130,8 @@ reason_of words text source source' Usage told reason = Warranted reason.0
 reason_of words text source source' ReadFault told reason = Faulty reason.1
 reason_of words text source source' TooLong told reason =
     Warranted (reason.0, omega (arith, taken_of source.told source'.told text (most_input + 1) told reason.1))
-reason_of words text source source' UnbuiltInput told reason = Warranted (read_as words source source' text IsOtherInput told reason)
+reason_of words text source source' (BadHex line fault) told reason = Warranted (read_as words source source' text (λ z. HexBad z line fault) told reason)
+reason_of words text source source' (BadScript line fault) told reason = Warranted (read_as words source source' text (HasBadScript line fault) told reason)
 reason_of words text source source' UnbuiltProgram told reason = Warranted (read_as words source source' text IsOtherProgram told reason)
 reason_of words text source source' NoMemory told reason = Wanting refl
 

@@ -7,26 +7,32 @@ use Rattle.avr_isa.specs.Image.{word, is_inside}
 use Rattle.avr_decode.specs.Decoding.{the_form}
 use Rattle.flash_model.specs.Pages.{set_page, word_at}
 use Rattle.flash_model.specs.Memory.{Memory, loaded}
-use Rattle.mote_core.specs.declared.mote.Line.{Line}
+use Rattle.avr_exec.specs.Registers.{raised}
+use Rattle.mote_devices.specs.declared.line.Line.{Line}
 use Rattle.mote_core.specs.declared.mote.Mote.{Mote}
-use Rattle.mote_core.specs.Step.{next_address, after, told, is_stepped, form_at}
+use Rattle.mote_core.specs.declared.mote.Plain.{Plain}
+use Rattle.mote_core.specs.Conditions.{can_step}
+use Rattle.mote_core.specs.Step.{form_at, IsPlainStep}
+use Rattle.mote_core.proofs.KnownSteps.{after_ldi, after_out_port_a}
 use Rattle.tkernel_cli.specs.declared.machine.Machine.{Machine}
-use Rattle.tkernel_cli.specs.Original.{State, Run, run, instruction_at, start, original}
+use Rattle.tkernel_cli.specs.Original.{State, Run, run, next_address, instruction_at, start, original}
 use Rattle.tkernel_cli.specs.Page.{code_page, code_place, first_pool_word, pool_page}
 use Rattle.tkernel_cli.specs.Program.{IsBuilt, is_straight}
-use Rattle.tkernel_cli.specs.Running.{HoldsPage, IsReady, Follows, last_address}
+use Rattle.tkernel_cli.specs.Running.{HoldsPage, HasEmptyStack, IsReady, Follows, last_address}
 use Rattle.tkernel_cli.proofs.PageWords.{code_word, page_in_flash}
 use Rattle.tkernel_cli.proofs.Straight.{IsStraight, Loads, Outs, straight_cases, straight_alike}
-use Rattle.tkernel_cli.proofs.Steps.{prepend, registers_after, lines_of, lines_after, state_after, straight_run, straight_stepped}
+use Rattle.tkernel_cli.proofs.Steps.{prepend, registers_after, lines_of, lines_after, state_after, straight_run, straight_can_step}
 
 -- the state of the original program that the machine stands for
 abbrev pub state_of : Machine → State
-state_of m = record { registers = m.mote.registers; pc = m.steps; steps = m.steps; crossings = 0 }
+state_of m = record { registers = m.mote.cpu.r; pc = m.steps; steps = m.steps; crossings = 0 }
 
 -- a machine that has done some steps, which wrote these lines
 pub record IsAt (program : List ℕ) (lines : List Line) (m : Machine) : Type 0 where
   pub flash : HoldsPage program m
-  pub pc : m.mote.pc ≡ first_pool_word + (code_place program + m.steps)
+  pub pc : m.mote.cpu.pc ≡ first_pool_word + (code_place program + m.steps)
+  pub stack : HasEmptyStack m
+  pub polls : m.mote.devices.polls ≡ 0
   pub at : m.at ≡ m.steps
   pub ending : m.end ≡ None
   pub natural : m.natural ≡ m.steps
@@ -40,6 +46,8 @@ pub ready_is_at : (program : List ℕ) (m : Machine) → IsReady program m → I
 ready_is_at program m ready = record {
   flash = ready.flash;
   pc = ready.pc ∙ omega arith;
+  stack = ready.stack;
+  polls = ready.polls;
   at = ready.at ∙ sym ready.steps;
   ending = ready.ending;
   natural = ready.natural ∙ sym ready.steps;
@@ -50,12 +58,12 @@ ready_is_at program m ready = record {
 }
 
 -- a word of the program's page, where the machine stands or a little behind it
-pub word_here : (program : List ℕ) (lines : List Line) (m : Machine) (k : ℕ) → IsBuilt program → IsAt program lines m → m.steps + k < length program + 2 → word_at m.mote.flash.words (m.mote.pc + k) ≡ slice_index (code_page program) (length program + 2 + m.steps + k)
+pub word_here : (program : List ℕ) (lines : List Line) (m : Machine) (k : ℕ) → IsBuilt program → IsAt program lines m → m.steps + k < length program + 2 → word_at m.mote.flash.words (m.mote.cpu.pc + k) ≡ slice_index (code_page program) (length program + 2 + m.steps + k)
 word_here program lines m k built here near =
     let page = set_page (loaded program) pool_page (code_page program) in
     let place = length program + 2 + m.steps + k in
-    let address : m.mote.pc + k ≡ first_pool_word + place = omega (arith, here.pc) in
-    ap (λ z. word_at z (m.mote.pc + k)) here.flash
+    let address : m.mote.cpu.pc + k ≡ first_pool_word + place = omega (arith, here.pc) in
+    ap (λ z. word_at z (m.mote.cpu.pc + k)) here.flash
     ∙ ap (λ z. word_at page z) address
     ∙ page_in_flash program place built.some built.short (omega arith)
 
@@ -77,26 +85,53 @@ form_here program lines m built here below =
     let w = slice_index program m.steps in
     let words = m.mote.flash.words in
     let form = straight_form program m.steps built below in
-    let same : m.mote.pc ≡ m.mote.pc + 0 = omega arith in
+    let same : m.mote.cpu.pc ≡ m.mote.cpu.pc + 0 = omega arith in
     let place : length program + 2 + m.steps + 0 ≡ length program + 2 + m.steps = omega arith in
-    let in_flash : word_at words m.mote.pc ≡ w =
+    let in_flash : word_at words m.mote.cpu.pc ≡ w =
     ap (λ z. word_at words z) same
     ∙ word_here program lines m 0 built here (omega arith)
     ∙ ap (λ z. slice_index (code_page program) z) place
     ∙ code_word program m.steps below in
-    let behind = word_at words (next_address m.mote.pc) in
+    let behind = word_at words (next_address m.mote.cpu.pc) in
     (form.0, ap (λ z. the_form z behind) in_flash ∙ straight_alike w 0 behind form.0, form.1)
 
--- the mote after a straight instruction
-mote_after : (mote : Mote) (f : Option Form) → IsStraight f → mote.pc + 1 < 65536
-    → ((after mote f).registers ≡ registers_after mote.registers f) × ((after mote f).pc ≡ mote.pc + 1) × ((after mote f).flash ≡ mote.flash) × (lines_of (told mote f) ≡ lines_after mote.registers f)
-unfolding after told
-mote_after mote _ (Loads d k) below = (refl, omega arith, refl, refl)
-mote_after mote _ (Outs r) below = (refl, omega arith, refl, refl)
+-- the mote after a straight instruction, which showed something or not
+record HasMoved (mote : Mote) (shown : Plain) (next : Mote) (f : Option Form) : Type 0 where
+  registers : next.cpu.r ≡ registers_after mote.cpu.r f
+  pc : next.cpu.pc ≡ raised mote.cpu.pc 1
+  stack : next.cpu.sp ≡ mote.cpu.sp
+  sram : next.sram ≡ mote.sram
+  flash : next.flash ≡ mote.flash
+  polls : next.devices.polls ≡ mote.devices.polls
+  lines : lines_of shown ≡ lines_after mote.cpu.r f
 
--- the machine after one more step
-pub record IsNext (m n : Machine) : Type 0 where
-  pub mote : n.mote ≡ after m.mote (form_at m.mote)
+has_moved : (mote : Mote) (shown : Plain) (next : Mote) (f : Option Form) → IsStraight f → form_at mote ≡ f → IsPlainStep mote shown next → HasMoved mote shown next f
+has_moved mote shown next _ (Loads d k) is step =
+    let after = after_ldi mote next shown d k step is in
+    record {
+      registers = ap (λ (z : Mote). z.cpu.r) after.0;
+      pc = ap (λ (z : Mote). z.cpu.pc) after.0;
+      stack = ap (λ (z : Mote). z.cpu.sp) after.0;
+      sram = ap (λ (z : Mote). z.sram) after.0;
+      flash = ap (λ (z : Mote). z.flash) after.0;
+      polls = ap (λ (z : Mote). z.devices.polls) after.0;
+      lines = ap lines_of after.1;
+    }
+has_moved mote shown next _ (Outs r) is step =
+    let after = after_out_port_a mote next shown r step is in
+    record {
+      registers = ap (λ (z : Mote). z.cpu.r) after.0;
+      pc = ap (λ (z : Mote). z.cpu.pc) after.0;
+      stack = ap (λ (z : Mote). z.cpu.sp) after.0;
+      sram = ap (λ (z : Mote). z.sram) after.0;
+      flash = ap (λ (z : Mote). z.flash) after.0;
+      polls = ap (λ (z : Mote). z.devices.polls) after.0;
+      lines = ap lines_of after.1;
+    }
+
+-- the machine after one more step, which showed something or not
+pub record IsNext (m : Machine) (shown : Plain) (n : Machine) : Type 0 where
+  pub step : IsPlainStep m.mote shown n.mote
   pub at : n.at ≡ m.at + 1
   pub ending : n.end ≡ m.end
   pub steps : n.steps ≡ m.steps + 1
@@ -104,9 +139,9 @@ pub record IsNext (m n : Machine) : Type 0 where
   pub entries : n.entries ≡ m.entries
   pub pages : n.pages ≡ m.pages
 
-pub next_machine : (m n : Machine) → n ≡ record m { mote = after m.mote (form_at m.mote); at = m.at + 1; steps = m.steps + 1; natural = m.natural + 1 } → IsNext m n
-next_machine m n is = record {
-  mote = ap (λ (z : Machine). z.mote) is;
+pub next_machine : (m : Machine) (shown : Plain) (n : Machine) → IsPlainStep m.mote shown n.mote → n ≡ record m { mote = n.mote; at = m.at + 1; steps = m.steps + 1; natural = m.natural + 1 } → IsNext m shown n
+next_machine m shown n step is = record {
+  step = step;
   at = ap (λ (z : Machine). z.at) is;
   ending = ap (λ (z : Machine). z.end) is;
   steps = ap (λ (z : Machine). z.steps) is;
@@ -115,29 +150,28 @@ next_machine m n is = record {
   pages = ap (λ (z : Machine). z.pages) is;
 }
 
-pub can_step : (program : List ℕ) (lines : List Line) (m : Machine) → IsBuilt program → IsAt program lines m → m.steps < last_address program → is_stepped (form_at m.mote) ≡ true
-can_step program lines m built here below =
+pub can_go : (program : List ℕ) (lines : List Line) (m : Machine) → IsBuilt program → IsAt program lines m → m.steps < last_address program → can_step (form_at m.mote) m.mote.cpu ≡ true
+can_go program lines m built here below =
     let form = form_here program lines m built here below in
-    rw form.1 (straight_stepped _ (straight_cases _ form.0))
+    rw form.1 (straight_can_step _ m.mote.cpu (straight_cases _ form.0))
 
 prepend_twice : (a b : List Line) (r : Run) → prepend a (prepend b r) ≡ prepend (a ++ b) r
 prepend_twice a b r = ap (λ z. record r { lines = z }) (sym (append_assoc a b r.lines))
 
-pub steps_on : (program : List ℕ) (lines : List Line) (m n : Machine) → IsBuilt program → IsAt program lines m → m.steps < last_address program → IsNext m n → IsAt program (lines ++ lines_of (told m.mote (form_at m.mote))) n
-steps_on program lines m n built here below next =
+pub steps_on : (program : List ℕ) (lines : List Line) (m : Machine) (shown : Plain) (n : Machine) → IsBuilt program → IsAt program lines m → m.steps < last_address program → IsNext m shown n → IsAt program (lines ++ lines_of shown) n
+steps_on program lines m shown n built here below next =
     let f = the_form (slice_index program m.steps) 0 in
     let form = form_here program lines m built here below in
     let straight = straight_cases f form.0 in
     let short = built.short in
-    let moved = mote_after m.mote f straight (omega (arith, here.pc)) in
-    let mote : n.mote ≡ after m.mote f = next.mote ∙ ap (λ z. after m.mote z) form.1 in
-    let registers : n.mote.registers ≡ registers_after m.mote.registers f = ap (λ (z : Mote). z.registers) mote ∙ moved.0 in
-    let pc : n.mote.pc ≡ m.mote.pc + 1 = ap (λ (z : Mote). z.pc) mote ∙ moved.1 in
-    let written : lines_of (told m.mote (form_at m.mote)) ≡ lines_after m.mote.registers f = ap (λ z. lines_of (told m.mote z)) form.1 ∙ moved.3 in
+    let moved = has_moved m.mote shown n.mote f straight form.1 next.step in
+    let registers = moved.registers in
     let state : state_of n ≡ state_after (state_of m) f = rw (registers, next.steps) refl in
     record {
-      flash = ap (λ (z : Mote). z.flash.words) mote ∙ ap (λ (z : Memory). z.words) moved.2 ∙ here.flash;
-      pc = pc ∙ omega (arith, here.pc, next.steps);
+      flash = ap (λ (z : Memory). z.words) moved.flash ∙ here.flash;
+      pc = moved.pc ∙ omega (arith, here.pc, next.steps);
+      stack = record { top = moved.stack ∙ here.stack.top; sram = ap length moved.sram ∙ here.stack.sram };
+      polls = moved.polls ∙ here.polls;
       at = omega (arith, here.at, next.at, next.steps);
       ending = next.ending ∙ here.ending;
       natural = omega (arith, here.natural, next.natural, next.steps);
@@ -149,9 +183,9 @@ steps_on program lines m n built here below next =
           let one = straight_run program r (state_of m) f straight form.2 (omega arith) (omega arith) in
           ap (λ z. run program z start) count
           ∙ here.from_start (suc r)
-          ∙ ap (λ z. prepend lines z) (one ∙ ap (λ z. prepend (lines_after m.mote.registers f) (run program r z)) (sym state))
-          ∙ prepend_twice lines (lines_after m.mote.registers f) (run program r (state_of n))
-          ∙ ap (λ z. prepend (lines ++ z) (run program r (state_of n))) (sym written);
+          ∙ ap (λ z. prepend lines z) (one ∙ ap (λ z. prepend (lines_after m.mote.cpu.r f) (run program r z)) (sym state))
+          ∙ prepend_twice lines (lines_after m.mote.cpu.r f) (run program r (state_of n))
+          ∙ ap (λ z. prepend (lines ++ z) (run program r (state_of n))) (sym moved.lines);
     }
 
 -- no step of the original program leads to the state itself
@@ -171,6 +205,7 @@ at_follows program lines m built here =
       flash = here.flash;
       pages = here.pages;
       within = here.within;
+      stack = here.stack;
       registers = ap (λ (z : State). z.registers) (sym state);
       at = here.at ∙ ap (λ (z : State). z.pc) (sym state);
       stage = inl (record { ending = here.ending; entries = here.entries; natural = here.natural });

@@ -6,12 +6,14 @@ use Rattle.avr_isa.specs.declared.form.Form.TheVariants.{Imm, OutIo}
 use Rattle.avr_isa.specs.declared.operation.ImmOp.TheVariants.{Ldi}
 use Rattle.avr_isa.specs.Image.{is_inside}
 use Rattle.avr_isa.specs.Crossing.{is_crossing}
-use Rattle.mote_core.specs.declared.mote.Line.{Line}
-use Rattle.mote_core.specs.declared.mote.Port.TheVariants.{PortA}
+use Rattle.avr_exec.specs.declared.cpu.Cpu.{Cpu}
+use Rattle.mote_devices.specs.declared.line.Line.{Line}
+use Rattle.mote_devices.specs.declared.line.Port.TheVariants.{PortA}
 use Rattle.mote_core.specs.declared.mote.Plain.{Plain}
 use Rattle.mote_core.specs.declared.mote.Plain.TheVariants.{Went, Wrote}
-use Rattle.mote_core.specs.Step.{next_address, is_stepped}
-use Rattle.tkernel_cli.specs.Original.{State, Run, run, tried, followed, goes_to, instruction_at}
+use Rattle.mote_core.specs.Conditions.{can_step}
+use Rattle.mote_core.proofs.KnownSteps.{can_step_ldi, can_step_out_port_a}
+use Rattle.tkernel_cli.specs.Original.{State, Run, run, next_address, tried, followed, goes_to, instruction_at}
 use Rattle.tkernel_cli.proofs.Straight.{IsStraight, Loads, Outs}
 
 -- the lines that come before those of a run
@@ -57,8 +59,7 @@ straight_run program r s f straight is inside below =
     let yes : is_inside program s.pc ≡ true = grind (arith, nat_tests) in
     rw (yes, is) (straight_tried s f (λ next. run program r next) straight below)
 
--- what the mote does with it
-pub straight_stepped : (f : Option Form) → IsStraight f → is_stepped f ≡ true
-unfolding is_stepped
-straight_stepped _ (Loads d k) = refl
-straight_stepped _ (Outs r) = refl
+-- the mote can make such a step
+pub straight_can_step : (f : Option Form) (cpu : Cpu) → IsStraight f → can_step f cpu ≡ true
+straight_can_step _ cpu (Loads d k) = can_step_ldi cpu d k
+straight_can_step _ cpu (Outs r) = can_step_out_port_a cpu r

@@ -6,7 +6,7 @@ use Rattle.avr_isa.specs.declared.form.Form.TheVariants.{Imm, OutIo, Jmp, Call, 
 use Rattle.avr_isa.specs.declared.operation.ImmOp.TheVariants.{Ldi}
 use Rattle.avr_isa.specs.Instruction.{is_undefined}
 use Rattle.avr_decode.specs.Decoding.{the_form, is_long, if_defined, defined_form, two_word_form}
-use Rattle.mote_core.specs.Step.{port_a_field}
+use Rattle.tkernel_cli.specs.Original.{port_a_field}
 use Rattle.tkernel_cli.specs.Program.{is_straight}
 
 -- a straight instruction is LDI or OUT to PORTA

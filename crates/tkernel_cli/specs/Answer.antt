@@ -1,12 +1,18 @@
 -- What the program answers: to which words and which input, with which status and text.
-use Rattle.std.specs.Prelude.{◌≡◌, ◌⊎◌, ℕ, ◌+◌, ◌<◌, ◌≤◌, List, [], ◌∷◌, length, codes, Option, Some, None, Result, Ok, Err}
+use Rattle.std.specs.Prelude.{◌≡◌, ◌⊎◌, ℕ, ◌+◌, ◌<◌, ◌≤◌, List, [], ◌∷◌, ◌++◌, length, drop, codes, decimal, Option, Some, None, Result, Ok, Err}
 use Rattle.std.specs.Io.KnownBytes.{Appends, Consumes, IsAtEnd}
 use Rattle.tk_io.specs.Faults.{Rose}
 use Rattle.tk_io.specs.Streams.{CutShort, Takes, TakesAtMost}
-use Rattle.hex_image.specs.Contiguous.{IsContiguous}
+use Rattle.hex_image.specs.HexText.{HexBad, HexText}
+use Rattle.hex_image.specs.declared.fault.HexFault.{HexFault}
+use Rattle.hex_image.specs.declared.fault.HexFault.TheVariants as hex_faults
+use Rattle.input_script.specs.Script.{IsBad, IsScript}
+use Rattle.input_script.specs.declared.fault.ScriptFault.{ScriptFault}
+use Rattle.input_script.specs.declared.fault.ScriptFault.TheVariants as script_faults
+use Rattle.input_script.specs.declared.input.Event.{Event}
 use Rattle.tkernel_cli.specs.declared.machine.Machine.{Machine}
 use Rattle.tkernel_cli.specs.declared.refusal.Refusal.{Refusal}
-use Rattle.tkernel_cli.specs.declared.refusal.Refusal.TheVariants.{Usage, ReadFault, TooLong, UnbuiltInput, UnbuiltProgram, NoMemory}
+use Rattle.tkernel_cli.specs.declared.refusal.Refusal.TheVariants.{Usage, ReadFault, TooLong, BadHex, BadScript, UnbuiltProgram, NoMemory}
 use Rattle.tkernel_cli.specs.declared.status.Status.{Status}
 use Rattle.tkernel_cli.specs.declared.status.Status.TheVariants as status
 use Rattle.tkernel_cli.specs.declared.top.Exit.{Exit}
@@ -34,19 +40,30 @@ pub record Gave (before now : Stream) (text : List ℕ) : Type 0 where
   pub end : IsAtEnd now.told
   pub short : length text ≤ most_input
 
--- an input that has no image so far
-abbrev pub IsOtherInput : List ℕ → Type 0
-IsOtherInput text = (image : List ℕ) → IsContiguous text image → ⊥
+-- a HEX text and a script behind it, and what they give: the image's words and the events
+pub record IsInput (text words : List ℕ) (events : List Event) : Type 0 where
+  pub position : ℕ
+  pub hex : HexText text words position
+  pub script : IsScript (drop position text) events
+
+-- a HEX text with a broken script behind it: its first faulty line, counted from the script's first
+pub record HasBadScript (line : ℕ) (fault : ScriptFault) (text : List ℕ) : Type 0 where
+  pub words : List ℕ
+  pub position : ℕ
+  pub hex : HexText text words position
+  pub bad : IsBad (drop position text) line fault
 
 -- an input whose image is no built program
 pub record IsOtherProgram (text : List ℕ) : Type 0 where
-  pub image : List ℕ
-  pub contiguous : IsContiguous text image
-  pub other : IsBuilt image → ⊥
+  pub words : List ℕ
+  pub events : List Event
+  pub input : IsInput text words events
+  pub other : IsBuilt words → ⊥
 
 -- an input whose image is this built program
 pub record IsProgram (program text : List ℕ) : Type 0 where
-  pub contiguous : IsContiguous text program
+  pub events : List Event
+  pub input : IsInput text program events
   pub built : IsBuilt program
 
 -- the words are `run`, and the source gave a text of which this holds
@@ -61,7 +78,8 @@ abbrev pub IsRefused : List (List ℕ) → Stream → Stream → Refusal → Typ
 IsRefused words before now Usage = (IsRun words → ⊥) × (now ≡ before)
 IsRefused words before now ReadFault = IsRun words × Rose before.faults now.faults × TakesAtMost most_input before.told now.told
 IsRefused words before now TooLong = IsRun words × Takes (most_input + 1) before.told now.told
-IsRefused words before now UnbuiltInput = HasRead words before now IsOtherInput
+IsRefused words before now (BadHex line fault) = HasRead words before now (λ text. HexBad text line fault)
+IsRefused words before now (BadScript line fault) = HasRead words before now (HasBadScript line fault)
 IsRefused words before now UnbuiltProgram = HasRead words before now IsOtherProgram
 IsRefused words before now NoMemory = IsRun words × TakesAtMost most_input before.told now.told
 
@@ -77,19 +95,43 @@ Judges words before now (Err refusal) = IsRefused words before now refusal
 -- a text, judged
 abbrev pub JudgesText : List ℕ → Result (List ℕ) Refusal → Type 0
 JudgesText text (Ok program) = IsProgram program text
-JudgesText text (Err UnbuiltInput) = IsOtherInput text
+JudgesText text (Err (BadHex line fault)) = HexBad text line fault
+JudgesText text (Err (BadScript line fault)) = HasBadScript line fault text
 JudgesText text (Err UnbuiltProgram) = IsOtherProgram text
 JudgesText text (Err NoMemory) = Unit {0}
 JudgesText text (Err Usage) = ⊥
 JudgesText text (Err ReadFault) = ⊥
 JudgesText text (Err TooLong) = ⊥
 
+-- the word of a fault
+abbrev pub hex_word : HexFault → List ℕ
+hex_word hex_faults.Start = codes "start"
+hex_word hex_faults.Digit = codes "digit"
+hex_word hex_faults.Length = codes "length"
+hex_word hex_faults.Checksum = codes "checksum"
+hex_word hex_faults.Kind = codes "kind"
+hex_word hex_faults.Wrap = codes "wrap"
+hex_word hex_faults.Twice = codes "twice"
+hex_word hex_faults.TooLarge = codes "size"
+hex_word hex_faults.NoEnd = codes "end"
+
+abbrev pub script_word : ScriptFault → List ℕ
+script_word script_faults.Form = codes "form"
+script_word script_faults.Order = codes "order"
+script_word script_faults.Range = codes "range"
+script_word script_faults.TooMany = codes "events"
+
+-- the line that names a faulty line of the input
+unfoldable pub bad_line_text : List ℕ → ℕ → List ℕ → List ℕ
+bad_line_text part line word = part ++ decimal line ++ codes " " ++ word ++ codes "\n"
+
 -- the status and the text of a refusal
 abbrev pub status_of : Refusal → Status
 status_of Usage = status.Usage
 status_of ReadFault = status.ReadFault
 status_of TooLong = status.BadInput
-status_of UnbuiltInput = status.Unbuilt
+status_of (BadHex line fault) = status.BadInput
+status_of (BadScript line fault) = status.BadInput
 status_of UnbuiltProgram = status.Unbuilt
 status_of NoMemory = status.NoMemory
 
@@ -97,7 +139,8 @@ abbrev pub text_of : Refusal → List ℕ
 text_of Usage = codes "usage: tkernel run [--steps N] [--quantum Q] [--swap S]\n"
 text_of ReadFault = codes "read fault\n"
 text_of TooLong = codes "input too long\n"
-text_of UnbuiltInput = codes "unbuilt input\n"
+text_of (BadHex line fault) = bad_line_text (codes "bad hex line ") line (hex_word fault)
+text_of (BadScript line fault) = bad_line_text (codes "bad script line ") line (script_word fault)
 text_of UnbuiltProgram = codes "unbuilt program\n"
 text_of NoMemory = codes "no memory\n"
 
@@ -151,7 +194,8 @@ abbrev pub Warrants : List (List ℕ) → List ℕ → Result (List ℕ) Refusal
 Warrants words text (Ok program) = IsRun words × length text ≤ most_input × IsProgram program text
 Warrants words text (Err Usage) = IsRun words → ⊥
 Warrants words text (Err TooLong) = IsRun words × most_input < length text
-Warrants words text (Err UnbuiltInput) = IsRun words × length text ≤ most_input × IsOtherInput text
+Warrants words text (Err (BadHex line fault)) = IsRun words × length text ≤ most_input × HexBad text line fault
+Warrants words text (Err (BadScript line fault)) = IsRun words × length text ≤ most_input × HasBadScript line fault text
 Warrants words text (Err UnbuiltProgram) = IsRun words × length text ≤ most_input × IsOtherProgram text
 Warrants words text (Err ReadFault) = ⊥
 Warrants words text (Err NoMemory) = ⊥

@@ -6,3 +6,4 @@ pub mod Text
 pub mod Running
 pub mod Status
 pub mod Answer
+pub mod Input

@@ -9,9 +9,17 @@ use Rattle.avr_isa.specs.Image.{word, is_inside}
 use Rattle.avr_isa.specs.Crossing.{is_crossing}
 use Rattle.avr_decode.specs.Decoding.{the_form}
 use Rattle.flash_model.specs.Pages.{many}
-use Rattle.mote_core.specs.declared.mote.Line.{Line}
-use Rattle.mote_core.specs.declared.mote.Port.TheVariants.{PortA}
-use Rattle.mote_core.specs.Step.{next_address, port_a_field}
+use Rattle.mote_devices.specs.declared.line.Line.{Line}
+use Rattle.mote_devices.specs.declared.line.Port.TheVariants.{PortA}
+use Rattle.avr_exec.specs.Registers.{raised}
+
+-- PORTA as the field A of IN and OUT (ATmega128 datasheet, "Register Summary")
+abbrev pub port_a_field : ℕ
+port_a_field = 0x1B
+
+-- the address of the word after: addresses have 16 bits
+abbrev pub next_address : ℕ → ℕ
+next_address a = raised a 1
 
 -- registers, pc, the steps done, and how many of them went back, stayed or left their page
 pub record State : Type 0 where

@@ -4,7 +4,7 @@ use Rattle.avr_isa.specs.declared.form.Form.{Form}
 use Rattle.avr_isa.specs.declared.form.Form.TheVariants.{Imm, OutIo}
 use Rattle.avr_isa.specs.declared.operation.ImmOp.TheVariants.{Ldi}
 use Rattle.avr_decode.specs.Decoding.{the_form}
-use Rattle.mote_core.specs.Step.{port_a_field}
+use Rattle.tkernel_cli.specs.Original.{port_a_field}
 
 -- LDI, or OUT to PORTA
 unfoldable pub is_straight : Option Form → Bool

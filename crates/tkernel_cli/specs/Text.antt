@@ -1,11 +1,11 @@
 -- The printed text of a run: its lines, the stop line and the count line.
 use Rattle.std.specs.Prelude.{ℕ, ◌/◌, ◌%◌, List, [], ◌∷◌, ◌++◌, codes, decimal, flat_map, length}
 use Rattle.hex.specs.Hex.{encode_upper}
-use Rattle.mote_core.specs.declared.mote.Line.{Line}
+use Rattle.mote_devices.specs.declared.line.Line.{Line}
 use Rattle.mote_core.specs.declared.mote.Plain.{Plain}
 use Rattle.mote_core.specs.declared.mote.Plain.TheVariants.{Went, Wrote}
-use Rattle.mote_core.specs.declared.mote.Port.{Port}
-use Rattle.mote_core.specs.declared.mote.Port.TheVariants.{PortA}
+use Rattle.mote_devices.specs.declared.line.Port.{Port}
+use Rattle.mote_devices.specs.declared.line.Port.TheVariants.{PortA, PortB, PortC, PortD, DdrA, DdrB, DdrC, DdrD, Uart0}
 use Rattle.tkernel_cli.specs.Original.{Ending, Spent, Halted, Wild, Unknown, Run, original}
 
 -- the two upper-case digits of a byte
@@ -22,6 +22,14 @@ address_text a = codes "0x" ++ two_digits (a / 256) ++ two_digits (a % 256)
 
 abbrev pub port_name : Port → List ℕ
 port_name PortA = codes "PORTA"
+port_name PortB = codes "PORTB"
+port_name PortC = codes "PORTC"
+port_name PortD = codes "PORTD"
+port_name DdrA = codes "DDRA"
+port_name DdrB = codes "DDRB"
+port_name DdrC = codes "DDRC"
+port_name DdrD = codes "DDRD"
+port_name Uart0 = codes "UART0"
 
 -- a write to a port
 unfoldable pub line_text : Line → List ℕ

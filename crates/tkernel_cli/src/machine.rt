@@ -1,13 +1,17 @@
 //! The machine that runs a program's code page.
-ghost use Rattle.std.specs.Prelude.{◌≡◌, ◌+◌, ◌*◌, ◌≤◌, ◌<◌, ◌^◌, length, slice_index, None, Some, IfOk, IsTrue};
-ghost use Rattle.flash_model.specs.Pages.{many, set_page, word_at};
-ghost use Rattle.flash_model.specs.Memory.{loaded};
-ghost use Rattle.mote_core.specs.Step.{after, form_at, is_stepped, told};
+ghost use Rattle.std.specs.Prelude.{◌≡◌, ◌+◌, ◌*◌, ◌≤◌, ◌<◌, ◌^◌, true, length, None, Some, IfOk};
+ghost use Rattle.flash_model.specs.Pages.{word_at};
+ghost use Rattle.mote_core.specs.Conditions.{can_step};
+ghost use Rattle.mote_core.specs.Step.{form_at, IsPlainStep};
 
 use crate::page::{POOL_PAGE, code_page_of};
+use input_script::Script;
 use mote_core::{Mote, Plain};
 use std::alloc::Global;
 use tk_io::NoMemory;
+
+/// Where the kernel's own stack is empty.
+const STACK_TOP: u16 = 0x011F;
 
 /// Why a program stopped by itself, and where.
 #[derive(Clone, Copy, Debug, PartialEq, Eq)]
@@ -40,18 +44,17 @@ pub struct Machine {
 }
 
 impl Machine {
-    ghost use Rattle.tkernel_cli.specs.Page.{code_page, code_place, first_pool_word, pool_page};
-    ghost use Rattle.tkernel_cli.specs.Running.{IsReady};
+    ghost use Rattle.tkernel_cli.specs.Running.{IsReady, IsServed};
 
     /// A machine at reset, with the program in flash and its code page made: the arrival at address 0.
-    pub fn boot(alloc: Global, program: &[u16]) -> Result<Machine, NoMemory>
+    pub fn boot(alloc: Global, program: &[u16], script: Script) -> Result<Machine, NoMemory>
         requires some { 1 ≤ length program.now }
         requires short { length program.now ≤ 62 }
         ensures ready { IfOk result (IsReady program.now) }
     {
-        let mut mote = Mote::new(alloc, program)?;
+        let mut mote = Mote::new(alloc, program, script)?;
         mote.flash.program(POOL_PAGE, &code_page_of(program));
-        mote.pc = 128 * POOL_PAGE + program.len() as u16 + 2;
+        mote.cpu.pc = 128 * POOL_PAGE + program.len() as u16 + 2;
         Ok(Machine {
             mote,
             at: 0,
@@ -65,13 +68,14 @@ impl Machine {
 
     /// One instruction of the program, which stands in the page as it is.
     pub fn step(&mut self) -> Plain
-        requires stepped { IsTrue (is_stepped (form_at self.old.mote)) }
+        requires step { can_step (form_at self.old.mote) self.old.mote.cpu ≡ true }
+        requires polls { self.old.mote.devices.polls < 2 ^ 63 }
         requires steps { self.old.steps < 2 ^ 32 }
         requires natural { self.old.natural < 2 ^ 32 }
         requires at { self.old.at < 2 ^ 15 }
-        ensures told { result ≡ told self.old.mote (form_at self.old.mote) }
-        ensures state { self.new ≡ record self.old {
-          mote = after self.old.mote (form_at self.old.mote);
+        ensures step { IsPlainStep self.old.mote result self.new.mote }
+        ensures counts { self.new ≡ record self.old {
+          mote = self.new.mote;
           at = self.old.at + 1;
           steps = self.old.steps + 1;
           natural = self.old.natural + 1;
@@ -84,23 +88,23 @@ impl Machine {
         plain
     }
 
-    /// The jump to itself: a call of the kernel, which reads the address behind the call and halts there.
+    /// The jump to itself: a call of the kernel, which reads the address behind the call, takes its own off
+    /// the kernel's stack, and halts there.
     pub fn halt(&mut self)
-        requires stepped { IsTrue (is_stepped (form_at self.old.mote)) }
+        requires step { can_step (form_at self.old.mote) self.old.mote.cpu ≡ true }
+        requires polls { self.old.mote.devices.polls < 2 ^ 63 }
         requires natural { self.old.natural < 2 ^ 32 }
         requires entries { self.old.entries < 2 ^ 32 }
-        ensures state { let mote = after self.old.mote (form_at self.old.mote) in
-            self.new ≡ record self.old {
-              mote = mote;
-              end = Some (End.Stopped (Stop.Halted (word_at mote.flash.words (256 * slice_index mote.kernel_stack 0 + slice_index mote.kernel_stack 1))));
-              natural = self.old.natural + 1;
-              entries = self.old.entries + 1;
-            } }
+        ensures served { IsServed self.old self.new }
     {
         self.mote.plain_step();
         self.natural += 1;
-        let [high, low] = self.mote.kernel_stack;
-        let at = self.mote.flash.word(u16::from_be_bytes([high, low]));
+        let behind = u16::from_be_bytes([
+            self.mote.sram.byte(STACK_TOP - 1),
+            self.mote.sram.byte(STACK_TOP),
+        ]);
+        self.mote.cpu.sp = STACK_TOP;
+        let at = self.mote.flash.word(behind);
         self.end = Some(End::Stopped(Stop::Halted(at)));
         self.entries += 1;
     }

@@ -1,8 +1,11 @@
 //! Requests that aren't run.
-ghost use Rattle.std.specs.Prelude.{◌≡◌};
-ghost use Rattle.tkernel_cli.specs.Answer.{status_of, text_of};
+ghost use Rattle.std.specs.Prelude.{◌≡◌, ◌≤◌, length, codes};
+ghost use Rattle.tkernel_cli.specs.Answer.{bad_line_text, hex_word, script_word, status_of, text_of};
 
 use crate::Status;
+use crate::text::{Text, bad_line, whole};
+use hex_image::HexFault;
+use input_script::ScriptFault;
 
 /// Why a request is not run.
 #[derive(Clone, Copy, Debug, PartialEq, Eq)]
@@ -13,8 +16,10 @@ pub enum Refusal {
     ReadFault,
     /// The input has more than 2,097,152 bytes.
     TooLong,
-    /// The input is no contiguous HEX text.
-    UnbuiltInput,
+    /// The HEX text is broken: its first faulty line, from 1, and the first fault of it.
+    BadHex(u32, HexFault),
+    /// The script is broken: its first faulty line, from 1 at the script's first, and its first fault.
+    BadScript(u32, ScriptFault),
     /// The program has other instructions than are built so far.
     UnbuiltProgram,
     /// Memory was wanted and not found.
@@ -28,23 +33,55 @@ impl Refusal {
         match self {
             Refusal::Usage => Status::Usage,
             Refusal::ReadFault => Status::ReadFault,
-            Refusal::TooLong => Status::BadInput,
-            Refusal::UnbuiltInput | Refusal::UnbuiltProgram => Status::Unbuilt,
+            Refusal::TooLong | Refusal::BadHex(..) | Refusal::BadScript(..) => Status::BadInput,
+            Refusal::UnbuiltProgram => Status::Unbuilt,
             Refusal::NoMemory => Status::NoMemory,
         }
     }
 
     /// The one line that is printed.
-    pub fn text(self) -> &'static [u8]
-        ensures text { result.now ≡ text_of self }
+    pub fn text(self) -> Text
+        ensures text { result.items ≡ text_of self }
     {
         match self {
-            Refusal::Usage => b"usage: tkernel run [--steps N] [--quantum Q] [--swap S]\n",
-            Refusal::ReadFault => b"read fault\n",
-            Refusal::TooLong => b"input too long\n",
-            Refusal::UnbuiltInput => b"unbuilt input\n",
-            Refusal::UnbuiltProgram => b"unbuilt program\n",
-            Refusal::NoMemory => b"no memory\n",
+            Refusal::Usage => whole(b"usage: tkernel run [--steps N] [--quantum Q] [--swap S]\n"),
+            Refusal::ReadFault => whole(b"read fault\n"),
+            Refusal::TooLong => whole(b"input too long\n"),
+            Refusal::BadHex(line, fault) => bad_line(b"bad hex line ", line, word_of_hex(fault)),
+            Refusal::BadScript(line, fault) => {
+                bad_line(b"bad script line ", line, word_of_script(fault))
+            }
+            Refusal::UnbuiltProgram => whole(b"unbuilt program\n"),
+            Refusal::NoMemory => whole(b"no memory\n"),
         }
+    }
+}
+
+fn word_of_hex(fault: HexFault) -> &'static [u8]
+    ensures word { result.now ≡ hex_word fault }
+    ensures short { length result.now ≤ 8 }
+{
+    match fault {
+        HexFault::Start => b"start",
+        HexFault::Digit => b"digit",
+        HexFault::Length => b"length",
+        HexFault::Checksum => b"checksum",
+        HexFault::Kind => b"kind",
+        HexFault::Wrap => b"wrap",
+        HexFault::Twice => b"twice",
+        HexFault::TooLarge => b"size",
+        HexFault::NoEnd => b"end",
+    }
+}
+
+fn word_of_script(fault: ScriptFault) -> &'static [u8]
+    ensures word { result.now ≡ script_word fault }
+    ensures short { length result.now ≤ 8 }
+{
+    match fault {
+        ScriptFault::Form => b"form",
+        ScriptFault::Order => b"order",
+        ScriptFault::Range => b"range",
+        ScriptFault::TooMany => b"events",
     }
 }

@@ -1,17 +1,44 @@
 //! The printed lines of a run.
 ghost use Rattle.std.specs.Prelude.{◌≡◌, ◌+◌, ◌≤◌, ◌++◌, codes, decimal, length};
 ghost use Rattle.arrayvec.specs.ArrayVec.{array_vec_len};
+ghost use Rattle.tkernel_cli.specs.Answer.{bad_line_text};
 ghost use Rattle.tkernel_cli.specs.Original.{Halted};
 ghost use Rattle.tkernel_cli.specs.Text.{address_text, byte_text, count_text, line_text, port_name, stop_text, two_digits};
 
 use arrayvec::ArrayVec;
 use itoa::Buffer;
-use mote_core::{Line, Port};
+use mote_devices::{Line, Port};
 
 /// The text of one line.
 pub type Text = ArrayVec<u8, 160>;
 
 const DIGITS: &[u8; 16] = b"0123456789ABCDEF";
+
+/// A line that stands as it is.
+pub fn whole(line: &[u8]) -> Text
+    requires fits { length line.now ≤ 160 }
+    ensures text { result.items ≡ line.now }
+{
+    let mut text = Text::new();
+    push(&mut text, line);
+    text
+}
+
+/// The line that names a faulty line of the input, and its fault.
+#[tactic(auto, unfolding(crate::specs::Answer::bad_line_text))]
+pub fn bad_line(part: &[u8], line: u32, word: &[u8]) -> Text
+    requires part { length part.now ≤ 40 }
+    requires word { length word.now ≤ 40 }
+    ensures text { result.items ≡ bad_line_text part.now line word.now }
+{
+    let mut text = Text::new();
+    push(&mut text, part);
+    push_number(&mut text, u64::from(line));
+    push(&mut text, b" ");
+    push(&mut text, word);
+    push(&mut text, b"\n");
+    text
+}
 
 /// A write to a port: its name and the value.
 #[tactic(auto, unfolding(crate::specs::Text::line_text))]
@@ -64,6 +91,14 @@ fn name(port: Port) -> &'static [u8]
 {
     match port {
         Port::PortA => b"PORTA",
+        Port::PortB => b"PORTB",
+        Port::PortC => b"PORTC",
+        Port::PortD => b"PORTD",
+        Port::DdrA => b"DDRA",
+        Port::DdrB => b"DDRB",
+        Port::DdrC => b"DDRC",
+        Port::DdrD => b"DDRD",
+        Port::Uart0 => b"UART0",
     }
 }
 

@@ -1,38 +1,10 @@
 //! The first program: `LDI r16, 0x0F`, `OUT PORTA, r16`, and a jump to itself.
-use std::alloc::Global;
+use crate::support::{HEX, LINES, ROOM, run, sink, words_of};
 use std::test::Fail;
-use tk_io::{FlakySink, FlakySource, MemSink, MemSource};
-use tkernel_cli::{End, Exit, Status, Stop, tkernel};
-
-const HEX: &[u8] = b":060000000FE00BBBFFCF77\n:00000001FF\n";
-
-const LINES: &[u8] =
-    b"PORTA 0x0F\nhalted 0x0002 steps 2 checkpoints 0\nnatural 3 entries 1 pages 1\n";
+use tk_io::{FlakySink, FlakySource, MemSource};
+use tkernel_cli::{End, Status, Stop, tkernel};
 
 const USAGE: &[u8] = b"usage: tkernel run [--steps N] [--quantum Q] [--swap S]\n";
-
-/// More room than any text of these tests needs.
-const ROOM: usize = 1000;
-
-fn words_of(alloc: Global, words: &[&str]) -> Result<Vec<String>, Fail> {
-    let mut owned = Vec::new(alloc);
-    for word in words {
-        owned.push(String::from_str(alloc, word)?)?;
-    }
-    Ok(owned)
-}
-
-fn sink(alloc: Global) -> Result<MemSink, Fail> {
-    Ok(MemSink::new(alloc, ROOM).map_err(|_| "no memory")?)
-}
-
-/// Runs the text, and gives how the call ended and what was printed.
-fn run(alloc: Global, text: &[u8]) -> Result<(Exit, MemSink), Fail> {
-    let mut input = MemSource::new(text.to_vec(alloc)?);
-    let mut out = sink(alloc)?;
-    let exit = tkernel(alloc, &words_of(alloc, &["run"])?, &mut input, &mut out);
-    Ok((exit, out))
-}
 
 #[test]
 fn its_lines_are_printed(rt: HostRuntime) -> Result<(), Fail> {
@@ -47,8 +19,8 @@ fn the_machine_is_kept(rt: HostRuntime) -> Result<(), Fail> {
     let (exit, _) = run(rt.alloc(), HEX)?;
     let machine = exit.kept.ok_or("a machine")?;
     assert_eq!(rt; machine.end, Some(End::Stopped(Stop::Halted(2))));
-    assert_eq!(rt; machine.mote.registers[16], 0x0F);
-    assert_eq!(rt; machine.mote.port_a, 0x0F);
+    assert_eq!(rt; machine.mote.cpu.r[16], 0x0F);
+    assert_eq!(rt; machine.mote.cpu.sp, 0x011F);
     let page = [
         0, 3, 0x0005, 0x0106, 0x0207, 0xE00F, 0xBB0B, 0x940E, 0xF00C, 2, 0xFFFF,
     ];
@@ -114,47 +86,18 @@ fn a_failed_write_leaves_a_part_of_the_lines(rt: HostRuntime) -> Result<(), Fail
 }
 
 #[test]
-fn other_inputs_are_refused(rt: HostRuntime) -> Result<(), Fail> {
-    let alloc = rt.alloc();
-    // A wrong checksum; no record; a program of one NOP; LDI alone.
-    let cases: [(&[u8], Status, &[u8]); 4] = [
-        (
-            b":060000000FE00BBBFFCF78\n:00000001FF\n",
-            Status::Unbuilt,
-            b"unbuilt input\n",
-        ),
-        (b"", Status::Unbuilt, b"unbuilt input\n"),
-        (
-            b":020000000000FE\n:00000001FF\n",
-            Status::Unbuilt,
-            b"unbuilt program\n",
-        ),
-        (
-            b":020000000FE00F\n:00000001FF\n",
-            Status::Unbuilt,
-            b"unbuilt program\n",
-        ),
+fn other_programs_are_refused(rt: HostRuntime) -> Result<(), Fail> {
+    // NOP; LDI alone; no word.
+    let texts: [&[u8]; 3] = [
+        b":020000000000FE\n:00000001FF\n",
+        b":020000000FE00F\n:00000001FF\n",
+        b":00000001FF\n",
     ];
-    for (text, status, line) in cases {
-        let (exit, out) = run(alloc, text)?;
-        assert_eq!(rt; exit.status, status);
-        assert_eq!(rt; out.taken(), line);
+    for text in texts {
+        let (exit, out) = run(rt.alloc(), text)?;
+        assert_eq!(rt; exit.status, Status::Unbuilt);
+        assert_eq!(rt; out.taken(), b"unbuilt program\n".as_slice());
         assert_eq!(rt; exit.kept.is_none(), true);
     }
-    Ok(())
-}
-
-#[test]
-fn an_input_has_a_limit(rt: HostRuntime) -> Result<(), Fail> {
-    let alloc = rt.alloc();
-    let mut text = vec![in alloc; b'\n'; 2_097_153]?;
-    let (exit, out) = run(alloc, &text)?;
-    assert_eq!(rt; exit.status, Status::BadInput);
-    assert_eq!(rt; out.taken(), b"input too long\n".as_slice());
-
-    text.pop();
-    let (exit, out) = run(alloc, &text)?;
-    assert_eq!(rt; exit.status, Status::Unbuilt);
-    assert_eq!(rt; out.taken(), b"unbuilt input\n".as_slice());
     Ok(())
 }

@@ -3,3 +3,7 @@
 
 #[cfg(test)]
 mod first_program;
+#[cfg(test)]
+mod inputs;
+#[cfg(test)]
+mod support;

@@ -1,6 +1,6 @@
 use Rattle.std.proofs.Common.{◌≡◌, ◌+◌, ◌≤◌, List}
 use Rattle.std.specs.Io.KnownBytes.{Appends}
-use Rattle.mote_core.specs.declared.mote.Line.{Line}
+use Rattle.mote_devices.specs.declared.line.Line.{Line}
 use Rattle.tkernel_cli.specs.Text.{lines_text}
 use Rattle.tkernel_cli.proofs.Progress.{IsAt}
 use Rattle.tkernel_cli.proofs.running.run.Given as goal

@@ -5,7 +5,7 @@ use Rattle.tkernel_cli.proofs.top.tkernel.Goals as goal
 
 pub returns-in-Ok : goal.returns-in-Ok
 returns-in-Ok g c =
-    let answer = answer_of_run _ _ _ _ _ c.in-Ok.program c.run_program.result c.in-Ok.ensures.judged c.run_program.ensures.ran in
+    let answer = answer_of_run _ _ _ _ _ c.in-Ok.program.image c.run_program.result c.in-Ok.ensures.judged c.run_program.ensures.ran in
     record { answer = answer; exact = answer_is_exact _ _ _ _ _ _ answer }
 
 pub returns-in-Err-clause-exact : goal.returns-in-Err-clause-exact

@@ -1,0 +1,152 @@
+-- Bytes at their places.
+use Rattle.std.proofs.Common.{◌≡◌, ◌≢◌, ℕ, suc, zero, ◌+◌, ◌<◌, ◌≤◌, ◌==◌, max, cond, true, false, Bool, ◌||◌, List, [], ◌∷◌, ◌++◌, length, get_or, take, refl, sym, ap, ◌∙◌, arith, inl, inr, Some, None, Option}
+use Rattle.std.specs.Prelude.{nat_lt, nat_le, is_some, ◌⊎◌}
+use Rattle.std.specs.Option.{option_or}
+use Rattle.std.specs.List.{enumerate_from, list_any, range_with_len}
+use Rattle.std.proofs.lemmas.Bool.{cases_eq}
+use Rattle.std.proofs.lemmas.Bool.Decides.{nat_tests}
+use Rattle.std.proofs.lemmas.List.{append_assoc, take_all, take_more}
+use Rattle.std.proofs.lemmas.List.Folds.{list_any-append, list_any_at}
+use Rattle.std.proofs.lemmas.List.FromFn.{get_or-enumerate_from, get_or-range_with_len, length-enumerate_from, length-range_with_len}
+use Rattle.hex_image.specs.declared.fault.HexFault.TheVariants.{Wrap, Twice, TooLarge}
+use Rattle.hex_image.specs.Places.{Cell, byte_given, extent, place_fault}
+use Rattle.hex_image.specs.Reading.{AreSlots}
+
+-- one place more
+pub range_with_len-push : (a n : ℕ) → range_with_len a (suc n) ≡ range_with_len a n ++ (a + n) ∷ []
+range_with_len-push a zero =
+    let e : a ≡ a + 0 = omega arith in
+    ap (λ z. z ∷ []) e
+range_with_len-push a (suc n) =
+    let e : a + 1 + n ≡ a + suc n = omega arith in
+    ap (λ z. a ∷ z) (range_with_len-push (a + 1) n) ∙ ap (λ z. a ∷ (range_with_len (a + 1) n ++ z ∷ [])) e
+
+-- none of some places and not the next
+pub any_more : (test : ℕ → Bool) (a n : ℕ) → list_any test (range_with_len a n) ≡ false → test (a + n) ≡ false → list_any test (range_with_len a (suc n)) ≡ false
+any_more test a n before here =
+    ap (list_any test) (range_with_len-push a n) ∙ list_any-append test (range_with_len a n) ((a + n) ∷ []) ∙ rw (before, here) refl
+
+-- one of some places
+pub any_at : (test : ℕ → Bool) (a n i : ℕ) → i < n → test (a + i) ≡ true → list_any test (range_with_len a n) ≡ true
+any_at test a n i below here =
+    let inside : i < length (range_with_len a n) = omega (arith, length-range_with_len a n) in
+    list_any_at test (range_with_len a n) i 0 inside (ap test (get_or-range_with_len a n i 0 below) ∙ here)
+
+-- none of some places
+pub none_at : (test : ℕ → Bool) (a n i : ℕ) → i < n → list_any test (range_with_len a n) ≡ false → test (a + i) ≡ false
+none_at test a n i below none =
+    elim (cases_true (test (a + i))) [
+      | inl here ↦ cc (any_at test a n i below here, none)
+      | inr other ↦ other
+    ]
+  where
+    cases_true : (b : Bool) → (b ≡ true) ⊎ (b ≡ false)
+    cases_true true = inl refl
+    cases_true false = inr refl
+
+-- two tests that agree
+any_same : (f g : ℕ → Bool) → ((place : ℕ) → f place ≡ g place) → (xs : List ℕ) → list_any f xs ≡ list_any g xs
+any_same f g same [] = refl
+any_same f g same (x ∷ xs) = ap (λ z. z || list_any f xs) (same x) ∙ ap (λ z. g x || z) (any_same f g same xs)
+
+-- the places that slots hold are those that are given
+pub any_given : (cells : List Cell) (slots : List (Option ℕ)) (xs : List ℕ) → AreSlots cells slots
+    → list_any (λ place. is_some (byte_given cells place)) xs ≡ list_any (λ place. is_some (get_or slots place None)) xs
+any_given cells slots xs are = any_same (λ place. is_some (byte_given cells place)) (λ place. is_some (get_or slots place None)) (λ place. ap is_some (sym (are.bytes place))) xs
+
+-- places in a row reach the limit where the last of them does
+pub any_large : (a n : ℕ) → list_any (λ place. nat_le 32768 place) (range_with_len a n) ≡ nat_lt (max 32768 a) (a + n)
+any_large a zero = grind (arith, nat_tests)
+any_large a (suc n) =
+    let later = any_large (a + 1) n in
+    ap (λ z. nat_le 32768 a || z) later ∙ grind (arith, nat_tests)
+
+-- the first fault, by the tests
+pub fault_by : (cells : List Cell) (from address : ℕ) (content : List ℕ) (w t l : Bool) → nat_lt 65536 (address + length content) ≡ w
+    → list_any (λ place. is_some (byte_given cells place)) (range_with_len (from + address) (length content)) ≡ t
+    → list_any (λ place. nat_le 32768 place) (range_with_len (from + address) (length content)) ≡ l
+    → place_fault cells from address content ≡ cond w (Some Wrap) (cond t (Some Twice) (cond l (Some TooLarge) None))
+fault_by cells from address content w t l wraps given large = rw (wraps, given, large) refl
+
+-- the first fault of a record whose addresses don't wrap and whose places are free
+pub large_or_none : (cells : List Cell) (slots : List (Option ℕ)) (from start address : ℕ) (content : List ℕ) (l : Bool) → AreSlots cells slots
+    → address + length content ≤ 65536 → start ≡ from + address
+    → list_any (λ place. is_some (get_or slots place None)) (range_with_len start (length content)) ≡ false
+    → nat_lt (max 32768 start) (start + length content) ≡ l
+    → place_fault cells from address content ≡ cond l (Some TooLarge) None
+large_or_none cells slots from start address content l are fits is free large =
+    let wraps : nat_lt 65536 (address + length content) ≡ false = grind (arith, nat_tests) in
+    let given : list_any (λ place. is_some (byte_given cells place)) (range_with_len (from + address) (length content)) ≡ false =
+    rw (← is) (any_given cells slots (range_with_len start (length content)) are ∙ free) in
+    let beyond : list_any (λ place. nat_le 32768 place) (range_with_len (from + address) (length content)) ≡ l =
+    rw (← is) (any_large start (length content) ∙ large) in
+    fault_by cells from address content false false l wraps given beyond
+
+chosen : (byte : ℕ) (b : Bool) (o p q : Option ℕ) → o ≡ option_or p q → cond b (Some byte) o ≡ option_or (cond b (Some byte) p) q
+chosen byte true o p q e = refl
+chosen byte false o p q e = e
+
+pub byte_given-append : (xs ys : List Cell) (place : ℕ) → byte_given (xs ++ ys) place ≡ option_or (byte_given xs place) (byte_given ys place)
+byte_given-append [] ys place = refl
+byte_given-append (x ∷ xs) ys place = chosen x.1 (x.0 == place) _ _ _ (byte_given-append xs ys place)
+
+pub extent-append : (xs ys : List Cell) → extent (xs ++ ys) ≡ max (extent xs) (extent ys)
+extent-append [] ys = omega arith
+extent-append (x ∷ xs) ys = omega (arith, extent-append xs ys)
+
+-- the places of bytes in a row are below the next
+fresh : (i start place : ℕ) (content : List ℕ) → start + i ≤ place → byte_given (take i (enumerate_from start content)) place ≡ None
+fresh zero start place content above = refl
+fresh (suc i) start place [] above = refl
+fresh (suc i) start place (byte ∷ bytes) above =
+    let other : (start == place) ≡ false = grind (arith, nat_tests) in
+    rw other (fresh i (start + 1) place bytes (omega arith))
+
+none_from_false : (o : Option ℕ) → is_some o ≡ false → o ≡ None
+none_from_false None h = refl
+none_from_false (Some x) h = cc h
+
+-- one byte more
+pub AreSlots-push : (cells : List Cell) (place byte : ℕ) (old new : List (Option ℕ)) → AreSlots cells old → byte_given cells place ≡ None
+    → length new ≡ max (place + 1) (length old) → get_or new place None ≡ Some byte → ((p : ℕ) → p ≢ place → get_or new p None ≡ get_or old p None)
+    → AreSlots (cells ++ (place, byte) ∷ []) new
+AreSlots-push cells place byte old new are free size here others = record {
+  size = omega (arith, extent-append cells ((place, byte) ∷ []), are.size);
+  bytes = λ p. elim (cases_eq p place) [
+    | inl same ↦
+        let is : (place == p) ≡ true = grind (arith, nat_tests) in
+        let none : byte_given cells p ≡ None = ap (byte_given cells) same ∙ free in
+        ap (λ z. get_or new z None) same ∙ here ∙ sym (rw (byte_given-append cells ((place, byte) ∷ []) p, none, is) refl)
+    | inr differ ↦
+        let is : (place == p) ≡ false = grind (arith, nat_tests) in
+        others p differ ∙ are.bytes p ∙ sym (byte_given-append cells ((place, byte) ∷ []) p ∙ rw is (kept (byte_given cells p)))
+  ];
+}
+  where
+    kept : (o : Option ℕ) → option_or o None ≡ o
+    kept None = refl
+    kept (Some x) = refl
+
+-- one byte more of a record
+pub put_more : (cells : List Cell) (old new : List (Option ℕ)) (start i byte : ℕ) (content : List ℕ) → i < length content → byte ≡ get_or content i 0
+    → list_any (λ place. is_some (byte_given cells place)) (range_with_len start (length content)) ≡ false
+    → AreSlots (cells ++ take i (enumerate_from start content)) old
+    → length new ≡ max (start + i + 1) (length old) → get_or new (start + i) None ≡ Some byte → ((p : ℕ) → p ≢ start + i → get_or new p None ≡ get_or old p None)
+    → AreSlots (cells ++ take (i + 1) (enumerate_from start content)) new
+put_more cells old new start i byte content below is none are size here others =
+    let front = take i (enumerate_from start content) in
+    let inside : i < length (enumerate_from start content) = omega (arith, length-enumerate_from start content) in
+    let cell : get_or (enumerate_from start content) i (0, 0) ≡ (start + i, byte) = get_or-enumerate_from start content i (0, 0) below ∙ ap (λ z. (start + i, z)) (sym is) in
+    let more : take (i + 1) (enumerate_from start content) ≡ front ++ (start + i, byte) ∷ [] = take_more (enumerate_from start content) i (0, 0) inside ∙ ap (λ z. front ++ z ∷ []) cell in
+    let whole : cells ++ take (i + 1) (enumerate_from start content) ≡ (cells ++ front) ++ (start + i, byte) ∷ [] = ap (λ z. cells ++ z) more ∙ sym (append_assoc cells front ((start + i, byte) ∷ [])) in
+    let first : byte_given cells (start + i) ≡ None = none_from_false _ (none_at (λ place. is_some (byte_given cells place)) start (length content) i below none) in
+    let second : byte_given front (start + i) ≡ None = fresh i start (start + i) content (omega arith) in
+    let free : byte_given (cells ++ front) (start + i) ≡ None = byte_given-append cells front (start + i) ∙ rw (first, second) refl in
+    rw whole (AreSlots-push (cells ++ front) (start + i) byte old new are free size here others)
+
+-- all bytes of a record
+pub put_all : (cells : List Cell) (slots : List (Option ℕ)) (start i : ℕ) (content : List ℕ) → length content ≤ i
+    → AreSlots (cells ++ take i (enumerate_from start content)) slots → AreSlots (cells ++ enumerate_from start content) slots
+put_all cells slots start i content all are =
+    let whole : take i (enumerate_from start content) ≡ enumerate_from start content = take_all i (enumerate_from start content) (omega (arith, length-enumerate_from start content)) in
+    rw whole at are

@@ -1,0 +1,116 @@
+-- What is written is read back, line by line.
+use Rattle.std.proofs.Common.{◌≡◌, ℕ, zero, suc, ◌+◌, ◌-◌, ◌*◌, ◌/◌, ◌%◌, ◌<◌, ◌==◌, nat_lt, not, ◌||◌, true, false, cond, Bool, List, [], ◌∷◌, ◌++◌, length, get_or, take, sum, refl, ap, ◌∙◌, arith, None, Ok, Result}
+use Rattle.std.specs.List.{AllPass}
+use Rattle.std.specs.Result.{result_unwrap_or}
+use Rattle.std.proofs.lemmas.Bool.Decides.{nat_tests}
+use Rattle.std.proofs.lemmas.List.{length_push, take_at}
+use Rattle.std.proofs.lemmas.List.Elements.{All-cons, All-get_or, All-weaker}
+use Rattle.std.proofs.lemmas.List.Sums.{sum_by-append}
+use Rattle.hex.specs.Hex.{IsBytes, decode_of, encode_upper, is_hex_digit}
+use Rattle.hex.specs.declared.error.FromHexError.{FromHexError}
+use Rattle.hex.proofs.HexLemmas.{decode_of-encode_upper, decode_of-ok}
+use Rattle.hex_image.specs.Pieces.{line_of, without_last}
+use Rattle.hex_image.specs.Lines.{bytes_of, has_right_count, judged, meaning_of, own_fault, record_meaning}
+use Rattle.hex_image.specs.Written.{checksum_of, fed, fields_of, record_bytes, record_line}
+use Rattle.hex_image.specs.Reading.{fault_in, is_in_line, meaning_in}
+use Rattle.hex_image.proofs.PieceLemmas.{feed_off}
+use Rattle.hex_image.proofs.LineLemmas.{own_in}
+
+-- a record that has a line
+pub record IsWritable (kind address : ℕ) (content : List ℕ) : Type 0 where
+  pub kind_fits : kind < 256
+  pub address_fits : address < 65536
+  pub bytes : IsBytes content
+  pub short : length content < 256
+  pub right : has_right_count kind (length content) ≡ true
+
+IsBytes-cons : (byte : ℕ) (bytes : List ℕ) → byte < 256 → IsBytes bytes → IsBytes (byte ∷ bytes)
+IsBytes-cons byte bytes fits all zero = fits
+IsBytes-cons byte bytes fits all (suc i) = all i
+
+IsBytes-push : (bytes : List ℕ) (byte : ℕ) → IsBytes bytes → byte < 256 → IsBytes (bytes ++ byte ∷ [])
+IsBytes-push [] byte all fits zero = fits
+IsBytes-push [] byte all fits (suc i) = omega arith
+IsBytes-push (x ∷ xs) byte all fits zero = all 0
+IsBytes-push (x ∷ xs) byte all fits (suc i) = IsBytes-push xs byte (λ k. all (suc k)) fits i
+
+-- the bytes of a record are bytes
+record_bytes-fit : (kind address : ℕ) (content : List ℕ) → IsWritable kind address content → IsBytes (record_bytes kind address content)
+record_bytes-fit kind address content w =
+    let check : checksum_of (fields_of kind address content) < 256 = omega arith in
+    let high : address / 256 < 256 = omega (arith, w.address_fits) in
+    let low : address % 256 < 256 = omega arith in
+    let rest = content ++ checksum_of (fields_of kind address content) ∷ [] in
+    IsBytes-cons (length content) (address / 256 ∷ address % 256 ∷ kind ∷ rest) w.short
+    (IsBytes-cons (address / 256) (address % 256 ∷ kind ∷ rest) high
+    (IsBytes-cons (address % 256) (kind ∷ rest) low
+    (IsBytes-cons kind rest w.kind_fits (IsBytes-push content (checksum_of (fields_of kind address content)) w.bytes check))))
+
+sum-push : (xs : List ℕ) (y : ℕ) → sum (xs ++ y ∷ []) ≡ sum xs + y
+sum-push xs y = sum_by-append (λ x. x) xs (y ∷ []) ∙ omega arith
+
+balanced : (total : ℕ) → ((total + (256 - total % 256) % 256) % 256 == 0) ≡ true
+balanced total = grind (arith, nat_tests)
+
+whole_length : (n : ℕ) → (nat_lt (suc (suc (suc (suc (n + 1))))) 5 || not (suc (suc (suc (suc (n + 1)))) == 5 + n)) ≡ false
+whole_length n = grind (arith, nat_tests)
+
+-- the bytes of a record have no fault
+record_bytes-sound : (kind address : ℕ) (content : List ℕ) → IsWritable kind address content → fault_in (record_bytes kind address content) ≡ None
+record_bytes-sound kind address content w =
+    let fields = fields_of kind address content in
+    let size : length (content ++ checksum_of fields ∷ []) ≡ length content + 1 = length_push content (checksum_of fields) in
+    let total : sum (fields ++ checksum_of fields ∷ []) ≡ sum fields + checksum_of fields = sum-push fields (checksum_of fields) in
+    rw (size, whole_length (length content), total, balanced (sum fields), w.right) refl
+
+-- and say what the record says
+record_bytes-meaning : (kind address : ℕ) (content : List ℕ) → meaning_in (record_bytes kind address content) ≡ record_meaning kind address content
+record_bytes-meaning kind address content =
+    let fields = fields_of kind address content in
+    let place : address / 256 * 256 + address % 256 ≡ address = omega arith in
+    let middle : take (length content) (content ++ checksum_of fields ∷ []) ≡ content = take_at content (checksum_of fields ∷ []) (length content) refl in
+    ap (λ z. record_meaning kind z (take (length content) (content ++ checksum_of fields ∷ []))) place ∙ ap (record_meaning kind address) middle
+
+-- a line that is written says what its record says
+pub record_line-meaning : (kind address : ℕ) (content : List ℕ) → IsWritable kind address content → meaning_of (record_line kind address content) ≡ record_meaning kind address content
+record_line-meaning kind address content w =
+    let bytes = record_bytes kind address content in
+    let digits = encode_upper bytes in
+    let decoded : decode_of digits ≡ Ok bytes = decode_of-encode_upper bytes (record_bytes-fit kind address content w) in
+    let all : AllPass is_hex_digit digits = (decode_of-ok digits bytes decoded).1 in
+    let whole : bytes_of (58 ∷ digits) ≡ bytes = ap (λ (r : Result (List ℕ) FromHexError). result_unwrap_or r []) decoded in
+    let sound : own_fault (58 ∷ digits) ≡ None = own_in digits bytes all decoded ∙ record_bytes-sound kind address content w in
+    ap (judged (58 ∷ digits)) sound ∙ ap meaning_in whole ∙ record_bytes-meaning kind address content
+
+-- a digit is neither a line feed nor a carriage return
+digit_plain : (c : ℕ) → is_hex_digit c ≡ true → (is_in_line c ≡ true) × ((c == 13) ≡ false)
+digit_plain c digit = (grind (arith, nat_tests), grind (arith, nat_tests))
+
+kept : (b : Bool) (line : List ℕ) → not b ≡ true → cond b (take (length line - 1) line) line ≡ line
+kept false line last = refl
+kept true line last = cc last
+
+-- a line has no line feed, and no carriage return at its end
+pub record IsPlain (line : List ℕ) : Type 0 where
+  pub inside : AllPass is_in_line line
+  pub plain : without_last 13 line ≡ line
+
+pub record_line-plain : (kind address : ℕ) (content : List ℕ) → IsWritable kind address content → IsPlain (record_line kind address content)
+record_line-plain kind address content w =
+    let bytes = record_bytes kind address content in
+    let digits = encode_upper bytes in
+    let decoded : decode_of digits ≡ Ok bytes = decode_of-encode_upper bytes (record_bytes-fit kind address content w) in
+    let all : AllPass is_hex_digit digits = (decode_of-ok digits bytes decoded).1 in
+    let insides : AllPass is_in_line digits = All-weaker (λ c. is_hex_digit c ≡ true) (λ c. is_in_line c ≡ true) (λ c d. (digit_plain c d).0) digits all in
+    let returns : AllPass (λ c. not (c == 13)) digits = All-weaker (λ c. is_hex_digit c ≡ true) (λ c. not (c == 13) ≡ true) (λ c d. ap not (digit_plain c d).1) digits all in
+    let below : length (58 ∷ digits) - 1 < length (58 ∷ digits) = omega arith in
+    let last : not (get_or (58 ∷ digits) (length (58 ∷ digits) - 1) 0 == 13) ≡ true =
+    All-get_or (λ c. not (c == 13) ≡ true) (58 ∷ digits) (length (58 ∷ digits) - 1) 0 below (All-cons (λ c. not (c == 13) ≡ true) 58 digits refl returns) in
+    record {
+      inside = All-cons (λ c. is_in_line c ≡ true) 58 digits refl insides;
+      plain = kept (get_or (58 ∷ digits) (length (58 ∷ digits) - 1) 0 == 13) (58 ∷ digits) last;
+    }
+
+-- a line with its line feed is the line
+pub line_of-fed : (line : List ℕ) → IsPlain line → line_of (fed line) ≡ line
+line_of-fed line is = ap (without_last 13) (feed_off line) ∙ is.plain

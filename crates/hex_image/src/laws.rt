@@ -1,0 +1,18 @@
+//! Laws of texts, for callers' proofs.
+ghost use Rattle.hex_image.specs.Laws.{HasImageOrFault, HasNeverBoth, HasOneFault, HasOneImage};
+
+/// A text has one image at most, and one position at which the text behind it begins.
+pub fn one_image()
+    ensures one { HasOneImage }
+{}
+
+/// A text has one first faulty line at most, and one first fault there.
+pub fn one_fault()
+    ensures one { HasOneFault }
+{}
+
+/// Each text has an image or a fault, and none has both.
+pub fn image_or_fault()
+    ensures either { HasImageOrFault }
+    ensures never_both { HasNeverBoth }
+{}

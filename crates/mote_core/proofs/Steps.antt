@@ -1,0 +1,30 @@
+-- What a step that may be made does.
+use Rattle.std.proofs.Common.{◌≡◌, true, refl, ap}
+use Rattle.std.specs.Prelude.{Some, None, Option, IsSome}
+use Rattle.std.specs.Option.{option_map}
+use Rattle.avr_isa.specs.declared.form.Form.{Form}
+use Rattle.avr_exec.specs.declared.cpu.Cpu.{Cpu}
+use Rattle.avr_exec.specs.Asks.{ask_of}
+use Rattle.avr_exec.specs.Execution.{is_executed, exec_of}
+use Rattle.mote_core.specs.declared.mote.Mote.{Mote}
+use Rattle.mote_core.specs.Physical.{physical_calls}
+use Rattle.mote_core.specs.Conditions.{is_mapped, can_step}
+use Rattle.mote_core.specs.Step.{form_at, next_size, space_of, stepped}
+use Rattle.mote_core.proofs.NeverStops.{both}
+
+pub step_some : (f : Option Form) (cpu : Cpu) → can_step f cpu ≡ true → IsSome f
+unfolding can_step
+step_some None cpu can = absurd (cc)
+step_some (Some form) cpu can = refl
+
+pub step_executed : (f : Option Form) (form : Form) (cpu : Cpu) → can_step f cpu ≡ true → f ≡ Some form → is_executed form ≡ true
+unfolding can_step
+step_executed f form cpu can is = (both _ _ (rw is at can)).0
+
+pub step_mapped : (f : Option Form) (form : Form) (cpu : Cpu) → can_step f cpu ≡ true → f ≡ Some form → is_mapped (ask_of form cpu) ≡ true
+unfolding can_step
+step_mapped f form cpu can is = (both _ _ (rw is at can)).1
+
+pub stepped_is : (m : Mote) (form : Form) → form_at m ≡ Some form → stepped m ≡ Some (exec_of physical_calls form m.cpu (space_of m None) (next_size m))
+unfolding stepped
+stepped_is m form is = ap (option_map (λ (f : Form). exec_of physical_calls f m.cpu (space_of m None) (next_size m))) is

@@ -1,0 +1,10 @@
+-- What a step shows outside.
+use Rattle.std.specs.Prelude.{Option, Some, None}
+use Rattle.mote_devices.specs.declared.line.Line.{Line}
+use Rattle.mote_core.specs.declared.mote.Plain.{Plain}
+use Rattle.mote_core.specs.declared.mote.Plain.TheVariants.{Went, Wrote}
+
+-- the line, where there is one
+abbrev pub line_of : Plain → Option Line
+line_of Went = None
+line_of (Wrote line) = Some line

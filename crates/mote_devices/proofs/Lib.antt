@@ -1,0 +1,5 @@
+-- Lemmas on the devices' inputs, and laws for the layers above.
+mod PlaceLaws
+mod PollLaws
+mod WorkedValues
+pub mod AccessLaws

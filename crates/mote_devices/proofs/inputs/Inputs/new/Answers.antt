@@ -1,0 +1,8 @@
+use Rattle.std.proofs.Common.{rules}
+use Rattle.mote_devices.specs.Inputs.{unreceived, zeros}
+use Rattle.mote_devices.specs.Places.{bytes_between}
+use Rattle.mote_devices.proofs.inputs.Inputs.new.Goals as goal
+
+pub returns : goal.returns
+unfolding unreceived zeros bytes_between
+returns c = search rules

@@ -1,0 +1,86 @@
+-- What a program reads and writes of the devices: the value or the line that it gets and the state after it.
+use Rattle.std.specs.Prelude.{slice_index, ℕ, ◌-◌, ◌/◌, ◌%◌, Bool, ◌&&◌, nat_le, if◌then◌else◌, Option, Some, None, Result, Ok, Err, drop, bit_and, bit_or}
+use Rattle.avr_isa.specs.IoTable.{can_read, can_write}
+use Rattle.mote_devices.specs.declared.line.Line.{Line}
+use Rattle.mote_devices.specs.declared.line.Port.TheVariants.{Uart0}
+use Rattle.mote_devices.specs.declared.register.Register.{Register}
+use Rattle.mote_devices.specs.declared.register.Register.TheVariants.{Stored, Shown, Pins, SerialStatus, SerialData, ConverterLow, ConverterHigh, ConverterControl, Timer}
+use Rattle.mote_devices.specs.declared.devices.IoStop.{IoStop}
+use Rattle.mote_devices.specs.Registers.{register_at, is_polled}
+use Rattle.mote_devices.specs.Inputs.{first_byte, is_empty}
+use Rattle.mote_devices.specs.State.{State, stored, with_stored, polled}
+
+-- SPL, SPH and SREG are the core's own
+abbrev pub is_core_register : ℕ → Bool
+is_core_register a = nat_le 0x5D a && nat_le a 0x5F
+
+-- an answer and the state after it; or the access isn't allowed, and the state stays
+pub data Asked (A : Type 0) : Type 0 where
+  Gave : A → State → Asked A
+  Refused : Asked A
+
+-- what a call's result and the state after it tell
+abbrev pub told : {A : Type 0} → Result A IoStop → State → Asked A
+told (Ok answer) next = Gave answer next
+told (Err stop) next = Refused
+
+-- UCSR0A: the transmit register is always empty (UDRE, bit 5); bit 7 (RXC) is set where a byte is waiting
+abbrev pub serial_status : Bool → ℕ
+serial_status none = if none then 0x20 else 0xA0
+
+-- ADCSRA: no conversion is running (ADSC, bit 6), and its result is there (ADIF, bit 4)
+abbrev pub converter_status : ℕ → ℕ
+converter_status stored = bit_or (bit_and stored (255 - 0x40)) 0x10
+
+-- the value of a register at data address a
+abbrev pub value_of : Register → State → ℕ → ℕ
+value_of Stored s a = stored s a
+value_of (Shown port) s a = stored s a
+value_of (Pins port) s a = slice_index s.received.pins port
+value_of SerialStatus s a = serial_status (is_empty s.received.queue)
+value_of SerialData s a = first_byte s.received.queue
+value_of ConverterLow s a = s.received.converter % 256
+value_of ConverterHigh s a = s.received.converter / 256 % 4
+value_of ConverterControl s a = converter_status (stored s a)
+value_of Timer s a = s.polls % 256
+
+-- the serial port's byte is taken by a read
+abbrev pub after_value : Register → State → State
+after_value SerialData s = record s { received = record s.received { queue = drop 1 s.received.queue } }
+after_value _ s = s
+
+-- a read of a register: a poll comes before the value
+abbrev pub read_from : State → Register → ℕ → Asked ℕ
+read_from s register a = let now = if is_polled register then polled s else s in Gave (value_of register now a) (after_value register now)
+
+unfoldable pub read : State → ℕ → Asked ℕ
+read s a = if can_read a then read_from s (register_at a) a else Refused
+
+-- the state after a write; the serial port's registers and the timer store nothing
+abbrev pub after_write : Register → State → ℕ → ℕ → State
+after_write SerialStatus s a v = s
+after_write SerialData s a v = s
+after_write Timer s a v = s
+after_write _ s a v = with_stored s a v
+
+-- what a write shows outside
+abbrev pub line_of : Register → ℕ → Option Line
+line_of (Shown port) v = Some (record { port = port; value = v })
+line_of SerialData v = Some (record { port = Uart0; value = v })
+line_of _ v = None
+
+unfoldable pub write : State → ℕ → ℕ → Asked (Option Line)
+write s a v = if can_write a then Gave (line_of (register_at a) v) (after_write (register_at a) s a v) else Refused
+
+-- a byte with the bits of `clear` cleared and those of `set` set
+abbrev pub written_byte : ℕ → ℕ → ℕ → ℕ
+written_byte v clear set = bit_or (bit_and v (255 - clear)) set
+
+-- a write of what was read, changed so
+abbrev pub written_back : Asked ℕ → ℕ → ℕ → ℕ → Asked (Option Line)
+written_back (Gave v now) a clear set = write now a (written_byte v clear set)
+written_back Refused a clear set = Refused
+
+-- one read of the whole register, then one write of it; both directions must be allowed
+unfoldable pub modify : State → ℕ → ℕ → ℕ → Asked (Option Line)
+modify s a clear set = if can_write a then written_back (read s a) a clear set else Refused

@@ -1,0 +1,47 @@
+-- What the devices have received, and when an input of the script takes effect.
+use Rattle.std.specs.Prelude.{ℕ, Bool, true, false, not, nat_le, List, [], ◌∷◌, ◌++◌, filter, fold, slice_set, replicate}
+use Rattle.input_script.specs.declared.input.Input.{Input}
+use Rattle.input_script.specs.declared.input.Input.TheVariants.{Pin, Uart, Adc}
+use Rattle.input_script.specs.declared.input.Event.{Event}
+
+-- n bytes that are all 0
+unfoldable pub zeros : ℕ → List ℕ
+zeros n = replicate n 0
+
+-- The pins of ports A to D, the converter's result, the bytes that the serial port received and that were
+-- not read yet, and the events to come.
+pub record Received : Type 0 where
+  pub pins : List ℕ
+  pub converter : ℕ
+  pub queue : List ℕ
+  pub coming : List Event
+
+-- nothing was received, and these events are to come
+unfoldable pub unreceived : List Event → Received
+unreceived events = record { pins = zeros 4; converter = 0; queue = []; coming = events }
+
+-- an input takes effect
+abbrev pub after_input : Received → Input → Received
+after_input r (Pin port value) = record r { pins = slice_set r.pins port value }
+after_input r (Uart byte) = record r { queue = r.queue ++ byte ∷ [] }
+after_input r (Adc value) = record r { converter = value }
+
+-- the event takes effect at poll n or before
+abbrev pub is_due : ℕ → Event → Bool
+is_due n event = nat_le event.at n
+
+-- At poll n all events with a number of at most n take effect, in their order; the others stay to come.
+unfoldable pub at_poll : ℕ → Received → Received
+at_poll n r =
+    let later = filter (λ (event : Event). not (is_due n event)) r.coming in
+    fold (λ (now : Received) (event : Event). after_input now event.input) (record r { coming = later }) (filter (is_due n) r.coming)
+
+-- the queue's first byte, 0 where it is empty
+abbrev pub first_byte : List ℕ → ℕ
+first_byte [] = 0
+first_byte (byte ∷ bytes) = byte
+
+-- the queue has no byte
+abbrev pub is_empty : List ℕ → Bool
+is_empty [] = true
+is_empty (byte ∷ bytes) = false

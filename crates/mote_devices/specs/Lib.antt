@@ -1,0 +1,6 @@
+-- The devices as plain data, and what a program's accesses do to it.
+pub mod Registers
+pub mod Inputs
+pub mod Places
+pub mod State
+pub mod Accesses

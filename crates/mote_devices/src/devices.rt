@@ -1,0 +1,221 @@
+//! The devices, as a program reaches them.
+
+use crate::inputs::Inputs;
+use crate::line::{Line, Port};
+use crate::register::{Register, is_polled, register_at};
+use avr_isa::io_access;
+use input_script::Script;
+use std::marker::Model;
+
+/// The data address of RAMPZ.
+const RAMPZ: usize = 0x5B;
+
+/// UCSR0A: a byte was received.
+const RECEIVED: u8 = 0x80;
+
+/// UCSR0A: a byte can be sent.
+const CAN_SEND: u8 = 0x20;
+
+/// ADCSRA: a conversion is running.
+const CONVERTING: u8 = 0x40;
+
+/// ADCSRA: a conversion is complete.
+const CONVERTED: u8 = 0x10;
+
+/// A program may not access the I/O register at this data address in this direction. Nothing was changed.
+#[derive(Clone, Copy, Debug, PartialEq, Eq)]
+pub struct IoStop {
+    pub address: u16,
+}
+
+/// The devices of the mote, with the script of their inputs.
+#[derive(Debug, Drop)]
+pub struct Devices {
+    /// The bytes of the registers that store, by data address.
+    registers: [u8; 256],
+    inputs: Inputs,
+    polls: u64,
+}
+
+impl Model for Devices {
+    ghost use Rattle.mote_devices.specs.State.{State};
+
+    ghost Value = { State };
+
+    ghost view = { λ d. record { registers = d.registers; received = d.inputs; polls = d.polls } };
+}
+
+impl Devices {
+    ghost use Rattle.std.specs.Prelude.{◌≡◌, ◌<◌, ◌^◌, false, OnErr, IfErr};
+    ghost use Rattle.mote_devices.specs.Inputs.{is_empty};
+    ghost use Rattle.mote_devices.specs.State.{State, at_reset, stored, with_stored, polled, rampz_address, register_count};
+    ghost use Rattle.mote_devices.specs.Accesses.{is_core_register, Gave, told, read as read_of, read_from, write as write_of, modify as modify_of, value_of, after_value, line_of, after_write, serial_status as serial_status_of};
+
+    /// The devices at reset.
+    #[tactic(auto, unfolding(crate::specs::Inputs::zeros))]
+    pub fn new(script: Script) -> Devices
+        ensures value { result ≡ at_reset script }
+    {
+        Devices {
+            registers: [0; 256],
+            inputs: Inputs::new(script),
+            polls: 0,
+        }
+    }
+
+    /// How many polls were made: reads of the inputs' registers.
+    pub fn polls(&self) -> u64
+        ensures value { result ≡ self.now.polls }
+    {
+        self.polls
+    }
+
+    /// The register RAMPZ. This is no poll.
+    pub fn rampz(&self) -> u8
+        ensures value { result ≡ stored self.now rampz_address }
+    {
+        self.registers[RAMPZ]
+    }
+
+    /// Writes the register RAMPZ.
+    pub fn set_rampz(&mut self, v: u8)
+        ensures after { self.new ≡ with_stored self.old rampz_address v }
+    {
+        self.registers[RAMPZ] = v;
+    }
+
+    /// Reads the register at a data address. A read of an input is a poll: the inputs that are due at it
+    /// come before the value.
+    ///
+    /// # Errors
+    ///
+    /// `IoStop` where a program may not read the register.
+    #[tactic(auto, using(crate::proofs::AccessLaws::can_read_below), unfolding(crate::specs::Accesses::read))]
+    pub fn read(&mut self, a: u16) -> Result<u8, IoStop>
+        requires outside { is_core_register a ≡ false }
+        requires room { self.old.polls < 2 ^ 63 }
+        ensures answer { told result self.new ≡ read_of self.old a }
+        ensures address { IfErr result (λ stop. stop.address ≡ a) }
+        ensures refused { OnErr result (self.new ≡ self.old) }
+    {
+        if io_access(a).read {
+            Ok(self.read_register(register_at(a), a))
+        } else {
+            Err(IoStop { address: a })
+        }
+    }
+
+    /// Writes the register at a data address, and says what this shows outside.
+    ///
+    /// # Errors
+    ///
+    /// `IoStop` where a program may not write the register.
+    #[tactic(auto, using(crate::proofs::AccessLaws::can_write_below), unfolding(crate::specs::Accesses::write))]
+    pub fn write(&mut self, a: u16, v: u8) -> Result<Option<Line>, IoStop>
+        requires outside { is_core_register a ≡ false }
+        ensures answer { told result self.new ≡ write_of self.old a v }
+        ensures address { IfErr result (λ stop. stop.address ≡ a) }
+        ensures refused { OnErr result (self.new ≡ self.old) }
+    {
+        if io_access(a).write {
+            Ok(self.write_register(register_at(a), a, v))
+        } else {
+            Err(IoStop { address: a })
+        }
+    }
+
+    /// One read of the whole register at a data address, and one write of what was read with the bits of
+    /// `clear` cleared and those of `set` set.
+    ///
+    /// # Errors
+    ///
+    /// `IoStop` where a program may not both read and write the register.
+    #[tactic(auto, unfolding(crate::specs::Accesses::modify, crate::specs::Accesses::write))]
+    pub fn modify(&mut self, a: u16, clear: u8, set: u8) -> Result<Option<Line>, IoStop>
+        requires outside { is_core_register a ≡ false }
+        requires room { self.old.polls < 2 ^ 63 }
+        ensures answer { told result self.new ≡ modify_of self.old a clear set }
+        ensures address { IfErr result (λ stop. stop.address ≡ a) }
+        ensures refused { OnErr result (self.new ≡ self.old) }
+    {
+        if !io_access(a).write {
+            return Err(IoStop { address: a });
+        }
+        let value = self.read(a)?;
+        self.write(a, value & !clear | set)
+    }
+
+    /// One more poll: the inputs that are due at it take effect.
+    fn poll(&mut self)
+        requires room { self.old.polls < 2 ^ 63 }
+        ensures value { self.new ≡ polled self.old }
+    {
+        self.polls += 1;
+        self.inputs.take_due(self.polls);
+    }
+
+    /// The value of a register that a program may read.
+    fn read_register(&mut self, register: Register, a: u16) -> u8
+        requires within { a < register_count }
+        requires room { self.old.polls < 2 ^ 63 }
+        ensures answer { Gave result self.new ≡ read_from self.old register a }
+    {
+        if is_polled(register) {
+            self.poll();
+        }
+        self.value(register, a)
+    }
+
+    /// The value of a register after its poll, and what the read takes.
+    fn value(&mut self, register: Register, a: u16) -> u8
+        requires within { a < register_count }
+        ensures value { result ≡ value_of register self.old a }
+        ensures taken { self.new ≡ after_value register self.old }
+    {
+        match register {
+            Register::Stored | Register::Shown(_) => self.registers[a as usize],
+            Register::Pins(port) => self.inputs.pin(port),
+            Register::SerialStatus => self.serial_status(),
+            Register::SerialData => self.inputs.take_byte(),
+            Register::ConverterLow => (self.inputs.converter() & 0xFF) as u8,
+            Register::ConverterHigh => (self.inputs.converter() >> 8 & 3) as u8,
+            Register::ConverterControl => self.registers[a as usize] & !CONVERTING | CONVERTED,
+            Register::Timer => (self.polls & 0xFF) as u8,
+        }
+    }
+
+    /// UCSR0A: a byte can always be sent.
+    fn serial_status(&mut self) -> u8
+        ensures value { result ≡ serial_status_of (is_empty self.old.received.queue) }
+        ensures same { self.new ≡ self.old }
+    {
+        if self.inputs.is_waiting() {
+            RECEIVED | CAN_SEND
+        } else {
+            CAN_SEND
+        }
+    }
+
+    /// Writes a register that a program may write.
+    fn write_register(&mut self, register: Register, a: u16, v: u8) -> Option<Line>
+        requires within { a < register_count }
+        ensures line { result ≡ line_of register v }
+        ensures after { self.new ≡ after_write register self.old a v }
+    {
+        match register {
+            Register::SerialStatus | Register::Timer => None,
+            Register::SerialData => Some(Line {
+                port: Port::Uart0,
+                value: v,
+            }),
+            Register::Shown(port) => {
+                self.registers[a as usize] = v;
+                Some(Line { port, value: v })
+            }
+            _ => {
+                self.registers[a as usize] = v;
+                None
+            }
+        }
+    }
+}

@@ -1,0 +1,161 @@
+//! The inputs of a script, as the devices receive them.
+
+ghost use Rattle.std.specs.Prelude.{◌≡◌, ◌≤◌, [], length, MatchOption};
+ghost use Rattle.mote_devices.specs.Places.{bytes_between, IsNextByte};
+
+use input_script::{Event, Input, Script};
+use std::marker::Model;
+
+/// What the devices have received. The serial port's queue is kept as places in the script: the bytes of
+/// the events taken, from place `serial` on.
+#[derive(Debug, Drop)]
+pub(crate) struct Inputs {
+    pins: [u8; 4],
+    converter: u16,
+    script: Script,
+    /// How many events have taken effect.
+    taken: usize,
+    /// The events before this place are no longer in the serial port's queue.
+    serial: usize,
+}
+
+impl Model for Inputs {
+    ghost use Rattle.std.specs.Prelude.{drop};
+    ghost use Rattle.mote_devices.specs.Inputs.{Received};
+    ghost use Rattle.mote_devices.specs.Places.{bytes_between, IsKept};
+
+    ghost Value = { Received };
+
+    ghost view = { λ a. record { pins = a.pins; converter = a.converter; queue = bytes_between a.script a.serial a.taken; coming = drop a.taken a.script } };
+
+    ghost invariant = { λ a. IsKept a.pins a.script a.taken a.serial };
+}
+
+impl Inputs {
+    ghost use Rattle.std.specs.Prelude.{◌≡◌, ◌<◌, length, false, not, drop, slice_index};
+    ghost use Rattle.mote_devices.specs.Inputs.{unreceived, at_poll, first_byte, is_empty};
+    ghost use Rattle.mote_devices.specs.Places.{first_is_due, with_first};
+
+    /// Nothing was received, and all events are to come.
+    pub(crate) fn new(script: Script) -> Inputs
+        ensures value { result ≡ unreceived script }
+    {
+        Inputs {
+            pins: [0; 4],
+            converter: 0,
+            script,
+            taken: 0,
+            serial: 0,
+        }
+    }
+
+    /// The pins of a port, 0 to 3 for ports A to D; no other port has any.
+    pub(crate) fn pin(&self, port: u8) -> u8
+        ensures value { result ≡ slice_index self.now.pins port }
+    {
+        if port < 4 {
+            self.pins[port as usize]
+        } else {
+            0
+        }
+    }
+
+    /// The converter's result.
+    pub(crate) fn converter(&self) -> u16
+        ensures value { result ≡ self.now.converter }
+    {
+        self.converter
+    }
+
+    /// All events with a number of at most `poll` take effect.
+    pub(crate) fn take_due(&mut self, poll: u64)
+        ensures value { self.new ≡ at_poll poll self.old }
+    {
+        while self.is_due(poll) {
+            self.take_next();
+        }
+    }
+
+    /// Whether the next event has a number of at most `poll`.
+    fn is_due(&self, poll: u64) -> bool
+        ensures value { result ≡ first_is_due poll self.now.coming }
+        ensures none { result ≡ false → at_poll poll self.now ≡ self.now }
+    {
+        let events = self.script.events();
+        self.taken < events.len() && u64::from(events[self.taken].at) <= poll
+    }
+
+    /// The next event takes effect.
+    fn take_next(&mut self)
+        requires some { 0 < length self.old.coming }
+        ensures value { self.new ≡ with_first self.old }
+    {
+        let event = self.script.events()[self.taken];
+        self.taken += 1;
+        match event.input {
+            Input::Pin(port, value) => {
+                if port < 4 {
+                    self.pins[port as usize] = value;
+                }
+            }
+            Input::Uart(_) => {}
+            Input::Adc(value) => self.converter = value,
+        }
+    }
+
+    /// Whether the serial port's queue holds a byte.
+    pub(crate) fn is_waiting(&mut self) -> bool
+        ensures value { result ≡ not (is_empty self.old.queue) }
+        ensures same { self.new ≡ self.old }
+    {
+        match next_byte(self.script.events(), self.serial, self.taken) {
+            Some(waiting) => {
+                self.serial = waiting.place;
+                true
+            }
+            None => {
+                self.serial = self.taken;
+                false
+            }
+        }
+    }
+
+    /// Takes the first byte of the serial port's queue, 0 where it is empty.
+    pub(crate) fn take_byte(&mut self) -> u8
+        ensures value { result ≡ first_byte self.old.queue }
+        ensures taken { self.new ≡ record self.old { queue = drop 1 self.old.queue } }
+    {
+        match next_byte(self.script.events(), self.serial, self.taken) {
+            Some(waiting) => {
+                self.serial = waiting.place + 1;
+                waiting.byte
+            }
+            None => {
+                self.serial = self.taken;
+                0
+            }
+        }
+    }
+}
+
+/// A byte of the serial port's queue.
+#[derive(Clone, Copy, Debug, PartialEq, Eq)]
+pub(crate) struct Waiting {
+    /// The place of the event that brought it.
+    place: usize,
+    byte: u8,
+}
+
+/// The first serial byte among the events from place `from` to before `to`.
+fn next_byte(events: &[Event], from: usize, to: usize) -> Option<Waiting>
+    requires order { from ≤ to }
+    requires within { to ≤ length events.now }
+    ensures cases { MatchOption result (bytes_between events.now from to ≡ []) (IsNextByte events.now from to) }
+{
+    for place in from..to {
+        if let Input::Uart(byte) = events[place].input {
+            return Some(Waiting { place, byte });
+        }
+    }
+    None
+}

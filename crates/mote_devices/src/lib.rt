@@ -1,0 +1,26 @@
+//! The mote's devices: ports, the serial port USART0, the converter, and the registers that only store.
+//!
+//! A program reaches them by data addresses. [`Devices`] plays a script of inputs against it: a read of
+//! an input register is a *poll*, and each input takes effect at the poll with its number.
+//!
+//! ```rust
+//! let mut devices = Devices::new(script);
+//! let waiting = devices.read(0x2B)? & 0x80 != 0; // UCSR0A: a poll
+//! let line = devices.write(0x3B, 0x55)?; // PORTA: the line PortA, 0x55
+//! ```
+//!
+//! Contracts see the devices as plain data (`specs/State`), and `read`, `write` and `modify` as
+//! functions of it (`specs/Accesses`). `specs/Registers` says what each register does, and
+//! `specs/Inputs` when an input takes effect. `proofs/Laws` has what the layers above need of them.
+#![tactic(auto)]
+
+mod devices;
+mod inputs;
+mod line;
+mod register;
+
+pub use devices::{Devices, IoStop};
+pub use line::{Line, Port};
+
+#[cfg(test)]
+mod tests;

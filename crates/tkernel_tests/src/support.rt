@@ -1,0 +1,35 @@
+//! What the tests share.
+use std::alloc::Global;
+use std::test::Fail;
+use tk_io::{MemSink, MemSource};
+use tkernel_cli::{Exit, tkernel};
+
+/// The first program: `LDI r16, 0x0F`, `OUT PORTA, r16`, and a jump to itself.
+pub const HEX: &[u8] = b":060000000FE00BBBFFCF77\n:00000001FF\n";
+
+/// What it prints.
+pub const LINES: &[u8] =
+    b"PORTA 0x0F\nhalted 0x0002 steps 2 checkpoints 0\nnatural 3 entries 1 pages 1\n";
+
+/// More room than any text of these tests needs.
+pub const ROOM: usize = 1000;
+
+pub fn words_of(alloc: Global, words: &[&str]) -> Result<Vec<String>, Fail> {
+    let mut owned = Vec::new(alloc);
+    for word in words {
+        owned.push(String::from_str(alloc, word)?)?;
+    }
+    Ok(owned)
+}
+
+pub fn sink(alloc: Global) -> Result<MemSink, Fail> {
+    Ok(MemSink::new(alloc, ROOM).map_err(|_| "no memory")?)
+}
+
+/// Runs the text, and gives how the call ended and what was printed.
+pub fn run(alloc: Global, text: &[u8]) -> Result<(Exit, MemSink), Fail> {
+    let mut input = MemSource::new(text.to_vec(alloc)?);
+    let mut out = sink(alloc)?;
+    let exit = tkernel(alloc, &words_of(alloc, &["run"])?, &mut input, &mut out);
+    Ok((exit, out))
+}
