@@ -1,4 +1,4 @@
-// The instructions by the bits of their first word (AVR Instruction Set Manual, "16-bit Opcode").
+//! The instructions by the bits of their first word (AVR Instruction Set Manual, "16-bit Opcode").
 ghost use Rattle.std.specs.Prelude.{◌≡◌, Some};
 ghost use Rattle.avr_decode.specs.Decoding.{displaced_form, form_0000, flag_or_plain_form, immediate_of, io_bit_form, io_form, form_1111, load_form, move_or_product_form, one_register_form, one_word_form, plain_form, product_form, register_bit_form, register_or_pair_form, form_0001, store_form, form_1001, form_0010, transfer_form, two_of, two_word_form};
 

@@ -1,4 +1,4 @@
-// The fixed bits of the operations and pointers that share a form.
+//! The fixed bits of the operations and pointers that share a form.
 ghost use Rattle.std.specs.Prelude.{◌≡◌, ℕ, ◌+◌, ◌≤◌};
 ghost use Rattle.avr_isa.specs.Encoding.{first_word, high_register_and_byte, one_register, pair_and_six_bits, two_high_registers, two_registers};
 ghost use Rattle.avr_isa.specs.declared.form.Form.TheVariants as form;

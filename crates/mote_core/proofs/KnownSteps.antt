@@ -40,13 +40,14 @@ use Rattle.mote_core.proofs.Steps.{stepped_is}
 parts : (cpu cpu' : Cpu) (space space' : Physical) → Some (WentOn cpu space) ≡ Some (WentOn cpu' space') → (cpu ≡ cpu') × (space ≡ space')
 parts cpu cpu' space space' is = (cc, cc)
 
-same_mote : (cpu cpu' : Cpu) (sram sram' : List ℕ) (flash flash' : Memory) (devices devices' : State) → cpu ≡ cpu' → sram ≡ sram' → flash ≡ flash' → devices ≡ devices'
-    → ◌≡◌ {A = Mote} (record { cpu = cpu; sram = sram; flash = flash; devices = devices }) (record { cpu = cpu'; sram = sram'; flash = flash'; devices = devices' })
-same_mote cpu cpu' sram sram' flash flash' devices devices' c s f d =
-    ap (λ x. record { cpu = x; sram = sram; flash = flash; devices = devices }) c
-    ∙ ap (λ x. record { cpu = cpu'; sram = x; flash = flash; devices = devices }) s
-    ∙ ap (λ x. record { cpu = cpu'; sram = sram'; flash = x; devices = devices }) f
-    ∙ ap (λ x. record { cpu = cpu'; sram = sram'; flash = flash'; devices = x }) d
+same_mote : (cpu cpu' : Cpu) (sram sram' : List ℕ) (flash flash' : Memory) (devices devices' : State) (swap swap' : List (List ℕ)) → cpu ≡ cpu' → sram ≡ sram' → flash ≡ flash' → devices ≡ devices' → swap ≡ swap'
+    → ◌≡◌ {A = Mote} (record { cpu = cpu; sram = sram; flash = flash; devices = devices; swap = swap }) (record { cpu = cpu'; sram = sram'; flash = flash'; devices = devices'; swap = swap' })
+same_mote cpu cpu' sram sram' flash flash' devices devices' swap swap' c s f d w =
+    ap (λ x. record { cpu = x; sram = sram; flash = flash; devices = devices; swap = swap }) c
+    ∙ ap (λ x. record { cpu = cpu'; sram = x; flash = flash; devices = devices; swap = swap }) s
+    ∙ ap (λ x. record { cpu = cpu'; sram = sram'; flash = x; devices = devices; swap = swap }) f
+    ∙ ap (λ x. record { cpu = cpu'; sram = sram'; flash = flash'; devices = x; swap = swap }) d
+    ∙ ap (λ x. record { cpu = cpu'; sram = sram'; flash = flash'; devices = devices'; swap = x }) w
 
 -- nothing was shown where there is no line, and else the line
 pub shown_nothing : (shown : Plain) → line_of shown ≡ None → shown ≡ Went
@@ -60,11 +61,11 @@ shown_line (Wrote line') line is = cc
 -- a step, from what the space answers to what the instruction asks
 pub after_answer : (m next : Mote) (shown : Plain) (form : Form) (answer : Answer) (space : Physical)
     → IsPlainStep m shown next → form_at m ≡ Some form → answer_of physical_calls (space_of m None) (ask_of form m.cpu) ≡ WentOn answer space
-    → (next ≡ record { cpu = finish_of form m.cpu (next_size m) answer; sram = space.sram; flash = m.flash; devices = space.devices }) × (line_of shown ≡ space.line)
+    → (next ≡ record { cpu = finish_of form m.cpu (next_size m) answer; sram = space.sram; flash = m.flash; devices = space.devices; swap = m.swap }) × (line_of shown ≡ space.line)
 after_answer m next shown form answer space step is answered =
     let went = sym step.executed ∙ stepped_is m form is ∙ ap Some (exec_went physical_calls form m.cpu (space_of m None) (next_size m) answer space answered) in
     let both = parts next.cpu (finish_of form m.cpu (next_size m) answer) (space_of next (line_of shown)) space went in (
-      same_mote next.cpu (finish_of form m.cpu (next_size m) answer) next.sram space.sram next.flash m.flash next.devices space.devices both.0 (ap (λ (s : Physical). s.sram) both.1) step.flash (ap (λ (s : Physical). s.devices) both.1),
+      same_mote next.cpu (finish_of form m.cpu (next_size m) answer) next.sram space.sram next.flash m.flash next.devices space.devices next.swap m.swap both.0 (ap (λ (s : Physical). s.sram) both.1) step.flash (ap (λ (s : Physical). s.devices) both.1) step.swap,
       ap (λ (s : Physical). s.line) both.1,
     )
 
@@ -78,7 +79,7 @@ same_line (Wrote line) (Wrote line') is = cc
 pub one_step : (m next next' : Mote) (shown shown' : Plain) → IsPlainStep m shown next → IsPlainStep m shown' next' → (next ≡ next') × (shown ≡ shown')
 one_step m next next' shown shown' step step' =
     let both = parts next.cpu next'.cpu (space_of next (line_of shown)) (space_of next' (line_of shown')) (sym step.executed ∙ step'.executed) in (
-      same_mote next.cpu next'.cpu next.sram next'.sram next.flash next'.flash next.devices next'.devices both.0 (ap (λ (s : Physical). s.sram) both.1) (step.flash ∙ sym step'.flash) (ap (λ (s : Physical). s.devices) both.1),
+      same_mote next.cpu next'.cpu next.sram next'.sram next.flash next'.flash next.devices next'.devices next.swap next'.swap both.0 (ap (λ (s : Physical). s.sram) both.1) (step.flash ∙ sym step'.flash) (ap (λ (s : Physical). s.devices) both.1) (step.swap ∙ sym step'.swap),
       same_line shown shown' (ap (λ (s : Physical). s.line) both.1),
     )
 
@@ -118,7 +119,7 @@ after_out m next shown field r port step is own ram can rule =
     let space = record (space_of m None) { devices = with_stored m.devices (io_address field) v; line = Some (record { port = port; value = v }) } in
     let after = after_answer m next shown (OutIo field r) Done space step is (out_answered (space_of m None) (io_address field) v port own ram can rule) in
     let cpu : stored_by_core m.cpu (io_address field) v ≡ m.cpu = ap (λ b. cond b (with_own_byte m.cpu (io_address field) v) m.cpu) own in (
-      after.0 ∙ ap (λ (c : Cpu). record { cpu = with_counter c (raised c.pc 1); sram = m.sram; flash = m.flash; devices = with_stored m.devices (io_address field) v }) cpu,
+      after.0 ∙ ap (λ (c : Cpu). record { cpu = with_counter c (raised c.pc 1); sram = m.sram; flash = m.flash; devices = with_stored m.devices (io_address field) v; swap = m.swap }) cpu,
       shown_line shown (record { port = port; value = v }) after.1,
     )
 

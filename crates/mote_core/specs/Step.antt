@@ -11,6 +11,7 @@ use Rattle.avr_exec.specs.Execution.{exec_of}
 use Rattle.flash_model.specs.Memory.{loaded}
 use Rattle.flash_model.specs.Pages.{word_at, page_count, many}
 use Rattle.sram_layout.specs.Boot.{at_boot}
+use Rattle.swap_store.specs.Slots.{zero_slots}
 use Rattle.mote_devices.specs.declared.line.Line.{Line}
 use Rattle.mote_devices.specs.State.{at_reset}
 use Rattle.mote_core.specs.declared.mote.Mote.{Mote}
@@ -41,10 +42,11 @@ space_of m line = record { sram = m.sram; devices = m.devices; words = m.flash.w
 unfoldable pub stepped : Mote → Option (Outcome Physical Cpu)
 stepped m = option_map (λ (form : Form). exec_of physical_calls form m.cpu (space_of m None) (next_size m)) (form_at m)
 
--- One plain step, with what it shows outside: the instruction doesn't stop, and it leaves flash.
+-- One plain step, with what it shows outside: the instruction doesn't stop, and it leaves flash and swap.
 pub record IsPlainStep (m : Mote) (shown : Plain) (next : Mote) : Type 0 where
   pub executed : stepped m ≡ Some (Went next.cpu (space_of next (line_of shown)))
   pub flash : next.flash ≡ m.flash
+  pub swap : next.swap ≡ m.swap
 
 -- where the kernel's own stack is empty
 abbrev pub kernel_stack_top : ℕ
@@ -54,10 +56,11 @@ kernel_stack_top = 0x011F
 abbrev pub cpu_at_reset : Cpu
 cpu_at_reset = record { r = many 32 0; sreg = 0; sp = kernel_stack_top; pc = 0 }
 
--- at reset flash holds the image and the kernel, and no page was erased
-pub record IsAtReset (image : List ℕ) (events : List Event) (m : Mote) : Type 0 where
+-- at reset flash holds the image and the kernel, no page was erased, and all slots of the swap are zero
+pub record IsAtReset (image : List ℕ) (events : List Event) (slots : ℕ) (m : Mote) : Type 0 where
   pub cpu : m.cpu ≡ cpu_at_reset
   pub sram : m.sram ≡ at_boot
   pub words : m.flash.words ≡ loaded image
   pub erases : m.flash.erases ≡ many page_count 0
   pub devices : m.devices ≡ at_reset events
+  pub swap : m.swap ≡ zero_slots slots

@@ -1,4 +1,4 @@
-//! The mote: a core, SRAM, flash and devices, and one AVR step over them.
+//! The mote: a core, SRAM, flash, devices and swap, and one AVR step over them.
 //!
 //! [`Mote::plain_step`] executes the instruction of flash at the pc over the physical data space: the
 //! devices' registers, and SRAM at its own addresses. Nothing is virtual here, and nothing is tested:
@@ -6,7 +6,7 @@
 //! never stops.
 //!
 //! ```rust
-//! let mut mote = Mote::new(rt.alloc(), image.words(), script)?;
+//! let mut mote = Mote::new(rt.alloc(), image.words(), script, 128)?;
 //! if let Plain::Wrote(line) = mote.plain_step() { .. } // an OUT to a port, say
 //! ```
 //!

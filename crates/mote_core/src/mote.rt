@@ -18,6 +18,7 @@ use input_script::Script;
 use mote_devices::{Devices, Line};
 use sram_layout::Sram;
 use std::alloc::Global;
+use swap_store::Swap;
 use tk_io::NoMemory;
 
 /// What a plain step shows outside.
@@ -37,19 +38,23 @@ pub struct Mote {
     pub sram: Sram,
     pub flash: Flash,
     pub devices: Devices,
+    /// The heap pages that are in no frame.
+    pub swap: Swap,
 }
 
 impl Mote {
     ghost use Rattle.std.specs.Prelude.{◌≡◌, ◌<◌, ◌≤◌, ◌^◌, true, length, IfOk};
+    ghost use Rattle.swap_store.specs.Slots.{most_slots};
     ghost use Rattle.mote_core.specs.Step.{IsAtReset, form_at, IsPlainStep};
     ghost use Rattle.mote_core.specs.Conditions.{can_step};
 
-    /// A mote at reset, with the image in flash and the kernel's memory as at boot. The stack pointer is
-    /// at the top of the kernel's own stack.
+    /// A mote at reset, with the image in flash, the kernel's memory as at boot, and this many swap slots.
+    /// The stack pointer is at the top of the kernel's own stack.
     #[tactic(auto, unfolding(flash_model::specs::Pages::many))]
-    pub fn new(alloc: Global, image: &[u16], script: Script) -> Result<Mote, NoMemory>
+    pub fn new(alloc: Global, image: &[u16], script: Script, slots: u8) -> Result<Mote, NoMemory>
         requires image { length image.now ≤ 16384 }
-        ensures reset { IfOk result (IsAtReset image.now script) }
+        requires slots { slots ≤ most_slots }
+        ensures reset { IfOk result (IsAtReset image.now script slots) }
     {
         Ok(Mote {
             cpu: Cpu {
@@ -61,6 +66,7 @@ impl Mote {
             sram: Sram::new(),
             flash: Flash::new(alloc, image)?,
             devices: Devices::new(script),
+            swap: Swap::new(alloc, slots)?,
         })
     }
 

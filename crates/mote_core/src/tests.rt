@@ -63,7 +63,7 @@ fn a_program_in_flash(rt: HostRuntime) -> Result<(), Fail> {
     let script = input_script::read(rt.alloc(), b"at 1 pina 0x77")
         .ok()
         .ok_or("the script is good")?;
-    let mut mote = Mote::new(rt.alloc(), &image, script)
+    let mut mote = Mote::new(rt.alloc(), &image, script, 0)
         .ok()
         .ok_or("memory is ample")?;
     let line = |port, value| Plain::Wrote(Line { port, value });

@@ -11,7 +11,7 @@
 //!
 //! Contracts see the devices as plain data (`specs/State`), and `read`, `write` and `modify` as
 //! functions of it (`specs/Accesses`). `specs/Registers` says what each register does, and
-//! `specs/Inputs` when an input takes effect. `proofs/Laws` has what the layers above need of them.
+//! `specs/Inputs` when an input takes effect. `proofs/AccessLaws` has what the layers above need of them.
 #![tactic(auto)]
 
 mod devices;

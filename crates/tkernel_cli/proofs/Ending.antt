@@ -96,10 +96,11 @@ pushed : (m : List ℕ) (sp ret : ℕ) → sp ≡ kernel_stack_top → length m 
 pushed m sp ret top size =
     subst (λ z. (256 * byte_at (with_return m z ret) (kernel_stack_top - 1) + byte_at (with_return m z ret) kernel_stack_top ≡ ret) × (length (with_return m z ret) ≡ byte_count)) (sym top) (pushed_at_top m ret size)
 
--- the call leaves registers and flash, and the address behind it lies on the stack
+-- the call leaves registers, flash and swap, and the address behind it lies on the stack
 record HasCalled (mote next : Mote) : Type 0 where
   registers : next.cpu.r ≡ mote.cpu.r
   flash : next.flash ≡ mote.flash
+  swap : next.swap ≡ mote.swap
   sram : length next.sram ≡ byte_count
   stack : 256 * byte_at next.sram (kernel_stack_top - 1) + byte_at next.sram kernel_stack_top ≡ raised mote.cpu.pc 2
 
@@ -112,6 +113,7 @@ has_called mote next shown target is top size step =
     record {
       registers = ap (λ (z : Mote). z.cpu.r) after.0;
       flash = ap (λ (z : Mote). z.flash) after.0;
+      swap = ap (λ (z : Mote). z.swap) after.0;
       sram = ap length sram ∙ bytes.1;
       stack = ap (λ z. 256 * byte_at z (kernel_stack_top - 1) + byte_at z kernel_stack_top) sram ∙ bytes.0;
     }
@@ -140,6 +142,7 @@ has_halted program lines m n built here done served =
         flash = ap (λ (z : Mote). z.flash.words) served.mote ∙ words ∙ here.flash;
         pages = served.pages ∙ here.pages;
         within = omega (arith, served.steps, here.within);
+        swap = ap (λ (z : Mote). z.swap) served.mote ∙ moved.swap ∙ here.swap;
         stack = record { top = ap (λ (z : Mote). z.cpu.sp) served.mote; sram = ap (λ (z : Mote). length z.sram) served.mote ∙ moved.sram };
         registers = registers ∙ before.registers ∙ ap (λ z. (original program z).state.registers) (sym served.steps);
         at = served.at ∙ before.at ∙ ap (λ z. (original program z).state.pc) (sym served.steps);

@@ -18,7 +18,7 @@ use Rattle.tkernel_cli.specs.declared.machine.Machine.{Machine}
 use Rattle.tkernel_cli.specs.Original.{State, Run, run, next_address, instruction_at, start, original}
 use Rattle.tkernel_cli.specs.Page.{code_page, code_place, first_pool_word, pool_page}
 use Rattle.tkernel_cli.specs.Program.{IsBuilt, is_straight}
-use Rattle.tkernel_cli.specs.Running.{HoldsPage, HasEmptyStack, IsReady, Follows, last_address}
+use Rattle.tkernel_cli.specs.Running.{HoldsPage, HasEmptyStack, HasEmptySwap, IsReady, Follows, last_address}
 use Rattle.tkernel_cli.proofs.PageWords.{code_word, page_in_flash}
 use Rattle.tkernel_cli.proofs.Straight.{IsStraight, Loads, Outs, straight_cases, straight_alike}
 use Rattle.tkernel_cli.proofs.Steps.{prepend, registers_after, lines_of, lines_after, state_after, straight_run, straight_can_step}
@@ -32,6 +32,7 @@ pub record IsAt (program : List ℕ) (lines : List Line) (m : Machine) : Type 0 
   pub flash : HoldsPage program m
   pub pc : m.mote.cpu.pc ≡ first_pool_word + (code_place program + m.steps)
   pub stack : HasEmptyStack m
+  pub swap : HasEmptySwap m
   pub polls : m.mote.devices.polls ≡ 0
   pub at : m.at ≡ m.steps
   pub ending : m.end ≡ None
@@ -47,6 +48,7 @@ ready_is_at program m ready = record {
   flash = ready.flash;
   pc = ready.pc ∙ omega arith;
   stack = ready.stack;
+  swap = ready.swap;
   polls = ready.polls;
   at = ready.at ∙ sym ready.steps;
   ending = ready.ending;
@@ -102,6 +104,7 @@ record HasMoved (mote : Mote) (shown : Plain) (next : Mote) (f : Option Form) : 
   stack : next.cpu.sp ≡ mote.cpu.sp
   sram : next.sram ≡ mote.sram
   flash : next.flash ≡ mote.flash
+  swap : next.swap ≡ mote.swap
   polls : next.devices.polls ≡ mote.devices.polls
   lines : lines_of shown ≡ lines_after mote.cpu.r f
 
@@ -114,6 +117,7 @@ has_moved mote shown next _ (Loads d k) is step =
       stack = ap (λ (z : Mote). z.cpu.sp) after.0;
       sram = ap (λ (z : Mote). z.sram) after.0;
       flash = ap (λ (z : Mote). z.flash) after.0;
+      swap = ap (λ (z : Mote). z.swap) after.0;
       polls = ap (λ (z : Mote). z.devices.polls) after.0;
       lines = ap lines_of after.1;
     }
@@ -125,6 +129,7 @@ has_moved mote shown next _ (Outs r) is step =
       stack = ap (λ (z : Mote). z.cpu.sp) after.0;
       sram = ap (λ (z : Mote). z.sram) after.0;
       flash = ap (λ (z : Mote). z.flash) after.0;
+      swap = ap (λ (z : Mote). z.swap) after.0;
       polls = ap (λ (z : Mote). z.devices.polls) after.0;
       lines = ap lines_of after.1;
     }
@@ -171,6 +176,7 @@ steps_on program lines m shown n built here below next =
       flash = ap (λ (z : Memory). z.words) moved.flash ∙ here.flash;
       pc = moved.pc ∙ omega (arith, here.pc, next.steps);
       stack = record { top = moved.stack ∙ here.stack.top; sram = ap length moved.sram ∙ here.stack.sram };
+      swap = moved.swap ∙ here.swap;
       polls = moved.polls ∙ here.polls;
       at = omega (arith, here.at, next.at, next.steps);
       ending = next.ending ∙ here.ending;
@@ -206,6 +212,7 @@ at_follows program lines m built here =
       pages = here.pages;
       within = here.within;
       stack = here.stack;
+      swap = here.swap;
       registers = ap (λ (z : State). z.registers) (sym state);
       at = here.at ∙ ap (λ (z : State). z.pc) (sym state);
       stage = inl (record { ending = here.ending; entries = here.entries; natural = here.natural });

@@ -4,6 +4,7 @@ use Rattle.flash_model.specs.Memory.{loaded}
 use Rattle.flash_model.specs.Pages.{many, set_page, word_at}
 use Rattle.avr_exec.specs.Registers.{with_stack}
 use Rattle.sram_layout.specs.Bytes.{byte_at, byte_count}
+use Rattle.swap_store.specs.Slots.{zero_slots}
 use Rattle.mote_core.specs.declared.mote.Mote.{Mote}
 use Rattle.mote_core.specs.declared.mote.Plain.{Plain}
 use Rattle.mote_core.specs.Step.{kernel_stack_top, IsPlainStep}
@@ -26,12 +27,20 @@ pub record HasEmptyStack (m : Machine) : Type 0 where
   pub top : m.mote.cpu.sp ≡ kernel_stack_top
   pub sram : length m.mote.sram ≡ byte_count
 
+-- the slots of swap where no other number is asked for: nothing was swapped out yet
+abbrev pub swap_slots : ℕ
+swap_slots = 128
+
+abbrev pub HasEmptySwap : Machine → Type 0
+HasEmptySwap m = m.mote.swap ≡ zero_slots swap_slots
+
 -- a machine that is about to run the program from its first entry
 pub record IsReady (program : List ℕ) (m : Machine) : Type 0 where
   pub flash : HoldsPage program m
   pub registers : m.mote.cpu.r ≡ many 32 0
   pub pc : m.mote.cpu.pc ≡ first_pool_word + code_place program
   pub stack : HasEmptyStack m
+  pub swap : HasEmptySwap m
   pub polls : m.mote.devices.polls ≡ 0
   pub at : m.at ≡ 0
   pub ending : m.end ≡ None
@@ -68,12 +77,13 @@ pub record HasHalted (program : List ℕ) (m : Machine) : Type 0 where
   pub natural : m.natural ≡ m.steps + 1
 
 -- The machine stands where the original program stands after as many steps; flash holds the image, the
--- kernel and the one code page.
+-- kernel and the one code page, and nothing was swapped out.
 pub record Follows (program : List ℕ) (m : Machine) : Type 0 where
   pub flash : HoldsPage program m
   pub pages : m.pages ≡ 1
   pub within : m.steps ≤ last_address program
   pub stack : HasEmptyStack m
+  pub swap : HasEmptySwap m
   pub registers : m.mote.cpu.r ≡ (original program m.steps).state.registers
   pub at : m.at ≡ (original program m.steps).state.pc
   pub stage : IsRunning program m ⊎ HasHalted program m

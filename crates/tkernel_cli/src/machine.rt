@@ -13,6 +13,9 @@ use tk_io::NoMemory;
 /// Where the kernel's own stack is empty.
 const STACK_TOP: u16 = 0x011F;
 
+/// How many pages of the heap can be swapped out.
+const SWAP_SLOTS: u8 = 128;
+
 /// Why a program stopped by itself, and where.
 #[derive(Clone, Copy, Debug, PartialEq, Eq)]
 pub enum Stop {
@@ -52,7 +55,7 @@ impl Machine {
         requires short { length program.now ≤ 62 }
         ensures ready { IfOk result (IsReady program.now) }
     {
-        let mut mote = Mote::new(alloc, program, script)?;
+        let mut mote = Mote::new(alloc, program, script, SWAP_SLOTS)?;
         mote.flash.program(POOL_PAGE, &code_page_of(program));
         mote.cpu.pc = 128 * POOL_PAGE + program.len() as u16 + 2;
         Ok(Machine {

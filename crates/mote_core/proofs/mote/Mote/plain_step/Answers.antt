@@ -43,5 +43,6 @@ returns c =
       step = record {
         executed = executed m c.unwrap-instr.result c.word-second.result c.words_of.result _ (sym (decoded m c.word.result c.word-second.result c.decode.result c.word.ensures.value c.word-second.ensures.value c.decode.ensures.value) ∙ c.unwrap-instr.ensures) c.word-second.ensures.value c.words_of.ensures.value c.execute.ensures.outcome;
         flash = refl;
+        swap = refl;
       };
     }

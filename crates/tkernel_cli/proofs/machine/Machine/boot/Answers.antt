@@ -20,6 +20,7 @@ returns c =
         registers = ap (λ (z : Cpu). z.r) c.in_ok-mote.ensures.reset.cpu;
         pc = omega arith;
         stack = record { top = ap (λ (z : Cpu). z.sp) c.in_ok-mote.ensures.reset.cpu; sram = ap length c.in_ok-mote.ensures.reset.sram ∙ length-at_boot };
+        swap = c.in_ok-mote.ensures.reset.swap;
         polls = ap (λ (z : State). z.polls) c.in_ok-mote.ensures.reset.devices;
         at = refl;
         ending = refl;

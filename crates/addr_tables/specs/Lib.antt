@@ -1,0 +1,2 @@
+-- What the kernel's tables of places may hold.
+pub mod Tables

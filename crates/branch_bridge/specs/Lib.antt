@@ -1,0 +1,2 @@
+-- What an arrival at an original address changes and answers.
+pub mod Arrivals

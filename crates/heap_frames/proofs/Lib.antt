@@ -1,0 +1,17 @@
+mod Tables
+mod Searches
+mod FrameLaws
+mod WriteLaws
+mod EntryLaws
+mod BackLaws
+mod HeapBytes
+mod ReplaceLaws
+mod PutLaws
+mod GivenLaws
+pub mod MemoryLaws
+mod SeatLaws
+pub mod LoadLaws
+pub mod StoreLaws
+pub mod SamePagingLaws
+pub mod BootLaws
+pub mod CountLaws

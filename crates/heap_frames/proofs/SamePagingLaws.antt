@@ -1,0 +1,162 @@
+-- Writes to SRAM elsewhere leave frames, slots and the heap's bytes. m and n are lists of SRAM's bytes, w the swap's pages.
+use Rattle.std.proofs.Common.{◌≡◌, ℕ, ◌+◌, ◌/◌, ◌%◌, ◌<◌, ◌≤◌, ◌⊎◌, List, length, arith, ap₂, ◌∙◌, sym, refl, inl, inr}
+use Rattle.std.specs.Prelude.{◌≢◌, Bool, true, Option, Some, None, if◌then◌else◌, slice_set}
+use Rattle.sram_layout.specs.Bytes.{byte_count, byte_at, with_byte, block_at, with_word}
+use Rattle.sram_layout.specs.Cells.{frame_cell, victim_cell, given_cell, slot_cell}
+use Rattle.sram_layout.proofs.Laws.{length-with_byte, length-with_word, byte_same, byte_other, byte_out_of_word, block_alike}
+use Rattle.heap_frames.specs.Frames.{frame_bytes, page_held, state_of, is_occupied, seats, frame_of, victim, given, slot_of, has_slot, pages}
+use Rattle.heap_frames.specs.Memory.{heap_byte, vmem}
+use Rattle.heap_frames.specs.Paged.{IsPaged}
+use Rattle.heap_frames.specs.SamePaging.{SamePaging}
+use Rattle.heap_frames.proofs.Tables.{table_same}
+use Rattle.heap_frames.proofs.FrameLaws.{clean_occupied, frame_holds, same_frame, same_holds, same_occupied}
+use Rattle.heap_frames.proofs.EntryLaws.{page_below, same_slot}
+use Rattle.heap_frames.proofs.HeapBytes.{byte_in_frame, byte_in_slot, slot_byte_same}
+use Rattle.heap_frames.proofs.MemoryLaws.{stack_from, stack_to, in_window, stack_byte, same_memory, one_byte}
+
+pub same_paging_refl : (m : List ℕ) → SamePaging m m
+same_paging_refl m = record { size = refl; cells = λ b from to. refl; tables = λ b from to. refl }
+
+pub same_paging_trans : (l m n : List ℕ) → SamePaging l m → SamePaging m n → SamePaging l n
+same_paging_trans l m n first second = record {
+  size = second.size ∙ first.size;
+  cells = λ b from to. second.cells b from to ∙ first.cells b from to;
+  tables = λ b from to. second.tables b from to ∙ first.tables b from to;
+}
+
+-- an address outside
+apart_cells : (a b : ℕ) → (a < 0x0120) ⊎ ((0x0141 < a) × (a < 0x0400)) ⊎ (0x0D00 ≤ a) → 0x0120 ≤ b → b ≤ 0x0141 → b ≢ a
+apart_cells a b (inl low) from to = λ same. omega arith
+apart_cells a b (inr (inl (above, below))) from to = λ same. omega arith
+apart_cells a b (inr (inr high)) from to = λ same. omega arith
+
+apart_tables : (a b : ℕ) → (a < 0x0120) ⊎ ((0x0141 < a) × (a < 0x0400)) ⊎ (0x0D00 ≤ a) → 0x0400 ≤ b → b ≤ 0x0CFF → b ≢ a
+apart_tables a b (inl low) from to = λ same. omega arith
+apart_tables a b (inr (inl (above, below))) from to = λ same. omega arith
+apart_tables a b (inr (inr high)) from to = λ same. omega arith
+
+-- a byte written outside
+pub same_paging_byte : (m : List ℕ) (a v : ℕ) → 0x0100 ≤ a → (a < 0x0120) ⊎ ((0x0141 < a) × (a < 0x0400)) ⊎ (0x0D00 ≤ a) → SamePaging m (with_byte m a v)
+same_paging_byte m a v from outside = record {
+  size = length-with_byte m a v;
+  cells = λ b low high. byte_other m a b v from (omega arith) (apart_cells a b outside low high);
+  tables = λ b low high. byte_other m a b v from (omega arith) (apart_tables a b outside low high);
+}
+
+one_more : (a : ℕ) → (a + 1 < 0x0120) ⊎ ((0x0141 < a) × (a + 1 < 0x0400)) ⊎ (0x0D00 ≤ a) → (a + 1 < 0x0120) ⊎ ((0x0141 < a + 1) × (a + 1 < 0x0400)) ⊎ (0x0D00 ≤ a + 1)
+one_more a (inl low) = inl low
+one_more a (inr (inl (above, below))) = inr (inl (omega arith, below))
+one_more a (inr (inr high)) = inr (inr (omega arith))
+
+one_less : (a : ℕ) → (a + 1 < 0x0120) ⊎ ((0x0141 < a) × (a + 1 < 0x0400)) ⊎ (0x0D00 ≤ a) → (a < 0x0120) ⊎ ((0x0141 < a) × (a < 0x0400)) ⊎ (0x0D00 ≤ a)
+one_less a (inl low) = inl (omega arith)
+one_less a (inr (inl (above, below))) = inr (inl (above, omega arith))
+one_less a (inr (inr high)) = inr (inr high)
+
+-- a word written outside
+pub same_paging_word : (m : List ℕ) (a w : ℕ) → 0x0100 ≤ a → (a + 1 < 0x0120) ⊎ ((0x0141 < a) × (a + 1 < 0x0400)) ⊎ (0x0D00 ≤ a) → SamePaging m (with_word m a w)
+same_paging_word m a w from outside = record {
+  size = length-with_word m a w;
+  cells = λ b low high. byte_out_of_word m a b w from (omega arith) (apart_cells a b (one_less a outside) low high) (apart_cells (a + 1) b (one_more a outside) low high);
+  tables = λ b low high. byte_out_of_word m a b w from (omega arith) (apart_tables a b (one_less a outside) low high) (apart_tables (a + 1) b (one_more a outside) low high);
+}
+
+pub victim_same : (m n : List ℕ) → SamePaging m n → victim n ≡ victim m
+victim_same m n same = same.cells victim_cell (omega arith) (omega arith)
+
+pub given_same : (m n : List ℕ) → SamePaging m n → given n ≡ given m
+given_same m n same = same.cells given_cell (omega arith) (omega arith)
+
+pub slot_same : (m n : List ℕ) (page : ℕ) → SamePaging m n → page < 256 → slot_of n page ≡ slot_of m page
+slot_same m n page same below = same.tables (slot_cell page) (omega arith) (omega arith)
+
+has_same : (m n : List ℕ) (page : ℕ) → SamePaging m n → page < 256 → has_slot n page ≡ has_slot m page
+has_same m n page same below = same_slot m n page (slot_same m n page same below)
+
+held_same : (m n : List ℕ) (i : ℕ) → SamePaging m n → i < 8 → page_held n i ≡ page_held m i
+held_same m n i same inside = same.cells (frame_cell i) (omega arith) (omega arith)
+
+state_same : (m n : List ℕ) (i : ℕ) → SamePaging m n → i < 8 → state_of n i ≡ state_of m i
+state_same m n i same inside = same.cells (frame_cell i + 1) (omega arith) (omega arith)
+
+occupied_same : (m n : List ℕ) (i : ℕ) → SamePaging m n → i < 8 → is_occupied n i ≡ is_occupied m i
+occupied_same m n i same inside = same_occupied m n i (state_same m n i same inside)
+
+block_same : (m n : List ℕ) (i : ℕ) → SamePaging m n → i < 8 → block_at n (frame_bytes i) ≡ block_at m (frame_bytes i)
+block_same m n i same inside = block_alike n m (frame_bytes i) (omega arith) same.size (λ b from to. same.tables b (omega arith) (omega arith))
+
+pub pages_same : (m n : List ℕ) → SamePaging m n → pages n ≡ pages m
+unfolding pages
+pages_same m n same = table_same 256 (has_slot n) (has_slot m) (λ page below. has_same m n page same below)
+
+pub seats_same : (m n : List ℕ) → SamePaging m n → seats n ≡ seats m
+unfolding seats
+seats_same m n same = table_same 8 (λ i. if is_occupied n i then Some (page_held n i) else None) (λ i. if is_occupied m i then Some (page_held m i) else None) (λ i inside.
+    ap₂ (λ (occupied : Bool) (held : ℕ). if occupied then Some held else None) (occupied_same m n i same inside) (held_same m n i same inside))
+
+pub frame_of_same : (m n : List ℕ) (page : ℕ) → SamePaging m n → frame_of n page ≡ frame_of m page
+frame_of_same m n page same = same_frame m n page (λ i inside. same_holds m n page i (held_same m n i same inside) (state_same m n i same inside))
+
+pub paged_same : (m n : List ℕ) (w : List (List ℕ)) → SamePaging m n → IsPaged m w → IsPaged n w
+paged_same m n w same paged =
+    let was = λ (i : ℕ) (inside : i < 8) (occupied : is_occupied n i ≡ true). let before : is_occupied m i ≡ true = sym (occupied_same m n i same inside) ∙ occupied in before in
+    let low = λ (i : ℕ) (inside : i < 8) (occupied : is_occupied m i ≡ true). page_below (page_held m i) (paged.held i inside occupied) in
+    record {
+      sized = record { sram = same.size ∙ paged.sized.sram; swap = paged.sized.swap };
+      slots = λ page below has. rw (slot_same m n page same below, given_same m n same) (paged.slots page below (sym (has_same m n page same below) ∙ has));
+      each = λ slot below.
+          let there = paged.each slot (rw (given_same m n same) at below) in
+          (there.0, there.1, slot_same m n there.0 same there.1 ∙ there.2);
+      once = λ page other below below' has equal.
+          paged.once page other below below' (sym (has_same m n page same below) ∙ has) (sym (slot_same m n page same below) ∙ equal ∙ slot_same m n other same below');
+      heap = λ page below has. paged.heap page below (sym (has_same m n page same below) ∙ has);
+      room = rw (given_same m n same) paged.room;
+      states = λ i inside. rw (state_same m n i same inside) (paged.states i inside);
+      next = rw (victim_same m n same) paged.next;
+      held = λ i inside occupied. rw (held_same m n i same inside) (paged.held i inside (was i inside occupied));
+      backed = λ i inside occupied.
+          let before = was i inside occupied in
+          rw (held_same m n i same inside, has_same m n (page_held m i) same (low i inside before)) (paged.backed i inside before);
+      different = λ i j inside inside' occupied occupied' equal.
+          paged.different i j inside inside' (was i inside occupied) (was j inside' occupied') (sym (held_same m n i same inside) ∙ equal ∙ held_same m n j same inside');
+      equal = λ i inside is_clean.
+          let occupied : is_occupied m i ≡ true = clean_occupied m i (sym (state_same m n i same inside) ∙ is_clean) in
+          rw (held_same m n i same inside, slot_same m n (page_held m i) same (low i inside occupied), block_same m n i same inside) (paged.equal i inside (sym (state_same m n i same inside) ∙ is_clean));
+    }
+
+byte_by : (m n : List ℕ) (w : List (List ℕ)) (page offset : ℕ) (found : Option ℕ) → frame_of m page ≡ found → SamePaging m n → page < 256 → offset < 256 → heap_byte n w page offset ≡ heap_byte m w page offset
+byte_by m n w page offset None is same below inside =
+    byte_in_slot n w page offset (frame_of_same m n page same ∙ is) ∙ slot_byte_same m n w w page offset (slot_same m n page same below) refl ∙ sym (byte_in_slot m w page offset is)
+byte_by m n w page offset (Some i) is same below inside =
+    let there = frame_holds m page i is in
+    byte_in_frame n w page offset i (frame_of_same m n page same ∙ is)
+    ∙ same.tables (frame_bytes i + offset) (omega arith) (omega (arith, there.inside))
+    ∙ sym (byte_in_frame m w page offset i is)
+
+pub heap_byte_same : (m n : List ℕ) (w : List (List ℕ)) (page offset : ℕ) → SamePaging m n → page < 256 → offset < 256 → heap_byte n w page offset ≡ heap_byte m w page offset
+heap_byte_same m n w page offset same below inside = byte_by m n w page offset (frame_of m page) refl same below inside
+
+-- the whole memory, where the stack window stays too
+pub vmem_same : (m n : List ℕ) (w : List (List ℕ)) → SamePaging m n → ((a : ℕ) → 0x0D00 ≤ a → a ≤ 0x10FF → byte_at n a ≡ byte_at m a) → vmem n w ≡ vmem m w
+vmem_same m n w same window = same_memory {m = m} {n = n} {w = w} {w' = w} (record {
+  window = λ a stack always. window a (stack_from a stack) (stack_to a stack);
+  heap = λ a below in_heap always. heap_byte_same m n w (a / 256) (a % 256) same (omega arith) (omega arith);
+})
+
+-- a byte of the kernel's other cells and tables is no byte of the memory
+pub vmem_cell : (m : List ℕ) (w : List (List ℕ)) (a v : ℕ) → 0x0100 ≤ a → (a < 0x0120) ⊎ ((0x0141 < a) × (a < 0x0400)) → vmem (with_byte m a v) w ≡ vmem m w
+vmem_cell m w a v from (inl low) = vmem_same m (with_byte m a v) w (same_paging_byte m a v from (inl low)) (λ b above to. byte_other m a b v from (omega arith) (λ same. omega arith))
+vmem_cell m w a v from (inr (above, below)) = vmem_same m (with_byte m a v) w (same_paging_byte m a v from (inr (inl (above, below)))) (λ b low to. byte_other m a b v from (omega arith) (λ same. omega arith))
+
+pub vmem_word_cell : (m : List ℕ) (w : List (List ℕ)) (a v : ℕ) → 0x0100 ≤ a → (a + 1 < 0x0120) ⊎ ((0x0141 < a) × (a + 1 < 0x0400)) → vmem (with_word m a v) w ≡ vmem m w
+vmem_word_cell m w a v from (inl low) = vmem_same m (with_word m a v) w (same_paging_word m a v from (inl low)) (λ b above to. byte_out_of_word m a b v from (omega arith) (λ same. omega arith) (λ same. omega arith))
+vmem_word_cell m w a v from (inr (above, below)) = vmem_same m (with_word m a v) w (same_paging_word m a v from (inr (inl (above, below)))) (λ b low to. byte_out_of_word m a b v from (omega arith) (λ same. omega arith) (λ same. omega arith))
+
+-- a byte of the stack window is the memory's byte at the same address
+pub vmem_window : (m : List ℕ) (w : List (List ℕ)) (a v : ℕ) → length m ≡ byte_count → 0x0D00 ≤ a → a ≤ 0x10FF → vmem (with_byte m a v) w ≡ slice_set (vmem m w) a v
+vmem_window m w a v size from to =
+    let n = with_byte m a v in
+    one_byte {m = m} {n = n} {w = w} {w' = w} a v (record {
+      window = λ b stack apart. byte_other m a b v (omega arith) (omega (arith, stack_from b stack)) apart;
+      heap = λ b below in_heap apart. heap_byte_same m n w (b / 256) (b % 256) (same_paging_byte m a v (omega arith) (inr (inr from))) (omega arith) (omega arith);
+    }) (omega arith) (stack_byte n w a (in_window a from to) ∙ byte_same m a v (omega arith) (omega arith))

@@ -1,0 +1,7 @@
+pub mod Addresses
+pub mod Frames
+pub mod Memory
+pub mod Paged
+pub mod Paging
+pub mod Changes
+pub mod SamePaging

@@ -1,0 +1,76 @@
+//! One byte of the heap.
+
+ghost use Rattle.std.specs.Prelude.{◌≡◌, ◌/◌, ◌%◌, ◌<◌, ◌↔◌, true, IfErr, IsErr, OnOk, OnErr};
+ghost use Rattle.heap_frames.specs.Addresses.{is_heap};
+ghost use Rattle.heap_frames.specs.Paged.{IsPaged};
+ghost use Rattle.heap_frames.specs.Paging.{store_of, heap_load, heap_store, told, with_byte_in_frame};
+ghost use Rattle.heap_frames.specs.Changes.{Loaded, Stored, IsFull};
+
+use crate::frames::{self, DIRTY};
+use sram_layout::Sram;
+use swap_store::Swap;
+
+/// What the swap map has for a page without a slot.
+const NO_SLOT: u8 = 0xFF;
+
+/// A page was stored to for the first time, and every slot was given.
+#[derive(Clone, Copy, Debug, PartialEq, Eq)]
+pub struct SwapFull {
+    /// The address of the store.
+    pub address: u16,
+}
+
+/// Loads the byte at a heap address.
+#[tactic(auto, unfolding(crate::specs::Paging::heap_load))]
+pub fn load(sram: &mut Sram, swap: &mut Swap, a: u16) -> u8
+    requires heap { is_heap a ≡ true }
+    requires paged { IsPaged sram.old swap.old }
+    ensures effect { (result, store_of sram.new swap.new) ≡ heap_load (store_of sram.old swap.old) a }
+    // The byte is the memory's, and the memory stays.
+    ensures loaded { Loaded (store_of sram.old swap.old) a result (store_of sram.new swap.new) }
+    ensures paged { IsPaged sram.new swap.new }
+{
+    let page = (a / 256) as u8;
+    if sram.slot(page) == NO_SLOT {
+        return 0;
+    }
+    let frame = frames::seat(sram, swap, page);
+    sram.byte(frames::frame_address(frame) + a % 256)
+}
+
+/// Stores a byte at a heap address. Where it answers `SwapFull`, nothing has changed.
+#[tactic(auto, unfolding(crate::specs::Paging::heap_store))]
+pub fn store(sram: &mut Sram, swap: &mut Swap, a: u16, v: u8) -> Result<(), SwapFull>
+    requires heap { is_heap a ≡ true }
+    requires paged { IsPaged sram.old swap.old }
+    ensures effect { told result (store_of sram.new swap.new) ≡ heap_store (store_of sram.old swap.old) a v }
+    // The memory changes at the address alone.
+    ensures stored { OnOk result (Stored (store_of sram.old swap.old) a v (store_of sram.new swap.new)) }
+    ensures full { IsErr result ↔ IsFull sram.old swap.old (a / 256) }
+    ensures refused { OnErr result ((sram.new ≡ sram.old) × (swap.new ≡ swap.old)) }
+    ensures address { IfErr result (λ full. full.address ≡ a) }
+    ensures paged { IsPaged sram.new swap.new }
+{
+    let page = (a / 256) as u8;
+    if sram.slot(page) != NO_SLOT {
+        let frame = frames::seat(sram, swap, page);
+        put_byte(sram, frame, a, v);
+        Ok(())
+    } else if sram.given() < swap.slots() {
+        let frame = frames::begin(sram, swap, page);
+        put_byte(sram, frame, a, v);
+        Ok(())
+    } else {
+        Err(SwapFull { address: a })
+    }
+}
+
+/// Writes a byte of the page that the frame holds, which is then dirty.
+#[tactic(auto, unfolding(crate::specs::Paging::with_byte_in_frame))]
+fn put_byte(sram: &mut Sram, frame: u8, a: u16, v: u8)
+    requires { frame < 8 }
+    ensures after { sram.new ≡ with_byte_in_frame sram.old frame (a / 256) (a % 256) v }
+{
+    sram.set(frames::frame_address(frame) + a % 256, v);
+    sram.set_frame(frame, (a / 256) as u8, DIRTY);
+}

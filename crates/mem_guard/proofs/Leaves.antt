@@ -1,0 +1,209 @@
+-- What the guarded space's answers leave.
+use Rattle.std.proofs.Common.{◌≡◌, ℕ, ◌+◌, ◌/◌, ◌%◌, ◌≤◌, Bool, true, false, cond, length, slice_index, refl, ◌∙◌, subst, arith}
+use Rattle.std.specs.Prelude.{Option, Some, None}
+use Rattle.avr_isa.specs.declared.form.Form.{Form}
+use Rattle.avr_isa.specs.IoTable.{can_write}
+use Rattle.avr_exec.specs.declared.cpu.Cpu.{Cpu}
+use Rattle.avr_exec.specs.declared.ask.Ask.{Ask}
+use Rattle.avr_exec.specs.declared.ask.Ask.TheVariants.{Nothing, Load as LoadAsk, Store as StoreAsk, Modify, PushByte, PopByte, PushReturn, PopReturn, Program, ExtendedProgram, ExtendedProgramRaising}
+use Rattle.avr_exec.specs.declared.stop.BusStop.TheVariants.{Stack as StackStop}
+use Rattle.avr_exec.specs.Registers.{raised, lowered}
+use Rattle.avr_exec.specs.Spaces.{Outcome, Went, Stopped}
+use Rattle.avr_exec.specs.Asks.{ask_of}
+use Rattle.avr_exec.specs.Execution.{answered_by, answer_of, exec_of}
+use Rattle.avr_exec.specs.Likeness.{Leaves}
+use Rattle.avr_exec.proofs.OneAnswer.{exec_leaves}
+use Rattle.sram_layout.specs.Bytes.{byte_at, with_byte}
+use Rattle.sram_layout.proofs.Laws.{byte_other}
+use Rattle.heap_frames.specs.Addresses.{is_stack, is_heap}
+use Rattle.heap_frames.specs.Changes.{LeavesOthers, Loaded, Stored}
+use Rattle.heap_frames.specs.Memory.{vmem}
+use Rattle.heap_frames.specs.Paged.{IsPaged}
+use Rattle.heap_frames.specs.Paging.{Store, heap_load, heap_store}
+use Rattle.heap_frames.proofs.MemoryLaws.{stack_from}
+use Rattle.heap_frames.proofs.LoadLaws.{load_leaves}
+use Rattle.heap_frames.proofs.SamePagingLaws.{same_paging_refl, same_paging_trans}
+use Rattle.mote_devices.specs.declared.line.Line.{Line}
+use Rattle.mote_devices.specs.Registers.{register_at}
+use Rattle.mote_devices.specs.State.{State}
+use Rattle.mote_devices.specs.Accesses.{Asked, Gave, Refused, read, write, modify as modify_device, line_of, after_write}
+use Rattle.mote_devices.proofs.AccessLaws.{Afterwards, polls_after_read, polls_after_write, polls_after_modify}
+use Rattle.mem_guard.specs.declared.address.AddrClass.{AddrClass}
+use Rattle.mem_guard.specs.declared.address.AddrClass.TheVariants.{Stack, Heap}
+use Rattle.mem_guard.specs.Classes.{class_of}
+use Rattle.mem_guard.specs.Guarded.{Guarded, heap_of, with_heap, with_sram, from_device, to_device, from_heap, to_heap, load_in, store_in, load, store, modify, push, pop, push_return, pop_return, guarded_calls}
+use Rattle.mem_guard.specs.Left.{IsKept, KeepsHeap, AfterLoad, AfterStore, HeapAfter}
+use Rattle.mem_guard.proofs.ClassLaws.{class_stack, class_heap}
+use Rattle.mem_guard.proofs.HeapLaws.{stack_paging, stack_paged, stored_some}
+
+-- nothing changed
+pub kept_same : (g : Guarded) → IsPaged g.sram g.swap → IsKept g g
+kept_same g paged = record { paged = paged; cells = λ b from to. refl; tables = λ b from to. refl; slots = refl; words = refl; image = refl; polls = omega arith }
+
+keeps_heap : (g : Guarded) → KeepsHeap g g
+keeps_heap g = record { frames = same_paging_refl g.sram; swap = refl }
+
+-- the devices alone changed, with one poll at most
+with_devices : (g : Guarded) (next : State) (line : Option Line) → IsPaged g.sram g.swap → next.polls ≤ g.devices.polls + 1 → IsKept g (record g { devices = next; line = line })
+with_devices g next line paged few = record { paged = paged; cells = λ b from to. refl; tables = λ b from to. refl; slots = refl; words = refl; image = refl; polls = few }
+
+keeps_heap_devices : (g : Guarded) (next : State) (line : Option Line) → KeepsHeap g (record g { devices = next; line = line })
+keeps_heap_devices g next line = record { frames = same_paging_refl g.sram; swap = refl }
+
+device_reads : (g : Guarded) (a : ℕ) (asked : Asked ℕ) → IsPaged g.sram g.swap → Afterwards (λ next. next.polls ≤ g.devices.polls + 1) asked → Leaves (λ next. IsKept g next × KeepsHeap g next) (from_device g a asked)
+device_reads g a (Gave v next) paged few = (with_devices g next g.line paged few, keeps_heap_devices g next g.line)
+device_reads g a Refused paged few = tt
+
+device_writes : (g : Guarded) (a : ℕ) (asked : Asked (Option Line)) → IsPaged g.sram g.swap → Afterwards (λ next. next.polls ≤ g.devices.polls + 1) asked → Leaves (λ next. IsKept g next × KeepsHeap g next) (to_device g a asked)
+device_writes g a (Gave line next) paged few = (with_devices g next line paged few, keeps_heap_devices g next line)
+device_writes g a Refused paged few = tt
+
+-- a write makes no poll
+write_polls : (s : State) (a v : ℕ) → Afterwards (λ next. next.polls ≤ s.polls + 1) (write s a v)
+unfolding write
+write_polls s a v = elim (can_write a) as (λ b. Afterwards (λ next. next.polls ≤ s.polls + 1) (cond b (Gave (line_of (register_at a) v) (after_write (register_at a) s a v)) Refused)) [
+  | true ↦ omega (arith, polls_after_write (register_at a) s a v)
+  | false ↦ tt
+]
+
+stack_kept : (g : Guarded) (a v : ℕ) → IsPaged g.sram g.swap → is_stack a ≡ true → IsKept g (with_sram g a v)
+stack_kept g a v paged stack = record {
+  paged = stack_paged g.sram g.swap a v paged stack;
+  cells = λ b from to. let above = stack_from a stack in byte_other g.sram a b v (omega arith) (omega arith) (λ same. omega arith);
+  tables = λ b from to. let above = stack_from a stack in byte_other g.sram a b v (omega arith) (omega arith) (λ same. omega arith);
+  slots = refl;
+  words = refl;
+  image = refl;
+  polls = omega arith;
+}
+
+stack_keeps_heap : (g : Guarded) (a v : ℕ) → is_stack a ≡ true → KeepsHeap g (with_sram g a v)
+stack_keeps_heap g a v stack = record { frames = stack_paging g.sram a v stack; swap = refl }
+
+-- one after another
+pub kept_twice : (f g h : Guarded) → IsKept f g → IsKept g h → h.devices.polls ≤ f.devices.polls + 1 → IsKept f h
+kept_twice f g h first second few = record {
+  paged = second.paged;
+  cells = λ b from to. second.cells b from to ∙ first.cells b from to;
+  tables = λ b from to. second.tables b from to ∙ first.tables b from to;
+  slots = second.slots ∙ first.slots;
+  words = second.words ∙ first.words;
+  image = second.image ∙ first.image;
+  polls = few;
+}
+
+-- the heap moved pages
+heap_kept : (g : Guarded) (h : Store) → IsPaged h.sram h.swap → LeavesOthers g.sram h.sram → length h.swap ≡ length g.swap → IsKept g (with_heap g h)
+heap_kept g h paged others count = record {
+  paged = paged;
+  cells = λ b from to. others.cells b from to;
+  tables = λ b from to. others.tables b from to;
+  slots = count;
+  words = refl;
+  image = refl;
+  polls = omega arith;
+}
+
+-- a load
+heap_loads : (g : Guarded) (a : ℕ) → IsPaged g.sram g.swap → is_heap a ≡ true
+    → Leaves (λ next. IsKept g next × Loaded (heap_of g) a (slice_index (vmem g.sram g.swap) a) (heap_of next)) (from_heap g (heap_load (heap_of g) a))
+heap_loads g a paged heap =
+    let done = load_leaves (heap_of g) a heap paged in
+    (heap_kept g (heap_load (heap_of g) a).1 done.paged done.others done.count, subst (λ v. Loaded (heap_of g) a v (heap_load (heap_of g) a).1) done.value done)
+
+loads : (k : AddrClass) (g : Guarded) (a : ℕ) → class_of a ≡ k → IsPaged g.sram g.swap → Leaves (λ next. IsKept g next × AfterLoad k g a next) (load_in k g a)
+loads Stack g a is paged = (kept_same g paged, keeps_heap g)
+loads Heap g a is paged = heap_loads g a paged (class_heap a is)
+loads _ g a is paged = device_reads g a (read g.devices a) paged (polls_after_read g.devices a)
+
+pub load_leaves_kept : (g : Guarded) (a : ℕ) → IsPaged g.sram g.swap → Leaves (λ next. IsKept g next × HeapAfter g (LoadAsk a) next) (load g a)
+unfolding load
+load_leaves_kept g a paged = loads (class_of a) g a refl paged
+
+-- a store
+heap_stores : (g : Guarded) (a v : ℕ) (stored : Option Store) → heap_store (heap_of g) a v ≡ stored → is_heap a ≡ true → IsPaged g.sram g.swap
+    → Leaves (λ next. IsKept g next × Stored (heap_of g) a v (heap_of next)) (to_heap g a stored)
+heap_stores g a v (Some h) is heap paged =
+    let done = (stored_some (heap_of g) a v h paged heap is).0 in
+    (heap_kept g h done.paged done.others done.count, done)
+heap_stores g a v None is heap paged = tt
+
+stores : (k : AddrClass) (g : Guarded) (a v : ℕ) → class_of a ≡ k → IsPaged g.sram g.swap → Leaves (λ next. IsKept g next × AfterStore k g a v next) (store_in k g a v)
+stores Stack g a v is paged = (stack_kept g a v paged (class_stack a is), stack_keeps_heap g a v (class_stack a is))
+stores Heap g a v is paged = heap_stores g a v (heap_store (heap_of g) a v) refl (class_heap a is) paged
+stores _ g a v is paged = device_writes g a (write g.devices a v) paged (write_polls g.devices a v)
+
+pub store_leaves_kept : (g : Guarded) (a v : ℕ) → IsPaged g.sram g.swap → Leaves (λ next. IsKept g next × HeapAfter g (StoreAsk a v) next) (store g a v)
+unfolding store
+store_leaves_kept g a v paged = stores (class_of a) g a v refl paged
+
+pub modify_leaves_kept : (g : Guarded) (a clear set : ℕ) → IsPaged g.sram g.swap → Leaves (λ next. IsKept g next × KeepsHeap g next) (modify g a clear set)
+unfolding modify
+modify_leaves_kept g a clear set paged = device_writes g a (modify_device g.devices a clear set) paged (polls_after_modify g.devices a clear set)
+
+-- the stack
+pushes : (b : Bool) (g : Guarded) (sp v : ℕ) → is_stack sp ≡ b → IsPaged g.sram g.swap
+    → Leaves {A = Unit {0}} (λ next. IsKept g next × KeepsHeap g next) (cond b (Went tt (with_sram g sp v)) (Stopped (StackStop sp)))
+pushes true g sp v is paged = (stack_kept g sp v paged is, stack_keeps_heap g sp v is)
+pushes false g sp v is paged = tt
+
+pub push_leaves_kept : (g : Guarded) (sp v : ℕ) → IsPaged g.sram g.swap → Leaves (λ next. IsKept g next × KeepsHeap g next) (push g sp v)
+unfolding push
+push_leaves_kept g sp v paged = pushes (is_stack sp) g sp v refl paged
+
+pops : (b : Bool) (g : Guarded) (a v : ℕ) → IsPaged g.sram g.swap → Leaves (λ next. IsKept g next × KeepsHeap g next) (cond b (Went v g) (Stopped (StackStop a)))
+pops true g a v paged = (kept_same g paged, keeps_heap g)
+pops false g a v paged = tt
+
+pub pop_leaves_kept : (g : Guarded) (sp : ℕ) → IsPaged g.sram g.swap → Leaves (λ next. IsKept g next × KeepsHeap g next) (pop g sp)
+unfolding pop
+pop_leaves_kept g sp paged = pops (is_stack (raised sp 1)) g (raised sp 1) (byte_at g.sram (raised sp 1)) paged
+
+two_pushes : (b c : Bool) (g : Guarded) (a below low high : ℕ) → is_stack a ≡ b → is_stack below ≡ c → IsPaged g.sram g.swap
+    → Leaves {A = Unit {0}} (λ next. IsKept g next × KeepsHeap g next) (cond b (cond c (Went tt (with_sram (with_sram g a low) below high)) (Stopped (StackStop below))) (Stopped (StackStop a)))
+two_pushes true true g a below low high is is' paged =
+    let first = stack_kept g a low paged is in
+    let middle = with_sram g a low in (
+      kept_twice g middle (with_sram middle below high) first (stack_kept middle below high first.paged is') (omega arith),
+      record { frames = same_paging_trans g.sram middle.sram (with_byte middle.sram below high) (stack_paging g.sram a low is) (stack_paging middle.sram below high is'); swap = refl },
+    )
+two_pushes true false g a below low high is is' paged = tt
+two_pushes false c g a below low high is is' paged = tt
+
+pub push_return_leaves_kept : (g : Guarded) (sp ret : ℕ) → IsPaged g.sram g.swap → Leaves (λ next. IsKept g next × KeepsHeap g next) (push_return g sp ret)
+unfolding push_return
+push_return_leaves_kept g sp ret paged = two_pushes (is_stack sp) (is_stack (lowered sp 1)) g sp (lowered sp 1) (ret % 256) (ret / 256) refl refl paged
+
+two_pops : (b c : Bool) (g : Guarded) (high low v : ℕ) → IsPaged g.sram g.swap
+    → Leaves (λ next. IsKept g next × KeepsHeap g next) (cond b (cond c (Went v g) (Stopped (StackStop low))) (Stopped (StackStop high)))
+two_pops true true g high low v paged = (kept_same g paged, keeps_heap g)
+two_pops true false g high low v paged = tt
+two_pops false c g high low v paged = tt
+
+pub pop_return_leaves_kept : (g : Guarded) (sp : ℕ) → IsPaged g.sram g.swap → Leaves (λ next. IsKept g next × KeepsHeap g next) (pop_return g sp)
+unfolding pop_return
+pop_return_leaves_kept g sp paged = two_pops (is_stack (raised sp 1)) (is_stack (raised sp 2)) g (raised sp 1) (raised sp 2) _ paged
+
+-- the same told in other words
+answered_left : {A B : Type 0} (P : Guarded → Type 0) (f : A → B) (o : Outcome Guarded A) → Leaves P o → Leaves P (answered_by f o)
+answered_left P f (Went answer next) left = left
+answered_left P f (Stopped stop) left = tt
+
+-- whatever is asked, the answer leaves the mote's parts so
+pub answers_leave : (g : Guarded) (ask : Ask) → IsPaged g.sram g.swap → Leaves (λ next. IsKept g next × HeapAfter g ask next) (answer_of guarded_calls g ask)
+unfolding answer_of
+answers_leave g Nothing paged = (kept_same g paged, keeps_heap g)
+answers_leave g (LoadAsk a) paged = answered_left _ _ (load g a) (load_leaves_kept g a paged)
+answers_leave g (StoreAsk a v) paged = answered_left _ _ (store g a v) (store_leaves_kept g a v paged)
+answers_leave g (Modify a clear set) paged = answered_left _ _ (modify g a clear set) (modify_leaves_kept g a clear set paged)
+answers_leave g (PushByte sp v) paged = answered_left _ _ (push g sp v) (push_leaves_kept g sp v paged)
+answers_leave g (PopByte sp) paged = answered_left _ _ (pop g sp) (pop_leaves_kept g sp paged)
+answers_leave g (PushReturn sp ret) paged = answered_left _ _ (push_return g sp ret) (push_return_leaves_kept g sp ret paged)
+answers_leave g (PopReturn sp) paged = answered_left _ _ (pop_return g sp) (pop_return_leaves_kept g sp paged)
+answers_leave g (Program z) paged = (kept_same g paged, keeps_heap g)
+answers_leave g (ExtendedProgram z) paged = (kept_same g paged, keeps_heap g)
+answers_leave g (ExtendedProgramRaising z) paged = (with_devices g _ g.line paged (omega arith), keeps_heap_devices g _ g.line)
+
+-- and so does an instruction that is executed
+pub executed_leaves : (form : Form) (cpu : Cpu) (g : Guarded) (n : ℕ) → IsPaged g.sram g.swap → Leaves (λ next. IsKept g next × HeapAfter g (ask_of form cpu) next) (exec_of guarded_calls form cpu g n)
+executed_leaves form cpu g n paged = exec_leaves (λ next. IsKept g next × HeapAfter g (ask_of form cpu) next) guarded_calls form cpu g n (answers_leave g (ask_of form cpu) paged)

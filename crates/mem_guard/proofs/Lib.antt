@@ -1,0 +1,13 @@
+-- Lemmas on the flat machine and the guarded space.
+mod WorkedRows
+mod WorkedPrograms
+pub mod MachineLaws
+pub mod RunLaws
+mod ImageLaws
+mod ClassLaws
+mod HeapLaws
+pub mod Alike
+pub mod Leaves
+pub mod FlatCalls
+pub mod GuardedStep
+pub mod AtReset

@@ -1,0 +1,139 @@
+-- The guarded space: the program's memory over the mote's own parts. The stack window is SRAM at the same
+-- addresses, and the heap is kept in frames and swap slots (crate heap_frames).
+use Rattle.std.specs.Prelude.{ℕ, ◌/◌, ◌%◌, ◌+◌, ◌*◌, if◌then◌else◌, List, take, length, Option, Some, None}
+use Rattle.avr_isa.specs.Image.{byte}
+use Rattle.avr_exec.specs.declared.cpu.Cpu.{Cpu}
+use Rattle.avr_exec.specs.declared.stop.BusStop.TheVariants.{Io as IoStop, Stack as StackStop, SwapFull as FullStop}
+use Rattle.avr_exec.specs.Registers.{raised, lowered}
+use Rattle.avr_exec.specs.Spaces.{Outcome, Went, Stopped, Calls}
+use Rattle.sram_layout.specs.Bytes.{byte_at, with_byte}
+use Rattle.heap_frames.specs.Addresses.{is_stack}
+use Rattle.heap_frames.specs.Frames.{pages}
+use Rattle.heap_frames.specs.Memory.{vmem}
+use Rattle.heap_frames.specs.Paging.{Store, heap_load, heap_store}
+use Rattle.mote_devices.specs.declared.line.Line.{Line}
+use Rattle.mote_devices.specs.State.{State, stored, with_stored, rampz_address}
+use Rattle.mote_devices.specs.Accesses.{Asked, Gave, Refused, read, write, modify as modify_device}
+use Rattle.mem_guard.specs.declared.address.AddrClass.{AddrClass}
+use Rattle.mem_guard.specs.declared.address.AddrClass.TheVariants.{Stack, Heap}
+use Rattle.mem_guard.specs.Classes.{class_of}
+use Rattle.mem_guard.specs.FlatSpace.{FlatSpace}
+use Rattle.mem_guard.specs.FlatMachine.{FlatState}
+
+-- the bytes of SRAM, the swap slots, the devices, the words of flash and how many of them are the
+-- image's, and what the last write of a device showed outside
+pub record Guarded : Type 0 where
+  pub sram : List ℕ
+  pub swap : List (List ℕ)
+  pub devices : State
+  pub words : List ℕ
+  pub image_words : ℕ
+  pub line : Option Line
+
+-- the program's words
+abbrev pub image_of : Guarded → List ℕ
+image_of g = take g.image_words g.words
+
+-- what the program sees of it: flat memory
+abbrev pub flat_of : Guarded → FlatSpace
+flat_of g = record {
+  memory = vmem g.sram g.swap;
+  devices = g.devices;
+  pages = pages g.sram;
+  page_limit = length g.swap;
+  image = image_of g;
+  line = g.line;
+}
+
+-- and the state that the program is in, with these registers and counts
+abbrev pub state_of : Guarded → Cpu → ℕ → ℕ → FlatState
+state_of g cpu steps crossings = record {
+  cpu = cpu;
+  memory = vmem g.sram g.swap;
+  devices = g.devices;
+  pages = pages g.sram;
+  steps = steps;
+  crossings = crossings;
+}
+
+-- what the heap is kept in
+abbrev pub heap_of : Guarded → Store
+heap_of g = record { sram = g.sram; swap = g.swap }
+
+abbrev pub with_heap : Guarded → Store → Guarded
+with_heap g h = record g { sram = h.sram; swap = h.swap }
+
+-- with another byte at a data address of SRAM
+abbrev pub with_sram : Guarded → ℕ → ℕ → Guarded
+with_sram g a v = record g { sram = with_byte g.sram a v }
+
+-- what the devices answered to a read, and to a write, at data address a
+abbrev pub from_device : Guarded → ℕ → Asked ℕ → Outcome Guarded ℕ
+from_device g a (Gave v next) = Went v (record g { devices = next })
+from_device g a Refused = Stopped (IoStop a)
+
+abbrev pub to_device : Guarded → ℕ → Asked (Option Line) → Outcome Guarded (Unit {0})
+to_device g a (Gave line next) = Went tt (record g { devices = next; line = line })
+to_device g a Refused = Stopped (IoStop a)
+
+-- what the heap answered to a load, and to a store at data address a
+abbrev pub from_heap : Guarded → ℕ × Store → Outcome Guarded ℕ
+from_heap g answer = Went answer.0 (with_heap g answer.1)
+
+abbrev pub to_heap : Guarded → ℕ → Option Store → Outcome Guarded (Unit {0})
+to_heap g a (Some h) = Went tt (with_heap g h)
+to_heap g a None = Stopped (FullStop a)
+
+abbrev pub load_in : AddrClass → Guarded → ℕ → Outcome Guarded ℕ
+load_in Stack g a = Went (byte_at g.sram a) g
+load_in Heap g a = from_heap g (heap_load (heap_of g) a)
+load_in _ g a = from_device g a (read g.devices a)
+
+unfoldable pub load : Guarded → ℕ → Outcome Guarded ℕ
+load g a = load_in (class_of a) g a
+
+abbrev pub store_in : AddrClass → Guarded → ℕ → ℕ → Outcome Guarded (Unit {0})
+store_in Stack g a v = Went tt (with_sram g a v)
+store_in Heap g a v = to_heap g a (heap_store (heap_of g) a v)
+store_in _ g a v = to_device g a (write g.devices a v)
+
+unfoldable pub store : Guarded → ℕ → ℕ → Outcome Guarded (Unit {0})
+store g a v = store_in (class_of a) g a v
+
+unfoldable pub modify : Guarded → ℕ → ℕ → ℕ → Outcome Guarded (Unit {0})
+modify g a clear set = to_device g a (modify_device g.devices a clear set)
+
+unfoldable pub push : Guarded → ℕ → ℕ → Outcome Guarded (Unit {0})
+push g sp v = if is_stack sp then Went tt (with_sram g sp v) else Stopped (StackStop sp)
+
+unfoldable pub pop : Guarded → ℕ → Outcome Guarded ℕ
+pop g sp = if is_stack (raised sp 1) then Went (byte_at g.sram (raised sp 1)) g else Stopped (StackStop (raised sp 1))
+
+unfoldable pub push_return : Guarded → ℕ → ℕ → Outcome Guarded (Unit {0})
+push_return g sp ret =
+    if is_stack sp then
+    if is_stack (lowered sp 1) then Went tt (with_sram (with_sram g sp (ret % 256)) (lowered sp 1) (ret / 256))
+    else Stopped (StackStop (lowered sp 1))
+    else Stopped (StackStop sp)
+
+unfoldable pub pop_return : Guarded → ℕ → Outcome Guarded ℕ
+pop_return g sp =
+    if is_stack (raised sp 1) then
+    if is_stack (raised sp 2) then Went (byte_at g.sram (raised sp 1) * 256 + byte_at g.sram (raised sp 2)) g
+    else Stopped (StackStop (raised sp 2))
+    else Stopped (StackStop (raised sp 1))
+
+-- the space as a bus's calls
+abbrev pub guarded_calls : Calls Guarded
+guarded_calls = record {
+  load = load;
+  store = store;
+  modify = modify;
+  push = push;
+  pop = pop;
+  push_ret = push_return;
+  pop_ret = pop_return;
+  rampz = λ g. stored g.devices rampz_address;
+  set_rampz = λ g v. record g { devices = with_stored g.devices rampz_address v };
+  flash_byte = λ g a. byte (image_of g) a;
+}

@@ -1,0 +1,167 @@
+//! Each access to the program's memory, by the part of the mote that keeps the byte.
+
+ghost use Rattle.std.specs.Prelude.{◌≡◌, ◌≤◌, false, take, OnErr};
+ghost use Rattle.avr_isa.specs.Image.{word};
+ghost use Rattle.avr_exec.specs.Registers.{is_own};
+ghost use Rattle.avr_exec.specs.Spaces.{told};
+ghost use Rattle.heap_frames.specs.Addresses.{is_stack as is_stack_test};
+ghost use Rattle.mem_guard.specs.Guarded.{load, store, modify, push, pop, push_return, pop_return, image_of};
+ghost use Rattle.mem_guard.specs.Bus.{guarded_of, lent_of};
+ghost use Rattle.mem_guard.specs.Readiness.{IsReady};
+
+use crate::address::{AddrClass, class};
+use crate::virtual_bus::VirtualBus;
+use avr_exec::BusStop;
+use heap_frames::SwapFull;
+use mote_devices::IoStop;
+
+/// A word outside the program's image.
+const OUTSIDE: u16 = 0xFFFF;
+
+impl VirtualBus<'_> {
+    /// The byte at a data address.
+    #[tactic(auto, unfolding(crate::specs::Guarded::load, crate::specs::Classes::class_of))]
+    pub(crate) fn load_byte(&mut self, a: u16) -> Result<u8, BusStop>
+        requires ready { IsReady (guarded_of self.old) }
+        requires outside { is_own a ≡ false }
+        ensures answer { told result (guarded_of self.new) ≡ load (guarded_of self.old) a }
+        ensures stop { OnErr result (guarded_of self.new ≡ guarded_of self.old) }
+        ensures lent { lent_of self.new ≡ lent_of self.old }
+    {
+        match class(a) {
+            AddrClass::Stack => Ok(self.sram.byte(a)),
+            AddrClass::Heap => Ok(heap_frames::load(self.sram, self.swap, a)),
+            _ => self.devices.read(a).map_err(stop_of),
+        }
+    }
+
+    /// A byte for a data address.
+    #[tactic(auto, unfolding(crate::specs::Guarded::store, crate::specs::Classes::class_of))]
+    pub(crate) fn store_byte(&mut self, a: u16, v: u8) -> Result<(), BusStop>
+        requires ready { IsReady (guarded_of self.old) }
+        requires outside { is_own a ≡ false }
+        ensures answer { told result (guarded_of self.new) ≡ store (guarded_of self.old) a v }
+        ensures stop { OnErr result (guarded_of self.new ≡ guarded_of self.old) }
+        ensures lent { lent_of self.new ≡ lent_of self.old }
+    {
+        match class(a) {
+            AddrClass::Stack => self.sram.set(a, v),
+            AddrClass::Heap => heap_frames::store(self.sram, self.swap, a, v).map_err(full_of)?,
+            _ => self.line = self.devices.write(a, v).map_err(stop_of)?,
+        }
+        Ok(())
+    }
+
+    /// A read and a write in one, of a register of the devices.
+    #[tactic(auto, unfolding(crate::specs::Guarded::modify))]
+    pub(crate) fn modify_register(&mut self, a: u16, clear: u8, set: u8) -> Result<(), BusStop>
+        requires ready { IsReady (guarded_of self.old) }
+        requires outside { is_own a ≡ false }
+        requires register { (0x20 ≤ a) × (a ≤ 0xFF) }
+        ensures answer { told result (guarded_of self.new) ≡ modify (guarded_of self.old) a clear set }
+        ensures stop { OnErr result (guarded_of self.new ≡ guarded_of self.old) }
+        ensures lent { lent_of self.new ≡ lent_of self.old }
+    {
+        self.line = self.devices.modify(a, clear, set).map_err(stop_of)?;
+        Ok(())
+    }
+
+    /// A byte pushed at `sp`.
+    #[tactic(auto, unfolding(crate::specs::Guarded::push))]
+    pub(crate) fn push_byte(&mut self, sp: u16, v: u8) -> Result<(), BusStop>
+        ensures answer { told result (guarded_of self.new) ≡ push (guarded_of self.old) sp v }
+        ensures stop { OnErr result (guarded_of self.new ≡ guarded_of self.old) }
+        ensures lent { lent_of self.new ≡ lent_of self.old }
+    {
+        if !is_stack(sp) {
+            return Err(BusStop::Stack(sp));
+        }
+        self.sram.set(sp, v);
+        Ok(())
+    }
+
+    /// The byte above `sp`.
+    #[tactic(auto, unfolding(crate::specs::Guarded::pop))]
+    pub(crate) fn pop_byte(&mut self, sp: u16) -> Result<u8, BusStop>
+        ensures answer { told result (guarded_of self.new) ≡ pop (guarded_of self.old) sp }
+        ensures stop { OnErr result (guarded_of self.new ≡ guarded_of self.old) }
+        ensures lent { lent_of self.new ≡ lent_of self.old }
+    {
+        let a = sp.wrapping_add(1);
+        if !is_stack(a) {
+            return Err(BusStop::Stack(a));
+        }
+        Ok(self.sram.byte(a))
+    }
+
+    /// A return address pushed: its low byte at `sp`, then its high byte below.
+    #[tactic(auto, unfolding(crate::specs::Guarded::push_return))]
+    pub(crate) fn push_return(&mut self, sp: u16, ret: u16) -> Result<(), BusStop>
+        ensures answer { told result (guarded_of self.new) ≡ push_return (guarded_of self.old) sp ret }
+        ensures stop { OnErr result (guarded_of self.new ≡ guarded_of self.old) }
+        ensures lent { lent_of self.new ≡ lent_of self.old }
+    {
+        let below = sp.wrapping_sub(1);
+        if !is_stack(sp) {
+            return Err(BusStop::Stack(sp));
+        }
+        if !is_stack(below) {
+            return Err(BusStop::Stack(below));
+        }
+        self.sram.set(sp, (ret & 0xFF) as u8);
+        self.sram.set(below, (ret >> 8) as u8);
+        Ok(())
+    }
+
+    /// A return address popped: its high byte from `sp + 1`, then its low byte from `sp + 2`.
+    #[tactic(auto, unfolding(crate::specs::Guarded::pop_return))]
+    pub(crate) fn pop_return(&mut self, sp: u16) -> Result<u16, BusStop>
+        ensures answer { told result (guarded_of self.new) ≡ pop_return (guarded_of self.old) sp }
+        ensures stop { OnErr result (guarded_of self.new ≡ guarded_of self.old) }
+        ensures lent { lent_of self.new ≡ lent_of self.old }
+    {
+        let high = sp.wrapping_add(1);
+        let low = sp.wrapping_add(2);
+        if !is_stack(high) {
+            return Err(BusStop::Stack(high));
+        }
+        if !is_stack(low) {
+            return Err(BusStop::Stack(low));
+        }
+        Ok(u16::from(self.sram.byte(high)) * 256 + u16::from(self.sram.byte(low)))
+    }
+
+    /// The program's word at a word address, 0xFFFF outside.
+    #[tactic(auto, using(crate::proofs::ImageLaws::word_of_image, crate::proofs::ImageLaws::word_behind_image))]
+    pub(crate) fn image_word(&self, a: u32) -> u16
+        ensures value { result ≡ word (image_of (guarded_of self.now)) a }
+    {
+        let words = self.layout.image_words;
+        if a < u32::from(words) {
+            self.flash.word(a as u16)
+        } else {
+            OUTSIDE
+        }
+    }
+}
+
+/// Whether a data address is in the stack window.
+fn is_stack(a: u16) -> bool
+    ensures value { result ≡ is_stack_test a }
+{
+    0x0D00 <= a && a <= 0x10FF
+}
+
+/// An access that the devices refused, as a stop of the bus.
+fn stop_of(stop: IoStop) -> BusStop
+    ensures value { result ≡ BusStop.Io stop.address }
+{
+    BusStop::Io(stop.address)
+}
+
+/// A store for which the heap had no slot left, as a stop of the bus.
+fn full_of(full: SwapFull) -> BusStop
+    ensures value { result ≡ BusStop.SwapFull full.address }
+{
+    BusStop::SwapFull(full.address)
+}

@@ -1,0 +1,107 @@
+//! An instruction of the image, and what stands in a page in its place.
+
+ghost use Rattle.std.specs.Prelude.{◌≡◌, ◌<◌, ◌≤◌, [], if◌then◌else◌};
+ghost use Rattle.std.specs.Option.{option_map};
+ghost use Rattle.flash_model.specs.Layouts.{IsRight};
+ghost use Rattle.avr_isa.specs.Image.{word};
+ghost use Rattle.avr_decode.specs.Decoding.{is_long};
+ghost use Rattle.nat_template.specs.Stubs.{stub as stub_of, words_of};
+ghost use Rattle.nat_page.specs.Runs.{is_closed as is_closed_test, is_jump_through_z as is_jump_through_z_test, never_returns as never_returns_test};
+ghost use Rattle.nat_page.specs.Making.{image_of};
+ghost use Rattle.nat_page.specs.Drafts.{IsRead};
+
+use arrayvec::ArrayVec;
+use avr_decode::{decode, two_words};
+use avr_isa::{Form, Instr};
+use flash_model::{Flash, Layout};
+use nat_template::{TemplateShape, closing, shape, template};
+
+/// An instruction of the image.
+#[derive(Drop)]
+pub(crate) struct Instruction {
+    /// Its address.
+    pub pc: u16,
+    /// The address behind it.
+    pub next: u16,
+    /// Whether it is a transfer without return.
+    pub ends: bool,
+    /// Its template.
+    pub code: ArrayVec<u16, 64>,
+    /// The stub to the next address, where it needs one if the run ends with it.
+    pub closing: ArrayVec<u16, 22>,
+}
+
+/// Reads the instruction of the image at the pc.
+pub(crate) fn read(flash: &Flash, layout: &Layout, pc: u16) -> Instruction
+    requires right { IsRight layout.now }
+    requires inside { pc < layout.now.image_words }
+    ensures pc { result.pc ≡ pc }
+    ensures read { IsRead (image_of layout.now flash.now.words) result }
+{
+    let first = image_word(flash, layout, pc);
+    let second = image_word(flash, layout, pc + 1);
+    let instr = decode(first, second);
+    let instr = instr.as_ref();
+    let shape = shape(pc, instr);
+    let next = pc + words_from(first);
+    Instruction {
+        pc,
+        next,
+        ends: never_returns(shape, instr),
+        code: template(pc, first, second, words_from(second)),
+        closing: closing_by(shape, pc, next),
+    }
+}
+
+/// The word of the image at a word address; an erased word outside.
+fn image_word(flash: &Flash, layout: &Layout, a: u16) -> u16
+    requires right { IsRight layout.now }
+    ensures value { result ≡ word (image_of layout.now flash.now.words) a }
+{
+    if a < layout.image_words {
+        flash.word(a)
+    } else {
+        0xFFFF
+    }
+}
+
+/// How many words the instruction with this first word has.
+fn words_from(first: u16) -> u16
+    ensures value { result ≡ if is_long first then 2 else 1 }
+    ensures range { (1 ≤ result) × (result ≤ 2) }
+{
+    if two_words(first) { 2 } else { 1 }
+}
+
+/// Whether nothing behind the instruction is reached from it.
+fn never_returns(shape: TemplateShape, instr: Option<&Instr>) -> bool
+    ensures value { result ≡ never_returns_test shape (option_map (λ borrowed. borrowed.now) instr.entry) }
+{
+    match shape {
+        TemplateShape::Jump | TemplateShape::Ret | TemplateShape::SelfJump | TemplateShape::Fault =>
+            true,
+        TemplateShape::Ind => is_jump_through_z(instr),
+        _ => false,
+    }
+}
+
+/// Whether it is IJMP; ICALL has the same shape, and returns.
+fn is_jump_through_z(instr: Option<&Instr>) -> bool
+    ensures value { result ≡ is_jump_through_z_test (option_map (λ borrowed. borrowed.now) instr.entry) }
+{
+    match instr.map(Instr::form) {
+        Some(Form::Ijmp) => true,
+        _ => false,
+    }
+}
+
+/// The stub to the next address, for an instruction of a shape that may go on to it.
+fn closing_by(shape: TemplateShape, pc: u16, next: u16) -> ArrayVec<u16, 22>
+    ensures words { result.items ≡ words_of (if is_closed_test shape then stub_of pc next else []) }
+{
+    match shape {
+        TemplateShape::Native | TemplateShape::Mem | TemplateShape::Branch | TemplateShape::Skip =>
+            closing(pc, next),
+        _ => ArrayVec::new(),
+    }
+}

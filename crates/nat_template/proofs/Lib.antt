@@ -1,0 +1,2 @@
+-- Laws of stubs and templates.
+pub mod Sizes

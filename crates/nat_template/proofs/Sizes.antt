@@ -1,0 +1,51 @@
+-- How many words stubs and templates have.
+use Rattle.std.proofs.Common.{◌≡◌, ◌<◌, ◌≤◌, ◌+◌, ℕ, Bool, true, false, cond, List, refl, length, take, get_or, subst, arith}
+use Rattle.std.specs.Prelude.{Option}
+use Rattle.std.proofs.lemmas.List.Folds.{length-flat_map-take}
+use Rattle.avr_isa.specs.Crossing.{is_crossing}
+use Rattle.avr_isa.specs.declared.form.Form.{Form}
+use Rattle.nat_template.specs.declared.piece.Piece.{Piece}
+use Rattle.nat_template.specs.declared.piece.Piece.TheVariants.{Fixed}
+use Rattle.nat_template.specs.declared.shapes.TemplateShape.{TemplateShape}
+use Rattle.nat_template.specs.declared.shapes.TemplateShape.TheVariants.{Native, Mem, Jump, Branch, Skip, Call, Ret, Ind, SelfJump, Fault}
+use Rattle.nat_template.specs.Stubs.{stub, crossing_stub, plain_stub, words_of, words_of_piece}
+use Rattle.nat_template.specs.Templates.{template_by, target_of, skip_target}
+
+size_by : (to : ℕ) (crosses : Bool) → length (words_of (cond crosses (crossing_stub to) (plain_stub to))) ≡ cond crosses 22 3
+size_by to true = refl
+size_by to false = refl
+
+-- a stub has 22 words where the step is a crossing, and else 3
+pub stub_size : (from to : ℕ) → length (words_of (stub from to)) ≡ cond (is_crossing from to) 22 3
+unfolding stub
+stub_size from to = size_by to (is_crossing from to)
+
+3_or_22 : (crosses : Bool) → (3 ≤ cond crosses 22 3) × (cond crosses 22 3 ≤ 22)
+3_or_22 true = (omega arith, omega arith)
+3_or_22 false = (omega arith, omega arith)
+
+pub stub_bound : (from to : ℕ) → (3 ≤ length (words_of (stub from to))) × (length (words_of (stub from to)) ≤ 22)
+stub_bound from to =
+    let e = stub_size from to in
+    let bound = 3_or_22 (is_crossing from to) in
+    (omega arith, omega arith)
+
+-- a template has 1 to 39 words
+pub template_size : (shape : TemplateShape) (pc first : ℕ) (form : Option Form) (next_size : ℕ) → (1 ≤ length (words_of (template_by shape pc first form next_size))) × (length (words_of (template_by shape pc first form next_size)) ≤ 39)
+unfolding template_by
+template_size Native pc first form next_size = (omega arith, omega arith)
+template_size Mem pc first form next_size = (omega arith, omega arith)
+template_size Jump pc first form next_size = let b = stub_bound pc (target_of pc form) in (omega arith, omega arith)
+template_size Branch pc first form next_size = let b = stub_bound pc (target_of pc form) in (omega arith, omega arith)
+template_size Skip pc first form next_size = let b = stub_bound pc (skip_target pc next_size) in (omega arith, omega arith)
+template_size Call pc first form next_size = let b = stub_bound pc (target_of pc form) in (omega arith, omega arith)
+template_size Ret pc first form next_size = (omega arith, omega arith)
+template_size Ind pc first form next_size = (omega arith, omega arith)
+template_size SelfJump pc first form next_size = (omega arith, omega arith)
+template_size Fault pc first form next_size = (omega arith, omega arith)
+
+-- the words of a piece have room behind those of the pieces before it
+pub words_room : (pieces : List Piece) (i : ℕ) (piece : Piece) → i < length pieces → get_or pieces i (Fixed 0) ≡ piece → length (words_of (take i pieces)) + length (words_of_piece piece) ≤ length (words_of pieces)
+words_room pieces i piece below here =
+    let P : Piece → Type 0 = λ p. length (words_of (take i pieces)) + length (words_of_piece p) ≤ length (words_of pieces) in
+    subst P here (length-flat_map-take words_of_piece pieces i (Fixed 0) below)

@@ -1,0 +1,4 @@
+-- Shapes, stubs and templates of the rewritten form.
+pub mod Shapes
+pub mod Stubs
+pub mod Templates

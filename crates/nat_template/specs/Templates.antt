@@ -1,0 +1,55 @@
+-- The template of an instruction: what stands in a page in its place.
+use Rattle.std.specs.Prelude.{ℕ, pos, ◌+◌, List, [], ◌∷◌, ◌++◌, length, Option, Some}
+use Rattle.avr_isa.specs.declared.form.Form.{Form}
+use Rattle.avr_isa.specs.declared.form.Form.TheVariants as forms
+use Rattle.avr_isa.specs.Encoding.{first_word}
+use Rattle.avr_exec.specs.Registers.{raised, relative}
+use Rattle.nat_template.specs.declared.shapes.TemplateShape.{TemplateShape}
+use Rattle.nat_template.specs.declared.shapes.TemplateShape.TheVariants.{Native, Mem, Jump, Branch, Skip, Call, Ret, Ind, SelfJump, Fault}
+use Rattle.nat_template.specs.declared.piece.Piece.{Piece}
+use Rattle.nat_template.specs.declared.piece.Piece.TheVariants.{Fixed}
+use Rattle.nat_template.specs.Shapes.{shape_of}
+use Rattle.nat_template.specs.Stubs.{service, stub, words_of, mem_entry, push_return_entry, return_entry, indirect_entry, self_entry, fault_entry}
+
+-- where a jump, branch or call leads, by its own word
+abbrev pub target_of : ℕ → Option Form → ℕ
+target_of pc (Some (forms.Brbs s k)) = relative pc k
+target_of pc (Some (forms.Brbc s k)) = relative pc k
+target_of pc (Some (forms.Rjmp k)) = relative pc k
+target_of pc (Some (forms.Rcall k)) = relative pc k
+target_of pc (Some (forms.Jmp a)) = a
+target_of pc (Some (forms.Call a)) = a
+target_of pc _ = pc
+
+-- RJMP over what follows (AVR Instruction Set Manual, "RJMP")
+abbrev pub jump_over : List Piece → Piece
+jump_over pieces = Fixed (0xC000 + length (words_of pieces))
+
+-- the same branch, over the one word behind it
+abbrev pub short_branch : Option Form → ℕ
+short_branch (Some (forms.Brbs s k)) = first_word (forms.Brbs s (pos 1))
+short_branch (Some (forms.Brbc s k)) = first_word (forms.Brbc s (pos 1))
+short_branch _ = 0
+
+-- where a skip leads: behind the next instruction, which has this many words
+abbrev pub skip_target : ℕ → ℕ → ℕ
+skip_target pc next_size = raised pc (1 + next_size)
+
+-- by the shape: the first word of the instruction, where it stays; its target; how many words the next has
+unfoldable pub template_by : TemplateShape → (pc first : ℕ) (form : Option Form) (next_size : ℕ) → List Piece
+template_by Native pc first form next_size = Fixed first ∷ []
+template_by Mem pc first form next_size = service mem_entry pc
+template_by Jump pc first form next_size = stub pc (target_of pc form)
+template_by Branch pc first form next_size =
+    let way = stub pc (target_of pc form) in Fixed (short_branch form) ∷ jump_over way ∷ way
+template_by Skip pc first form next_size =
+    let way = stub pc (skip_target pc next_size) in Fixed first ∷ jump_over way ∷ way
+template_by Call pc first form next_size = service push_return_entry pc ++ stub pc (target_of pc form)
+template_by Ret pc first form next_size = service return_entry pc
+template_by Ind pc first form next_size = service indirect_entry pc
+template_by SelfJump pc first form next_size = service self_entry pc
+template_by Fault pc first form next_size = service fault_entry pc
+
+-- the template of the instruction at the pc
+abbrev pub template_of : (pc first : ℕ) → Option Form → ℕ → List Piece
+template_of pc first form next_size = template_by (shape_of pc form) pc first form next_size

@@ -1,0 +1,93 @@
+//! Stubs, and calls of the kernel.
+
+ghost use Rattle.std.specs.Prelude.{◌≡◌, ◌≤◌, ◌++◌, if◌then◌else◌};
+ghost use Rattle.arrayvec.specs.ArrayVec.{array_vec_len};
+ghost use Rattle.avr_isa.specs.Crossing.{is_crossing as is_crossing_test};
+ghost use Rattle.nat_template.specs.Stubs.{crossing_stub, jump_words, service as service_of, stub as stub_of, words_of};
+
+use crate::piece::{CALL, Piece, written};
+use arrayvec::ArrayVec;
+
+/// JMP, the first of its two words.
+const JMP: u16 = 0x940C;
+
+/// The kernel's entry for a quantum that is over.
+const QUANTUM: u16 = 0xF002;
+
+/// One is taken off COUNT, with r24 and SREG kept in their cells; a branch passes over what follows at 0.
+const COUNT_DOWN: [Piece; 16] = [
+    Piece::Fixed(0x9380),
+    Piece::Fixed(0x0101),
+    Piece::Fixed(0xB78F),
+    Piece::Fixed(0x9380),
+    Piece::Fixed(0x0102),
+    Piece::Fixed(0x9180),
+    Piece::Fixed(0x0100),
+    Piece::Fixed(0x958A),
+    Piece::Fixed(0x9380),
+    Piece::Fixed(0x0100),
+    Piece::Fixed(0xF041),
+    Piece::Fixed(0x9180),
+    Piece::Fixed(0x0102),
+    Piece::Fixed(0xBF8F),
+    Piece::Fixed(0x9180),
+    Piece::Fixed(0x0101),
+];
+
+/// A call of the kernel, with the word behind it that the service reads.
+pub(crate) fn service(entry: u16, word: u16) -> [Piece; 3]
+    ensures pieces { result ≡ service_of entry word }
+{
+    [Piece::Fixed(CALL), Piece::Fixed(entry), Piece::Fixed(word)]
+}
+
+/// The words of the stub for the step from the pc to `t`: a crossing stub exactly where that step goes
+/// back, stays, or leaves its page. It closes a page whose last instruction goes on to `t`.
+#[tactic(auto, using(crate::proofs::Sizes::stub_size))]
+pub fn closing(pc: u16, t: u16) -> ArrayVec<u16, 22>
+    ensures words { result.items ≡ words_of (stub_of pc t) }
+    ensures size { array_vec_len result ≡ if is_crossing_test pc t then 22 else 3 }
+{
+    let mut words = ArrayVec::new();
+    words.try_extend_from_slice(&written(&stub(pc, t))).unwrap();
+    words
+}
+
+/// The two words that take the place of a stub's call of the bridge, once the target has this place, a
+/// word address of flash.
+pub fn resolved(place: u16) -> [u16; 2]
+    ensures words { result ≡ jump_words place }
+{
+    [JMP, place]
+}
+
+/// The same stub in pieces.
+#[tactic(auto, unfolding(crate::specs::Stubs::stub))]
+pub fn stub(from: u16, to: u16) -> ArrayVec<Piece, 20>
+    ensures pieces { result.items ≡ stub_of from to }
+{
+    let mut pieces = ArrayVec::new();
+    if is_crossing(from, to) {
+        push_crossing(&mut pieces, to);
+    } else {
+        pieces.push(Piece::Link(to));
+    }
+    pieces
+}
+
+/// The stub that counts a crossing.
+fn push_crossing(pieces: &mut ArrayVec<Piece, 20>, to: u16)
+    requires empty { array_vec_len pieces.old ≡ 0 }
+    ensures pieces { pieces.new.items ≡ pieces.old.items ++ crossing_stub to }
+{
+    pieces.try_extend_from_slice(&COUNT_DOWN).unwrap();
+    pieces.push(Piece::Link(to));
+    pieces.try_extend_from_slice(&service(QUANTUM, to)).unwrap();
+}
+
+/// Whether a step goes back, stays, or leaves its page.
+pub(crate) fn is_crossing(from: u16, to: u16) -> bool
+    ensures value { result ≡ is_crossing_test from to }
+{
+    to <= from || to / 128 != from / 128
+}

@@ -1,0 +1,138 @@
+//! The template of an instruction, in pieces and in words.
+ghost use Rattle.std.specs.Prelude.{◌≡◌, ◌≤◌, ◌++◌, ◌∷◌, [], length};
+ghost use Rattle.std.specs.Option.{option_map};
+ghost use Rattle.arrayvec.specs.ArrayVec.{array_vec_len};
+ghost use Rattle.avr_decode.specs.Decoding.{the_form};
+ghost use Rattle.avr_exec.specs.Registers.{relative as relative_of};
+ghost use Rattle.nat_template.specs.Stubs.{service as service_of, stub as stub_of, words_of};
+ghost use Rattle.nat_template.specs.Templates.{jump_over, short_branch as short_branch_of, target_of, template_by, template_of};
+
+use crate::piece::{Piece, written};
+use crate::shapes::{TemplateShape, relative, shape};
+use crate::stubs::{is_crossing, service, stub};
+use arrayvec::ArrayVec;
+use avr_decode::decode;
+use avr_isa::{Form, Instr};
+
+/// The kernel's entries (docs/LOADER.md).
+const MEM: u16 = 0xF004;
+
+const PUSH_RETURN: u16 = 0xF006;
+
+const RETURN: u16 = 0xF008;
+
+const INDIRECT: u16 = 0xF00A;
+
+const SELF: u16 = 0xF00C;
+
+const FAULT: u16 = 0xF00E;
+
+/// The words of the template: what stands in a new page in the place of the instruction at the pc.
+///
+/// The instruction's words are `w0` and, where it has two, `w1`. The next instruction has `next_size`
+/// words, 1 or 2, which a skip passes over.
+pub fn template(pc: u16, w0: u16, w1: u16, next_size: u16) -> ArrayVec<u16, 64>
+    ensures words { result.items ≡ words_of (template_of pc w0 (the_form w0 w1) next_size) }
+    ensures size { (1 ≤ array_vec_len result) × (array_vec_len result ≤ 39) }
+{
+    written(&pieces(pc, w0, w1, next_size))
+}
+
+/// The same template in pieces.
+#[tactic(auto, using(crate::proofs::Sizes::template_size))]
+pub fn pieces(pc: u16, w0: u16, w1: u16, next_size: u16) -> ArrayVec<Piece, 32>
+    ensures pieces { result.items ≡ template_of pc w0 (the_form w0 w1) next_size }
+    ensures size { (1 ≤ length (words_of result.items)) × (length (words_of result.items) ≤ 39) }
+{
+    let instr = decode(w0, w1);
+    let instr = instr.as_ref();
+    pieces_by(shape(pc, instr), pc, w0, instr, next_size)
+}
+
+/// The template of an instruction with this shape.
+#[tactic(auto, unfolding(crate::specs::Templates::template_by))]
+fn pieces_by(
+    shape: TemplateShape,
+    pc: u16,
+    w0: u16,
+    instr: Option<&Instr>,
+    next_size: u16,
+) -> ArrayVec<Piece, 32>
+    ensures pieces { result.items ≡ template_by shape pc w0 (option_map (λ borrowed. borrowed.now) instr.entry) next_size }
+{
+    match shape {
+        TemplateShape::Native => one(w0),
+        TemplateShape::Mem => call_of(MEM, pc),
+        TemplateShape::Jump => behind(ArrayVec::new(), pc, target(pc, instr)),
+        TemplateShape::Branch => passed_over(short_branch(instr), pc, target(pc, instr)),
+        TemplateShape::Skip => passed_over(w0, pc, pc.wrapping_add(1).wrapping_add(next_size)),
+        TemplateShape::Call => behind(call_of(PUSH_RETURN, pc), pc, target(pc, instr)),
+        TemplateShape::Ret => call_of(RETURN, pc),
+        TemplateShape::Ind => call_of(INDIRECT, pc),
+        TemplateShape::SelfJump => call_of(SELF, pc),
+        TemplateShape::Fault => call_of(FAULT, pc),
+    }
+}
+
+/// Where a jump, branch or call leads by its own word; else the pc.
+fn target(pc: u16, instr: Option<&Instr>) -> u16
+    ensures target { result ≡ target_of pc (option_map (λ borrowed. borrowed.now) instr.entry) }
+{
+    match instr.map(Instr::form) {
+        Some(Form::Brbs(_, k) | Form::Brbc(_, k)) => relative(pc, k.get()),
+        Some(Form::Rjmp(k) | Form::Rcall(k)) => relative(pc, k.get()),
+        Some(Form::Jmp(a) | Form::Call(a)) => *a,
+        _ => pc,
+    }
+}
+
+/// One word.
+fn one(word: u16) -> ArrayVec<Piece, 32>
+    ensures pieces { result.items ≡ Piece.Fixed word ∷ [] }
+{
+    let mut pieces = ArrayVec::new();
+    pieces.push(Piece::Fixed(word));
+    pieces
+}
+
+/// A call of the kernel.
+fn call_of(entry: u16, pc: u16) -> ArrayVec<Piece, 32>
+    ensures pieces { result.items ≡ service_of entry pc }
+    ensures size { array_vec_len result ≡ 3 }
+{
+    let mut pieces = ArrayVec::new();
+    pieces.try_extend_from_slice(&service(entry, pc)).unwrap();
+    pieces
+}
+
+/// These pieces, and the stub for a step behind them.
+fn behind(front: ArrayVec<Piece, 32>, from: u16, to: u16) -> ArrayVec<Piece, 32>
+    requires room { array_vec_len front ≤ 3 }
+    ensures pieces { result.items ≡ front.items ++ stub_of from to }
+{
+    let mut pieces = front;
+    pieces.try_extend_from_slice(&stub(from, to)).unwrap();
+    pieces
+}
+
+/// A word that passes over one word, which is a jump over the stub behind it.
+#[tactic(auto, using(crate::proofs::Sizes::stub_size))]
+fn passed_over(word: u16, from: u16, to: u16) -> ArrayVec<Piece, 32>
+    ensures pieces { result.items ≡ Piece.Fixed word ∷ jump_over (stub_of from to) ∷ stub_of from to }
+{
+    let mut pieces = one(word);
+    pieces.push(Piece::Fixed(0xC000 + if is_crossing(from, to) { 22 } else { 3 }));
+    behind(pieces, from, to)
+}
+
+/// The same branch, over one word.
+#[tactic(auto, unfolding(avr_isa::specs::Encoding::first_word))]
+fn short_branch(instr: Option<&Instr>) -> u16
+    ensures word { result ≡ short_branch_of (option_map (λ borrowed. borrowed.now) instr.entry) }
+{
+    match instr.map(Instr::form) {
+        Some(Form::Brbs(s, _)) => 0xF008 + u16::from(s.get()),
+        Some(Form::Brbc(s, _)) => 0xF408 + u16::from(s.get()),
+        _ => 0,
+    }
+}

@@ -1,0 +1,4 @@
+pub mod MapLaws
+pub mod EntryLaws
+pub mod ChangeLaws
+mod TestPage

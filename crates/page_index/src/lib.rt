@@ -1,0 +1,21 @@
+//! The maps of code pages, and the search of the code pool.
+//!
+//! A page of the pool is free, and then all its words are 0xFFFF, or begins with a map: the number of
+//! the original page, the number of entries, and one word an entry, which tells where in the original
+//! page an address lies and where in this page its code begins, its *place*. [`entry`] finds the place
+//! of an original address, [`origin`] the original address of a place, and [`free_page`] the lowest
+//! page that is free. Nothing is kept beside flash: each search reads the maps themselves.
+//!
+//! `specs/Maps.antt` says what a map is, and `specs/Entries.antt` what an entry of the pool is and when
+//! a pool is mapped, which every search asks for. Laws for the layers above: what a map says of its
+//! entries (`proofs/MapLaws.antt`), that an address has one place and a place one address
+//! (`proofs/EntryLaws.antt`), and what stays where a free page gets a map (`proofs/ChangeLaws.antt`).
+#![tactic(auto)]
+
+mod page;
+mod pool;
+
+pub use pool::{entry, free_page, origin};
+
+#[cfg(test)]
+mod tests;

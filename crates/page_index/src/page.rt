@@ -1,0 +1,105 @@
+//! One page of the pool and its map.
+
+ghost use Rattle.std.specs.Prelude.{◌≡◌, ℕ, ◌+◌, ◌*◌, ◌/◌, ◌%◌, ◌<◌, ◌↔◌, ◌⊎◌, IsTrue, IfSome};
+ghost use Rattle.page_index.specs.Maps.{page_word, entry_count, IsFree, IsMap};
+ghost use Rattle.page_index.specs.Entries.{Lists};
+
+use flash_model::Flash;
+
+/// The words of a page.
+pub const PAGE_WORDS: u16 = 128;
+
+/// A word of a page that is free.
+const BLANK: u16 = 0xFFFF;
+
+/// Where in a map its entries begin.
+const FIRST_ENTRY: u16 = 2;
+
+/// An entry of a map.
+#[derive(Clone, Copy)]
+struct MapEntry {
+    /// Where in the original page the address lies.
+    offset: u16,
+    /// Where in this page its code begins.
+    place: u16,
+}
+
+/// Whether the page is free: its first word tells, since no map begins with 0xFFFF.
+pub fn is_free(flash: &Flash, page: u16) -> bool
+    requires below_kernel { page < 480 }
+    requires mapped { IsFree flash.now.words page ⊎ IsMap flash.now.words page }
+    ensures value { IsTrue result ↔ IsFree flash.now.words page }
+{
+    word(flash, page, 0) == BLANK
+}
+
+/// The place of the original address `t`, where this page has its entry.
+pub fn place_in(flash: &Flash, page: u16, t: u16) -> Option<u16>
+    requires below_kernel { page < 480 }
+    requires mapped { IsFree flash.now.words page ⊎ IsMap flash.now.words page }
+    ensures found { IfSome result (λ v. (i : ℕ) × Lists flash.now.words page i t v) }
+    ensures only { (i v : ℕ) → Lists flash.now.words page i t v → result ≡ Some v }
+{
+    if word(flash, page, 0) != t / PAGE_WORDS {
+        return None;
+    }
+    for i in 0..entries(flash, page) {
+        let entry = map_entry(flash, page, i);
+        if entry.offset == t % PAGE_WORDS {
+            return Some(PAGE_WORDS * page + entry.place);
+        }
+    }
+    None
+}
+
+/// The original address whose place is this, where this page has such an entry.
+pub fn address_in(flash: &Flash, page: u16, place: u16) -> Option<u16>
+    requires below_kernel { page < 480 }
+    requires mapped { IsFree flash.now.words page ⊎ IsMap flash.now.words page }
+    ensures found { IfSome result (λ t. (i : ℕ) × Lists flash.now.words page i t place) }
+    ensures only { (i t : ℕ) → Lists flash.now.words page i t place → result ≡ Some t }
+{
+    if is_free(flash, page) {
+        return None;
+    }
+    for i in 0..entries(flash, page) {
+        let entry = map_entry(flash, page, i);
+        if PAGE_WORDS * page + entry.place == place {
+            return Some(PAGE_WORDS * word(flash, page, 0) + entry.offset);
+        }
+    }
+    None
+}
+
+/// The number of the page's entries.
+fn entries(flash: &Flash, page: u16) -> u16
+    requires below_kernel { page < 480 }
+    requires map { IsMap flash.now.words page }
+    ensures value { result ≡ entry_count flash.now.words page }
+    ensures bound { result + 2 < 128 }
+{
+    word(flash, page, 1)
+}
+
+/// Entry `i` of the page.
+fn map_entry(flash: &Flash, page: u16, i: u16) -> MapEntry
+    requires below_kernel { page < 480 }
+    requires inside { i + 2 < 128 }
+    ensures offset { result.offset ≡ page_word flash.now.words page (2 + i) / 256 }
+    ensures place { result.place ≡ page_word flash.now.words page (2 + i) % 256 }
+{
+    let word = word(flash, page, FIRST_ENTRY + i);
+    MapEntry {
+        offset: word / 256,
+        place: word % 256,
+    }
+}
+
+/// Word `k` of the page.
+fn word(flash: &Flash, page: u16, k: u16) -> u16
+    requires below_kernel { page < 480 }
+    requires inside { k < 128 }
+    ensures value { result ≡ page_word flash.now.words page k }
+{
+    flash.word(PAGE_WORDS * page + k)
+}

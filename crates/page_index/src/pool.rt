@@ -1,0 +1,65 @@
+//! The search in all pages of the pool.
+
+ghost use Rattle.std.specs.Prelude.{◌≡◌, ℕ, ◌<◌, ◌↔◌, IsTrue, IfSome, IfNone};
+ghost use Rattle.flash_model.specs.Layouts.{IsRight};
+ghost use Rattle.page_index.specs.Maps.{IsPool, IsFree};
+ghost use Rattle.page_index.specs.Entries.{IsEntry, IsMapped};
+
+use crate::page::{PAGE_WORDS, address_in, is_free, place_in};
+use flash_model::{Flash, Layout};
+
+/// The place, a word address of flash, where the code of the original address `t` begins; None where
+/// no page has an entry of it.
+pub fn entry(flash: &Flash, layout: &Layout, t: u16) -> Option<u16>
+    requires right { IsRight layout.now }
+    requires mapped { IsMapped layout.now flash.now.words }
+    ensures found { IfSome result (λ v. IsEntry layout.now flash.now.words t v) }
+    ensures only { (v : ℕ) → IsEntry layout.now flash.now.words t v → result ≡ Some v }
+{
+    for page in layout.pool_first..layout.pool_first + layout.pool_pages {
+        if let Some(place) = place_in(flash, page, t) {
+            return Some(place);
+        }
+    }
+    None
+}
+
+/// The original address whose code begins at this place, a word address of flash; None where that is
+/// no entry's place.
+pub fn origin(flash: &Flash, layout: &Layout, place: u16) -> Option<u16>
+    requires right { IsRight layout.now }
+    requires mapped { IsMapped layout.now flash.now.words }
+    ensures found { IfSome result (λ t. IsEntry layout.now flash.now.words t place) }
+    ensures only { (t : ℕ) → IsEntry layout.now flash.now.words t place → result ≡ Some t }
+{
+    let page = place / PAGE_WORDS;
+    if is_in_pool(layout, page) {
+        address_in(flash, page, place)
+    } else {
+        None
+    }
+}
+
+/// The lowest page of the pool that is free; None where none is.
+pub fn free_page(flash: &Flash, layout: &Layout) -> Option<u16>
+    requires right { IsRight layout.now }
+    requires mapped { IsMapped layout.now flash.now.words }
+    ensures free { IfSome result (λ page. IsPool layout.now page × IsFree flash.now.words page) }
+    ensures lowest { IfSome result (λ page. (lower : ℕ) → IsPool layout.now lower → lower < page → ¬ IsFree flash.now.words lower) }
+    ensures none { IfNone result ((page : ℕ) → IsPool layout.now page → ¬ IsFree flash.now.words page) }
+{
+    for page in layout.pool_first..layout.pool_first + layout.pool_pages {
+        if is_free(flash, page) {
+            return Some(page);
+        }
+    }
+    None
+}
+
+/// Whether the page is one of the pool.
+fn is_in_pool(layout: &Layout, page: u16) -> bool
+    requires right { IsRight layout.now }
+    ensures value { IsTrue result ↔ IsPool layout.now page }
+{
+    layout.pool_first <= page && page < layout.pool_first + layout.pool_pages
+}
