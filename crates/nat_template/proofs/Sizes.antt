@@ -1,13 +1,16 @@
 -- How many words stubs and templates have.
 use Rattle.std.proofs.Common.{◌≡◌, ◌<◌, ◌≤◌, ◌+◌, ℕ, Bool, true, false, cond, List, refl, length, take, get_or, subst, arith}
-use Rattle.std.specs.Prelude.{Option}
+use Rattle.std.specs.Prelude.{◌==◌, Option}
 use Rattle.std.proofs.lemmas.List.Folds.{length-flat_map-take}
 use Rattle.avr_isa.specs.Crossing.{is_crossing}
 use Rattle.avr_isa.specs.declared.form.Form.{Form}
+use Rattle.avr_isa.specs.declared.form.Form.TheVariants as forms
+use Rattle.avr_isa.specs.Instruction.{size_of}
 use Rattle.nat_template.specs.declared.piece.Piece.{Piece}
 use Rattle.nat_template.specs.declared.piece.Piece.TheVariants.{Fixed}
 use Rattle.nat_template.specs.declared.shapes.TemplateShape.{TemplateShape}
 use Rattle.nat_template.specs.declared.shapes.TemplateShape.TheVariants.{Native, Mem, Jump, Branch, Skip, Call, Ret, Ind, SelfJump, Fault}
+use Rattle.nat_template.specs.Shapes.{shape_of_form}
 use Rattle.nat_template.specs.Stubs.{stub, crossing_stub, plain_stub, words_of, words_of_piece}
 use Rattle.nat_template.specs.Templates.{template_by, target_of, skip_target}
 
@@ -49,3 +52,16 @@ pub words_room : (pieces : List Piece) (i : ℕ) (piece : Piece) → i < length 
 words_room pieces i piece below here =
     let P : Piece → Type 0 = λ p. length (words_of (take i pieces)) + length (words_of_piece p) ≤ length (words_of pieces) in
     subst P here (length-flat_map-take words_of_piece pieces i (Fixed 0) below)
+
+jump_not_native : (own : Bool) → cond own SelfJump Jump ≡ Native → ⊥
+jump_not_native true is = cc
+jump_not_native false is = cc
+
+-- an instruction that stands in a page as it is has one word, so its first word is all of it
+pub native_size : (pc : ℕ) (form : Form) → shape_of_form pc form ≡ Native → size_of form ≡ 1
+unfolding shape_of_form size_of
+native_size pc (forms.Lds d a) is = absurd (cc)
+native_size pc (forms.Sts a r) is = absurd (cc)
+native_size pc (forms.Jmp a) is = absurd (jump_not_native (a == pc) is)
+native_size pc (forms.Call a) is = absurd (cc)
+native_size pc _ is = refl
