@@ -5,5 +5,6 @@
 //!
 //! So far this crate has only what the tables may hold, `specs/Tables.antt`: each entry that isn't
 //! empty is right, which whoever changes flash must keep so. `proofs/TableLaws.antt` has the laws: the
-//! tables at boot are right for every flash, and tables stay right where no entry of the pool goes.
+//! tables at boot are right for every flash, and tables stay right where their own bytes stay and no
+//! entry of the pool goes.
 #![tactic(auto)]

@@ -9,14 +9,13 @@
 //! assert_eq!(rt; (words.first, words.second), (0x940C, Some(0x1234)));
 //! ```
 //!
-//! The words are those of the rows in `avr_isa`'s `Encoding`, and decoding them gives back the
-//! instruction.
+//! The words are those of the rows in `avr_isa`'s `Encoding`, and what they mean (its `IsDecoded`) is the
+//! instruction: so decoding them gives it back.
 #![tactic(auto)]
 
-ghost use Rattle.std.specs.Prelude.{◌≡◌, ℕ, ◌<◌, ◌^◌, Some};
-ghost use Rattle.avr_decode.specs.Decoding.{the_form};
+ghost use Rattle.std.specs.Prelude.{◌≡◌, ℕ, Some};
 ghost use Rattle.avr_encode.specs.Words.{BeginWith};
-ghost use Rattle.avr_isa.specs.Encoding.{first_word, second_word};
+ghost use Rattle.avr_isa.specs.Encoding.{first_word, second_word, IsDecoded};
 
 use avr_isa::{Base, Form, Instr};
 
@@ -43,10 +42,9 @@ pub fn encode(i: &Instr) -> Words
     ensures first { result.first ≡ first_word i.now }
     ensures second { result.second ≡ second_word i.now }
 
-    // Two words mean this instruction exactly where they begin with its words: `the_form` is what
-    // `decode` answers.
-    ensures decodes { (a b : ℕ) → BeginWith result a b → the_form a b ≡ Some i.now }
-    ensures only { (a b : ℕ) → a < 2 ^ 16 → b < 2 ^ 16 → the_form a b ≡ Some i.now → BeginWith result a b }
+    // Two words mean this instruction exactly where they begin with its words.
+    ensures decodes { (a b : ℕ) → BeginWith result a b → IsDecoded a b (Some i.now) }
+    ensures only { (a b : ℕ) → IsDecoded a b (Some i.now) → BeginWith result a b }
 {
     let form = i.form();
     Words {

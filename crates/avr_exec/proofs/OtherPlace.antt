@@ -16,32 +16,33 @@ use Rattle.avr_exec.proofs.OtherCounter.{changed, two_of-changed, immediate_of-c
 
 -- ---- what is asked and what is done, by an instruction that reads neither the pc nor SP
 
-ask_of-straight : (form : Form) (cpu : Cpu) (p : ℕ) (s : ℕ → ℕ) → is_straight form ≡ true → ask_of form (changed cpu p s) ≡ ask_of form cpu
+-- it asks the same at another pc and with another SP
+pub ask_of_straight : (form : Form) (cpu : Cpu) (p : ℕ) (s : ℕ → ℕ) → is_straight form ≡ true → ask_of form (changed cpu p s) ≡ ask_of form cpu
 unfolding ask_of is_straight
-ask_of-straight Nop cpu p s h = refl
-ask_of-straight (Movw d r) cpu p s h = refl
-ask_of-straight (Muls d r) cpu p s h = refl
-ask_of-straight (Product op d r) cpu p s h = refl
-ask_of-straight (Two op d r) cpu p s h = refl
-ask_of-straight (Imm op d k) cpu p s h = refl
-ask_of-straight (Word op l k) cpu p s h = refl
-ask_of-straight (One op d) cpu p s h = refl
-ask_of-straight Lpm0 cpu p s h = refl
-ask_of-straight Elpm0 cpu p s h = refl
-ask_of-straight (Lpm d inc) cpu p s h = refl
-ask_of-straight (Elpm d true) cpu p s h = refl
-ask_of-straight (Elpm d false) cpu p s h = refl
-ask_of-straight (InIo d a) cpu p s h = refl
-ask_of-straight (OutIo a r) cpu p s h = refl
-ask_of-straight (Cbi a b) cpu p s h = refl
-ask_of-straight (Sbi a b) cpu p s h = refl
-ask_of-straight (Bld d b) cpu p s h = refl
-ask_of-straight (Bst d b) cpu p s h = refl
-ask_of-straight (Bset b) cpu p s h = refl
-ask_of-straight (Bclr b) cpu p s h = refl
-ask_of-straight Break cpu p s h = refl
-ask_of-straight Wdr cpu p s h = refl
-ask_of-straight _ cpu p s h = absurd (false≢true h)
+ask_of_straight Nop cpu p s h = refl
+ask_of_straight (Movw d r) cpu p s h = refl
+ask_of_straight (Muls d r) cpu p s h = refl
+ask_of_straight (Product op d r) cpu p s h = refl
+ask_of_straight (Two op d r) cpu p s h = refl
+ask_of_straight (Imm op d k) cpu p s h = refl
+ask_of_straight (Word op l k) cpu p s h = refl
+ask_of_straight (One op d) cpu p s h = refl
+ask_of_straight Lpm0 cpu p s h = refl
+ask_of_straight Elpm0 cpu p s h = refl
+ask_of_straight (Lpm d inc) cpu p s h = refl
+ask_of_straight (Elpm d true) cpu p s h = refl
+ask_of_straight (Elpm d false) cpu p s h = refl
+ask_of_straight (InIo d a) cpu p s h = refl
+ask_of_straight (OutIo a r) cpu p s h = refl
+ask_of_straight (Cbi a b) cpu p s h = refl
+ask_of_straight (Sbi a b) cpu p s h = refl
+ask_of_straight (Bld d b) cpu p s h = refl
+ask_of_straight (Bst d b) cpu p s h = refl
+ask_of_straight (Bset b) cpu p s h = refl
+ask_of_straight (Bclr b) cpu p s h = refl
+ask_of_straight Break cpu p s h = refl
+ask_of_straight Wdr cpu p s h = refl
+ask_of_straight _ cpu p s h = absurd (false≢true h)
 
 finish_of-straight : (form : Form) (cpu : Cpu) (p : ℕ) (s : ℕ → ℕ) (n m : ℕ) (answer : Answer) → is_straight form ≡ true
     → finish_of form (changed cpu p s) m answer ≡ changed (finish_of form cpu n answer) (raised p 1) s
@@ -72,40 +73,41 @@ finish_of-straight _ cpu p s n m answer h = absurd (false≢true h)
 
 -- ---- the same of an instruction that transfers no control, with SP as it is
 
-ask_of-moved : (form : Form) (cpu : Cpu) (p : ℕ) → is_transfer form ≡ false → ask_of form (moved cpu p) ≡ ask_of form cpu
+-- it asks the same at another pc
+pub ask_of_moved : (form : Form) (cpu : Cpu) (p : ℕ) → is_transfer form ≡ false → ask_of form (moved cpu p) ≡ ask_of form cpu
 unfolding ask_of is_transfer
-ask_of-moved Nop cpu p h = refl
-ask_of-moved (Movw d r) cpu p h = refl
-ask_of-moved (Muls d r) cpu p h = refl
-ask_of-moved (Product op d r) cpu p h = refl
-ask_of-moved (Two op d r) cpu p h = refl
-ask_of-moved (Imm op d k) cpu p h = refl
-ask_of-moved (Word op l k) cpu p h = refl
-ask_of-moved (One op d) cpu p h = refl
-ask_of-moved (LoadOff d base q) cpu p h = refl
-ask_of-moved (StoreOff base q r) cpu p h = refl
-ask_of-moved (LoadAt d pointer) cpu p h = refl
-ask_of-moved (StoreAt pointer r) cpu p h = refl
-ask_of-moved (Lds d a) cpu p h = refl
-ask_of-moved (Sts a r) cpu p h = refl
-ask_of-moved (Pop d) cpu p h = refl
-ask_of-moved (Push r) cpu p h = refl
-ask_of-moved Lpm0 cpu p h = refl
-ask_of-moved Elpm0 cpu p h = refl
-ask_of-moved (Lpm d inc) cpu p h = refl
-ask_of-moved (Elpm d true) cpu p h = refl
-ask_of-moved (Elpm d false) cpu p h = refl
-ask_of-moved (InIo d a) cpu p h = refl
-ask_of-moved (OutIo a r) cpu p h = refl
-ask_of-moved (Cbi a b) cpu p h = refl
-ask_of-moved (Sbi a b) cpu p h = refl
-ask_of-moved (Bld d b) cpu p h = refl
-ask_of-moved (Bst d b) cpu p h = refl
-ask_of-moved (Bset b) cpu p h = refl
-ask_of-moved (Bclr b) cpu p h = refl
-ask_of-moved Break cpu p h = refl
-ask_of-moved Wdr cpu p h = refl
-ask_of-moved _ cpu p h = absurd (false≢true (sym h))
+ask_of_moved Nop cpu p h = refl
+ask_of_moved (Movw d r) cpu p h = refl
+ask_of_moved (Muls d r) cpu p h = refl
+ask_of_moved (Product op d r) cpu p h = refl
+ask_of_moved (Two op d r) cpu p h = refl
+ask_of_moved (Imm op d k) cpu p h = refl
+ask_of_moved (Word op l k) cpu p h = refl
+ask_of_moved (One op d) cpu p h = refl
+ask_of_moved (LoadOff d base q) cpu p h = refl
+ask_of_moved (StoreOff base q r) cpu p h = refl
+ask_of_moved (LoadAt d pointer) cpu p h = refl
+ask_of_moved (StoreAt pointer r) cpu p h = refl
+ask_of_moved (Lds d a) cpu p h = refl
+ask_of_moved (Sts a r) cpu p h = refl
+ask_of_moved (Pop d) cpu p h = refl
+ask_of_moved (Push r) cpu p h = refl
+ask_of_moved Lpm0 cpu p h = refl
+ask_of_moved Elpm0 cpu p h = refl
+ask_of_moved (Lpm d inc) cpu p h = refl
+ask_of_moved (Elpm d true) cpu p h = refl
+ask_of_moved (Elpm d false) cpu p h = refl
+ask_of_moved (InIo d a) cpu p h = refl
+ask_of_moved (OutIo a r) cpu p h = refl
+ask_of_moved (Cbi a b) cpu p h = refl
+ask_of_moved (Sbi a b) cpu p h = refl
+ask_of_moved (Bld d b) cpu p h = refl
+ask_of_moved (Bst d b) cpu p h = refl
+ask_of_moved (Bset b) cpu p h = refl
+ask_of_moved (Bclr b) cpu p h = refl
+ask_of_moved Break cpu p h = refl
+ask_of_moved Wdr cpu p h = refl
+ask_of_moved _ cpu p h = absurd (false≢true (sym h))
 
 finish_of-moved : (form : Form) (cpu : Cpu) (p n m : ℕ) (answer : Answer) → is_transfer form ≡ false
     → finish_of form (moved cpu p) m answer ≡ moved (finish_of form cpu n answer) (raised p (size_of form))
@@ -157,7 +159,7 @@ pub exec_straight : {S : Type 0} (calls : Calls S) (form : Form) (cpu : Cpu) (sp
     → exec_of calls form (placed cpu p q) space m ≡ answered_by (λ t. placed t (raised p 1) q) (exec_of calls form cpu space n)
 unfolding exec_of
 exec_straight calls form cpu space n m p q h =
-    ap (λ a. answered_by (finish_of form (placed cpu p q) m) (answer_of calls space a)) (ask_of-straight form cpu p (λ _. q) h)
+    ap (λ a. answered_by (finish_of form (placed cpu p q) m) (answer_of calls space a)) (ask_of_straight form cpu p (λ _. q) h)
     ∙ answered_by-then
     (finish_of form (placed cpu p q) m)
     (finish_of form cpu n)
@@ -171,7 +173,7 @@ pub exec_moved : {S : Type 0} (calls : Calls S) (form : Form) (cpu : Cpu) (space
     → exec_of calls form (moved cpu p) space m ≡ answered_by (λ t. moved t (raised p (size_of form))) (exec_of calls form cpu space n)
 unfolding exec_of
 exec_moved calls form cpu space n m p h =
-    ap (λ a. answered_by (finish_of form (moved cpu p) m) (answer_of calls space a)) (ask_of-moved form cpu p h)
+    ap (λ a. answered_by (finish_of form (moved cpu p) m) (answer_of calls space a)) (ask_of_moved form cpu p h)
     ∙ answered_by-then
     (finish_of form (moved cpu p) m)
     (finish_of form cpu n)

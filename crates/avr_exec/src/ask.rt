@@ -120,6 +120,7 @@ fn store_to(address: u16, value: u8) -> Ask
 
 /// What an instruction asks of its bus, with these registers.
 #[tactic(auto, unfolding(crate::specs::Asks::ask_of, crate::specs::Asks::IsFine))]
+#[inline(always)]
 pub fn asks(i: &Instr, cpu: &Cpu) -> Ask
     ensures value { result ≡ ask_of i.now cpu.now }
     ensures fine { IsFine result }

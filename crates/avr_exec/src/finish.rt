@@ -119,6 +119,7 @@ fn return_to(cpu: &mut Cpu, address: u16)
 /// What an instruction does to the registers, once the bus has answered. `next_size` is the number of
 /// words of the next instruction.
 #[tactic(auto, unfolding(crate::specs::Effects::finish_of))]
+#[inline(always)]
 pub(crate) fn finish(form: &Form, cpu: &mut Cpu, next_size: u16, answer: &Answer)
     requires { next_size ≤ 2 }
     ensures { cpu.new ≡ finish_of form.now cpu.old next_size answer.now }

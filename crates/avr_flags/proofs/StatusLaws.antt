@@ -1,10 +1,10 @@
 -- What reading a flag gives after one was made, and the flags that branches test after DEC, SUB and CPI.
-use Rattle.std.proofs.Common.{◌≡◌, ◌≢◌, ℕ, ◌+◌, ◌*◌, ◌/◌, ◌%◌, ◌^◌, ◌<◌, ◌==◌, nat_lt, nat_le, pos, ◌-ℤ◌, Bool, true, false, not, ◌&&◌, ◌||◌, inl, inr, refl, ◌∙◌, arith}
+use Rattle.std.proofs.Common.{◌≡◌, ◌≢◌, ℕ, ◌+◌, ◌*◌, ◌/◌, ◌%◌, ◌^◌, ◌<◌, ◌==◌, nat_lt, Bool, true, false, not, ◌&&◌, ◌||◌, inl, inr, refl, ◌∙◌, arith}
 use Rattle.std.proofs.Math.Bool.{beq}
 use Rattle.std.proofs.lemmas.Bool.{agree_below, agree_below_at}
 use Rattle.std.proofs.lemmas.Bool.Decides.{nat_tests}
-use Rattle.avr_flags.specs.Status.{is_weight, has_bit, with_bit, carry, zero_flag, half_carry, with_result_flags, differ, negative, overflow, sign}
-use Rattle.avr_flags.specs.Sums.{byte_difference, leaves_byte, signed_byte, dec_status, difference_status}
+use Rattle.avr_flags.specs.Status.{is_weight, has_bit, with_bit, carry, zero_flag, half_carry, with_result_flags}
+use Rattle.avr_flags.specs.Sums.{byte_difference, dec_status, difference_status}
 use Rattle.avr_flags.proofs.StatusTables.{each_weight}
 
 -- whether flag u reads right in n with flag w made
@@ -70,42 +70,40 @@ pub with_bit-fits : (n w : ℕ) (v : Bool) → n < 256 → is_weight w ≡ true 
 with_bit-fits n w true fits h = let r : reads w w n ≡ true = reads_right n w w fits h h in grind (arith, nat_tests)
 with_bit-fits n w false fits h = let r : reads w w n ≡ true = reads_right n w w fits h h in grind (arith, nat_tests)
 
--- before Z is made, N, V and S are
-before_zero : ℕ → Bool → Bool → ℕ
-before_zero status n v = with_bit (with_bit (with_bit status sign (differ n v)) overflow v) negative n
+-- a flag just made reads so in a number of any size, the flag being C or Z
+carry_made : (n : ℕ) (v : Bool) → has_bit (with_bit n carry v) carry ≡ v
+carry_made n true = grind (arith, nat_tests)
+carry_made n false = grind (arith, nat_tests)
 
-before_zero-fits : (status : ℕ) (n v : Bool) → status < 256 → before_zero status n v < 256
-unfolding before_zero
-before_zero-fits status n v fits =
-    with_bit-fits _ negative n (with_bit-fits _ overflow v (with_bit-fits status sign (differ n v) fits refl) refl) refl
+zero_made : (n : ℕ) (v : Bool) → has_bit (with_bit n zero_flag v) zero_flag ≡ v
+zero_made n true = grind (arith, nat_tests)
+zero_made n false = grind (arith, nat_tests)
 
-with_result_flags-fits : (status : ℕ) (n z v : Bool) → status < 256 → with_result_flags status n z v < 256
-unfolding before_zero with_result_flags
-with_result_flags-fits status n z v fits = with_bit-fits (before_zero status n v) zero_flag z (before_zero-fits status n v fits) refl
+-- Z stays where C or H is made
+zero_with_carry : (n : ℕ) (v : Bool) → has_bit (with_bit n carry v) zero_flag ≡ has_bit n zero_flag
+zero_with_carry n true = grind (arith, nat_tests)
+zero_with_carry n false = grind (arith, nat_tests)
 
-zero-with_result_flags : (status : ℕ) (n z v : Bool) → status < 256 → has_bit (with_result_flags status n z v) zero_flag ≡ z
-unfolding before_zero with_result_flags
-zero-with_result_flags status n z v fits = has_bit-with_bit (before_zero status n v) zero_flag z (before_zero-fits status n v fits) refl
+zero_with_half_carry : (n : ℕ) (v : Bool) → has_bit (with_bit n half_carry v) zero_flag ≡ has_bit n zero_flag
+zero_with_half_carry n true = grind (arith, nat_tests)
+zero_with_half_carry n false = grind (arith, nat_tests)
+
+zero-with_result_flags : (status : ℕ) (n z v : Bool) → has_bit (with_result_flags status n z v) zero_flag ≡ z
+unfolding with_result_flags
+zero-with_result_flags status n z v = zero_made _ z
 
 -- Z after DEC, which BRNE and BREQ test
-pub zero-dec_status : (status d : ℕ) → status < 256 → has_bit (dec_status status d) zero_flag ≡ (byte_difference d 1 0 == 0)
+pub zero-dec_status : (status d : ℕ) → has_bit (dec_status status d) zero_flag ≡ (byte_difference d 1 0 == 0)
 unfolding dec_status
-zero-dec_status status d fits = zero-with_result_flags status _ _ _ fits
+zero-dec_status status d = zero-with_result_flags status _ _ _
 
 -- C after a difference, which BRLO and BRSH test
-pub carry-difference_status : (status d r c : ℕ) (z : Bool) → status < 256 → has_bit (difference_status status d r c z) carry ≡ nat_lt d (r + c)
+pub carry-difference_status : (status d r c : ℕ) (z : Bool) → has_bit (difference_status status d r c z) carry ≡ nat_lt d (r + c)
 unfolding difference_status
-carry-difference_status status d r c z fits =
-    has_bit-with_bit _ carry _ (with_bit-fits _ half_carry _ (with_result_flags-fits status _ z _ fits) refl) refl
+carry-difference_status status d r c z = carry_made _ (nat_lt d (r + c))
 
 -- Z after a difference, which BREQ and BRNE test
-pub zero-difference_status : (status d r c : ℕ) (z : Bool) → status < 256 → has_bit (difference_status status d r c z) zero_flag ≡ z
+pub zero-difference_status : (status d r c : ℕ) (z : Bool) → has_bit (difference_status status d r c z) zero_flag ≡ z
 unfolding difference_status
-zero-difference_status status d r c z fits =
-    let other : carry ≢ zero_flag = omega arith in
-    let another : half_carry ≢ zero_flag = omega arith in
-    let kept = with_result_flags-fits status (nat_le 128 (byte_difference d r c)) z (leaves_byte (signed_byte d -ℤ signed_byte r -ℤ pos c)) fits in
-    let half = with_bit-fits _ half_carry (nat_lt (d % 16) (r % 16 + c)) kept refl in
-    has_bit-with_bit_other _ carry zero_flag (nat_lt d (r + c)) half refl refl other
-    ∙ has_bit-with_bit_other _ half_carry zero_flag (nat_lt (d % 16) (r % 16 + c)) kept refl refl another
-    ∙ zero-with_result_flags status _ z _ fits
+zero-difference_status status d r c z =
+    zero_with_carry _ (nat_lt d (r + c)) ∙ zero_with_half_carry _ (nat_lt (d % 16) (r % 16 + c)) ∙ zero-with_result_flags status _ z _

@@ -32,6 +32,7 @@ impl Instr {
     /// The instruction of this form. None at the undefined pairs, as `LD r26, X+`, `ST -Y, r29` and
     /// `LPM r30, Z+`.
     #[tactic(auto, unfolding(crate::specs::Instruction::is_valid))]
+    #[inline(always)]
     pub fn new(form: Form) -> Option<Instr>
         ensures value { SomeIff result (is_undefined form ≡ false) form }
     {
@@ -66,6 +67,7 @@ pub fn size(i: &Instr) -> u16
 
 // Whether a load or store changes the pointer that its data register is part of.
 #[tactic(auto, unfolding(crate::specs::Instruction::is_undefined))]
+#[inline(always)]
 fn is_undefined_pair(form: &Form) -> bool
     ensures value { result ≡ is_undefined form.now }
 {

@@ -1,1 +1,4 @@
 pub mod ArrivalLaws
+pub mod KeptLaws
+pub mod AnswerLaws
+pub mod CountLaws

@@ -1,36 +1,22 @@
--- Arrivals: what becomes of flash, and what is answered, where control arrives at an original address.
--- There are four outcomes, by what flash holds before (docs/LOADER.md). `old` and `new` are flash before
--- and after, t is the address.
-use Rattle.std.specs.Prelude.{◌≡◌, ℕ, ◌<◌, ◌≤◌, List, Result, Ok, Err}
-use Rattle.flash_model.specs.Memory.{Memory}
+-- Arrivals: what becomes of flash and SRAM, and what is answered, where control arrives at an original
+-- address (docs/LOADER.md, "An arrival"). The store before decides the effects and the answer; the store
+-- after is what the effects leave. t is the address.
+use Rattle.std.specs.Prelude.{◌≡◌, ℕ, ◌<◌, ◌≤◌, List, [], ◌∷◌, Result, Ok, Err}
 use Rattle.flash_model.specs.declared.layout.Layout.{Layout}
+use Rattle.nat_template.specs.Stubs.{words_of}
 use Rattle.page_index.specs.Entries.{IsEntry}
-use Rattle.nat_page.specs.Making.{image_of, HasNoEntry, HasNoFree, Naturalises}
+use Rattle.nat_page.specs.CodePages.{page_pieces}
+use Rattle.nat_page.specs.Making.{image_of, HasNoEntry, HasNoFree, Naturalises, filled}
 use Rattle.branch_bridge.specs.declared.arrival.ArriveStop.{ArriveStop}
 use Rattle.branch_bridge.specs.declared.arrival.ArriveStop.TheVariants.{Wild, CodeFull}
+use Rattle.branch_bridge.specs.declared.arrival.Moved.{Moved}
+use Rattle.branch_bridge.specs.Effects.{Store, Effect, Make, all_done, makes_page}
 
--- t is outside the image: nothing changes
-pub record IsOutside (layout : Layout) (old new : Memory) (t : ℕ) (result : Result ℕ ArriveStop) : Type 0 where
+-- t is outside the image: nothing is done
+pub record IsOutside (layout : Layout) (t : ℕ) (effects : List Effect) (result : Result Moved ArriveStop) : Type 0 where
   pub outside : layout.image_words ≤ t
+  pub nothing : effects ≡ []
   pub answer : result ≡ Err (Wild t)
-  pub left : new ≡ old
-
--- t has an entry: control goes on at its place, and nothing changes
-pub record IsKnown (layout : Layout) (old new : Memory) (t : ℕ) (result : Result ℕ ArriveStop) : Type 0 where
-  pub inside : t < layout.image_words
-  pub place : ℕ
-  pub entry : IsEntry layout old.words t place
-  pub answer : result ≡ Ok place
-  pub left : new ≡ old
-
--- t has no entry: the lowest page that is free gets the run from t, and control goes on at the place of t
-pub record IsMadeNow (layout : Layout) (old new : Memory) (t : ℕ) (result : Result ℕ ArriveStop) : Type 0 where
-  pub inside : t < layout.image_words
-  pub unknown : HasNoEntry layout old.words t
-  pub place : ℕ
-  pub made : Naturalises layout (image_of layout old.words) old.words new.words t place
-  pub answer : result ≡ Ok place
-  pub erases : new.erases ≡ old.erases
 
 -- t has no entry, and no page is free to make one
 pub record HasNoRoom (layout : Layout) (words : List ℕ) (t : ℕ) : Type 0 where
@@ -38,14 +24,53 @@ pub record HasNoRoom (layout : Layout) (words : List ℕ) (t : ℕ) : Type 0 whe
   pub unknown : HasNoEntry layout words t
   pub full : HasNoFree layout words
 
--- then nothing changes
-pub record IsFull (layout : Layout) (old new : Memory) (t : ℕ) (result : Result ℕ ArriveStop) : Type 0 where
-  pub room : HasNoRoom layout old.words t
+-- then nothing is done either
+pub record IsFull (layout : Layout) (store : Store) (t : ℕ) (effects : List Effect) (result : Result Moved ArriveStop) : Type 0 where
+  pub room : HasNoRoom layout store.flash.words t
+  pub nothing : effects ≡ []
   pub answer : result ≡ Err (CodeFull t)
-  pub left : new ≡ old
 
-pub data Arrives (layout : Layout) (old new : Memory) (t : ℕ) (result : Result ℕ ArriveStop) : Type 0 where
-  Outside : IsOutside layout old new t result → Arrives layout old new t result
-  Known : IsKnown layout old new t result → Arrives layout old new t result
-  Made : IsMadeNow layout old new t result → Arrives layout old new t result
-  Full : IsFull layout old new t result → Arrives layout old new t result
+-- t has an entry: that is its place, and nothing has to be done for it
+pub record IsKnown (layout : Layout) (store : Store) (t place : ℕ) (effects : List Effect) : Type 0 where
+  pub entry : IsEntry layout store.flash.words t place
+  pub nothing : effects ≡ []
+
+-- t has no entry: the lowest page that is free is made, with the run from t, and t's place is in it
+pub record IsMadeNow (layout : Layout) (store : Store) (t place : ℕ) (effects : List Effect) : Type 0 where
+  pub unknown : HasNoEntry layout store.flash.words t
+  pub made : Naturalises layout (image_of layout store.flash.words) store.flash.words (all_done store effects).flash.words t place
+  pub making : effects ≡ Make made.page (filled (words_of (page_pieces (image_of layout store.flash.words) t made.makes.last))) ∷ []
+
+-- t's place, and what has to be done for it
+pub data Places (layout : Layout) (store : Store) (t place : ℕ) (effects : List Effect) : Type 0 where
+  Known : IsKnown layout store t place effects → Places layout store t place effects
+  Made : IsMadeNow layout store t place effects → Places layout store t place effects
+
+-- control goes on at t's place
+pub record Goes (layout : Layout) (store : Store) (t : ℕ) (effects : List Effect) (result : Result Moved ArriveStop) : Type 0 where
+  pub inside : t < layout.image_words
+  pub place : ℕ
+  pub places : Places layout store t place effects
+  pub answer : result ≡ Ok (record { place = place; made = makes_page effects })
+
+-- what has to be done for an arrival at t, and what is answered
+pub data Plans (layout : Layout) (store : Store) (t : ℕ) (effects : List Effect) (result : Result Moved ArriveStop) : Type 0 where
+  Outside : IsOutside layout t effects result → Plans layout store t effects result
+  Full : IsFull layout store t effects result → Plans layout store t effects result
+  Went : Goes layout store t effects result → Plans layout store t effects result
+
+-- the arrival: that is done
+pub record Arrives (layout : Layout) (old new : Store) (t : ℕ) (result : Result Moved ArriveStop) : Type 0 where
+  pub effects : List Effect
+  pub plan : Plans layout old t effects result
+  pub after : new ≡ all_done old effects
+
+-- the same, where of the answer only the place is told
+abbrev pub place_of : Result Moved ArriveStop → Result ℕ ArriveStop
+place_of (Ok moved) = Ok moved.place
+place_of (Err stop) = Err stop
+
+pub record ArrivesAt (layout : Layout) (old new : Store) (t : ℕ) (result : Result ℕ ArriveStop) : Type 0 where
+  pub told : Result Moved ArriveStop
+  pub arrives : Arrives layout old new t told
+  pub answer : result ≡ place_of told

@@ -1,2 +1,3 @@
 -- What an arrival at an original address changes and answers.
+pub mod Effects
 pub mod Arrivals

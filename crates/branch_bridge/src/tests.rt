@@ -22,17 +22,31 @@ fn loaded(rt: &HostRuntime, layout: &Layout) -> Result<Flash, &'static str>
     }
 }
 
+/// Control goes on at this place.
+fn went(place: u16, made: bool) -> Result<Moved, ArriveStop> {
+    Ok(Moved { place, made })
+}
+
 #[test]
 #[tactic(auto, using(addr_tables::proofs::TableLaws::boot_tables))]
 fn a_page_is_made_at_the_first_arrival_alone(rt: HostRuntime) -> Result<(), Fail> {
     let layout = Layout::usual(5);
     let mut flash = loaded(&rt, &layout)?;
     let mut sram = Sram::new();
-    assert_eq!(rt; arrive(&mut sram, &mut flash, &layout, 0), Ok(0x4003));
-    assert_eq!(rt; arrive(&mut sram, &mut flash, &layout, 2), Ok(0x4085));
-    assert_eq!(rt; arrive(&mut sram, &mut flash, &layout, 2), Ok(0x4085));
     assert_eq!(rt;
-        arrive(&mut sram, &mut flash, &layout, 5),
+        arrive_telling(&mut sram, &mut flash, &layout, 0),
+        went(0x4003, true)
+    );
+    assert_eq!(rt;
+        arrive_telling(&mut sram, &mut flash, &layout, 2),
+        went(0x4085, true)
+    );
+    assert_eq!(rt;
+        arrive_telling(&mut sram, &mut flash, &layout, 2),
+        went(0x4085, false)
+    );
+    assert_eq!(rt;
+        arrive_telling(&mut sram, &mut flash, &layout, 5),
         Err(ArriveStop::Wild { address: 5 })
     );
     let pages = [flash.word(0x4000), flash.word(0x4080), flash.word(0x4100)];

@@ -1,4 +1,5 @@
 mod Pieces
 mod Programming
 pub mod PageLaws
+pub mod WordLaws
 pub mod LoadedLaws

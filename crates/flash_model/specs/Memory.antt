@@ -1,15 +1,20 @@
 -- The flash as contracts see it, and as it is first.
-use Rattle.std.specs.Prelude.{◌≡◌, ℕ, ◌-◌, List, ◌++◌, length}
-use Rattle.flash_model.specs.Pages.{word_count, page_count, many}
+use Rattle.std.specs.Prelude.{◌≡◌, ℕ, ◌-◌, ◌<◌, List, ◌++◌, length}
+use Rattle.flash_model.specs.Pages.{word_count, page_count, many, word_at}
 
 -- the words from address 0 on, and how often each page was erased
 pub record Memory : Type 0 where
   pub words : List ℕ
   pub erases : List ℕ
 
--- the part has 65,536 words in 512 pages
+-- each word has 16 bits
+abbrev pub AreWords : List ℕ → Type 0
+AreWords words = (a : ℕ) → word_at words a < 65536
+
+-- the part has 65,536 words in 512 pages, and a word has 16 bits
 pub record IsWhole (memory : Memory) : Type 0 where
   pub words : length memory.words ≡ word_count
+  pub words_fit : AreWords memory.words
   pub erases : length memory.erases ≡ page_count
 
 -- the first word of the kernel's pages 480 to 511

@@ -2,7 +2,7 @@
 
 ghost use Rattle.std.specs.Prelude.{◌≡◌, ◌+◌, ◌-◌, ◌*◌, ◌≤◌, ◌<◌, ◌++◌, length, OnOk, OnErr, IfOk, slice_index, slice_set};
 ghost use Rattle.flash_model.specs.Pages.{word_count, page_count, page_words, many, word_at, page_of, set_page, blank, programmed, raised};
-ghost use Rattle.flash_model.specs.Memory.{IsWhole, loaded};
+ghost use Rattle.flash_model.specs.Memory.{AreWords, IsWhole, loaded};
 
 use std::alloc::Global;
 use std::marker::Model;
@@ -108,6 +108,7 @@ fn loaded_words(alloc: Global, image: &[u16]) -> Result<Vec<u16>, NoMemory>
     requires { length image.now ≤ 16384 }
     ensures value { IfOk result (λ words. words.items ≡ loaded image.now) }
     ensures size { IfOk result (λ words. length words.items ≡ word_count) }
+    ensures fit { IfOk result (λ words. AreWords words.items) }
 {
     let mut words = Vec::with_capacity(alloc, WORDS).map_err(|_| NoMemory)?;
     words.extend_from_slice(image).map_err(|_| NoMemory)?;

@@ -1,5 +1,5 @@
 -- Reading the lines of a text.
-use Rattle.std.proofs.Common.{◌≡◌, ◌≢◌, ℕ, zero, suc, ◌+◌, ◌-◌, add-one, ◌<◌, ◌≤◌, List, [], ◌∷◌, ◌++◌, length, take, drop, map, refl, sym, ap, ◌∙◌, arith, inl, inr, Some, None}
+use Rattle.std.proofs.Common.{◌≡◌, ◌≢◌, ℕ, zero, suc, ◌+◌, ◌-◌, add-one, ◌<◌, ◌≤◌, List, [], ◌∷◌, ◌++◌, length, take, drop, map, refl, sym, ap, ◌∙◌, arith, inl, inr, Option, Some, None, subst}
 use Rattle.std.specs.List.{concat, slice_get}
 use Rattle.std.proofs.lemmas.List.{append-nil, drop-map, length-append}
 use Rattle.std.proofs.lemmas.List.Folds.{concat-append}
@@ -167,3 +167,14 @@ read_without_memory text rest line after n reading is cut sound unended some =
       ];
       some = rw (lines-next text rest line after n reading is cut) some;
     }
+
+-- a number of lines, or a position, that is written otherwise
+pub read_numbered : (text rest : List ℕ) (n other : ℕ) (reading : Reading) → IsRead text rest n reading → other ≡ n → IsRead text rest other reading
+read_numbered text rest n other reading is same =
+    let P : ℕ → Type 0 = λ m. IsRead text rest m reading in
+    subst P (sym same) is
+
+pub ended_at : (text : List ℕ) (slots : List (Option ℕ)) (position other : ℕ) → IsEnded text slots position → other ≡ position → IsEnded text slots other
+ended_at text slots position other is same =
+    let P : ℕ → Type 0 = λ at. IsEnded text slots at in
+    subst P (sym same) is

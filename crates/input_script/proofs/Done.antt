@@ -1,10 +1,11 @@
 -- The lines that are read so far, and what reading one more makes of them.
-use Rattle.std.proofs.Common.{◌≡◌, ℕ, ◌+◌, List, [], ◌∷◌, ◌++◌, length, ap, ◌∙◌, sym, refl, subst, inl, inr}
+use Rattle.std.proofs.Common.{◌≡◌, ◌≢◌, ℕ, ◌+◌, arith, List, [], ◌∷◌, ◌++◌, length, ap, ◌∙◌, sym, refl, subst, inl, inr}
 use Rattle.std.proofs.lemmas.List.{append_assoc, append-nil, length_push}
 use Rattle.input_script.specs.declared.input.Event.{Event}
 use Rattle.input_script.specs.declared.fault.ScriptFault.{ScriptFault}
 use Rattle.input_script.specs.Grammar.{IsSkipped, IsEvent}
-use Rattle.input_script.specs.Script.{Spells, Accepts, IsFirstFault, IsFaulty}
+use Rattle.input_script.specs.Script.{Spells, Accepts, IsFirstFault, IsFaulty, NeedsMemory}
+use Rattle.input_script.specs.Lines.{lines_of}
 use Rattle.input_script.specs.Judging.{IsNext, Takes}
 use Rattle.input_script.proofs.Spelling.{spells_join}
 use Rattle.input_script.proofs.Schedules.{schedule_push}
@@ -52,6 +53,21 @@ done_fault lines rest line number events fault done faulty = record {
   fault_is = faulty;
 }
 
+pub event_some : (before : List Event) (event : Event) → before ++ event ∷ [] ≢ []
+event_some [] event = λ none. absurd (omega (arith, ap length none))
+event_some (earlier ∷ before) event = λ none. absurd (omega (arith, ap length none))
+
+-- the first lines are accepted with some events
+pub done_memory : (text : List ℕ) (rest : List (List ℕ)) (number : ℕ) (events : List Event) → events ≢ [] → IsDone (lines_of text) number events rest → NeedsMemory text
+done_memory text rest number events some done = record {
+  front = done.front;
+  rest = rest;
+  cut = done.cut;
+  events = events;
+  accepted = done.accepted;
+  some = some;
+}
+
 pub done_all : (lines : List (List ℕ)) (number : ℕ) (events : List Event) → IsDone lines number events [] → Accepts lines events
 done_all lines number events done =
     let P : List (List ℕ) → Type 0 = λ all. Accepts all events in
@@ -65,3 +81,9 @@ done_take lines rest line number before after done takes =
       | inl skipped ↦ subst P (sym skipped.1) (done_skip lines rest line number before done skipped.0)
       | inr event ↦ subst P (sym event.3) (done_event lines rest line number before event.0 done event.1 event.2)
     ]
+
+-- a number of lines that is written otherwise
+pub done_numbered : (lines rest : List (List ℕ)) (number other : ℕ) (events : List Event) → IsDone lines number events rest → other ≡ number → IsDone lines other events rest
+done_numbered lines rest number other events done same =
+    let P : ℕ → Type 0 = λ n. IsDone lines n events rest in
+    subst P (sym same) done

@@ -34,7 +34,7 @@ IsWrong TooMany before event = (¬ IsLate before event) × IsInRange event × (m
 abbrev pub Takes : List ℕ → List Event → List Event → Type 0
 Takes line before after = (IsSkipped line × (after ≡ before)) ⊎ ((event : Event) × IsEvent line event × IsNext before event × (after ≡ before ++ event ∷ []))
 
--- the answer that a line with this number gets: its first fault, or want of memory
+-- the answer that a line with this number gets: its first fault, or want of memory for its event
 abbrev pub IsRefusal : ScriptError → ℕ → List ℕ → List Event → Type 0
-IsRefusal NoMemory number line before = Unit {0}
+IsRefusal NoMemory number line before = (event : Event) × IsEvent line event × IsNext before event
 IsRefusal (Bad at fault) number line before = (at ≡ number) × IsFirstFault fault before line

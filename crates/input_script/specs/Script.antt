@@ -1,5 +1,5 @@
 -- A whole script: the texts that are accepted, with their events, and the first fault of the others.
-use Rattle.std.specs.Prelude.{◌≡◌, ℕ, ◌+◌, ◌<◌, ◌≤◌, ◌⊎◌, List, [], ◌∷◌, ◌++◌, length, All, Any, AllPairs}
+use Rattle.std.specs.Prelude.{◌≡◌, ◌≢◌, ℕ, ◌+◌, ◌<◌, ◌≤◌, ◌⊎◌, List, [], ◌∷◌, ◌++◌, length, All, Any, AllPairs}
 use Rattle.input_script.specs.declared.input.Input.{Input}
 use Rattle.input_script.specs.declared.input.Input.TheVariants.{Adc}
 use Rattle.input_script.specs.declared.input.Event.{Event}
@@ -74,6 +74,15 @@ pub record IsFaulty (lines : List (List ℕ)) (number : ℕ) (fault : ScriptFaul
 -- a refused text, the number of its first faulty line, and that line's first fault
 abbrev pub IsBad : List ℕ → ℕ → ScriptFault → Type 0
 IsBad text number fault = IsFaulty (lines_of text) number fault
+
+-- the first lines are accepted, and write an event
+pub record NeedsMemory (text : List ℕ) : Type 0 where
+  pub front : List (List ℕ)
+  pub rest : List (List ℕ)
+  pub cut : lines_of text ≡ front ++ rest
+  pub events : List Event
+  pub accepted : Accepts front events
+  pub some : events ≢ []
 
 -- a text has at most one list of events, or one fault, and not both
 pub record HasOneJudgement (text : List ℕ) : Type 0 where

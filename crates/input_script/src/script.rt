@@ -4,7 +4,7 @@ ghost use Rattle.std.specs.Prelude.{◌≡◌, ℕ, ◌≤◌, ◌<◌, ◌+◌,
 ghost use Rattle.input_script.specs.declared.input.Event.{Event};
 ghost use Rattle.input_script.specs.declared.fault.ScriptFault.{ScriptFault};
 ghost use Rattle.input_script.specs.Grammar.{IsSkipped, IsEvent};
-ghost use Rattle.input_script.specs.Script.{IsSchedule, IsInRange, IsScript, IsBad, IsFirstFault, HasOneJudgement};
+ghost use Rattle.input_script.specs.Script.{IsSchedule, IsInRange, IsScript, IsBad, IsFirstFault, NeedsMemory, HasOneJudgement};
 ghost use Rattle.input_script.specs.Judging.{event_of, IsLate, IsNext, IsWrong, Takes, IsRefusal};
 
 use crate::fault::{ScriptError, ScriptFault};
@@ -61,6 +61,8 @@ pub fn read(alloc: Global, text: &[u8]) -> Result<Script, ScriptError>
     ensures accepted { (events : List Event) → IsScript text.now events → (result ≡ Ok events) ⊎ (result ≡ Err ScriptError.NoMemory) }
     // A faulty text is refused with its fault, unless memory runs out.
     ensures refused { (line : ℕ) → (fault : ScriptFault) → IsBad text.now line fault → (result ≡ Err (ScriptError.Bad line fault)) ⊎ (result ≡ Err ScriptError.NoMemory) }
+    // Memory is wanted only for an event, of lines without a fault so far.
+    ensures memory { result ≡ Err ScriptError.NoMemory → NeedsMemory text.now }
     ensures one { HasOneJudgement text.now }
 {
     let mut events = Vec::new(alloc);

@@ -1,8 +1,9 @@
 -- An instruction that is executed over the guarded space is the original program's step.
-use Rattle.std.proofs.Common.{◌≡◌, ℕ, ◌+◌, true, false, not, ◌&&◌, length, refl, sym, ap, subst, ◌∙◌}
+use Rattle.std.proofs.Common.{◌≡◌, ℕ, ◌+◌, true, false, not, ◌&&◌, refl, sym, ap, subst, ◌∙◌}
 use Rattle.std.specs.Prelude.{Result, Ok, Err, Some, None, OnOk, OnErr, if◌then◌else◌}
 use Rattle.avr_isa.specs.declared.form.Form.{Form}
 use Rattle.avr_isa.specs.Crossing.{is_crossing}
+use Rattle.avr_decode.specs.Program.{instruction_at}
 use Rattle.avr_flags.specs.Status.{has_bit, interrupts}
 use Rattle.avr_exec.specs.declared.cpu.Cpu.{Cpu}
 use Rattle.avr_exec.specs.declared.stop.BusStop.{BusStop}
@@ -12,8 +13,8 @@ use Rattle.avr_exec.specs.Execution.{exec_of, is_executed, finished}
 use Rattle.avr_exec.specs.Likeness.{over, Leaves}
 use Rattle.heap_frames.specs.Paged.{IsPaged}
 use Rattle.mem_guard.specs.FlatSpace.{flat_calls}
-use Rattle.mem_guard.specs.FlatMachine.{Stops, Goes, tried, stepped, space_of, instruction_at, next_size, jumps_to_itself, end_at}
-use Rattle.mem_guard.specs.Guarded.{Guarded, flat_of, state_of, image_of, guarded_calls}
+use Rattle.mem_guard.specs.FlatMachine.{Stops, Goes, tried, stepped, space_of, next_size, jumps_to_itself, end_at}
+use Rattle.mem_guard.specs.Guarded.{Guarded, flat_of, state_of, image_of, program_of, guarded_calls}
 use Rattle.mem_guard.specs.Left.{IsKept, HeapAfter}
 use Rattle.mem_guard.proofs.MachineLaws.{tried_step}
 use Rattle.mem_guard.proofs.Alike.{executed_alike}
@@ -46,29 +47,29 @@ executed_left result form cpu cpu' g next n paged outcome stop =
 abbrev counted : ℕ → Cpu → Cpu → ℕ
 counted crossings cpu cpu' = if is_crossing cpu.pc cpu'.pc then crossings + 1 else crossings
 
-same_space : (g : Guarded) (cpu : Cpu) (steps crossings : ℕ) → g.line ≡ None → space_of (image_of g) (length g.swap) (state_of g cpu steps crossings) ≡ flat_of g
+same_space : (g : Guarded) (cpu : Cpu) (steps crossings : ℕ) → g.line ≡ None → space_of (program_of g) (state_of g cpu steps crossings) ≡ flat_of g
 same_space g cpu steps crossings none = ap (λ line. record (flat_of g) { line = line }) (sym none)
 
 step_tried : (g : Guarded) (cpu : Cpu) (steps crossings : ℕ) (form : Form) → IsPaged g.sram g.swap → g.line ≡ None
     → instruction_at (image_of g) cpu.pc ≡ Some form → is_executed form ≡ true → jumps_to_itself cpu.pc form && not (has_bit cpu.sreg interrupts) ≡ false
-    → tried (image_of g) (length g.swap) (state_of g cpu steps crossings) ≡ stepped (state_of g cpu steps crossings) (over flat_of (exec_of guarded_calls form cpu g (next_size (image_of g) cpu.pc)))
+    → tried (program_of g) (state_of g cpu steps crossings) ≡ stepped (state_of g cpu steps crossings) (over flat_of (exec_of guarded_calls form cpu g (next_size (image_of g) cpu.pc)))
 step_tried g cpu steps crossings form paged none is runs goes =
     let s = state_of g cpu steps crossings in
     let n = next_size (image_of g) cpu.pc in
-    tried_step (image_of g) (length g.swap) s form is runs goes
+    tried_step (program_of g) s form is runs goes
     ∙ ap (λ space. stepped s (exec_of flat_calls form cpu space n)) (same_space g cpu steps crossings none)
     ∙ ap (stepped s) (executed_alike form cpu g n paged)
 
 pub guarded_goes : (g next : Guarded) (cpu cpu' : Cpu) (steps crossings : ℕ) (form : Form) → IsPaged g.sram g.swap → g.line ≡ None
     → instruction_at (image_of g) cpu.pc ≡ Some form → is_executed form ≡ true → jumps_to_itself cpu.pc form && not (has_bit cpu.sreg interrupts) ≡ false
     → exec_of guarded_calls form cpu g (next_size (image_of g) cpu.pc) ≡ Went cpu' next
-    → tried (image_of g) (length g.swap) (state_of g cpu steps crossings) ≡ Goes next.line (state_of next cpu' (steps + 1) (counted crossings cpu cpu'))
+    → tried (program_of g) (state_of g cpu steps crossings) ≡ Goes next.line (state_of next cpu' (steps + 1) (counted crossings cpu cpu'))
 guarded_goes g next cpu cpu' steps crossings form paged none is runs goes went =
     step_tried g cpu steps crossings form paged none is runs goes ∙ ap (λ o. stepped (state_of g cpu steps crossings) (over flat_of o)) went
 
 pub guarded_stops : (g : Guarded) (cpu : Cpu) (steps crossings : ℕ) (form : Form) (stop : BusStop) → IsPaged g.sram g.swap → g.line ≡ None
     → instruction_at (image_of g) cpu.pc ≡ Some form → is_executed form ≡ true → jumps_to_itself cpu.pc form && not (has_bit cpu.sreg interrupts) ≡ false
     → exec_of guarded_calls form cpu g (next_size (image_of g) cpu.pc) ≡ Stopped stop
-    → tried (image_of g) (length g.swap) (state_of g cpu steps crossings) ≡ Stops (end_at cpu.pc stop)
+    → tried (program_of g) (state_of g cpu steps crossings) ≡ Stops (end_at cpu.pc stop)
 guarded_stops g cpu steps crossings form stop paged none is runs goes stopped =
     step_tried g cpu steps crossings form paged none is runs goes ∙ ap (λ o. stepped (state_of g cpu steps crossings) (over flat_of o)) stopped

@@ -3,11 +3,13 @@ mod WorkedRows
 mod WorkedPrograms
 pub mod MachineLaws
 pub mod RunLaws
-mod ImageLaws
+pub mod ImageLaws
 mod ClassLaws
 mod HeapLaws
 pub mod Alike
 pub mod Leaves
+pub mod LineLaws
 pub mod FlatCalls
 pub mod GuardedStep
 pub mod AtReset
+pub mod DeviceAnswers

@@ -6,7 +6,8 @@ use Rattle.avr_isa.specs.declared.form.Form.{Form}
 use Rattle.avr_isa.specs.declared.form.Form.TheVariants.{Jmp, Rjmp, Sleep, Spm}
 use Rattle.avr_isa.specs.Image.{word, is_inside}
 use Rattle.avr_isa.specs.Crossing.{is_crossing}
-use Rattle.avr_decode.specs.Decoding.{the_form, is_long}
+use Rattle.avr_decode.specs.Decoding.{is_long}
+use Rattle.avr_decode.specs.Program.{instruction_at}
 use Rattle.avr_flags.specs.Status.{has_bit, interrupts}
 use Rattle.avr_exec.specs.declared.cpu.Cpu.{Cpu}
 use Rattle.avr_exec.specs.declared.stop.BusStop.{BusStop}
@@ -17,6 +18,11 @@ use Rattle.avr_exec.specs.Execution.{exec_of}
 use Rattle.mote_devices.specs.declared.line.Line.{Line}
 use Rattle.mote_devices.specs.State.{State, at_reset as devices_at_reset}
 use Rattle.mem_guard.specs.FlatSpace.{FlatSpace, flat_calls}
+
+-- a program: its words from word 0 on, and how many pages of the heap it may store to
+pub record Program : Type 0 where
+  pub image : List ℕ
+  pub page_limit : ℕ
 
 -- the core, a byte for each data address, the devices, which pages of the heap were stored to, the steps
 -- done, and how many of them were crossings
@@ -46,10 +52,6 @@ pub data Tried : Type 0 where
   Stops : (end : End) → Tried
   Goes : (line : Option Line) → (next : FlatState) → Tried
 
--- the instruction at the pc, by the image's own words
-abbrev pub instruction_at : List ℕ → ℕ → Option Form
-instruction_at image pc = the_form (word image pc) (word image (raised pc 1))
-
 -- how many words the next instruction has, which a skip passes over
 abbrev pub next_size : List ℕ → ℕ → ℕ
 next_size image pc = if is_long (word image (raised pc 1)) then 2 else 1
@@ -61,13 +63,13 @@ jumps_to_itself pc (Rjmp k) = relative pc k == pc
 jumps_to_itself pc _ = false
 
 -- what an instruction reaches of the machine
-abbrev pub space_of : List ℕ → ℕ → FlatState → FlatSpace
-space_of image page_limit s = record {
+abbrev pub space_of : Program → FlatState → FlatSpace
+space_of program s = record {
   memory = s.memory;
   devices = s.devices;
   pages = s.pages;
-  page_limit = page_limit;
-  image = image;
+  page_limit = program.page_limit;
+  image = program.image;
   line = None;
 }
 
@@ -90,20 +92,20 @@ stepped s (Went cpu space) = Goes space.line (record {
 })
 
 -- the instruction is executed, unless it jumps to itself for ever
-abbrev pub executed : List ℕ → ℕ → FlatState → Form → Tried
-executed image page_limit s form =
+abbrev pub executed : Program → FlatState → Form → Tried
+executed program s form =
     if jumps_to_itself s.cpu.pc form && not (has_bit s.cpu.sreg interrupts) then Stops (Halted s.cpu.pc)
-    else stepped s (exec_of flat_calls form s.cpu (space_of image page_limit s) (next_size image s.cpu.pc))
+    else stepped s (exec_of flat_calls form s.cpu (space_of program s) (next_size program.image s.cpu.pc))
 
 -- an instruction, or none, at the pc
-abbrev pub tried_form : List ℕ → ℕ → FlatState → Option Form → Tried
-tried_form image page_limit s None = Stops (Illegal s.cpu.pc)
-tried_form image page_limit s (Some Spm) = Stops (SelfProgram s.cpu.pc)
-tried_form image page_limit s (Some Sleep) = Stops (Asleep s.cpu.pc)
-tried_form image page_limit s (Some form) = executed image page_limit s form
+abbrev pub tried_form : Program → FlatState → Option Form → Tried
+tried_form program s None = Stops (Illegal s.cpu.pc)
+tried_form program s (Some Spm) = Stops (SelfProgram s.cpu.pc)
+tried_form program s (Some Sleep) = Stops (Asleep s.cpu.pc)
+tried_form program s (Some form) = executed program s form
 
-unfoldable pub tried : List ℕ → ℕ → FlatState → Tried
-tried image page_limit s = tried_form image page_limit s (instruction_at image s.cpu.pc)
+unfoldable pub tried : Program → FlatState → Tried
+tried program s = tried_form program s (instruction_at program.image s.cpu.pc)
 
 -- an end, the lines that were written, and the state
 pub record Run : Type 0 where
@@ -125,13 +127,13 @@ followed s (Stops end) rest = ended end s
 followed s (Goes line next) rest = with_line line (rest next)
 
 -- outside the image the run ends at once
-abbrev pub if_inside : List ℕ → FlatState → Run → Run
-if_inside image s r = if is_inside image s.cpu.pc then r else ended (Wild s.cpu.pc) s
+abbrev pub if_inside : Program → FlatState → Run → Run
+if_inside program s r = if is_inside program.image s.cpu.pc then r else ended (Wild s.cpu.pc) s
 
 -- the run of at most n steps from a state
-unfoldable pub run : List ℕ → ℕ → FlatState → ℕ → Run
-run image page_limit s zero = if_inside image s (ended Spent s)
-run image page_limit s (suc n) = if_inside image s (followed s (tried image page_limit s) (λ next. run image page_limit next n))
+unfoldable pub run : Program → FlatState → ℕ → Run
+run program s zero = if_inside program s (ended Spent s)
+run program s (suc n) = if_inside program s (followed s (tried program s) (λ next. run program next n))
 
 -- n zeros
 unfoldable pub zeros : ℕ → List ℕ
@@ -153,5 +155,5 @@ at_reset events = record {
 }
 
 -- the original program's first n steps
-abbrev pub original : List ℕ → List Event → ℕ → ℕ → Run
-original image events page_limit n = run image page_limit (at_reset events) n
+abbrev pub original : Program → List Event → ℕ → Run
+original program events n = run program (at_reset events) n

@@ -18,7 +18,7 @@ use Rattle.mem_guard.specs.declared.address.AddrClass.{AddrClass}
 use Rattle.mem_guard.specs.declared.address.AddrClass.TheVariants.{Stack, Heap}
 use Rattle.mem_guard.specs.Classes.{class_of}
 use Rattle.mem_guard.specs.FlatSpace.{FlatSpace}
-use Rattle.mem_guard.specs.FlatMachine.{FlatState}
+use Rattle.mem_guard.specs.FlatMachine.{Program, FlatState}
 
 -- the bytes of SRAM, the swap slots, the devices, the words of flash and how many of them are the
 -- image's, and what the last write of a device showed outside
@@ -33,6 +33,10 @@ pub record Guarded : Type 0 where
 -- the program's words
 abbrev pub image_of : Guarded → List ℕ
 image_of g = take g.image_words g.words
+
+-- the program: as many pages of the heap may be stored to as there are slots
+abbrev pub program_of : Guarded → Program
+program_of g = record { image = image_of g; page_limit = length g.swap }
 
 -- what the program sees of it: flat memory
 abbrev pub flat_of : Guarded → FlatSpace

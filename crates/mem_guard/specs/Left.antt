@@ -1,14 +1,14 @@
 -- What an access through the guarded space leaves of the mote's own parts.
 use Rattle.std.specs.Prelude.{◌≡◌, ℕ, ◌+◌, ◌<◌, ◌≤◌, length, slice_index}
 use Rattle.avr_exec.specs.declared.ask.Ask.{Ask}
-use Rattle.avr_exec.specs.declared.ask.Ask.TheVariants.{Load as LoadAsk, Store as StoreAsk}
+use Rattle.avr_exec.specs.declared.ask.Ask.TheVariants.{Load as LoadAsk, Store as StoreAsk, Modify}
 use Rattle.sram_layout.specs.Bytes.{byte_at}
 use Rattle.heap_frames.specs.Changes.{Loaded, Stored}
 use Rattle.heap_frames.specs.Memory.{vmem}
 use Rattle.heap_frames.specs.Paged.{IsPaged}
 use Rattle.heap_frames.specs.SamePaging.{SamePaging}
 use Rattle.mem_guard.specs.declared.address.AddrClass.{AddrClass}
-use Rattle.mem_guard.specs.declared.address.AddrClass.TheVariants.{Heap}
+use Rattle.mem_guard.specs.declared.address.AddrClass.TheVariants.{Stack, Heap}
 use Rattle.mem_guard.specs.Classes.{class_of}
 use Rattle.mem_guard.specs.Guarded.{Guarded, heap_of}
 
@@ -42,3 +42,15 @@ abbrev pub HeapAfter : Guarded → Ask → Guarded → Type 0
 HeapAfter g (LoadAsk a) next = AfterLoad (class_of a) g a next
 HeapAfter g (StoreAsk a v) next = AfterStore (class_of a) g a v next
 HeapAfter g _ next = KeepsHeap g next
+
+-- a store shows something outside only where it writes a device's register
+abbrev pub LineAfterStore : AddrClass → Guarded → Guarded → Type 0
+LineAfterStore Stack g next = next.line ≡ g.line
+LineAfterStore Heap g next = next.line ≡ g.line
+LineAfterStore _ g next = Unit {0}
+
+-- what becomes of the line by the one thing that an instruction asks
+abbrev pub LineAfter : Guarded → Ask → Guarded → Type 0
+LineAfter g (StoreAsk a v) next = LineAfterStore (class_of a) g next
+LineAfter g (Modify a clear set) next = Unit {0}
+LineAfter g _ next = next.line ≡ g.line

@@ -6,3 +6,4 @@ pub mod Guarded
 pub mod Readiness
 pub mod Bus
 pub mod Left
+pub mod Physically

@@ -9,21 +9,26 @@
 //! exec(&instr, &mut cpu, &mut bus, next_size)?; // a stop says why, and changes nothing
 //! ```
 //!
+//! [`instruction_in_image`], [`next_size_in_image`] and [`word_in_image`] read the program itself from flash.
+//!
 //! The machine that the program believes it runs on stands in `specs/FlatSpace` and `specs/FlatMachine`,
 //! in plain lists and numbers: its memory, one step, and a run with its end. `specs/Guarded` is what a
 //! `VirtualBus` stands for, with the flat memory that it means (`flat_of`). Each call of the bus is the
 //! flat memory's call (`flat`); `specs/Left` says what it leaves of the mote's parts (`kept`, `heap`).
 //!
 //! Laws for the layers above: `proofs/MachineLaws` (a try in each case, and what a run does first),
-//! `proofs/Alike` and `proofs/Leaves` (every call and every instruction), and `proofs/GuardedStep` (an
-//! instruction executed over the guarded space is the original program's step).
+//! `proofs/Alike`, `proofs/Leaves` and `proofs/LineLaws` (every call and every instruction),
+//! `proofs/GuardedStep` (an instruction executed over the guarded space is the original program's step),
+//! and `proofs/ImageLaws` (the program's words and instructions as flash has them).
 #![tactic(auto)]
 
 mod address;
+mod image;
 mod parts;
 mod virtual_bus;
 
 pub use address::{AddrClass, class};
+pub use image::{instruction_in_image, next_size_in_image, word_in_image};
 pub use virtual_bus::VirtualBus;
 
 #[cfg(test)]

@@ -1,11 +1,10 @@
 //! Each access to the program's memory, by the part of the mote that keeps the byte.
 
-ghost use Rattle.std.specs.Prelude.{◌≡◌, ◌≤◌, false, take, OnErr};
-ghost use Rattle.avr_isa.specs.Image.{word};
+ghost use Rattle.std.specs.Prelude.{◌≡◌, ◌≤◌, false, OnErr};
 ghost use Rattle.avr_exec.specs.Registers.{is_own};
 ghost use Rattle.avr_exec.specs.Spaces.{told};
 ghost use Rattle.heap_frames.specs.Addresses.{is_stack as is_stack_test};
-ghost use Rattle.mem_guard.specs.Guarded.{load, store, modify, push, pop, push_return, pop_return, image_of};
+ghost use Rattle.mem_guard.specs.Guarded.{load, store, modify, push, pop, push_return, pop_return};
 ghost use Rattle.mem_guard.specs.Bus.{guarded_of, lent_of};
 ghost use Rattle.mem_guard.specs.Readiness.{IsReady};
 
@@ -14,9 +13,6 @@ use crate::virtual_bus::VirtualBus;
 use avr_exec::BusStop;
 use heap_frames::SwapFull;
 use mote_devices::IoStop;
-
-/// A word outside the program's image.
-const OUTSIDE: u16 = 0xFFFF;
 
 impl VirtualBus<'_> {
     /// The byte at a data address.
@@ -129,19 +125,6 @@ impl VirtualBus<'_> {
             return Err(BusStop::Stack(low));
         }
         Ok(u16::from(self.sram.byte(high)) * 256 + u16::from(self.sram.byte(low)))
-    }
-
-    /// The program's word at a word address, 0xFFFF outside.
-    #[tactic(auto, using(crate::proofs::ImageLaws::word_of_image, crate::proofs::ImageLaws::word_behind_image))]
-    pub(crate) fn image_word(&self, a: u32) -> u16
-        ensures value { result ≡ word (image_of (guarded_of self.now)) a }
-    {
-        let words = self.layout.image_words;
-        if a < u32::from(words) {
-            self.flash.word(a as u16)
-        } else {
-            OUTSIDE
-        }
     }
 }
 

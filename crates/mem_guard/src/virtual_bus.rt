@@ -1,5 +1,6 @@
 //! The program's memory over the mote's own parts, as a bus.
 
+use crate::image::word_in_image;
 use avr_exec::{Bus, BusStop};
 use flash_model::{Flash, Layout};
 use mote_devices::{Devices, Line};
@@ -140,7 +141,7 @@ impl Bus for VirtualBus<'_> {
     }
 
     fn flash_byte(&self, a: u32) -> u8 {
-        let word = self.image_word(a / 2);
+        let word = word_in_image(self.flash, self.layout, a / 2);
         if a % 2 == 0 {
             (word & 0xFF) as u8
         } else {

@@ -29,3 +29,11 @@ is_mapped (ExtendedProgramRaising z) = true
 unfoldable pub can_step : Option Form → Cpu → Bool
 can_step None cpu = false
 can_step (Some form) cpu = is_executed form && is_mapped (ask_of form cpu)
+
+-- nothing is asked, or an I/O register that a program may access in that direction
+unfoldable pub is_device_ask : Ask → Bool
+is_device_ask Nothing = true
+is_device_ask (Load a) = can_read a
+is_device_ask (Store a v) = can_write a
+is_device_ask (Modify a clear set) = can_read a && can_write a
+is_device_ask _ = false

@@ -3,3 +3,5 @@ pub mod Physical
 pub mod Conditions
 pub mod Shown
 pub mod Step
+pub mod QuietSteps
+pub mod Leaving

@@ -13,6 +13,11 @@
 //! `specs/Physical` is the data space, `specs/Conditions` says which addresses it has and when a step
 //! may be made, and `specs/Step` what the step is. `proofs/NeverStops` has the law that no step which
 //! may be made stops, and `proofs/KnownSteps` the mote after LDI, OUT to a port, and CALL.
+//!
+//! `specs/Leaving` says what every step leaves, by what its instruction asks (`proofs/StepLeaves`), and
+//! `specs/QuietSteps` which steps leave all that the kernel keeps. `proofs/StepsByAnswer` makes steps
+//! from the one answer of the space, and joins quiet ones; `proofs/QuietMemory` and `proofs/QuietCore`
+//! have a law for each instruction of stubs and templates.
 #![tactic(auto)]
 
 mod mote;

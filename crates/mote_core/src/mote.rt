@@ -44,6 +44,7 @@ pub struct Mote {
 
 impl Mote {
     ghost use Rattle.std.specs.Prelude.{◌≡◌, ◌<◌, ◌≤◌, ◌^◌, true, length, IfOk};
+    ghost use Rattle.flash_model.specs.Memory.{IsWhole};
     ghost use Rattle.swap_store.specs.Slots.{most_slots};
     ghost use Rattle.mote_core.specs.Step.{IsAtReset, form_at, IsPlainStep};
     ghost use Rattle.mote_core.specs.Conditions.{can_step};
@@ -55,6 +56,7 @@ impl Mote {
         requires image { length image.now ≤ 16384 }
         requires slots { slots ≤ most_slots }
         ensures reset { IfOk result (IsAtReset image.now script slots) }
+        ensures whole { IfOk result (λ mote. IsWhole mote.flash) }
     {
         Ok(Mote {
             cpu: Cpu {
@@ -75,6 +77,7 @@ impl Mote {
         requires step { can_step (form_at self.old) self.old.cpu ≡ true }
         requires room { self.old.devices.polls < 2 ^ 63 }
         ensures step { IsPlainStep self.old result self.new }
+        ensures whole { IsWhole self.new.flash }
     {
         let pc = self.cpu.pc;
         let second = self.flash.word(pc.wrapping_add(1));

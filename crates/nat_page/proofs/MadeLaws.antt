@@ -1,5 +1,5 @@
--- The page that is made: it holds its run, and the pool stays faithful.
-use Rattle.std.proofs.Common.{◌≡◌, ℕ, suc, ◌+◌, ◌-◌, ◌*◌, ◌/◌, ◌<◌, ◌≤◌, List, length, get_or, take, arith, refl, sym, ap, ◌∙◌, inl, inr, subst}
+-- The page that is made: it holds its run, all else stays, and the pool stays faithful.
+use Rattle.std.proofs.Common.{◌≡◌, ℕ, ◌+◌, ◌-◌, ◌*◌, ◌<◌, ◌≤◌, List, length, get_or, take, arith, refl, sym, ap, ◌∙◌, inl, inr, subst}
 use Rattle.std.specs.Prelude.{◌≢◌, slice_index}
 use Rattle.std.proofs.lemmas.Bool.{cases_lt, cases_eq}
 use Rattle.std.proofs.lemmas.List.{length-append, get_or_append_left, get_or-append_right}
@@ -9,16 +9,19 @@ use Rattle.flash_model.specs.declared.layout.Layout.{Layout}
 use Rattle.flash_model.proofs.PageLaws.{length-set_page, word_in_page, word_out_of_page, take-set_page}
 use Rattle.flash_model.proofs.LoadedLaws.{length-many, get_or-many}
 use Rattle.nat_template.specs.Stubs.{words_of}
-use Rattle.page_index.specs.Maps.{IsFree, page_word}
+use Rattle.page_index.specs.Maps.{IsPool, IsFree}
 use Rattle.page_index.specs.Entries.{Lists, IsEntry}
-use Rattle.page_index.proofs.MapLaws.{free_word, free_lists_nothing}
+use Rattle.page_index.proofs.MapLaws.{free_lists_nothing}
 use Rattle.page_index.proofs.ChangeLaws as change
 use Rattle.nat_page.specs.Runs.{address, IsRun}
-use Rattle.nat_page.specs.CodePages.{page_pieces, page_size, place_in_page, HoldsRun}
-use Rattle.nat_page.specs.Faithful.{Stops, IsMade, IsFaithful}
+use Rattle.nat_page.specs.CodePages.{page_pieces, page_size, HoldsRun}
+use Rattle.nat_page.specs.Links.{IsLinkIn, IsUnresolved}
+use Rattle.nat_page.specs.Faithful.{Stops, IsRewritten, HoldsCode, IsFaithful}
 use Rattle.nat_page.specs.Making.{image_of, HasNoEntry, IsLowestFree, filled, MakesPage}
-use Rattle.nat_page.proofs.PieceLaws.{stands_unresolved, stands_same}
-use Rattle.nat_page.proofs.HeldLaws.{original_held, lists_held, held_listed, map_held, IsHeld}
+use Rattle.nat_page.proofs.PieceLaws.{stands_unresolved}
+use Rattle.nat_page.proofs.HeldLaws.{lists_held, held_listed, map_held, IsHeld}
+use Rattle.nat_page.proofs.LinkLaws.{link_room}
+use Rattle.nat_page.proofs.StayLaws.{held_used, same_run, holds_alike, stops_alike}
 use Rattle.nat_page.proofs.FaithfulLaws.{faithful_mapped}
 
 -- the words of a page and the erased words behind them
@@ -51,125 +54,222 @@ holds_made leads image words page t last whole low run fits =
       rest = λ k behind below. word_set words (filled front) page k whole low long below ∙ filled_rest front k behind below;
     }
 
--- a page that holds a run isn't free
-held_used : (leads : ℕ → ℕ → Type 0) (image words : List ℕ) (page t last : ℕ) → length image ≤ 24576 → HoldsRun leads image words page t last → IsFree words page → ⊥
-held_used leads image words page t last short holds free =
-    let first : page_word words page 0 ≡ 0xFFFF = free_word words page 0 (omega arith) free in
-    let original : page_word words page 0 ≡ t / page_words = original_held leads image words page t last holds in
-    let begins : t < length image = holds.run.inside 0 (omega arith) in
-    omega arith
+-- the run fits into the page, and the page into flash
+pub record Fits (image words : List ℕ) (page t last : ℕ) : Type 0 where
+  pub whole : length words ≡ word_count
+  pub inside : page_words * page + page_words ≤ length words
+  pub low : page < 480
+  pub short : length image ≤ 24576
+  pub run : IsRun image t last
+  pub fits : page_size image t last ≤ page_words
+  pub long : length (filled (words_of (page_pieces image t last))) ≡ page_words
 
--- what the pages that stay hold
-stops_stay : (layout : Layout) (image words new : List ℕ) (page other t last : ℕ) → length new ≡ page_words → page_words * page + page_words ≤ length words → IsFree words page → Stops layout image words other t last → Stops layout image (set_page words page new) other t last
-stops_stay layout image words new page other t last fits inside free (Stops.Ends ends) = Stops.Ends ends
-stops_stay layout image words new page other t last fits inside free (Stops.Leaves leaves) = Stops.Leaves leaves
-stops_stay layout image words new page other t last fits inside free (Stops.Outside outside) = Stops.Outside outside
-stops_stay layout image words new page other t last fits inside free (Stops.Known known i v pool apart lists) =
-    let P : ℕ → Type 0 = λ p. Lists words p i (address image t (suc last)) v in
-    let used : known ≢ page = λ same. free_lists_nothing words page i _ v free (subst P same lists) in
-    Stops.Known known i v pool apart (change.lists_alike words (set_page words page new) known i _ v (change.page_left words new page known fits inside used) lists)
-stops_stay layout image words new page other t last fits inside free (Stops.Full full) = Stops.Full full
-
-made_stays : (layout : Layout) (image words new : List ℕ) (page other : ℕ) → length new ≡ page_words → page_words * page + page_words ≤ length words → IsFree words page → other ≢ page → IsMade layout image words other → IsMade layout image (set_page words page new) other
-made_stays layout image words new page other fits inside free apart made =
-    let words' = set_page words page new in
-    let same = change.page_left words new page other fits inside apart in
-    let holds = made.holds in
+fits_of : (layout : Layout) (image words : List ℕ) (page t last : ℕ) → IsRight layout → HoldsCode layout image words → IsPool layout page → IsRun image t last → page_size image t last ≤ page_words → Fits image words page t last
+fits_of layout image words page t last right code pool run fits =
+    let low : page < 480 = omega (arith, right.pool_below_kernel, pool.to) in
     record {
-      first = made.first;
-      last = made.last;
-      holds = record {
-        run = holds.run;
-        fits = holds.fits;
-        stands = stands_same (IsEntry layout words) (IsEntry layout words') words words' (page_words * other) (page_pieces image made.first made.last) (λ t v entry. change.entry_stays layout words new page t v fits inside free entry) (λ k below. sym (same.word k (omega (arith, holds.fits)))) holds.stands;
-        rest = λ k behind below. sym (same.word k below) ∙ holds.rest k behind below;
-      };
-      stops = stops_stay layout image words new page other made.first made.last fits inside free made.stops;
+      whole = code.whole;
+      inside = omega (arith, code.whole);
+      low = low;
+      short = omega (arith, code.image_length, right.image_fits);
+      run = run;
+      fits = fits;
+      long = length-filled (words_of (page_pieces image t last)) fits;
     }
+
+new_run : (leads : ℕ → ℕ → Type 0) (image words : List ℕ) (page t last : ℕ) → Fits image words page t last → HoldsRun leads image (set_page words page (filled (words_of (page_pieces image t last)))) page t last
+new_run leads image words page t last made = holds_made leads image words page t last made.whole made.low made.run made.fits
+
+-- what every page lists stays, since a free page lists nothing
+lists_stay : (words new : List ℕ) (page other i a v : ℕ) → length new ≡ page_words → page_words * page + page_words ≤ length words → IsFree words page → Lists words other i a v → Lists (set_page words page new) other i a v
+lists_stay words new page other i a v fits inside free lists =
+    let P : ℕ → Type 0 = λ p. Lists words p i a v in
+    let apart : other ≢ page = λ same. free_lists_nothing words page i a v free (subst P same lists) in
+    change.lists_alike words (set_page words page new) other i a v (change.page_left words new page other fits inside apart) lists
+
+-- another page holds its run still
+other_stays : (layout : Layout) (image words new : List ℕ) (page other t last : ℕ) → length new ≡ page_words → page_words * page + page_words ≤ length words → IsFree words page → other ≢ page → HoldsRun (IsEntry layout words) image words other t last → HoldsRun (IsEntry layout (set_page words page new)) image (set_page words page new) other t last
+other_stays layout image words new page other t last fits inside free apart holds =
+    holds_alike (IsEntry layout words) (IsEntry layout (set_page words page new)) image words (set_page words page new) other t last (λ a v entry. change.entry_stays layout words new page a v fits inside free entry) (change.page_left words new page other fits inside apart) holds
 
 unequal : (a b : ℕ) → a ≢ b → b ≤ a → b < a
 unequal a b apart above = omega arith
 
 -- the pool with the page that is made, where flash is told
-made_faithful : (layout : Layout) (image words : List ℕ) (page t last : ℕ) → IsRight layout → IsFaithful layout image words → IsLowestFree layout words page → IsRun image t last → ((i : ℕ) → i ≤ last → HasNoEntry layout words (address image t i)) → page_size image t last ≤ page_words → Stops layout image words page t last → IsFaithful layout image (set_page words page (filled (words_of (page_pieces image t last))))
-made_faithful layout image words page t last right faithful free run unknown fits stops =
+made_code : (layout : Layout) (image words : List ℕ) (page t last : ℕ) → IsRight layout → HoldsCode layout image words → IsPool layout page → IsFree words page → IsRun image t last → ((i : ℕ) → i ≤ last → HasNoEntry layout words (address image t i)) → page_size image t last ≤ page_words → HoldsCode layout image (set_page words page (filled (words_of (page_pieces image t last))))
+made_code layout image words page t last right code pool free run unknown fits =
     let new = filled (words_of (page_pieces image t last)) in
     let words' = set_page words page new in
-    let whole = faithful.whole in
-    let from = free.pool.from in
-    let to = free.pool.to in
-    let low : page < 480 = omega (arith, right.pool_below_kernel) in
-    let inside : page_words * page + page_words ≤ length words = omega arith in
-    let long : length new ≡ page_words = length-filled (words_of (page_pieces image t last)) fits in
-    let length' : length words' ≡ length words = length-set_page words new page long inside in
-    let short : length image ≤ 24576 = omega (arith, faithful.image_length, right.image_fits) in
-    let holds = holds_made (IsEntry layout words') image words page t last whole low run fits in
-    let mapped = change.still_mapped layout words new page right whole long low (faithful_mapped layout image words right faithful) (map_held (IsEntry layout words') image words' page t last short holds) (λ i a v v' lists entry.
+    let made = fits_of layout image words page t last right code pool run fits in
+    let inside = made.inside in
+    let length' : length words' ≡ length words = length-set_page words new page made.long inside in
+    let holds = new_run (IsEntry layout words') image words page t last made in
+    let mapped = change.still_mapped layout words new page right code.whole made.long made.low (faithful_mapped layout image words right code) (map_held (IsEntry layout words') image words' page t last made.short holds) (λ i a v v' lists entry.
     let held : IsHeld image page t last i a v = held_listed (IsEntry layout words') image words' page t last i a v holds lists in
     let P : ℕ → Type 0 = λ b. IsEntry layout words b v' in
     unknown i held.near v' (subst P held.address entry)) in
     record {
-      whole = length' ∙ whole;
-      image_length = faithful.image_length;
-      held = take-set_page words new page layout.image_words (omega arith) (omega (arith, right.image_below_pool)) ∙ faithful.held;
-      erased = λ a after before. word_out_of_page words new page a long inside (inl (omega arith)) ∙ faithful.erased a after before;
-      kernel = λ a after before. word_out_of_page words new page a long inside (inr (omega arith)) ∙ faithful.kernel a after before;
-      pages = λ other pool. elim (cases_eq other page) [
+      whole = length' ∙ code.whole;
+      image_length = code.image_length;
+      held = take-set_page words new page layout.image_words (omega arith) (omega (arith, right.image_below_pool, pool.from)) ∙ code.held;
+      erased = λ a after before. word_out_of_page words new page a made.long inside (inl (omega (arith, pool.from))) ∙ code.erased a after before;
+      kernel = λ a after before. word_out_of_page words new page a made.long inside (inr (omega (arith, made.low))) ∙ code.kernel a after before;
+      pages = λ other pool'. elim (cases_eq other page) [
         | inl same ↦ inr (
-            let P : ℕ → Type 0 = λ p. IsMade layout image words' p in
-            subst P (sym same) (record {
-              first = t;
-              last = last;
-              holds = holds;
-              stops = stops_stay layout image words new page page t last long inside free.free stops;
-            }))
-        | inr apart ↦ elim (faithful.pages other pool) [
-          | inl blank ↦ inl (change.free_alike words words' other (change.page_left words new page other long inside apart) (omega (arith, pool.to, right.pool_below_kernel)) (omega (arith, pool.to, right.pool_below_kernel, length')) blank)
-          | inr made ↦ inr (made_stays layout image words new page other long inside free.free apart made)
+            let P : ℕ → Type 0 = λ p. IsRewritten layout image words' p in
+            subst P (sym same) (record { first = t; last = last; holds = holds }))
+        | inr apart ↦ elim (code.pages other pool') [
+          | inl blank ↦ inl (change.free_alike words words' other (change.page_left words new page other made.long inside apart) (omega (arith, pool'.to, right.pool_below_kernel, code.whole)) (omega (arith, pool'.to, right.pool_below_kernel, code.whole, length')) blank)
+          | inr run' ↦ inr (record {
+            first = run'.first;
+            last = run'.last;
+            holds = other_stays layout image words new page other run'.first run'.last made.long inside free apart run'.holds;
+          })
         ]
-      ];
-      lowest = λ lower other pool pool' below blank. elim (cases_eq lower page) [
-        | inl same ↦ (
-            let P : ℕ → Type 0 = λ p. IsFree words' p in
-            absurd (held_used (IsEntry layout words') image words' page t last short holds (subst P same blank)))
-        | inr apart ↦ (
-            let same = change.same_back words words' lower (change.page_left words new page lower long inside apart) in
-            let before : IsFree words lower = change.free_alike words' words lower same (omega (arith, pool.to, right.pool_below_kernel, length')) (omega (arith, pool.to, right.pool_below_kernel)) blank in
-            let above : page < lower = elim (cases_lt lower page) [
-              | inl under ↦ absurd (free.lowest lower pool under before)
-              | inr over ↦ unequal lower page apart over
-            ] in
-            let apart' : other ≢ page = λ same'. omega arith in
-            change.free_alike words words' other (change.page_left words new page other long inside apart') (omega (arith, pool'.to, right.pool_below_kernel)) (omega (arith, pool'.to, right.pool_below_kernel, length')) (faithful.lowest lower other pool pool' below before))
       ];
       once = mapped.once;
     }
 
--- making a page keeps the pool faithful to the image
+-- what the runs stop for, with the run that is made
+made_stops : (layout : Layout) (image words : List ℕ) (page t last other first' last' : ℕ) → IsRight layout → IsFaithful layout image words → IsPool layout page → IsFree words page → Fits image words page t last → Stops layout image words page t last → IsPool layout other → HoldsRun (IsEntry layout (set_page words page (filled (words_of (page_pieces image t last))))) image (set_page words page (filled (words_of (page_pieces image t last)))) other first' last' → Stops layout image (set_page words page (filled (words_of (page_pieces image t last)))) other first' last'
+made_stops layout image words page t last other first' last' right faithful pool free made stops pool' holds =
+    let new = filled (words_of (page_pieces image t last)) in
+    let words' = set_page words page new in
+    let leads : ℕ → ℕ → Type 0 = λ a v. IsEntry layout words' a v in
+    let stay : (p i a v : ℕ) → Lists words p i a v → Lists words' p i a v = λ p i a v lists. lists_stay words new page p i a v made.long made.inside free lists in
+    let Run : ℕ → ℕ → Type 0 = λ b n. Stops layout image words' other b n in
+    elim (cases_eq other page) [
+      | inl same ↦ (
+          let Held : ℕ → Type 0 = λ p. HoldsRun leads image words' p first' last' in
+          let At : ℕ → Type 0 = λ p. Stops layout image words' p t last in
+          let run = same_run leads leads image words' page t last first' last' (new_run leads image words page t last made) (subst Held same holds) in
+          subst (Run first') run.1 (subst (λ (b : ℕ). Run b last) run.0 (subst At (sym same) (stops_alike layout image words words' page t last stay stops))))
+      | inr apart ↦ elim (faithful.code.pages other pool') [
+        | inl blank ↦ (
+            let left = change.page_left words new page other made.long made.inside apart in
+            let length' = length-set_page words new page made.long made.inside in
+            absurd (held_used leads image words' other first' last' made.short holds (change.free_alike words words' other left (omega (arith, pool'.to, right.pool_below_kernel, faithful.code.whole)) (omega (arith, pool'.to, right.pool_below_kernel, faithful.code.whole, length')) blank)))
+        | inr run' ↦ (
+            let there = other_stays layout image words new page other run'.first run'.last made.long made.inside free apart run'.holds in
+            let run = same_run leads leads image words' other run'.first run'.last first' last' there holds in
+            let old = faithful.stops other run'.first run'.last pool' run'.holds in
+            subst (Run first') run.1 (subst (λ (b : ℕ). Run b run'.last) run.0 (stops_alike layout image words words' other run'.first run'.last stay old)))
+      ]
+    ]
+
+made_lowest : (layout : Layout) (image words : List ℕ) (page t last lower other : ℕ) → IsRight layout → IsFaithful layout image words → IsLowestFree layout words page → Fits image words page t last → IsPool layout lower → IsPool layout other → lower < other → IsFree (set_page words page (filled (words_of (page_pieces image t last)))) lower → IsFree (set_page words page (filled (words_of (page_pieces image t last)))) other
+made_lowest layout image words page t last lower other right faithful free made pool pool' below blank =
+    let new = filled (words_of (page_pieces image t last)) in
+    let words' = set_page words page new in
+    let whole = faithful.code.whole in
+    let length' = length-set_page words new page made.long made.inside in
+    elim (cases_eq lower page) [
+      | inl same ↦ (
+          let P : ℕ → Type 0 = λ p. IsFree words' p in
+          absurd (held_used (IsEntry layout words') image words' page t last made.short (new_run (IsEntry layout words') image words page t last made) (subst P same blank)))
+      | inr apart ↦ (
+          let same = change.same_back words words' lower (change.page_left words new page lower made.long made.inside apart) in
+          let before : IsFree words lower = change.free_alike words' words lower same (omega (arith, pool.to, right.pool_below_kernel, whole, length')) (omega (arith, pool.to, right.pool_below_kernel, whole)) blank in
+          let above : page < lower = elim (cases_lt lower page) [
+            | inl under ↦ absurd (free.lowest lower pool under before)
+            | inr over ↦ unequal lower page apart over
+          ] in
+          let apart' : other ≢ page = λ same'. omega arith in
+          change.free_alike words words' other (change.page_left words new page other made.long made.inside apart') (omega (arith, pool'.to, right.pool_below_kernel, whole)) (omega (arith, pool'.to, right.pool_below_kernel, whole, length')) (faithful.lowest lower other pool pool' below before))
+    ]
+
+-- making a page in any free page keeps that the pool holds code of the image
+pub makes_code : (layout : Layout) (image old new : List ℕ) (page t place : ℕ) → IsRight layout → HoldsCode layout image old → IsPool layout page → IsFree old page → MakesPage layout image old new page t place → HoldsCode layout image new
+makes_code layout image old new page t place right code pool free makes =
+    let P : List ℕ → Type 0 = λ words. HoldsCode layout image words in
+    subst P (sym makes.changed) (made_code layout image old page t makes.last right code pool free makes.run makes.unknown makes.fits)
+
+-- making it in the lowest one keeps the pool faithful
 pub makes_faithful : (layout : Layout) (image old new : List ℕ) (page t place : ℕ) → IsRight layout → IsFaithful layout image old → IsLowestFree layout old page → MakesPage layout image old new page t place → IsFaithful layout image new
 makes_faithful layout image old new page t place right faithful free makes =
+    let last = makes.last in
+    let made = fits_of layout image old page t last right faithful.code free.pool makes.run makes.fits in
     let P : List ℕ → Type 0 = λ words. IsFaithful layout image words in
-    subst P (sym makes.changed) (made_faithful layout image old page t makes.last right faithful free makes.run makes.unknown makes.fits makes.stops)
+    subst P (sym makes.changed) (record {
+      code = made_code layout image old page t last right faithful.code free.pool free.free makes.run makes.unknown makes.fits;
+      stops = λ other first' last' pool' holds. made_stops layout image old page t last other first' last' right faithful free.pool free.free made makes.stops pool' holds;
+      lowest = λ lower other pool pool' below blank. made_lowest layout image old page t last lower other right faithful free made pool pool' below blank;
+    })
 
--- the address is entered at the place
-pub makes_entry : (layout : Layout) (image old new : List ℕ) (page t place : ℕ) → IsRight layout → IsFaithful layout image old → IsLowestFree layout old page → MakesPage layout image old new page t place → IsEntry layout new t place
-makes_entry layout image old new page t place right faithful free makes =
-    let words = set_page old page (filled (words_of (page_pieces image t makes.last))) in
-    let short : length image ≤ 24576 = omega (arith, faithful.image_length, right.image_fits) in
-    let low : page < 480 = omega (arith, right.pool_below_kernel, free.pool.to) in
-    let holds = holds_made (IsEntry layout words) image old page t makes.last faithful.whole low makes.run makes.fits in
-    let P : List ℕ → ℕ → Type 0 = λ words' v. IsEntry layout words' t v in
-    let entry : IsEntry layout words t (page_words * page + place_in_page image t (suc makes.last) 0) = record {
-      page = page;
-      index = 0;
-      pool = free.pool;
-      lists = lists_held (IsEntry layout words) image words page t makes.last 0 short holds (omega arith);
-    } in
-    subst (P new) (sym makes.placed) (subst (λ (words' : List ℕ). P words' (page_words * page + place_in_page image t (suc makes.last) 0)) (sym makes.changed) entry)
+-- the page that is made holds its run, with no link resolved
+pub makes_holds : (layout : Layout) (leads : ℕ → ℕ → Type 0) (image old new : List ℕ) (page t place : ℕ) → IsRight layout → HoldsCode layout image old → IsPool layout page → (makes : MakesPage layout image old new page t place) → HoldsRun leads image new page t makes.last
+makes_holds layout leads image old new page t place right code pool makes =
+    let P : List ℕ → Type 0 = λ words. HoldsRun leads image words page t makes.last in
+    subst P (sym makes.changed) (new_run leads image old page t makes.last (fits_of layout image old page t makes.last right code pool makes.run makes.fits))
+
+-- its first entry is of the address, at the place
+pub makes_first : (layout : Layout) (image old new : List ℕ) (page t place : ℕ) → IsRight layout → HoldsCode layout image old → IsPool layout page → MakesPage layout image old new page t place → Lists new page 0 t place
+makes_first layout image old new page t place right code pool makes =
+    let leads : ℕ → ℕ → Type 0 = λ a v. IsEntry layout new a v in
+    let short : length image ≤ 24576 = omega (arith, code.image_length, right.image_fits) in
+    let holds = makes_holds layout leads image old new page t place right code pool makes in
+    let P : ℕ → Type 0 = λ v. Lists new page 0 t v in
+    subst P (sym makes.placed) (lists_held leads image new page t makes.last 0 short holds (omega arith))
+
+pub makes_entry : (layout : Layout) (image old new : List ℕ) (page t place : ℕ) → IsRight layout → HoldsCode layout image old → IsPool layout page → MakesPage layout image old new page t place → IsEntry layout new t place
+makes_entry layout image old new page t place right code pool makes =
+    record { page = page; index = 0; pool = pool; lists = makes_first layout image old new page t place right code pool makes }
+
+-- every other page stays
+pub makes_other : (layout : Layout) (image old new : List ℕ) (page t place other : ℕ) → IsRight layout → HoldsCode layout image old → IsPool layout page → MakesPage layout image old new page t place → other ≢ page → change.SamePage old new other
+makes_other layout image old new page t place other right code pool makes apart =
+    let made = fits_of layout image old page t makes.last right code pool makes.run makes.fits in
+    let P : List ℕ → Type 0 = λ words. change.SamePage old words other in
+    subst P (sym makes.changed) (change.page_left old (filled (words_of (page_pieces image t makes.last))) page other made.long made.inside apart)
+
+-- every entry stays
+pub makes_entries : (layout : Layout) (image old new : List ℕ) (page t place : ℕ) → IsRight layout → HoldsCode layout image old → IsPool layout page → IsFree old page → MakesPage layout image old new page t place → (a v : ℕ) → IsEntry layout old a v → IsEntry layout new a v
+makes_entries layout image old new page t place right code pool free makes a v entry =
+    let made = fits_of layout image old page t makes.last right code pool makes.run makes.fits in
+    let P : List ℕ → Type 0 = λ words. IsEntry layout words a v in
+    subst P (sym makes.changed) (change.entry_stays layout old (filled (words_of (page_pieces image t makes.last))) page a v made.long made.inside free entry)
 
 -- the image stays
-pub makes_image : (layout : Layout) (image old new : List ℕ) (page t place : ℕ) → IsRight layout → IsFaithful layout image old → IsLowestFree layout old page → MakesPage layout image old new page t place → image_of layout new ≡ image_of layout old
-makes_image layout image old new page t place right faithful free makes =
-    let whole = faithful.whole in
+pub makes_image : (layout : Layout) (image old new : List ℕ) (page t place : ℕ) → IsRight layout → HoldsCode layout image old → IsPool layout page → MakesPage layout image old new page t place → image_of layout new ≡ image_of layout old
+makes_image layout image old new page t place right code pool makes =
+    let whole = code.whole in
     let front = filled (words_of (page_pieces image t makes.last)) in
-    ap (λ words. take layout.image_words words) makes.changed ∙ take-set_page old front page layout.image_words (omega (arith, free.pool.to, right.pool_below_kernel)) (omega (arith, right.image_below_pool, free.pool.from))
+    ap (λ words. take layout.image_words words) makes.changed ∙ take-set_page old front page layout.image_words (omega (arith, pool.to, right.pool_below_kernel)) (omega (arith, right.image_below_pool, pool.from))
+
+-- each page that holds a run holds it still
+pub makes_runs : (layout : Layout) (image old new : List ℕ) (page t place other first end : ℕ) → IsRight layout → HoldsCode layout image old → IsPool layout page → IsFree old page → MakesPage layout image old new page t place → HoldsRun (IsEntry layout old) image old other first end → HoldsRun (IsEntry layout new) image new other first end
+makes_runs layout image old new page t place other first end right code pool free makes holds =
+    let short : length image ≤ 24576 = omega (arith, code.image_length, right.image_fits) in
+    let P : ℕ → Type 0 = λ p. HoldsRun (IsEntry layout old) image old p first end in
+    let apart : other ≢ page = λ same. held_used (IsEntry layout old) image old page first end short (subst P same holds) free in
+    holds_alike (IsEntry layout old) (IsEntry layout new) image old new other first end (λ a v entry. makes_entries layout image old new page t place right code pool free makes a v entry) (makes_other layout image old new page t place other right code pool makes apart) holds
+
+-- each link stays where it is, with its words
+pub makes_links : (layout : Layout) (image old new : List ℕ) (page t place s to : ℕ) → IsRight layout → HoldsCode layout image old → IsPool layout page → IsFree old page → MakesPage layout image old new page t place → IsLinkIn layout image old s to → IsLinkIn layout image new s to
+makes_links layout image old new page t place s to right code pool free makes link = record {
+  page = link.page;
+  pool = link.pool;
+  first = link.first;
+  last = link.last;
+  holds = makes_runs layout image old new page t place link.page link.first link.last right code pool free makes link.holds;
+  link = link.link;
+}
+
+pub makes_link_words : (layout : Layout) (image old new : List ℕ) (page t place s to k : ℕ) → IsRight layout → HoldsCode layout image old → IsPool layout page → IsFree old page → MakesPage layout image old new page t place → IsLinkIn layout image old s to → k < 3 → word_at new (s + k) ≡ word_at old (s + k)
+makes_link_words layout image old new page t place s to k right code pool free makes link below =
+    let short : length image ≤ 24576 = omega (arith, code.image_length, right.image_fits) in
+    let room = link_room image link.page link.first link.last s to link.holds.fits link.link in
+    let P : ℕ → Type 0 = λ p. HoldsRun (IsEntry layout old) image old p link.first link.last in
+    let apart : link.page ≢ page = λ same. held_used (IsEntry layout old) image old page link.first link.last short (subst P same link.holds) free in
+    let same = (makes_other layout image old new page t place link.page right code pool makes apart).word (s + k - page_words * link.page) (omega arith) in
+    let here : page_words * link.page + (s + k - page_words * link.page) ≡ s + k = omega arith in
+    sym (ap (word_at new) here) ∙ sym same ∙ ap (word_at old) here
+
+pub makes_unresolved : (layout : Layout) (image old new : List ℕ) (page t place s to : ℕ) → IsRight layout → HoldsCode layout image old → IsPool layout page → IsFree old page → MakesPage layout image old new page t place → IsUnresolved layout image old s to → IsUnresolved layout image new s to
+makes_unresolved layout image old new page t place s to right code pool free makes stub =
+    let here : s ≡ s + 0 = omega arith in
+    record {
+      link = makes_links layout image old new page t place s to right code pool free makes stub.link;
+      call = ap (word_at new) here ∙ makes_link_words layout image old new page t place s to 0 right code pool free makes stub.link (omega arith) ∙ sym (ap (word_at old) here) ∙ stub.call;
+      bridge = makes_link_words layout image old new page t place s to 1 right code pool free makes stub.link (omega arith) ∙ stub.bridge;
+    }

@@ -30,7 +30,7 @@ one_last layout image old new new' page t place place' one other = elim (cases_o
       absurd (goes_on layout image old page t other.last one.last one.run one.unknown one.fits longer other.stops)
 ]
 
-one_free : (layout : Layout) (words : List ℕ) (page page' : ℕ) → IsLowestFree layout words page → IsLowestFree layout words page' → page ≡ page'
+pub one_free : (layout : Layout) (words : List ℕ) (page page' : ℕ) → IsLowestFree layout words page → IsLowestFree layout words page' → page ≡ page'
 one_free layout words page page' one other = elim (cases_order page page') [
   | inl same ↦ same
   | inr (inl lower) ↦ absurd (other.lowest page one.pool lower one.free)

@@ -1,18 +1,25 @@
 -- A run's addresses and templates: both go up, and a page with more instructions has more words.
-use Rattle.std.proofs.Common.{◌≡◌, ℕ, zero, suc, ◌+◌, ◌/◌, ◌<◌, ◌≤◌, Bool, true, false, cond, List, length, map, arith, sym, ap, ◌∙◌, inl, inr}
+use Rattle.std.proofs.Common.{◌≡◌, ℕ, zero, suc, ◌+◌, ◌/◌, ◌%◌, ◌<◌, ◌≤◌, Bool, true, false, cond, List, length, map, arith, sym, ap, ◌∙◌, inl, inr}
 use Rattle.std.proofs.lemmas.Bool.{cases_lt}
 use Rattle.std.proofs.lemmas.Bool.Decides.{nat_tests}
 use Rattle.std.proofs.lemmas.List.FromFn.{length-map-range_with_len}
 use Rattle.avr_isa.specs.Image.{word}
 use Rattle.avr_isa.specs.Crossing.{is_crossing}
-use Rattle.avr_decode.specs.Decoding.{is_long}
+use Rattle.avr_decode.specs.Decoding.{is_long, the_form}
+use Rattle.avr_decode.specs.Program.{instruction_at}
 use Rattle.nat_template.specs.declared.piece.Piece.TheVariants.{Fixed}
 use Rattle.nat_page.specs.Standing.{size}
-use Rattle.nat_page.specs.Runs.{form_at, shape_at, size_at, next_of, template_at, is_closed, closing_at, address, templates, IsRun}
+use Rattle.nat_page.specs.Runs.{shape_at, size_at, next_of, template_at, is_closed, closing_at, address, templates, IsRun}
 use Rattle.nat_page.specs.CodePages.{map_words, map_word, code, page_pieces, page_size}
 use Rattle.nat_page.proofs.PieceLaws.{size-append, size-fixed}
 use Rattle.nat_template.proofs.Sizes.{template_size}
 use Rattle.nat_page.proofs.Widths.{closed_range, plain_range}
+
+-- inside an image no address wraps, so an instruction's second word is the one at the next address
+pub same_second : (image : List ℕ) (a : ℕ) → a < length image → length image ≤ 24576 → instruction_at image a ≡ the_form (word image a) (word image (a + 1))
+same_second image a inside short =
+    let next : (a + 1) % 65536 ≡ a + 1 = omega arith in
+    ap (λ b. the_form (word image a) (word image b)) next
 
 one_or_two : (long : Bool) → (1 ≤ cond long 2 1) × (cond long 2 1 ≤ 2)
 one_or_two true = (omega arith, omega arith)
@@ -23,11 +30,11 @@ pub size_at-range : (image : List ℕ) (pc : ℕ) → (1 ≤ size_at image pc) �
 size_at-range image pc = one_or_two (is_long (word image pc))
 
 pub template_at-range : (image : List ℕ) (pc : ℕ) → (1 ≤ size (template_at image pc)) × (size (template_at image pc) ≤ 39)
-template_at-range image pc = template_size (shape_at image pc) pc (word image pc) (form_at image pc) (size_at image (pc + 1))
+template_at-range image pc = template_size (shape_at image pc) pc (word image pc) (instruction_at image pc) (size_at image (pc + 1))
 
 pub closing_at-range : (image : List ℕ) (pc : ℕ) → (3 ≤ size (template_at image pc) + size (closing_at image pc)) × (size (closing_at image pc) ≤ 22)
 closing_at-range image pc =
-    closed_range (shape_at image pc) pc (word image pc) (next_of image pc) (form_at image pc) (size_at image (pc + 1))
+    closed_range (shape_at image pc) pc (word image pc) (next_of image pc) (instruction_at image pc) (size_at image (pc + 1))
 
 -- addresses and templates go up
 pub address-rises : (image : List ℕ) (t i j : ℕ) → i < j → address image t i < address image t j

@@ -1,4 +1,5 @@
--- When a code pool is faithful to the image: all that it holds is rewritten code of the image.
+-- When a code pool is faithful to the image: all that it holds is rewritten code of the image, and it is as
+-- full as making pages leaves it.
 use Rattle.std.specs.Prelude.{◌≡◌, ◌≢◌, ℕ, suc, ◌*◌, ◌/◌, ◌<◌, ◌≤◌, ◌⊎◌, true, List, length, take}
 use Rattle.flash_model.specs.Pages.{word_count, page_words, word_at}
 use Rattle.flash_model.specs.Memory.{kernel_first}
@@ -7,6 +8,23 @@ use Rattle.page_index.specs.Maps.{IsPool, IsFree}
 use Rattle.page_index.specs.Entries.{Lists, IsEntry}
 use Rattle.nat_page.specs.Runs.{address, ends_at}
 use Rattle.nat_page.specs.CodePages.{page_size, HoldsRun}
+
+-- the page holds the run from some address, and its resolved links lead to entries
+pub record IsRewritten (layout : Layout) (image words : List ℕ) (page : ℕ) : Type 0 where
+  pub first : ℕ
+  pub last : ℕ
+  pub holds : HoldsRun (IsEntry layout words) image words page first last
+
+-- Flash holds the image from word 0 on, erased words from there to the pool, and RET in the kernel's
+-- pages. Each page of the pool is free or holds a run; and no address has two entries.
+pub record HoldsCode (layout : Layout) (image words : List ℕ) : Type 0 where
+  pub whole : length words ≡ word_count
+  pub image_length : length image ≡ layout.image_words
+  pub held : take layout.image_words words ≡ image
+  pub erased : (a : ℕ) → layout.image_words ≤ a → a < page_words * layout.pool_first → word_at words a ≡ 0xFFFF
+  pub kernel : (a : ℕ) → kernel_first ≤ a → a < word_count → word_at words a ≡ 0x9508
+  pub pages : (page : ℕ) → IsPool layout page → IsFree words page ⊎ IsRewritten layout image words page
+  pub once : (page page' i i' t v v' : ℕ) → IsPool layout page → IsPool layout page' → Lists words page i t v → Lists words page' i' t v' → (page ≡ page') × (i ≡ i')
 
 -- Why the run from t in this page stops behind its last instruction: that is a transfer without return;
 -- the next address is in another original page, or outside the image; another page of the pool has its
@@ -19,22 +37,8 @@ pub data Stops (layout : Layout) (image words : List ℕ) (page t last : ℕ) : 
   Known : (other i v : ℕ) → IsPool layout other → other ≢ page → Lists words other i (address image t (suc last)) v → Stops layout image words page t last
   Full : page_words < page_size image t (suc last) → Stops layout image words page t last
 
--- the page holds a run, which stops for one of these reasons
-pub record IsMade (layout : Layout) (image words : List ℕ) (page : ℕ) : Type 0 where
-  pub first : ℕ
-  pub last : ℕ
-  pub holds : HoldsRun (IsEntry layout words) image words page first last
-  pub stops : Stops layout image words page first last
-
--- Flash holds the image from word 0 on, erased words from there to the pool, and RET in the kernel's
--- pages. Each page of the pool is free or made; the made ones are the lowest; and no address has two
--- entries.
+-- Besides, each run stops for one of these reasons, and the used pages are the lowest.
 pub record IsFaithful (layout : Layout) (image words : List ℕ) : Type 0 where
-  pub whole : length words ≡ word_count
-  pub image_length : length image ≡ layout.image_words
-  pub held : take layout.image_words words ≡ image
-  pub erased : (a : ℕ) → layout.image_words ≤ a → a < page_words * layout.pool_first → word_at words a ≡ 0xFFFF
-  pub kernel : (a : ℕ) → kernel_first ≤ a → a < word_count → word_at words a ≡ 0x9508
-  pub pages : (page : ℕ) → IsPool layout page → IsFree words page ⊎ IsMade layout image words page
+  pub code : HoldsCode layout image words
+  pub stops : (page first last : ℕ) → IsPool layout page → HoldsRun (IsEntry layout words) image words page first last → Stops layout image words page first last
   pub lowest : (lower page : ℕ) → IsPool layout lower → IsPool layout page → lower < page → IsFree words lower → IsFree words page
-  pub once : (page page' i i' t v v' : ℕ) → IsPool layout page → IsPool layout page' → Lists words page i t v → Lists words page' i' t v' → (page ≡ page') × (i ≡ i')

@@ -2,6 +2,9 @@
 pub mod Standing
 pub mod Runs
 pub mod CodePages
+pub mod Links
+pub mod Entered
 pub mod Faithful
 pub mod Making
+pub mod Used
 pub mod Drafts

@@ -4,7 +4,8 @@ use Rattle.std.specs.Prelude.{◌≡◌, ℕ, zero, suc, ◌+◌, ◌/◌, ◌<�
 use Rattle.avr_isa.specs.declared.form.Form.{Form}
 use Rattle.avr_isa.specs.declared.form.Form.TheVariants as forms
 use Rattle.avr_isa.specs.Image.{word}
-use Rattle.avr_decode.specs.Decoding.{is_long, the_form}
+use Rattle.avr_decode.specs.Decoding.{is_long}
+use Rattle.avr_decode.specs.Program.{instruction_at}
 use Rattle.flash_model.specs.Pages.{page_words}
 use Rattle.nat_template.specs.declared.shapes.TemplateShape.{TemplateShape}
 use Rattle.nat_template.specs.declared.shapes.TemplateShape.TheVariants.{Native, Mem, Jump, Branch, Skip, Ret, Ind, SelfJump, Fault}
@@ -13,12 +14,9 @@ use Rattle.nat_template.specs.Shapes.{shape_of}
 use Rattle.nat_template.specs.Stubs.{stub}
 use Rattle.nat_template.specs.Templates.{template_of}
 
--- the instruction of the image at the pc, if there is one, and its shape
-abbrev pub form_at : List ℕ → ℕ → Option Form
-form_at image pc = the_form (word image pc) (word image (pc + 1))
-
+-- the shape of the instruction at the pc
 abbrev pub shape_at : List ℕ → ℕ → TemplateShape
-shape_at image pc = shape_of pc (form_at image pc)
+shape_at image pc = shape_of pc (instruction_at image pc)
 
 -- how many words the instruction has, by its first word; what is no instruction has one
 abbrev pub size_at : List ℕ → ℕ → ℕ
@@ -30,7 +28,7 @@ next_of image pc = pc + size_at image pc
 
 -- its template; only a skip, which has one word, looks at the instruction behind it
 abbrev pub template_at : List ℕ → ℕ → List Piece
-template_at image pc = template_of pc (word image pc) (form_at image pc) (size_at image (pc + 1))
+template_at image pc = template_of pc (word image pc) (instruction_at image pc) (size_at image (pc + 1))
 
 -- of IJMP and ICALL, which have one shape, only IJMP doesn't return
 abbrev pub is_jump_through_z : Option Form → Bool
@@ -48,7 +46,7 @@ never_returns _ form = false
 
 -- a run ends with the instruction at the pc
 abbrev pub ends_at : List ℕ → ℕ → Bool
-ends_at image pc = never_returns (shape_at image pc) (form_at image pc)
+ends_at image pc = never_returns (shape_at image pc) (instruction_at image pc)
 
 -- what goes on to the next address by itself is closed by a stub to it, where a run stops behind it
 abbrev pub is_closed : TemplateShape → Bool

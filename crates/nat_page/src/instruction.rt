@@ -1,6 +1,6 @@
 //! An instruction of the image, and what stands in a page in its place.
 
-ghost use Rattle.std.specs.Prelude.{◌≡◌, ◌<◌, ◌≤◌, [], if◌then◌else◌};
+ghost use Rattle.std.specs.Prelude.{◌≡◌, ◌<◌, ◌≤◌, [], length, if◌then◌else◌};
 ghost use Rattle.std.specs.Option.{option_map};
 ghost use Rattle.flash_model.specs.Layouts.{IsRight};
 ghost use Rattle.avr_isa.specs.Image.{word};
@@ -32,9 +32,11 @@ pub(crate) struct Instruction {
 }
 
 /// Reads the instruction of the image at the pc.
+#[tactic(auto, using(crate::proofs::RunLaws::same_second))]
 pub(crate) fn read(flash: &Flash, layout: &Layout, pc: u16) -> Instruction
     requires right { IsRight layout.now }
     requires inside { pc < layout.now.image_words }
+    requires image { length (image_of layout.now flash.now.words) ≡ layout.now.image_words }
     ensures pc { result.pc ≡ pc }
     ensures read { IsRead (image_of layout.now flash.now.words) result }
 {

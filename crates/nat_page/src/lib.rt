@@ -10,10 +10,16 @@
 //! ```
 //!
 //! `specs/Runs` says what a run is and what stands in its place, `specs/CodePages` which words its page
-//! has, `specs/Faithful` when a pool is faithful, and `specs/Making` what making a page changes. Public
-//! laws: `PieceLaws` and `RunLaws` (pieces in a row, and the sizes of runs), `HeldLaws` (a page's map, and
-//! where its templates stand), `FaithfulLaws` (a faithful pool is mapped; what stands at an entry and behind
-//! it; a new flash is faithful) and `OnePage` (the page that is made is determined).
+//! has, `specs/Links` where it leads to original addresses, `specs/Entered` what stands at an entry,
+//! `specs/Faithful` when a pool holds code of the image and when it is faithful, `specs/Making` what making
+//! a page changes, and `specs/Used` how many pages are used.
+//!
+//! Public laws: `PieceLaws`, `LinkLaws` and `RunLaws` (pieces and links in a row, and the sizes of runs),
+//! `HeldLaws` and `StayLaws` (a page's map, where its templates stand, and what stays), `PlaceLaws` and
+//! `EnteredLaws` (between two entries none begins; what stands at an entry and behind it), `FaithfulLaws`
+//! (the pool is mapped; a new flash is faithful), `MadeLaws` and `OnePage` (the page that is made, what
+//! stays, and that it is determined), `TwoWords`, `KeptLaws` and `RelinkLaws` (a link that is resolved, or
+//! leads to the kernel's bridge again) and `UsedLaws` (the number of used pages).
 #![tactic(auto)]
 
 mod draft;

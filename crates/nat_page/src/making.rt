@@ -1,11 +1,14 @@
 //! Making a page.
 
-ghost use Rattle.std.specs.Prelude.{◌≡◌, ◌+◌, ◌*◌, ◌<◌, ◌≤◌, IfOk, IfErr, OnErr};
+ghost use Rattle.std.specs.Prelude.{◌≡◌, ℕ, ◌+◌, ◌*◌, ◌<◌, ◌≤◌, IfOk, IfErr, OnErr};
 ghost use Rattle.flash_model.specs.Layouts.{IsRight};
+ghost use Rattle.page_index.specs.Maps.{IsPool, IsFree};
 ghost use Rattle.page_index.specs.Entries.{IsEntry};
 ghost use Rattle.nat_page.specs.declared.making.NatStop.TheVariants as stops;
-ghost use Rattle.nat_page.specs.Faithful.{IsFaithful};
-ghost use Rattle.nat_page.specs.Making.{image_of, HasNoEntry, HasNoFree, IsLowestFree, MakesPage, Naturalises};
+ghost use Rattle.nat_page.specs.Faithful.{HoldsCode, IsFaithful};
+ghost use Rattle.nat_page.specs.Links.{IsUnresolved};
+ghost use Rattle.nat_page.specs.Used.{used_pages};
+ghost use Rattle.nat_page.specs.Making.{image_of, HasNoEntry, HasNoFree, MakesPage, Naturalises};
 
 use crate::draft::draft_of;
 use flash_model::{Flash, Layout};
@@ -33,10 +36,15 @@ pub fn naturalise(flash: &mut Flash, layout: &Layout, t: u16) -> Result<u16, Nat
     ensures made { IfOk result (λ place. Naturalises layout.now (image_of layout.now flash.old.words) flash.old.words flash.new.words t place) }
     ensures entered { IfOk result (λ place. IsEntry layout.now flash.new.words t place) }
     ensures full { IfErr result (λ stop. (stop ≡ stops.CodeFull layout.now.pool_pages) × HasNoFree layout.now flash.old.words) }
+    ensures counted { IfErr result (λ stop. stop ≡ stops.CodeFull (used_pages layout.now flash.old.words)) }
     ensures refused { OnErr result (flash.new ≡ flash.old) }
     ensures faithful { IsFaithful layout.now (image_of layout.now flash.new.words) flash.new.words }
     ensures image { image_of layout.now flash.new.words ≡ image_of layout.now flash.old.words }
     ensures erases { flash.new.erases ≡ flash.old.erases }
+    // What the pool had stays in it, and one more page is used.
+    ensures entries { (a v : ℕ) → IsEntry layout.now flash.old.words a v → IsEntry layout.now flash.new.words a v }
+    ensures stubs { (s to : ℕ) → IsUnresolved layout.now (image_of layout.now flash.old.words) flash.old.words s to → IsUnresolved layout.now (image_of layout.now flash.new.words) flash.new.words s to }
+    ensures used { IfOk result (λ _. used_pages layout.now flash.new.words ≡ used_pages layout.now flash.old.words + 1) }
 {
     match free_page(flash, layout) {
         Some(page) => Ok(make(flash, layout, page, t)),
@@ -49,8 +57,9 @@ pub fn naturalise(flash: &mut Flash, layout: &Layout, t: u16) -> Result<u16, Nat
 /// Makes the page of `t` in this page.
 fn make(flash: &mut Flash, layout: &Layout, page: u16, t: u16) -> u16
     requires right { IsRight layout.now }
-    requires faithful { IsFaithful layout.now (image_of layout.now flash.old.words) flash.old.words }
-    requires free { IsLowestFree layout.now flash.old.words page }
+    requires code { HoldsCode layout.now (image_of layout.now flash.old.words) flash.old.words }
+    requires pool { IsPool layout.now page }
+    requires free { IsFree flash.old.words page }
     requires inside { t < layout.now.image_words }
     requires unknown { HasNoEntry layout.now flash.old.words t }
     ensures makes { MakesPage layout.now (image_of layout.now flash.old.words) flash.old.words flash.new.words page t result }

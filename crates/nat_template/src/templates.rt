@@ -40,7 +40,7 @@ pub fn template(pc: u16, w0: u16, w1: u16, next_size: u16) -> ArrayVec<u16, 64>
 
 /// The same template in pieces.
 #[tactic(auto, using(crate::proofs::Sizes::template_size))]
-pub fn pieces(pc: u16, w0: u16, w1: u16, next_size: u16) -> ArrayVec<Piece, 32>
+pub fn pieces(pc: u16, w0: u16, w1: u16, next_size: u16) -> ArrayVec<Piece, 40>
     ensures pieces { result.items ≡ template_of pc w0 (the_form w0 w1) next_size }
     ensures size { (1 ≤ length (words_of result.items)) × (length (words_of result.items) ≤ 39) }
 {
@@ -57,7 +57,7 @@ fn pieces_by(
     w0: u16,
     instr: Option<&Instr>,
     next_size: u16,
-) -> ArrayVec<Piece, 32>
+) -> ArrayVec<Piece, 40>
     ensures pieces { result.items ≡ template_by shape pc w0 (option_map (λ borrowed. borrowed.now) instr.entry) next_size }
 {
     match shape {
@@ -87,7 +87,7 @@ fn target(pc: u16, instr: Option<&Instr>) -> u16
 }
 
 /// One word.
-fn one(word: u16) -> ArrayVec<Piece, 32>
+fn one(word: u16) -> ArrayVec<Piece, 40>
     ensures pieces { result.items ≡ Piece.Fixed word ∷ [] }
 {
     let mut pieces = ArrayVec::new();
@@ -96,7 +96,7 @@ fn one(word: u16) -> ArrayVec<Piece, 32>
 }
 
 /// A call of the kernel.
-fn call_of(entry: u16, pc: u16) -> ArrayVec<Piece, 32>
+fn call_of(entry: u16, pc: u16) -> ArrayVec<Piece, 40>
     ensures pieces { result.items ≡ service_of entry pc }
     ensures size { array_vec_len result ≡ 3 }
 {
@@ -106,7 +106,7 @@ fn call_of(entry: u16, pc: u16) -> ArrayVec<Piece, 32>
 }
 
 /// These pieces, and the stub for a step behind them.
-fn behind(front: ArrayVec<Piece, 32>, from: u16, to: u16) -> ArrayVec<Piece, 32>
+fn behind(front: ArrayVec<Piece, 40>, from: u16, to: u16) -> ArrayVec<Piece, 40>
     requires room { array_vec_len front ≤ 3 }
     ensures pieces { result.items ≡ front.items ++ stub_of from to }
 {
@@ -117,7 +117,7 @@ fn behind(front: ArrayVec<Piece, 32>, from: u16, to: u16) -> ArrayVec<Piece, 32>
 
 /// A word that passes over one word, which is a jump over the stub behind it.
 #[tactic(auto, using(crate::proofs::Sizes::stub_size))]
-fn passed_over(word: u16, from: u16, to: u16) -> ArrayVec<Piece, 32>
+fn passed_over(word: u16, from: u16, to: u16) -> ArrayVec<Piece, 40>
     ensures pieces { result.items ≡ Piece.Fixed word ∷ jump_over (stub_of from to) ∷ stub_of from to }
 {
     let mut pieces = one(word);

@@ -1,4 +1,6 @@
 use super::*;
+use avr_decode::decode;
+use avr_isa::{Form, Instr};
 
 /// A crossing stub to address 1.
 const COUNTED: [u16; 22] = [
@@ -52,4 +54,118 @@ fn a_closing_counts_a_crossing(rt: HostRuntime) {
     assert_eq!(rt; closing(127, 128).len(), 22);
     assert_eq!(rt; resolved(0x4007), [0x940C, 0x4007]);
     assert_eq!(rt; shape(0, None), TemplateShape::Fault);
+}
+
+/// The name of a form. One that is added is to be named here, and to have a row in the test below.
+fn name(form: &Form) -> &'static str {
+    match *form {
+        Form::Nop => "Nop",
+        Form::Movw(..) => "Movw",
+        Form::Muls(..) => "Muls",
+        Form::Product(..) => "Product",
+        Form::Two(..) => "Two",
+        Form::Cpse(..) => "Cpse",
+        Form::Imm(..) => "Imm",
+        Form::Word(..) => "Word",
+        Form::One(..) => "One",
+        Form::LoadOff(..) => "LoadOff",
+        Form::StoreOff(..) => "StoreOff",
+        Form::LoadAt(..) => "LoadAt",
+        Form::StoreAt(..) => "StoreAt",
+        Form::Lds(..) => "Lds",
+        Form::Sts(..) => "Sts",
+        Form::Pop(_) => "Pop",
+        Form::Push(_) => "Push",
+        Form::Lpm0 => "Lpm0",
+        Form::Elpm0 => "Elpm0",
+        Form::Lpm(..) => "Lpm",
+        Form::Elpm(..) => "Elpm",
+        Form::InIo(..) => "InIo",
+        Form::OutIo(..) => "OutIo",
+        Form::Cbi(..) => "Cbi",
+        Form::Sbic(..) => "Sbic",
+        Form::Sbi(..) => "Sbi",
+        Form::Sbis(..) => "Sbis",
+        Form::Bld(..) => "Bld",
+        Form::Bst(..) => "Bst",
+        Form::Sbrc(..) => "Sbrc",
+        Form::Sbrs(..) => "Sbrs",
+        Form::Bset(_) => "Bset",
+        Form::Bclr(_) => "Bclr",
+        Form::Brbs(..) => "Brbs",
+        Form::Brbc(..) => "Brbc",
+        Form::Rjmp(_) => "Rjmp",
+        Form::Rcall(_) => "Rcall",
+        Form::Jmp(_) => "Jmp",
+        Form::Call(_) => "Call",
+        Form::Ijmp => "Ijmp",
+        Form::Icall => "Icall",
+        Form::Ret => "Ret",
+        Form::Reti => "Reti",
+        Form::Sleep => "Sleep",
+        Form::Break => "Break",
+        Form::Wdr => "Wdr",
+        Form::Spm => "Spm",
+    }
+}
+
+/// Each form once, with registers that a program may access: how the instruction with this first word is
+/// rewritten at address 0. The second word is 0x0046.
+#[test]
+fn each_form_has_a_shape(rt: HostRuntime) {
+    let rows: [(&str, u16, TemplateShape); 47] = [
+        ("Nop", 0x0000, TemplateShape::Native),
+        ("Movw", 0x0112, TemplateShape::Native),
+        ("Muls", 0x0201, TemplateShape::Native),
+        ("Product", 0x0301, TemplateShape::Native),
+        ("Two", 0x0C12, TemplateShape::Native),
+        ("Cpse", 0x1001, TemplateShape::Skip),
+        ("Imm", 0xE003, TemplateShape::Native),
+        ("Word", 0x9601, TemplateShape::Native),
+        ("One", 0x950A, TemplateShape::Native),
+        ("LoadOff", 0x8059, TemplateShape::Mem),
+        ("StoreOff", 0x8259, TemplateShape::Mem),
+        ("LoadAt", 0x905C, TemplateShape::Mem),
+        ("StoreAt", 0x925C, TemplateShape::Mem),
+        ("Lds", 0x9050, TemplateShape::Mem),
+        ("Sts", 0x9250, TemplateShape::Mem),
+        ("Pop", 0x910F, TemplateShape::Mem),
+        ("Push", 0x930F, TemplateShape::Mem),
+        ("Lpm0", 0x95C8, TemplateShape::Mem),
+        ("Elpm0", 0x95D8, TemplateShape::Mem),
+        ("Lpm", 0x9054, TemplateShape::Mem),
+        ("Elpm", 0x9056, TemplateShape::Mem),
+        ("InIo", 0xB300, TemplateShape::Native),
+        ("OutIo", 0xBB08, TemplateShape::Native),
+        ("Cbi", 0x98C0, TemplateShape::Native),
+        ("Sbic", 0x9980, TemplateShape::Skip),
+        ("Sbi", 0x9AC0, TemplateShape::Native),
+        ("Sbis", 0x9B80, TemplateShape::Skip),
+        ("Bld", 0xF850, TemplateShape::Native),
+        ("Bst", 0xFA50, TemplateShape::Native),
+        ("Sbrc", 0xFC50, TemplateShape::Skip),
+        ("Sbrs", 0xFE50, TemplateShape::Skip),
+        ("Bset", 0x9408, TemplateShape::Native),
+        ("Bclr", 0x9488, TemplateShape::Native),
+        ("Brbs", 0xF009, TemplateShape::Branch),
+        ("Brbc", 0xF409, TemplateShape::Branch),
+        ("Rjmp", 0xC001, TemplateShape::Jump),
+        ("Rcall", 0xD001, TemplateShape::Call),
+        ("Jmp", 0x940C, TemplateShape::Jump),
+        ("Call", 0x940E, TemplateShape::Call),
+        ("Ijmp", 0x9409, TemplateShape::Ind),
+        ("Icall", 0x9509, TemplateShape::Ind),
+        ("Ret", 0x9508, TemplateShape::Ret),
+        ("Reti", 0x9518, TemplateShape::Ret),
+        ("Sleep", 0x9588, TemplateShape::Fault),
+        ("Break", 0x9598, TemplateShape::Native),
+        ("Wdr", 0x95A8, TemplateShape::Native),
+        ("Spm", 0x95E8, TemplateShape::Fault),
+    ];
+    for (form, first, expected) in rows {
+        let instr = decode(first, 0x0046);
+        let instr = instr.as_ref();
+        assert_eq!(rt; instr.map(Instr::form).map(name), Some(form));
+        assert_eq!(rt; shape(0, instr), expected, "{form}");
+    }
 }

@@ -1,4 +1,5 @@
 pub mod MapLaws
 pub mod EntryLaws
 pub mod ChangeLaws
+mod CursorLaws
 mod TestPage

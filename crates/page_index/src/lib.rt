@@ -12,9 +12,11 @@
 //! (`proofs/EntryLaws.antt`), and what stays where a free page gets a map (`proofs/ChangeLaws.antt`).
 #![tactic(auto)]
 
+mod cursor;
 mod page;
 mod pool;
 
+pub use cursor::Cursor;
 pub use pool::{entry, free_page, origin};
 
 #[cfg(test)]

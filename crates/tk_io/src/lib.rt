@@ -6,9 +6,11 @@
 //! happen.
 //!
 //! [`MemSource`] and [`MemSink`] stand in memory, [`FlakySource`] and [`FlakySink`] fail at calls that
-//! are chosen beforehand, [`StdSource`] and [`StdSink`] are the process's own streams.
+//! are chosen beforehand, [`StdSource`] and [`StdSink`] are the process's own streams: each of their
+//! calls is one call of a [`Reader`] or a [`Writer`], whose errors they count.
 #![tactic(auto)]
 
+mod edge;
 mod failure;
 mod flaky;
 mod memory;
@@ -16,6 +18,7 @@ mod sink;
 mod source;
 mod standard;
 
+pub use edge::{Reader, Writer};
 pub use failure::{Failed, NoMemory, ReadAll};
 pub use flaky::{FlakySink, FlakySource};
 pub use memory::{MemSink, MemSource};

@@ -1,4 +1,6 @@
 use super::*;
+use std::io;
+use std::io::{ErrorKind, Read, Write};
 use std::test::Fail;
 
 #[test]
@@ -57,5 +59,34 @@ fn readers_and_writers_of_std_serve(rt: HostRuntime) -> Result<(), Fail> {
     assert_eq!(rt; put(&mut sink, b"abc"), Ok(()));
     // The writer takes one byte, and then none.
     assert_eq!(rt; put(&mut sink, b"de"), Err(Failed));
+    Ok(())
+}
+
+/// A reader and writer of std of which nothing works.
+#[derive(Drop)]
+struct Broken;
+
+impl Read for Broken {
+    fn read(&mut self, _buf: &mut [u8]) -> io::Result<usize> {
+        Err(ErrorKind::Other.into())
+    }
+}
+
+impl Write for Broken {
+    fn write(&mut self, _piece: &[u8]) -> io::Result<usize> {
+        Err(ErrorKind::Other.into())
+    }
+
+    fn flush(&mut self) -> io::Result<()> {
+        Err(ErrorKind::Other.into())
+    }
+}
+
+#[test]
+fn an_error_of_std_is_a_fault(rt: HostRuntime) -> Result<(), Fail> {
+    let mut source = StdSource::new(Broken);
+    let answer = read_all(rt.alloc(), &mut source, 9).map(|bytes| bytes.len());
+    assert_eq!(rt; answer, Err(ReadAll::Fault));
+    assert_eq!(rt; put(&mut StdSink::new(Broken), b"a"), Err(Failed));
     Ok(())
 }

@@ -11,16 +11,36 @@ use Rattle.input_script.specs.declared.fault.ScriptFault.{ScriptFault}
 use Rattle.input_script.specs.declared.input.Event.{Event}
 use Rattle.input_script.proofs.Judgement.{one_judgement}
 use Rattle.tkernel_cli.specs.declared.refusal.Refusal.{Refusal}
-use Rattle.tkernel_cli.specs.declared.refusal.Refusal.TheVariants.{Usage, ReadFault, TooLong, BadHex, BadScript, UnbuiltProgram, NoMemory}
+use Rattle.tkernel_cli.specs.declared.refusal.Refusal.TheVariants.{Usage, ReadFault, TooLong, BadHex, BadScript, NoMemory}
 use Rattle.tkernel_cli.specs.declared.status.Status.{Status}
 use Rattle.tkernel_cli.specs.declared.status.Status.TheVariants as status
 use Rattle.tkernel_cli.specs.declared.top.Exit.{Exit}
-use Rattle.tkernel_cli.specs.Answer.{Gave, HasRead, HasBadScript, IsAnswer, IsExact, IsInput, IsOtherProgram, IsProgram, IsRefused, IsRun, Refuses, Says, Stream, Warrants, most_input, status_for, status_of, text_for}
-use Rattle.tkernel_cli.specs.Program.{IsBuilt}
+use Rattle.mem_guard.specs.FlatMachine.{End, Spent, Wild, Illegal, SelfProgram, Asleep, Halted, Io, Stack, SwapFull}
+use Rattle.tk_run.specs.Machines.{Machine}
+use Rattle.input_script.specs.Script.{IsScript}
+use Rattle.tkernel_cli.specs.declared.request.Request.{Request}
+use Rattle.tkernel_cli.specs.Options.{IsRunWords}
+use Rattle.tkernel_cli.specs.Runs.{Stream, Says, Runs, status_of_end, original_of}
+use Rattle.tkernel_cli.specs.Answer.{Gave, HasRead, HasBadScript, IsAnswer, IsExact, IsInput, IsRefused, IsRun, IsWarranted, Refuses, Warrants, most_input, status_of}
+use Rattle.tkernel_cli.proofs.OneCommand.{one_options}
 
--- a text has one image, one end of it, and one judgement of what stands behind
-one_input : (text a b : List ℕ) (events others : List Event) → IsInput text a events → IsInput text b others → a ≡ b
-one_input text a b events others x y = (same_image text a b x.position y.position x.hex y.hex).0
+-- a text has one image, one end of it, and one list of events behind it
+one_image_of : (text a b : List ℕ) (events others : List Event) → IsInput text a events → IsInput text b others → a ≡ b
+one_image_of text a b events others x y = (same_image text a b x.position y.position x.hex y.hex).0
+
+one_script_of : (text a b : List ℕ) (events others : List Event) → IsInput text a events → IsInput text b others → events ≡ others
+one_script_of text a b events others x y =
+    let same = (same_image text a b x.position y.position x.hex y.hex).1 in
+    (one_judgement (drop y.position text)).one_list events others (subst (λ z. IsScript (drop z text) events) same x.script) y.script
+
+-- words and a text ask for one thing
+same_request : (p q : Request) → p.image ≡ q.image → p.script ≡ q.script → p.options ≡ q.options → p ≡ q
+same_request p q image script options =
+    ap (λ i. record p { image = i }) image ∙ ap (λ s. record q { script = s; options = p.options }) script ∙ ap (λ o. record q { options = o }) options
+
+one_request : (words : List (List ℕ)) (text : List ℕ) (p q : Request) → IsRunWords words p.options → IsRunWords words q.options → IsInput text p.image p.script → IsInput text q.image q.script → p ≡ q
+one_request words text p q first second x y =
+    same_request p q (one_image_of text p.image q.image p.script q.script x y) (one_script_of text p.image q.image p.script q.script x y) (one_options words p.options q.options first second)
 
 hex_apart : (text words : List ℕ) (position line : ℕ) (fault : HexFault) → HexText text words position → HexBad text line fault → ⊥
 hex_apart text words position line fault good bad = never_both text words position line fault good bad
@@ -43,43 +63,32 @@ one_bad_script text line other fault fault' x y =
     ap (λ z. BadScript z fault) (one.one_line line other fault fault' bad y.bad) ∙ ap (λ z. BadScript other z) (one.one_fault line other fault fault' bad y.bad)
 
 -- no two verdicts are warranted
-only_one : (words : List (List ℕ)) (text : List ℕ) (r s : Result (List ℕ) Refusal) → Warrants words text r → Warrants words text s → r ≡ s
-only_one words text (Ok p) (Ok q) v w = ap Ok (one_input text p q _ _ v.2.input w.2.input)
-only_one words text (Ok p) (Err Usage) v w = absurd (w v.0)
+only_one : (words : List (List ℕ)) (text : List ℕ) (r s : Result Request Refusal) → Warrants words text r → Warrants words text s → r ≡ s
+only_one words text (Ok p) (Ok q) v w = ap Ok (one_request words text p q v.0 w.0 v.2 w.2)
+only_one words text (Ok p) (Err Usage) v w = absurd (w (p.options, v.0))
 only_one words text (Ok p) (Err TooLong) v w = absurd (omega (arith, v.1, w.1))
-only_one words text (Ok p) (Err (BadHex m g)) v w = absurd (hex_apart text _ _ m g (v.2.input.hex) w.2)
-only_one words text (Ok p) (Err (BadScript m g)) v w = absurd (script_apart text m g _ _ w.2 v.2.input)
-only_one words text (Ok p) (Err UnbuiltProgram) v w = absurd (w.2.other (subst IsBuilt (one_input text p _ _ _ v.2.input w.2.input) v.2.built))
-only_one words text (Err Usage) (Ok q) v w = absurd (v w.0)
+only_one words text (Ok p) (Err (BadHex m g)) v w = absurd (hex_apart text _ _ m g (v.2.hex) w.2)
+only_one words text (Ok p) (Err (BadScript m g)) v w = absurd (script_apart text m g _ _ w.2 v.2)
+only_one words text (Err Usage) (Ok q) v w = absurd (v (q.options, w.0))
 only_one words text (Err Usage) (Err Usage) v w = refl
 only_one words text (Err Usage) (Err TooLong) v w = absurd (v w.0)
 only_one words text (Err Usage) (Err (BadHex m g)) v w = absurd (v w.0)
 only_one words text (Err Usage) (Err (BadScript m g)) v w = absurd (v w.0)
-only_one words text (Err Usage) (Err UnbuiltProgram) v w = absurd (v w.0)
 only_one words text (Err TooLong) (Ok q) v w = absurd (omega (arith, v.1, w.1))
 only_one words text (Err TooLong) (Err Usage) v w = absurd (w v.0)
 only_one words text (Err TooLong) (Err TooLong) v w = refl
 only_one words text (Err TooLong) (Err (BadHex m g)) v w = absurd (omega (arith, v.1, w.1))
 only_one words text (Err TooLong) (Err (BadScript m g)) v w = absurd (omega (arith, v.1, w.1))
-only_one words text (Err TooLong) (Err UnbuiltProgram) v w = absurd (omega (arith, v.1, w.1))
-only_one words text (Err (BadHex l f)) (Ok q) v w = absurd (hex_apart text _ _ l f (w.2.input.hex) v.2)
+only_one words text (Err (BadHex l f)) (Ok q) v w = absurd (hex_apart text _ _ l f (w.2.hex) v.2)
 only_one words text (Err (BadHex l f)) (Err Usage) v w = absurd (w v.0)
 only_one words text (Err (BadHex l f)) (Err TooLong) v w = absurd (omega (arith, v.1, w.1))
 only_one words text (Err (BadHex l f)) (Err (BadHex m g)) v w = ap Err (one_bad_hex text l m f g v.2 w.2)
 only_one words text (Err (BadHex l f)) (Err (BadScript m g)) v w = absurd (hex_apart text _ _ l f (w.2.hex) v.2)
-only_one words text (Err (BadHex l f)) (Err UnbuiltProgram) v w = absurd (hex_apart text _ _ l f (w.2.input.hex) v.2)
-only_one words text (Err (BadScript l f)) (Ok q) v w = absurd (script_apart text l f _ _ v.2 w.2.input)
+only_one words text (Err (BadScript l f)) (Ok q) v w = absurd (script_apart text l f _ _ v.2 w.2)
 only_one words text (Err (BadScript l f)) (Err Usage) v w = absurd (w v.0)
 only_one words text (Err (BadScript l f)) (Err TooLong) v w = absurd (omega (arith, v.1, w.1))
 only_one words text (Err (BadScript l f)) (Err (BadHex m g)) v w = absurd (hex_apart text _ _ m g (v.2.hex) w.2)
 only_one words text (Err (BadScript l f)) (Err (BadScript m g)) v w = ap Err (one_bad_script text l m f g v.2 w.2)
-only_one words text (Err (BadScript l f)) (Err UnbuiltProgram) v w = absurd (script_apart text l f _ _ v.2 w.2.input)
-only_one words text (Err UnbuiltProgram) (Ok q) v w = absurd (v.2.other (subst IsBuilt (one_input text q _ _ _ w.2.input v.2.input) w.2.built))
-only_one words text (Err UnbuiltProgram) (Err Usage) v w = absurd (w v.0)
-only_one words text (Err UnbuiltProgram) (Err TooLong) v w = absurd (omega (arith, v.1, w.1))
-only_one words text (Err UnbuiltProgram) (Err (BadHex m g)) v w = absurd (hex_apart text _ _ m g (v.2.input.hex) w.2)
-only_one words text (Err UnbuiltProgram) (Err (BadScript m g)) v w = absurd (script_apart text m g _ _ w.2 v.2.input)
-only_one words text (Err UnbuiltProgram) (Err UnbuiltProgram) v w = refl
 only_one words text (Err ReadFault) r v w = absurd v
 only_one words text (Err NoMemory) r v w = absurd v
 only_one words text (Ok p) (Err ReadFault) v w = absurd w
@@ -92,8 +101,6 @@ only_one words text (Err (BadHex l f)) (Err ReadFault) v w = absurd w
 only_one words text (Err (BadHex l f)) (Err NoMemory) v w = absurd w
 only_one words text (Err (BadScript l f)) (Err ReadFault) v w = absurd w
 only_one words text (Err (BadScript l f)) (Err NoMemory) v w = absurd w
-only_one words text (Err UnbuiltProgram) (Err ReadFault) v w = absurd w
-only_one words text (Err UnbuiltProgram) (Err NoMemory) v w = absurd w
 
 -- what a source that told its text gave is that text
 all_taken : (told now : Option (List ℕ)) (text given : List ℕ) → told ≡ Some text → Consumes told now given → IsAtEnd now → given ≡ text
@@ -132,7 +139,6 @@ reason_of words text source source' TooLong told reason =
     Warranted (reason.0, omega (arith, taken_of source.told source'.told text (most_input + 1) told reason.1))
 reason_of words text source source' (BadHex line fault) told reason = Warranted (read_as words source source' text (λ z. HexBad z line fault) told reason)
 reason_of words text source source' (BadScript line fault) told reason = Warranted (read_as words source source' text (HasBadScript line fault) told reason)
-reason_of words text source source' UnbuiltProgram told reason = Warranted (read_as words source source' text IsOtherProgram told reason)
 reason_of words text source source' NoMemory told reason = Wanting refl
 
 -- a text that is said goes out whole where the sink doesn't fail
@@ -147,15 +153,37 @@ refusal_is_exact words source source' sink sink' exit refuses text verdict serve
       | Wanting none ↦ inl (said.0 ∙ ap status_of none)
       | Warranted own ↦
           let same : Err refuses.refusal ≡ verdict = only_one words text (Err refuses.refusal) verdict own warranted in
-          inr (subst (λ z. (exit.status ≡ status_for z) × Appends sink.told sink'.told (text_for z)) same said)
+          inr (subst (λ z. IsWarranted z sink sink' exit) same said)
     ]
+
+-- no end of the original is a failed write
+end_is_no_fault : (end : End) → status_of_end end ≡ status.WriteFault → ⊥
+end_is_no_fault Spent is = absurd (cc)
+end_is_no_fault (Halted pc) is = absurd (cc)
+end_is_no_fault (Asleep pc) is = absurd (cc)
+end_is_no_fault (Wild pc) is = absurd (cc)
+end_is_no_fault (Illegal pc) is = absurd (cc)
+end_is_no_fault (SelfProgram pc) is = absurd (cc)
+end_is_no_fault (Io pc a) is = absurd (cc)
+end_is_no_fault (Stack pc a) is = absurd (cc)
+end_is_no_fault (SwapFull pc a) is = absurd (cc)
+
+-- a text that is said whole is said with the status that is its own
+not_cut : (request : Request) (before now : Stream) (told : Status) (m : Machine) → (Rose before.faults now.faults → ⊥) → Runs request before now told m → told ≡ status.WriteFault → ⊥
+not_cut request before now told m well (Runs.Ended run) is = end_is_no_fault (original_of request request.options.steps).end (sym (said_whole _ told _ before now well run.said).0 ∙ is)
+not_cut request before now told m well (Runs.Full run) is =
+    let same : status.CodeFull ≡ status.WriteFault = sym (said_whole status.CodeFull told _ before now well run.said).0 ∙ is in
+    absurd (cc)
+not_cut request before now told m well (Runs.Cut run) is = well run.rose
 
 pub answer_is_exact : (words : List (List ℕ)) (source source' sink sink' : Stream) (exit : Exit) → IsAnswer words source source' sink sink' exit → IsExact words source source' sink sink' exit
 answer_is_exact words source source' sink sink' exit answer text verdict serves warranted = elim answer [
   | inl refuses ↦ refusal_is_exact words source source' sink sink' exit refuses text verdict serves warranted
   | inr runs ↦
-      let read = read_as words source source' text (IsProgram runs.program) serves.told runs.accepted in
-      let same : Ok runs.program ≡ verdict = only_one words text (Ok runs.program) verdict read warranted in
-      let said = said_whole status.Done exit.status _ sink sink' serves.written runs.run.said in
-      inr (subst (λ z. (exit.status ≡ status_for z) × Appends sink.told sink'.told (text_for z)) same said)
+      let accepted = runs.accepted in
+      let same_text = all_given source source' text accepted.text serves.told accepted.gave in
+      let short = subst (λ z. length z ≤ most_input) same_text accepted.gave.short in
+      let input = subst (λ z. IsInput z runs.request.image runs.request.script) same_text accepted.input in
+      let same : Ok runs.request ≡ verdict = only_one words text (Ok runs.request) verdict (accepted.options, short, input) warranted in
+      inr (subst (λ z. IsWarranted z sink sink' exit) same (runs.run, not_cut runs.request sink sink' exit.status runs.run.machine serves.written runs.run.runs))
 ]

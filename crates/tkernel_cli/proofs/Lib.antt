@@ -1,10 +1,12 @@
--- Lemmas on the words of a page, on straight instructions, on a run step by step and its end, on texts
--- that are put one after another, and on what is judged.
-pub mod PageWords
-pub mod Straight
-pub mod Steps
-pub mod Progress
-pub mod Ending
+-- Lemmas on the words of `run`, on texts that are put one after another, on a whole run, and on what is
+-- judged.
+pub mod OptionPieces
+pub mod OptionChoices
+pub mod FirstWord
+pub mod OneCommand
+pub mod OptionRanges
 pub mod Putting
+pub mod BootedFlash
+pub mod RunEnds
 pub mod Judging
 pub mod Exactly

@@ -1,8 +1,8 @@
 -- What the program answers: to which words and which input, with which status and text.
-use Rattle.std.specs.Prelude.{◌≡◌, ◌⊎◌, ℕ, ◌+◌, ◌<◌, ◌≤◌, List, [], ◌∷◌, ◌++◌, length, drop, codes, decimal, Option, Some, None, Result, Ok, Err}
+use Rattle.std.specs.Prelude.{◌≡◌, ◌⊎◌, ℕ, ◌+◌, ◌<◌, ◌≤◌, List, ◌++◌, length, drop, codes, decimal, Some, None, Result, Ok, Err}
 use Rattle.std.specs.Io.KnownBytes.{Appends, Consumes, IsAtEnd}
 use Rattle.tk_io.specs.Faults.{Rose}
-use Rattle.tk_io.specs.Streams.{CutShort, Takes, TakesAtMost}
+use Rattle.tk_io.specs.Streams.{Takes, TakesAtMost}
 use Rattle.hex_image.specs.HexText.{HexBad, HexText}
 use Rattle.hex_image.specs.declared.fault.HexFault.{HexFault}
 use Rattle.hex_image.specs.declared.fault.HexFault.TheVariants as hex_faults
@@ -10,25 +10,20 @@ use Rattle.input_script.specs.Script.{IsBad, IsScript}
 use Rattle.input_script.specs.declared.fault.ScriptFault.{ScriptFault}
 use Rattle.input_script.specs.declared.fault.ScriptFault.TheVariants as script_faults
 use Rattle.input_script.specs.declared.input.Event.{Event}
-use Rattle.tkernel_cli.specs.declared.machine.Machine.{Machine}
 use Rattle.tkernel_cli.specs.declared.refusal.Refusal.{Refusal}
-use Rattle.tkernel_cli.specs.declared.refusal.Refusal.TheVariants.{Usage, ReadFault, TooLong, BadHex, BadScript, UnbuiltProgram, NoMemory}
+use Rattle.tkernel_cli.specs.declared.refusal.Refusal.TheVariants.{Usage, ReadFault, TooLong, BadHex, BadScript, NoMemory}
 use Rattle.tkernel_cli.specs.declared.status.Status.{Status}
 use Rattle.tkernel_cli.specs.declared.status.Status.TheVariants as status
 use Rattle.tkernel_cli.specs.declared.top.Exit.{Exit}
-use Rattle.tkernel_cli.specs.Original.{Halted, original}
-use Rattle.tkernel_cli.specs.Program.{IsBuilt}
-use Rattle.tkernel_cli.specs.Running.{Follows, HasHalted, last_address}
-use Rattle.tkernel_cli.specs.Text.{default_steps, program_text}
+use Rattle.tkernel_cli.specs.declared.options.RunOptions.{RunOptions}
+use Rattle.tkernel_cli.specs.declared.request.Input.{Input}
+use Rattle.tkernel_cli.specs.declared.request.Request.{Request}
+use Rattle.tkernel_cli.specs.Options.{IsRunWords}
+use Rattle.tkernel_cli.specs.Runs.{Stream, Says, HasRun}
 
--- a stream at a moment: the bytes that it tells, and how often it failed
-pub record Stream : Type 0 where
-  pub told : Option (List ℕ)
-  pub faults : ℕ
-
--- the words that are a command so far
+-- the words are those of `run`, with some options
 abbrev pub IsRun : List (List ℕ) → Type 0
-IsRun words = words ≡ codes "run" ∷ []
+IsRun words = (options : RunOptions) × IsRunWords words options
 
 -- the most bytes of an input
 abbrev pub most_input : ℕ
@@ -53,19 +48,6 @@ pub record HasBadScript (line : ℕ) (fault : ScriptFault) (text : List ℕ) : T
   pub hex : HexText text words position
   pub bad : IsBad (drop position text) line fault
 
--- an input whose image is no built program
-pub record IsOtherProgram (text : List ℕ) : Type 0 where
-  pub words : List ℕ
-  pub events : List Event
-  pub input : IsInput text words events
-  pub other : IsBuilt words → ⊥
-
--- an input whose image is this built program
-pub record IsProgram (program text : List ℕ) : Type 0 where
-  pub events : List Event
-  pub input : IsInput text program events
-  pub built : IsBuilt program
-
 -- the words are `run`, and the source gave a text of which this holds
 pub record HasRead (words : List (List ℕ)) (before now : Stream) (P : List ℕ → Type 0) : Type 0 where
   pub run : IsRun words
@@ -80,24 +62,25 @@ IsRefused words before now ReadFault = IsRun words × Rose before.faults now.fau
 IsRefused words before now TooLong = IsRun words × Takes (most_input + 1) before.told now.told
 IsRefused words before now (BadHex line fault) = HasRead words before now (λ text. HexBad text line fault)
 IsRefused words before now (BadScript line fault) = HasRead words before now (HasBadScript line fault)
-IsRefused words before now UnbuiltProgram = HasRead words before now IsOtherProgram
 IsRefused words before now NoMemory = IsRun words × TakesAtMost most_input before.told now.told
 
--- a request that is run
-abbrev pub IsAccepted : List (List ℕ) → Stream → Stream → List ℕ → Type 0
-IsAccepted words before now program = HasRead words before now (IsProgram program)
+-- a request that is run: the words ask for its options, and the text gives its image and events
+pub record IsAccepted (words : List (List ℕ)) (before now : Stream) (request : Request) : Type 0 where
+  pub options : IsRunWords words request.options
+  pub text : List ℕ
+  pub gave : Gave before now text
+  pub input : IsInput text request.image request.script
 
 -- a request, judged
-abbrev pub Judges : List (List ℕ) → Stream → Stream → Result (List ℕ) Refusal → Type 0
-Judges words before now (Ok program) = IsAccepted words before now program
+abbrev pub Judges : List (List ℕ) → Stream → Stream → Result Request Refusal → Type 0
+Judges words before now (Ok request) = IsAccepted words before now request
 Judges words before now (Err refusal) = IsRefused words before now refusal
 
 -- a text, judged
-abbrev pub JudgesText : List ℕ → Result (List ℕ) Refusal → Type 0
-JudgesText text (Ok program) = IsProgram program text
+abbrev pub JudgesText : List ℕ → Result Input Refusal → Type 0
+JudgesText text (Ok input) = IsInput text input.image input.script
 JudgesText text (Err (BadHex line fault)) = HexBad text line fault
 JudgesText text (Err (BadScript line fault)) = HasBadScript line fault text
-JudgesText text (Err UnbuiltProgram) = IsOtherProgram text
 JudgesText text (Err NoMemory) = Unit {0}
 JudgesText text (Err Usage) = ⊥
 JudgesText text (Err ReadFault) = ⊥
@@ -132,7 +115,6 @@ status_of ReadFault = status.ReadFault
 status_of TooLong = status.BadInput
 status_of (BadHex line fault) = status.BadInput
 status_of (BadScript line fault) = status.BadInput
-status_of UnbuiltProgram = status.Unbuilt
 status_of NoMemory = status.NoMemory
 
 abbrev pub text_of : Refusal → List ℕ
@@ -141,29 +123,15 @@ text_of ReadFault = codes "read fault\n"
 text_of TooLong = codes "input too long\n"
 text_of (BadHex line fault) = bad_line_text (codes "bad hex line ") line (hex_word fault)
 text_of (BadScript line fault) = bad_line_text (codes "bad script line ") line (script_word fault)
-text_of UnbuiltProgram = codes "unbuilt program\n"
 text_of NoMemory = codes "no memory\n"
 
--- A text goes out whole, and the status is its own; or the sink fails, and the text is cut short.
-abbrev pub Says : Status → List ℕ → Stream → Stream → Status → Type 0
-Says own text before now told =
-    ((told ≡ own) × Appends before.told now.told text)
-    ⊎ ((told ≡ status.WriteFault) × Rose before.faults now.faults × CutShort before.told now.told text)
-
--- a built program that is run, or refused for want of memory
-pub record HasRun (program : List ℕ) (sink sink' : Stream) (exit : Exit) : Type 0 where
-  pub said : Says status.Done (program_text program) sink sink' exit.status
-  pub machine : Machine
-  pub kept : exit.kept ≡ Some machine
-  pub follows : Follows program machine
-  pub halted : exit.status ≡ status.Done → HasHalted program machine
-
+-- a request that is not run for want of memory
 pub record HasNoMemory (sink sink' : Stream) (exit : Exit) : Type 0 where
   pub said : Says status.NoMemory (text_of NoMemory) sink sink' exit.status
   pub kept : exit.kept ≡ None
 
-abbrev pub Ran : List ℕ → Stream → Stream → Exit → Type 0
-Ran program sink sink' exit = HasRun program sink sink' exit ⊎ HasNoMemory sink sink' exit
+abbrev pub Ran : Request → Stream → Stream → Exit → Type 0
+Ran request sink sink' exit = HasRun request sink sink' exit ⊎ HasNoMemory sink sink' exit
 
 -- a request that is refused: there is a reason, and its status and text are the answer
 pub record Refuses (words : List (List ℕ)) (source source' sink sink' : Stream) (exit : Exit) : Type 0 where
@@ -172,42 +140,24 @@ pub record Refuses (words : List (List ℕ)) (source source' sink sink' : Stream
   pub said : Says (status_of refusal) (text_of refusal) sink sink' exit.status
   pub kept : exit.kept ≡ None
 
--- the original program halts at its last word, after a step for each word before it, with no crossing
-pub record HaltsAtLastWord (program : List ℕ) : Type 0 where
-  pub ending : (original program default_steps).ending ≡ Halted (last_address program)
-  pub steps : (original program default_steps).state.steps ≡ last_address program
-  pub crossings : (original program default_steps).state.crossings ≡ 0
-
--- A request that is run: the text is that of the original program's run, and the machine that is kept
--- stands where the original program stands after as many steps.
-pub record Runs (words : List (List ℕ)) (source source' sink sink' : Stream) (exit : Exit) : Type 0 where
-  pub program : List ℕ
-  pub accepted : IsAccepted words source source' program
-  pub halts : HaltsAtLastWord program
-  pub run : HasRun program sink sink' exit
+-- a request that is run
+pub record IsRunAsAsked (words : List (List ℕ)) (source source' sink sink' : Stream) (exit : Exit) : Type 0 where
+  pub request : Request
+  pub accepted : IsAccepted words source source' request
+  pub run : HasRun request sink sink' exit
 
 abbrev pub IsAnswer : List (List ℕ) → Stream → Stream → Stream → Stream → Exit → Type 0
-IsAnswer words source source' sink sink' exit = Refuses words source source' sink sink' exit ⊎ Runs words source source' sink sink' exit
+IsAnswer words source source' sink sink' exit = Refuses words source source' sink sink' exit ⊎ IsRunAsAsked words source source' sink sink' exit
 
--- What words and a whole input warrant, if streams and memory serve: a program to run, or a refusal.
-abbrev pub Warrants : List (List ℕ) → List ℕ → Result (List ℕ) Refusal → Type 0
-Warrants words text (Ok program) = IsRun words × length text ≤ most_input × IsProgram program text
+-- What words and a whole input warrant, if streams and memory serve: a request to run, or a refusal.
+abbrev pub Warrants : List (List ℕ) → List ℕ → Result Request Refusal → Type 0
+Warrants words text (Ok request) = IsRunWords words request.options × length text ≤ most_input × IsInput text request.image request.script
 Warrants words text (Err Usage) = IsRun words → ⊥
 Warrants words text (Err TooLong) = IsRun words × most_input < length text
 Warrants words text (Err (BadHex line fault)) = IsRun words × length text ≤ most_input × HexBad text line fault
 Warrants words text (Err (BadScript line fault)) = IsRun words × length text ≤ most_input × HasBadScript line fault text
-Warrants words text (Err UnbuiltProgram) = IsRun words × length text ≤ most_input × IsOtherProgram text
 Warrants words text (Err ReadFault) = ⊥
 Warrants words text (Err NoMemory) = ⊥
-
--- the status and the text of what is warranted
-abbrev pub status_for : Result (List ℕ) Refusal → Status
-status_for (Ok program) = status.Done
-status_for (Err refusal) = status_of refusal
-
-abbrev pub text_for : Result (List ℕ) Refusal → List ℕ
-text_for (Ok program) = program_text program
-text_for (Err refusal) = text_of refusal
 
 -- The source tells this text, and neither stream fails: what is warranted is the answer, unless memory is
 -- wanted.
@@ -216,8 +166,14 @@ pub record Serves (source source' sink sink' : Stream) (text : List ℕ) : Type 
   pub read : Rose source.faults source'.faults → ⊥
   pub written : Rose sink.faults sink'.faults → ⊥
 
+-- A refusal's status and text; or the run of just this request, to the original's end or to the end of the
+-- code pool.
+abbrev pub IsWarranted : Result Request Refusal → Stream → Stream → Exit → Type 0
+IsWarranted (Ok request) sink sink' exit = HasRun request sink sink' exit × (exit.status ≡ status.WriteFault → ⊥)
+IsWarranted (Err refusal) sink sink' exit = (exit.status ≡ status_of refusal) × Appends sink.told sink'.told (text_of refusal)
+
 abbrev pub IsExact : List (List ℕ) → Stream → Stream → Stream → Stream → Exit → Type 0
 IsExact words source source' sink sink' exit =
-    (text : List ℕ) (verdict : Result (List ℕ) Refusal)
+    (text : List ℕ) (verdict : Result Request Refusal)
     → Serves source source' sink sink' text → Warrants words text verdict
-    → (exit.status ≡ status.NoMemory) ⊎ ((exit.status ≡ status_for verdict) × Appends sink.told sink'.told (text_for verdict))
+    → (exit.status ≡ status.NoMemory) ⊎ IsWarranted verdict sink sink' exit

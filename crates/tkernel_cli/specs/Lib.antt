@@ -1,9 +1,7 @@
--- The original program, its code page, its text, and what is answered to a request.
-pub mod Original
-pub mod Program
-pub mod Page
+-- The command line: its words, its input, its answers and their texts.
+pub mod Options
+pub mod OptionReading
 pub mod Text
-pub mod Running
 pub mod Status
+pub mod Runs
 pub mod Answer
-pub mod Input

@@ -1,8 +1,8 @@
 //! The command line of tkernel as a library: words and an input in, lines and a status out.
 //!
-//! [`tkernel`] is the whole program but for the process around it. So far it runs programs of LDI and OUT
-//! to PORTA that end in a jump to themselves. A program's words are rewritten into a page of the code pool
-//! and executed there by plain AVR steps; what is printed is what the original program would do.
+//! [`tkernel`] is the whole program but for the process around it: it judges the words, reads and judges
+//! the input, runs the program, and prints its lines. The run is made by crate `tk_run`, in rewritten code;
+//! what is printed is what the original program would do.
 //!
 //! ```rust
 //! let mut input = MemSource::new(b":060000000FE00BBBFFCF77\n:00000001FF\n".to_vec(alloc)?);
@@ -14,15 +14,14 @@
 //! ```
 #![tactic(auto)]
 
-mod machine;
-mod page;
-mod program;
+mod options;
 mod refusal;
+mod request;
 mod running;
 mod status;
 mod text;
 mod top;
 
-pub use machine::{End, Machine, Stop};
+pub use options::{RunOptions, options_of};
 pub use status::Status;
 pub use top::{Exit, tkernel};

@@ -1,11 +1,15 @@
 //! Requests that aren't run.
-ghost use Rattle.std.specs.Prelude.{◌≡◌, ◌≤◌, length, codes};
+ghost use Rattle.std.specs.Prelude.{◌≡◌, ◌≤◌, length, codes, None};
+ghost use Rattle.tkernel_cli.specs.Runs.{Says};
 ghost use Rattle.tkernel_cli.specs.Answer.{bad_line_text, hex_word, script_word, status_of, text_of};
 
 use crate::Status;
-use crate::text::{Text, bad_line, whole};
+use crate::text::{bad_line, whole};
+use crate::top::Exit;
 use hex_image::HexFault;
 use input_script::ScriptFault;
+use line_text::Text;
+use tk_io::{Sink, put};
 
 /// Why a request is not run.
 #[derive(Clone, Copy, Debug, PartialEq, Eq)]
@@ -20,8 +24,6 @@ pub enum Refusal {
     BadHex(u32, HexFault),
     /// The script is broken: its first faulty line, from 1 at the script's first, and its first fault.
     BadScript(u32, ScriptFault),
-    /// The program has other instructions than are built so far.
-    UnbuiltProgram,
     /// Memory was wanted and not found.
     NoMemory,
 }
@@ -34,7 +36,6 @@ impl Refusal {
             Refusal::Usage => Status::Usage,
             Refusal::ReadFault => Status::ReadFault,
             Refusal::TooLong | Refusal::BadHex(..) | Refusal::BadScript(..) => Status::BadInput,
-            Refusal::UnbuiltProgram => Status::Unbuilt,
             Refusal::NoMemory => Status::NoMemory,
         }
     }
@@ -51,7 +52,6 @@ impl Refusal {
             Refusal::BadScript(line, fault) => {
                 bad_line(b"bad script line ", line, word_of_script(fault))
             }
-            Refusal::UnbuiltProgram => whole(b"unbuilt program\n"),
             Refusal::NoMemory => whole(b"no memory\n"),
         }
     }
@@ -84,4 +84,19 @@ fn word_of_script(fault: ScriptFault) -> &'static [u8]
         ScriptFault::Range => b"range",
         ScriptFault::TooMany => b"events",
     }
+}
+
+/// Puts the line of a refusal.
+pub fn refuse<K: Sink>(refusal: Refusal, out: &mut K) -> Exit
+    ensures said { Says (status_of refusal) (text_of refusal)
+        (record { told = K.taken out.old; faults = K.faults out.old })
+        (record { told = K.taken out.new; faults = K.faults out.new })
+        result.status }
+    ensures kept { result.kept ≡ None }
+{
+    let status = match put(out, &refusal.text()) {
+        Ok(()) => refusal.status(),
+        Err(_) => Status::WriteFault,
+    };
+    Exit { status, kept: None }
 }

@@ -1,56 +1,95 @@
 //! A whole run, and its printed lines.
-ghost use Rattle.std.specs.Prelude.{◌≡◌, ◌++◌, ◌/◌, OnOk};
+ghost use Rattle.std.specs.Prelude.{◌≡◌, ◌≤◌, ◌++◌, ◌/◌, ◌^◌};
 ghost use Rattle.tk_io.specs.Faults.{HasCause};
 ghost use Rattle.tk_io.specs.Streams.{Puts};
-ghost use Rattle.tkernel_cli.specs.Original.{Halted};
-ghost use Rattle.tkernel_cli.specs.Program.{IsBuilt};
-ghost use Rattle.tkernel_cli.specs.Running.{Follows, HasHalted, IsReady};
-ghost use Rattle.tkernel_cli.specs.Text.{count_text, plain_text, program_text, stop_text};
+ghost use Rattle.tkernel_cli.specs.Answer.{Ran};
+ghost use Rattle.tkernel_cli.specs.Runs.{Says, status_of_stop};
+ghost use Rattle.tkernel_cli.specs.Text.{count_text, end_line};
 
-use crate::machine::Machine;
-use crate::text;
-use mote_core::Plain;
+use crate::refusal::{Refusal, refuse};
+use crate::request::Request;
+use crate::status::Status;
+use crate::text::{counts, stop_line};
+use crate::top::Exit;
+use kernel_entry::Stop;
+use std::alloc::Global;
 use tk_io::{Failed, Sink, put};
+use tk_run::{End, Machine, Options};
 
-/// Runs the program to its end, and puts each line as it comes. Where the sink fails, the machine stands
-/// behind the step whose line could not be put.
-pub fn run<K: Sink>(machine: &mut Machine, program: &[u16], out: &mut K) -> Result<(), Failed>
-    requires built { IsBuilt program.now }
-    requires ready { IsReady program.now machine.old }
-    ensures follows { Follows program.now machine.new }
-    ensures halted { OnOk result (HasHalted program.now machine.new) }
-    ensures text { Puts (K.taken out.old) (K.taken out.new) result (program_text program.now) }
-    ensures cause { HasCause (K.faults out.old) (K.faults out.new) result }
+/// Runs a request to its end, and puts each line as it comes.
+pub fn run_request<K: Sink>(alloc: Global, request: Request, out: &mut K) -> Exit
+    requires quantum { 1 ≤ request.options.quantum }
+    requires swap { request.options.swap ≤ 251 }
+    requires steps { request.options.steps ≤ 10 ^ 9 }
+    ensures ran { Ran request
+        (record { told = K.taken out.old; faults = K.faults out.old })
+        (record { told = K.taken out.new; faults = K.faults out.new })
+        result }
 {
-    'steps: for _ in 1..program.len() {
-        let plain = machine.step();
-        tell(plain, out)?;
+    let Request {
+        image,
+        script,
+        options,
+    } = request;
+    let asked = Options {
+        quantum: options.quantum,
+        swap: options.swap,
+    };
+    let mut machine = match Machine::boot(alloc, &image, script, asked) {
+        Ok(machine) => machine,
+        Err(_) => return refuse(Refusal::NoMemory, out),
+    };
+    let status = match machine.advance(options.steps, out) {
+        Ok(end) => tell_end(&machine, end, out),
+        Err(_) => Status::WriteFault,
+    };
+    Exit {
+        status,
+        kept: Some(machine),
     }
-    machine.halt();
-    tell_end(machine, out)
 }
 
-/// Puts the line of a step, if it has one.
-fn tell<K: Sink>(plain: Plain, out: &mut K) -> Result<(), Failed>
-    ensures text { Puts (K.taken out.old) (K.taken out.new) result (plain_text plain) }
-    ensures cause { HasCause (K.faults out.old) (K.faults out.new) result }
+/// Puts the stop line and the count line. The status is the end's own, unless they can't be put.
+fn tell_end<K: Sink>(machine: &Machine, end: End, out: &mut K) -> Status
+    requires quantum { 1 ≤ machine.now.kernel.quantum }
+    ensures said { Says (status_of_stop end)
+        (end_line end machine.now.steps (machine.now.crossings / machine.now.kernel.quantum)
+        ++ count_text machine.now.natural machine.now.entries machine.now.pages)
+        (record { told = K.taken out.old; faults = K.faults out.old })
+        (record { told = K.taken out.new; faults = K.faults out.new })
+        result }
+    ensures later { K.faults out.old ≤ K.faults out.new }
 {
-    match plain {
-        Plain::Went => Ok(()),
-        Plain::Wrote(line) => put(out, &text::line(line)),
+    match put_end(machine, end, out) {
+        Ok(()) => status_of(end),
+        Err(_) => Status::WriteFault,
     }
 }
 
-/// Puts the stop line and the count line.
-fn tell_end<K: Sink>(machine: &Machine, out: &mut K) -> Result<(), Failed>
+/// Puts both lines.
+fn put_end<K: Sink>(machine: &Machine, end: End, out: &mut K) -> Result<(), Failed>
+    requires quantum { 1 ≤ machine.now.kernel.quantum }
     ensures text { Puts (K.taken out.old) (K.taken out.new) result
-        (stop_text (Halted machine.now.at) machine.now.steps 0
+        (end_line end machine.now.steps (machine.now.crossings / machine.now.kernel.quantum)
         ++ count_text machine.now.natural machine.now.entries machine.now.pages) }
     ensures cause { HasCause (K.faults out.old) (K.faults out.new) result }
 {
-    put(out, &text::halted(machine.at, machine.steps, 0))?;
+    let checkpoints = machine.crossings / u64::from(machine.kernel.quantum);
+    put(out, &stop_line(end, machine.steps, checkpoints))?;
     put(
         out,
-        &text::counts(machine.natural, machine.entries, machine.pages),
+        &counts(machine.natural, machine.entries, machine.pages),
     )
+}
+
+/// The status of an end.
+fn status_of(end: End) -> Status
+    ensures status { result ≡ status_of_stop end }
+{
+    match end {
+        End::Spent => Status::Spent,
+        End::Stopped(Stop::Halted(_) | Stop::Asleep(_)) => Status::Done,
+        End::Stopped(_) | End::Wild(_) => Status::Fault,
+        End::CodeFull(_) => Status::CodeFull,
+    }
 }

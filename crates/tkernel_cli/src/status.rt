@@ -25,8 +25,6 @@ pub enum Status {
     NoMemory,
     /// Flash failed.
     FlashFault,
-    /// The input, or its program, is of a form that isn't built yet.
-    Unbuilt,
 }
 
 impl Status {
@@ -45,7 +43,6 @@ impl Status {
             Status::CodeFull => 7,
             Status::NoMemory => 8,
             Status::FlashFault => 9,
-            Status::Unbuilt => 10,
         }
     }
 }

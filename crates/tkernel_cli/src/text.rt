@@ -2,17 +2,12 @@
 ghost use Rattle.std.specs.Prelude.{◌≡◌, ◌+◌, ◌≤◌, ◌++◌, codes, decimal, length};
 ghost use Rattle.arrayvec.specs.ArrayVec.{array_vec_len};
 ghost use Rattle.tkernel_cli.specs.Answer.{bad_line_text};
-ghost use Rattle.tkernel_cli.specs.Original.{Halted};
-ghost use Rattle.tkernel_cli.specs.Text.{address_text, byte_text, count_text, line_text, port_name, stop_text, two_digits};
+ghost use Rattle.kernel_entry.specs.Texts.{address_text};
+ghost use Rattle.tkernel_cli.specs.Text.{end_line, how_text, count_text};
 
-use arrayvec::ArrayVec;
-use itoa::Buffer;
-use mote_devices::{Line, Port};
-
-/// The text of one line.
-pub type Text = ArrayVec<u8, 160>;
-
-const DIGITS: &[u8; 16] = b"0123456789ABCDEF";
+use kernel_entry::Stop;
+use line_text::{Text, push, push_address, push_number};
+use tk_run::End;
 
 /// A line that stands as it is.
 pub fn whole(line: &[u8]) -> Text
@@ -40,32 +35,60 @@ pub fn bad_line(part: &[u8], line: u32, word: &[u8]) -> Text
     text
 }
 
-/// A write to a port: its name and the value.
-#[tactic(auto, unfolding(crate::specs::Text::line_text))]
-pub fn line(line: Line) -> Text
-    ensures text { result.items ≡ line_text line }
+/// The stop line: how the run ended, and after how many steps and checkpoints.
+#[tactic(auto, unfolding(crate::specs::Text::end_line))]
+pub fn stop_line(end: End, steps: u64, checkpoints: u64) -> Text
+    ensures text { result.items ≡ end_line end steps checkpoints }
 {
-    let mut text = Text::new();
-    push(&mut text, name(line.port));
-    push(&mut text, b" ");
-    push_byte(&mut text, line.value);
-    push(&mut text, b"\n");
-    text
-}
-
-/// The stop line of a program that halted at an address.
-#[tactic(auto, unfolding(crate::specs::Text::stop_text))]
-pub fn halted(at: u16, steps: u64, checkpoints: u64) -> Text
-    ensures text { result.items ≡ stop_text (Halted at) steps checkpoints }
-{
-    let mut text = Text::new();
-    push(&mut text, b"halted ");
-    push_address(&mut text, at);
+    let mut text = how(end);
     push(&mut text, b" steps ");
     push_number(&mut text, steps);
     push(&mut text, b" checkpoints ");
     push_number(&mut text, checkpoints);
     push(&mut text, b"\n");
+    text
+}
+
+/// How the run ended.
+fn how(end: End) -> Text
+    ensures text { result.items ≡ how_text end }
+    ensures short { array_vec_len result ≤ 50 }
+{
+    match end {
+        End::Spent => whole(b"spent"),
+        End::Wild(at) => at_address(b"fault wild ", at),
+        End::CodeFull(at) => at_address(b"code full ", at),
+        End::Stopped(Stop::Halted(at)) => at_address(b"halted ", at),
+        End::Stopped(Stop::Asleep(at)) => at_address(b"asleep ", at),
+        End::Stopped(Stop::Illegal(at)) => at_address(b"fault illegal ", at),
+        End::Stopped(Stop::SelfProgram(at)) => at_address(b"fault selfprogram ", at),
+        End::Stopped(Stop::Io(at, address)) => with_address(b"fault io ", at, address),
+        End::Stopped(Stop::Stack(at, address)) => with_address(b"fault stack ", at, address),
+        End::Stopped(Stop::SwapFull(at, address)) => with_address(b"fault swap ", at, address),
+    }
+}
+
+/// A word for an end, and the original address of it.
+fn at_address(word: &[u8], at: u16) -> Text
+    requires word { length word.now ≤ 20 }
+    ensures text { result.items ≡ word.now ++ address_text at }
+    ensures short { array_vec_len result ≡ length word.now + 6 }
+{
+    let mut text = Text::new();
+    push(&mut text, word);
+    push_address(&mut text, at);
+    text
+}
+
+/// The same, with a data address.
+fn with_address(word: &[u8], at: u16, address: u16) -> Text
+    requires word { length word.now ≤ 20 }
+    ensures text { result.items ≡ word.now ++ address_text at ++ codes " address " ++ address_text address }
+    ensures short { array_vec_len result ≡ length word.now + 21 }
+{
+    let mut text = at_address(word, at);
+    push(&mut text, b" address ");
+    push_address(&mut text, address);
     text
 }
 
@@ -83,75 +106,4 @@ pub fn counts(natural: u64, entries: u64, pages: u64) -> Text
     push_number(&mut text, pages);
     push(&mut text, b"\n");
     text
-}
-
-fn name(port: Port) -> &'static [u8]
-    ensures name { result.now ≡ port_name port }
-    ensures short { length result.now ≤ 8 }
-{
-    match port {
-        Port::PortA => b"PORTA",
-        Port::PortB => b"PORTB",
-        Port::PortC => b"PORTC",
-        Port::PortD => b"PORTD",
-        Port::DdrA => b"DDRA",
-        Port::DdrB => b"DDRB",
-        Port::DdrC => b"DDRC",
-        Port::DdrD => b"DDRD",
-        Port::Uart0 => b"UART0",
-    }
-}
-
-fn push(text: &mut Text, more: &[u8])
-    requires { array_vec_len text.old + length more.now ≤ 160 }
-    ensures text { text.new.items ≡ text.old.items ++ more.now }
-    ensures longer { array_vec_len text.new ≡ array_vec_len text.old + length more.now }
-{
-    text.try_extend_from_slice(more).unwrap();
-}
-
-/// Adds `0x` and two upper-case digits.
-fn push_byte(text: &mut Text, value: u8)
-    requires { array_vec_len text.old + 4 ≤ 160 }
-    ensures text { text.new.items ≡ text.old.items ++ byte_text value }
-    ensures longer { array_vec_len text.new ≡ array_vec_len text.old + 4 }
-{
-    push(text, b"0x");
-    push_digits(text, value);
-}
-
-/// Adds `0x` and four upper-case digits.
-fn push_address(text: &mut Text, address: u16)
-    requires { array_vec_len text.old + 6 ≤ 160 }
-    ensures text { text.new.items ≡ text.old.items ++ address_text address }
-    ensures longer { array_vec_len text.new ≡ array_vec_len text.old + 6 }
-{
-    let [high, low] = address.to_be_bytes();
-    push(text, b"0x");
-    push_digits(text, high);
-    push_digits(text, low);
-}
-
-/// Adds the two upper-case digits of a byte.
-#[tactic(auto, unfolding(hex::specs::Hex::encode_with))]
-fn push_digits(text: &mut Text, value: u8)
-    requires { array_vec_len text.old + 2 ≤ 160 }
-    ensures text { text.new.items ≡ text.old.items ++ two_digits value }
-    ensures longer { array_vec_len text.new ≡ array_vec_len text.old + 2 }
-{
-    let digits = [
-        DIGITS[(value >> 4) as usize],
-        DIGITS[(value & 0xF) as usize],
-    ];
-    push(text, &digits);
-}
-
-/// Adds a number in decimal digits, 40 at most.
-fn push_number(text: &mut Text, number: u64)
-    requires { array_vec_len text.old + 40 ≤ 160 }
-    ensures text { text.new.items ≡ text.old.items ++ decimal number }
-    ensures longer { array_vec_len text.new ≤ array_vec_len text.old + 40 }
-{
-    let mut buffer = Buffer::new();
-    push(text, buffer.format(number).as_bytes());
 }

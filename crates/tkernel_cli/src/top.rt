@@ -1,18 +1,18 @@
 //! The top call: words and input in, lines and a status out.
-ghost use Rattle.std.specs.Prelude.{◌≡◌, ◌↔◌, ◌∷◌, [], ◌≤◌, length, map, string_bytes, IsTrue, None, Some};
-ghost use Rattle.tkernel_cli.specs.Answer.{IsAnswer, IsExact, IsRun, Judges, JudgesText, Ran, Says, Stream, most_input, status_of, text_of};
-ghost use Rattle.tkernel_cli.specs.Program.{IsBuilt};
-ghost use Rattle.tkernel_cli.specs.Input.{words_of};
+ghost use Rattle.std.specs.Prelude.{◌≡◌, ◌≤◌, length, map, string_bytes};
+ghost use Rattle.tkernel_cli.specs.Answer.{IsAnswer, IsExact, Judges, JudgesText, most_input};
+ghost use Rattle.tkernel_cli.specs.Runs.{Stream};
 
-use crate::machine::Machine;
-use crate::program::is_built;
-use crate::refusal::Refusal;
-use crate::running::run;
+use crate::options::options_of;
+use crate::refusal::{Refusal, refuse};
+use crate::request::{Input, Request};
+use crate::running::run_request;
 use crate::status::Status;
-use hex_image::{HexError, Image};
-use input_script::{Script, ScriptError};
+use hex_image::HexError;
+use input_script::ScriptError;
 use std::alloc::Global;
-use tk_io::{ReadAll, Sink, Source, put, read_all};
+use tk_io::{ReadAll, Sink, Source, read_all};
+use tk_run::Machine;
 
 /// The most bytes of an input.
 const MOST_INPUT: usize = 2_097_152;
@@ -25,15 +25,9 @@ pub struct Exit {
     pub kept: Option<Machine>,
 }
 
-/// What an input gives: a program, and the inputs of its devices.
-#[derive(Drop)]
-struct Program {
-    image: Image,
-    script: Script,
-}
-
 /// Answers a command line. `words` are those after the program's name; the only command so far is `run`,
-/// which reads a program as a HEX text from `input`, runs it, and prints its lines to `out`.
+/// which reads a program as a HEX text and a script behind it from `input`, runs it, and prints its lines
+/// to `out`.
 pub fn tkernel<S: Source, K: Sink>(
     alloc: Global,
     words: &[String],
@@ -55,34 +49,42 @@ pub fn tkernel<S: Source, K: Sink>(
         result }
 {
     match judge(alloc, words, input) {
-        Ok(program) => run_program(alloc, program, out),
+        Ok(request) => run_request(alloc, request, out),
         Err(refusal) => refuse(refusal, out),
     }
 }
 
 /// Reads what the words ask for, and judges it.
-fn judge<S: Source>(alloc: Global, words: &[String], input: &mut S) -> Result<Program, Refusal>
+fn judge<S: Source>(alloc: Global, words: &[String], input: &mut S) -> Result<Request, Refusal>
     ensures judged { Judges (map string_bytes words.now)
         (record { told = S.left input.old; faults = S.faults input.old })
         (record { told = S.left input.new; faults = S.faults input.new })
-        (words_of result) }
+        result }
 {
-    if !is_run(words) {
-        return Err(Refusal::Usage);
-    }
+    let options = match options_of(words) {
+        Some(options) => options,
+        None => return Err(Refusal::Usage),
+    };
     let text = match read_all(alloc, input, MOST_INPUT) {
         Ok(text) => text,
         Err(ReadAll::Fault) => return Err(Refusal::ReadFault),
         Err(ReadAll::TooLong) => return Err(Refusal::TooLong),
         Err(ReadAll::NoMemory) => return Err(Refusal::NoMemory),
     };
-    program_of(alloc, &text)
+    match input_of(alloc, &text) {
+        Ok(Input { image, script }) => Ok(Request {
+            image,
+            script,
+            options,
+        }),
+        Err(refusal) => Err(refusal),
+    }
 }
 
-/// The program of a text, which is a HEX text and a script behind it.
-fn program_of(alloc: Global, text: &[u8]) -> Result<Program, Refusal>
+/// What a text gives, which is a HEX text and a script behind it.
+fn input_of(alloc: Global, text: &[u8]) -> Result<Input, Refusal>
     requires short { length text.now ≤ most_input }
-    ensures judged { JudgesText text.now (words_of result) }
+    ensures judged { JudgesText text.now result }
 {
     let (image, position) = match hex_image::read(alloc, text) {
         Ok(read) => read,
@@ -94,57 +96,5 @@ fn program_of(alloc: Global, text: &[u8]) -> Result<Program, Refusal>
         Err(ScriptError::Bad { line, fault }) => return Err(Refusal::BadScript(line, fault)),
         Err(ScriptError::NoMemory) => return Err(Refusal::NoMemory),
     };
-    if is_built(image.words()) {
-        Ok(Program { image, script })
-    } else {
-        Err(Refusal::UnbuiltProgram)
-    }
-}
-
-/// Whether the words are the command `run`.
-fn is_run(words: &[String]) -> bool
-    ensures run { IsTrue result ↔ IsRun (map string_bytes words.now) }
-{
-    match words {
-        [command] => command.as_str() == "run",
-        _ => false,
-    }
-}
-
-/// Puts the line of a refusal.
-fn refuse<K: Sink>(refusal: Refusal, out: &mut K) -> Exit
-    ensures said { Says (status_of refusal) (text_of refusal)
-        (record { told = K.taken out.old; faults = K.faults out.old })
-        (record { told = K.taken out.new; faults = K.faults out.new })
-        result.status }
-    ensures kept { result.kept ≡ None }
-{
-    let status = match put(out, &refusal.text()) {
-        Ok(()) => refusal.status(),
-        Err(_) => Status::WriteFault,
-    };
-    Exit { status, kept: None }
-}
-
-/// Runs a built program.
-fn run_program<K: Sink>(alloc: Global, program: Program, out: &mut K) -> Exit
-    requires built { IsBuilt program.image }
-    ensures ran { Ran program.image
-        (record { told = K.taken out.old; faults = K.faults out.old })
-        (record { told = K.taken out.new; faults = K.faults out.new })
-        result }
-{
-    let Program { image, script } = program;
-    let mut machine = match Machine::boot(alloc, image.words(), script) {
-        Ok(machine) => machine,
-        Err(_) => return refuse(Refusal::NoMemory, out),
-    };
-    let status = match run(&mut machine, image.words(), out) {
-        Ok(()) => Status::Done,
-        Err(_) => Status::WriteFault,
-    };
-    Exit {
-        status,
-        kept: Some(machine),
-    }
+    Ok(Input { image, script })
 }

@@ -1,8 +1,10 @@
 //! The first program: `LDI r16, 0x0F`, `OUT PORTA, r16`, and a jump to itself.
 use crate::support::{HEX, LINES, ROOM, run, sink, words_of};
+use kernel_entry::Stop;
 use std::test::Fail;
 use tk_io::{FlakySink, FlakySource, MemSource};
-use tkernel_cli::{End, Status, Stop, tkernel};
+use tk_run::End;
+use tkernel_cli::{Status, tkernel};
 
 const USAGE: &[u8] = b"usage: tkernel run [--steps N] [--quantum Q] [--swap S]\n";
 
@@ -19,14 +21,14 @@ fn the_machine_is_kept(rt: HostRuntime) -> Result<(), Fail> {
     let (exit, _) = run(rt.alloc(), HEX)?;
     let machine = exit.kept.ok_or("a machine")?;
     assert_eq!(rt; machine.end, Some(End::Stopped(Stop::Halted(2))));
-    assert_eq!(rt; machine.mote.cpu.r[16], 0x0F);
-    assert_eq!(rt; machine.mote.cpu.sp, 0x011F);
+    assert_eq!(rt; machine.kernel.mote.cpu.r[16], 0x0F);
+    assert_eq!(rt; machine.kernel.mote.cpu.sp, 0x011F);
     let page = [
         0, 3, 0x0005, 0x0106, 0x0207, 0xE00F, 0xBB0B, 0x940E, 0xF00C, 2, 0xFFFF,
     ];
     for (place, word) in page.iter().enumerate() {
         assert_eq!(rt;
-            machine.mote.flash.word(0x4000 + place as u16),
+            machine.kernel.mote.flash.word(0x4000 + place as u16),
             *word,
             "at {place}"
         );
@@ -81,23 +83,6 @@ fn a_failed_write_leaves_a_part_of_the_lines(rt: HostRuntime) -> Result<(), Fail
         assert_eq!(rt; exit.status, Status::WriteFault);
         assert_eq!(rt; out.taken(), &LINES[..went_out], "call {call}");
         assert_eq!(rt; exit.kept.is_some(), true);
-    }
-    Ok(())
-}
-
-#[test]
-fn other_programs_are_refused(rt: HostRuntime) -> Result<(), Fail> {
-    // NOP; LDI alone; no word.
-    let texts: [&[u8]; 3] = [
-        b":020000000000FE\n:00000001FF\n",
-        b":020000000FE00F\n:00000001FF\n",
-        b":00000001FF\n",
-    ];
-    for text in texts {
-        let (exit, out) = run(rt.alloc(), text)?;
-        assert_eq!(rt; exit.status, Status::Unbuilt);
-        assert_eq!(rt; out.taken(), b"unbuilt program\n".as_slice());
-        assert_eq!(rt; exit.kept.is_none(), true);
     }
     Ok(())
 }

@@ -4,7 +4,7 @@ use std::test::Fail;
 use tkernel_cli::Status;
 
 /// The HEX text and the script lines, if any, and the line that is printed.
-const BROKEN: [(&[u8], &[u8]); 17] = [
+const BROKEN: [(&[u8], &[u8]); 16] = [
     (b"", b"bad hex line 1 end\n"),
     (b"\r", b"bad hex line 2 end\n"),
     (b";", b"bad hex line 1 start\n"),
@@ -25,7 +25,6 @@ const BROKEN: [(&[u8], &[u8]); 17] = [
         b":02000002FFFFFE\n:0100000000FF\n",
         b"bad hex line 2 size\n",
     ),
-    (b":00FFFF0002\n:00000001FF\n", b"unbuilt program\n"),
     (
         b":060000000FE00BBBFFCF77\n:00000001FF\nat 5 uart 0x41\nat 4 pina 0x00\n",
         b"bad script line 2 order\n",

@@ -2,8 +2,14 @@
 #![tactic(auto)]
 
 #[cfg(test)]
+mod command_line;
+#[cfg(test)]
 mod first_program;
 #[cfg(test)]
 mod inputs;
+#[cfg(test)]
+mod programs;
+#[cfg(test)]
+mod programs_with_options;
 #[cfg(test)]
 mod support;

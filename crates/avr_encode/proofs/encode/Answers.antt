@@ -1,9 +1,10 @@
 -- Words that begin with an instruction's words are its row, and the other way round.
-use Rattle.std.proofs.Common.{◌≡◌, ℕ, Option, MatchOption, ◌∙◌, sym, subst}
+use Rattle.std.proofs.Common.{◌≡◌, ℕ, IsTrue, Option, MatchOption, ◌∙◌, sym, subst}
 use Rattle.std.specs.Bool.{⊤}
 use Rattle.avr_isa.specs.declared.form.Form.{Form}
+use Rattle.avr_isa.specs.Instruction.{is_valid}
 use Rattle.avr_isa.specs.Encoding.{first_word, second_word, IsRow}
-use Rattle.avr_decode.proofs.Decoded.{the_form_only, the_form_row}
+use Rattle.avr_decode.proofs.Decoded.{the_form_only}
 use Rattle.avr_encode.specs.declared.Words.{Words}
 use Rattle.avr_encode.specs.Words.{BeginWith}
 use Rattle.avr_encode.proofs.encode.Goals as goal
@@ -24,10 +25,12 @@ begins f words a b opcode address row =
 
 pub returns-clause-decodes : goal.returns-clause-decodes
 returns-clause-decodes c = λ a b begin.
-    the_form_only c.args.i.now a b (rw (← c.form-form.ensures.value) c.form-form.ensures.valid)
-    (row_of c.args.i.now _ a b (cc) (cc) begin)
+    let valid : IsTrue (is_valid c.args.i.now) = rw (← c.form-form.ensures.value) c.form-form.ensures.valid in
+    let row = row_of c.args.i.now _ a b (cc) (cc) begin in
+    record {
+      row = (valid, row);
+      only = λ f other also. sym (the_form_only c.args.i.now a b valid row) ∙ the_form_only f a b other also;
+    }
 
 pub returns-clause-only : goal.returns-clause-only
-returns-clause-only c = λ a b first_fits second_fits same.
-    begins c.args.i.now _ a b (cc) (cc)
-    (the_form_row c.args.i.now a b first_fits second_fits same).1
+returns-clause-only c = λ a b decoded. begins c.args.i.now _ a b (cc) (cc) decoded.row.1

@@ -1,8 +1,8 @@
-use Rattle.std.proofs.Common.{◌≡◌, ◌+◌, ◌-◌, suc, [], arith}
+use Rattle.std.proofs.Common.{◌≡◌, ◌-◌, [], arith}
 use Rattle.std.proofs.lemmas.Grind.{common_steps}
 use Rattle.std.specs.Prelude.{take}
 use Rattle.hex_image.specs.HexText.{lines_of}
-use Rattle.hex_image.proofs.TextLemmas.{read_all, read_end, read_fault, read_more, read_none, read_without_memory}
+use Rattle.hex_image.proofs.TextLemmas.{ended_at, read_numbered, read_all, read_end, read_fault, read_more, read_none, read_without_memory}
 use Rattle.hex_image.proofs.text.read_lines.Goals as goal
 
 pub lines-init : goal.lines-init
@@ -12,7 +12,7 @@ pub returns-in-Ok-End : goal.returns-in-Ok-End
 returns-in-Ok-End c =
     let read = c.lines.invariant.read in
     let step = rw (c.in-Ok-End.field-0-is, c.judge.ensures.value) at (c.in-Ok-End.ensures.step (take (c.lines.number - 1) (lines_of c.args.text.now)) read.kept) in
-    record { answer = read_end _ _ _ _ _ _ _ read c.first_line.ensures.cut step.0 step.1 }
+    record { answer = ended_at _ _ _ _ (read_end _ _ _ _ _ _ _ read c.first_line.ensures.cut step.0 step.1) (grind (arith, common_steps)) }
 
 pub returns-in-Err-Fault : goal.returns-in-Err-Fault
 returns-in-Err-Fault c =
@@ -30,8 +30,10 @@ pub lines-preserved : goal.lines-preserved
 lines-preserved c =
     let read = c.lines.invariant.read in
     let step = rw (c.in-Ok-Next.field-0-is, c.judge.ensures.value) at (c.in-Ok-Next.ensures.step (take (c.lines.number - 1) (lines_of c.args.text.now)) read.kept) in
-    let next : c.lines.number + 1 - 1 ≡ suc (c.lines.number - 1) = omega (arith, c.lines.invariant.some) in
-    record { some = omega arith; read = rw next (read_more _ _ _ _ _ _ _ read c.first_line.ensures.cut step.0 step.1 step.2) }
+    record {
+      some = grind (arith, common_steps);
+      read = read_numbered _ _ _ _ _ (read_more _ _ _ _ _ _ _ read c.first_line.ensures.cut step.0 step.1 step.2) (grind (arith, common_steps, c.lines.invariant.some));
+    }
 
 pub returns : goal.returns
 returns c =

@@ -1,4 +1,5 @@
-use Rattle.std.proofs.Common.{[], ◌∷◌, map, ap, ◌∙◌, sym}
+use Rattle.std.proofs.Common.{◌≡◌, [], ◌∷◌, map, ap, ◌∙◌, sym, arith}
+use Rattle.std.proofs.lemmas.Grind.{common_steps}
 use Rattle.input_script.specs.Lines.{without_cr, lines_of}
 use Rattle.input_script.proofs.Cutting.{pieces_cut, pieces_whole}
 use Rattle.input_script.proofs.lines.first_line.Goals as goal
@@ -10,4 +11,5 @@ returns-in-Some-clause-cut c =
 
 pub returns-in-None-clause-cut : goal.returns-in-None-clause-cut
 returns-in-None-clause-cut c =
-    ap (map without_cr) (pieces_whole c.args.text.now c.requires c.in-None.ensures.cases) ∙ ap (λ line. line ∷ []) (sym c.trimmed-in-None.ensures.value)
+    let whole : lines_of c.args.text.now ≡ without_cr c.args.text.now ∷ [] = ap (map without_cr) (pieces_whole c.args.text.now c.requires c.in-None.ensures.cases) in
+    grind (arith, common_steps, whole, c.trimmed-in-None.ensures.value)

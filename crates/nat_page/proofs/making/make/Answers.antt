@@ -8,7 +8,7 @@ use Rattle.nat_page.proofs.making.make.Goals as goal
 
 pub draft_of-draft-requires-clause-mapped : goal.draft_of-draft-requires-clause-mapped
 draft_of-draft-requires-clause-mapped c =
-    faithful_mapped c.args.layout.now (image_of c.args.layout.now c.args.flash.now.words) c.args.flash.now.words c.requires.right c.requires.faithful
+    faithful_mapped c.args.layout.now (image_of c.args.layout.now c.args.flash.now.words) c.args.flash.now.words c.requires.right c.requires.code
 
 pub page-words-requires-clause-fits : goal.page-words-requires-clause-fits
 page-words-requires-clause-fits c =
@@ -34,7 +34,7 @@ returns-clause-makes c =
       run = drafted.begun.run;
       unknown = drafted.begun.unknown;
       fits = drafted.begun.fits;
-      stops = stops_of c.args.layout.now image words page c.args.t last c.requires.free.free (drafted.begun.run.paged last (omega arith)) drafted.stops;
-      changed = c.program.ensures.fresh c.requires.free.free ∙ ap (λ new. set_page words page new) c.page-words.ensures.words ∙ ap (λ front. set_page words page (filled front)) (draft_page image draft.entries.items draft.code.items c.args.t last drafted.entries drafted.code);
+      stops = stops_of c.args.layout.now image words page c.args.t last c.requires.free (drafted.begun.run.paged last (omega arith)) drafted.stops;
+      changed = c.program.ensures.fresh c.requires.free ∙ ap (λ new. set_page words page new) c.page-words.ensures.words ∙ ap (λ front. set_page words page (filled front)) (draft_page image draft.entries.items draft.code.items c.args.t last drafted.entries drafted.code);
       placed = omega arith;
     }

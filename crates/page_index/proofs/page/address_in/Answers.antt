@@ -1,4 +1,4 @@
-use Rattle.std.proofs.Common.{◌+◌, ◌*◌, arith, ap, sym, ◌∙◌, Some}
+use Rattle.std.proofs.Common.{◌≡◌, arith, ap, refl, sym, ◌∙◌, Some}
 use Rattle.page_index.specs.Maps.{address_of}
 use Rattle.page_index.specs.Entries.{Lists}
 use Rattle.page_index.proofs.MapLaws.{free_lists_nothing, map_of_entry, same_place}
@@ -13,11 +13,12 @@ returns-then-page-entry-clause-only c = λ i t lists.
     let words = c.args.flash.now.words in
     let page = c.args.page in
     let map = map_of_entry words page i t c.args.place c.requires.mapped lists in
-    let found : Lists words page c.loop-i.i (128 * c.word.result + c.map_entry-entry.result.offset) c.args.place = record {
+    let found : Lists words page c.loop-i.i (address_of words page c.loop-i.i) c.args.place = record {
       used = map.original;
       near = omega arith;
       listed = omega arith;
-      address = omega arith;
+      address = refl;
       place = omega arith;
     } in
-    ap Some (found.address ∙ ap (λ k. address_of words page k) (same_place words page c.loop-i.i i _ t c.args.place map found lists) ∙ sym lists.address)
+    let address : address_of words page c.loop-i.i ≡ t = ap (λ k. address_of words page k) (same_place words page c.loop-i.i i _ t c.args.place map found lists) ∙ sym lists.address in
+    ap Some (omega arith)

@@ -1,11 +1,21 @@
 use Rattle.std.proofs.Common.{inl}
 use Rattle.tkernel_cli.proofs.Exactly.{answer_is_exact}
 use Rattle.tkernel_cli.proofs.Judging.{answer_of_run}
+use Rattle.tkernel_cli.proofs.OptionRanges.{quantum_some, swap_few, steps_few}
 use Rattle.tkernel_cli.proofs.top.tkernel.Goals as goal
+
+pub run_request-requires-clause-quantum : goal.run_request-requires-clause-quantum
+run_request-requires-clause-quantum g c = quantum_some _ _ c.in-Ok.ensures.judged.options
+
+pub run_request-requires-clause-swap : goal.run_request-requires-clause-swap
+run_request-requires-clause-swap g c = swap_few _ _ c.in-Ok.ensures.judged.options
+
+pub run_request-requires-clause-steps : goal.run_request-requires-clause-steps
+run_request-requires-clause-steps g c = steps_few _ _ c.in-Ok.ensures.judged.options
 
 pub returns-in-Ok : goal.returns-in-Ok
 returns-in-Ok g c =
-    let answer = answer_of_run _ _ _ _ _ c.in-Ok.program.image c.run_program.result c.in-Ok.ensures.judged c.run_program.ensures.ran in
+    let answer = answer_of_run _ _ _ _ _ c.in-Ok.request c.run_request.result c.in-Ok.ensures.judged c.run_request.ensures.ran in
     record { answer = answer; exact = answer_is_exact _ _ _ _ _ _ answer }
 
 pub returns-in-Err-clause-exact : goal.returns-in-Err-clause-exact

@@ -36,13 +36,11 @@ execute-requires-clause-mapped c =
     let m = c.args.self.now in
     step_mapped (form_at m) c.unwrap-instr.result m.cpu c.requires.step (sym (decoded m c.word.result c.word-second.result c.decode.result c.word.ensures.value c.word-second.ensures.value c.decode.ensures.value) ∙ c.unwrap-instr.ensures)
 
-pub returns : goal.returns
-returns c =
+pub returns-clause-step : goal.returns-clause-step
+returns-clause-step c =
     let m = c.args.self.now in
     record {
-      step = record {
-        executed = executed m c.unwrap-instr.result c.word-second.result c.words_of.result _ (sym (decoded m c.word.result c.word-second.result c.decode.result c.word.ensures.value c.word-second.ensures.value c.decode.ensures.value) ∙ c.unwrap-instr.ensures) c.word-second.ensures.value c.words_of.ensures.value c.execute.ensures.outcome;
-        flash = refl;
-        swap = refl;
-      };
+      executed = executed m c.unwrap-instr.result c.word-second.result c.words_of.result _ (sym (decoded m c.word.result c.word-second.result c.decode.result c.word.ensures.value c.word-second.ensures.value c.decode.ensures.value) ∙ c.unwrap-instr.ensures) c.word-second.ensures.value c.words_of.ensures.value c.execute.ensures.outcome;
+      flash = refl;
+      swap = refl;
     }

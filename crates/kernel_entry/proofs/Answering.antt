@@ -1,0 +1,107 @@
+-- What a service answers, from what its execution tells; and which condition an entry gives.
+use Rattle.std.proofs.Common.{◌≡◌, ℕ, Bool, true, false, ◌≤◌, arith, refl, sym, ap, ◌∙◌}
+use Rattle.std.specs.Prelude.{◌≢◌, Option, Some, None, Result}
+use Rattle.avr_isa.specs.declared.form.Form.{Form}
+use Rattle.avr_isa.specs.declared.form.Form.TheVariants as forms
+use Rattle.avr_exec.specs.declared.cpu.Cpu.{Cpu}
+use Rattle.avr_exec.specs.declared.stop.BusStop.{BusStop}
+use Rattle.avr_exec.specs.Asks.{ask_of}
+use Rattle.avr_exec.specs.Spaces.{Outcome, Went, Stopped}
+use Rattle.avr_exec.specs.Execution.{is_executed}
+use Rattle.avr_exec.specs.Likeness.{Leaves}
+use Rattle.sram_layout.specs.Bytes.{byte_at}
+use Rattle.sram_layout.specs.Cells.{count_cell, vsp_cell}
+use Rattle.sram_layout.proofs.Laws.{byte_out_of_word}
+use Rattle.nat_template.specs.declared.shapes.TemplateShape.TheVariants.{Fault}
+use Rattle.nat_template.specs.Shapes.{shape_of, shape_of_form}
+use Rattle.mem_guard.specs.FlatMachine.{next_size}
+use Rattle.mem_guard.specs.Guarded.{Guarded}
+use Rattle.mem_guard.specs.Left.{IsKept, HeapAfter}
+use Rattle.mem_guard.proofs.Leaves.{executed_leaves}
+use Rattle.kernel_entry.specs.declared.kernel.Kernel.{Kernel}
+use Rattle.kernel_entry.specs.declared.execution.Ran.{Ran}
+use Rattle.kernel_entry.specs.Parts.{descriptor, image_of, instruction, memory_of, core_of}
+use Rattle.kernel_entry.specs.Services.{executed, execution, execution_by, if_instruction, resumed_by, resumed, gone_by, gone}
+use Rattle.kernel_entry.specs.Conditions.{CanExecute, CanCount, CanServe, IsCalled, shape_behind, executes, counts}
+
+-- the answer by the result of the execution
+pub resumed_is : (k next : Kernel) (form : Form) (told result : Result Ran BusStop) → instruction k ≡ Some form → ◌≡◌ {A = Result Ran BusStop × Kernel} (told, next) (execution k form)
+    → told ≡ result → resumed_by k result next ≡ resumed k
+unfolding resumed
+resumed_is k next form told result at is same =
+    ap (λ r. resumed_by k r next) (sym same) ∙ ap (λ x. resumed_by k x.0 x.1) is
+    ∙ sym (ap (λ i. if_instruction k i (λ f. resumed_by k (execution k f).0 (execution k f).1)) at)
+
+pub gone_is : (k next : Kernel) (form : Form) (told result : Result Ran BusStop) → instruction k ≡ Some form → ◌≡◌ {A = Result Ran BusStop × Kernel} (told, next) (execution k form)
+    → told ≡ result → gone_by k result next ≡ gone k
+unfolding gone
+gone_is k next form told result at is same =
+    ap (λ r. gone_by k r next) (sym same) ∙ ap (λ x. gone_by k x.0 x.1) is
+    ∙ sym (ap (λ i. if_instruction k i (λ f. gone_by k (execution k f).0 (execution k f).1)) at)
+
+-- an execution leaves COUNT and the quantum
+count_by : (k : Kernel) (P : Guarded → Type 0) (o : Outcome Guarded Cpu) → Leaves (λ after. IsKept (memory_of k) after × P after) o
+    → byte_at (execution_by k o).1.mote.sram count_cell ≡ byte_at k.mote.sram count_cell
+count_by k P (Went core memory) left =
+    byte_out_of_word memory.sram vsp_cell count_cell core.sp (omega arith) (omega arith) (λ e. omega arith) (λ e. omega arith) ∙ left.0.cells count_cell (omega arith) (omega arith)
+count_by k P (Stopped stop) left = refl
+
+quantum_by : (k : Kernel) (o : Outcome Guarded Cpu) → (execution_by k o).1.quantum ≡ k.quantum
+quantum_by k (Went core memory) = refl
+quantum_by k (Stopped stop) = refl
+
+pub quantum_left : (k next : Kernel) (form : Form) (told : Result Ran BusStop) → ◌≡◌ {A = Result Ran BusStop × Kernel} (told, next) (execution k form) → next.quantum ≡ k.quantum
+quantum_left k next form told is = ap (λ x. x.1.quantum) is ∙ quantum_by k (executed k form)
+
+count_left : (k : Kernel) (form : Form) → CanExecute k → byte_at (execution k form).1.mote.sram count_cell ≡ byte_at k.mote.sram count_cell
+unfolding executed
+count_left k form can =
+    count_by k (λ after. HeapAfter (memory_of k) (ask_of form (core_of k (descriptor k))) after) (executed k form)
+    (executed_leaves form (core_of k (descriptor k)) (memory_of k) (next_size (image_of k) (descriptor k)) can.paged)
+
+pub can_count : (k next : Kernel) (form : Form) (told : Result Ran BusStop) → CanExecute k → CanCount k → ◌≡◌ {A = Result Ran BusStop × Kernel} (told, next) (execution k form)
+    → (1 ≤ byte_at next.mote.sram count_cell) × (byte_at next.mote.sram count_cell ≤ next.quantum)
+can_count k next form told can count is =
+    let same : byte_at next.mote.sram count_cell ≡ byte_at k.mote.sram count_cell = ap (λ x. byte_at x.1.mote.sram count_cell) is ∙ count_left k form can in
+    let quantum : next.quantum ≡ k.quantum = quantum_left k next form told is in
+    let some = count.some in
+    let most = count.most in
+    (omega arith, omega arith)
+
+-- an instruction of a shape other than Fault is executed
+runs_or_faults : (pc : ℕ) (form : Form) → shape_of_form pc form ≢ Fault → is_executed form ≡ true
+unfolding shape_of_form is_executed
+runs_or_faults pc forms.Sleep apart = absurd (apart refl)
+runs_or_faults pc forms.Spm apart = absurd (apart refl)
+runs_or_faults pc _ apart = refl
+
+called_as : (k : Kernel) (i : Option Form) → instruction k ≡ i → shape_of (descriptor k) i ≢ Fault → CanExecute k → IsCalled k
+called_as k None is apart can = absurd (apart refl)
+called_as k (Some form) is apart can = record { form = form; is = is; runs = runs_or_faults (descriptor k) form apart; can = can }
+
+pub called_by : (k : Kernel) → shape_behind k ≢ Fault → CanExecute k → IsCalled k
+called_by k apart can = called_as k (instruction k) refl apart can
+
+-- the pc decides
+elsewhere : (f : ℕ → Bool) (pc entry : ℕ) → pc ≡ entry → f pc ≡ true → f entry ≡ false → ⊥
+elsewhere f pc entry is here there = absurd (cc (ap f is))
+
+pub called : (k : Kernel) → CanServe k → executes k.mote.cpu.pc ≡ true → IsCalled k
+called k (CanServe.AtBridge is) at = absurd (elsewhere executes k.mote.cpu.pc 0xF000 is at refl)
+called k (CanServe.AtQuantum is) at = absurd (elsewhere executes k.mote.cpu.pc 0xF002 is at refl)
+called k (CanServe.AtMem is shape can) at = called_by k (λ e. cc) can
+called k (CanServe.AtPushReturn is shape can) at = called_by k (λ e. cc) can
+called k (CanServe.AtReturn is shape can count) at = called_by k (λ e. cc) can
+called k (CanServe.AtIndirect is shape can count) at = called_by k (λ e. cc) can
+called k (CanServe.AtSelf is shape can count) at = called_by k (λ e. cc) can
+called k (CanServe.AtFault is shape) at = absurd (elsewhere executes k.mote.cpu.pc 0xF00E is at refl)
+
+pub counted : (k : Kernel) → CanServe k → counts k.mote.cpu.pc ≡ true → CanCount k
+counted k (CanServe.AtBridge is) at = absurd (elsewhere counts k.mote.cpu.pc 0xF000 is at refl)
+counted k (CanServe.AtQuantum is) at = absurd (elsewhere counts k.mote.cpu.pc 0xF002 is at refl)
+counted k (CanServe.AtMem is shape can) at = absurd (elsewhere counts k.mote.cpu.pc 0xF004 is at refl)
+counted k (CanServe.AtPushReturn is shape can) at = absurd (elsewhere counts k.mote.cpu.pc 0xF006 is at refl)
+counted k (CanServe.AtReturn is shape can count) at = count
+counted k (CanServe.AtIndirect is shape can count) at = count
+counted k (CanServe.AtSelf is shape can count) at = count
+counted k (CanServe.AtFault is shape) at = absurd (elsewhere counts k.mote.cpu.pc 0xF00E is at refl)

@@ -1,0 +1,12 @@
+-- Laws of the services.
+mod Executing
+mod Answering
+pub mod LeftLaws
+pub mod ViewLaws
+pub mod ShapeLaws
+pub mod RowLaws
+mod FaultLaws
+mod TriedLaws
+pub mod ServedLaws
+mod WorkedTexts
+mod PagedLaws

@@ -1,0 +1,37 @@
+-- What a service leaves of the kernel and of the mote's own parts.
+use Rattle.std.specs.Prelude.{◌≡◌, ℕ, ◌+◌, ◌≤◌, length}
+use Rattle.avr_exec.specs.declared.ask.Ask.{Ask}
+use Rattle.sram_layout.specs.Bytes.{byte_at, with_word}
+use Rattle.sram_layout.specs.Cells.{vsp_cell}
+use Rattle.heap_frames.specs.Paged.{IsPaged}
+use Rattle.mem_guard.specs.Guarded.{Guarded}
+use Rattle.mem_guard.specs.Left.{HeapAfter}
+use Rattle.kernel_entry.specs.declared.kernel.Kernel.{Kernel}
+use Rattle.kernel_entry.specs.Parts.{stack_top, virtual_sp, memory_of}
+
+-- every service: the kernel's stack is empty; flash, the layout, the quantum, the number of slots and the
+-- kernel's tables of places, in 0x0142 to 0x03FF, stay; the devices are polled once at most; and the heap
+-- stays in order
+pub record Leaves (old new : Kernel) : Type 0 where
+  pub stack : new.mote.cpu.sp ≡ stack_top
+  pub flash : new.mote.flash ≡ old.mote.flash
+  pub layout : new.layout ≡ old.layout
+  pub quantum : new.quantum ≡ old.quantum
+  pub slots : length new.mote.swap ≡ length old.mote.swap
+  pub size : length new.mote.sram ≡ length old.mote.sram
+  pub tables : (b : ℕ) → 0x0142 ≤ b → b ≤ 0x03FF → byte_at new.mote.sram b ≡ byte_at old.mote.sram b
+  pub polls : new.mote.devices.polls ≤ old.mote.devices.polls + 1
+  pub paged : IsPaged old.mote.sram old.mote.swap → IsPaged new.mote.sram new.mote.swap
+
+-- every service but MEM: the heap's cells, the tables and the frames, in 0x0120 to 0x0CFF, and the swap stay
+pub record LeavesHeap (old new : Kernel) : Type 0 where
+  pub frames : (b : ℕ) → 0x0120 ≤ b → b ≤ 0x0CFF → byte_at new.mote.sram b ≡ byte_at old.mote.sram b
+  pub swap : new.mote.swap ≡ old.mote.swap
+
+-- MEM: frames and slots are as the one thing that the instruction asks of the program's memory leaves them;
+-- beside that the program's stack pointer is stored in its cell
+pub record MovesPages (old new : Kernel) (ask : Ask) : Type 0 where
+  pub memory : Guarded
+  pub asked : HeapAfter (memory_of old) ask memory
+  pub sram : new.mote.sram ≡ with_word memory.sram vsp_cell (virtual_sp new)
+  pub swap : new.mote.swap ≡ memory.swap

@@ -1,0 +1,9 @@
+-- The kernel's services.
+pub mod Parts
+pub mod Services
+pub mod Conditions
+pub mod Seen
+pub mod Left
+pub mod Rows
+pub mod KernelPart
+pub mod Texts

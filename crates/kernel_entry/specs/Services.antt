@@ -1,0 +1,114 @@
+-- What each service of the kernel does, as a function of the whole kernel (docs/LOADER.md, "What a service does").
+use Rattle.std.specs.Prelude.{ℕ, ◌==◌, ◌||◌, if◌then◌else◌, slice_set, Option, Some, None, Result, Ok, Err}
+use Rattle.avr_isa.specs.declared.form.Form.{Form}
+use Rattle.avr_isa.specs.declared.form.Form.TheVariants as forms
+use Rattle.avr_isa.specs.IoTable.{data_address}
+use Rattle.avr_flags.specs.Status.{has_bit, interrupts}
+use Rattle.avr_exec.specs.declared.cpu.Cpu.{Cpu}
+use Rattle.avr_exec.specs.declared.stop.BusStop.{BusStop}
+use Rattle.avr_exec.specs.declared.stop.BusStop.TheVariants as bus
+use Rattle.avr_exec.specs.Registers.{raised, lowered}
+use Rattle.avr_exec.specs.Spaces.{Outcome, Went, Stopped}
+use Rattle.avr_exec.specs.Execution.{exec_of}
+use Rattle.sram_layout.specs.Bytes.{byte_at, with_byte}
+use Rattle.sram_layout.specs.Cells.{count_cell, r24_cell, sreg_cell}
+use Rattle.nat_template.specs.Stubs.{bridge_entry, quantum_entry, mem_entry, push_return_entry, return_entry, indirect_entry, self_entry}
+use Rattle.mem_guard.specs.FlatMachine.{next_size}
+use Rattle.mem_guard.specs.Guarded.{Guarded, guarded_calls}
+use Rattle.preempt_count.specs.Counting.{crossed}
+use Rattle.kernel_entry.specs.declared.kernel.Kernel.{Kernel}
+use Rattle.kernel_entry.specs.declared.kernel.Stop.{Stop}
+use Rattle.kernel_entry.specs.declared.kernel.Stop.TheVariants.{Halted, Asleep, Illegal, SelfProgram, Io, Stack, SwapFull}
+use Rattle.kernel_entry.specs.declared.kernel.Served.{Served}
+use Rattle.kernel_entry.specs.declared.kernel.Served.TheVariants as answers
+use Rattle.kernel_entry.specs.declared.execution.Ran.{Ran}
+use Rattle.kernel_entry.specs.Parts.{stack_top, return_address, descriptor, image_of, instruction, memory_of, core_of, rested, with_pc, with_sram, put_back}
+
+-- The program's instruction at the descriptor's address, executed over the program's memory: the new core
+-- and memory, or a stop, which leaves both.
+unfoldable pub executed : Kernel → Form → Outcome Guarded Cpu
+executed k form = exec_of guarded_calls form (core_of k (descriptor k)) (memory_of k) (next_size (image_of k) (descriptor k))
+
+-- what the execution tells, and the kernel after it
+abbrev pub execution_by : Kernel → Outcome Guarded Cpu → Result Ran BusStop × Kernel
+execution_by k (Went core memory) = (Ok (record { pc = core.pc; line = memory.line }), put_back k core memory)
+execution_by k (Stopped stop) = (Err stop, rested k)
+
+abbrev pub execution : Kernel → Form → Result Ran BusStop × Kernel
+execution k form = execution_by k (executed k form)
+
+-- a stop of the program's memory, of the instruction at this address
+abbrev pub stop_of : ℕ → BusStop → Stop
+stop_of at (bus.Io a) = Io at a
+stop_of at (bus.Stack a) = Stack at a
+stop_of at (bus.SwapFull a) = SwapFull at a
+
+-- BRIDGE: control goes to the descriptor's address; the stub is the call of two words before it
+abbrev pub bridged : Kernel → Served × Kernel
+bridged k = (answers.Goto (descriptor k) (Some (lowered (return_address k) 2)), rested k)
+
+-- QUANTUM: r24 and SREG are what their cells have, and COUNT is the quantum
+abbrev pub quantum_ended : Kernel → Served × Kernel
+quantum_ended k = (
+  answers.Goto (descriptor k) None,
+  record k {
+    mote = record k.mote {
+      cpu = record k.mote.cpu { r = slice_set k.mote.cpu.r 24 (byte_at k.mote.sram r24_cell); sreg = byte_at k.mote.sram sreg_cell; sp = stack_top };
+      sram = with_byte k.mote.sram count_cell k.quantum;
+    };
+  },
+)
+
+-- the service of an instruction; what is none is illegal
+abbrev pub if_instruction : Kernel → Option Form → (Form → Served × Kernel) → Served × Kernel
+if_instruction k None service = (answers.Stopped (Illegal (descriptor k)), rested k)
+if_instruction k (Some form) service = service form
+
+-- MEM and PUSHRET: after the execution the physical pc is behind the descriptor
+abbrev pub resumed_by : Kernel → Result Ran BusStop → Kernel → Served × Kernel
+resumed_by k (Ok ran) next = (answers.Resume ran.line, with_pc next (raised (return_address k) 1))
+resumed_by k (Err stop) next = (answers.Stopped (stop_of (descriptor k) stop), next)
+
+unfoldable pub resumed : Kernel → Served × Kernel
+resumed k = if_instruction k (instruction k) (λ form. resumed_by k (execution k form).0 (execution k form).1)
+
+-- RET and IND: after the execution control goes to the program's new pc, and the step is counted
+abbrev pub gone_by : Kernel → Result Ran BusStop → Kernel → Served × Kernel
+gone_by k (Ok ran) next = (answers.Goto ran.pc None, with_sram next (crossed k.quantum (descriptor k) ran.pc next.mote.sram))
+gone_by k (Err stop) next = (answers.Stopped (stop_of (descriptor k) stop), next)
+
+unfoldable pub gone : Kernel → Served × Kernel
+gone k = if_instruction k (instruction k) (λ form. gone_by k (execution k form).0 (execution k form).1)
+
+-- SELF: the program halts where interrupts are off
+unfoldable pub halted_or_gone : Kernel → Served × Kernel
+halted_or_gone k = if has_bit k.mote.cpu.sreg interrupts then gone k else (answers.Stopped (Halted (descriptor k)), rested k)
+
+-- FAULT: why an instruction may not be executed; those that are named with a register may not access it
+abbrev pub fault_of : ℕ → Option Form → Stop
+fault_of at (Some forms.Sleep) = Asleep at
+fault_of at (Some forms.Spm) = SelfProgram at
+fault_of at (Some (forms.InIo d a)) = Io at (data_address a)
+fault_of at (Some (forms.OutIo a r)) = Io at (data_address a)
+fault_of at (Some (forms.Cbi a b)) = Io at (data_address a)
+fault_of at (Some (forms.Sbi a b)) = Io at (data_address a)
+fault_of at (Some (forms.Sbic a b)) = Io at (data_address a)
+fault_of at (Some (forms.Sbis a b)) = Io at (data_address a)
+fault_of at _ = Illegal at
+
+abbrev pub faulted : Kernel → Served × Kernel
+faulted k = (answers.Stopped (fault_of (descriptor k) (instruction k)), rested k)
+
+-- the service of the entry with this address
+abbrev pub served_at : ℕ → Kernel → Served × Kernel
+served_at entry k =
+    if entry == bridge_entry then bridged k
+    else if entry == quantum_entry then quantum_ended k
+    else if (entry == mem_entry) || (entry == push_return_entry) then resumed k
+    else if (entry == return_entry) || (entry == indirect_entry) then gone k
+    else if entry == self_entry then halted_or_gone k
+    else faulted k
+
+-- the answer of the entry at which the pc stands, and the kernel after it
+unfoldable pub served : Kernel → Served × Kernel
+served k = served_at k.mote.cpu.pc k

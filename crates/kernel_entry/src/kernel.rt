@@ -1,0 +1,45 @@
+//! The kernel's state, and its answers.
+
+use flash_model::Layout;
+use mote_core::Mote;
+use mote_devices::Line;
+
+/// The mote, with what the kernel knows of it.
+#[derive(Debug, Drop)]
+pub struct Kernel {
+    pub mote: Mote,
+    pub layout: Layout,
+    /// How many crossings make a checkpoint.
+    pub quantum: u8,
+}
+
+/// Why the program stopped: the address of the instruction in the image, and for the last three the data
+/// address that it would have touched.
+#[derive(Clone, Copy, Debug, PartialEq, Eq)]
+pub enum Stop {
+    /// A jump to itself with interrupts off.
+    Halted(u16),
+    /// SLEEP.
+    Asleep(u16),
+    /// The words are no instruction.
+    Illegal(u16),
+    /// SPM.
+    SelfProgram(u16),
+    /// A register of a device that may not be accessed so.
+    Io(u16, u16),
+    /// A byte outside the stack window.
+    Stack(u16, u16),
+    /// A store to one more page of the heap, when all slots are given.
+    SwapFull(u16, u16),
+}
+
+/// How the program goes on.
+#[derive(Clone, Copy, Debug, PartialEq, Eq)]
+pub enum Served {
+    /// Behind the descriptor, where the pc is now. What a device showed comes with it.
+    Resume(Option<Line>),
+    /// At this address of the image. `stub` is the flash address of the call of BRIDGE that led here.
+    Goto { target: u16, stub: Option<u16> },
+    /// Not at all.
+    Stopped(Stop),
+}

@@ -1,0 +1,31 @@
+//! The kernel's services: what rewritten code calls the kernel for.
+//!
+//! A template calls an entry of the kernel, an address in the kernel's own flash, and the word behind the
+//! call, the *descriptor*, says for which instruction of the program, or where to go on. [`serve`] does
+//! what the entry is for, and answers how the program goes on: behind the descriptor, at an original
+//! address, or not at all.
+//!
+//! ```rust
+//! match serve(&mut kernel) { // the pc is at an entry
+//!     Served::Resume(line) => ..,            // the pc is behind the descriptor; a device showed `line`
+//!     Served::Goto { target, stub } => ..,   // control arrives at the original address `target` next
+//!     Served::Stopped(stop) => ..,           // the program stopped
+//! }
+//! ```
+//!
+//! docs/LOADER.md has the entries and what each service does. `specs/Services` is that as one function of
+//! the whole kernel, `specs/Rows` the same entry by entry, over what the program sees (`specs/Seen`), and
+//! `specs/Left` what every service leaves; `specs/Conditions` says when a service may be asked.
+//! `specs/KernelPart` has the memory that rewritten code never changes, and `specs/Texts` the text of a
+//! device's line and of the end of a run. `proofs/ServedLaws` has the rows as laws of the one function.
+#![tactic(auto)]
+
+mod execution;
+mod kernel;
+mod services;
+
+pub use kernel::{Kernel, Served, Stop};
+pub use services::serve;
+
+#[cfg(test)]
+mod tests;

@@ -1,0 +1,218 @@
+//! The eight services.
+
+ghost use Rattle.std.specs.Prelude.{◌≡◌, ◌≢◌, true, length};
+ghost use Rattle.std.specs.Option.{option_map};
+ghost use Rattle.avr_exec.specs.Execution.{is_executed};
+ghost use Rattle.avr_flags.specs.Status.{has_bit, interrupts};
+ghost use Rattle.flash_model.specs.Memory.{IsWhole};
+ghost use Rattle.sram_layout.specs.Bytes.{byte_count};
+ghost use Rattle.nat_template.specs.Stubs.{bridge_entry, quantum_entry, mem_entry, push_return_entry, return_entry, indirect_entry, self_entry, fault_entry};
+ghost use Rattle.kernel_entry.specs.Conditions.{IsCalled, CanCount, CanServe};
+ghost use Rattle.kernel_entry.specs.Parts.{return_address, descriptor as descriptor_of, instruction};
+ghost use Rattle.kernel_entry.specs.Services.{bridged, quantum_ended, resumed, gone, halted_or_gone, faulted, served, stop_of as stop_of_bus, fault_of as fault_of_form};
+ghost use Rattle.kernel_entry.specs.Left.{Leaves, LeavesHeap};
+ghost use Rattle.kernel_entry.specs.Rows.{Bridges, EndsQuantum, Executes, PushesReturn, Returns, GoesThrough, LoopsOrHalts, Faults, AsTried};
+
+use crate::execution::{STACK_TOP, execute};
+use crate::kernel::{Kernel, Served, Stop};
+use avr_exec::BusStop;
+use avr_isa::{Form, Instr};
+use mem_guard::instruction_in_image;
+use preempt_count::cross;
+
+/// Serves the entry of the kernel at which the pc stands. The call has left the address behind it, where
+/// the descriptor is, at the top of the kernel's own stack, which is empty again then.
+pub fn serve(k: &mut Kernel) -> Served
+    requires can { CanServe k.old }
+    // The answer and the whole kernel are a function of the kernel.
+    ensures served { (result, k.new) ≡ served k.old }
+
+    // What each service leaves.
+    ensures leaves { Leaves k.old k.new }
+    ensures heap { k.old.mote.cpu.pc ≢ mem_entry → LeavesHeap k.old k.new }
+
+    // Entry by entry.
+    ensures bridge { k.old.mote.cpu.pc ≡ bridge_entry → Bridges k.old result k.new }
+    ensures quantum { k.old.mote.cpu.pc ≡ quantum_entry → EndsQuantum k.old result k.new }
+    ensures memory { k.old.mote.cpu.pc ≡ mem_entry → Executes k.old result k.new }
+    ensures push_return { k.old.mote.cpu.pc ≡ push_return_entry → PushesReturn k.old result k.new }
+    ensures returns { k.old.mote.cpu.pc ≡ return_entry → Returns k.old result k.new }
+    ensures indirect { k.old.mote.cpu.pc ≡ indirect_entry → GoesThrough k.old result k.new }
+    ensures itself { k.old.mote.cpu.pc ≡ self_entry → LoopsOrHalts k.old result k.new }
+    ensures fault { k.old.mote.cpu.pc ≡ fault_entry → Faults k.old result k.new }
+
+    // It stops exactly where the original program stops, and else takes its step.
+    ensures tried { k.old.mote.cpu.pc ≢ bridge_entry → k.old.mote.cpu.pc ≢ quantum_entry → AsTried k.old result k.new }
+{
+    let at = descriptor(k);
+    serve_at(k, at)
+}
+
+/// Serves the entry, whose descriptor is `at`.
+#[tactic(auto, unfolding(crate::specs::Services::served))]
+fn serve_at(k: &mut Kernel, at: u16) -> Served
+    requires can { CanServe k.old }
+    requires at { at ≡ descriptor_of k.old }
+    ensures served { (result, k.new) ≡ served k.old }
+{
+    match k.mote.cpu.pc {
+        0xF000 => bridge(k, at),
+        0xF002 => end_quantum(k, at),
+        0xF004 | 0xF006 => resume(k, at),
+        0xF008 | 0xF00A => go(k, at),
+        0xF00C => halt_or_go(k, at),
+        _ => fault(k, at),
+    }
+}
+
+/// BRIDGE: control goes to the descriptor's address, from the stub that called.
+fn bridge(k: &mut Kernel, at: u16) -> Served
+    requires at { at ≡ descriptor_of k.old }
+    ensures served { (result, k.new) ≡ bridged k.old }
+{
+    let stub = behind_call(k).wrapping_sub(2);
+    k.mote.cpu.sp = STACK_TOP;
+    Served::Goto {
+        target: at,
+        stub: Some(stub),
+    }
+}
+
+/// QUANTUM: the stub kept r24 and SREG in their cells; COUNT begins anew.
+fn end_quantum(k: &mut Kernel, at: u16) -> Served
+    requires at { at ≡ descriptor_of k.old }
+    ensures served { (result, k.new) ≡ quantum_ended k.old }
+{
+    k.mote.cpu.r[24] = k.mote.sram.r24();
+    k.mote.cpu.sreg = k.mote.sram.sreg();
+    k.mote.cpu.sp = STACK_TOP;
+    k.mote.sram.set_count(k.quantum);
+    Served::Goto {
+        target: at,
+        stub: None,
+    }
+}
+
+/// MEM and PUSHRET: the instruction is executed, and the template goes on behind the descriptor.
+fn resume(k: &mut Kernel, at: u16) -> Served
+    requires at { at ≡ descriptor_of k.old }
+    requires called { IsCalled k.old }
+    ensures served { (result, k.new) ≡ resumed k.old }
+{
+    let behind = behind_call(k);
+    let instr = called_instruction(k, at);
+    match execute(k, at, &instr) {
+        Ok(ran) => {
+            k.mote.cpu.pc = behind.wrapping_add(1);
+            Served::Resume(ran.line)
+        }
+        Err(stop) => Served::Stopped(stop_of(at, stop)),
+    }
+}
+
+/// RET and IND: the instruction is executed, and control goes where it leads.
+fn go(k: &mut Kernel, at: u16) -> Served
+    requires at { at ≡ descriptor_of k.old }
+    requires called { IsCalled k.old }
+    requires count { CanCount k.old }
+    ensures served { (result, k.new) ≡ gone k.old }
+{
+    let instr = called_instruction(k, at);
+    match execute(k, at, &instr) {
+        Ok(ran) => {
+            cross(&mut k.mote.sram, k.quantum, at, ran.pc);
+            Served::Goto {
+                target: ran.pc,
+                stub: None,
+            }
+        }
+        Err(stop) => Served::Stopped(stop_of(at, stop)),
+    }
+}
+
+/// SELF: a jump to itself halts where interrupts are off.
+#[tactic(auto, unfolding(crate::specs::Services::halted_or_gone))]
+fn halt_or_go(k: &mut Kernel, at: u16) -> Served
+    requires at { at ≡ descriptor_of k.old }
+    requires called { IsCalled k.old }
+    requires count { CanCount k.old }
+    ensures served { (result, k.new) ≡ halted_or_gone k.old }
+{
+    if has_interrupts(k) {
+        return go(k, at);
+    }
+    k.mote.cpu.sp = STACK_TOP;
+    Served::Stopped(Stop::Halted(at))
+}
+
+/// FAULT: the program stops.
+fn fault(k: &mut Kernel, at: u16) -> Served
+    requires at { at ≡ descriptor_of k.old }
+    ensures served { (result, k.new) ≡ faulted k.old }
+{
+    let instr = instruction_in_image(&k.mote.flash, &k.layout, at);
+    k.mote.cpu.sp = STACK_TOP;
+    Served::Stopped(fault_of(at, instr.as_ref()))
+}
+
+/// The flash address behind the call, where the descriptor is: the call left it with its high byte at the
+/// lower address.
+fn behind_call(k: &Kernel) -> u16
+    ensures value { result ≡ return_address k.now }
+    ensures size { length k.now.mote.sram ≡ byte_count }
+{
+    u16::from_be_bytes([k.mote.sram.byte(STACK_TOP - 1), k.mote.sram.byte(STACK_TOP)])
+}
+
+/// The word behind the call.
+pub(crate) fn descriptor(k: &Kernel) -> u16
+    ensures value { result ≡ descriptor_of k.now }
+    ensures size { length k.now.mote.sram ≡ byte_count }
+    ensures whole { IsWhole k.now.mote.flash }
+{
+    k.mote.flash.word(behind_call(k))
+}
+
+/// The program's instruction at the descriptor's address.
+fn called_instruction(k: &Kernel, at: u16) -> Instr
+    requires at { at ≡ descriptor_of k.now }
+    requires called { IsCalled k.now }
+    ensures value { instruction k.now ≡ Some result }
+    ensures executed { is_executed result ≡ true }
+{
+    instruction_in_image(&k.mote.flash, &k.layout, at).unwrap()
+}
+
+/// Whether the program has interrupts on.
+fn has_interrupts(k: &Kernel) -> bool
+    ensures value { result ≡ has_bit k.now.mote.cpu.sreg interrupts }
+{
+    k.mote.cpu.sreg / 0x80 % 2 == 1
+}
+
+/// A stop of the program's memory, of the instruction at this address.
+fn stop_of(at: u16, stop: BusStop) -> Stop
+    ensures value { result ≡ stop_of_bus at stop }
+{
+    match stop {
+        BusStop::Io(a) => Stop::Io(at, a),
+        BusStop::Stack(a) => Stop::Stack(at, a),
+        BusStop::SwapFull(a) => Stop::SwapFull(at, a),
+    }
+}
+
+/// Why the instruction at this address, or what is none, may not be executed.
+fn fault_of(at: u16, instr: Option<&Instr>) -> Stop
+    ensures value { result ≡ fault_of_form at (option_map (λ borrowed. borrowed.now) instr.entry) }
+{
+    match instr.map(Instr::form) {
+        Some(Form::Sleep) => Stop::Asleep(at),
+        Some(Form::Spm) => Stop::SelfProgram(at),
+        Some(Form::InIo(_, a) | Form::OutIo(a, _)) => Stop::Io(at, u16::from(a.get()) + 0x20),
+        Some(Form::Cbi(a, _) | Form::Sbi(a, _) | Form::Sbic(a, _) | Form::Sbis(a, _)) => Stop::Io(
+            at,
+            u16::from(a.get()) + 0x20,
+        ),
+        _ => Stop::Illegal(at),
+    }
+}

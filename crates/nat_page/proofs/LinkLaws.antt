@@ -1,0 +1,89 @@
+-- Where the links of a page stand: those of each template, and of the closing, are links of the page.
+use Rattle.std.proofs.Common.{◌≡◌, ℕ, zero, suc, ◌+◌, ◌*◌, ◌<◌, ◌≤◌, List, [], ◌∷◌, ◌++◌, map, append_assoc, arith, refl, sym, ap, ◌∙◌, inl, inr, subst}
+use Rattle.std.proofs.lemmas.Bool.{cases_lt}
+use Rattle.flash_model.specs.Pages.{page_words}
+use Rattle.nat_template.specs.declared.piece.Piece.{Piece}
+use Rattle.nat_template.specs.declared.piece.Piece.TheVariants.{Fixed, Link}
+use Rattle.nat_page.specs.Standing.{size}
+use Rattle.nat_page.specs.Runs.{template_at, closing_at, address, templates}
+use Rattle.nat_page.specs.CodePages.{map_words, code, page_pieces, page_size, place_in_page}
+use Rattle.nat_page.specs.Links.{IsLinkOf, EachLink}
+use Rattle.nat_page.proofs.PieceLaws.{size-cons, size-append, size-fixed}
+use Rattle.nat_page.proofs.RunLaws.{length-map_words}
+
+-- pieces in a row, as two rows
+pub each_link_split : (links : ℕ → ℕ → Type 0) (a : ℕ) (front back : List Piece) → EachLink links a (front ++ back) → EachLink links a front × EachLink links (a + size front) back
+each_link_split links a [] back all = (tt, let P : ℕ → Type 0 = λ b. EachLink links b back in subst P (omega arith) all)
+each_link_split links a (Fixed word ∷ front) back all =
+    let rest = each_link_split links (a + 1) front back all in
+    let P : ℕ → Type 0 = λ b. EachLink links b back in
+    let here : a + 1 + size front ≡ a + size (Fixed word ∷ front) = omega (arith, size-cons (Fixed word) front) in
+    (rest.0, subst P here rest.1)
+each_link_split links a (Link t ∷ front) back all =
+    let rest = each_link_split links (a + 3) front back all.1 in
+    let P : ℕ → Type 0 = λ b. EachLink links b back in
+    let here : a + 3 + size front ≡ a + size (Link t ∷ front) = omega (arith, size-cons (Link t) front) in
+    ((all.0, rest.0), subst P here rest.1)
+
+-- links that are among more
+pub each_link_more : (links links' : ℕ → ℕ → Type 0) (a : ℕ) (pieces : List Piece) → ((s t : ℕ) → links s t → links' s t) → EachLink links a pieces → EachLink links' a pieces
+each_link_more links links' a [] more all = tt
+each_link_more links links' a (Fixed word ∷ pieces) more all = each_link_more links links' (a + 1) pieces more all
+each_link_more links links' a (Link t ∷ pieces) more all =
+    (more a t all.0, each_link_more links links' (a + 3) pieces more all.1)
+
+links_behind : (pieces before rest : List Piece) (base : ℕ) → pieces ≡ before ++ rest → EachLink (IsLinkOf pieces base) (base + size before) rest
+links_behind pieces before [] base is = tt
+links_behind pieces before (Fixed word ∷ rest) base is =
+    let front = before ++ Fixed word ∷ [] in
+    let more : pieces ≡ front ++ rest = is ∙ sym (append_assoc before (Fixed word ∷ []) rest) in
+    let here : base + size front ≡ base + size before + 1 = omega (arith, size-append before (Fixed word ∷ [])) in
+    let P : ℕ → Type 0 = λ b. EachLink (IsLinkOf pieces base) b rest in
+    subst P here (links_behind pieces front rest base more)
+links_behind pieces before (Link t ∷ rest) base is =
+    let front = before ++ Link t ∷ [] in
+    let more : pieces ≡ front ++ rest = is ∙ sym (append_assoc before (Link t ∷ []) rest) in
+    let here : base + size front ≡ base + size before + 3 = omega (arith, size-append before (Link t ∷ [])) in
+    let P : ℕ → Type 0 = λ b. EachLink (IsLinkOf pieces base) b rest in
+    let link : IsLinkOf pieces base (base + size before) t = record { before = before; behind = rest; split = is; at = refl } in
+    (link, subst P here (links_behind pieces front rest base more))
+
+-- each link of pieces is one of them
+pub all_links : (pieces : List Piece) (base : ℕ) → EachLink (IsLinkOf pieces base) base pieces
+all_links pieces base =
+    let P : ℕ → Type 0 = λ b. EachLink (IsLinkOf pieces base) b pieces in
+    let here : base + 0 ≡ base = omega arith in
+    subst P here (links_behind pieces [] pieces base refl)
+
+one_template : (links : ℕ → ℕ → Type 0) (image : List ℕ) (a t n i : ℕ) → i < n → EachLink links a (templates image t n) → EachLink links (a + size (templates image t i)) (template_at image (address image t i))
+one_template links image a t zero i below all = absurd (omega arith)
+one_template links image a t (suc n) i below all =
+    let two = each_link_split links a (templates image t n) (template_at image (address image t n)) all in
+    elim (cases_lt i n) [
+      | inl before ↦ one_template links image a t n i before two.0
+      | inr same ↦ (
+          let P : ℕ → Type 0 = λ k. EachLink links (a + size (templates image t k)) (template_at image (address image t k)) in
+          subst P (omega arith) two.1)
+    ]
+
+-- the links of the template of instruction i, and of the closing, in a page at the word address a
+pub page_links : (image : List ℕ) (a t last i : ℕ) → i ≤ last → EachLink (IsLinkOf (page_pieces image t last) a) (a + place_in_page image t (suc last) i) (template_at image (address image t i)) × EachLink (IsLinkOf (page_pieces image t last) a) (a + (2 + suc last + size (templates image t (suc last)))) (closing_at image (address image t last))
+unfolding page_pieces code
+page_links image a t last i near =
+    let links : ℕ → ℕ → Type 0 = λ s to. IsLinkOf (page_pieces image t last) a s to in
+    let fixed = map_words image t (suc last) in
+    let bodies = templates image t (suc last) in
+    let end = closing_at image (address image t last) in
+    let P : List Piece → ℕ → Type 0 = λ pieces b. EachLink links b pieces in
+    let two = each_link_split links (a + 1 + 1) (map (λ word. Fixed word) fixed) (bodies ++ end) (all_links (page_pieces image t last) a) in
+    let behind : a + 1 + 1 + size (map (λ word. Fixed word) fixed) ≡ a + (2 + suc last) = omega (arith, size-fixed fixed, length-map_words image t (suc last)) in
+    let three = each_link_split links (a + (2 + suc last)) bodies end (subst (P (bodies ++ end)) behind two.1) in
+    let here : a + (2 + suc last) + size (templates image t i) ≡ a + place_in_page image t (suc last) i = omega arith in
+    let there : a + (2 + suc last) + size bodies ≡ a + (2 + suc last + size bodies) = omega arith in
+    (subst (P (template_at image (address image t i))) here (one_template links image (a + (2 + suc last)) t (suc last) i (omega arith) three.0), subst (P end) there three.1)
+
+-- a link lies inside its page
+pub link_room : (image : List ℕ) (page first last s t : ℕ) → page_size image first last ≤ page_words → IsLinkOf (page_pieces image first last) (page_words * page) s t → (page_words * page ≤ s) × (s + 3 ≤ page_words * page + page_words)
+link_room image page first last s t fits link =
+    let whole : page_size image first last ≡ size link.before + size (Link t ∷ link.behind) = ap size link.split ∙ size-append link.before (Link t ∷ link.behind) in
+    (omega (arith, link.at), omega (arith, link.at, size-cons (Link t) link.behind))

@@ -1,0 +1,2 @@
+-- Laws of one counted step.
+pub mod CountLaws

@@ -1,0 +1,2 @@
+-- The count of crossings before the next checkpoint.
+pub mod Counting

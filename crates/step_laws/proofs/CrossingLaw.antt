@@ -1,0 +1,234 @@
+-- The way through a crossing stub: the bridge, the resolved jump, or the end of the quantum.
+use Rattle.std.proofs.Common.{[], ℕ, ◌≡◌, ◌+◌, ◌-◌, ◌<◌, ◌≤◌, ◌∷◌, ◌++◌, ◌∙◌, Bool, true, false, List, length, refl, sym, ap, ap₂, arith, subst, inl, inr}
+use Rattle.std.specs.Prelude.{◌==◌, if◌then◌else◌, Some, None, slice_set}
+use Rattle.std.proofs.lemmas.List.{set-get_or}
+use Rattle.std.proofs.lemmas.Bool.Decides.{nat_tests}
+use Rattle.avr_isa.specs.declared.form.Form.TheVariants as forms
+use Rattle.avr_flags.specs.Sums.{byte_difference}
+use Rattle.avr_exec.specs.Registers.{register}
+use Rattle.flash_model.specs.Pages.{word_at}
+use Rattle.sram_layout.specs.Bytes.{byte_at, with_byte}
+use Rattle.sram_layout.proofs.Laws.{byte_same, byte_other, length-with_byte}
+use Rattle.mote_core.specs.declared.mote.Mote.{Mote}
+use Rattle.preempt_count.specs.Counting.{count_after}
+use Rattle.step_laws.specs.States.{Begins, State, mote_of, with_mote}
+use Rattle.step_laws.proofs.CountDown.{CrossingStub, count_read, counted_down, front, inner_move, lowered_of, put_away, r24_read, six, sreg_read, tail_on, tail_over, taken_is, with_held}
+use Rattle.step_laws.specs.Settings.{IsIdle, IsRunning}
+use Rattle.step_laws.specs.Links.{Links}
+use Rattle.step_laws.specs.Walks.{Makes, Walk}
+use Rattle.step_laws.specs.Moves.{Plain, Serve, lines_of}
+use Rattle.step_laws.specs.StepLaws.{Reaches}
+use Rattle.step_laws.proofs.SameProgram.{SameProgram}
+use Rattle.step_laws.proofs.Ways.{Way, plains, walk_on}
+use Rattle.step_laws.proofs.KernelCalls.{bridge_move, call_move, owing, pushed, pushed_address, pushed_kept, pushed_size, quantum_move, quantum_state}
+use Rattle.step_laws.proofs.HeldSteps.{held, set_twice, jmp_held}
+use Rattle.step_laws.proofs.StubWords.{jmp_form}
+use Rattle.step_laws.specs.Numbers.{moved}
+use Rattle.kernel_entry.specs.Parts.{rested}
+use Rattle.nat_page.specs.Standing.{jump_word}
+use Rattle.step_laws.proofs.PlainMoves.{form_there}
+
+-- the bytes below the cells stay
+down_kept : (m : Mote) (b : ℕ) → 0x0103 ≤ b → byte_at (counted_down m) b ≡ byte_at m.sram b
+down_kept m b low =
+    byte_other (put_away m) 0x0100 b (lowered_of m).0 (omega arith) (omega arith) (λ same. omega arith)
+    ∙ byte_other (with_byte m.sram 0x0101 (register m.cpu 24)) 0x0102 b m.cpu.sreg (omega arith) (omega arith) (λ same. omega arith)
+    ∙ byte_other m.sram 0x0101 b (register m.cpu 24) (omega arith) (omega arith) (λ same. omega arith)
+
+down_size : (m : Mote) → length (counted_down m) ≡ length m.sram
+down_size m = length-with_byte (put_away m) 0x0100 (lowered_of m).0 ∙ length-with_byte (with_byte m.sram 0x0101 (register m.cpu 24)) 0x0102 m.cpu.sreg ∙ length-with_byte m.sram 0x0101 (register m.cpu 24)
+
+lowered_by_one : (q c : ℕ) → 1 ≤ c → c < 256 → (c == 1) ≡ false → byte_difference c 1 0 ≡ count_after q c
+lowered_by_one q c some most more = let e : byte_difference c 1 0 ≡ c - 1 = omega arith in e ∙ sym (ap (λ b. if b then q else c - 1) more)
+
+not_zero : (c : ℕ) → 1 ≤ c → c < 256 → (c == 1) ≡ false → (byte_difference c 1 0 == 0) ≡ false
+not_zero c some most more = grind (arith, nat_tests)
+
+is_zero : (c : ℕ) → (c == 1) ≡ true → (byte_difference c 1 0 == 0) ≡ true
+is_zero c one = grind (arith, nat_tests)
+
+-- the same mote, before anything
+start_held : (x : State) (p : ℕ) → (mote_of x).cpu.pc ≡ p → x ≡ with_held x (register (mote_of x).cpu 24) (mote_of x).cpu.sreg (p + 0) (mote_of x).sram
+start_held x p is =
+    let m = mote_of x in
+    let there : m.cpu.pc ≡ p + 0 = omega (arith, is) in
+    ap₂ (λ r q. with_mote x (record m { cpu = record m.cpu { r = r; pc = q } })) (sym (set-get_or m.cpu.r 24 0)) there
+
+-- through the stub by the bridge or by the jump
+same_down : (m : Mote) (p : ℕ) → m.cpu.sp ≡ 0x011F → SameProgram m (held m (register m.cpu 24) m.cpu.sreg p (counted_down m))
+same_down m p fit = record {
+  registers = set-get_or m.cpu.r 24 0;
+  status = refl;
+  top = fit;
+  size = down_size m;
+  bytes = λ b low apart apart'. down_kept m b low;
+  flash = refl;
+  devices = refl;
+  swap = refl;
+}
+
+count_down_is : (m : Mote) (q : ℕ) → length m.sram ≡ 4096 → 1 ≤ byte_at m.sram 0x0100 → byte_at m.sram 0x0100 < 256 → (byte_at m.sram 0x0100 == 1) ≡ false → byte_at (counted_down m) 0x0100 ≡ count_after q (byte_at m.sram 0x0100)
+count_down_is m q size some most more =
+    byte_same (put_away m) 0x0100 (lowered_of m).0 (omega arith) (omega (arith, length-with_byte (with_byte m.sram 0x0101 (register m.cpu 24)) 0x0102 m.cpu.sreg, length-with_byte m.sram 0x0101 (register m.cpu 24)))
+    ∙ ap (λ n. byte_difference n 1 0) (count_read m) ∙ lowered_by_one q (byte_at m.sram 0x0100) some most more
+
+-- and behind a call and a service that leaves r24 and SREG
+same_called : (m : Mote) (ram : List ℕ) (ret pc : ℕ) → m.cpu.sp ≡ 0x011F → SameProgram m (held m (register m.cpu 24) m.cpu.sreg 0 ram) → SameProgram m (record (held m (register m.cpu 24) m.cpu.sreg 0 (pushed ram ret)) { cpu = record (held m (register m.cpu 24) m.cpu.sreg 0 ram).cpu { sp = 0x011F; pc = pc } })
+same_called m ram ret pc top same = record {
+  registers = same.registers;
+  status = same.status;
+  top = refl;
+  size = pushed_size ram ret ∙ same.size;
+  bytes = λ b low apart apart'. pushed_kept ram ret b (omega arith) apart apart' ∙ same.bytes b low apart apart';
+  flash = refl;
+  devices = refl;
+  swap = refl;
+}
+
+-- behind QUANTUM, which takes r24 and SREG from their cells
+same_timed : (m : Mote) (d q : ℕ × ℕ) (ret quantum pc : ℕ) → length m.sram ≡ 4096 → m.cpu.sp ≡ 0x011F
+    → (let ram = pushed (counted_down m) ret in
+    SameProgram m (record (held m d.0 d.1 0 (with_byte ram 0x0100 quantum)) { cpu = record m.cpu { r = slice_set (slice_set m.cpu.r 24 d.0) 24 (byte_at ram 0x0101); sreg = byte_at ram 0x0102; sp = 0x011F; pc = pc } }))
+same_timed m d q ret quantum pc size top =
+    let ram = pushed (counted_down m) ret in
+    let v : byte_at ram 0x0101 ≡ register m.cpu 24 = pushed_kept (counted_down m) ret 0x0101 (omega arith) (λ e. omega arith) (λ e. omega arith) ∙ r24_read m size in
+    let s : byte_at ram 0x0102 ≡ m.cpu.sreg = pushed_kept (counted_down m) ret 0x0102 (omega arith) (λ e. omega arith) (λ e. omega arith) ∙ sreg_read m size in
+    record {
+      registers = set_twice m.cpu.r 24 d.0 (byte_at ram 0x0101) ∙ ap (slice_set m.cpu.r 24) v ∙ set-get_or m.cpu.r 24 0;
+      status = s;
+      top = refl;
+      size = length-with_byte ram 0x0100 quantum ∙ pushed_size (counted_down m) ret ∙ down_size m;
+      bytes = λ b low apart apart'. byte_other ram 0x0100 b quantum (omega arith) (omega arith) (λ e. omega arith) ∙ pushed_kept (counted_down m) ret b (omega arith) apart apart' ∙ down_kept m b low;
+      flash = refl;
+      devices = refl;
+      swap = refl;
+    }
+
+-- after the ten instructions, the link
+link_way : (links : Links) (x : State) (w t : ℕ) (b : Bool) → IsRunning x → CrossingStub links x.kernel.layout (mote_of x).flash.words w t → IsIdle x.kernel → (mote_of x).cpu.pc ≡ w
+    → (byte_at (mote_of x).sram 0x0100 == 1) ≡ false
+    → Walk x (Plain b None ∷ plains 9) (with_held x (register (mote_of x).cpu 24) (mote_of x).cpu.sreg (w + 16) (counted_down (mote_of x)))
+    → Way links x b t (count_after x.kernel.quantum (byte_at (mote_of x).sram 0x0100)) true
+unfolding lines_of
+link_way links x w t b free stub fit is more way =
+    let m = mote_of x in
+    let l = x.kernel.layout in
+    let v = register m.cpu 24 in
+    let s = m.cpu.sreg in
+    let low = stub.row.low in
+    let ram = counted_down m in
+    let y = with_held x v s (w + 16) ram in
+    let size : length ram ≡ 4096 = down_size m ∙ fit.size in
+    let count = count_down_is m x.kernel.quantum fit.size fit.some fit.most more in
+    let there : w + 16 + 1 ≡ w + 17 = omega arith in
+    elim stub.link [
+      | inl bridge ↦ (
+          let called : State = with_mote x (record (mote_of y) { cpu = record (mote_of y).cpu { sp = 0x011D; pc = 0xF000 }; sram = pushed ram (w + 16 + 2) }) in
+          let target : w + 16 + 2 ≡ w + 18 = omega arith in
+          let first : Makes y (Plain false None) called = call_move y (w + 16) 0xF000 false (record { free = free.free; going = free.going; room = free.room }) refl (stub.row.pool 16 (omega arith)) (omega arith) (stub.row.inner 16 (omega arith) (omega arith)) bridge.0 (ap (word_at m.flash.words) there ∙ bridge.1) fit.top in
+          let served : Makes called (Serve None false) (owing (rested called.kernel) t (Some (w + 16))) = bridge_move called (w + 16) t (record { free = free.free; going = free.going; room = free.room }) refl (omega arith) (pushed_address ram (w + 16 + 2) size) (ap (word_at m.flash.words) target ∙ stub.target) in
+          record {
+            end = owing (rested called.kernel) t (Some (w + 16));
+            rest = plains 9 ++ (Plain false None ∷ Serve None false ∷ []);
+            walk = walk_on x y (owing (rested called.kernel) t (Some (w + 16))) (Plain b None ∷ plains 9) (Plain false None ∷ Serve None false ∷ []) way (called, first, (owing (rested called.kernel) t (Some (w + 16)), served, refl));
+            inner = refl;
+            silent = refl;
+            few = omega arith;
+            short = omega arith;
+            serves = omega arith;
+            goes = refl;
+            reset = λ crosses one n. absurd (let e = sym more ∙ ap (λ c. c == 1) one in cc);
+            left = record {
+              going = refl;
+              layout = refl;
+              quantum = refl;
+              same = same_called m ram (w + 16 + 2) 0xF000 fit.top (same_down m 0 fit.top);
+              count = pushed_kept ram (w + 16 + 2) 0x0100 (omega arith) (λ e. omega arith) (λ e. omega arith) ∙ count;
+              reaches = Reaches.Owing (Some (w + 16)) refl (record { mark = stub.mark; call = bridge.0; bridge = ap (word_at m.flash.words) there ∙ bridge.1 });
+            };
+          })
+      | inr jump ↦ (
+          let place = word_at m.flash.words (w + 17) in
+          let z = with_held x v s place ram in
+          let form = form_there m (w + 16) jump_word place (Some (forms.Jmp place)) (jump.0, ap (word_at m.flash.words) there, omega arith) (jmp_form place) in
+          let first : Makes y (Plain false None) z = inner_move links x w t 16 v s v s place ram ram free stub (omega arith) (omega arith) (jmp_held m v s (w + 16) place ram form) in
+          record {
+            end = z;
+            rest = plains 9 ++ (Plain false None ∷ []);
+            walk = walk_on x y z (Plain b None ∷ plains 9) (Plain false None ∷ []) way (z, first, refl);
+            inner = refl;
+            silent = refl;
+            few = omega arith;
+            short = omega arith;
+            serves = omega arith;
+            goes = refl;
+            reset = λ crosses one n. absurd (let e = sym more ∙ ap (λ c. c == 1) one in cc);
+            left = record {
+              going = free.going;
+              layout = refl;
+              quantum = refl;
+              same = same_down m place fit.top;
+              count = count;
+              reaches = Reaches.Placed free.free jump.1;
+            };
+          })
+    ]
+
+-- the quantum is over
+over_way : (links : Links) (x : State) (w t : ℕ) (b : Bool) → IsRunning x → CrossingStub links x.kernel.layout (mote_of x).flash.words w t → IsIdle x.kernel
+    → (byte_at (mote_of x).sram 0x0100 == 1) ≡ true
+    → Walk x (Plain b None ∷ plains 6) (with_held x (lowered_of (mote_of x)).0 (lowered_of (mote_of x)).1 (w + 19) (counted_down (mote_of x)))
+    → Way links x b t (count_after x.kernel.quantum (byte_at (mote_of x).sram 0x0100)) true
+unfolding lines_of moved
+over_way links x w t b free stub fit one way =
+    let m = mote_of x in
+    let low = stub.row.low in
+    let ram = counted_down m in
+    let d = lowered_of m in
+    let y = with_held x d.0 d.1 (w + 19) ram in
+    let size : length ram ≡ 4096 = down_size m ∙ fit.size in
+    let there : w + 19 + 1 ≡ w + 20 = omega arith in
+    let target : w + 19 + 2 ≡ w + 21 = omega arith in
+    let called : State = with_mote x (record (mote_of y) { cpu = record (mote_of y).cpu { sp = 0x011D; pc = 0xF002 }; sram = pushed ram (w + 19 + 2) }) in
+    let first : Makes y (Plain false None) called = call_move y (w + 19) 0xF002 false (record { free = free.free; going = free.going; room = free.room }) refl (stub.row.pool 19 (omega arith)) (omega arith) (stub.row.inner 19 (omega arith) (omega arith)) stub.call (ap (word_at m.flash.words) there ∙ stub.entry) fit.top in
+    let served : Makes called (Serve None false) (quantum_state called t) = quantum_move called (w + 19) t (record { free = free.free; going = free.going; room = free.room }) refl (pushed_address ram (w + 19 + 2) size) (ap (word_at m.flash.words) target ∙ stub.last) in
+    record {
+      end = quantum_state called t;
+      rest = plains 6 ++ (Plain false None ∷ Serve None false ∷ []);
+      walk = walk_on x y (quantum_state called t) (Plain b None ∷ plains 6) (Plain false None ∷ Serve None false ∷ []) way (called, first, (quantum_state called t, served, refl));
+      inner = refl;
+      silent = refl;
+      few = omega arith;
+      short = omega arith;
+      serves = omega arith;
+      goes = refl;
+      reset = λ crosses one n. refl;
+      left = record {
+        going = refl;
+        layout = refl;
+        quantum = refl;
+        same = same_timed m d d (w + 19 + 2) x.kernel.quantum 0xF002 fit.size fit.top;
+        count = byte_same (pushed ram (w + 19 + 2)) 0x0100 x.kernel.quantum (omega arith) (omega (arith, pushed_size ram (w + 19 + 2))) ∙ sym (ap (λ c. if c then x.kernel.quantum else byte_at m.sram 0x0100 - 1) one);
+        reaches = Reaches.Owing None refl tt;
+      };
+    }
+
+-- the whole stub
+crossing_by : (links : Links) (x : State) (w t : ℕ) (b c : Bool) → IsRunning x → CrossingStub links x.kernel.layout (mote_of x).flash.words w t → IsIdle x.kernel → (mote_of x).cpu.pc ≡ w
+    → Begins x.kernel.layout (mote_of x).flash.words w b → (byte_at (mote_of x).sram 0x0100 == 1) ≡ c → Way links x b t (count_after x.kernel.quantum (byte_at (mote_of x).sram 0x0100)) true
+crossing_by links x w t b true free stub fit is starts one =
+    let m = mote_of x in
+    let P : State → Type 0 = λ s. Walk s (six b) (with_held x (lowered_of m).0 (lowered_of m).1 (w + 10) (counted_down m)) in
+    let begun : P x = subst P (sym (start_held x w is)) (front links x w t b free stub fit.registers starts) in
+    let over = taken_is m (byte_at m.sram 0x0100) refl ∙ is_zero (byte_at m.sram 0x0100) one in
+    over_way links x w t b free stub fit one (walk_on x (with_held x (lowered_of m).0 (lowered_of m).1 (w + 10) (counted_down m)) _ (six b) (plains 1) begun (tail_over links x w t free stub over))
+crossing_by links x w t b false free stub fit is starts more =
+    let m = mote_of x in
+    let P : State → Type 0 = λ s. Walk s (six b) (with_held x (lowered_of m).0 (lowered_of m).1 (w + 10) (counted_down m)) in
+    let begun : P x = subst P (sym (start_held x w is)) (front links x w t b free stub fit.registers starts) in
+    let on = taken_is m (byte_at m.sram 0x0100) refl ∙ not_zero (byte_at m.sram 0x0100) fit.some fit.most more in
+    link_way links x w t b free stub fit is more (walk_on x (with_held x (lowered_of m).0 (lowered_of m).1 (w + 10) (counted_down m)) _ (six b) (plains 4) begun (tail_on links x w t free stub fit on))
+
+pub crossing_law : (links : Links) (x : State) (w t : ℕ) (b : Bool) → IsRunning x → CrossingStub links x.kernel.layout (mote_of x).flash.words w t → IsIdle x.kernel → (mote_of x).cpu.pc ≡ w
+    → Begins x.kernel.layout (mote_of x).flash.words w b → Way links x b t (count_after x.kernel.quantum (byte_at (mote_of x).sram 0x0100)) true
+crossing_law links x w t b free stub fit is starts = crossing_by links x w t b (byte_at (mote_of x).sram 0x0100 == 1) free stub fit is starts refl

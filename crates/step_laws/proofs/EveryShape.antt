@@ -1,0 +1,46 @@
+-- The law of each shape, and so of each entry of flash that holds the image and rewritten code of it.
+use Rattle.std.proofs.Common.{ℕ, refl}
+use Rattle.nat_template.specs.declared.shapes.TemplateShape.{TemplateShape}
+use Rattle.nat_template.specs.declared.shapes.TemplateShape.TheVariants as shapes
+use Rattle.nat_page.specs.Runs.{shape_at}
+use Rattle.step_laws.specs.States.{State, mote_of}
+use Rattle.step_laws.specs.Settings.{IsSetting, IsAtEntry}
+use Rattle.step_laws.specs.StepLaws.{ShapeLaw, HasShapeLaws, HasEntryLaws, links_at}
+use Rattle.step_laws.proofs.JumpLaw.{jump_law}
+use Rattle.step_laws.proofs.NativeLaw.{native_law}
+use Rattle.step_laws.proofs.BranchLaw.{branch_law}
+use Rattle.step_laws.proofs.SkipLaw.{skip_law}
+use Rattle.step_laws.proofs.MemLaw.{mem_law}
+use Rattle.step_laws.proofs.CallLaw.{call_law}
+use Rattle.step_laws.proofs.GoneLaw.{ret_law, ind_law}
+use Rattle.step_laws.proofs.SelfLaw.{self_law}
+use Rattle.step_laws.proofs.FaultLaw.{fault_law}
+use Rattle.nat_page.proofs.EnteredLaws.{entry_law}
+use Rattle.kernel_entry.specs.Parts.{image_of}
+
+pub shape_law : (shape : TemplateShape) → ShapeLaw shape
+shape_law shapes.Native = native_law
+shape_law shapes.Mem = mem_law
+shape_law shapes.Jump = jump_law
+shape_law shapes.Branch = branch_law
+shape_law shapes.Skip = skip_law
+shape_law shapes.Call = call_law
+shape_law shapes.Ret = ret_law
+shape_law shapes.Ind = ind_law
+shape_law shapes.SelfJump = self_law
+shape_law shapes.Fault = fault_law
+
+-- so in the pool that the machine runs in
+pub shape_laws : HasShapeLaws
+shape_laws shape x a v s is = shape_law shape (links_at x) x a v s is
+
+-- the setting at an entry
+pub entry_setting : (x : State) (a : ℕ) → IsAtEntry x a → IsSetting (links_at x) x a (mote_of x).cpu.pc
+entry_setting x a here = record {
+  ready = here.ready;
+  at = refl;
+  code = entry_law x.kernel.layout (image_of x.kernel) (mote_of x).flash.words a (mote_of x).cpu.pc here.ready.bounded.right here.code here.entry;
+}
+
+pub entry_laws : HasEntryLaws
+entry_laws x a here = shape_law (shape_at (image_of x.kernel) a) (links_at x) x a (mote_of x).cpu.pc (entry_setting x a here) refl

@@ -1,0 +1,66 @@
+-- What decides the next move: a plain step and a service exclude each other, each has one outcome, and an
+-- ended program has no move.
+use Rattle.std.proofs.Common.{◌≡◌, ℕ, ◌<◌, ◌≤◌, Bool, true, false, List, [], ◌∷◌, refl, sym, ap, ◌∙◌, arith}
+use Rattle.std.specs.Prelude.{◌≢◌, Option, None}
+use Rattle.flash_model.specs.Layouts.{IsRight}
+use Rattle.flash_model.specs.declared.layout.Layout.{Layout}
+use Rattle.mote_devices.specs.declared.line.Line.{Line}
+use Rattle.mote_core.specs.Shown.{line_of}
+use Rattle.mote_core.proofs.KnownSteps.{one_step}
+use Rattle.kernel_entry.specs.declared.kernel.Kernel.{Kernel}
+use Rattle.kernel_entry.specs.Conditions.{CanServe}
+use Rattle.step_laws.specs.Moves.{Move, Plain, Serve, Arrive}
+use Rattle.step_laws.specs.States.{State, Begins, InPool, mote_of, with_mote}
+use Rattle.step_laws.specs.Walks.{MakesPlain, MakesServe, Makes, Walk}
+
+-- the pool lies below the kernel's entries
+pub pool_low : (layout : Layout) (a : ℕ) → IsRight layout → InPool layout a → a < 0xF000
+pool_low layout a right pool =
+    let to = pool.to in
+    let below = right.pool_below_kernel in
+    omega arith
+
+pub entry_high : (k : Kernel) → CanServe k → 0xF000 ≤ k.mote.cpu.pc
+entry_high k (CanServe.AtBridge at) = omega arith
+entry_high k (CanServe.AtQuantum at) = omega arith
+entry_high k (CanServe.AtMem at shape can) = omega arith
+entry_high k (CanServe.AtPushReturn at shape can) = omega arith
+entry_high k (CanServe.AtReturn at shape can counts) = omega arith
+entry_high k (CanServe.AtIndirect at shape can counts) = omega arith
+entry_high k (CanServe.AtSelf at shape can counts) = omega arith
+entry_high k (CanServe.AtFault at shape) = omega arith
+
+pub plain_or_service : (x y z : State) (begins stops : Bool) (line line' : Option Line) → IsRight x.kernel.layout → MakesPlain x begins line y → MakesServe x line' stops z → ⊥
+plain_or_service x y z begins stops line line' right plain service =
+    let low = pool_low x.kernel.layout (mote_of x).cpu.pc right plain.pool in
+    let high = entry_high x.kernel service.can in
+    omega arith
+
+-- one outcome each
+begins_alike : (layout : Layout) (words : List ℕ) (v : ℕ) (b c : Bool) → Begins layout words v b → Begins layout words v c → b ≡ c
+begins_alike layout words v true true one other = refl
+begins_alike layout words v true false one other = absurd (other one)
+begins_alike layout words v false true one other = absurd (one other)
+begins_alike layout words v false false one other = refl
+
+pub one_plain : (x y z : State) (b c : Bool) (line line' : Option Line) → MakesPlain x b line y → MakesPlain x c line' z → (b ≡ c) × (line ≡ line') × (y ≡ z)
+one_plain x y z b c line line' one other =
+    let same = one_step (mote_of x) one.next other.next one.shown other.shown one.step other.step in (
+      begins_alike x.kernel.layout (mote_of x).flash.words (mote_of x).cpu.pc b c one.starts other.starts,
+      sym one.written ∙ ap line_of same.1 ∙ other.written,
+      one.result ∙ ap (with_mote x) same.0 ∙ sym other.result,
+    )
+
+pub one_service : (x y z : State) (stops stops' : Bool) (line line' : Option Line) → MakesServe x line stops y → MakesServe x line' stops' z → (line ≡ line') × (stops ≡ stops') × (y ≡ z)
+one_service x y z stops stops' line line' one other =
+    (sym one.written ∙ other.written, sym one.halts ∙ other.halts, one.result ∙ sym other.result)
+
+-- no move of an ended program
+no_move : (x y : State) (move : Move) → x.end ≢ None → Makes x move y → ⊥
+no_move x y (Plain begins line) ended makes = ended makes.going
+no_move x y (Serve line stops) ended makes = ended makes.going
+no_move x y (Arrive made) ended makes = ended makes.going
+
+pub ended_stays : (x z : State) (moves : List Move) → x.end ≢ None → Walk x moves z → (moves ≡ []) × (x ≡ z)
+ended_stays x z [] ended walk = (refl, walk)
+ended_stays x z (move ∷ moves) ended walk = absurd (no_move x walk.0 move ended walk.1)

@@ -1,0 +1,93 @@
+-- What follows behind a template: the next entry, or the closing.
+use Rattle.std.proofs.Common.{[], ℕ, ◌≡◌, ◌+◌, ◌<◌, ◌≤◌, ◌∷◌, ◌∙◌, Bool, true, false, List, length, refl, sym, ap, arith, subst}
+use Rattle.std.specs.Prelude.{if◌then◌else◌, None}
+use Rattle.avr_isa.specs.Crossing.{is_crossing}
+use Rattle.sram_layout.specs.Bytes.{byte_at}
+use Rattle.nat_template.specs.declared.piece.Piece.{Piece}
+use Rattle.nat_template.specs.Stubs.{stub}
+use Rattle.nat_page.specs.Standing.{Stands, size}
+use Rattle.nat_page.specs.Runs.{template_at, closing_at, next_of, is_closed, shape_at}
+use Rattle.preempt_count.specs.Counting.{count_after, count_over}
+use Rattle.step_laws.proofs.Stretches.{IsStretch, stretch_behind, stretch_closed}
+use Rattle.step_laws.specs.Links.{Links}
+use Rattle.step_laws.specs.Settings.{IsIdle, IsRunning}
+use Rattle.step_laws.specs.States.{State, mote_of, InPool}
+use Rattle.step_laws.specs.StepLaws.{IsReset, Reaches}
+use Rattle.step_laws.specs.Moves.{Move, Plain, are_inner, count_plain, count_serve, count_stop, lines_of}
+use Rattle.step_laws.proofs.Ways.{Reached, Way}
+use Rattle.step_laws.specs.Walks.{Walk}
+use Rattle.step_laws.specs.Numbers.{moved}
+use Rattle.step_laws.proofs.SameProgram.{same_program}
+use Rattle.step_laws.proofs.StubLaw.{stub_law}
+use Rattle.nat_page.specs.Links.{EachLink}
+use Rattle.nat_page.specs.Entered.{IsPlace, Behind, Next, Closed, StandsIn}
+use Rattle.flash_model.specs.Layouts.{IsRight}
+
+-- a walk on to t, from any point of a template or from behind it; `more` allows for moves before it
+pub record Onward (more : ℕ) (links : Links) (y : State) (t c : ℕ) (crosses : Bool) : Type 0 where
+  pub end : State
+  pub moves : List Move
+  pub walk : Walk y moves end
+  pub inner : are_inner moves ≡ true
+  pub silent : lines_of moves ≡ []
+  pub few : count_plain moves ≤ 11 + more
+  pub short : length moves ≤ 12 + more
+  pub serves : count_serve moves ≤ 1
+  pub goes : count_stop moves ≡ 0
+  pub reset : IsReset y crosses moves
+  pub left : Reached links y t c end
+
+pub by_way : (more : ℕ) (links : Links) (y : State) (t c : ℕ) (crosses : Bool) → Way links y false t c crosses → Onward more links y t c crosses
+unfolding lines_of
+by_way more links y t c crosses way = record {
+  end = way.end;
+  moves = Plain false None ∷ way.rest;
+  walk = way.walk;
+  inner = way.inner;
+  silent = way.silent;
+  few = let few = way.few in omega arith;
+  short = let short = way.short in omega arith;
+  serves = way.serves;
+  goes = way.goes;
+  reset = λ crosses one n. way.reset crosses one (moved (Plain false None) n);
+  left = way.left;
+}
+
+onward_by : (links : Links) (y : State) (image : List ℕ) (a v : ℕ) → IsRunning y → IsIdle y.kernel → IsRight y.kernel.layout → InPool y.kernel.layout v → Behind links.enters links.marks y.kernel.layout image (mote_of y).flash.words a v
+    → 0 < size (template_at image a) → 0 < size (stub a (next_of image a)) → is_closed (shape_at image a) ≡ true → (mote_of y).cpu.pc ≡ v + size (template_at image a)
+    → Onward 0 links y (next_of image a) (count_over y.kernel.quantum a (next_of image a) (byte_at (mote_of y).sram 0x0100)) (is_crossing a (next_of image a))
+unfolding lines_of
+onward_by links y image a v free fit right pool (Next next) some some' closed at = record {
+  end = y;
+  moves = [];
+  walk = refl;
+  inner = refl;
+  silent = refl;
+  few = omega arith;
+  short = omega arith;
+  serves = omega arith;
+  goes = refl;
+  reset = λ crosses one n. absurd (let e = sym next.uncounted ∙ crosses in cc);
+  left = record {
+    going = free.going;
+    layout = refl;
+    quantum = refl;
+    same = same_program (mote_of y) fit.top;
+    count = sym (ap (λ b. if b then count_after y.kernel.quantum (byte_at (mote_of y).sram 0x0100) else byte_at (mote_of y).sram 0x0100) next.uncounted);
+    reaches = Reaches.Placed free.free (subst (links.enters (next_of image a)) (sym at) next.entry);
+  };
+}
+onward_by links y image a v free fit right pool (Closed last) some some' closed at =
+    let n = size (template_at image a) in
+    let closing : closing_at image a ≡ stub a (next_of image a) = ap (λ b. if b then stub a (next_of image a) else []) closed in
+    let words = (mote_of y).flash.words in
+    let P : List Piece → Type 0 = λ pieces. Stands links.enters words (v + n) pieces in
+    let Q : List Piece → Type 0 = λ pieces. IsStretch y.kernel.layout words v (n + size pieces) in
+    let row' = subst Q closing (stretch_closed links y.kernel.layout image words a v right pool last) in
+    let begins : ¬ IsPlace y.kernel.layout words (v + n) = row'.inner n some (omega arith) in
+    by_way 0 links y (next_of image a) _ _ (stub_law links y a (next_of image a) (v + n) false free (stretch_behind y.kernel.layout words v n (size (stub a (next_of image a))) row' some some') (subst P closing last.closing) (subst (λ (pieces : List Piece). EachLink links.marks (v + n) pieces) closing last.linked) fit at begins)
+
+pub onward : (links : Links) (y : State) (image : List ℕ) (a v : ℕ) → IsRunning y → IsIdle y.kernel → IsRight y.kernel.layout → StandsIn links.enters links.marks y.kernel.layout image (mote_of y).flash.words a v
+    → 0 < size (template_at image a) → 0 < size (stub a (next_of image a)) → is_closed (shape_at image a) ≡ true → (mote_of y).cpu.pc ≡ v + size (template_at image a)
+    → Onward 0 links y (next_of image a) (count_over y.kernel.quantum a (next_of image a) (byte_at (mote_of y).sram 0x0100)) (is_crossing a (next_of image a))
+onward links y image a v free fit right code some some' closed at = onward_by links y image a v free fit right code.pool code.behind some some' closed at

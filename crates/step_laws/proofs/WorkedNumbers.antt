@@ -1,0 +1,38 @@
+-- The numbers and lines of worked programs, from their moves alone.
+use Rattle.std.proofs.Common.{◌≡◌, List, [], ◌∷◌, ◌++◌, true, false, refl}
+use Rattle.std.specs.Prelude.{Some, None}
+use Rattle.mote_devices.specs.declared.line.Line.{Line}
+use Rattle.mote_devices.specs.declared.line.Port.TheVariants.{PortA}
+use Rattle.step_laws.specs.Moves.{Move, Plain, Serve, Arrive, lines_of}
+use Rattle.step_laws.specs.Numbers.{Numbers, moved, numbered}
+use Rattle.step_laws.proofs.Ways.{plains}
+
+abbrev nothing : Numbers
+nothing = record { steps = 0; natural = 0; entries = 0; pages = 0; since = 0; longest = 0 }
+
+-- LDI r16, 15; OUT PORTA, r16; RJMP to itself (E00F BB0B CFFF): one page, and the jump calls the kernel
+abbrev fifteen : Line
+fifteen = record { port = PortA; value = 15 }
+
+abbrev first_program : List Move
+first_program = Arrive true ∷ Plain true None ∷ Plain true (Some fifteen) ∷ Plain true None ∷ Serve None true ∷ []
+
+first_numbers : numbered first_program nothing ≡ record { steps = 2; natural = 3; entries = 1; pages = 1; since = 0; longest = 3 }
+unfolding moved
+first_numbers = refl
+
+first_lines : lines_of first_program ≡ fifteen ∷ []
+unfolding lines_of
+first_lines = refl
+
+-- LDI r16, 3; DEC r16; BRNE 1; RJMP to itself (E003 950A F7F1 CFFF), with stubs that stay unresolved. A
+-- branch that is taken goes through a crossing stub: ten instructions and the call of the bridge.
+abbrev branch_back : List Move
+branch_back = Plain true None ∷ Plain true None ∷ plains 11 ++ (Serve None false ∷ Arrive false ∷ [])
+
+abbrev countdown : List Move
+countdown = Arrive true ∷ Plain true None ∷ branch_back ++ (branch_back ++ (Plain true None ∷ Plain true None ∷ Plain false None ∷ Plain true None ∷ Serve None true ∷ []))
+
+countdown_numbers : numbered countdown nothing ≡ record { steps = 7; natural = 31; entries = 3; pages = 1; since = 0; longest = 14 }
+unfolding moved
+countdown_numbers = refl

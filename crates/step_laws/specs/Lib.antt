@@ -1,0 +1,10 @@
+-- The moves of a machine that runs rewritten code, and the law of each step.
+pub mod Moves
+pub mod Numbers
+pub mod States
+pub mod Walks
+pub mod Links
+pub mod Settings
+pub mod StepLaws
+pub mod Joining
+pub mod Bounds

@@ -1,0 +1,27 @@
+-- Where control may go on from rewritten code, and which exit stubs lead there (docs/RUN.md, "Links").
+use Rattle.std.specs.Prelude.{◌≡◌, ℕ, ◌+◌, List, take, Option, Some, None}
+use Rattle.flash_model.specs.Pages.{word_at}
+use Rattle.flash_model.specs.declared.layout.Layout.{Layout}
+use Rattle.page_index.specs.Entries.{IsEntry}
+use Rattle.nat_template.specs.Stubs.{call_word, bridge_entry}
+use Rattle.nat_page.specs.Links.{IsLinkIn}
+
+-- `enters t v`: control may go on to address t at place v. `marks s t`: a link to t stands at s.
+pub record Links : Type 1 where
+  pub enters : ℕ → ℕ → Type 0
+  pub marks : ℕ → ℕ → Type 0
+
+-- in a code pool control goes on at entries, and the links are those of its pages
+abbrev pub links_of : Layout → List ℕ → Links
+links_of layout words = record { enters = IsEntry layout words; marks = IsLinkIn layout (take layout.image_words words) words }
+
+-- the link to t at s is unresolved: it calls the bridge
+pub record IsBridge (links : Links) (words : List ℕ) (s t : ℕ) : Type 0 where
+  pub mark : links.marks s t
+  pub call : word_at words s ≡ call_word
+  pub bridge : word_at words (s + 1) ≡ bridge_entry
+
+-- of an arrival at t that is owed: its stub, if it names one, is an unresolved link to t
+abbrev pub OfStub : Links → List ℕ → Option ℕ → ℕ → Type 0
+OfStub links words None t = Unit {0}
+OfStub links words (Some s) t = IsBridge links words s t

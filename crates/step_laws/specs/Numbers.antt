@@ -1,0 +1,36 @@
+-- The numbers that are counted by the moves, and by nothing else (docs/RUN.md, "Numbers").
+use Rattle.std.specs.Prelude.{ℕ, ◌+◌, ◌-◌, max, Bool, if◌then◌else◌, List, [], ◌∷◌}
+use Rattle.step_laws.specs.Moves.{Move, Plain, Serve, Arrive}
+
+-- steps of the original program; plain steps; services; pages made; plain steps since the last service;
+-- and the most plain steps without a service between them
+pub record Numbers : Type 0 where
+  pub steps : ℕ
+  pub natural : ℕ
+  pub entries : ℕ
+  pub pages : ℕ
+  pub since : ℕ
+  pub longest : ℕ
+
+abbrev pub one_if : Bool → ℕ
+one_if test = if test then 1 else 0
+
+-- A step of the original program is counted where it begins. One that a service stops was none.
+unfoldable pub moved : Move → Numbers → Numbers
+moved (Plain begins line) n = record n {
+  steps = n.steps + one_if begins;
+  natural = n.natural + 1;
+  since = n.since + 1;
+  longest = max n.longest (n.since + 1);
+}
+moved (Serve line stops) n = record n {
+  steps = n.steps - one_if stops;
+  entries = n.entries + 1;
+  since = 0;
+}
+moved (Arrive made) n = record n { pages = n.pages + one_if made }
+
+-- the numbers after these moves
+abbrev pub numbered : List Move → Numbers → Numbers
+numbered [] n = n
+numbered (move ∷ moves) n = numbered moves (moved move n)

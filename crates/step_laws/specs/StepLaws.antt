@@ -1,0 +1,109 @@
+-- The law of a step: the moves from an entry's place on make exactly the original program's next step
+-- (docs/RUN.md, "The law of a step").
+use Rattle.std.specs.Prelude.{◌≡◌, ℕ, ◌+◌, ◌<◌, ◌≤◌, Bool, true, List, [], ◌∷◌, length, Option, Some, None, if◌then◌else◌}
+use Rattle.avr_isa.specs.Crossing.{is_crossing}
+use Rattle.sram_layout.specs.Bytes.{byte_at}
+use Rattle.heap_frames.specs.Paged.{IsPaged}
+use Rattle.mote_devices.specs.declared.line.Line.{Line}
+use Rattle.nat_template.specs.declared.shapes.TemplateShape.{TemplateShape}
+use Rattle.nat_page.specs.Runs.{shape_at}
+use Rattle.mem_guard.specs.FlatMachine.{Tried, Stops, Goes, tried}
+use Rattle.preempt_count.specs.Counting.{count_over}
+use Rattle.kernel_entry.specs.declared.kernel.Stop.{Stop}
+use Rattle.step_laws.specs.declared.moves.End.TheVariants as ends
+use Rattle.step_laws.specs.Moves.{Move, Plain, lines_of, line_before, are_inner, count_plain, count_serve, count_stop}
+use Rattle.step_laws.specs.Numbers.{Numbers, numbered}
+use Rattle.step_laws.specs.States.{State, mote_of}
+use Rattle.step_laws.specs.Walks.{Walk}
+use Rattle.step_laws.specs.Links.{Links, links_of, OfStub}
+use Rattle.step_laws.specs.Settings.{IsSetting, IsAtEntry}
+use Rattle.kernel_entry.specs.Parts.{image_of, stack_top}
+use Rattle.kernel_entry.specs.Seen.{program, state_at, count_of, end_of}
+
+-- what the original program's next instruction does, at address a and with these counts
+abbrev pub tried_at : State → (a steps crossings : ℕ) → Tried
+tried_at x a steps crossings = tried (program x.kernel) (state_at x.kernel a steps crossings)
+
+-- crossings after a step between these addresses
+abbrev pub crossings_over : (from to crossings : ℕ) → ℕ
+crossings_over from to crossings = if is_crossing from to then crossings + 1 else crossings
+
+-- where a crossing ends the quantum, no plain step has been made since the last service
+abbrev pub IsReset : State → Bool → List Move → Type 0
+IsReset x crosses moves = crosses ≡ true → count_of x.kernel ≡ 1 → (n : Numbers) → (numbered moves n).since ≡ 0
+
+-- control has reached a place of t; or an arrival at t is owed, of an unresolved link to t or of none
+pub data Reaches (links : Links) (t : ℕ) (z : State) : Type 0 where
+  Placed : z.owed ≡ None → links.enters t (mote_of z).cpu.pc → Reaches links t z
+  Owing : (stub : Option ℕ) → z.owed ≡ Some (record { target = t; stub = stub })
+      → OfStub links (mote_of z).flash.words stub t → Reaches links t z
+
+-- what every step leaves: the layout and the quantum, flash, the number of slots and of registers, a heap
+-- in order, the kernel's stack empty, one poll more at most, and SRAM from 0x0142 to 0x03FF, the tables
+pub record Keeps (x z : State) : Type 0 where
+  pub layout : z.kernel.layout ≡ x.kernel.layout
+  pub quantum : z.kernel.quantum ≡ x.kernel.quantum
+  pub flash : (mote_of z).flash ≡ (mote_of x).flash
+  pub slots : length (mote_of z).swap ≡ length (mote_of x).swap
+  pub paged : IsPaged (mote_of z).sram (mote_of z).swap
+  pub registers : length (mote_of z).cpu.r ≡ length (mote_of x).cpu.r
+  pub top : (mote_of z).cpu.sp ≡ stack_top
+  pub polls : (mote_of z).devices.polls ≤ (mote_of x).devices.polls + 1
+  pub tables : (b : ℕ) → 0x0142 ≤ b → b < 0x0400 → byte_at (mote_of z).sram b ≡ byte_at (mote_of x).sram b
+
+-- The instruction at a is executed: the original program's step to the address `to`, with its line.
+pub record GoesTo (links : Links) (x : State) (a : ℕ) (line : Option Line) (rest : List Move) (to : ℕ) (z : State) : Type 0 where
+  pub going : z.end ≡ None
+  pub original : (s c : ℕ) → tried_at x a s c ≡ Goes line (state_at z.kernel to (s + 1) (crossings_over a to c))
+  pub reaches : Reaches links to z
+  pub count : count_of z.kernel ≡ count_over x.kernel.quantum a to (count_of x.kernel)
+  pub unstopped : count_stop rest ≡ 0
+  pub reset : IsReset x (is_crossing a to) rest
+
+-- The instruction at a stops the original program, and nothing that the program sees changes.
+pub record StopsAt (x : State) (a : ℕ) (line : Option Line) (rest : List Move) (stop : Stop) (z : State) : Type 0 where
+  pub ended : z.end ≡ Some (ends.Stopped stop)
+  pub silent : line ≡ None
+  pub original : (s c : ℕ) → tried_at x a s c ≡ Stops (end_of stop)
+  pub same : (s c : ℕ) → state_at z.kernel a s c ≡ state_at x.kernel a s c
+  pub count : count_of z.kernel ≡ count_of x.kernel
+  pub stopped : count_stop rest ≡ 1
+
+-- the original program, and nothing else, decides which it is
+pub data Outcome (links : Links) (x : State) (a : ℕ) (line : Option Line) (rest : List Move) (z : State) : Type 0 where
+  Went : (to : ℕ) → GoesTo links x a line rest to z → Outcome links x a line rest z
+  Stopped : (stop : Stop) → StopsAt x a line rest stop z → Outcome links x a line rest z
+
+-- From an entry's place of a there is a walk that begins there and makes one step: its first move is plain,
+-- at most 39 further plain steps and two services follow it, no other begins at an entry's place, and none
+-- is an arrival. It writes at most one line.
+pub record StepLaw (links : Links) (x : State) (a : ℕ) : Type 0 where
+  pub end : State
+  pub first : Option Line
+  pub rest : List Move
+  pub line : Option Line
+  pub walk : Walk x (Plain true first ∷ rest) end
+  pub inner : are_inner rest ≡ true
+  pub few : count_plain rest ≤ 39
+  pub short : length rest ≤ 64
+  pub serves : count_serve rest ≤ 2
+  pub lines : lines_of (Plain true first ∷ rest) ≡ line_before line []
+  pub keeps : Keeps x end
+  pub outcome : Outcome links x a line rest end
+
+-- the law of a shape of template, whatever the links
+abbrev pub ShapeLaw : TemplateShape → Type 1
+ShapeLaw shape = (links : Links) → (x : State) → (a v : ℕ) → IsSetting links x a v → shape_at (image_of x.kernel) a ≡ shape → StepLaw links x a
+
+-- the links of the pool that a machine runs in
+abbrev pub links_at : State → Links
+links_at x = links_of x.kernel.layout (mote_of x).flash.words
+
+-- Each shape has its law in the pool that the machine runs in. A contract can say no more, since no clause
+-- ranges over relations; the lemma `shape_law` has the law for all links.
+abbrev pub HasShapeLaws : Type 0
+HasShapeLaws = (shape : TemplateShape) → (x : State) → (a v : ℕ) → IsSetting (links_at x) x a v → shape_at (image_of x.kernel) a ≡ shape → StepLaw (links_at x) x a
+
+-- each entry of rewritten code has its step's law
+abbrev pub HasEntryLaws : Type 0
+HasEntryLaws = (x : State) → (a : ℕ) → IsAtEntry x a → StepLaw (links_at x) x a

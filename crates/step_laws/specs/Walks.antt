@@ -1,0 +1,66 @@
+-- Which moves may be made, and walks of them (docs/RUN.md, "Moves").
+use Rattle.std.specs.Prelude.{◌≡◌, ◌<◌, ◌^◌, Bool, true, List, [], ◌∷◌, Option, Some, None, Result}
+use Rattle.mote_devices.specs.declared.line.Line.{Line}
+use Rattle.mote_core.specs.declared.mote.Mote.{Mote}
+use Rattle.mote_core.specs.declared.mote.Plain.{Plain as Shown}
+use Rattle.mote_core.specs.Conditions.{can_step}
+use Rattle.mote_core.specs.Shown.{line_of}
+use Rattle.mote_core.specs.Step.{form_at, IsPlainStep}
+use Rattle.branch_bridge.specs.declared.arrival.Moved.{Moved}
+use Rattle.branch_bridge.specs.declared.arrival.ArriveStop.{ArriveStop}
+use Rattle.branch_bridge.specs.Effects.{Store, makes_page}
+use Rattle.branch_bridge.specs.Arrivals.{Arrives}
+use Rattle.step_laws.specs.declared.moves.Owed.{Owed}
+use Rattle.step_laws.specs.Moves.{Move, Plain, Serve, Arrive}
+use Rattle.kernel_entry.specs.KernelPart.{SameKernel}
+use Rattle.step_laws.specs.States.{State, mote_of, with_mote, Begins, InPool, line_served, is_stop, after_service, store_of, arrived}
+use Rattle.kernel_entry.specs.Services.{served}
+use Rattle.kernel_entry.specs.Conditions.{CanServe}
+
+-- A plain step: nothing is owed, and the program has not ended; the pc is in the code pool, and at an
+-- entry's place exactly where the move says so; the mote's own step may be made, and leaves the kernel part.
+pub record MakesPlain (x : State) (begins : Bool) (line : Option Line) (y : State) : Type 0 where
+  pub free : x.owed ≡ None
+  pub going : x.end ≡ None
+  pub pool : InPool x.kernel.layout (mote_of x).cpu.pc
+  pub starts : Begins x.kernel.layout (mote_of x).flash.words (mote_of x).cpu.pc begins
+  pub can : can_step (form_at (mote_of x)) (mote_of x).cpu ≡ true
+  pub room : (mote_of x).devices.polls < 2 ^ 63
+  pub shown : Shown
+  pub next : Mote
+  pub step : IsPlainStep (mote_of x) shown next
+  pub written : line_of shown ≡ line
+  pub kept : SameKernel (mote_of x) next
+  pub result : y ≡ with_mote x next
+
+-- A service: nothing is owed, the program has not ended, and the pc is at an entry of the kernel that may
+-- be served. It leaves what its answer says.
+pub record MakesServe (x : State) (line : Option Line) (stops : Bool) (y : State) : Type 0 where
+  pub free : x.owed ≡ None
+  pub going : x.end ≡ None
+  pub can : CanServe x.kernel
+  pub written : line_served (served x.kernel).0 ≡ line
+  pub halts : is_stop (served x.kernel).0 ≡ stops
+  pub result : y ≡ after_service (served x.kernel)
+
+-- An arrival: it is the one that is owed, and makes a page exactly where one of its effects does.
+pub record MakesArrive (x : State) (made : Bool) (y : State) : Type 0 where
+  pub owed : Owed
+  pub owes : x.owed ≡ Some owed
+  pub going : x.end ≡ None
+  pub store : Store
+  pub result : Result Moved ArriveStop
+  pub arrives : Arrives x.kernel.layout (store_of x) store owed.target result
+  pub makes : makes_page arrives.effects ≡ made
+  pub after : y ≡ arrived x store result
+
+-- the move leads from one state to the next
+abbrev pub Makes : State → Move → State → Type 0
+Makes x (Plain begins line) y = MakesPlain x begins line y
+Makes x (Serve line stops) y = MakesServe x line stops y
+Makes x (Arrive made) y = MakesArrive x made y
+
+-- moves one after another
+abbrev pub Walk : State → List Move → State → Type 0
+Walk x [] z = x ≡ z
+Walk x (move ∷ moves) z = (y : State) × Makes x move y × Walk y moves z

@@ -1,0 +1,30 @@
+//! The laws, each as the contract of a function that does nothing.
+ghost use Rattle.step_laws.specs.StepLaws.{HasShapeLaws, HasEntryLaws};
+ghost use Rattle.step_laws.specs.Joining.{Joins};
+ghost use Rattle.step_laws.specs.Bounds.{KeepBounds, EndBounds};
+
+/// One law for each of the ten shapes of template: from where a template stands, the moves make exactly
+/// the original program's next step, or come to its stop. It asks for what stands at that one place.
+#[tactic(auto, using(crate::proofs::EveryShape::shape_laws))]
+pub fn every_shape_has_its_law()
+    ensures laws { HasShapeLaws }
+{}
+
+/// So the same holds at each entry, where flash holds the image and rewritten code of it.
+#[tactic(auto, using(crate::proofs::EveryShape::entry_laws))]
+pub fn every_entry_has_its_law()
+    ensures laws { HasEntryLaws }
+{}
+
+/// Walks that follow one another are one walk, with the lines one after the other and the numbers added.
+#[tactic(auto, using(crate::proofs::Joining::joins))]
+pub fn walks_join()
+    ensures joins { Joins }
+{}
+
+/// A step keeps the bounds on what is counted: at most 40 plain steps and two services a step, and at most
+/// 5,120 plain steps for each crossing of the quantum between two services.
+pub fn each_step_keeps_the_bounds()
+    ensures goes { KeepBounds }
+    ensures stops { EndBounds }
+{}

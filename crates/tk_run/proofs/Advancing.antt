@@ -1,0 +1,288 @@
+-- The answers of a run.
+use Rattle.std.proofs.Common.{◌≡◌, ℕ, suc, ◌+◌, ◌-◌, ◌<◌, ◌≤◌, true, false, List, [], ◌∷◌, ◌++◌, length, take, refl, sym, ap, ap₂, ◌∙◌, arith, subst}
+use Rattle.std.specs.Prelude.{◌^◌, ◌≢◌, Option, Some, None, Ok, Err}
+use Rattle.std.proofs.lemmas.List.{append-nil, length-append}
+use Rattle.std.proofs.Math.Seq.{take-append-add}
+use Rattle.std.specs.Io.KnownBytes.{Appends}
+use Rattle.tk_io.specs.Streams.{CutShort}
+use Rattle.tk_io.proofs.KnownBytes.{appends-both, appends-nothing}
+use Rattle.tk_io.specs.declared.failure.Failed.{Failed}
+use Rattle.avr_isa.specs.Image.{is_inside}
+use Rattle.flash_model.specs.declared.layout.Layout.{Layout}
+use Rattle.nat_page.specs.Making.{HasNoEntry, HasNoFree}
+use Rattle.nat_page.proofs.UsedLaws.{used_pages-most}
+use Rattle.mote_devices.specs.declared.line.Line.{Line}
+use Rattle.mem_guard.specs.FlatMachine.{Program, FlatState, End as FlatEnd, Run, run, with_line, ended, tried}
+use Rattle.mem_guard.specs.FlatMachine as flat_ends
+use Rattle.kernel_entry.specs.Parts.{image_of}
+use Rattle.step_laws.specs.declared.moves.End.{End}
+use Rattle.step_laws.specs.declared.moves.End.TheVariants as ends
+use Rattle.step_laws.specs.Moves.{Move, lines_of, line_before}
+use Rattle.kernel_entry.specs.Seen.{end_of, program as program_of}
+use Rattle.tk_run.specs.Machines.{Machine, numbers_of, flat_of}
+use Rattle.tk_run.specs.Ready.{count_in, IsGoing, IsInOrder, IsSound, IsEnded, IsKept, HasBounds}
+use Rattle.tk_run.specs.Stepping.{lines_text}
+use Rattle.tk_run.specs.Stepping.{Goes, Stays, ends_in_arrive, HasStepped, StepWay, HasEntered, Entering, HasBound}
+use Rattle.tk_run.specs.Running.{Leads, original_from, run_of, HasAdvanced}
+use Rattle.tk_run.proofs.Bounds.{bounded_counted}
+use Rattle.tk_run.proofs.Leading.{goes_on, last_on, stays_on, stays_self}
+use Rattle.tk_run.proofs.RunSoFar.{Ran, IsBetween, none_ran, nothing, visits_flash, lines_text_on, ran_enter, ran_step, spent_at, wild_at, stop_at}
+
+pub leads_by : (old new : Machine) (moves : List Move) (lines : List Line) → Goes old new moves lines → (new.end ≡ None → ends_in_arrive moves ≡ false) → old.end ≡ None → old.broken ≡ false → Leads old lines new
+leads_by old new moves lines goes last going whole = record {
+  moves = moves;
+  goes = goes;
+  last = last;
+  ended = λ over. absurd (over going);
+  broken = λ is. absurd (let e : true ≡ false = sym is ∙ whole in cc);
+}
+
+-- the answers
+no_end : (m : Machine) (end : End) → m.end ≡ Some end → m.end ≡ None → ⊥
+no_end m end is going = let e : Some end ≡ None = sym is ∙ going in absurd (cc)
+
+difference : (i n : ℕ) → i ≤ n → (k : ℕ) × (k + i ≡ n)
+difference i n below = (n - i, omega arith)
+
+bounds_ready : (m : Machine) → IsGoing m → HasBounds m
+bounds_ready m ready = bounded_counted (numbers_of m) m.crossings m.kernel.quantum (count_in m) m.at m.kernel.mote.devices.polls ready.counted ready.polls
+
+pages_few : (m : Machine) → IsInOrder m → m.pages ≤ m.steps + 1000
+pages_few m order =
+    let most = used_pages-most m.kernel.layout m.kernel.mote.flash.words in
+    let pool : m.kernel.layout.pool_pages ≡ 352 = ap (λ (l : Layout). l.pool_pages) order.layout in
+    omega (arith, order.pages, most, pool)
+
+kept_ended : (m : Machine) → m.steps ≤ 10 ^ 12 → IsEnded m → IsKept m
+kept_ended m few over =
+    let sound : IsSound m = record { order = over.order; bounded = over.bounded; steps = few; pages = pages_few m over.order } in
+    record { sound = sound; ready = λ e. record { sound = sound; exact = over.exact; going = λ going. absurd (over.ended going) } }
+
+pub kept_ready : (m : Machine) → m.steps ≤ 10 ^ 12 → IsGoing m → IsKept m
+kept_ready m few ready =
+    let sound : IsSound m = record { order = ready.order; bounded = bounds_ready m ready; steps = few; pages = pages_few m ready.order } in
+    record { sound = sound; ready = λ e. record { sound = sound; exact = ready.exact; going = λ going. ready } }
+
+by_wild : (old now new : Machine) (i n t : ℕ) (before after : Option (List ℕ)) → old.end ≡ None → old.broken ≡ false → i ≤ n → t ≡ now.at → Ran old now i before after → is_inside (image_of now.kernel) now.at ≡ false → HasEntered now new (Some (ends.Wild t)) → new.end ≡ Some (ends.Wild t) → IsEnded new
+    → HasAdvanced old new n before after (Ok (ends.Wild t))
+unfolding ran_enter
+by_wild old now new i n t before after going whole below same ran outside entered kept over =
+    let later = ran_enter old now new i before after (Some (ends.Wild t)) ran entered in
+    let d = difference i n below in
+    let W : ℕ → Type 0 = λ k. original_from old k ≡ run_of (flat_ends.Wild now.at) ran.lines (flat_of now) in
+    let all : W n = subst W d.1 (wild_at old now i d.0 before after ran outside) in
+    let part : W i = subst W (nothing i) (wild_at old now i 0 before after ran outside) in
+    record {
+      lines = ran.lines;
+      leads = leads_by old new later.moves ran.lines later.goes (λ e. absurd (no_end new (ends.Wild t) kept e)) going whole;
+      put = ran.put;
+      stays = later.stays;
+      broken = later.broken ∙ whole;
+      ran = λ e. record {
+        done = i;
+        within = below;
+        steps = later.steps;
+        written = ap (λ (r : Run). r.lines) part;
+        left = ap (λ (r : Run). r.state) part ∙ sym entered.flat;
+        visits = later.visits;
+        answers = record { ran = all ∙ ap₂ (λ a s. run_of (flat_ends.Wild a) ran.lines s) (sym same) (sym entered.flat); kept = kept; ended = over };
+      };
+      keeps = λ few before'. kept_ended new (omega (arith, later.steps, below, few)) over;
+      kept = λ end is. absurd (no_end old end is going);
+    }
+
+by_full : (old now new : Machine) (i n t : ℕ) (before after : Option (List ℕ)) → old.end ≡ None → old.broken ≡ false → i < n → t ≡ now.at → Ran old now i before after → is_inside (image_of now.kernel) now.at ≡ true → HasEntered now new (Some (ends.CodeFull t)) → new.end ≡ Some (ends.CodeFull t) → IsEnded new
+    → new.at ≡ now.at → HasNoEntry new.kernel.layout new.kernel.mote.flash.words t → HasNoFree new.kernel.layout new.kernel.mote.flash.words → HasAdvanced old new n before after (Ok (ends.CodeFull t))
+unfolding ran_enter
+by_full old now new i n t before after going whole below same ran inside entered kept over at unknown full =
+    let later = ran_enter old now new i before after (Some (ends.CodeFull t)) ran entered in
+    let part = spent_at old now i before after ran inside in
+    record {
+      lines = ran.lines;
+      leads = leads_by old new later.moves ran.lines later.goes (λ e. absurd (no_end new (ends.CodeFull t) kept e)) going whole;
+      put = ran.put;
+      stays = later.stays;
+      broken = later.broken ∙ whole;
+      ran = λ e. record {
+        done = i;
+        within = omega arith;
+        steps = later.steps;
+        written = ap (λ (r : Run). r.lines) part;
+        left = ap (λ (r : Run). r.state) part ∙ sym entered.flat;
+        visits = later.visits;
+        answers = record { fewer = below; ran = part ∙ ap (λ s. run_of flat_ends.Spent ran.lines s) (sym entered.flat); kept = kept; ended = over; at = at ∙ sym same; inside = ap₂ (λ (p : Program) a. is_inside p.image a) (sym ran.stays.program) same ∙ inside; unknown = unknown; full = full };
+      };
+      keeps = λ few before'. kept_ended new (omega (arith, later.steps, below, few)) over;
+      kept = λ end is. absurd (no_end old end is going);
+    }
+
+entered_ends : (old now new : Machine) (i n : ℕ) (before after : Option (List ℕ)) (result : Option End) (end : End) → old.end ≡ None → old.broken ≡ false → i < n → Ran old now i before after → HasEntered now new result → Entering now new result → result ≡ Some end → HasAdvanced old new n before after (Ok end)
+entered_ends old now new i n before after result end going whole below ran entered (Entering.In ready free inside) is = absurd (cc)
+entered_ends old now new i n before after result end going whole below ran entered (Entering.Out over kept outside) is =
+    let e : ends.Wild now.at ≡ end = cc in
+    subst (λ x. HasAdvanced old new n before after (Ok x)) e (by_wild old now new i n now.at before after going whole (omega arith) refl ran outside entered kept over)
+entered_ends old now new i n before after result end going whole below ran entered (Entering.Full over kept inside unknown full) is =
+    let e : ends.CodeFull now.at ≡ end = cc in
+    subst (λ x. HasAdvanced old new n before after (Ok x)) e (by_full old now new i n now.at before after going whole below refl ran inside entered kept over (ap (λ (s : FlatState). s.cpu.pc) entered.flat) unknown full)
+
+pub advanced_enter : (old now new : Machine) (i n : ℕ) (before after : Option (List ℕ)) (result : Option End) (end : End) → old.end ≡ None → old.broken ≡ false → i < n → IsBetween old now i before after → HasEntered now new result → result ≡ Some end → HasAdvanced old new n before after (Ok end)
+advanced_enter old now new i n before after result end going whole below between entered is = entered_ends old now new i n before after result end going whole below between.ran entered entered.way is
+
+-- in the middle of a turn
+pub record IsIn (old now : Machine) (i : ℕ) (before after : Option (List ℕ)) : Type 0 where
+  pub ran : Ran old now i before after
+  pub ready : IsGoing now
+  pub placed : now.owed ≡ None
+  pub inside : is_inside (image_of now.kernel) now.at ≡ true
+
+entered_in : (now new : Machine) (result : Option End) → Stays now new → flat_of new ≡ flat_of now → Entering now new result → result ≡ None → IsGoing new × (new.owed ≡ None) × (is_inside (image_of new.kernel) new.at ≡ true)
+entered_in now new result stays flat (Entering.In ready free inside) is = (ready, free, ap₂ (λ (p : Program) a. is_inside p.image a) stays.program (ap (λ (s : FlatState). s.cpu.pc) flat) ∙ inside)
+entered_in now new result stays flat (Entering.Out over kept outside) is = absurd (cc)
+entered_in now new result stays flat (Entering.Full over kept inside unknown full) is = absurd (cc)
+
+pub is_in : (old now new : Machine) (i : ℕ) (before after : Option (List ℕ)) (result : Option End) → IsBetween old now i before after → HasEntered now new result → result ≡ None → IsIn old new i before after
+is_in old now new i before after result between entered is =
+    let e = entered_in now new result entered.stays entered.flat entered.way is in
+    record { ran = ran_enter old now new i before after result between.ran entered; ready = e.0; placed = e.1; inside = e.2 }
+
+last_step : (ms ns : List Move) → ends_in_arrive ns ≡ false → ns ≢ [] → ends_in_arrive (ms ++ ns) ≡ false
+last_step ms [] inner some = absurd (some refl)
+last_step ms (n ∷ ns) inner some = last_on ms ns n ∙ inner
+
+-- behind the step, where its line went out
+between_by : (old now new : Machine) (i : ℕ) (line : Option Line) (before after later : Option (List ℕ)) → IsIn old now i before after → (step : HasStepped now new line) → StepWay now new line → Appends after later (lines_text (line_before line [])) → new.end ≡ None → IsBetween old new (i + 1) before later
+unfolding ran_step
+between_by old now new i line before after later now' step (StepWay.On ready steps is) put going =
+    record { ran = ran_step old now new i line before after later now'.ran now'.inside step steps is put; last = last_step now'.ran.moves step.moves step.last step.some; ready = ready }
+between_by old now new i line before after later now' step (StepWay.Stopped stop over kept none steps is left) put going = absurd (no_end new (ends.Stopped stop) kept going)
+
+pub between_on : (old now new : Machine) (i : ℕ) (line : Option Line) (before after later : Option (List ℕ)) → IsIn old now i before after → HasStepped now new line → Appends after later (lines_text (line_before line [])) → new.end ≡ None → IsBetween old new (i + 1) before later
+between_on old now new i line before after later now' step put going = between_by old now new i line before after later now' step step.way put going
+
+-- the program stopped
+stopped_by : (old now new : Machine) (i n : ℕ) (line : Option Line) (end : End) (before after later : Option (List ℕ)) → old.end ≡ None → old.broken ≡ false → i < n → IsIn old now i before after → (step : HasStepped now new line) → StepWay now new line → Appends after later (lines_text (line_before line [])) → new.end ≡ Some end → HasAdvanced old new n before later (Ok end)
+stopped_by old now new i n line end before after later going whole below now' step (StepWay.On ready steps is) put ended' = absurd (no_end new end ended' ready.going)
+stopped_by old now new i n line end before after later going whole below now' step (StepWay.Stopped stop over kept none steps is left) put ended' =
+    let ran = now'.ran in
+    let e : ends.Stopped stop ≡ end = (let f : Some (ends.Stopped stop) ≡ Some end = sym kept ∙ ended' in cc) in
+    let d = difference (suc i) n (omega arith) in
+    let same : suc d.0 + i ≡ n = omega (arith, d.1) in
+    let S : ℕ → Type 0 = λ k. original_from old k ≡ run_of (end_of stop) ran.lines (flat_of now) in
+    let all : S n = subst S same (stop_at old now i d.0 before after (end_of stop) ran now'.inside is) in
+    let part = spent_at old now i before after ran now'.inside in
+    let nothing : ran.lines ++ line_before line [] ≡ ran.lines = ap (λ l. ran.lines ++ line_before l []) none ∙ append-nil ran.lines in
+    let sent : Appends before later (lines_text ran.lines) = subst (λ l. Appends before later (lines_text l)) nothing (subst (Appends before later) (sym (lines_text_on ran.lines (line_before line []))) (appends-both before after later (lines_text ran.lines) (lines_text (line_before line [])) ran.put put)) in
+    subst (λ x. HasAdvanced old new n before later (Ok x)) e (record {
+      lines = ran.lines;
+      leads = leads_by old new (ran.moves ++ step.moves) ran.lines (subst (λ l. Goes old new (ran.moves ++ step.moves) l) nothing (goes_on old now new ran.moves step.moves ran.lines (line_before line []) ran.goes step.goes)) (λ f. absurd (no_end new (ends.Stopped stop) kept f)) going whole;
+      put = sent;
+      stays = stays_on old now new ran.stays step.stays;
+      broken = step.broken ∙ ran.broken ∙ whole;
+      ran = λ f. record {
+        done = i;
+        within = omega arith;
+        steps = steps ∙ ran.steps;
+        written = ap (λ (r : Run). r.lines) part;
+        left = ap (λ (r : Run). r.state) part ∙ sym left;
+        visits = visits_flash old now new i ran.visits step.flash;
+        answers = record { ran = all ∙ ap (λ s. run_of (end_of stop) ran.lines s) (sym left); kept = kept; ended = over };
+      };
+      keeps = λ few before'. kept_ended new (omega (arith, steps, ran.steps, below, few)) over;
+      kept = λ end is. absurd (no_end old end is going);
+    })
+
+pub advanced_stop : (old now new : Machine) (i n : ℕ) (line : Option Line) (end : End) (before after later : Option (List ℕ)) → old.end ≡ None → old.broken ≡ false → i < n → IsIn old now i before after → HasStepped now new line → Appends after later (lines_text (line_before line [])) → new.end ≡ Some end → HasAdvanced old new n before later (Ok end)
+advanced_stop old now new i n line end before after later going whole below now' step put ended' = stopped_by old now new i n line end before after later going whole below now' step step.way put ended'
+
+bound_by : (old now new : Machine) (n : ℕ) (before after : Option (List ℕ)) (result : Option End) → old.end ≡ None → old.broken ≡ false → IsBetween old now n before after → HasEntered now new result → is_inside (image_of now.kernel) now.at ≡ false → Entering now new result → result ≡ Some (ends.Wild now.at) → HasAdvanced old new n before after (Ok (ends.Wild now.at))
+bound_by old now new n before after result going whole between entered outside (Entering.In ready free inside) is = absurd (cc)
+bound_by old now new n before after result going whole between entered outside (Entering.Out over kept out) is = by_wild old now new n n now.at before after going whole (omega arith) refl between.ran outside entered kept over
+bound_by old now new n before after result going whole between entered outside (Entering.Full over kept inside unknown full) is = absurd (cc)
+
+-- all steps are done
+pub advanced_bound : (old now new : Machine) (n : ℕ) (before after : Option (List ℕ)) (end : End) → old.end ≡ None → old.broken ≡ false → IsBetween old now n before after → HasBound now new end → HasAdvanced old new n before after (Ok end)
+advanced_bound old now new n before after end going whole between (HasBound.Waits same inside) =
+    let ran = between.ran in
+    let part = spent_at old now n before after ran inside in
+    subst (λ m. HasAdvanced old m n before after (Ok ends.Spent)) (sym same) (record {
+      lines = ran.lines;
+      leads = leads_by old now ran.moves ran.lines ran.goes (λ f. between.last) going whole;
+      put = ran.put;
+      stays = ran.stays;
+      broken = ran.broken ∙ whole;
+      ran = λ f. record {
+        done = n;
+        within = omega arith;
+        steps = ran.steps;
+        written = ap (λ (r : Run). r.lines) part;
+        left = ap (λ (r : Run). r.state) part;
+        visits = ran.visits;
+        answers = record { all = refl; ran = part; ready = between.ready };
+      };
+      keeps = λ few before'. kept_ready now (omega (arith, ran.steps, few)) between.ready;
+      kept = λ end is. absurd (no_end old end is going);
+    })
+advanced_bound old now new n before after end going whole between (HasBound.Leaves entered outside) = bound_by old now new n before after (Some (ends.Wild now.at)) going whole between entered outside entered.way refl
+
+-- a kept end
+pub advanced_kept : (m : Machine) (n : ℕ) (known : Option (List ℕ)) (end : End) → m.broken ≡ false → m.end ≡ Some end → HasAdvanced m m n known known (Ok end)
+unfolding lines_of
+advanced_kept m n known end whole kept = record {
+  lines = [];
+  leads = record { moves = []; goes = record { walk = refl; told = refl; numbers = refl }; last = λ e. refl; ended = λ e. (refl, refl); broken = λ e. (refl, refl) };
+  put = appends-nothing known;
+  stays = stays_self m;
+  broken = whole;
+  ran = λ going. absurd (no_end m end kept going);
+  keeps = λ few before'. before';
+  kept = λ other is. (let e : Some end ≡ Some other = sym kept ∙ is in cc, refl, refl);
+}
+
+-- the line of the step could not be put
+nothing_cut : (after later : Option (List ℕ)) (line : Option Line) → line ≡ None → CutShort after later (lines_text (line_before line [])) → ⊥
+nothing_cut after later None none cut = absurd (let e = cut.1 in omega arith)
+nothing_cut after later (Some l) none cut = absurd (cc)
+
+cut_behind : (old mid new : Option (List ℕ)) (a b : List ℕ) → Appends old mid a → CutShort mid new b → CutShort old new (a ++ b)
+cut_behind old mid new a b first cut =
+    let both = appends-both old mid new a (take cut.0 b) first cut.2 in
+    (length a + cut.0, omega (arith, length-append a b, cut.1), subst (λ z. Appends old new z) (sym (take-append-add a b cut.0)) both)
+
+-- of what went out nothing is said
+untold : (old now : Machine) (i : ℕ) (before after : Option (List ℕ)) → Ran old now i before after → Ran old now i None None
+untold old now i before after ran = record { lines = ran.lines; moves = ran.moves; goes = ran.goes; stays = ran.stays; broken = ran.broken; steps = ran.steps; put = tt; visits = ran.visits; run = ran.run }
+
+bounds_broken : (m : Machine) → HasBounds m → HasBounds (record m { broken = true })
+bounds_broken m bounded = bounded
+
+order_broken : (m : Machine) → IsInOrder m → IsInOrder (record m { broken = true })
+order_broken m order = record { layout = order.layout; right = order.right; faithful = order.faithful; tables = order.tables; paged = order.paged; whole = order.whole; registers = order.registers; quantum = order.quantum; pages = order.pages }
+
+failed_by : (old now new : Machine) (i n : ℕ) (line : Option Line) (e : Failed) (before after later : Option (List ℕ)) → old.end ≡ None → old.broken ≡ false → i < n → IsIn old now i before after → (step : HasStepped now new line) → StepWay now new line → CutShort after later (lines_text (line_before line [])) → HasAdvanced old (record new { broken = true }) n before later (Err e)
+unfolding ran_step untold
+failed_by old now new i n line e before after later going whole below now' step (StepWay.On ready steps is) cut =
+    let ran = ran_step old now new i line None None None (untold old now i before after now'.ran) now'.inside step steps is tt in
+    let none = none_ran (program_of old.kernel) (flat_of new) in
+    let broken : Machine = record new { broken = true } in
+    record {
+      lines = ran.lines;
+      leads = leads_by old broken ran.moves ran.lines (record { walk = ran.goes.walk; told = ran.goes.told; numbers = ran.goes.numbers }) (λ f. last_step now'.ran.moves step.moves step.last step.some) going whole;
+      put = subst (CutShort before later) (sym (lines_text_on now'.ran.lines (line_before line []))) (cut_behind before after later (lines_text now'.ran.lines) (lines_text (line_before line [])) now'.ran.put cut);
+      stays = record { program = ran.stays.program; layout = ran.stays.layout; quantum = ran.stays.quantum };
+      broken = refl;
+      ran = λ f. record {
+        done = i + 1;
+        within = omega arith;
+        steps = ran.steps;
+        written = ap (λ k. (original_from old k).lines) (sym (nothing (i + 1))) ∙ ap (λ (r : Run). r.lines) (ran.run 0) ∙ ap (λ l. ran.lines ++ l) none.0 ∙ append-nil ran.lines;
+        left = ap (λ k. (original_from old k).state) (sym (nothing (i + 1))) ∙ ap (λ (r : Run). r.state) (ran.run 0) ∙ none.1;
+        visits = record { visited = ran.visits.visited; stay = ran.visits.stay };
+        answers = record { broken = refl; order = order_broken new ready.order; bounded = bounds_broken new (bounds_ready new ready) };
+      };
+      keeps = λ few before'. record { sound = record { order = order_broken new ready.order; bounded = bounds_broken new (bounds_ready new ready); steps = omega (arith, ran.steps, few, below); pages = pages_few new ready.order }; ready = λ e. absurd (cc) };
+      kept = λ end is. absurd (no_end old end is going);
+    }
+failed_by old now new i n line e before after later going whole below now' step (StepWay.Stopped stop over kept none steps is left) cut = absurd (nothing_cut after later line none cut)
+
+pub advanced_failed : (old now new : Machine) (i n : ℕ) (line : Option Line) (e : Failed) (before after later : Option (List ℕ)) → old.end ≡ None → old.broken ≡ false → i < n → IsIn old now i before after → HasStepped now new line → CutShort after later (lines_text (line_before line [])) → HasAdvanced old (record new { broken = true }) n before later (Err e)
+advanced_failed old now new i n line e before after later going whole below now' step cut = failed_by old now new i n line e before after later going whole below now' step step.way cut

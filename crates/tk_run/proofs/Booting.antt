@@ -1,0 +1,157 @@
+-- The machine at boot is ready, and stands for the original program at reset.
+use Rattle.std.proofs.Common.{◌≡◌, ℕ, ◌+◌, ◌-◌, ◌*◌, ◌%◌, ◌<◌, ◌≤◌, Bool, List, length, take, refl, sym, ap, ap₂, ◌∙◌, arith, subst, inl}
+use Rattle.std.specs.Prelude.{None}
+use Rattle.avr_exec.specs.declared.cpu.Cpu.{Cpu}
+use Rattle.hex_image.specs.Image.{IsImage}
+use Rattle.sram_layout.specs.Boot.{at_boot}
+use Rattle.sram_layout.specs.Bytes.{byte_at, with_byte, word_at}
+use Rattle.sram_layout.specs.Cells.{count_cell, vsp_cell}
+use Rattle.sram_layout.proofs.Laws.{byte_same, byte_other, length-with_byte}
+use Rattle.sram_layout.proofs.BootLaws.{length-at_boot, boot_zero}
+use Rattle.flash_model.specs.Pages.{page_count, many}
+use Rattle.flash_model.specs.Memory.{loaded, Memory, IsWhole}
+use Rattle.flash_model.specs.Layouts.{IsRight}
+use Rattle.flash_model.specs.declared.layout.Layout.{Layout}
+use Rattle.page_index.proofs.ChangeLaws.{new_flash_free}
+use Rattle.nat_page.proofs.FaithfulLaws.{new_flash_faithful, new_flash_held}
+use Rattle.addr_tables.proofs.TableLaws.{boot_tables}
+use Rattle.heap_frames.proofs.BootLaws.{boot_paged}
+use Rattle.input_script.specs.declared.input.Event.{Event}
+use Rattle.mote_devices.specs.State.{at_reset, State as Devices}
+use Rattle.mote_core.specs.declared.mote.Mote.{Mote}
+use Rattle.mote_core.specs.Step.{IsAtReset, cpu_at_reset}
+use Rattle.swap_store.specs.Slots.{zero_slots}
+use Rattle.swap_store.proofs.Laws.{length-zero_slots}
+use Rattle.std.proofs.Math.Nat.{zero-mod}
+use Rattle.flash_model.proofs.LoadedLaws.{length-many}
+use Rattle.mem_guard.specs.FlatMachine.{FlatState, run, original, at_reset as flat_at_reset, zeros}
+use Rattle.mem_guard.proofs.AtReset.{memory_at_reset, pages_at_reset}
+use Rattle.step_laws.specs.StepLaws.{Reaches}
+use Rattle.kernel_entry.specs.Seen.{program as program_of}
+use Rattle.step_laws.proofs.SameProgram.{SameProgram, flat_same, paged_after}
+use Rattle.nat_page.proofs.UsedLaws.{none_used}
+use Rattle.addr_tables.proofs.TableLaws.{tables_kept}
+use Rattle.tk_run.specs.Machines.{Machine, flat_of}
+use Rattle.tk_run.specs.Ready.{usual, IsGoing, IsInOrder, IsKept}
+use Rattle.tk_run.specs.Running.{original_from}
+use Rattle.tk_run.specs.Booted.{booted}
+use Rattle.tk_run.specs.WholeRuns.{program_at}
+use Rattle.tk_run.proofs.Advancing.{kept_ready}
+
+many_registers : length (many 32 0) ≡ 32
+many_registers = length-many 32 0
+
+none_off : (q : ℕ) → q ≡ q - 0 % q
+none_off q = let z : 0 % q ≡ 0 = zero-mod q in omega arith
+
+pub right_at : (image : List ℕ) → length image ≤ 16384 → IsRight (usual (length image))
+right_at image few = record { image_fits = omega arith; image_below_pool = omega arith; pool_first = omega arith; pool_pages = omega arith; pool_below_kernel = omega arith }
+
+-- COUNT is set in the memory of boot
+abbrev boot_mote : (image : List ℕ) (events : List Event) (slots : ℕ) → Mote
+boot_mote image events slots = record { cpu = cpu_at_reset; sram = at_boot; flash = record { words = loaded image; erases = many page_count 0 }; devices = at_reset events; swap = zero_slots slots }
+
+same_boot : (image : List ℕ) (events : List Event) (quantum slots : ℕ) → SameProgram (boot_mote image events slots) (booted image events quantum slots).kernel.mote
+same_boot image events quantum slots = record {
+  registers = refl;
+  status = refl;
+  top = refl;
+  size = length-with_byte at_boot count_cell quantum;
+  bytes = λ b from apart apart'. byte_other at_boot count_cell b quantum (omega arith) (omega arith) (λ e. omega arith);
+  flash = refl;
+  devices = refl;
+  swap = refl;
+}
+
+-- the first address's part of boot
+count_boot : (image : List ℕ) (events : List Event) (quantum slots : ℕ) → byte_at (booted image events quantum slots).kernel.mote.sram 0x0100 ≡ quantum
+count_boot image events quantum slots = byte_same at_boot count_cell quantum (omega arith) (omega (arith, length-at_boot))
+
+order_boot : (image : List ℕ) (events : List Event) (quantum slots : ℕ) → IsImage image → quantum < 256 → slots ≤ 251 → IsWhole (booted image events quantum slots).kernel.mote.flash → IsInOrder (booted image events quantum slots)
+order_boot image events quantum slots is low few whole =
+    let layout : Layout = usual (length image) in
+    let right = right_at image is.few in
+    record {
+      layout = refl;
+      right = right;
+      faithful = new_flash_held layout image (loaded image) right refl refl;
+      tables = tables_kept layout at_boot (with_byte at_boot count_cell quantum) (loaded image) (loaded image) (λ b from to. byte_other at_boot count_cell b quantum (omega arith) (omega arith) (λ e. omega arith)) (λ t v entry. entry) (boot_tables layout (loaded image));
+      paged = paged_after (boot_mote image events slots) (booted image events quantum slots).kernel.mote (same_boot image events quantum slots) (boot_paged slots few);
+      whole = whole;
+      registers = omega (arith, many_registers);
+      quantum = low;
+      pages = sym (none_used layout (loaded image) (λ p pool. new_flash_free layout image p right (omega arith) pool));
+    }
+
+pub going_boot : (image : List ℕ) (events : List Event) (quantum slots : ℕ) → IsImage image → 1 ≤ quantum → quantum < 256 → slots ≤ 251 → IsWhole (booted image events quantum slots).kernel.mote.flash → IsGoing (booted image events quantum slots)
+going_boot image events quantum slots is some low few whole =
+    let count = count_boot image events quantum slots in
+    record {
+      order = order_boot image events quantum slots is low few whole;
+      going = refl;
+      top = refl;
+      some = omega (arith, count);
+      most = omega (arith, count);
+      stands = Reaches.Owing None refl tt;
+      counted = record { natural = omega arith; entries = omega arith; since = omega arith; longest = omega arith; crossed = omega arith; within = omega arith; most = omega arith };
+      polls = omega arith;
+      exact = count ∙ none_off quantum;
+    }
+
+zero_registers : many 32 0 ≡ zeros 32
+unfolding many zeros
+zero_registers = refl
+
+stack_boot : word_at at_boot vsp_cell ≡ 0
+unfolding word_at
+stack_boot = ap₂ (λ low high. low + 256 * high) (boot_zero vsp_cell (omega arith) (omega arith) (inl (omega arith))) (boot_zero (vsp_cell + 1) (omega arith) (omega arith) (inl (omega arith)))
+
+-- a flat state from its parts
+flat_parts : (r r' : List ℕ) (s s' sp sp' a steps crossings : ℕ) (memory memory' : List ℕ) (devices devices' : Devices) (has has' : List Bool) → r ≡ r' → s ≡ s' → sp ≡ sp' → memory ≡ memory' → devices ≡ devices' → has ≡ has'
+    → ◌≡◌ {A = FlatState} (record { cpu = record { r = r; sreg = s; sp = sp; pc = a }; memory = memory; devices = devices; pages = has; steps = steps; crossings = crossings })
+    (record { cpu = record { r = r'; sreg = s'; sp = sp'; pc = a }; memory = memory'; devices = devices'; pages = has'; steps = steps; crossings = crossings })
+flat_parts r r' s s' sp sp' a steps crossings memory memory' devices devices' has has' er es ep em ed eh =
+    ap (λ x. record { cpu = record { r = x; sreg = s; sp = sp; pc = a }; memory = memory; devices = devices; pages = has; steps = steps; crossings = crossings }) er
+    ∙ ap (λ x. record { cpu = record { r = r'; sreg = x; sp = sp; pc = a }; memory = memory; devices = devices; pages = has; steps = steps; crossings = crossings }) es
+    ∙ ap (λ x. record { cpu = record { r = r'; sreg = s'; sp = x; pc = a }; memory = memory; devices = devices; pages = has; steps = steps; crossings = crossings }) ep
+    ∙ ap (λ x. record { cpu = record { r = r'; sreg = s'; sp = sp'; pc = a }; memory = x; devices = devices; pages = has; steps = steps; crossings = crossings }) em
+    ∙ ap (λ x. record { cpu = record { r = r'; sreg = s'; sp = sp'; pc = a }; memory = memory'; devices = x; pages = has; steps = steps; crossings = crossings }) ed
+    ∙ ap (λ x. record { cpu = record { r = r'; sreg = s'; sp = sp'; pc = a }; memory = memory'; devices = devices'; pages = x; steps = steps; crossings = crossings }) eh
+
+-- the original's machine at reset
+flat_boot : (image : List ℕ) (events : List Event) (quantum slots : ℕ) → flat_of (booted image events quantum slots) ≡ flat_at_reset events
+flat_boot image events quantum slots =
+    flat_same (record { mote = boot_mote image events slots; layout = usual (length image); quantum = quantum }) (booted image events quantum slots).kernel 0 0 0 (same_boot image events quantum slots)
+    ∙ flat_parts _ _ _ _ _ _ 0 0 0 _ _ _ _ _ _ zero_registers refl stack_boot (memory_at_reset (zero_slots slots)) refl pages_at_reset
+
+-- the program is the image's
+held_boot : (image : List ℕ) → IsImage image → take (length image) (loaded image) ≡ image
+held_boot image is = (new_flash_faithful (usual (length image)) image (right_at image is.few) refl).code.held
+
+pub program_boot : (image : List ℕ) (events : List Event) (quantum slots : ℕ) → IsImage image → program_of (booted image events quantum slots).kernel ≡ program_at image slots
+program_boot image events quantum slots is = ap₂ (λ i n. record { image = i; page_limit = n }) (held_boot image is) (length-zero_slots slots)
+
+-- and its run the original program's
+pub run_boot : (image : List ℕ) (events : List Event) (quantum slots n : ℕ) → IsImage image → original_from (booted image events quantum slots) n ≡ original (program_at image slots) events n
+run_boot image events quantum slots n is = ap₂ (λ p s. run p s n) (program_boot image events quantum slots is) (flat_boot image events quantum slots)
+
+pub kept_boot : (image : List ℕ) (events : List Event) (quantum slots : ℕ) → IsGoing (booted image events quantum slots) → IsKept (booted image events quantum slots)
+kept_boot image events quantum slots going = kept_ready (booted image events quantum slots) (omega arith) going
+
+-- what the call makes is the machine at boot
+booted_by : (image : List ℕ) (events : List Event) (quantum slots : ℕ) (mote : Mote) (sram : List ℕ) (layout : Layout) → IsAtReset image events slots mote → sram ≡ with_byte mote.sram count_cell quantum → layout ≡ usual (length image)
+    → ◌≡◌ {A = Machine} (record (booted image events quantum slots) { kernel = record { mote = record mote { sram = sram }; layout = layout; quantum = quantum } }) (booted image events quantum slots)
+booted_by image events quantum slots mote sram layout reset is same =
+    let m : Cpu → List ℕ → Memory → Devices → List (List ℕ) → Layout → Machine = λ c r f d w l. record (booted image events quantum slots) { kernel = record { mote = record { cpu = c; sram = r; flash = f; devices = d; swap = w }; layout = l; quantum = quantum } } in
+    ap (λ c. m c sram mote.flash mote.devices mote.swap layout) reset.cpu
+    ∙ ap (λ r. m cpu_at_reset r mote.flash mote.devices mote.swap layout) (is ∙ ap (λ b. with_byte b count_cell quantum) reset.sram)
+    ∙ ap (λ f. m cpu_at_reset (with_byte at_boot count_cell quantum) f mote.devices mote.swap layout) (ap₂ (λ w e. record { words = w; erases = e }) reset.words reset.erases)
+    ∙ ap (λ d. m cpu_at_reset (with_byte at_boot count_cell quantum) (record { words = loaded image; erases = many page_count 0 }) d mote.swap layout) reset.devices
+    ∙ ap (λ w. m cpu_at_reset (with_byte at_boot count_cell quantum) (record { words = loaded image; erases = many page_count 0 }) (at_reset events) w layout) reset.swap
+    ∙ ap (λ l. m cpu_at_reset (with_byte at_boot count_cell quantum) (record { words = loaded image; erases = many page_count 0 }) (at_reset events) (zero_slots slots) l) same
+
+pub boot_is_kept : (image : List ℕ) (events : List Event) (quantum slots : ℕ) (mote : Mote) (sram : List ℕ) (layout : Layout) → IsImage image → 1 ≤ quantum → quantum < 256 → slots ≤ 251 → IsAtReset image events slots mote → IsWhole mote.flash → sram ≡ with_byte mote.sram count_cell quantum → layout ≡ usual (length image)
+    → IsKept (record (booted image events quantum slots) { kernel = record { mote = record mote { sram = sram }; layout = layout; quantum = quantum } })
+boot_is_kept image events quantum slots mote sram layout is some low few reset whole set same =
+    let flash : mote.flash ≡ record { words = loaded image; erases = many page_count 0 } = ap₂ (λ w e. record { words = w; erases = e }) reset.words reset.erases in
+    subst IsKept (sym (booted_by image events quantum slots mote sram layout reset set same)) (kept_boot image events quantum slots (going_boot image events quantum slots is some low few (subst IsWhole flash whole)))

@@ -1,0 +1,166 @@
+-- How far the numbers go.
+use Rattle.std.proofs.Common.{◌≡◌, ℕ, ◌+◌, ◌-◌, ◌*◌, ◌/◌, ◌%◌, ◌<◌, ◌≤◌, ◌==◌, Bool, true, false, List, [], ◌∷◌, refl, ◌∙◌, arith}
+use Rattle.std.specs.Prelude.{◌≢◌, ◌^◌, Option, if◌then◌else◌}
+use Rattle.std.proofs.lemmas.Bool.Decides.{nat_tests}
+use Rattle.avr_isa.specs.Crossing.{is_crossing}
+use Rattle.preempt_count.specs.Counting.{count_over}
+use Rattle.step_laws.specs.Moves.{Move, Plain, Serve, Arrive}
+use Rattle.step_laws.specs.Numbers.{Numbers, moved, numbered}
+use Rattle.tk_run.specs.Ready.{IsWithin, IsCounted, IsBounded}
+use Rattle.step_laws.specs.Moves.{count_plain, count_serve, count_stop}
+use Rattle.step_laws.specs.StepLaws.{crossings_over}
+use Rattle.step_laws.specs.Moves.{are_inner}
+use Rattle.mote_devices.specs.declared.line.Line.{Line}
+
+pub natural_is : (ms : List Move) (n : Numbers) → (numbered ms n).natural ≡ n.natural + count_plain ms
+unfolding moved
+natural_is [] n = omega arith
+natural_is (Plain b line ∷ ms) n = natural_is ms (moved (Plain b line) n) ∙ omega arith
+natural_is (Serve line stops ∷ ms) n = natural_is ms (moved (Serve line stops) n)
+natural_is (Arrive made ∷ ms) n = natural_is ms (moved (Arrive made) n)
+
+pub entries_is : (ms : List Move) (n : Numbers) → (numbered ms n).entries ≡ n.entries + count_serve ms
+unfolding moved
+entries_is [] n = omega arith
+entries_is (Plain b line ∷ ms) n = entries_is ms (moved (Plain b line) n)
+entries_is (Serve line stops ∷ ms) n = entries_is ms (moved (Serve line stops) n) ∙ omega arith
+entries_is (Arrive made ∷ ms) n = entries_is ms (moved (Arrive made) n)
+
+pub since_bound : (ms : List Move) (n : Numbers) → (numbered ms n).since ≤ n.since + count_plain ms
+unfolding moved
+since_bound [] n = omega arith
+since_bound (Plain b line ∷ ms) n = let h = since_bound ms (moved (Plain b line) n) in omega arith
+since_bound (Serve line stops ∷ ms) n = let h = since_bound ms (moved (Serve line stops) n) in omega arith
+since_bound (Arrive made ∷ ms) n = since_bound ms (moved (Arrive made) n)
+
+-- no later run of plain steps is longer
+pub since_longest : (ms : List Move) (n : Numbers) → n.since ≤ n.longest → (numbered ms n).since ≤ (numbered ms n).longest
+unfolding moved
+since_longest [] n low = low
+since_longest (Plain b line ∷ ms) n low = since_longest ms (moved (Plain b line) n) (omega arith)
+since_longest (Serve line stops ∷ ms) n low = since_longest ms (moved (Serve line stops) n) (omega arith)
+since_longest (Arrive made ∷ ms) n low = since_longest ms (moved (Arrive made) n) low
+
+pub longest_bound : (ms : List Move) (n : Numbers) (top : ℕ) → n.longest ≤ top → n.since + count_plain ms ≤ top → (numbered ms n).longest ≤ top
+unfolding moved
+longest_bound [] n top before reach = before
+longest_bound (Plain b line ∷ ms) n top before reach = longest_bound ms (moved (Plain b line) n) top (omega arith) (omega arith)
+longest_bound (Serve line stops ∷ ms) n top before reach = longest_bound ms (moved (Serve line stops) n) top before (omega arith)
+longest_bound (Arrive made ∷ ms) n top before reach = longest_bound ms (moved (Arrive made) n) top before reach
+
+not_crossing : (from to : ℕ) → is_crossing from to ≡ false → (from < to) × (to / 128 ≡ from / 128)
+not_crossing from to is = (grind (arith, nat_tests), grind (arith, nat_tests))
+
+rising : (from to : ℕ) → from < to → to / 128 ≡ from / 128 → from % 128 < to % 128
+rising from to up same = omega arith
+
+other : (count : ℕ) → (count == 1) ≡ false → count ≢ 1
+other count more = grind (arith, nat_tests)
+
+within_by : (quantum count from to since since' : ℕ) (b c : Bool) → is_crossing from to ≡ b → (count == 1) ≡ c → 1 ≤ count → count ≤ quantum → IsWithin quantum count from since → since' ≤ since + 40 → (b ≡ true → c ≡ true → since' ≡ 0)
+    → IsWithin quantum (if b then (if c then quantum else count - 1) else count) to since'
+within_by quantum count from to since since' false c goes one some most within few reset =
+    let up = not_crossing from to goes in
+    let higher : from % 128 < to % 128 = rising from to up.0 up.1 in
+    omega arith
+within_by quantum count from to since since' true true crosses one some most within few reset = let none : since' ≡ 0 = reset refl refl in omega arith
+within_by quantum count from to since since' true false crosses more some most within few reset =
+    let apart : count ≢ 1 = other count more in
+    omega arith
+
+-- a step keeps the bound on plain steps
+pub within_on : (quantum count from to since since' : ℕ) → 1 ≤ count → count ≤ quantum → IsWithin quantum count from since → since' ≤ since + 40 → (is_crossing from to ≡ true → (count == 1) ≡ true → since' ≡ 0)
+    → IsWithin quantum (count_over quantum from to count) to since'
+within_on quantum count from to since since' some most within few reset = within_by quantum count from to since since' (is_crossing from to) (count == 1) refl refl some most within few reset
+
+-- so no more than this many plain steps run between two services
+pub longest_on : (quantum count at since : ℕ) → 1 ≤ count → count ≤ quantum → IsWithin quantum count at since → since + 40 ≤ 5120 * quantum
+longest_on quantum count at since some most within = omega arith
+
+-- a step that goes on is counted once
+pub steps_goes : (ms : List Move) (n : Numbers) → are_inner ms ≡ true → count_stop ms ≡ 0 → (numbered ms n).steps ≡ n.steps
+unfolding moved
+steps_goes [] n inner none = refl
+steps_goes (Plain true line ∷ ms) n inner none = absurd (cc)
+steps_goes (Plain false line ∷ ms) n inner none = steps_goes ms (moved (Plain false line) n) inner none ∙ omega arith
+steps_goes (Serve line true ∷ ms) n inner none = absurd (omega arith)
+steps_goes (Serve line false ∷ ms) n inner none = steps_goes ms (moved (Serve line false) n) inner none ∙ omega arith
+steps_goes (Arrive made ∷ ms) n inner none = absurd (cc)
+
+at_most_one : (b : Bool) (crossings steps steps' : ℕ) → crossings ≤ steps → steps' ≡ steps + 1 → (if b then crossings + 1 else crossings) ≤ steps'
+at_most_one true crossings steps steps' few more = omega arith
+at_most_one false crossings steps steps' few more = omega arith
+
+-- a step keeps them
+pub counted_on : (n : Numbers) (crossings quantum count from to : ℕ) (first : Option Line) (rest : List Move) → IsCounted n crossings quantum count from → 1 ≤ count → count ≤ quantum
+    → are_inner rest ≡ true → count_plain rest ≤ 39 → count_serve rest ≤ 2 → count_stop rest ≡ 0 → (is_crossing from to ≡ true → (count == 1) ≡ true → (k : Numbers) → (numbered rest k).since ≡ 0)
+    → IsCounted (numbered (Plain true first ∷ rest) n) (crossings_over from to crossings) quantum (count_over quantum from to count) to
+unfolding moved
+counted_on n crossings quantum count from to first rest counted some most inner few serves goes reset =
+    let n1 = moved (Plain true first) n in
+    let a = counted.natural in
+    let b = counted.entries in
+    let c = counted.since in
+    let d = counted.longest in
+    let e = counted.crossed in
+    let f = counted.most in
+    let steps : (numbered rest n1).steps ≡ n.steps + 1 = steps_goes rest n1 inner goes in
+    let natural : (numbered rest n1).natural ≡ n.natural + 1 + count_plain rest = natural_is rest n1 in
+    let entries : (numbered rest n1).entries ≡ n.entries + count_serve rest = entries_is rest n1 in
+    let since : (numbered rest n1).since ≤ n.since + 1 + count_plain rest = since_bound rest n1 in
+    let reach = longest_on quantum count from n.since some most counted.within in
+    record {
+      natural = omega arith;
+      entries = omega arith;
+      since = since_longest rest n1 (omega arith);
+      longest = longest_bound rest n1 (numbered rest n1).natural (omega arith) (omega arith);
+      crossed = at_most_one (is_crossing from to) crossings n.steps (numbered rest n1).steps e steps;
+      within = within_on quantum count from to n.since (numbered rest n1).since some most counted.within (omega arith) (λ crosses one. reset crosses one n1);
+      most = longest_bound rest n1 (5120 * quantum) (omega arith) (omega arith);
+    }
+
+-- no page is made inside a step
+pages_same : (ms : List Move) (n : Numbers) → are_inner ms ≡ true → (numbered ms n).pages ≡ n.pages
+unfolding moved
+pages_same [] n inner = refl
+pages_same (Plain true line ∷ ms) n inner = absurd (cc)
+pages_same (Plain false line ∷ ms) n inner = pages_same ms (moved (Plain false line) n) inner
+pages_same (Serve line stops ∷ ms) n inner = pages_same ms (moved (Serve line stops) n) inner
+pages_same (Arrive made ∷ ms) n inner = absurd (cc)
+
+pub pages_first : (first : Option Line) (rest : List Move) (n : Numbers) → are_inner rest ≡ true → (numbered (Plain true first ∷ rest) n).pages ≡ n.pages
+unfolding moved
+pages_first first rest n inner = pages_same rest (moved (Plain true first) n) inner
+
+pub bounded_counted : (n : Numbers) (crossings quantum count at polls : ℕ) → IsCounted n crossings quantum count at → polls ≤ n.steps + 2 ^ 32 → IsBounded n crossings quantum polls
+bounded_counted n crossings quantum count at polls counted few =
+    let a = counted.natural in
+    let b = counted.entries in
+    record { natural = omega arith; entries = omega arith; since = counted.since; longest = counted.longest; crossed = counted.crossed; most = counted.most; polls = omega arith }
+
+-- a step that stops
+pub bounded_stop : (n : Numbers) (crossings quantum count at polls polls' : ℕ) (first : Option Line) (rest : List Move) → IsCounted n crossings quantum count at → 1 ≤ count → count ≤ quantum
+    → count_plain rest ≤ 39 → count_serve rest ≤ 2 → (numbered (Plain true first ∷ rest) n).steps ≡ n.steps → polls ≤ n.steps + 2 ^ 32 → polls' ≤ polls + 1
+    → IsBounded (numbered (Plain true first ∷ rest) n) crossings quantum polls'
+unfolding moved
+bounded_stop n crossings quantum count at polls polls' first rest counted some most few serves steps low more =
+    let n1 = moved (Plain true first) n in
+    let a = counted.natural in
+    let b = counted.entries in
+    let c = counted.since in
+    let d = counted.longest in
+    let e = counted.crossed in
+    let f = counted.most in
+    let natural : (numbered rest n1).natural ≡ n.natural + 1 + count_plain rest = natural_is rest n1 in
+    let entries : (numbered rest n1).entries ≡ n.entries + count_serve rest = entries_is rest n1 in
+    let since : (numbered rest n1).since ≤ n.since + 1 + count_plain rest = since_bound rest n1 in
+    let reach = longest_on quantum count at n.since some most counted.within in
+    record {
+      natural = omega arith;
+      entries = omega arith;
+      since = since_longest rest n1 (omega arith);
+      longest = longest_bound rest n1 (numbered rest n1).natural (omega arith) (omega arith);
+      crossed = omega arith;
+      most = longest_bound rest n1 (5120 * quantum) (omega arith) (omega arith);
+      polls = omega arith;
+    }

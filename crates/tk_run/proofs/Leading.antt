@@ -1,0 +1,59 @@
+-- What leads from one machine to the next, and on.
+use Rattle.std.proofs.Common.{◌≡◌, false, List, [], ◌∷◌, ◌++◌, refl, sym, ap, ap₂, ◌∙◌}
+use Rattle.std.specs.Prelude.{None}
+use Rattle.std.proofs.lemmas.List.{append-nil}
+use Rattle.mote_devices.specs.declared.line.Line.{Line}
+use Rattle.step_laws.specs.Moves.{Move, Plain, Serve, Arrive}
+use Rattle.step_laws.specs.Numbers.{numbered}
+use Rattle.step_laws.specs.States.{State}
+use Rattle.step_laws.specs.Walks.{Walk}
+use Rattle.step_laws.proofs.Ways.{walk_on}
+use Rattle.step_laws.proofs.Joining.{lines_of-append, numbered-append}
+use Rattle.tk_run.specs.Machines.{Machine, state_of, numbers_of}
+use Rattle.tk_run.specs.Stepping.{Goes, Stays, ends_in_arrive}
+use Rattle.tk_run.specs.Running.{Leads}
+
+pub goes_on : (x y z : Machine) (ms ns : List Move) (a b : List Line) → Goes x y ms a → Goes y z ns b → Goes x z (ms ++ ns) (a ++ b)
+goes_on x y z ms ns a b first then = record {
+  walk = walk_on (state_of x) (state_of y) (state_of z) ms ns first.walk then.walk;
+  told = lines_of-append ms ns ∙ ap₂ (λ p q. p ++ q) first.told then.told;
+  numbers = then.numbers ∙ ap (numbered ns) first.numbers ∙ sym (numbered-append ms ns (numbers_of x));
+}
+
+pub last_cons : (m : Move) (ns : List Move) (n : Move) → ends_in_arrive (m ∷ n ∷ ns) ≡ ends_in_arrive (n ∷ ns)
+last_cons (Plain b line) ns n = refl
+last_cons (Serve line stops) ns n = refl
+last_cons (Arrive made) ns n = refl
+
+-- the last of both is the last of the second, which isn't empty
+pub last_on : (ms ns : List Move) (n : Move) → ends_in_arrive (ms ++ n ∷ ns) ≡ ends_in_arrive (n ∷ ns)
+last_on [] ns n = refl
+last_on (m ∷ []) ns n = last_cons m ns n
+last_on (m ∷ m' ∷ ms) ns n = last_cons m (ms ++ n ∷ ns) m' ∙ last_on (m' ∷ ms) ns n
+
+-- where nothing follows, the machine has the end that it had
+pub last_of : (x y z : Machine) (ms ns : List Move) → Walk (state_of y) ns (state_of z) → (y.end ≡ None → ends_in_arrive ms ≡ false) → (z.end ≡ None → ends_in_arrive ns ≡ false) → z.end ≡ None → ends_in_arrive (ms ++ ns) ≡ false
+last_of x y z ms [] walk first then going = ap ends_in_arrive (append-nil ms) ∙ first (ap (λ (s : State). s.end) walk ∙ going)
+last_of x y z ms (n ∷ ns) walk first then going = last_on ms ns n ∙ then going
+
+-- from x to y and from y to z
+pub leads_on : (x y z : Machine) (a b : List Line) → Leads x a y → Leads y b z → Leads x (a ++ b) z
+leads_on x y z a b first then = record {
+  moves = first.moves ++ then.moves;
+  goes = goes_on x y z first.moves then.moves a b first.goes then.goes;
+  last = last_of x y z first.moves then.moves then.goes.walk first.last then.last;
+  ended = λ over.
+      let same = first.ended over in
+      let later = then.ended (λ going. over (ap (λ (m : Machine). m.end) (sym same.0) ∙ going)) in
+      (later.0 ∙ same.0, ap₂ (λ p q. p ++ q) same.1 later.1);
+  broken = λ is.
+      let same = first.broken is in
+      let later = then.broken (ap (λ (m : Machine). m.broken) same.0 ∙ is) in
+      (later.0 ∙ same.0, ap₂ (λ p q. p ++ q) same.1 later.1);
+}
+
+pub stays_on : (x y z : Machine) → Stays x y → Stays y z → Stays x z
+stays_on x y z first then = record { program = then.program ∙ first.program; layout = then.layout ∙ first.layout; quantum = then.quantum ∙ first.quantum }
+
+pub stays_self : (m : Machine) → Stays m m
+stays_self m = record { program = refl; layout = refl; quantum = refl }

@@ -1,0 +1,17 @@
+-- What the calls of the run loop leave, from one move to a whole run.
+mod Bounds
+mod Told
+mod Taking
+mod Settling
+mod ReadyLaws
+mod Laws
+mod Stepped
+mod Arriving
+mod Entered
+pub mod Leading
+mod RunSoFar
+mod Advancing
+pub mod Booting
+pub mod WholeRun
+pub mod Few
+pub mod Longer

@@ -1,0 +1,181 @@
+-- The run so far, beside the original program.
+use Rattle.std.proofs.Common.{◌≡◌, ℕ, suc, ◌+◌, ◌≤◌, Bool, true, false, List, [], ◌∷◌, ◌++◌, refl, sym, ap, ◌∙◌, arith, subst, append_assoc, add-zero}
+use Rattle.std.specs.Prelude.{Option, Some, None}
+use Rattle.std.proofs.lemmas.List.{append-nil}
+use Rattle.std.proofs.lemmas.Grind.{flat_map-append}
+use Rattle.std.specs.Io.KnownBytes.{Appends}
+use Rattle.tk_io.proofs.KnownBytes.{appends-both, appends-nothing}
+use Rattle.avr_isa.specs.Image.{is_inside}
+use Rattle.flash_model.specs.Memory.{Memory}
+use Rattle.page_index.specs.Maps.{IsPool, address_of}
+use Rattle.nat_page.specs.Used.{is_used}
+use Rattle.mote_devices.specs.declared.line.Line.{Line}
+use Rattle.mem_guard.specs.FlatMachine.{Program, FlatState, End as FlatEnd, Run, run, with_line, ended, tried}
+use Rattle.mem_guard.specs.FlatMachine as flat_ends
+use Rattle.mem_guard.proofs.MachineLaws.{run_wild, run_spent, run_stops, run_goes}
+use Rattle.mem_guard.proofs.RunLaws.{behind}
+use Rattle.kernel_entry.specs.Parts.{image_of}
+use Rattle.step_laws.specs.declared.moves.End.{End}
+use Rattle.step_laws.specs.Moves.{Move, lines_of, line_before}
+use Rattle.kernel_entry.specs.Seen.{program as program_of}
+use Rattle.tk_run.specs.Machines.{Machine, flat_of}
+use Rattle.tk_run.specs.Ready.{IsGoing}
+use Rattle.kernel_entry.specs.Texts.{line_text}
+use Rattle.tk_run.specs.Stepping.{lines_text}
+use Rattle.tk_run.specs.Stepping.{Goes, Stays, ends_in_arrive, HasStepped, HasEntered, PageWay}
+use Rattle.tk_run.specs.Running.{original_from, run_of, Visits}
+use Rattle.tk_run.proofs.Leading.{goes_on, stays_on, stays_self}
+
+-- the run so far, over i steps: behind its lines the original's runs on from where the machine is now
+pub record Ran (old now : Machine) (i : ℕ) (before after : Option (List ℕ)) : Type 0 where
+  pub lines : List Line
+  pub moves : List Move
+  pub goes : Goes old now moves lines
+  pub stays : Stays old now
+  pub broken : now.broken ≡ old.broken
+  pub steps : now.steps ≡ old.steps + i
+  pub put : Appends before after (lines_text lines)
+  pub visits : Visits old now i
+  pub run : (k : ℕ) → original_from old (k + i) ≡ behind lines (run (program_of old.kernel) (flat_of now) k)
+
+-- between two steps
+pub record IsBetween (old now : Machine) (i : ℕ) (before after : Option (List ℕ)) : Type 0 where
+  pub ran : Ran old now i before after
+  pub last : ends_in_arrive ran.moves ≡ false
+  pub ready : IsGoing now
+
+-- the original's run
+behind_nothing : (r : Run) → behind [] r ≡ r
+behind_nothing r = refl
+
+pub behind_line : (lines : List Line) (line : Option Line) (r : Run) → behind lines (with_line line r) ≡ behind (lines ++ line_before line []) r
+behind_line lines None r = ap (λ l. record r { lines = l ++ r.lines }) (sym (append-nil lines))
+behind_line lines (Some l) r = ap (λ k. record r { lines = k }) (sym (append_assoc lines (l ∷ []) r.lines))
+
+pub behind_ended : (lines : List Line) (end : FlatEnd) (s : FlatState) → behind lines (ended end s) ≡ run_of end lines s
+behind_ended lines end s = ap (λ l. run_of end l s) (append-nil lines)
+
+none_by : (program : Program) (s : FlatState) (b : Bool) → is_inside program.image s.cpu.pc ≡ b → ((run program s 0).lines ≡ []) × ((run program s 0).state ≡ s)
+none_by program s true inside = let is = run_spent program s inside in (ap (λ (r : Run). r.lines) is, ap (λ (r : Run). r.state) is)
+none_by program s false outside = let is = run_wild program s 0 outside in (ap (λ (r : Run). r.lines) is, ap (λ (r : Run). r.state) is)
+
+pub none_ran : (program : Program) (s : FlatState) → ((run program s 0).lines ≡ []) × ((run program s 0).state ≡ s)
+none_ran program s = none_by program s (is_inside program.image s.cpu.pc) refl
+
+pub nothing : (i : ℕ) → 0 + i ≡ i
+nothing i = omega arith
+
+-- the pages
+pub visits_none : (m : Machine) → Visits m m 0
+visits_none m = record { visited = λ page pool free used. absurd (let e : false ≡ true = sym free ∙ used in cc); stay = λ page pool used. used }
+
+pub visits_flash : (old now new : Machine) (i : ℕ) → Visits old now i → new.kernel.mote.flash ≡ now.kernel.mote.flash → Visits old new i
+visits_flash old now new i visits same = record {
+  visited = λ page pool free used.
+      let v = visits.visited page pool free (ap (λ (f : Memory). is_used f.words page) (sym same) ∙ used) in
+      (v.0, v.1, v.2 ∙ ap (λ (f : Memory). address_of f.words page 0) (sym same));
+  stay = λ page pool used. ap (λ (f : Memory). is_used f.words page) same ∙ visits.stay page pool used;
+}
+
+pub visits_step : (old now new : Machine) (i : ℕ) → Visits old now i → new.kernel.mote.flash ≡ now.kernel.mote.flash → Visits old new (i + 1)
+visits_step old now new i visits same =
+    let flash = visits_flash old now new i visits same in
+    record {
+      visited = λ page pool free used. let v = flash.visited page pool free used in (v.0, omega (arith, v.1), v.2);
+      stay = flash.stay;
+    }
+
+stands_after : (old now : Machine) (i : ℕ) (before after : Option (List ℕ)) → Ran old now i before after → (original_from old i).state.cpu.pc ≡ now.at
+stands_after old now i before after ran =
+    ap (λ k. (original_from old k).state.cpu.pc) (sym (nothing i)) ∙ ap (λ (r : Run). r.state.cpu.pc) (ran.run 0) ∙ ap (λ (s : FlatState). s.cpu.pc) (none_ran (program_of old.kernel) (flat_of now)).1
+
+visit_by : (old now new : Machine) (i page : ℕ) (before after : Option (List ℕ)) → Ran old now i before after → PageWay now.kernel.mote.flash.words new.kernel.mote.flash.words now.at page → IsPool old.kernel.layout page → is_used old.kernel.mote.flash.words page ≡ false → is_used new.kernel.mote.flash.words page ≡ true
+    → (k : ℕ) × (k ≤ i) × ((original_from old k).state.cpu.pc ≡ address_of new.kernel.mote.flash.words page 0)
+visit_by old now new i page before after ran (PageWay.Same same address) pool free used =
+    let v = ran.visits.visited page pool free (sym same ∙ used) in
+    (v.0, v.1, v.2 ∙ sym address)
+visit_by old now new i page before after ran (PageWay.Made none address) pool free used = (i, omega arith, stands_after old now i before after ran ∙ sym address)
+
+stay_by : (old now new : Machine) (i page : ℕ) (t : ℕ) → Visits old now i → PageWay now.kernel.mote.flash.words new.kernel.mote.flash.words t page → IsPool old.kernel.layout page → is_used old.kernel.mote.flash.words page ≡ true → is_used new.kernel.mote.flash.words page ≡ true
+stay_by old now new i page t visits (PageWay.Same same address) pool used = same ∙ visits.stay page pool used
+stay_by old now new i page t visits (PageWay.Made none address) pool used = absurd (let e : true ≡ false = sym (visits.stay page pool used) ∙ none in cc)
+
+pub visits_enter : (old now new : Machine) (i : ℕ) (before after : Option (List ℕ)) (result : Option End) → Ran old now i before after → HasEntered now new result → Visits old new i
+visits_enter old now new i before after result ran entered = record {
+  visited = λ page pool free used. visit_by old now new i page before after ran (entered.pages page (subst (λ l. IsPool l page) (sym ran.stays.layout) pool)) pool free used;
+  stay = λ page pool used. stay_by old now new i page now.at ran.visits (entered.pages page (subst (λ l. IsPool l page) (sym ran.stays.layout) pool)) pool used;
+}
+
+-- the run so far
+unfoldable pub ran_start : (m : Machine) (known : Option (List ℕ)) → Ran m m 0 known known
+unfolding lines_of
+ran_start m known = record {
+  lines = [];
+  moves = [];
+  goes = record { walk = refl; told = refl; numbers = refl };
+  stays = stays_self m;
+  broken = refl;
+  steps = omega arith;
+  put = appends-nothing known;
+  visits = visits_none m;
+  run = λ k. ap (original_from m) (add-zero k);
+}
+
+pub between_start : (m : Machine) (known : Option (List ℕ)) → IsGoing m → IsBetween m m 0 known known
+unfolding ran_start
+between_start m known ready = record { ran = ran_start m known; last = refl; ready = ready }
+
+unfoldable pub ran_enter : (old now new : Machine) (i : ℕ) (before after : Option (List ℕ)) (result : Option End) → Ran old now i before after → HasEntered now new result → Ran old new i before after
+ran_enter old now new i before after result ran entered = record {
+  lines = ran.lines;
+  moves = ran.moves ++ entered.moves;
+  goes = subst (λ l. Goes old new (ran.moves ++ entered.moves) l) (append-nil ran.lines) (goes_on old now new ran.moves entered.moves ran.lines [] ran.goes entered.goes);
+  stays = stays_on old now new ran.stays entered.stays;
+  broken = entered.broken ∙ ran.broken;
+  steps = entered.steps ∙ ran.steps;
+  put = ran.put;
+  visits = visits_enter old now new i before after result ran entered;
+  run = λ k. ran.run k ∙ ap (λ s. behind ran.lines (run (program_of old.kernel) s k)) (sym entered.flat);
+}
+
+pub lines_text_on : (a b : List Line) → lines_text (a ++ b) ≡ lines_text a ++ lines_text b
+lines_text_on a b = flat_map-append line_text a b
+
+pub tried_same : (old now : Machine) (t : flat_ends.Tried) → Stays old now → tried (program_of now.kernel) (flat_of now) ≡ t → tried (program_of old.kernel) (flat_of now) ≡ t
+tried_same old now t stays is = ap (λ p. tried p (flat_of now)) (sym stays.program) ∙ is
+
+pub inside_same : (old now : Machine) → Stays old now → is_inside (image_of now.kernel) now.at ≡ true → is_inside (image_of old.kernel) now.at ≡ true
+inside_same old now stays is = ap (λ (p : Program). is_inside p.image now.at) (sym stays.program) ∙ is
+
+unfoldable pub ran_step : (old now new : Machine) (i : ℕ) (line : Option Line) (before after later : Option (List ℕ)) → Ran old now i before after → is_inside (image_of now.kernel) now.at ≡ true → (step : HasStepped now new line) → new.steps ≡ now.steps + 1
+    → tried (program_of now.kernel) (flat_of now) ≡ flat_ends.Goes line (flat_of new) → Appends after later (lines_text (line_before line [])) → Ran old new (i + 1) before later
+ran_step old now new i line before after later ran inside step steps is put =
+    let program = program_of old.kernel in
+    let on : (k : ℕ) → run program (flat_of now) (suc k) ≡ with_line line (run program (flat_of new) k) = λ k. run_goes program (flat_of now) (flat_of new) k line (inside_same old now ran.stays inside) (tried_same old now _ ran.stays is) in
+    record {
+      lines = ran.lines ++ line_before line [];
+      moves = ran.moves ++ step.moves;
+      goes = goes_on old now new ran.moves step.moves ran.lines (line_before line []) ran.goes step.goes;
+      stays = stays_on old now new ran.stays step.stays;
+      broken = step.broken ∙ ran.broken;
+      steps = omega (arith, steps, ran.steps);
+      put = subst (Appends before later) (sym (lines_text_on ran.lines (line_before line []))) (appends-both before after later (lines_text ran.lines) (lines_text (line_before line [])) ran.put put);
+      visits = visits_step old now new i ran.visits step.flash;
+      run = λ k.
+          let same : k + (i + 1) ≡ suc k + i = omega arith in
+          ap (original_from old) same ∙ ran.run (suc k) ∙ ap (behind ran.lines) (on k) ∙ behind_line ran.lines line (run program (flat_of new) k);
+    }
+
+-- what the run is where it ends
+pub spent_at : (old now : Machine) (i : ℕ) (before after : Option (List ℕ)) → (ran : Ran old now i before after) → is_inside (image_of now.kernel) now.at ≡ true → original_from old i ≡ run_of flat_ends.Spent ran.lines (flat_of now)
+spent_at old now i before after ran inside =
+    ap (original_from old) (sym (nothing i)) ∙ ran.run 0 ∙ ap (behind ran.lines) (run_spent (program_of old.kernel) (flat_of now) (inside_same old now ran.stays inside)) ∙ behind_ended ran.lines flat_ends.Spent (flat_of now)
+
+-- with any bound that isn't less
+pub wild_at : (old now : Machine) (i k : ℕ) (before after : Option (List ℕ)) → (ran : Ran old now i before after) → is_inside (image_of now.kernel) now.at ≡ false → original_from old (k + i) ≡ run_of (flat_ends.Wild now.at) ran.lines (flat_of now)
+wild_at old now i k before after ran outside =
+    ran.run k ∙ ap (behind ran.lines) (run_wild (program_of old.kernel) (flat_of now) k (ap (λ (p : Program). is_inside p.image now.at) (sym ran.stays.program) ∙ outside)) ∙ behind_ended ran.lines (flat_ends.Wild now.at) (flat_of now)
+
+pub stop_at : (old now : Machine) (i k : ℕ) (before after : Option (List ℕ)) (end : FlatEnd) → (ran : Ran old now i before after) → is_inside (image_of now.kernel) now.at ≡ true → tried (program_of now.kernel) (flat_of now) ≡ flat_ends.Stops end → original_from old (suc k + i) ≡ run_of end ran.lines (flat_of now)
+stop_at old now i k before after end ran inside is =
+    ran.run (suc k) ∙ ap (behind ran.lines) (run_stops (program_of old.kernel) (flat_of now) k end (inside_same old now ran.stays inside) (tried_same old now _ ran.stays is)) ∙ behind_ended ran.lines end (flat_of now)

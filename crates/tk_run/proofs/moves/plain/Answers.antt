@@ -1,0 +1,30 @@
+use Rattle.std.proofs.Common.{refl, sym, ap, ◌∙◌}
+use Rattle.mote_core.specs.Shown.{line_of}
+use Rattle.tk_run.specs.Wholes.{whole}
+use Rattle.tk_run.specs.Machines.{state_of, numbers_of}
+use Rattle.tk_run.proofs.Told.{plain_state, plain_numbers}
+use Rattle.tk_run.proofs.moves.plain.Goals as goal
+
+pub plain_step-shown-requires-clause-step : goal.plain_step-shown-requires-clause-step
+plain_step-shown-requires-clause-step c = c.requires.can.makes.can
+
+pub plain_step-shown-requires-clause-room : goal.plain_step-shown-requires-clause-room
+plain_step-shown-requires-clause-room c = c.requires.can.makes.room
+
+pub returns-in-Went-clause-stepped : goal.returns-in-Went-clause-stepped
+returns-in-Went-clause-stepped c = λ begins line y makes.
+    let m = whole c.args.k.now c.args.p.now in
+    let both = plain_state (state_of m) y c.plain_step-shown.new.self c.plain_step-shown.result begins line c.plain_step-shown.ensures.step makes in
+    (both.0, plain_numbers (numbers_of m) line c.args.p.now.longest refl, sym (ap line_of c.in-Went.is) ∙ both.1, refl, refl, refl)
+
+pub returns-in-Wrote-clause-stepped : goal.returns-in-Wrote-clause-stepped
+returns-in-Wrote-clause-stepped c = λ begins line y makes.
+    let m = whole c.args.k.now c.args.p.now in
+    let both = plain_state (state_of m) y c.plain_step-shown.new.self c.plain_step-shown.result begins line c.plain_step-shown.ensures.step makes in
+    (both.0, plain_numbers (numbers_of m) line c.args.p.now.longest refl, sym (ap line_of c.in-Wrote.is) ∙ both.1, refl, refl, refl)
+
+pub returns-in-Went-clause-free : goal.returns-in-Went-clause-free
+returns-in-Went-clause-free c = (c.requires.can.makes.free, c.requires.can.makes.going)
+
+pub returns-in-Wrote-clause-free : goal.returns-in-Wrote-clause-free
+returns-in-Wrote-clause-free c = (c.requires.can.makes.free, c.requires.can.makes.going)

@@ -1,0 +1,9 @@
+-- The machine that runs, in parts: its kernel, and all else.
+use Rattle.std.specs.Prelude.{max}
+use Rattle.kernel_entry.specs.declared.kernel.Kernel.{Kernel}
+use Rattle.tk_run.specs.declared.progress.Progress.{Progress}
+use Rattle.tk_run.specs.Machines.{Machine}
+
+-- `longest` is raised at services alone, so it may be behind `since`
+abbrev pub whole : Kernel → Progress → Machine
+whole k p = record { kernel = k; at = p.at; owed = p.owed; end = p.end; broken = p.broken; steps = p.steps; crossings = p.crossings; natural = p.natural; entries = p.entries; pages = p.pages; since = p.since; longest = max p.longest p.since }

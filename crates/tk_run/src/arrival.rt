@@ -1,0 +1,86 @@
+//! The arrival that is owed: made before the next step, or refused.
+
+ghost use Rattle.std.specs.Prelude.{◌≡◌, ◌<◌, ◌^◌, Some, None};
+ghost use Rattle.flash_model.specs.Layouts.{IsRight};
+ghost use Rattle.flash_model.specs.Memory.{IsWhole};
+ghost use Rattle.page_index.specs.Cursors.{IsCursor};
+ghost use Rattle.nat_page.specs.Faithful.{IsFaithful};
+ghost use Rattle.addr_tables.specs.Tables.{IsTables};
+ghost use Rattle.kernel_entry.specs.Parts.{image_of};
+ghost use Rattle.tk_run.specs.Loop.{HasArrived};
+ghost use Rattle.tk_run.specs.Ready.{IsGoing};
+ghost use Rattle.tk_run.specs.Stepping.{HasEntered, HasBound};
+ghost use Rattle.tk_run.specs.Wholes.{whole};
+
+use crate::progress::Progress;
+use crate::{End, Owed};
+use branch_bridge::{ArriveStop, arrive_telling};
+use flash_model::Flash;
+use kernel_entry::Kernel;
+use page_index::Cursor;
+
+/// Makes the arrival that is owed, if any. Where it is refused the program has ended.
+pub fn enter(k: &mut Kernel, p: &mut Progress, cursor: &mut Cursor) -> Option<End>
+    requires ready { IsGoing (whole k.old p.old) }
+    requires cursor { IsCursor k.old.layout k.old.mote.flash.words cursor.old }
+    ensures entered { HasEntered (whole k.old p.old) (whole k.new p.new) result }
+    ensures cursor { IsCursor k.new.layout k.new.mote.flash.words cursor.new }
+{
+    match p.owed {
+        None => None,
+        Some(owed) => {
+            arrive_owed(k, p, owed);
+            is_whole(&k.mote.flash);
+            *cursor = Cursor::new();
+            p.end
+        }
+    }
+}
+
+/// The answer where all steps are done: an arrival outside the image is refused at once.
+pub fn at_bound(k: &mut Kernel, p: &mut Progress) -> End
+    requires ready { IsGoing (whole k.old p.old) }
+    ensures bound { HasBound (whole k.old p.old) (whole k.new p.new) result }
+{
+    let owed = match p.owed {
+        None => return End::Spent,
+        Some(owed) => owed,
+    };
+    if owed.target < k.layout.image_words {
+        return End::Spent;
+    }
+    match enter(k, p, &mut Cursor::new()) {
+        None => End::Spent,
+        Some(end) => end,
+    }
+}
+
+/// Makes the arrival that is owed.
+fn arrive_owed(k: &mut Kernel, p: &mut Progress, owed: Owed)
+    requires owed { p.old.owed ≡ Some owed }
+    requires going { p.old.end ≡ None }
+    requires right { IsRight k.old.layout }
+    requires faithful { IsFaithful k.old.layout (image_of k.old) k.old.mote.flash.words }
+    requires tables { IsTables k.old.layout k.old.mote.sram k.old.mote.flash.words }
+    requires few { p.old.pages < 2 ^ 62 }
+    ensures arrived { HasArrived (whole k.old p.old) (whole k.new p.new) }
+{
+    match arrive_telling(&mut k.mote.sram, &mut k.mote.flash, &k.layout, owed.target) {
+        Ok(moved) => {
+            k.mote.cpu.pc = moved.place;
+            p.owed = None;
+            if moved.made {
+                p.pages += 1;
+            }
+        }
+        Err(ArriveStop::Wild { address }) => p.end = Some(End::Wild(address)),
+        Err(ArriveStop::CodeFull { address }) => p.end = Some(End::CodeFull(address)),
+    }
+}
+
+/// Flash is whole, as its type keeps it; a read of any word tells so to the proof.
+fn is_whole(flash: &Flash)
+    ensures whole { IsWhole flash.now }
+{
+    let _ = flash.word(0);
+}

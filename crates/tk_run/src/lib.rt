@@ -1,0 +1,35 @@
+//! The machine, its boot, and its run loop.
+//!
+//! [`Machine::boot`] loads a program onto a mote, and [`Machine::advance`] runs it for some further steps of
+//! the program, with each device line put to a sink as it comes. The program's own words are never executed:
+//! the mote runs rewritten pages, which are made where control first arrives, and calls the kernel for what
+//! they can't do.
+//!
+//! ```rust
+//! let options = Options { quantum: 255, swap: 128 };
+//! let mut machine = Machine::boot(alloc, &image, script, options)?;
+//! match machine.advance(1_000_000, &mut out)? { // the lines go to `out`
+//!     End::Spent => ..,         // all steps were done, and the program goes on
+//!     End::Stopped(stop) => .., // the program stopped at `machine.at`
+//!     End::Wild(t) => ..,       // it left its image
+//!     End::CodeFull(t) => ..,   // no page was free for the code at `t`
+//! }
+//! ```
+//!
+//! docs/MACHINE.md has the fields of a machine, the order of a run, and what always holds.
+//! `specs/Ready` is when a machine is sound and ready to go on, `specs/Running` what `advance` says, and
+//! `specs/WholeRuns` what follows of a whole run from boot.
+#![tactic(auto)]
+
+mod arrival;
+mod machine;
+mod moves;
+mod progress;
+mod run;
+mod step;
+
+pub use machine::{Machine, Options};
+pub use step_laws::{End, Owed};
+
+#[cfg(test)]
+mod tests;

@@ -1,0 +1,144 @@
+//! The machine: a mote that runs a program, how far it has come, and what was counted.
+
+ghost use Rattle.std.specs.Prelude.{◌≡◌, ◌≤◌, ◌+◌, ◌^◌, false, IfOk};
+ghost use Rattle.tk_io.specs.Faults.{HasCause};
+ghost use Rattle.tk_run.specs.Running.{HasAdvanced};
+ghost use Rattle.tk_run.specs.Booted.{booted};
+
+use crate::progress::Progress;
+use crate::run::run_on;
+use crate::{End, Owed};
+use flash_model::Layout;
+use hex_image::Image;
+use input_script::Script;
+use kernel_entry::Kernel;
+use mote_core::Mote;
+use std::alloc::Global;
+use std::marker::Model;
+use tk_io::{Failed, NoMemory, Sink};
+
+/// How a machine is to run its program.
+#[derive(Clone, Copy, Debug, PartialEq, Eq)]
+pub struct Options {
+    /// Every so many crossings is a checkpoint; at least 1.
+    pub quantum: u8,
+    /// The number of swap slots; at most 251.
+    pub swap: u8,
+}
+
+/// A mote that runs a program. Its type keeps it sound, and ready to go on where it isn't broken and
+/// has no end.
+#[derive(Debug, Drop)]
+pub struct Machine {
+    /// The mote, the layout of its flash, and the quantum.
+    pub kernel: Kernel,
+    /// The original address where the next step begins, or where the program stopped.
+    pub at: u16,
+    /// The arrival that is to be made before the next step.
+    pub owed: Option<Owed>,
+    /// How the program ended, once it has.
+    pub end: Option<End>,
+    /// Whether a device line could not be put: then the machine goes no further.
+    pub broken: bool,
+    /// Steps of the program.
+    pub steps: u64,
+    /// Steps that went backward, stayed, or left their page of 128 words.
+    pub crossings: u64,
+    /// Plain AVR steps in code pages.
+    pub natural: u64,
+    /// Kernel services.
+    pub entries: u64,
+    /// Code pages that were made.
+    pub pages: u64,
+    /// Plain steps after the last service.
+    pub since: u64,
+    /// The greatest value that `since` had.
+    pub longest: u64,
+}
+
+impl Model for Machine {
+    ghost use Rattle.tk_run.specs.Machines.{Machine as MachineValue};
+    ghost use Rattle.tk_run.specs.Ready.{IsKept};
+
+    ghost Value = { MachineValue };
+
+    ghost view = { λ m. record { kernel = m.kernel; at = m.at; owed = m.owed; end = m.end; broken = m.broken; steps = m.steps; crossings = m.crossings; natural = m.natural; entries = m.entries; pages = m.pages; since = m.since; longest = m.longest } };
+
+    ghost invariant = { λ m. IsKept (record { kernel = m.kernel; at = m.at; owed = m.owed; end = m.end; broken = m.broken; steps = m.steps; crossings = m.crossings; natural = m.natural; entries = m.entries; pages = m.pages; since = m.since; longest = m.longest }) };
+}
+
+impl Machine {
+    /// A machine with the image in flash that has done nothing yet, and owes an arrival at 0.
+    pub fn boot(
+        alloc: Global,
+        image: &Image,
+        script: Script,
+        options: Options,
+    ) -> Result<Machine, NoMemory>
+        requires quantum { 1 ≤ options.quantum }
+        requires swap { options.swap ≤ 251 }
+        ensures booted { IfOk result (λ m. m ≡ booted image.now script options.quantum options.swap) }
+    {
+        let mut mote = Mote::new(alloc, image.words(), script, options.swap)?;
+        mote.sram.set_count(options.quantum);
+        Ok(Machine {
+            kernel: Kernel {
+                mote,
+                layout: Layout::usual(image.len_words()),
+                quantum: options.quantum,
+            },
+            at: 0,
+            owed: Some(Owed {
+                target: 0,
+                stub: None,
+            }),
+            end: None,
+            broken: false,
+            steps: 0,
+            crossings: 0,
+            natural: 0,
+            entries: 0,
+            pages: 0,
+            since: 0,
+            longest: 0,
+        })
+    }
+
+    /// Does up to n further steps, and puts each device line to `out` as it comes.
+    ///
+    /// An end is kept: a later call answers it again, writes nothing and changes nothing. Where a line
+    /// could not be put the machine is broken, and may not be run on.
+    pub fn advance<K: Sink>(&mut self, n: u64, out: &mut K) -> Result<End, Failed>
+        requires running { self.old.broken ≡ false }
+        requires steps { self.old.steps + n ≤ 10 ^ 12 }
+        ensures advanced { HasAdvanced self.old self.new n (K.taken out.old) (K.taken out.new) result }
+        ensures cause { HasCause (K.faults out.old) (K.faults out.new) result }
+    {
+        let mut p = Progress {
+            at: self.at,
+            owed: self.owed,
+            end: self.end,
+            broken: self.broken,
+            steps: self.steps,
+            crossings: self.crossings,
+            natural: self.natural,
+            entries: self.entries,
+            pages: self.pages,
+            since: self.since,
+            longest: self.longest,
+        };
+        let result = run_on(&mut self.kernel, &mut p, n, out);
+        self.at = p.at;
+        self.owed = p.owed;
+        self.end = p.end;
+        self.broken = p.broken;
+        self.steps = p.steps;
+        self.crossings = p.crossings;
+        self.natural = p.natural;
+        self.entries = p.entries;
+        self.pages = p.pages;
+        self.since = p.since;
+        self.longest = p.longest.max(p.since);
+        result
+    }
+}

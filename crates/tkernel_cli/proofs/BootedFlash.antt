@@ -1,0 +1,32 @@
+-- The machine that a run begins with is kept by its type.
+use Rattle.std.proofs.Common.{ℕ, ◌<◌, ◌≤◌, List, length, arith, inl, inr}
+use Rattle.std.proofs.lemmas.Bool.{cases_lt}
+use Rattle.std.proofs.lemmas.List.{get_or_past}
+use Rattle.hex_image.specs.Image.{IsImage}
+use Rattle.flash_model.specs.Pages.{page_count}
+use Rattle.flash_model.specs.Memory.{AreWords, IsWhole}
+use Rattle.flash_model.proofs.LoadedLaws.{length-loaded, length-many}
+use Rattle.flash_model.proofs.WordLaws.{loaded_fits}
+use Rattle.tk_run.specs.Booted.{booted}
+use Rattle.tk_run.specs.Ready.{IsKept}
+use Rattle.tk_run.proofs.Booting.{going_boot, kept_boot}
+use Rattle.tkernel_cli.specs.declared.request.Request.{Request}
+
+-- an image's words have 16 bits
+words_of_image : (image : List ℕ) → IsImage image → AreWords image
+words_of_image image is a = elim (cases_lt a (length image)) [
+  | inl below ↦ is.small a 0 below
+  | inr beyond ↦ omega (arith, get_or_past image a 0 beyond)
+]
+
+whole_boot : (request : Request) → IsImage request.image → IsWhole (booted request.image request.script request.options.quantum request.options.swap).kernel.mote.flash
+whole_boot request is = record {
+  words = length-loaded request.image (omega (arith, is.few));
+  words_fit = loaded_fits request.image (words_of_image request.image is);
+  erases = length-many page_count 0;
+}
+
+pub boot_kept : (request : Request) → IsImage request.image → 1 ≤ request.options.quantum → request.options.quantum < 256 → request.options.swap ≤ 251 → IsKept (booted request.image request.script request.options.quantum request.options.swap)
+boot_kept request is some low few =
+    kept_boot request.image request.script request.options.quantum request.options.swap
+    (going_boot request.image request.script request.options.quantum request.options.swap is some low few (whole_boot request is))

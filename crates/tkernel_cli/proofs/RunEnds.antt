@@ -1,0 +1,154 @@
+-- A whole run, with its last two lines, as the answer tells it.
+use Rattle.std.proofs.Common.{◌≡◌, ℕ, ◌/◌, ◌≤◌, ◌<◌, List, ◌++◌, append_assoc, refl, sym, ap, ap₂, ◌∙◌, subst, arith, inl, inr}
+use Rattle.std.specs.Prelude.{Result, Ok, Err, OnErr, ◌^◌, codes, decimal}
+use Rattle.std.specs.Io.KnownBytes.{Appends}
+use Rattle.tk_io.specs.declared.failure.Failed.{Failed}
+use Rattle.tk_io.specs.Faults.{Rose, HasCause}
+use Rattle.tk_io.proofs.KnownBytes.{appends-both}
+use Rattle.hex_image.specs.Image.{IsImage}
+use Rattle.mem_guard.specs.FlatMachine.{End, Spent, Wild, Illegal, SelfProgram, Asleep, Halted, Io, Stack, SwapFull, Run}
+use Rattle.kernel_entry.specs.Texts.{stop_text, end_text}
+use Rattle.step_laws.specs.declared.moves.End.{End as MachineEnd}
+use Rattle.step_laws.specs.declared.moves.End.TheVariants as ends
+use Rattle.tk_run.proofs.Few.{never_full}
+use Rattle.tk_run.specs.Machines.{Machine}
+use Rattle.tk_run.specs.Stepping.{lines_text}
+use Rattle.tk_run.specs.Running.{HasAdvanced, flat_end}
+use Rattle.tk_run.specs.Booted.{booted}
+use Rattle.tk_run.specs.WholeRuns.{IsExactRun, IsFullRun, HasWhole, IsKeptEnd}
+use Rattle.tk_run.proofs.WholeRun.{whole_run as whole_of}
+use Rattle.tkernel_cli.specs.declared.request.Request.{Request}
+use Rattle.tkernel_cli.specs.declared.status.Status.{Status}
+use Rattle.tkernel_cli.specs.declared.status.Status.TheVariants as status
+use Rattle.tkernel_cli.specs.Text.{end_line, how_text, full_text, count_text}
+use Rattle.tkernel_cli.specs.Runs.{Stream, Says, Runs, KeepsEnd, original_of, whole_run, checkpoints_of, run_text, status_of_end, status_of_stop}
+use Rattle.tkernel_cli.proofs.BootedFlash.{boot_kept}
+use Rattle.tkernel_cli.proofs.Putting.{cut_behind}
+
+-- a text said behind one that went out before
+rose_on : (before mid now : ℕ) → before ≤ mid → Rose mid now → Rose before now
+rose_on before mid now later rose = omega arith
+
+said_on : (own told : Status) (before mid now : Stream) (lines text : List ℕ) → Appends before.told mid.told lines → before.faults ≤ mid.faults → Says own text mid now told → Says own (lines ++ text) before now told
+said_on own told before mid now lines text put later said = elim said [
+  | inl whole ↦ inl (whole.0, appends-both before.told mid.told now.told lines text put whole.1)
+  | inr cut ↦ inr (cut.0, rose_on before.faults mid.faults now.faults later cut.1, cut_behind before.told mid.told now.told lines text put cut.2)
+]
+
+-- the last two lines, by the original's counts
+last_lines : (end : MachineEnd) (m : Machine) (steps crossings quantum : ℕ) → m.steps ≡ steps → m.crossings ≡ crossings → m.kernel.quantum ≡ quantum
+    → end_line end m.steps (m.crossings / m.kernel.quantum) ++ count_text m.natural m.entries m.pages ≡ end_line end steps (crossings / quantum) ++ count_text m.natural m.entries m.pages
+last_lines end m steps crossings quantum s c q =
+    ap (λ n. end_line end n (m.crossings / m.kernel.quantum) ++ count_text m.natural m.entries m.pages) s
+    ∙ ap₂ (λ x y. end_line end steps (x / y) ++ count_text m.natural m.entries m.pages) c q
+
+-- what is said, as the text of the run
+said_run : (request : Request) (end : MachineEnd) (r : Run) (own told : Status) (before mid now : Stream) (m : Machine) → m.steps ≡ r.state.steps → m.crossings ≡ r.state.crossings → m.kernel.quantum ≡ request.options.quantum
+    → Appends before.told mid.told (lines_text r.lines) → before.faults ≤ mid.faults
+    → Says own (end_line end m.steps (m.crossings / m.kernel.quantum) ++ count_text m.natural m.entries m.pages) mid now told
+    → Says own (run_text r (end_line end r.state.steps (checkpoints_of request r)) m) before now told
+said_run request end r own told before mid now m steps crossings quantum put later said =
+    let whole = said_on own told before mid now (lines_text r.lines) _ put later said in
+    let text : lines_text r.lines ++ (end_line end m.steps (m.crossings / m.kernel.quantum) ++ count_text m.natural m.entries m.pages) ≡ run_text r (end_line end r.state.steps (checkpoints_of request r)) m =
+    ap (λ last. lines_text r.lines ++ last) (last_lines end m r.state.steps r.state.crossings request.options.quantum steps crossings quantum)
+    ∙ sym (append_assoc (lines_text r.lines) (end_line end r.state.steps (checkpoints_of request r)) (count_text m.natural m.entries m.pages)) in
+    subst (λ t. Says own t before now told) text whole
+
+keeps_end : (e : End) (end : MachineEnd) (m : Machine) → flat_end end ≡ e → IsKeptEnd e end m.end → KeepsEnd e m
+keeps_end Spent end m same kept = kept
+keeps_end (Wild pc) end m same kept = (end, kept, same)
+keeps_end (Illegal pc) end m same kept = (end, kept, same)
+keeps_end (SelfProgram pc) end m same kept = (end, kept, same)
+keeps_end (Asleep pc) end m same kept = (end, kept, same)
+keeps_end (Halted pc) end m same kept = (end, kept, same)
+keeps_end (Io pc a) end m same kept = (end, kept, same)
+keeps_end (Stack pc a) end m same kept = (end, kept, same)
+keeps_end (SwapFull pc a) end m same kept = (end, kept, same)
+
+-- the stop line of an end that is the original's too, and that of a full pool
+line_of : (end : MachineEnd) (steps checkpoints : ℕ) → how_text end ≡ end_text (flat_end end) → end_line end steps checkpoints ≡ stop_text (flat_end end) steps checkpoints
+unfolding end_line stop_text
+line_of end steps checkpoints how = ap (λ h. h ++ codes " steps " ++ decimal steps ++ codes " checkpoints " ++ decimal checkpoints ++ codes "\n") how
+
+full_line : (t steps checkpoints : ℕ) → end_line (ends.CodeFull t) steps checkpoints ≡ full_text t steps checkpoints
+unfolding end_line full_text
+full_line t steps checkpoints = refl
+
+-- a run to the original's end
+ended : (request : Request) (before mid now : Stream) (told : Status) (end : MachineEnd) (m : Machine) → status_of_stop end ≡ status_of_end (flat_end end) → how_text end ≡ end_text (flat_end end)
+    → IsExactRun request.image request.script request.options.quantum request.options.swap request.options.steps before.told mid.told end m → before.faults ≤ mid.faults
+    → Says (status_of_stop end) (end_line end m.steps (m.crossings / m.kernel.quantum) ++ count_text m.natural m.entries m.pages) mid now told
+    → Runs request before now told m
+ended request before mid now told end m status how run later said =
+    let r = whole_run request in
+    let steps : m.steps ≡ r.state.steps = ap (λ s. s.steps) run.state in
+    let crossings : m.crossings ≡ r.state.crossings = ap (λ s. s.crossings) run.state in
+    let whole = said_run request end r (status_of_stop end) told before mid now m steps crossings run.quantum_is run.put later said in
+    let stop : end_line end r.state.steps (checkpoints_of request r) ≡ stop_text r.end r.state.steps (checkpoints_of request r) = line_of end r.state.steps (checkpoints_of request r) how ∙ ap (λ e. stop_text e r.state.steps (checkpoints_of request r)) run.same in
+    let own : status_of_stop end ≡ status_of_end r.end = status ∙ ap status_of_end run.same in
+    Runs.Ended (record {
+      said = subst (λ s. Says s (run_text r (stop_text r.end r.state.steps (checkpoints_of request r)) m) before now told) own (subst (λ l. Says (status_of_stop end) (run_text r l m) before now told) stop whole);
+      end = subst (λ e. KeepsEnd e m) run.same (keeps_end (flat_end end) end m refl run.kept);
+      follows = record { state = run.state; program = run.program; quantum = run.quantum_is; unbroken = run.unbroken; ready = run.ready; path = run.path };
+    })
+
+-- a run that used up the code pool
+out_of_pages : (request : Request) (before mid now : Stream) (told : Status) (t : ℕ) (m : Machine)
+    → IsFullRun request.image request.script request.options.quantum request.options.swap request.options.steps before.told mid.told t m → before.faults ≤ mid.faults
+    → Says status.CodeFull (end_line (ends.CodeFull t) m.steps (m.crossings / m.kernel.quantum) ++ count_text m.natural m.entries m.pages) mid now told
+    → Runs request before now told m
+out_of_pages request before mid now told t m run later said =
+    let r = original_of request m.steps in
+    let steps : m.steps ≡ r.state.steps = ap (λ s. s.steps) run.state in
+    let crossings : m.crossings ≡ r.state.crossings = ap (λ s. s.crossings) run.state in
+    let whole = said_run request (ends.CodeFull t) r status.CodeFull told before mid now m steps crossings run.quantum_is run.put later said in
+    Runs.Full (record {
+      t = t;
+      said = subst (λ line. Says status.CodeFull (run_text r line m) before now told) (full_line t r.state.steps (checkpoints_of request r) ∙ ap (λ n. full_text t n (checkpoints_of request r)) (sym steps)) whole;
+      fewer = run.fewer;
+      spent = run.same;
+      at = sym (ap (λ s. s.cpu.pc) run.state) ∙ run.at;
+      end = run.kept;
+      used = run.pages;
+      inside = run.inside;
+      unknown = run.unknown;
+      many = λ addresses few stays. never_full request.image request.script request.options.quantum request.options.swap request.options.steps before.told mid.told t m addresses run few stays;
+      follows = record { state = run.state; program = run.program; quantum = run.quantum_is; unbroken = run.unbroken; ready = run.ready; path = run.path };
+    })
+
+-- a run whose last two lines were said, or not
+ran_to : (request : Request) (before mid now : Stream) (told : Status) (end : MachineEnd) (m : Machine)
+    → HasWhole request.image request.script request.options.quantum request.options.swap request.options.steps before.told mid.told (Ok end) m → before.faults ≤ mid.faults
+    → Says (status_of_stop end) (end_line end m.steps (m.crossings / m.kernel.quantum) ++ count_text m.natural m.entries m.pages) mid now told
+    → Runs request before now told m
+ran_to request before mid now told ends.Spent m run later said = ended request before mid now told ends.Spent m refl refl run later said
+ran_to request before mid now told (ends.Stopped stop) m run later said = ended request before mid now told (ends.Stopped stop) m refl refl run later said
+ran_to request before mid now told (ends.Wild t) m run later said = ended request before mid now told (ends.Wild t) m refl refl run later said
+ran_to request before mid now told (ends.CodeFull t) m run later said = out_of_pages request before mid now told t m run later said
+
+-- a run whose line could not be put
+ran_until_cut : (request : Request) (before now : Stream) (failed : Failed) (m : Machine)
+    → HasWhole request.image request.script request.options.quantum request.options.swap request.options.steps before.told now.told (Err failed) m → Rose before.faults now.faults
+    → Runs request before now status.WriteFault m
+ran_until_cut request before now failed m run rose =
+    Runs.Cut (record { status_is = refl; rose = rose; put = run.put; broken = run.broken; within = run.within; sound = run.sound; path = run.path })
+
+-- the last two lines were said, or the sink failed
+pub answered : (request : Request) (before mid now : Stream) (told : Status) (result : Result MachineEnd Failed) (end : MachineEnd) (m : Machine) → IsImage request.image → 1 ≤ request.options.quantum → request.options.quantum < 256 → request.options.swap ≤ 251 → request.options.steps ≤ 10 ^ 9
+    → HasAdvanced (booted request.image request.script request.options.quantum request.options.swap) m request.options.steps before.told mid.told result → result ≡ Ok end → HasCause before.faults mid.faults result
+    → Says (status_of_stop end) (end_line end m.steps (m.crossings / m.kernel.quantum) ++ count_text m.natural m.entries m.pages) mid now told
+    → Runs request before now told m
+answered request before mid now told result end m image some low few bound advanced is cause said =
+    let run = whole_of request.image request.script request.options.quantum request.options.swap request.options.steps before.told mid.told result m image (boot_kept request image some low few) (omega arith) advanced in
+    ran_to request before mid now told end m (subst (λ r. HasWhole request.image request.script request.options.quantum request.options.swap request.options.steps before.told mid.told r m) is run) cause.later said
+
+err_rose : (result : Result MachineEnd Failed) (failed : Failed) (before now : ℕ) → result ≡ Err failed → OnErr result (Rose before now) → Rose before now
+err_rose (Ok end) failed before now is rose = absurd (cc)
+err_rose (Err e) failed before now is rose = rose
+
+pub answered_cut : (request : Request) (before now : Stream) (result : Result MachineEnd Failed) (failed : Failed) (m : Machine) → IsImage request.image → 1 ≤ request.options.quantum → request.options.quantum < 256 → request.options.swap ≤ 251 → request.options.steps ≤ 10 ^ 9
+    → HasAdvanced (booted request.image request.script request.options.quantum request.options.swap) m request.options.steps before.told now.told result → result ≡ Err failed → HasCause before.faults now.faults result
+    → Runs request before now status.WriteFault m
+answered_cut request before now result failed m image some low few bound advanced is cause =
+    let run = whole_of request.image request.script request.options.quantum request.options.swap request.options.steps before.told now.told result m image (boot_kept request image some low few) (omega arith) advanced in
+    ran_until_cut request before now failed m (subst (λ r. HasWhole request.image request.script request.options.quantum request.options.swap request.options.steps before.told now.told r m) is run) (err_rose result failed before.faults now.faults is cause.failed)

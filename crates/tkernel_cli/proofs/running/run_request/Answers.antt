@@ -1,0 +1,27 @@
+use Rattle.std.proofs.Common.{subst, arith, inl, refl}
+use Rattle.hex_image.specs.Image.{IsImage}
+use Rattle.tk_run.specs.Running.{HasAdvanced}
+use Rattle.tkernel_cli.specs.Runs.{Stream}
+use Rattle.tkernel_cli.proofs.RunEnds.{answered, answered_cut}
+use Rattle.tkernel_cli.proofs.running.run_request.Goals.{in-Ok-advance, in-Err-advance}
+use Rattle.tkernel_cli.proofs.running.run_request.Goals as goal
+
+pub returns : goal.returns
+returns g c =
+    let request = c.args.request in
+    let advanced = subst (λ m. HasAdvanced m c.advance.new.self request.options.steps (g.K.Sink.taken c.args.out.now) (g.K.Sink.taken c.advance.new.out) c.advance.result) c.in-Ok.ensures.booted c.advance.ensures.advanced in
+    let before : Stream = record { told = g.K.Sink.taken c.args.out.now; faults = g.K.Sink.faults c.args.out.now } in
+    let mid : Stream = record { told = g.K.Sink.taken c.advance.new.out; faults = g.K.Sink.faults c.advance.new.out } in
+    let image : IsImage request.image = subst IsImage (c.image.view_is) c.image.invariant in
+    record {
+      ran = inl (record {
+        machine = c.advance.new.self;
+        kept = refl;
+        runs = elim c.match-advance.branch [
+          | in-Ok-advance w ↦ rw (w.out-is, w.status-is)
+              (answered request before mid _ w.tell_end-status.result c.advance.result w.in-Ok-advance.end c.advance.new.self image c.requires.quantum (omega arith) c.requires.swap c.requires.steps advanced w.in-Ok-advance.is c.advance.ensures.cause w.tell_end-status.ensures.said)
+          | in-Err-advance w ↦ rw (w.out-is, w.status-is)
+              (answered_cut request before mid c.advance.result w.in-Err-advance.field-0 c.advance.new.self image c.requires.quantum (omega arith) c.requires.swap c.requires.steps advanced w.in-Err-advance.is c.advance.ensures.cause)
+        ];
+      });
+    }

@@ -1,0 +1,192 @@
+//! The words of a command line.
+use crate::support::words_of;
+use clap::{Arg, ArgAction, Command};
+use std::alloc::Global;
+use std::test::Fail;
+use tkernel_cli::{RunOptions, options_of};
+
+/// What `run` is told by itself.
+const DEFAULTS: RunOptions = RunOptions {
+    steps: 1_000_000,
+    quantum: 255,
+    swap: 128,
+};
+
+/// Words behind `run` that are accepted, and what they ask for.
+const ACCEPTED: [(&[&str], RunOptions); 13] = [
+    (&[], DEFAULTS),
+    (
+        &["--steps", "9"],
+        RunOptions {
+            steps: 9,
+            ..DEFAULTS
+        },
+    ),
+    (
+        &["--steps=5"],
+        RunOptions {
+            steps: 5,
+            ..DEFAULTS
+        },
+    ),
+    (
+        &["--steps", "0"],
+        RunOptions {
+            steps: 0,
+            ..DEFAULTS
+        },
+    ),
+    (
+        &["--steps", "0000000009"],
+        RunOptions {
+            steps: 9,
+            ..DEFAULTS
+        },
+    ),
+    (
+        &["--steps=1000000000"],
+        RunOptions {
+            steps: 1_000_000_000,
+            ..DEFAULTS
+        },
+    ),
+    (
+        &["--quantum", "1"],
+        RunOptions {
+            quantum: 1,
+            ..DEFAULTS
+        },
+    ),
+    (&["--quantum=255"], DEFAULTS),
+    (
+        &["--swap", "0"],
+        RunOptions {
+            swap: 0,
+            ..DEFAULTS
+        },
+    ),
+    (
+        &["--swap=251"],
+        RunOptions {
+            swap: 251,
+            ..DEFAULTS
+        },
+    ),
+    (
+        &["--steps", "1", "--quantum", "2", "--swap", "3"],
+        RunOptions {
+            steps: 1,
+            quantum: 2,
+            swap: 3,
+        },
+    ),
+    (
+        &["--swap=3", "--quantum=2", "--steps=1"],
+        RunOptions {
+            steps: 1,
+            quantum: 2,
+            swap: 3,
+        },
+    ),
+    (
+        &["--quantum", "2", "--steps=1", "--swap", "3"],
+        RunOptions {
+            steps: 1,
+            quantum: 2,
+            swap: 3,
+        },
+    ),
+];
+
+/// Words that are refused, `run` included.
+const REFUSED: [&[&str]; 30] = [
+    &[],
+    &[""],
+    &["Run"],
+    &["help", "run"],
+    &["--help"],
+    &["--version"],
+    &["run", ""],
+    &["run", "run"],
+    &["run", "--"],
+    &["run", "--steps"],
+    &["run", "--steps", ""],
+    &["run", "--steps="],
+    &["run", "--steps", "+1"],
+    &["run", "--steps", "-1"],
+    &["run", "--steps", " 1"],
+    &["run", "--steps", "1 "],
+    &["run", "--steps", "0x1"],
+    &["run", "--steps", "00000000001"],
+    &["run", "--steps", "1000000001"],
+    &["run", "--steps==1"],
+    &["run", "--steps1"],
+    &["run", "--step", "1"],
+    &["run", "-steps", "1"],
+    &["run", "--steps", "1", "--steps", "2"],
+    &["run", "--quantum", "0"],
+    &["run", "--quantum", "256"],
+    &["run", "--quantum=1", "--quantum=1"],
+    &["run", "--swap", "252"],
+    &["run", "--swap", "1", "--swap=1"],
+    &["run", "--steps", "--swap", "1"],
+];
+
+#[test]
+fn accepted_words_ask_for_their_options(rt: HostRuntime) -> Result<(), Fail> {
+    for (words, options) in &ACCEPTED {
+        assert_eq!(rt; options_of(&behind_run(rt.alloc(), words)?), Some(*options));
+    }
+    Ok(())
+}
+
+#[test]
+fn other_words_are_refused(rt: HostRuntime) -> Result<(), Fail> {
+    for words in &REFUSED {
+        assert_eq!(rt; options_of(&words_of(rt.alloc(), words)?), None);
+    }
+    Ok(())
+}
+
+/// A command of clap with the same options reads the accepted words alike.
+#[test]
+fn clap_reads_the_accepted_words_alike(rt: HostRuntime) -> Result<(), Fail> {
+    let alloc = rt.alloc();
+    for (words, options) in &ACCEPTED {
+        let mut command = Command::new(alloc, "run");
+        for name in ["steps", "quantum", "swap"] {
+            command = command.arg(Arg::new(alloc, name).long(name).action(ArgAction::Set))?;
+        }
+        let mut line = Vec::new(alloc);
+        line.push("run")?;
+        line.extend_from_slice(words)?;
+        let matches = command
+            .try_get_matches_from(&line)
+            .map_err(|_| "clap refuses")?;
+        assert_eq!(rt; number(matches.get_str("steps"), 1_000_000), options.steps);
+        assert_eq!(rt;
+            number(matches.get_str("quantum"), 255),
+            u64::from(options.quantum)
+        );
+        assert_eq!(rt;
+            number(matches.get_str("swap"), 128),
+            u64::from(options.swap)
+        );
+    }
+    Ok(())
+}
+
+fn number(text: Option<&str>, default: u64) -> u64 {
+    match text {
+        Some(text) => text.parse().unwrap_or(u64::MAX),
+        None => default,
+    }
+}
+
+fn behind_run(alloc: Global, words: &[&str]) -> Result<Vec<String>, Fail> {
+    let mut all = words_of(alloc, &["run"])?;
+    for word in words {
+        all.push(String::from_str(alloc, word)?)?;
+    }
+    Ok(all)
+}
