@@ -10,8 +10,9 @@ use Rattle.input_script.specs.Script.{IsBad}
 use Rattle.input_script.specs.declared.fault.ScriptFault.{ScriptFault}
 use Rattle.input_script.specs.declared.input.Event.{Event}
 use Rattle.input_script.proofs.Judgement.{one_judgement}
-use Rattle.tkernel_cli.specs.declared.refusal.Refusal.{Refusal}
-use Rattle.tkernel_cli.specs.declared.refusal.Refusal.TheVariants.{Usage, ReadFault, TooLong, BadHex, BadScript, NoMemory}
+use Rattle.tkernel_cli.specs.declared.command.Command.TheVariants as commands
+use Rattle.tkernel_cli.specs.declared.reply.Reply.{Reply}
+use Rattle.tkernel_cli.specs.declared.reply.Reply.TheVariants.{Help, Usage, ReadFault, TooLong, BadHex, BadScript, NoMemory}
 use Rattle.tkernel_cli.specs.declared.status.Status.{Status}
 use Rattle.tkernel_cli.specs.declared.status.Status.TheVariants as status
 use Rattle.tkernel_cli.specs.declared.top.Exit.{Exit}
@@ -21,8 +22,10 @@ use Rattle.input_script.specs.Script.{IsScript}
 use Rattle.tkernel_cli.specs.declared.request.Request.{Request}
 use Rattle.tkernel_cli.specs.Options.{IsRunWords}
 use Rattle.tkernel_cli.specs.Runs.{Stream, Says, Runs, status_of_end, original_of}
-use Rattle.tkernel_cli.specs.Answer.{Gave, HasRead, HasBadScript, IsAnswer, IsExact, IsInput, IsRefused, IsRun, IsWarranted, Refuses, Warrants, most_input, status_of}
-use Rattle.tkernel_cli.proofs.OneCommand.{one_options}
+use Rattle.program_generator.specs.Generated.{generated}
+use Rattle.tkernel_cli.specs.Commands.{IsCommand, IsGenerate, IsNoCommand, IsRun}
+use Rattle.tkernel_cli.specs.Answer.{Gave, HasRead, HasBadScript, IsAccepted, IsAnswer, IsExact, IsGenerated, IsInput, IsReplied, IsWarranted, Replies, Warrants, WarrantsRun, most_input, status_of}
+use Rattle.tkernel_cli.proofs.OneCommand.{one_command, one_options, one_seed}
 
 -- a text has one image, one end of it, and one list of events behind it
 one_image_of : (text a b : List ℕ) (events others : List Event) → IsInput text a events → IsInput text b others → a ≡ b
@@ -62,30 +65,100 @@ one_bad_script text line other fault fault' x y =
     let one = one_judgement (drop y.position text) in
     ap (λ z. BadScript z fault) (one.one_line line other fault fault' bad y.bad) ∙ ap (λ z. BadScript other z) (one.one_fault line other fault fault' bad y.bad)
 
+-- words of one command are none of another
+run_apart_help : (words : List (List ℕ)) → IsRun words → IsCommand words commands.Help → ⊥
+run_apart_help words run help =
+    let same : commands.Run run.0 ≡ commands.Help = one_command words (commands.Run run.0) commands.Help run.1 help in
+    absurd (cc)
+
+run_apart_generate : (words : List (List ℕ)) (seed : ℕ) → IsRun words → IsGenerate words seed → ⊥
+run_apart_generate words seed run generate =
+    let same : commands.Run run.0 ≡ commands.Generate seed = one_command words (commands.Run run.0) (commands.Generate seed) run.1 generate in
+    absurd (cc)
+
+generate_apart_help : (words : List (List ℕ)) (seed : ℕ) → IsGenerate words seed → IsCommand words commands.Help → ⊥
+generate_apart_help words seed generate help =
+    let same : commands.Generate seed ≡ commands.Help = one_command words (commands.Generate seed) commands.Help generate help in
+    absurd (cc)
+
+-- the requests that words and a text warrant
+one_generated : (words : List (List ℕ)) (p q : Request) → IsGenerated words p → IsGenerated words q → p ≡ q
+one_generated words p q v w =
+    let seeds = one_seed words v.seed w.seed v.command w.command in
+    same_request p q
+    (v.made.image ∙ ap generated seeds ∙ sym w.made.image)
+    (v.made.script ∙ sym w.made.script)
+    (v.made.options ∙ sym w.made.options)
+
+one_accepted : (words : List (List ℕ)) (text : List ℕ) (p q : Request) → Warrants words text (Ok p) → Warrants words text (Ok q) → p ≡ q
+one_accepted words text p q v w = elim v [
+  | inl x ↦ elim w [
+    | inl y ↦ one_request words text p q x.0 y.0 x.2 y.2
+    | inr y ↦ absurd (run_apart_generate words y.seed (p.options, x.0) y.command)
+  ]
+  | inr x ↦ elim w [
+    | inl y ↦ absurd (run_apart_generate words x.seed (q.options, y.0) x.command)
+    | inr y ↦ one_generated words p q x y
+  ]
+]
+
+never_help : (words : List (List ℕ)) (text : List ℕ) (p : Request) → Warrants words text (Ok p) → IsCommand words commands.Help → ⊥
+never_help words text p v help = elim v [
+  | inl x ↦ run_apart_help words (p.options, x.0) help
+  | inr x ↦ generate_apart_help words x.seed x.command help
+]
+
+never_usage : (words : List (List ℕ)) (text : List ℕ) (p : Request) → Warrants words text (Ok p) → IsNoCommand words → ⊥
+never_usage words text p v none = elim v [
+  | inl x ↦ none (commands.Run p.options) x.0
+  | inr x ↦ none (commands.Generate x.seed) x.command
+]
+
+no_run : (words : List (List ℕ)) → IsNoCommand words → IsRun words → ⊥
+no_run words none run = none (commands.Run run.0) run.1
+
+-- of `run`, the request is one that was read
+of_run : (words : List (List ℕ)) (text : List ℕ) (p : Request) → IsRun words → Warrants words text (Ok p) → WarrantsRun words text p
+of_run words text p run v = elim v [
+  | inl x ↦ x
+  | inr x ↦ absurd (run_apart_generate words x.seed run x.command)
+]
+
 -- no two verdicts are warranted
-only_one : (words : List (List ℕ)) (text : List ℕ) (r s : Result Request Refusal) → Warrants words text r → Warrants words text s → r ≡ s
-only_one words text (Ok p) (Ok q) v w = ap Ok (one_request words text p q v.0 w.0 v.2 w.2)
-only_one words text (Ok p) (Err Usage) v w = absurd (w (p.options, v.0))
-only_one words text (Ok p) (Err TooLong) v w = absurd (omega (arith, v.1, w.1))
-only_one words text (Ok p) (Err (BadHex m g)) v w = absurd (hex_apart text _ _ m g (v.2.hex) w.2)
-only_one words text (Ok p) (Err (BadScript m g)) v w = absurd (script_apart text m g _ _ w.2 v.2)
-only_one words text (Err Usage) (Ok q) v w = absurd (v (q.options, w.0))
+only_one : (words : List (List ℕ)) (text : List ℕ) (r s : Result Request Reply) → Warrants words text r → Warrants words text s → r ≡ s
+only_one words text (Ok p) (Ok q) v w = ap Ok (one_accepted words text p q v w)
+only_one words text (Ok p) (Err Help) v w = absurd (never_help words text p v w)
+only_one words text (Ok p) (Err Usage) v w = absurd (never_usage words text p v w)
+only_one words text (Ok p) (Err TooLong) v w = absurd (omega (arith, (of_run words text p w.0 v).1, w.1))
+only_one words text (Ok p) (Err (BadHex m g)) v w = absurd (hex_apart text _ _ m g ((of_run words text p w.0 v).2.hex) w.2)
+only_one words text (Ok p) (Err (BadScript m g)) v w = absurd (script_apart text m g _ _ w.2 (of_run words text p w.0 v).2)
+only_one words text (Err Help) (Ok q) v w = absurd (never_help words text q w v)
+only_one words text (Err Help) (Err Help) v w = refl
+only_one words text (Err Help) (Err Usage) v w = absurd (w commands.Help v)
+only_one words text (Err Help) (Err TooLong) v w = absurd (run_apart_help words w.0 v)
+only_one words text (Err Help) (Err (BadHex m g)) v w = absurd (run_apart_help words w.0 v)
+only_one words text (Err Help) (Err (BadScript m g)) v w = absurd (run_apart_help words w.0 v)
+only_one words text (Err Usage) (Ok q) v w = absurd (never_usage words text q w v)
+only_one words text (Err Usage) (Err Help) v w = absurd (v commands.Help w)
 only_one words text (Err Usage) (Err Usage) v w = refl
-only_one words text (Err Usage) (Err TooLong) v w = absurd (v w.0)
-only_one words text (Err Usage) (Err (BadHex m g)) v w = absurd (v w.0)
-only_one words text (Err Usage) (Err (BadScript m g)) v w = absurd (v w.0)
-only_one words text (Err TooLong) (Ok q) v w = absurd (omega (arith, v.1, w.1))
-only_one words text (Err TooLong) (Err Usage) v w = absurd (w v.0)
+only_one words text (Err Usage) (Err TooLong) v w = absurd (no_run words v w.0)
+only_one words text (Err Usage) (Err (BadHex m g)) v w = absurd (no_run words v w.0)
+only_one words text (Err Usage) (Err (BadScript m g)) v w = absurd (no_run words v w.0)
+only_one words text (Err TooLong) (Ok q) v w = absurd (omega (arith, v.1, (of_run words text q v.0 w).1))
+only_one words text (Err TooLong) (Err Help) v w = absurd (run_apart_help words v.0 w)
+only_one words text (Err TooLong) (Err Usage) v w = absurd (no_run words w v.0)
 only_one words text (Err TooLong) (Err TooLong) v w = refl
 only_one words text (Err TooLong) (Err (BadHex m g)) v w = absurd (omega (arith, v.1, w.1))
 only_one words text (Err TooLong) (Err (BadScript m g)) v w = absurd (omega (arith, v.1, w.1))
-only_one words text (Err (BadHex l f)) (Ok q) v w = absurd (hex_apart text _ _ l f (w.2.hex) v.2)
-only_one words text (Err (BadHex l f)) (Err Usage) v w = absurd (w v.0)
+only_one words text (Err (BadHex l f)) (Ok q) v w = absurd (hex_apart text _ _ l f ((of_run words text q v.0 w).2.hex) v.2)
+only_one words text (Err (BadHex l f)) (Err Help) v w = absurd (run_apart_help words v.0 w)
+only_one words text (Err (BadHex l f)) (Err Usage) v w = absurd (no_run words w v.0)
 only_one words text (Err (BadHex l f)) (Err TooLong) v w = absurd (omega (arith, v.1, w.1))
 only_one words text (Err (BadHex l f)) (Err (BadHex m g)) v w = ap Err (one_bad_hex text l m f g v.2 w.2)
 only_one words text (Err (BadHex l f)) (Err (BadScript m g)) v w = absurd (hex_apart text _ _ l f (w.2.hex) v.2)
-only_one words text (Err (BadScript l f)) (Ok q) v w = absurd (script_apart text l f _ _ v.2 w.2)
-only_one words text (Err (BadScript l f)) (Err Usage) v w = absurd (w v.0)
+only_one words text (Err (BadScript l f)) (Ok q) v w = absurd (script_apart text l f _ _ v.2 (of_run words text q v.0 w).2)
+only_one words text (Err (BadScript l f)) (Err Help) v w = absurd (run_apart_help words v.0 w)
+only_one words text (Err (BadScript l f)) (Err Usage) v w = absurd (no_run words w v.0)
 only_one words text (Err (BadScript l f)) (Err TooLong) v w = absurd (omega (arith, v.1, w.1))
 only_one words text (Err (BadScript l f)) (Err (BadHex m g)) v w = absurd (hex_apart text _ _ m g (v.2.hex) w.2)
 only_one words text (Err (BadScript l f)) (Err (BadScript m g)) v w = ap Err (one_bad_script text l m f g v.2 w.2)
@@ -93,6 +166,8 @@ only_one words text (Err ReadFault) r v w = absurd v
 only_one words text (Err NoMemory) r v w = absurd v
 only_one words text (Ok p) (Err ReadFault) v w = absurd w
 only_one words text (Ok p) (Err NoMemory) v w = absurd w
+only_one words text (Err Help) (Err ReadFault) v w = absurd w
+only_one words text (Err Help) (Err NoMemory) v w = absurd w
 only_one words text (Err Usage) (Err ReadFault) v w = absurd w
 only_one words text (Err Usage) (Err NoMemory) v w = absurd w
 only_one words text (Err TooLong) (Err ReadFault) v w = absurd w
@@ -126,13 +201,14 @@ read_as words before now text P told read =
     let same = all_given before now text read.text told read.gave in
     (read.run, subst (λ z. length z ≤ most_input) same read.gave.short, subst P same read.judged)
 
--- a reason for a refusal is warranted, but for a fault or want of memory
-pub data Reason (words : List (List ℕ)) (text : List ℕ) (source source' : Stream) (refusal : Refusal) : Type 0 where
-  Faulty : Rose source.faults source'.faults → Reason words text source source' refusal
-  Wanting : refusal ≡ NoMemory → Reason words text source source' refusal
-  Warranted : Warrants words text (Err refusal) → Reason words text source source' refusal
+-- a reason for a reply is warranted, but for a fault or want of memory
+pub data Reason (words : List (List ℕ)) (text : List ℕ) (source source' : Stream) (reply : Reply) : Type 0 where
+  Faulty : Rose source.faults source'.faults → Reason words text source source' reply
+  Wanting : reply ≡ NoMemory → Reason words text source source' reply
+  Warranted : Warrants words text (Err reply) → Reason words text source source' reply
 
-reason_of : (words : List (List ℕ)) (text : List ℕ) (source source' : Stream) (refusal : Refusal) → source.told ≡ Some text → IsRefused words source source' refusal → Reason words text source source' refusal
+reason_of : (words : List (List ℕ)) (text : List ℕ) (source source' : Stream) (reply : Reply) → source.told ≡ Some text → IsReplied words source source' reply → Reason words text source source' reply
+reason_of words text source source' Help told reason = Warranted reason.0
 reason_of words text source source' Usage told reason = Warranted reason.0
 reason_of words text source source' ReadFault told reason = Faulty reason.1
 reason_of words text source source' TooLong told reason =
@@ -145,14 +221,14 @@ reason_of words text source source' NoMemory told reason = Wanting refl
 said_whole : (own told : Status) (text : List ℕ) (before now : Stream) → (Rose before.faults now.faults → ⊥) → Says own text before now told → (told ≡ own) × Appends before.told now.told text
 said_whole own told text before now well said = elim said [ inl whole ↦ whole | inr cut ↦ absurd (well cut.1) ]
 
-refusal_is_exact : (words : List (List ℕ)) (source source' sink sink' : Stream) (exit : Exit) → Refuses words source source' sink sink' exit → IsExact words source source' sink sink' exit
-refusal_is_exact words source source' sink sink' exit refuses text verdict serves warranted =
-    let said = said_whole (status_of refuses.refusal) exit.status _ sink sink' serves.written refuses.said in
-    elim (reason_of words text source source' refuses.refusal serves.told refuses.reason) [
+reply_is_exact : (words : List (List ℕ)) (source source' sink sink' : Stream) (exit : Exit) → Replies words source source' sink sink' exit → IsExact words source source' sink sink' exit
+reply_is_exact words source source' sink sink' exit replies text verdict serves warranted =
+    let said = said_whole (status_of replies.reply) exit.status _ sink sink' serves.written replies.said in
+    elim (reason_of words text source source' replies.reply serves.told replies.reason) [
       | Faulty rose ↦ absurd (serves.read rose)
       | Wanting none ↦ inl (said.0 ∙ ap status_of none)
       | Warranted own ↦
-          let same : Err refuses.refusal ≡ verdict = only_one words text (Err refuses.refusal) verdict own warranted in
+          let same : Err replies.reply ≡ verdict = only_one words text (Err replies.reply) verdict own warranted in
           inr (subst (λ z. IsWarranted z sink sink' exit) same said)
     ]
 
@@ -176,14 +252,20 @@ not_cut request before now told m well (Runs.Full run) is =
     absurd (cc)
 not_cut request before now told m well (Runs.Cut run) is = well run.rose
 
+-- what was accepted is warranted
+accepted_warranted : (words : List (List ℕ)) (source source' : Stream) (text : List ℕ) (request : Request) → source.told ≡ Some text → IsAccepted words source source' request → Warrants words text (Ok request)
+accepted_warranted words source source' text request told accepted = elim accepted [
+  | inl read ↦
+      let same = all_given source source' text read.text told read.gave in
+      inl (read.options, subst (λ z. length z ≤ most_input) same read.gave.short, subst (λ z. IsInput z request.image request.script) same read.input)
+  | inr made ↦ inr made.0
+]
+
 pub answer_is_exact : (words : List (List ℕ)) (source source' sink sink' : Stream) (exit : Exit) → IsAnswer words source source' sink sink' exit → IsExact words source source' sink sink' exit
 answer_is_exact words source source' sink sink' exit answer text verdict serves warranted = elim answer [
-  | inl refuses ↦ refusal_is_exact words source source' sink sink' exit refuses text verdict serves warranted
+  | inl replies ↦ reply_is_exact words source source' sink sink' exit replies text verdict serves warranted
   | inr runs ↦
-      let accepted = runs.accepted in
-      let same_text = all_given source source' text accepted.text serves.told accepted.gave in
-      let short = subst (λ z. length z ≤ most_input) same_text accepted.gave.short in
-      let input = subst (λ z. IsInput z runs.request.image runs.request.script) same_text accepted.input in
-      let same : Ok runs.request ≡ verdict = only_one words text (Ok runs.request) verdict (accepted.options, short, input) warranted in
+      let own = accepted_warranted words source source' text runs.request serves.told runs.accepted in
+      let same : Ok runs.request ≡ verdict = only_one words text (Ok runs.request) verdict own warranted in
       inr (subst (λ z. IsWarranted z sink sink' exit) same (runs.run, not_cut runs.request sink sink' exit.status runs.run.machine serves.written runs.run.runs))
 ]

@@ -1,38 +1,33 @@
 -- A request is judged by its words, by what was read, and by the text.
-use Rattle.std.proofs.Common.{◌≡◌, ℕ, ◌≤◌, ◌==◌, cond, List, [], ◌∷◌, ◌++◌, take, drop, length-append, length, refl, sym, ap, ◌∙◌, ◌+◌, arith, Err, inl, inr, Bool, true, false}
+use Rattle.std.proofs.Common.{◌≡◌, ℕ, ◌≤◌, ◌==◌, cond, List, [], ◌∷◌, ◌++◌, take, drop, length-append, length, refl, sym, ap, ◌∙◌, ◌+◌, arith, inl, inr, Bool, true, false}
 use Rattle.std.specs.List.{concat}
 use Rattle.std.proofs.lemmas.List.{take-append-drop}
 use Rattle.std.proofs.lemmas.List.Folds.{concat-append}
 use Rattle.hex_image.specs.HexText.{HexText}
 use Rattle.hex_image.specs.Pieces.{in_front, pieces_of}
 use Rattle.tk_io.specs.Streams.{TakesAtMost}
-use Rattle.tkernel_cli.specs.declared.refusal.Refusal.{Refusal}
-use Rattle.tkernel_cli.specs.declared.refusal.Refusal.TheVariants.{Usage, ReadFault, TooLong, BadHex, BadScript, NoMemory}
+use Rattle.tkernel_cli.specs.declared.reply.Reply.TheVariants.{NoMemory}
 use Rattle.tkernel_cli.specs.declared.top.Exit.{Exit}
-use Rattle.tkernel_cli.specs.declared.options.RunOptions.{RunOptions}
 use Rattle.tkernel_cli.specs.declared.request.Request.{Request}
-use Rattle.tkernel_cli.specs.Options.{IsRunWords}
 use Rattle.tkernel_cli.specs.Runs.{Stream}
-use Rattle.tkernel_cli.specs.Answer.{Gave, IsAccepted, IsAnswer, IsRefused, JudgesText, Ran, most_input}
+use Rattle.tkernel_cli.specs.Answer.{Gave, IsAccepted, IsAnswer, Ran, WantsMemory, most_input}
 
 -- what was read, as a number of bytes
 took : (before now : Stream) (text : List ℕ) → Gave before now text → TakesAtMost most_input before.told now.told
 took before now text gave = (length text, gave.short, (text, refl, gave.taken))
 
--- a text's judgement is the request's, unless it is accepted
-pub input_judged : (words : List (List ℕ)) (before now : Stream) (text : List ℕ) (options : RunOptions) (refusal : Refusal) → IsRunWords words options → Gave before now text → JudgesText text (Err refusal) → IsRefused words before now refusal
-input_judged words before now text options Usage run gave judged = absurd judged
-input_judged words before now text options ReadFault run gave judged = absurd judged
-input_judged words before now text options TooLong run gave judged = absurd judged
-input_judged words before now text options (BadHex line fault) run gave judged = record { run = (options, run); text = text; gave = gave; judged = judged }
-input_judged words before now text options (BadScript line fault) run gave judged = record { run = (options, run); text = text; gave = gave; judged = judged }
-input_judged words before now text options NoMemory run gave judged = ((options, run), took before now text gave)
+-- a request that was accepted wants memory where it isn't run
+wants_memory : (words : List (List ℕ)) (before now : Stream) (request : Request) → IsAccepted words before now request → WantsMemory words before now
+wants_memory words before now request accepted = elim accepted [
+  | inl read ↦ inl ((request.options, read.options), took before now read.text read.gave)
+  | inr made ↦ inr ((made.0.seed, made.0.command), made.1)
+]
 
 -- a request that was accepted, and run or not for want of memory
 pub answer_of_run : (words : List (List ℕ)) (source source' sink sink' : Stream) (request : Request) (exit : Exit) → IsAccepted words source source' request → Ran request sink sink' exit → IsAnswer words source source' sink sink' exit
 answer_of_run words source source' sink sink' request exit accepted ran = elim ran [
   | inl run ↦ inr (record { request = request; accepted = accepted; run = run })
-  | inr none ↦ inl (record { refusal = NoMemory; reason = ((request.options, accepted.options), took source source' accepted.text accepted.gave); said = none.said; kept = none.kept })
+  | inr none ↦ inl (record { reply = NoMemory; reason = wants_memory words source source' request accepted; said = none.said; kept = none.kept })
 ]
 
 -- the pieces of a text make up the text, so that what is behind some of them stands in it

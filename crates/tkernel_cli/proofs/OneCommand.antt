@@ -1,11 +1,15 @@
--- The words of `run` ask for one thing.
+-- The words of a command line ask for one thing.
 use Rattle.std.proofs.Common.{◌≡◌, ℕ, List, [], ◌∷◌, sym, ap, ap₂, refl, ◌∙◌, subst}
 use Rattle.std.specs.Prelude.{codes}
+use Rattle.std.specs.Str.Parse.{digits_value}
+use Rattle.tkernel_cli.specs.declared.command.Command.{Command}
+use Rattle.tkernel_cli.specs.declared.command.Command.TheVariants.{Help, Run, Generate}
 use Rattle.tkernel_cli.specs.declared.options.RunOption.TheVariants.{Steps, Quantum, Swap}
 use Rattle.tkernel_cli.specs.declared.options.RunOptions.{RunOptions}
 use Rattle.tkernel_cli.specs.declared.options.Choice.{Choice}
 use Rattle.tkernel_cli.specs.Options.{Says, value_in, IsRunWords}
 use Rattle.tkernel_cli.specs.OptionReading.{BeginsWith}
+use Rattle.tkernel_cli.specs.Commands.{IsCommand, IsGenerate}
 use Rattle.tkernel_cli.proofs.OptionPieces.{none_begins, one_choice}
 
 -- words say one list of choices
@@ -38,3 +42,34 @@ one_options words a b first second =
     (first.steps ∙ ap (value_in Steps) choices ∙ sym second.steps)
     (first.quantum ∙ ap (value_in Quantum) choices ∙ sym second.quantum)
     (first.swap ∙ ap (value_in Swap) choices ∙ sym second.swap)
+
+-- a word is one command's
+help_apart_run : (rest : List (List ℕ)) → codes "help" ∷ [] ≡ codes "run" ∷ rest → ⊥
+help_apart_run rest same = absurd (cc)
+
+generate_apart_run : (digits : List ℕ) (rest : List (List ℕ)) → codes "generate" ∷ digits ∷ [] ≡ codes "run" ∷ rest → ⊥
+generate_apart_run digits rest same = absurd (cc)
+
+help_apart_generate : (digits : List ℕ) → codes "help" ∷ [] ≡ codes "generate" ∷ digits ∷ [] → ⊥
+help_apart_generate digits same = absurd (cc)
+
+digits_are : (digits others : List ℕ) → codes "generate" ∷ digits ∷ [] ≡ codes "generate" ∷ others ∷ [] → digits ≡ others
+digits_are digits others same = cc
+
+pub one_seed : (words : List (List ℕ)) (a b : ℕ) → IsGenerate words a → IsGenerate words b → a ≡ b
+one_seed words a b first second =
+    first.is_seed.0.value
+    ∙ ap (digits_value 10) (digits_are first.digits second.digits (sym first.written ∙ second.written))
+    ∙ sym second.is_seed.0.value
+
+-- words are one command
+pub one_command : (words : List (List ℕ)) (a b : Command) → IsCommand words a → IsCommand words b → a ≡ b
+one_command words Help Help first second = refl
+one_command words Help (Run o) first second = absurd (help_apart_run second.rest (sym first ∙ second.command))
+one_command words Help (Generate s) first second = absurd (help_apart_generate second.digits (sym first ∙ second.written))
+one_command words (Run o) Help first second = absurd (help_apart_run first.rest (sym second ∙ first.command))
+one_command words (Run o) (Run p) first second = ap Run (one_options words o p first second)
+one_command words (Run o) (Generate s) first second = absurd (generate_apart_run second.digits first.rest (sym second.written ∙ first.command))
+one_command words (Generate s) Help first second = absurd (help_apart_generate first.digits (sym second ∙ first.written))
+one_command words (Generate s) (Run o) first second = absurd (generate_apart_run first.digits second.rest (sym first.written ∙ second.command))
+one_command words (Generate s) (Generate t) first second = ap Generate (one_seed words s t first second)

@@ -89,7 +89,7 @@ ended request before mid now told end m status how run later said =
     Runs.Ended (record {
       said = subst (λ s. Says s (run_text r (stop_text r.end r.state.steps (checkpoints_of request r)) m) before now told) own (subst (λ l. Says (status_of_stop end) (run_text r l m) before now told) stop whole);
       end = subst (λ e. KeepsEnd e m) run.same (keeps_end (flat_end end) end m refl run.kept);
-      follows = record { state = run.state; program = run.program; quantum = run.quantum_is; unbroken = run.unbroken; ready = run.ready; path = run.path };
+      follows = record { state = run.state; program = run.program; quantum = run.quantum_is; unbroken = run.unbroken; ready = run.ready; path = run.path; longest = run.ready.sound.bounded.most };
     })
 
 -- a run that used up the code pool
@@ -113,7 +113,7 @@ out_of_pages request before mid now told t m run later said =
       inside = run.inside;
       unknown = run.unknown;
       many = λ addresses few stays. never_full request.image request.script request.options.quantum request.options.swap request.options.steps before.told mid.told t m addresses run few stays;
-      follows = record { state = run.state; program = run.program; quantum = run.quantum_is; unbroken = run.unbroken; ready = run.ready; path = run.path };
+      follows = record { state = run.state; program = run.program; quantum = run.quantum_is; unbroken = run.unbroken; ready = run.ready; path = run.path; longest = run.ready.sound.bounded.most };
     })
 
 -- a run whose last two lines were said, or not

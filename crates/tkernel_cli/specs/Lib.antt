@@ -1,6 +1,7 @@
 -- The command line: its words, its input, its answers and their texts.
 pub mod Options
 pub mod OptionReading
+pub mod Commands
 pub mod Text
 pub mod Status
 pub mod Runs

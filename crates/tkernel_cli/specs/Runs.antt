@@ -1,5 +1,5 @@
 -- A program that is run: what was printed, what is kept, and how both follow the original program.
-use Rattle.std.specs.Prelude.{◌≡◌, ◌⊎◌, ℕ, nat_eq, ◌/◌, ◌<◌, ◌≤◌, ◌++◌, true, false, List, length, Option, Some, None}
+use Rattle.std.specs.Prelude.{◌≡◌, ◌⊎◌, ℕ, nat_eq, ◌*◌, ◌/◌, ◌<◌, ◌≤◌, ◌++◌, true, false, List, length, Option, Some, None}
 use Rattle.std.specs.Set.{is_member}
 use Rattle.std.specs.Io.KnownBytes.{Appends}
 use Rattle.tk_io.specs.Faults.{Rose}
@@ -70,7 +70,8 @@ full_run_text request t m = run_text (original_of request m.steps) (full_text t 
 
 -- The machine stands where the original program stands after its first n steps: registers, memory,
 -- devices, and the counts of steps and crossings. It has the image, the slots and the quantum that were
--- asked for. Moves lead to it from boot, and write the original's lines.
+-- asked for. Moves lead to it from boot, and write the original's lines; between two services there were at
+-- most 5120 plain steps for each crossing of a quantum.
 pub record Follows (request : Request) (n : ℕ) (m : Machine) : Type 0 where
   pub state : flat_of m ≡ (original_of request n).state
   pub program : program m.kernel ≡ program_at request.image request.options.swap
@@ -78,6 +79,7 @@ pub record Follows (request : Request) (n : ℕ) (m : Machine) : Type 0 where
   pub unbroken : m.broken ≡ false
   pub ready : IsReady m
   pub path : Path request.image request.script request.options.quantum request.options.swap (original_of request n).lines m
+  pub longest : m.longest ≤ 5120 * m.kernel.quantum
 
 -- the end that the machine keeps is the original's, and none where the bound of steps was reached
 abbrev pub KeepsEnd : End → Machine → Type 0

@@ -1,8 +1,9 @@
 //! The command line of tkernel as a library: words and an input in, lines and a status out.
 //!
-//! [`tkernel`] is the whole program but for the process around it: it judges the words, reads and judges
-//! the input, runs the program, and prints its lines. The run is made by crate `tk_run`, in rewritten code;
-//! what is printed is what the original program would do.
+//! [`tkernel`] is the whole program but for the process around it. It judges the words, which are one of
+//! three commands: `run` reads and judges a program, runs it, and prints its lines; `generate SEED` does so
+//! with the test program of crate `program_generator`, and reads nothing; `help` prints the usage line. The
+//! run is made by crate `tk_run`, in rewritten code; what is printed is what the original program would do.
 //!
 //! ```rust
 //! let mut input = MemSource::new(b":060000000FE00BBBFFCF77\n:00000001FF\n".to_vec(alloc)?);
@@ -14,14 +15,16 @@
 //! ```
 #![tactic(auto)]
 
+mod command;
 mod options;
-mod refusal;
+mod reply;
 mod request;
 mod running;
 mod status;
 mod text;
 mod top;
 
+pub use command::{Command, command_of};
 pub use options::{RunOptions, options_of};
 pub use status::Status;
 pub use top::{Exit, tkernel};

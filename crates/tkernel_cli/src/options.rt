@@ -59,7 +59,7 @@ fn named(word: &str) -> Option<(RunOption, &str)>
 }
 
 /// The number that 1 to 10 decimal digits write, and nothing else does.
-fn number_in(text: &str) -> Option<u64>
+pub fn number_in(text: &str) -> Option<u64>
     ensures cases { MatchOption result ((n : ℕ) → ¬ IsNumber text.now n) (IsNumber text.now) }
 {
     if text.len() > 10 || text.starts_with('+') {

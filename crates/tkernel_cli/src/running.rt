@@ -6,7 +6,7 @@ ghost use Rattle.tkernel_cli.specs.Answer.{Ran};
 ghost use Rattle.tkernel_cli.specs.Runs.{Says, status_of_stop};
 ghost use Rattle.tkernel_cli.specs.Text.{count_text, end_line};
 
-use crate::refusal::{Refusal, refuse};
+use crate::reply::{Reply, tell};
 use crate::request::Request;
 use crate::status::Status;
 use crate::text::{counts, stop_line};
@@ -37,7 +37,7 @@ pub fn run_request<K: Sink>(alloc: Global, request: Request, out: &mut K) -> Exi
     };
     let mut machine = match Machine::boot(alloc, &image, script, asked) {
         Ok(machine) => machine,
-        Err(_) => return refuse(Refusal::NoMemory, out),
+        Err(_) => return tell(Reply::NoMemory, out),
     };
     let status = match machine.advance(options.steps, out) {
         Ok(end) => tell_end(&machine, end, out),

@@ -1,10 +1,13 @@
 //! The top call: words and input in, lines and a status out.
-ghost use Rattle.std.specs.Prelude.{◌≡◌, ◌≤◌, length, map, string_bytes};
-ghost use Rattle.tkernel_cli.specs.Answer.{IsAnswer, IsExact, Judges, JudgesText, most_input};
+ghost use Rattle.std.specs.Prelude.{◌≡◌, ℕ, ◌≤◌, List, length, map, string_bytes, MatchResult};
+ghost use Rattle.tkernel_cli.specs.declared.reply.Reply.TheVariants.{NoMemory};
+ghost use Rattle.tkernel_cli.specs.Answer.{IsAnswer, IsExact, IsOfSeed, Judges, JudgesText, most_input};
+ghost use Rattle.tkernel_cli.specs.Options.{IsRunWords};
 ghost use Rattle.tkernel_cli.specs.Runs.{Stream};
 
-use crate::options::options_of;
-use crate::refusal::{Refusal, refuse};
+use crate::command::{Command, command_of};
+use crate::options::RunOptions;
+use crate::reply::{Reply, tell};
 use crate::request::{Input, Request};
 use crate::running::run_request;
 use crate::status::Status;
@@ -17,6 +20,13 @@ use tk_run::Machine;
 /// The most bytes of an input.
 const MOST_INPUT: usize = 2_097_152;
 
+/// How the program of `generate` is run.
+const GENERATE_OPTIONS: RunOptions = RunOptions {
+    steps: 10_000_000,
+    quantum: 255,
+    swap: 128,
+};
+
 /// How a call ended.
 #[derive(Debug, Drop)]
 pub struct Exit {
@@ -25,9 +35,14 @@ pub struct Exit {
     pub kept: Option<Machine>,
 }
 
-/// Answers a command line. `words` are those after the program's name; the only command so far is `run`,
-/// which reads a program as a HEX text and a script behind it from `input`, runs it, and prints its lines
-/// to `out`.
+/// Answers a command line. `words` are those after the program's name, and make one of three commands:
+///
+/// - `help` prints the usage line;
+/// - `run` reads a program as a HEX text and a script behind it from `input`, runs it, and prints its lines
+///   to `out`;
+/// - `generate SEED` runs the test program of that seed, and reads nothing.
+///
+/// Other words are answered with the usage line and a status of their own.
 pub fn tkernel<S: Source, K: Sink>(
     alloc: Global,
     words: &[String],
@@ -50,26 +65,41 @@ pub fn tkernel<S: Source, K: Sink>(
 {
     match judge(alloc, words, input) {
         Ok(request) => run_request(alloc, request, out),
-        Err(refusal) => refuse(refusal, out),
+        Err(reply) => tell(reply, out),
     }
 }
 
-/// Reads what the words ask for, and judges it.
-fn judge<S: Source>(alloc: Global, words: &[String], input: &mut S) -> Result<Request, Refusal>
+/// Judges the words, and what `run` reads.
+fn judge<S: Source>(alloc: Global, words: &[String], input: &mut S) -> Result<Request, Reply>
     ensures judged { Judges (map string_bytes words.now)
         (record { told = S.left input.old; faults = S.faults input.old })
         (record { told = S.left input.new; faults = S.faults input.new })
         result }
 {
-    let options = match options_of(words) {
-        Some(options) => options,
-        None => return Err(Refusal::Usage),
-    };
+    match command_of(words) {
+        Some(Command::Help) => Err(Reply::Help),
+        Some(Command::Run(options)) => request_read(alloc, options, input),
+        Some(Command::Generate(seed)) => request_generated(alloc, seed),
+        None => Err(Reply::Usage),
+    }
+}
+
+/// Reads the input of `run`, and judges it.
+fn request_read<S: Source>(
+    alloc: Global,
+    options: RunOptions,
+    input: &mut S,
+) -> Result<Request, Reply>
+    ensures judged { (words : List (List ℕ)) → IsRunWords words options → Judges words
+        (record { told = S.left input.old; faults = S.faults input.old })
+        (record { told = S.left input.new; faults = S.faults input.new })
+        result }
+{
     let text = match read_all(alloc, input, MOST_INPUT) {
         Ok(text) => text,
-        Err(ReadAll::Fault) => return Err(Refusal::ReadFault),
-        Err(ReadAll::TooLong) => return Err(Refusal::TooLong),
-        Err(ReadAll::NoMemory) => return Err(Refusal::NoMemory),
+        Err(ReadAll::Fault) => return Err(Reply::ReadFault),
+        Err(ReadAll::TooLong) => return Err(Reply::TooLong),
+        Err(ReadAll::NoMemory) => return Err(Reply::NoMemory),
     };
     match input_of(alloc, &text) {
         Ok(Input { image, script }) => Ok(Request {
@@ -77,24 +107,44 @@ fn judge<S: Source>(alloc: Global, words: &[String], input: &mut S) -> Result<Re
             script,
             options,
         }),
-        Err(refusal) => Err(refusal),
+        Err(reply) => Err(reply),
     }
 }
 
 /// What a text gives, which is a HEX text and a script behind it.
-fn input_of(alloc: Global, text: &[u8]) -> Result<Input, Refusal>
+fn input_of(alloc: Global, text: &[u8]) -> Result<Input, Reply>
     requires short { length text.now ≤ most_input }
     ensures judged { JudgesText text.now result }
 {
     let (image, position) = match hex_image::read(alloc, text) {
         Ok(read) => read,
-        Err(HexError::Bad { line, fault }) => return Err(Refusal::BadHex(line, fault)),
-        Err(HexError::NoMemory) => return Err(Refusal::NoMemory),
+        Err(HexError::Bad { line, fault }) => return Err(Reply::BadHex(line, fault)),
+        Err(HexError::NoMemory) => return Err(Reply::NoMemory),
     };
     let script = match input_script::read(alloc, &text[position..]) {
         Ok(script) => script,
-        Err(ScriptError::Bad { line, fault }) => return Err(Refusal::BadScript(line, fault)),
-        Err(ScriptError::NoMemory) => return Err(Refusal::NoMemory),
+        Err(ScriptError::Bad { line, fault }) => return Err(Reply::BadScript(line, fault)),
+        Err(ScriptError::NoMemory) => return Err(Reply::NoMemory),
     };
     Ok(Input { image, script })
+}
+
+/// The run that `generate` makes: the test program of a seed, without events.
+fn request_generated(alloc: Global, seed: u32) -> Result<Request, Reply>
+    ensures made { MatchResult result (IsOfSeed seed) (λ reply. reply ≡ NoMemory) }
+{
+    let image = match program_generator::generate(alloc, seed) {
+        Ok(image) => image,
+        Err(_) => return Err(Reply::NoMemory),
+    };
+    // A text without lines has no faulty one.
+    let script = match input_script::read(alloc, b"") {
+        Ok(script) => script,
+        Err(_) => return Err(Reply::NoMemory),
+    };
+    Ok(Request {
+        image,
+        script,
+        options: GENERATE_OPTIONS,
+    })
 }

@@ -1,9 +1,9 @@
 //! The words of a command line.
 use crate::support::words_of;
-use clap::{Arg, ArgAction, Command};
+use clap::{Arg, ArgAction};
 use std::alloc::Global;
 use std::test::Fail;
-use tkernel_cli::{RunOptions, options_of};
+use tkernel_cli::{Command, RunOptions, command_of, options_of};
 
 /// What `run` is told by itself.
 const DEFAULTS: RunOptions = RunOptions {
@@ -13,7 +13,7 @@ const DEFAULTS: RunOptions = RunOptions {
 };
 
 /// Words behind `run` that are accepted, and what they ask for.
-const ACCEPTED: [(&[&str], RunOptions); 13] = [
+const ACCEPTED: [(&[&str], RunOptions); 16] = [
     (&[], DEFAULTS),
     (
         &["--steps", "9"],
@@ -96,14 +96,61 @@ const ACCEPTED: [(&[&str], RunOptions); 13] = [
             swap: 3,
         },
     ),
+    (
+        &["--steps=1", "--swap", "3", "--quantum", "2"],
+        RunOptions {
+            steps: 1,
+            quantum: 2,
+            swap: 3,
+        },
+    ),
+    (
+        &["--quantum=2", "--swap=3", "--steps", "1"],
+        RunOptions {
+            steps: 1,
+            quantum: 2,
+            swap: 3,
+        },
+    ),
+    (
+        &["--swap", "3", "--steps", "1", "--quantum=2"],
+        RunOptions {
+            steps: 1,
+            quantum: 2,
+            swap: 3,
+        },
+    ),
+];
+
+/// The words of the other commands.
+const OTHER_COMMANDS: [(&[&str], Command); 5] = [
+    (&["help"], Command::Help),
+    (&["generate", "7"], Command::Generate(7)),
+    (&["generate", "0"], Command::Generate(0)),
+    (&["generate", "0000000007"], Command::Generate(7)),
+    (
+        &["generate", "4294967295"],
+        Command::Generate(4_294_967_295),
+    ),
 ];
 
 /// Words that are refused, `run` included.
-const REFUSED: [&[&str]; 30] = [
+const REFUSED: [&[&str]; 41] = [
     &[],
     &[""],
     &["Run"],
+    &["Help"],
     &["help", "run"],
+    &["help", ""],
+    &["run", "help"],
+    &["generate"],
+    &["generate", ""],
+    &["generate", "4294967296"],
+    &["generate", "00000000007"],
+    &["generate", "7", "7"],
+    &["generate", "+7"],
+    &["generate=7"],
+    &["generate", "--seed", "7"],
     &["--help"],
     &["--version"],
     &["run", ""],
@@ -141,9 +188,25 @@ fn accepted_words_ask_for_their_options(rt: HostRuntime) -> Result<(), Fail> {
 }
 
 #[test]
+fn accepted_words_are_their_command(rt: HostRuntime) -> Result<(), Fail> {
+    for (words, options) in &ACCEPTED {
+        assert_eq!(rt;
+            command_of(&behind_run(rt.alloc(), words)?),
+            Some(Command::Run(*options))
+        );
+    }
+    for (words, command) in &OTHER_COMMANDS {
+        assert_eq!(rt; command_of(&words_of(rt.alloc(), words)?), Some(*command));
+        assert_eq!(rt; options_of(&words_of(rt.alloc(), words)?), None);
+    }
+    Ok(())
+}
+
+#[test]
 fn other_words_are_refused(rt: HostRuntime) -> Result<(), Fail> {
     for words in &REFUSED {
         assert_eq!(rt; options_of(&words_of(rt.alloc(), words)?), None);
+        assert_eq!(rt; command_of(&words_of(rt.alloc(), words)?), None);
     }
     Ok(())
 }
@@ -153,7 +216,7 @@ fn other_words_are_refused(rt: HostRuntime) -> Result<(), Fail> {
 fn clap_reads_the_accepted_words_alike(rt: HostRuntime) -> Result<(), Fail> {
     let alloc = rt.alloc();
     for (words, options) in &ACCEPTED {
-        let mut command = Command::new(alloc, "run");
+        let mut command = clap::Command::new(alloc, "run");
         for name in ["steps", "quantum", "swap"] {
             command = command.arg(Arg::new(alloc, name).long(name).action(ArgAction::Set))?;
         }

@@ -39,7 +39,7 @@ fn the_machine_is_kept(rt: HostRuntime) -> Result<(), Fail> {
 #[test]
 fn other_words_are_usage_and_read_nothing(rt: HostRuntime) -> Result<(), Fail> {
     let alloc = rt.alloc();
-    let lists: [&[&str]; 7] = [
+    let lists: [&[&str]; 9] = [
         &[],
         &["run", "--quantum", "0"],
         &["run", "--steps", "1", "--steps", "2"],
@@ -47,6 +47,8 @@ fn other_words_are_usage_and_read_nothing(rt: HostRuntime) -> Result<(), Fail> {
         &["Run"],
         &[""],
         &["--help"],
+        &["help", "run"],
+        &["generate", "4294967296"],
     ];
     for words in lists {
         let mut input = MemSource::new(HEX.to_vec(alloc)?);
@@ -56,6 +58,19 @@ fn other_words_are_usage_and_read_nothing(rt: HostRuntime) -> Result<(), Fail> {
         assert_eq!(rt; out.taken(), USAGE);
         assert_eq!(rt; input.left(), HEX);
     }
+    Ok(())
+}
+
+/// The source would fail if it were read.
+#[test]
+fn help_is_the_usage_line_and_reads_nothing(rt: HostRuntime) -> Result<(), Fail> {
+    let alloc = rt.alloc();
+    let mut input = FlakySource::new(HEX.to_vec(alloc)?, [1].to_vec(alloc)?);
+    let mut out = sink(alloc)?;
+    let exit = tkernel(alloc, &words_of(alloc, &["help"])?, &mut input, &mut out);
+    assert_eq!(rt; exit.status, Status::Done);
+    assert_eq!(rt; out.taken(), USAGE);
+    assert_eq!(rt; exit.kept.is_none(), true);
     Ok(())
 }
 

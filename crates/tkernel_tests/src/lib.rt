@@ -6,6 +6,8 @@ mod command_line;
 #[cfg(test)]
 mod first_program;
 #[cfg(test)]
+mod generated_program;
+#[cfg(test)]
 mod inputs;
 #[cfg(test)]
 mod programs;

@@ -1,4 +1,4 @@
-//! Requests that aren't run.
+//! What is answered without a run.
 ghost use Rattle.std.specs.Prelude.{◌≡◌, ◌≤◌, length, codes, None};
 ghost use Rattle.tkernel_cli.specs.Runs.{Says};
 ghost use Rattle.tkernel_cli.specs.Answer.{bad_line_text, hex_word, script_word, status_of, text_of};
@@ -11,9 +11,11 @@ use input_script::ScriptFault;
 use line_text::Text;
 use tk_io::{Sink, put};
 
-/// Why a request is not run.
+/// What is answered without a run.
 #[derive(Clone, Copy, Debug, PartialEq, Eq)]
-pub enum Refusal {
+pub enum Reply {
+    /// The usage line was asked for.
+    Help,
     /// The words are no command.
     Usage,
     /// The source failed.
@@ -28,15 +30,16 @@ pub enum Refusal {
     NoMemory,
 }
 
-impl Refusal {
+impl Reply {
     pub fn status(self) -> Status
         ensures status { result ≡ status_of self }
     {
         match self {
-            Refusal::Usage => Status::Usage,
-            Refusal::ReadFault => Status::ReadFault,
-            Refusal::TooLong | Refusal::BadHex(..) | Refusal::BadScript(..) => Status::BadInput,
-            Refusal::NoMemory => Status::NoMemory,
+            Reply::Help => Status::Done,
+            Reply::Usage => Status::Usage,
+            Reply::ReadFault => Status::ReadFault,
+            Reply::TooLong | Reply::BadHex(..) | Reply::BadScript(..) => Status::BadInput,
+            Reply::NoMemory => Status::NoMemory,
         }
     }
 
@@ -45,14 +48,16 @@ impl Refusal {
         ensures text { result.items ≡ text_of self }
     {
         match self {
-            Refusal::Usage => whole(b"usage: tkernel run [--steps N] [--quantum Q] [--swap S]\n"),
-            Refusal::ReadFault => whole(b"read fault\n"),
-            Refusal::TooLong => whole(b"input too long\n"),
-            Refusal::BadHex(line, fault) => bad_line(b"bad hex line ", line, word_of_hex(fault)),
-            Refusal::BadScript(line, fault) => {
+            Reply::Help | Reply::Usage => whole(
+                b"usage: tkernel run [--steps N] [--quantum Q] [--swap S]\n",
+            ),
+            Reply::ReadFault => whole(b"read fault\n"),
+            Reply::TooLong => whole(b"input too long\n"),
+            Reply::BadHex(line, fault) => bad_line(b"bad hex line ", line, word_of_hex(fault)),
+            Reply::BadScript(line, fault) => {
                 bad_line(b"bad script line ", line, word_of_script(fault))
             }
-            Refusal::NoMemory => whole(b"no memory\n"),
+            Reply::NoMemory => whole(b"no memory\n"),
         }
     }
 }
@@ -86,16 +91,16 @@ fn word_of_script(fault: ScriptFault) -> &'static [u8]
     }
 }
 
-/// Puts the line of a refusal.
-pub fn refuse<K: Sink>(refusal: Refusal, out: &mut K) -> Exit
-    ensures said { Says (status_of refusal) (text_of refusal)
+/// Puts the line of a reply.
+pub fn tell<K: Sink>(reply: Reply, out: &mut K) -> Exit
+    ensures said { Says (status_of reply) (text_of reply)
         (record { told = K.taken out.old; faults = K.faults out.old })
         (record { told = K.taken out.new; faults = K.faults out.new })
         result.status }
     ensures kept { result.kept ≡ None }
 {
-    let status = match put(out, &refusal.text()) {
-        Ok(()) => refusal.status(),
+    let status = match put(out, &reply.text()) {
+        Ok(()) => reply.status(),
         Err(_) => Status::WriteFault,
     };
     Exit { status, kept: None }

@@ -1,0 +1,2 @@
+-- The test program of each seed.
+pub mod Generated
