@@ -29,3 +29,16 @@ pub record FlakySinkState : Type 0 where
   pub room : ℕ
   pub schedule : Schedule
   pub faults : ℕ
+
+-- a source that gives a few bytes at a time: the bytes left, and how many a read gives at most
+pub record SlowSourceState : Type 0 where
+  pub left : List ℕ
+  pub most : ℕ
+
+-- a sink that takes a few bytes at a time: the bytes that it took, how many it takes in all and how many
+-- a write takes at most, and how often it failed
+pub record SlowSinkState : Type 0 where
+  pub taken : List ℕ
+  pub room : ℕ
+  pub most : ℕ
+  pub faults : ℕ

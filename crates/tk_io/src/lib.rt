@@ -6,8 +6,9 @@
 //! happen.
 //!
 //! [`MemSource`] and [`MemSink`] stand in memory, [`FlakySource`] and [`FlakySink`] fail at calls that
-//! are chosen beforehand, [`StdSource`] and [`StdSink`] are the process's own streams: each of their
-//! calls is one call of a [`Reader`] or a [`Writer`], whose errors they count.
+//! are chosen beforehand, [`SlowSource`] and [`SlowSink`] move at most a chosen number of bytes at each
+//! call, and [`StdSource`] and [`StdSink`] are the process's own streams: each of their calls is one
+//! call of a [`Reader`] or a [`Writer`], whose errors they count.
 #![tactic(auto)]
 
 mod edge;
@@ -15,6 +16,7 @@ mod failure;
 mod flaky;
 mod memory;
 mod sink;
+mod slow;
 mod source;
 mod standard;
 
@@ -23,6 +25,7 @@ pub use failure::{Failed, NoMemory, ReadAll};
 pub use flaky::{FlakySink, FlakySource};
 pub use memory::{MemSink, MemSource};
 pub use sink::{Sink, put};
+pub use slow::{SlowSink, SlowSource};
 pub use source::{Source, read_all};
 pub use standard::{StdSink, StdSource};
 

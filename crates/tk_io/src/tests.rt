@@ -48,6 +48,34 @@ fn a_listed_call_of_a_sink_fails(rt: HostRuntime) -> Result<(), Fail> {
 }
 
 #[test]
+fn a_slow_source_gives_a_few_bytes_at_a_time(rt: HostRuntime) -> Result<(), Fail> {
+    let alloc = rt.alloc();
+    let mut source = SlowSource::new(b"abcde".to_vec(alloc)?, 2);
+    let mut room = [0; 4];
+    for (want, left) in [(2, 3), (2, 1), (1, 0), (0, 0)] {
+        assert_eq!(rt; source.read(&mut room), Ok(want));
+        assert_eq!(rt; source.left().len(), left);
+    }
+    Ok(())
+}
+
+#[test]
+fn a_slow_sink_takes_a_few_bytes_at_a_time(rt: HostRuntime) -> Result<(), Fail> {
+    let alloc = rt.alloc();
+    let mut sink = SlowSink::new(alloc, 3, 2).map_err(|_| "no memory")?;
+    for (piece, want) in [
+        ("abc", Ok(2)),
+        ("cd", Ok(1)),
+        ("d", Err(Failed)),
+        ("", Ok(0)),
+    ] {
+        assert_eq!(rt; sink.write(piece.as_bytes()), want);
+    }
+    assert_eq!(rt; sink.taken(), b"abc".as_slice());
+    Ok(())
+}
+
+#[test]
 fn readers_and_writers_of_std_serve(rt: HostRuntime) -> Result<(), Fail> {
     let alloc = rt.alloc();
     let mut source = StdSource::new(b"abc".as_slice());
