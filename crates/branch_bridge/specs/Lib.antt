@@ -1,3 +1,4 @@
--- What an arrival at an original address changes and answers.
+-- What resolving a stub changes, and what an arrival at an original address changes and answers.
+pub mod Resolving
 pub mod Effects
 pub mod Arrivals

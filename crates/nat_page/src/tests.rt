@@ -66,6 +66,26 @@ fn the_worked_page(rt: HostRuntime) -> Result<(), Fail> {
     Ok(())
 }
 
+/// PUSH r16 has 39 words, behind which its run goes on.
+#[test]
+fn a_push_stands_inline(rt: HostRuntime) -> Result<(), Fail> {
+    let layout = Layout::usual(2);
+    let mut flash = loaded(&rt, &layout, &[0x930F, 0xCFFF])?;
+    assert_eq!(rt; made(&mut flash, &layout, 0), Some(Ok(0x4004)));
+    has(
+        &rt,
+        &flash,
+        &[
+            0x0000, 0x0002, 0x0004, 0x012B, 0x93E0, 0x0105, 0x93F0, 0x0106, 0xB7EF, 0x93E0, 0x0102,
+            0x91E0, 0x0103, 0x91F0, 0x0104, 0x30FD, 0xF080, 0x31F1, 0xF470, 0x8300, 0x9731, 0x93E0,
+            0x0103, 0x93F0, 0x0104, 0x91E0, 0x0102, 0xBFEF, 0x91E0, 0x0105, 0x91F0, 0x0106, 0xC00A,
+            0x91E0, 0x0102, 0xBFEF, 0x91E0, 0x0105, 0x91F0, 0x0106, 0x940E, 0xF004, 0x0000, 0x940E,
+            0xF00C, 0x0001,
+        ],
+    );
+    Ok(())
+}
+
 /// Behind the first of two instructions the second has its page.
 #[test]
 fn a_run_ends_before_an_entry(rt: HostRuntime) -> Result<(), Fail> {

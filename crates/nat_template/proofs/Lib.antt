@@ -1,2 +1,3 @@
 -- Laws of stubs and templates.
 pub mod Sizes
+pub mod WorkedTemplates

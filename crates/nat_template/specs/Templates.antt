@@ -1,7 +1,8 @@
 -- The template of an instruction: what stands in a page in its place.
-use Rattle.std.specs.Prelude.{ℕ, pos, ◌+◌, List, [], ◌∷◌, ◌++◌, length, Option, Some}
+use Rattle.std.specs.Prelude.{ℕ, pos, ◌+◌, ◌==◌, ◌||◌, Bool, if◌then◌else◌, List, [], ◌∷◌, ◌++◌, length, map, Option, Some}
 use Rattle.avr_isa.specs.declared.form.Form.{Form}
 use Rattle.avr_isa.specs.declared.form.Form.TheVariants as forms
+use Rattle.avr_isa.specs.declared.operation.Base.TheVariants.{Y}
 use Rattle.avr_isa.specs.Encoding.{first_word}
 use Rattle.avr_exec.specs.Registers.{raised, relative}
 use Rattle.nat_template.specs.declared.shapes.TemplateShape.{TemplateShape}
@@ -10,6 +11,7 @@ use Rattle.nat_template.specs.declared.piece.Piece.{Piece}
 use Rattle.nat_template.specs.declared.piece.Piece.TheVariants.{Fixed}
 use Rattle.nat_template.specs.Shapes.{shape_of}
 use Rattle.nat_template.specs.Stubs.{service, stub, words_of, mem_entry, push_return_entry, return_entry, indirect_entry, self_entry, fault_entry}
+use Rattle.nat_template.specs.Inline.{words_of_forms, push_forms, pop_forms, load_forms, store_forms}
 
 -- where a jump, branch or call leads, by its own word
 abbrev pub target_of : ℕ → Option Form → ℕ
@@ -35,10 +37,34 @@ short_branch _ = 0
 abbrev pub skip_target : ℕ → ℕ → ℕ
 skip_target pc next_size = raised pc (1 + next_size)
 
+-- r30 and r31, which an inline template uses itself
+abbrev pub is_z : ℕ → Bool
+is_z r = (r == 30) || (r == 31)
+
+-- these words, and the pc behind them
+abbrev pub with_pc : List ℕ → ℕ → List Piece
+with_pc words pc = map (λ word. Fixed word) words ++ Fixed pc ∷ []
+
+-- instructions, of which the last calls MEM, and the pc behind them
+abbrev pub inline : List Form → ℕ → List Piece
+inline forms pc = with_pc (words_of_forms forms) pc
+
+-- a call of MEM alone, or these instructions in its place
+abbrev pub mem_or : Bool → List Form → ℕ → List Piece
+mem_or called forms pc = if called then service mem_entry pc else inline forms pc
+
+-- what reaches data memory: PUSH, POP, and LDD and STD with Y, of another register than Z's, are inline
+unfoldable pub mem_pieces : ℕ → Option Form → List Piece
+mem_pieces pc (Some (forms.Push r)) = mem_or (is_z r) (push_forms r) pc
+mem_pieces pc (Some (forms.Pop d)) = mem_or (is_z d) (pop_forms d) pc
+mem_pieces pc (Some (forms.LoadOff d Y q)) = mem_or (is_z d) (load_forms d q) pc
+mem_pieces pc (Some (forms.StoreOff Y q r)) = mem_or (is_z r) (store_forms q r) pc
+mem_pieces pc _ = service mem_entry pc
+
 -- by the shape: the first word of the instruction, where it stays; its target; how many words the next has
 unfoldable pub template_by : TemplateShape → (pc first : ℕ) (form : Option Form) (next_size : ℕ) → List Piece
 template_by Native pc first form next_size = Fixed first ∷ []
-template_by Mem pc first form next_size = service mem_entry pc
+template_by Mem pc first form next_size = mem_pieces pc form
 template_by Jump pc first form next_size = stub pc (target_of pc form)
 template_by Branch pc first form next_size =
     let way = stub pc (target_of pc form) in Fixed (short_branch form) ∷ jump_over way ∷ way

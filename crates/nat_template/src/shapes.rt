@@ -13,7 +13,8 @@ use avr_isa::{Form, Instr, io_access};
 pub enum TemplateShape {
     /// It stands in the page as it is.
     Native,
-    /// It reaches data memory, the stack, the stack pointer or the program's bytes: a call of the kernel.
+    /// It reaches data memory, the stack, the stack pointer or the program's bytes: a call of the kernel,
+    /// or an inline template.
     Mem,
     /// A jump to another address: a stub.
     Jump,

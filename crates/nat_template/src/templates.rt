@@ -1,18 +1,19 @@
 //! The template of an instruction, in pieces and in words.
-ghost use Rattle.std.specs.Prelude.{◌≡◌, ◌≤◌, ◌++◌, ◌∷◌, [], length};
+ghost use Rattle.std.specs.Prelude.{◌≡◌, ◌≤◌, ◌++◌, ◌∷◌, [], if◌then◌else◌, length};
 ghost use Rattle.std.specs.Option.{option_map};
 ghost use Rattle.arrayvec.specs.ArrayVec.{array_vec_len};
 ghost use Rattle.avr_decode.specs.Decoding.{the_form};
 ghost use Rattle.avr_exec.specs.Registers.{relative as relative_of};
-ghost use Rattle.nat_template.specs.Stubs.{service as service_of, stub as stub_of, words_of};
-ghost use Rattle.nat_template.specs.Templates.{jump_over, short_branch as short_branch_of, target_of, template_by, template_of};
+ghost use Rattle.nat_template.specs.Stubs.{mem_entry, service as service_of, stub as stub_of, words_of};
+ghost use Rattle.nat_template.specs.Templates.{is_z as is_z_test, jump_over, mem_pieces, short_branch as short_branch_of, target_of, template_by, template_of, with_pc as with_pc_of};
 
+use crate::inline::{load_words, pop_words, push_words, store_words};
 use crate::piece::{Piece, written};
 use crate::shapes::{TemplateShape, relative, shape};
 use crate::stubs::{is_crossing, service, stub};
 use arrayvec::ArrayVec;
 use avr_decode::decode;
-use avr_isa::{Form, Instr};
+use avr_isa::{Base, Form, Instr, Reg};
 
 /// The kernel's entries (docs/LOADER.md).
 const MEM: u16 = 0xF004;
@@ -62,7 +63,7 @@ fn pieces_by(
 {
     match shape {
         TemplateShape::Native => one(w0),
-        TemplateShape::Mem => call_of(MEM, pc),
+        TemplateShape::Mem => mem(pc, instr),
         TemplateShape::Jump => behind(ArrayVec::new(), pc, target(pc, instr)),
         TemplateShape::Branch => passed_over(short_branch(instr), pc, target(pc, instr)),
         TemplateShape::Skip => passed_over(w0, pc, pc.wrapping_add(1).wrapping_add(next_size)),
@@ -72,6 +73,52 @@ fn pieces_by(
         TemplateShape::SelfJump => call_of(SELF, pc),
         TemplateShape::Fault => call_of(FAULT, pc),
     }
+}
+
+/// What reaches data memory.
+#[tactic(auto, unfolding(crate::specs::Templates::mem_pieces))]
+fn mem(pc: u16, instr: Option<&Instr>) -> ArrayVec<Piece, 40>
+    ensures pieces { result.items ≡ mem_pieces pc (option_map (λ borrowed. borrowed.now) instr.entry) }
+{
+    match instr.map(Instr::form) {
+        Some(Form::Push(r)) => inline_or_mem(*r, &push_words(*r), pc),
+        Some(Form::Pop(d)) => inline_or_mem(*d, &pop_words(*d), pc),
+        Some(Form::LoadOff(d, Base::Y, q)) => inline_or_mem(*d, &load_words(*d, *q), pc),
+        Some(Form::StoreOff(Base::Y, q, r)) => inline_or_mem(*r, &store_words(*q, *r), pc),
+        _ => call_of(MEM, pc),
+    }
+}
+
+/// These words, which use Z, or a call of the kernel where the register is one of Z's.
+fn inline_or_mem(register: Reg, words: &[u16], pc: u16) -> ArrayVec<Piece, 40>
+    requires room { length words.now ≤ 38 }
+    ensures pieces { result.items ≡ if is_z_test register then service_of mem_entry pc else with_pc_of words.now pc }
+{
+    if is_z(register) {
+        call_of(MEM, pc)
+    } else {
+        with_pc(words, pc)
+    }
+}
+
+/// Whether the register is one of Z's.
+fn is_z(register: Reg) -> bool
+    ensures value { result ≡ is_z_test register }
+{
+    register.get() == 30 || register.get() == 31
+}
+
+/// These words, and the pc behind them.
+fn with_pc(words: &[u16], pc: u16) -> ArrayVec<Piece, 40>
+    requires room { length words.now ≤ 38 }
+    ensures pieces { result.items ≡ with_pc_of words.now pc }
+{
+    let mut pieces = ArrayVec::new();
+    for word in words {
+        pieces.push(Piece::Fixed(*word));
+    }
+    pieces.push(Piece::Fixed(pc));
+    pieces
 }
 
 /// Where a jump, branch or call leads by its own word; else the pc.

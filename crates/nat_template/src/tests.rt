@@ -1,4 +1,5 @@
 use super::*;
+use arrayvec::ArrayVec;
 use avr_decode::decode;
 use avr_isa::{Form, Instr};
 
@@ -31,6 +32,121 @@ fn templates_of_one_call_or_stub(rt: HostRuntime) {
     ];
     for (pc, first, second, words) in rows {
         assert_eq!(rt; template(pc, first, second, 1).as_slice(), words);
+    }
+}
+
+/// PUSH r16 at 0x1234. The words are assembled from the manual, as those below are.
+const PUSH: [u16; 39] = [
+    0x93E0, 0x0105, 0x93F0, 0x0106, 0xB7EF, 0x93E0, 0x0102, // Z and SREG into their cells
+    0x91E0, 0x0103, 0x91F0, 0x0104, // LDS r30, SPL; LDS r31, SPH
+    0x30FD, 0xF080, 0x31F1, 0xF470, // CPI r31, 0x0D; BRLO 16; CPI r31, 0x11; BRSH 14
+    0x8300, 0x9731, 0x93E0, 0x0103, 0x93F0, 0x0104, // ST Z, r16; SBIW r30, 1; STS; STS
+    0x91E0, 0x0102, 0xBFEF, 0x91E0, 0x0105, 0x91F0, 0x0106, 0xC00A, // back; RJMP 10
+    0x91E0, 0x0102, 0xBFEF, 0x91E0, 0x0105, 0x91F0, 0x0106, 0x940E, 0xF004, 0x1234, // CALL MEM
+];
+
+/// POP r16 at 0x1234.
+const POP: [u16; 39] = [
+    0x93E0, 0x0105, 0x93F0, 0x0106, 0xB7EF, 0x93E0, 0x0102, // Z and SREG into their cells
+    0x91E0, 0x0103, 0x91F0, 0x0104, 0x9631, // LDS r30, SPL; LDS r31, SPH; ADIW r30, 1
+    0x30FD, 0xF078, 0x31F1, 0xF468, // CPI r31, 0x0D; BRLO 15; CPI r31, 0x11; BRSH 13
+    0x8100, 0x93E0, 0x0103, 0x93F0, 0x0104, // LD r16, Z; STS; STS
+    0x91E0, 0x0102, 0xBFEF, 0x91E0, 0x0105, 0x91F0, 0x0106, 0xC00A, // back; RJMP 10
+    0x91E0, 0x0102, 0xBFEF, 0x91E0, 0x0105, 0x91F0, 0x0106, 0x940E, 0xF004, 0x1234, // CALL MEM
+];
+
+/// LDD r16, Y+1 at 0x1234.
+const LOAD: [u16; 32] = [
+    0x93E0, 0x0105, 0x93F0, 0x0106, 0xB7EF, 0x93E0, 0x0102, // Z and SREG into their cells
+    0x01FE, 0x9631, // MOVW r30, r28; ADIW r30, 1
+    0x30FD, 0xF058, 0x31F1, 0xF448, // CPI r31, 0x0D; BRLO 11; CPI r31, 0x11; BRSH 9
+    0x8100, // LD r16, Z
+    0x91E0, 0x0102, 0xBFEF, 0x91E0, 0x0105, 0x91F0, 0x0106, 0xC00A, // back; RJMP 10
+    0x91E0, 0x0102, 0xBFEF, 0x91E0, 0x0105, 0x91F0, 0x0106, 0x940E, 0xF004, 0x1234, // CALL MEM
+];
+
+/// STD Y+1, r16 at 0x1234.
+const STORE: [u16; 32] = [
+    0x93E0, 0x0105, 0x93F0, 0x0106, 0xB7EF, 0x93E0, 0x0102, // Z and SREG into their cells
+    0x01FE, 0x9631, // MOVW r30, r28; ADIW r30, 1
+    0x30FD, 0xF058, 0x31F1, 0xF448, // CPI r31, 0x0D; BRLO 11; CPI r31, 0x11; BRSH 9
+    0x8300, // ST Z, r16
+    0x91E0, 0x0102, 0xBFEF, 0x91E0, 0x0105, 0x91F0, 0x0106, 0xC00A, // back; RJMP 10
+    0x91E0, 0x0102, 0xBFEF, 0x91E0, 0x0105, 0x91F0, 0x0106, 0x940E, 0xF004, 0x1234, // CALL MEM
+];
+
+/// The template at 0x1234 of an instruction of one word.
+fn inline(first: u16) -> ArrayVec<u16, 64> {
+    template(0x1234, first, 0xFFFF, 1)
+}
+
+/// Every register but Z's: only the access differs.
+#[test]
+fn each_register_but_those_of_z_is_inline(rt: HostRuntime) {
+    for r in 0..30u16 {
+        let mut push = PUSH;
+        push[15] = 0x8200 + 16 * r;
+        assert_eq!(rt;
+            inline(0x920F + 16 * r).as_slice(),
+            push.as_slice(),
+            "push r{r}"
+        );
+        let mut pop = POP;
+        pop[16] = 0x8000 + 16 * r;
+        assert_eq!(rt;
+            inline(0x900F + 16 * r).as_slice(),
+            pop.as_slice(),
+            "pop r{r}"
+        );
+        let mut load = LOAD;
+        load[13] = 0x8000 + 16 * r;
+        assert_eq!(rt;
+            inline(0x8009 + 16 * r).as_slice(),
+            load.as_slice(),
+            "ldd r{r}"
+        );
+        let mut store = STORE;
+        store[13] = 0x8200 + 16 * r;
+        assert_eq!(rt;
+            inline(0x8209 + 16 * r).as_slice(),
+            store.as_slice(),
+            "std r{r}"
+        );
+    }
+}
+
+/// Y+0 (which is LD and ST with Y), Y+1 and Y+63: only ADIW differs.
+#[test]
+fn a_displacement_is_added(rt: HostRuntime) {
+    let rows = [
+        (0x8108, 0x8308, 0x9630),
+        (0x8109, 0x8309, 0x9631),
+        (0xAD0F, 0xAF0F, 0x96FF),
+    ];
+    for (from_y, to_y, add) in rows {
+        let mut load = LOAD;
+        load[8] = add;
+        assert_eq!(rt; inline(from_y).as_slice(), load.as_slice());
+        let mut store = STORE;
+        store[8] = add;
+        assert_eq!(rt; inline(to_y).as_slice(), store.as_slice());
+    }
+}
+
+/// r30 and r31 in PUSH, POP, LDD r, Y+1 and STD Y+1, r; and r16 in LDD and STD with Z+1, in LD r, Y+, in
+/// ST -Y, r, in LD r, X, and in LDS and STS.
+#[test]
+fn every_other_access_calls_the_kernel(rt: HostRuntime) {
+    let calls = [
+        0x93EF, 0x93FF, 0x91EF, 0x91FF, 0x81E9, 0x81F9, 0x83E9, 0x83F9, 0x8101, 0x8301, 0x9109,
+        0x930A, 0x910C, 0x9100, 0x9300,
+    ];
+    for first in calls {
+        assert_eq!(rt;
+            inline(first).as_slice(),
+            [0x940E, 0xF004, 0x1234].as_slice(),
+            "{first}"
+        );
     }
 }
 

@@ -24,7 +24,8 @@ use Rattle.nat_page.proofs.PieceLaws.{size-cons}
 use Rattle.mem_guard.specs.FlatMachine.{next_size}
 use Rattle.mem_guard.specs.Guarded.{Guarded, guarded_calls}
 use Rattle.kernel_entry.specs.declared.kernel.Kernel.{Kernel}
-use Rattle.step_laws.proofs.ServiceLaw.{Called, RunsOn, bus_stops, called, called_by, resume_law, resumed_is, runs_on, stop_law}
+use Rattle.step_laws.proofs.ServiceLaw.{Called, bus_stops, called, called_by, resume_law, stop_law}
+use Rattle.step_laws.proofs.AskedLaw.{RunsOn, resumed_is, runs_on}
 use Rattle.step_laws.specs.Links.{Links}
 use Rattle.step_laws.specs.States.{State, mote_of}
 use Rattle.step_laws.specs.Settings.{IsSetting}
@@ -78,10 +79,10 @@ call_by links x a v t form (WentOn cpu g) done s c can is shape target template 
     let at : raised (v + 2) 1 ≡ v + 3 = omega arith in
     let begins : ¬ IsPlace k.layout words (v + 3) = row.inner 3 (omega arith) (omega arith) in
     let pc : cpu.pc ≡ t = pc_went (finish_of form (core_of kc a) (next_size image a)) (answer_of guarded_calls (memory_of kc) (ask_of form (core_of kc a))) t cpu g (λ answer. call_goes kc a form (next_size image a) answer shape ∙ target) (sym (exec_by_ask guarded_calls form (core_of kc a) (memory_of kc) (next_size image a)) ∙ done) in
-    resume_law links x a v push_return_entry t form cpu g s c can is runs apart done pc (resumed_is kc v a form (WentOn cpu g) c.back c.behind is done)
+    resume_law links x a v push_return_entry t form cpu g s c can is runs apart done pc (resumed_is kc (v + 2) a form (WentOn cpu g) c.back c.behind is done)
     (λ free fit. by_way 0 links z t _ _ (stub_law links z a t (v + 3) false free (stretch_behind k.layout words v 3 (size way) row (omega arith) (omega arith)) stands' marks' fit at begins))
 call_by links x a v t form (StoppedOn stop) done s c can is shape target template runs apart =
-    stop_law links x a v push_return_entry (stop_of a stop) s c can (resumed_is (called x v push_return_entry) v a form (StoppedOn stop) c.back c.behind is done) (bus_stops links x a v push_return_entry form stop s c is runs apart done)
+    stop_law links x a v push_return_entry (stop_of a stop) s c can (resumed_is (called x v push_return_entry) (v + 2) a form (StoppedOn stop) c.back c.behind is done) (bus_stops links x a v push_return_entry form stop s c is runs apart done)
 
 pub call_law : ShapeLaw Call
 unfolding template_by

@@ -17,11 +17,10 @@ use Rattle.step_laws.specs.Settings.{IsIdle, IsRunning}
 use Rattle.step_laws.proofs.Stretches.{IsStretch}
 use Rattle.step_laws.specs.Links.{Links}
 use Rattle.step_laws.specs.Walks.{Makes, Walk}
-use Rattle.step_laws.specs.Moves.{Move, Plain}
+use Rattle.step_laws.specs.Moves.{Move, Plain, plains}
 use Rattle.step_laws.proofs.HeldSteps.{breq_held, dec_held, held, in_held, lds_held, out_held, sts_held}
 use Rattle.step_laws.proofs.StubWords.{breq_form, dec_form, in_form, lds_form, out_form, sts_form}
 use Rattle.step_laws.proofs.PlainMoves.{StandAt, form_there, quiet_move}
-use Rattle.step_laws.proofs.Ways.{plains}
 use Rattle.mote_core.specs.QuietSteps.{IsQuiet}
 
 -- a crossing stub to t, 22 words at w
@@ -158,7 +157,7 @@ tail_on links x w t free stub fit on =
         inner_move links x w t 11 d.0 d.1 e d.1 (w + 13) ram ram free stub (omega arith) (omega arith) (lds_held m d.0 d.1 (w + 11) (w + 13) 0x0102 ram (form_there m (w + 11) 0x9180 0x0102 _ (word_pair links l m w t 11 stub (omega arith)) (lds_form 0x0102)) (omega arith) (omega arith) (omega arith) (omega arith)),
         (
           with_held x e e (w + 14) ram,
-          inner_move links x w t 13 e d.1 e e (w + 14) ram ram free stub (omega arith) (omega arith) (out_held m e d.1 (w + 13) (w + 14) ram fit.registers (form_there m (w + 13) 0xBF8F 0x9180 _ (word_pair links l m w t 13 stub (omega arith)) (out_form 0x9180)) (omega arith) (omega arith)),
+          inner_move links x w t 13 e d.1 e e (w + 14) ram ram free stub (omega arith) (omega arith) (out_held m e d.1 (w + 13) (w + 14) ram (let registers = fit.registers in omega arith) (form_there m (w + 13) 0xBF8F 0x9180 _ (word_pair links l m w t 13 stub (omega arith)) (out_form 0x9180)) (omega arith) (omega arith)),
           subst (λ y. P y y) (sym es) last,
         ),
       ),

@@ -16,10 +16,10 @@ use Rattle.step_laws.proofs.CountDown.{CrossingStub, count_read, counted_down, f
 use Rattle.step_laws.specs.Settings.{IsIdle, IsRunning}
 use Rattle.step_laws.specs.Links.{Links}
 use Rattle.step_laws.specs.Walks.{Makes, Walk}
-use Rattle.step_laws.specs.Moves.{Plain, Serve, lines_of}
+use Rattle.step_laws.specs.Moves.{Plain, Serve, lines_of, plains}
 use Rattle.step_laws.specs.StepLaws.{Reaches}
 use Rattle.step_laws.proofs.SameProgram.{SameProgram}
-use Rattle.step_laws.proofs.Ways.{Way, plains, walk_on}
+use Rattle.step_laws.proofs.Ways.{Way, walk_on}
 use Rattle.step_laws.proofs.KernelCalls.{bridge_move, call_move, owing, pushed, pushed_address, pushed_kept, pushed_size, quantum_move, quantum_state}
 use Rattle.step_laws.proofs.HeldSteps.{held, set_twice, jmp_held}
 use Rattle.step_laws.proofs.StubWords.{jmp_form}
@@ -219,13 +219,13 @@ crossing_by : (links : Links) (x : State) (w t : ℕ) (b c : Bool) → IsRunning
 crossing_by links x w t b true free stub fit is starts one =
     let m = mote_of x in
     let P : State → Type 0 = λ s. Walk s (six b) (with_held x (lowered_of m).0 (lowered_of m).1 (w + 10) (counted_down m)) in
-    let begun : P x = subst P (sym (start_held x w is)) (front links x w t b free stub fit.registers starts) in
+    let begun : P x = subst P (sym (start_held x w is)) (front links x w t b free stub (let registers = fit.registers in omega arith) starts) in
     let over = taken_is m (byte_at m.sram 0x0100) refl ∙ is_zero (byte_at m.sram 0x0100) one in
     over_way links x w t b free stub fit one (walk_on x (with_held x (lowered_of m).0 (lowered_of m).1 (w + 10) (counted_down m)) _ (six b) (plains 1) begun (tail_over links x w t free stub over))
 crossing_by links x w t b false free stub fit is starts more =
     let m = mote_of x in
     let P : State → Type 0 = λ s. Walk s (six b) (with_held x (lowered_of m).0 (lowered_of m).1 (w + 10) (counted_down m)) in
-    let begun : P x = subst P (sym (start_held x w is)) (front links x w t b free stub fit.registers starts) in
+    let begun : P x = subst P (sym (start_held x w is)) (front links x w t b free stub (let registers = fit.registers in omega arith) starts) in
     let on = taken_is m (byte_at m.sram 0x0100) refl ∙ not_zero (byte_at m.sram 0x0100) fit.some fit.most more in
     link_way links x w t b free stub fit is more (walk_on x (with_held x (lowered_of m).0 (lowered_of m).1 (w + 10) (counted_down m)) _ (six b) (plains 4) begun (tail_on links x w t free stub fit on))
 

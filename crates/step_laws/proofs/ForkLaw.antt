@@ -81,7 +81,7 @@ fork_ends links x a v to p s some f on =
       kept = record { bytes = λ a is. refl; flash = refl };
       result = refl;
     } in
-    plain_law links x a to None (at_place m p f.devices) 1 (omega arith) s.ready.paged (record { first = first; flash = refl; sram = refl; swap = refl; registers = refl; polls = f.polls; goes = f.goes }) on
+    plain_law links x a to None (at_place m p f.devices) 1 (omega arith) s.ready.paged (record { first = first; flash = refl; sram = refl; swap = refl; registers = refl; polls = f.polls; pointer = s.ready.idle.pointer; goes = f.goes }) on
 
 -- RJMP over the stub
 rjmp_form : (c : Bool) (w : ℕ) → the_form (0xC000 + cond c 22 3) w ≡ Some (forms.Rjmp (pos (cond c 22 3)))
@@ -143,7 +143,7 @@ fork_law links x a v t true first s closed template f =
     let room = s.ready.bounded.polls in
     let fit = s.ready.idle in
     let free' : IsRunning y = record { free = s.ready.running.free; going = s.ready.running.going; room = omega arith } in
-    let fit' : IsIdle y.kernel = record { registers = fit.registers; size = fit.size; top = fit.top; some = fit.some; most = fit.most } in
+    let fit' : IsIdle y.kernel = record { registers = fit.registers; size = fit.size; pointer = fit.pointer; top = fit.top; some = fit.some; most = fit.most } in
     let begins : ¬ IsPlace k.layout words (v + 2) = row.inner 2 (omega arith) (omega arith) in
     fork_ends links x a v t (v + 2) s (omega arith) f (by_way 1 links y t _ _ (stub_law links y a t (v + 2) false free' (stretch_behind k.layout words v 2 (size way) row (omega arith) (omega arith)) stands' marks' fit' refl begins))
 fork_law links x a v t false first s closed template f =
@@ -168,7 +168,7 @@ fork_law links x a v t false first s closed template f =
     let free' : IsRunning y = record { free = s.ready.running.free; going = s.ready.running.going; room = omega arith } in
     let y' = with_mote y (record (mote_of y) { cpu = record (mote_of y).cpu { pc = p } }) in
     let free'' : IsRunning y' = record { free = s.ready.running.free; going = s.ready.running.going; room = omega arith } in
-    let fit' : IsIdle y'.kernel = record { registers = fit.registers; size = fit.size; top = fit.top; some = fit.some; most = fit.most } in
+    let fit' : IsIdle y'.kernel = record { registers = fit.registers; size = fit.size; pointer = fit.pointer; top = fit.top; some = fit.some; most = fit.most } in
     let move : Makes y (Plain false None) y' = quiet_move y (record (mote_of y) { cpu = record (mote_of y).cpu { pc = p } }) false free' (row.pool 1 (omega arith)) (row.inner 1 (omega arith) (omega arith)) jumps in
     let next = stub_bound a (next_of image a) in
     fork_ends links x a v (next_of image a) (v + 1) s (omega arith) f (step_on links y p (next_of image a) _ _ move (onward links y' image a v free'' fit' s.ready.bounded.right s.code (omega arith) (omega arith) closed refl))

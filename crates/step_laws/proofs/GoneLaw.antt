@@ -10,7 +10,7 @@ use Rattle.avr_exec.specs.Spaces.{Outcome, Went as WentOn, Stopped as StoppedOn}
 use Rattle.avr_exec.specs.Likeness.{is_transfer}
 use Rattle.sram_layout.specs.Bytes.{byte_at, with_word}
 use Rattle.sram_layout.specs.Cells.{vsp_cell}
-use Rattle.sram_layout.proofs.Laws.{byte_out_of_word, length-with_word}
+use Rattle.sram_layout.proofs.Laws.{byte_out_of_word, length-with_word, word_low}
 use Rattle.heap_frames.specs.Paged.{IsPaged}
 use Rattle.heap_frames.proofs.SamePagingLaws.{same_paging_word, paged_same}
 use Rattle.nat_template.specs.declared.shapes.TemplateShape.TheVariants.{Ret, Ind}
@@ -25,7 +25,8 @@ use Rattle.mem_guard.proofs.GuardedStep.{guarded_goes}
 use Rattle.preempt_count.specs.Counting.{crossed, count_over}
 use Rattle.kernel_entry.specs.declared.kernel.Kernel.{Kernel}
 use Rattle.kernel_entry.specs.declared.kernel.Served.TheVariants as answers
-use Rattle.step_laws.proofs.ServiceLaw.{Called, RunsOn, bus_stops, called, called_by, runs_on, stop_law}
+use Rattle.step_laws.proofs.ServiceLaw.{Called, bus_stops, called, called_by, stop_law}
+use Rattle.step_laws.proofs.AskedLaw.{RunsOn, runs_on}
 use Rattle.step_laws.specs.Settings.{IsSetting}
 use Rattle.step_laws.specs.Links.{Links}
 use Rattle.step_laws.specs.Walks.{Makes}
@@ -87,7 +88,20 @@ go_law links x a v entry form cpu g s c can is runs apart went quiet answer =
       short = omega arith;
       serves = omega arith;
       lines = refl;
-      keeps = record { layout = refl; quantum = refl; flash = refl; slots = kept.slots; paged = paged_after put.mote k2.mote same2 paged2; registers = registers'; top = refl; polls = kept.polls; tables = λ b low high. same2.bytes b (omega arith) (λ e. omega arith) (λ e. omega arith) ∙ byte_out_of_word g.sram vsp_cell b cpu.sp (omega arith) (omega arith) (λ e. omega arith) (λ e. omega arith) ∙ kept.tables b (omega arith) high ∙ pushed_kept ram (v + 2) b (omega arith) (λ e. omega arith) (λ e. omega arith) };
+      keeps = record {
+        layout = refl;
+        quantum = refl;
+        flash = refl;
+        slots = kept.slots;
+        paged = paged_after put.mote k2.mote same2 paged2;
+        registers = registers';
+        top = refl;
+        polls = kept.polls;
+        tables = λ b low high.
+            same2.bytes b (omega arith) (λ e. omega arith) (λ e. omega arith) ∙ byte_out_of_word g.sram vsp_cell b cpu.sp (omega arith) (omega arith) (λ e. omega arith) (λ e. omega arith)
+            ∙ kept.tables b (omega arith) high ∙ pushed_kept ram (v + 2) b (omega arith) (λ e. omega arith) (λ e. omega arith);
+        pointer = omega (arith, same2.bytes 0x0103 (omega arith) (λ e. omega arith) (λ e. omega arith), word_low g.sram vsp_cell cpu.sp (omega arith) (omega arith));
+      };
       outcome = StepOutcome.Went cpu.pc (record {
         going = refl;
         original = λ n p.

@@ -1,5 +1,5 @@
 -- A jump: the stub to its target.
-use Rattle.std.proofs.Common.{ℕ, ◌≡◌, ◌+◌, ◌==◌, ◌∙◌, true, false, List, length, refl, sym, ap, arith, subst}
+use Rattle.std.proofs.Common.{ℕ, ◌≡◌, ◌+◌, ◌<◌, ◌==◌, ◌∙◌, true, false, List, length, refl, sym, ap, arith, subst}
 use Rattle.std.specs.Prelude.{ℤ, ◌&&◌, Some, None, not}
 use Rattle.avr_isa.specs.Crossing.{is_crossing}
 use Rattle.avr_isa.specs.Image.{word}
@@ -70,8 +70,8 @@ jump_tried k a t form paged is runs apart asks after s c =
     (exec_nothing guarded_calls form (core_of k a) (memory_of k) (next_size (image_of k) a) asks ∙ ap (λ cpu. WentOn cpu (memory_of k)) after)
 
 -- the step from the way through the stub
-keeps_by : (links : Links) (x z : State) (t c : ℕ) → IsPaged (mote_of x).sram (mote_of x).swap → Reached links x t c z → Keeps x z
-keeps_by links x z t c paged left = record {
+keeps_by : (links : Links) (x z : State) (t c : ℕ) → IsPaged (mote_of x).sram (mote_of x).swap → byte_at (mote_of x).sram 0x0103 < 256 → Reached links x t c z → Keeps x z
+keeps_by links x z t c paged pointer left = record {
   layout = left.layout;
   quantum = left.quantum;
   flash = left.same.flash;
@@ -81,13 +81,14 @@ keeps_by links x z t c paged left = record {
   top = left.same.top;
   polls = omega (arith, ap (λ d. d.polls) left.same.devices);
   tables = λ b low high. left.same.bytes b (omega arith) (λ e. omega arith) (λ e. omega arith);
+  pointer = omega (arith, left.same.bytes 0x0103 (omega arith) (λ e. omega arith) (λ e. omega arith));
 }
 
-jumps_by : (links : Links) (x : State) (a t : ℕ) → IsPaged (mote_of x).sram (mote_of x).swap
+jumps_by : (links : Links) (x : State) (a t : ℕ) → IsPaged (mote_of x).sram (mote_of x).swap → byte_at (mote_of x).sram 0x0103 < 256
     → ((s c : ℕ) → tried (program x.kernel) (state_at x.kernel a s c) ≡ Goes None (state_at x.kernel t (s + 1) (crossings_over a t c)))
     → Way links x true t (count_over x.kernel.quantum a t (byte_at (mote_of x).sram 0x0100)) (is_crossing a t) → StepLaw links x a
 unfolding lines_of
-jumps_by links x a t paged goes way = record {
+jumps_by links x a t paged pointer goes way = record {
   end = way.end;
   first = None;
   rest = way.rest;
@@ -98,7 +99,7 @@ jumps_by links x a t paged goes way = record {
   short = let short = way.short in omega arith;
   serves = let serves = way.serves in omega arith;
   lines = way.silent;
-  keeps = keeps_by links x way.end t _ paged way.left;
+  keeps = keeps_by links x way.end t _ paged pointer way.left;
   outcome = Outcome.Went t (record {
     going = way.left.going;
     original = λ s c. goes s c ∙ ap (Goes None) (sym (flat_same x.kernel way.end.kernel t (s + 1) (crossings_over a t c) way.left.same));
@@ -132,4 +133,4 @@ jump_law links x a v s shape =
     let template : template_at image a ≡ stub a t = ap (λ s. template_by s a (word image a) (instruction_at image a) (size_at image (a + 1))) shape ∙ ap (stub a) jumps.1.target in
     let P : List Piece → Type 0 = λ pieces. Stands links.enters (mote_of x).flash.words v pieces in
     let Q : List Piece → Type 0 = λ pieces. IsStretch k.layout (mote_of x).flash.words v (size pieces) in
-    jumps_by links x a t paged jumps.1.goes (stub_law links x a t v true s.ready.running (subst Q template (stretch_of links k.layout image (mote_of x).flash.words a v s.ready.bounded.right code)) (subst P template code.template) (subst (λ (pieces : List Piece). EachLink links.marks v pieces) template code.linked) s.ready.idle s.at code.place)
+    jumps_by links x a t paged s.ready.idle.pointer jumps.1.goes (stub_law links x a t v true s.ready.running (subst Q template (stretch_of links k.layout image (mote_of x).flash.words a v s.ready.bounded.right code)) (subst P template code.template) (subst (λ (pieces : List Piece). EachLink links.marks v pieces) template code.linked) s.ready.idle s.at code.place)

@@ -1,5 +1,5 @@
 -- A step of the program whose first plain move does the instruction's work, from there on.
-use Rattle.std.proofs.Common.{ℕ, ◌≡◌, ◌+◌, ◌≤◌, ◌∙◌, true, length, sym, ap, arith}
+use Rattle.std.proofs.Common.{ℕ, ◌≡◌, ◌+◌, ◌<◌, ◌≤◌, ◌∙◌, true, length, sym, ap, arith}
 use Rattle.std.specs.Prelude.{Option}
 use Rattle.avr_isa.specs.Crossing.{is_crossing}
 use Rattle.sram_layout.specs.Bytes.{byte_at}
@@ -26,6 +26,7 @@ pub record Works (x : State) (a to : ℕ) (line : Option Line) (n : Mote) : Type
   pub swap : n.swap ≡ (mote_of x).swap
   pub registers : length n.cpu.r ≡ length (mote_of x).cpu.r
   pub polls : n.devices.polls ≤ (mote_of x).devices.polls + 1
+  pub pointer : byte_at (mote_of x).sram 0x0103 < 256
   pub goes : (s c : ℕ) → tried (program x.kernel) (state_at x.kernel a s c) ≡ Goes line (state_at (with_mote x n).kernel to (s + 1) (crossings_over a to c))
 
 pub plain_law : (links : Links) (x : State) (a to : ℕ) (line : Option Line) (n : Mote) (more : ℕ) → more ≤ 9 → IsPaged n.sram n.swap → Works x a to line n
@@ -55,6 +56,7 @@ plain_law links x a to line n more low paged f on =
         top = on.left.same.top;
         polls = let polls = f.polls in omega (arith, ap (λ d. d.polls) on.left.same.devices);
         tables = λ b low high. on.left.same.bytes b (omega arith) (λ e. omega arith) (λ e. omega arith) ∙ ap (λ ram. byte_at ram b) f.sram;
+        pointer = let pointer = f.pointer in omega (arith, on.left.same.bytes 0x0103 (omega arith) (λ e. omega arith) (λ e. omega arith), ap (λ ram. byte_at ram 0x0103) f.sram);
       };
       outcome = StepOutcome.Went to (record {
         going = on.left.going;

@@ -36,7 +36,7 @@ same_stack : (m n : Mote) → SameProgram m n → word_at n.sram vsp_cell ≡ wo
 unfolding word_at
 same_stack m n same = ap₂ (λ low high. low + 256 * high) (same.bytes 0x0103 (omega arith) (λ e. omega arith) (λ e. omega arith)) (same.bytes 0x0104 (omega arith) (λ e. omega arith) (λ e. omega arith))
 
-flat_parts : (r r' : List ℕ) (s s' sp sp' a steps crossings : ℕ) (memory memory' : List ℕ) (devices devices' : Devices) (has has' : List Bool) → r ≡ r' → s ≡ s' → sp ≡ sp' → memory ≡ memory' → devices ≡ devices' → has ≡ has'
+pub flat_parts : (r r' : List ℕ) (s s' sp sp' a steps crossings : ℕ) (memory memory' : List ℕ) (devices devices' : Devices) (has has' : List Bool) → r ≡ r' → s ≡ s' → sp ≡ sp' → memory ≡ memory' → devices ≡ devices' → has ≡ has'
     → ◌≡◌ {A = FlatState} (record { cpu = record { r = r; sreg = s; sp = sp; pc = a }; memory = memory; devices = devices; pages = has; steps = steps; crossings = crossings })
     (record { cpu = record { r = r'; sreg = s'; sp = sp'; pc = a }; memory = memory'; devices = devices'; pages = has'; steps = steps; crossings = crossings })
 flat_parts r r' s s' sp sp' a steps crossings memory memory' devices devices' has has' er es ep em ed eh =

@@ -1,5 +1,5 @@
 -- Ways through a stub: what a walk through it leaves.
-use Rattle.std.proofs.Common.{[], ℕ, ◌≡◌, ◌≤◌, ◌∷◌, ◌++◌, zero, suc, Bool, true, false, List, length, sym, subst}
+use Rattle.std.proofs.Common.{[], ℕ, ◌≡◌, ◌≤◌, ◌∷◌, ◌++◌, Bool, true, List, length, sym, subst}
 use Rattle.std.specs.Prelude.{None}
 use Rattle.sram_layout.specs.Bytes.{byte_at}
 use Rattle.step_laws.specs.StepLaws.{IsReset, Reaches}
@@ -35,7 +35,3 @@ pub record Way (links : Links) (x : State) (b : Bool) (t c : ℕ) (crosses : Boo
 pub walk_on : (x y z : State) (ms ns : List Move) → Walk x ms y → Walk y ns z → Walk x (ms ++ ns) z
 walk_on x y z [] ns first second = subst (λ s. Walk s ns z) (sym first) second
 walk_on x y z (m ∷ ms) ns first second = (first.0, first.1, walk_on first.0 y z ms ns first.2 second)
-
-abbrev pub plains : ℕ → List Move
-plains zero = []
-plains (suc n) = Plain false None ∷ plains n

@@ -6,5 +6,6 @@ pub mod Walks
 pub mod Links
 pub mod Settings
 pub mod StepLaws
+pub mod InlineLaws
 pub mod Joining
 pub mod Bounds

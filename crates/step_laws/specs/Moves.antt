@@ -1,5 +1,5 @@
 -- Moves: what a machine that runs rewritten code does, one after another (docs/RUN.md, "Moves").
-use Rattle.std.specs.Prelude.{ℕ, suc, Bool, true, false, not, ◌&&◌, List, [], ◌∷◌, Option, Some, None}
+use Rattle.std.specs.Prelude.{ℕ, zero, suc, Bool, true, false, not, ◌&&◌, List, [], ◌∷◌, Option, Some, None}
 use Rattle.mote_devices.specs.declared.line.Line.{Line}
 
 -- A plain step, which is one instruction of the code pool: it may begin at an entry's place, and may write
@@ -47,3 +47,8 @@ abbrev pub count_stop : List Move → ℕ
 count_stop [] = 0
 count_stop (Serve line true ∷ moves) = suc (count_stop moves)
 count_stop (_ ∷ moves) = count_stop moves
+
+-- so many plain moves in the midst of a step, without a line
+abbrev pub plains : ℕ → List Move
+plains zero = []
+plains (suc n) = Plain false None ∷ plains n

@@ -1,7 +1,7 @@
 -- What the law of a step rests on (docs/RUN.md, "The law of a step").
 use Rattle.std.specs.Prelude.{◌≡◌, ℕ, ◌+◌, ◌<◌, ◌≤◌, ◌^◌, length, None}
 use Rattle.sram_layout.specs.Bytes.{byte_at}
-use Rattle.sram_layout.specs.Cells.{count_cell}
+use Rattle.sram_layout.specs.Cells.{count_cell, vsp_cell}
 use Rattle.heap_frames.specs.Paged.{IsPaged}
 use Rattle.flash_model.specs.Layouts.{IsRight}
 use Rattle.flash_model.specs.Memory.{IsWhole}
@@ -19,10 +19,12 @@ pub record IsRunning (x : State) : Type 0 where
   pub going : x.end ≡ None
   pub room : (mote_of x).devices.polls < 2 ^ 63
 
--- no call of the kernel is open, and COUNT, which is a byte, is not used up; r24 is a register
+-- no call of the kernel is open, and COUNT, which is a byte, is not used up; r31 is a register, and the low
+-- half of the program's stack pointer is a byte
 pub record IsIdle (k : Kernel) : Type 0 where
-  pub registers : 24 < length k.mote.cpu.r
+  pub registers : 31 < length k.mote.cpu.r
   pub size : length k.mote.sram ≡ 4096
+  pub pointer : byte_at k.mote.sram vsp_cell < 256
   pub top : k.mote.cpu.sp ≡ stack_top
   pub some : 1 ≤ byte_at k.mote.sram count_cell
   pub most : byte_at k.mote.sram count_cell < 256

@@ -3,6 +3,7 @@
 use Rattle.std.specs.Prelude.{◌≡◌, ℕ, ◌+◌, ◌<◌, ◌≤◌, Bool, true, List, [], ◌∷◌, length, Option, Some, None, if◌then◌else◌}
 use Rattle.avr_isa.specs.Crossing.{is_crossing}
 use Rattle.sram_layout.specs.Bytes.{byte_at}
+use Rattle.sram_layout.specs.Cells.{vsp_cell}
 use Rattle.heap_frames.specs.Paged.{IsPaged}
 use Rattle.mote_devices.specs.declared.line.Line.{Line}
 use Rattle.nat_template.specs.declared.shapes.TemplateShape.{TemplateShape}
@@ -50,6 +51,7 @@ pub record Keeps (x z : State) : Type 0 where
   pub top : (mote_of z).cpu.sp ≡ stack_top
   pub polls : (mote_of z).devices.polls ≤ (mote_of x).devices.polls + 1
   pub tables : (b : ℕ) → 0x0142 ≤ b → b < 0x0400 → byte_at (mote_of z).sram b ≡ byte_at (mote_of x).sram b
+  pub pointer : byte_at (mote_of z).sram vsp_cell < 256
 
 -- The instruction at a is executed: the original program's step to the address `to`, with its line.
 pub record GoesTo (links : Links) (x : State) (a : ℕ) (line : Option Line) (rest : List Move) (to : ℕ) (z : State) : Type 0 where

@@ -43,14 +43,15 @@ pub record MakesServe (x : State) (line : Option Line) (stops : Bool) (y : State
   pub halts : is_stop (served x.kernel).0 ≡ stops
   pub result : y ≡ after_service (served x.kernel)
 
--- An arrival: it is the one that is owed, and makes a page exactly where one of its effects does.
+-- An arrival: it is the one that is owed, from the stub that asked for it, and makes a page exactly where one
+-- of its effects does.
 pub record MakesArrive (x : State) (made : Bool) (y : State) : Type 0 where
   pub owed : Owed
   pub owes : x.owed ≡ Some owed
   pub going : x.end ≡ None
   pub store : Store
   pub result : Result Moved ArriveStop
-  pub arrives : Arrives x.kernel.layout (store_of x) store owed.target result
+  pub arrives : Arrives x.kernel.layout (store_of x) store owed.target owed.stub result
   pub makes : makes_page arrives.effects ≡ made
   pub after : y ≡ arrived x store result
 

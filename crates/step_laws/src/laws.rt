@@ -1,5 +1,6 @@
 //! The laws, each as the contract of a function that does nothing.
 ghost use Rattle.step_laws.specs.StepLaws.{HasShapeLaws, HasEntryLaws};
+ghost use Rattle.step_laws.specs.InlineLaws.{RunInline};
 ghost use Rattle.step_laws.specs.Joining.{Joins};
 ghost use Rattle.step_laws.specs.Bounds.{KeepBounds, EndBounds};
 
@@ -14,6 +15,14 @@ pub fn every_shape_has_its_law()
 #[tactic(auto, using(crate::proofs::EveryShape::entry_laws))]
 pub fn every_entry_has_its_law()
     ensures laws { HasEntryLaws }
+{}
+
+/// From each entry whose instruction has an inline template: inside the stack window an exact number of plain
+/// steps leads to the word behind the template and makes the original program's step, as the service MEM does;
+/// outside it plain steps lead to the call of MEM, with all that the program sees as before.
+#[tactic(auto, using(crate::proofs::InlineRuns::runs_inline))]
+pub fn stack_instructions_run_inline()
+    ensures runs { RunInline }
 {}
 
 /// Walks that follow one another are one walk, with the lines one after the other and the numbers added.

@@ -6,16 +6,19 @@
 //! this crate do nothing: each one's contract is a law, for the layer that makes the moves.
 //!
 //! docs/RUN.md tells all of this in words. `specs/Moves`, `specs/States` and `specs/Walks` say which moves
-//! there are and what each leaves, `specs/Numbers` what is counted by them, `specs/Bounds` how far that goes, `specs/Links` where control may
-//! go on, `specs/Settings` what the law of a step rests on, and `specs/StepLaws` what it says. Public laws:
-//! `proofs/EveryShape` (the law of a shape, for any links, and of an entry), `proofs/MoveLaws` (a plain step
-//! and a service exclude each other, and have one outcome each) and `proofs/Joining` (walks in a row).
+//! there are and what each leaves, `specs/Numbers` what is counted by them, `specs/Bounds` how far that goes,
+//! `specs/Links` where control may go on, `specs/Settings` what the law of a step rests on, `specs/StepLaws`
+//! what it says, and `specs/InlineLaws` what an inline template does, move by move. Public laws:
+//! `proofs/EveryShape` (the law of a shape, for any links, and of an entry), `proofs/InlineRuns` (inline
+//! templates), `proofs/MoveLaws` (a plain step and a service exclude each other, and have one outcome each)
+//! and `proofs/Joining` (walks in a row).
 #![tactic(auto)]
 
 mod laws;
 mod moves;
 
 pub use laws::{
-    each_step_keeps_the_bounds, every_entry_has_its_law, every_shape_has_its_law, walks_join,
+    each_step_keeps_the_bounds, every_entry_has_its_law, every_shape_has_its_law,
+    stack_instructions_run_inline, walks_join,
 };
 pub use moves::{End, Owed};

@@ -256,7 +256,7 @@ bounds_broken : (m : Machine) → HasBounds m → HasBounds (record m { broken =
 bounds_broken m bounded = bounded
 
 order_broken : (m : Machine) → IsInOrder m → IsInOrder (record m { broken = true })
-order_broken m order = record { layout = order.layout; right = order.right; faithful = order.faithful; tables = order.tables; paged = order.paged; whole = order.whole; registers = order.registers; quantum = order.quantum; pages = order.pages }
+order_broken m order = record { layout = order.layout; right = order.right; faithful = order.faithful; tables = order.tables; paged = order.paged; whole = order.whole; registers = order.registers; pointer = order.pointer; quantum = order.quantum; pages = order.pages }
 
 failed_by : (old now new : Machine) (i n : ℕ) (line : Option Line) (e : Failed) (before after later : Option (List ℕ)) → old.end ≡ None → old.broken ≡ false → i < n → IsIn old now i before after → (step : HasStepped now new line) → StepWay now new line → CutShort after later (lines_text (line_before line [])) → HasAdvanced old (record new { broken = true }) n before later (Err e)
 unfolding ran_step untold

@@ -67,6 +67,9 @@ same_boot image events quantum slots = record {
 count_boot : (image : List ℕ) (events : List Event) (quantum slots : ℕ) → byte_at (booted image events quantum slots).kernel.mote.sram 0x0100 ≡ quantum
 count_boot image events quantum slots = byte_same at_boot count_cell quantum (omega arith) (omega (arith, length-at_boot))
 
+pointer_boot : (quantum : ℕ) → byte_at (with_byte at_boot count_cell quantum) vsp_cell ≡ 0
+pointer_boot quantum = byte_other at_boot count_cell vsp_cell quantum (omega arith) (omega arith) (λ e. omega arith) ∙ boot_zero vsp_cell (omega arith) (omega arith) (inl (omega arith))
+
 order_boot : (image : List ℕ) (events : List Event) (quantum slots : ℕ) → IsImage image → quantum < 256 → slots ≤ 251 → IsWhole (booted image events quantum slots).kernel.mote.flash → IsInOrder (booted image events quantum slots)
 order_boot image events quantum slots is low few whole =
     let layout : Layout = usual (length image) in
@@ -79,6 +82,7 @@ order_boot image events quantum slots is low few whole =
       paged = paged_after (boot_mote image events slots) (booted image events quantum slots).kernel.mote (same_boot image events quantum slots) (boot_paged slots few);
       whole = whole;
       registers = omega (arith, many_registers);
+      pointer = omega (arith, pointer_boot quantum);
       quantum = low;
       pages = sym (none_used layout (loaded image) (λ p pool. new_flash_free layout image p right (omega arith) pool));
     }

@@ -3,7 +3,7 @@ use Rattle.std.proofs.Common.{◌≡◌, ℕ, ◌+◌, ◌-◌, ◌%◌, ◌<◌
 use Rattle.std.specs.Prelude.{◌^◌, Option, Some, None, Result, Ok, Err, OnErr, IfOk}
 use Rattle.std.proofs.lemmas.Bool.Decides.{nat_tests}
 use Rattle.avr_isa.specs.Image.{is_inside}
-use Rattle.sram_layout.specs.Bytes.{byte_at, word_at}
+use Rattle.sram_layout.specs.Bytes.{word_at}
 use Rattle.sram_layout.specs.Cells.{vsp_cell}
 use Rattle.flash_model.specs.Memory.{Memory, IsWhole}
 use Rattle.flash_model.specs.Layouts.{IsRight}
@@ -20,7 +20,7 @@ use Rattle.nat_page.specs.Used.{used_pages}
 use Rattle.nat_page.proofs.EnteredLaws.{entry_law}
 use Rattle.nat_page.proofs.UsedLaws.{used_pages-most}
 use Rattle.addr_tables.specs.Tables.{IsTables}
-use Rattle.addr_tables.proofs.TableLaws.{tables_kept}
+use Rattle.addr_tables.specs.Changes.{KeepsRest}
 use Rattle.mote_devices.specs.State.{State as Devices}
 use Rattle.mem_guard.specs.FlatMachine.{FlatState}
 use Rattle.branch_bridge.specs.declared.arrival.Moved.{Moved}
@@ -28,7 +28,7 @@ use Rattle.branch_bridge.specs.declared.arrival.ArriveStop.{ArriveStop}
 use Rattle.branch_bridge.specs.declared.arrival.ArriveStop.TheVariants as refusals
 use Rattle.branch_bridge.specs.Effects.{Store}
 use Rattle.branch_bridge.proofs.AnswerLaws.{arrival_refused, arrival_entered}
-use Rattle.branch_bridge.proofs.KeptLaws.{arrival_kept, arrival_faithful}
+use Rattle.branch_bridge.proofs.KeptLaws.{arrival_kept, arrival_faithful, arrival_tables}
 use Rattle.kernel_entry.specs.Parts.{image_of}
 use Rattle.step_laws.specs.declared.moves.Owed.{Owed}
 use Rattle.step_laws.specs.declared.moves.End.{End}
@@ -42,7 +42,8 @@ use Rattle.tk_run.specs.Machines.{Machine, state_of, numbers_of, flat_of}
 use Rattle.tk_run.specs.Ready.{usual, count_in, IsGoing, IsInOrder, IsEnded, IsCounted, IsBounded, HasBounds, IsExact}
 use Rattle.tk_run.specs.Stepping.{links_in, Goes, Stays, Entering, HasEntered, HasBound, PageWay}
 use Rattle.tk_run.specs.Loop.{HasArrived}
-use Rattle.tk_run.proofs.Arriving.{Answered, answered, arrival_pages}
+use Rattle.tk_run.proofs.Arriving.{Answered, answered, arrival_pages, owed_came}
+use Rattle.tk_run.proofs.OutsideTables.{outside_paged, outside_memory, outside_pages, outside_count, outside_pointer, outside_stack}
 use Rattle.tk_run.proofs.ReadyLaws.{counted_same}
 use Rattle.tk_run.proofs.Bounds.{bounded_counted}
 
@@ -94,22 +95,26 @@ after_arrived x y store (Err (refusals.Wild t)) is = after_same x y store (recor
 after_arrived x y store (Err (refusals.CodeFull t)) is = after_same x y store (record (with_store x store) { end = Some (ends.CodeFull t) }) is (record { layout = refl; quantum = refl; swap = refl; devices = refl; r = refl; sreg = refl; sp = refl; store_is = refl })
 
 -- the flat state, from its parts
-put_together : (r : List ℕ) (sreg : ℕ) (sram : List ℕ) (swap : List (List ℕ)) (devices : Devices) (a s c : ℕ) → FlatState
-put_together r sreg sram swap devices a s c = record { cpu = record { r = r; sreg = sreg; sp = word_at sram vsp_cell; pc = a }; memory = vmem sram swap; devices = devices; pages = pages sram; steps = s; crossings = c }
+put_together : (r : List ℕ) (sreg sp : ℕ) (memory : List ℕ) (devices : Devices) (stored : List Bool) (a s c : ℕ) → FlatState
+put_together r sreg sp memory devices stored a s c = record { cpu = record { r = r; sreg = sreg; sp = sp; pc = a }; memory = memory; devices = devices; pages = stored; steps = s; crossings = c }
 
-flat_parts : (old new : Machine) (store : Store) → After (state_of old) (state_of new) store → new.kernel.mote.sram ≡ old.kernel.mote.sram → new.at ≡ old.at → new.steps ≡ old.steps → new.crossings ≡ old.crossings → flat_of new ≡ flat_of old
+flat_parts : (old new : Machine) (store : Store) → After (state_of old) (state_of new) store → KeepsRest old.kernel.mote.sram new.kernel.mote.sram → new.at ≡ old.at → new.steps ≡ old.steps → new.crossings ≡ old.crossings → flat_of new ≡ flat_of old
 unfolding put_together
-flat_parts old new store same sram at steps crossings =
+flat_parts old new store same rest at steps crossings =
     let n = new.kernel.mote in
     let o = old.kernel.mote in
-    ap (λ x. put_together x n.cpu.sreg n.sram n.swap n.devices new.at new.steps new.crossings) same.r
-    ∙ ap (λ x. put_together o.cpu.r x n.sram n.swap n.devices new.at new.steps new.crossings) same.sreg
-    ∙ ap (λ x. put_together o.cpu.r o.cpu.sreg x n.swap n.devices new.at new.steps new.crossings) sram
-    ∙ ap (λ x. put_together o.cpu.r o.cpu.sreg o.sram x n.devices new.at new.steps new.crossings) same.swap
-    ∙ ap (λ x. put_together o.cpu.r o.cpu.sreg o.sram o.swap x new.at new.steps new.crossings) same.devices
-    ∙ ap (λ x. put_together o.cpu.r o.cpu.sreg o.sram o.swap o.devices x new.steps new.crossings) at
-    ∙ ap (λ x. put_together o.cpu.r o.cpu.sreg o.sram o.swap o.devices old.at x new.crossings) steps
-    ∙ ap (λ x. put_together o.cpu.r o.cpu.sreg o.sram o.swap o.devices old.at old.steps x) crossings
+    let nsp = word_at n.sram vsp_cell in
+    let osp = word_at o.sram vsp_cell in
+    let heap : vmem n.sram n.swap ≡ vmem o.sram o.swap = ap (vmem n.sram) same.swap ∙ outside_memory o.sram n.sram o.swap rest in
+    ap (λ x. put_together x n.cpu.sreg nsp (vmem n.sram n.swap) n.devices (pages n.sram) new.at new.steps new.crossings) same.r
+    ∙ ap (λ x. put_together o.cpu.r x nsp (vmem n.sram n.swap) n.devices (pages n.sram) new.at new.steps new.crossings) same.sreg
+    ∙ ap (λ x. put_together o.cpu.r o.cpu.sreg x (vmem n.sram n.swap) n.devices (pages n.sram) new.at new.steps new.crossings) (outside_stack o.sram n.sram rest)
+    ∙ ap (λ x. put_together o.cpu.r o.cpu.sreg osp x n.devices (pages n.sram) new.at new.steps new.crossings) heap
+    ∙ ap (λ x. put_together o.cpu.r o.cpu.sreg osp (vmem o.sram o.swap) x (pages n.sram) new.at new.steps new.crossings) same.devices
+    ∙ ap (λ x. put_together o.cpu.r o.cpu.sreg osp (vmem o.sram o.swap) o.devices x new.at new.steps new.crossings) (outside_pages o.sram n.sram rest)
+    ∙ ap (λ x. put_together o.cpu.r o.cpu.sreg osp (vmem o.sram o.swap) o.devices (pages o.sram) x new.steps new.crossings) at
+    ∙ ap (λ x. put_together o.cpu.r o.cpu.sreg osp (vmem o.sram o.swap) o.devices (pages o.sram) old.at x new.crossings) steps
+    ∙ ap (λ x. put_together o.cpu.r o.cpu.sreg osp (vmem o.sram o.swap) o.devices (pages o.sram) old.at old.steps x) crossings
 
 -- numbers of an arrival
 pages_arrived : (n : Numbers) (b : Bool) → (moved (Arrive b) n).pages ≡ n.pages + one_if b
@@ -132,7 +137,7 @@ bounded_moved n b c q p bounded = record { natural = bounded.natural; entries = 
 record Arrived (old new : Machine) (made : Bool) (result : Result Moved ArriveStop) : Type 0 where
   store : Store
   after : After (state_of old) (state_of new) store
-  sram : new.kernel.mote.sram ≡ old.kernel.mote.sram
+  rest : KeepsRest old.kernel.mote.sram new.kernel.mote.sram
   image : image_of new.kernel ≡ image_of old.kernel
   faithful : IsFaithful new.kernel.layout (image_of new.kernel) new.kernel.mote.flash.words
   tables : IsTables new.kernel.layout new.kernel.mote.sram new.kernel.mote.flash.words
@@ -157,28 +162,30 @@ arrived_by old new made makes whole ready =
     let at : t ≡ old.at = owed_at old makes.owed ready makes.owes in
     let after = after_arrived (state_of old) (state_of new) makes.store makes.result makes.after in
     let flash : new.kernel.mote.flash ≡ makes.store.flash = ap (λ (s : Store). s.flash) after.store_is in
-    let kept = arrival_kept l before makes.store t makes.result order.right order.faithful.code makes.arrives in
-    let sram : new.kernel.mote.sram ≡ old.kernel.mote.sram = ap (λ (s : Store). s.sram) after.store_is ∙ kept.sram in
+    let s = makes.owed.stub in
+    let from = owed_came old makes.owed ready makes.owes in
+    let kept = arrival_kept l before makes.store t s makes.result order.right order.faithful.code from makes.arrives in
+    let sram : new.kernel.mote.sram ≡ makes.store.sram = ap (λ (s : Store). s.sram) after.store_is in
     let I : Layout → Memory → Type 0 = λ k f. IsFaithful k (making.image_of k f.words) f.words in
-    let faithful = arrival_faithful l before makes.store t makes.result order.right order.faithful makes.arrives in
+    let faithful = arrival_faithful l before makes.store t s makes.result order.right order.faithful from makes.arrives in
     let T : Layout → List ℕ → Memory → Type 0 = λ k m f. IsTables k m f.words in
-    let tables : T l old.kernel.mote.sram makes.store.flash = tables_kept l old.kernel.mote.sram old.kernel.mote.sram old.kernel.mote.flash.words makes.store.flash.words (λ a from to. refl) kept.entries order.tables in
-    let pages = arrival_pages l before makes.store t makes.result order.right order.faithful.code makes.arrives in
+    let tables : T l makes.store.sram makes.store.flash = arrival_tables l before makes.store t s makes.result order.right order.faithful.code from order.paged.sized.sram makes.arrives order.tables in
+    let pages = arrival_pages l before makes.store t s makes.result order.right order.faithful.code from makes.arrives in
     record {
       store = makes.store;
       after = after;
-      sram = sram;
+      rest = subst (KeepsRest old.kernel.mote.sram) (sym sram) kept.rest;
       image = ap₂ (λ (k : Layout) (f : Memory). making.image_of k f.words) after.layout flash ∙ kept.image;
       faithful = subst (λ k. I k new.kernel.mote.flash) (sym after.layout) (subst (I l) (sym flash) faithful);
-      tables = subst (λ k. T k new.kernel.mote.sram new.kernel.mote.flash) (sym after.layout) (subst (λ m. T l m new.kernel.mote.flash) (sym sram) (subst (T l old.kernel.mote.sram) (sym flash) tables));
+      tables = subst (λ k. T k new.kernel.mote.sram new.kernel.mote.flash) (sym after.layout) (subst (λ m. T l m new.kernel.mote.flash) (sym sram) (subst (T l makes.store.sram) (sym flash) tables));
       whole = whole;
       ways = λ page pool. subst (λ (f : Memory). PageWay old.kernel.mote.flash.words f.words old.at page) (sym flash) (subst (λ a. PageWay old.kernel.mote.flash.words makes.store.flash.words a page) at (pages.ways page pool));
       used = ap₂ (λ (k : Layout) (f : Memory). used_pages k f.words) after.layout flash ∙ pages.used ∙ ap (λ b. used_pages l old.kernel.mote.flash.words + one_if b) makes.makes;
-      answer = subst (λ a. Answered l old.kernel.mote.flash.words a makes.result) at (answered l before makes.store t makes.result makes.arrives);
+      answer = subst (λ a. Answered l old.kernel.mote.flash.words a makes.result) at (answered l before makes.store t s makes.result makes.arrives);
       placed =
           let P : ℕ → Memory → Type 0 = λ a f. IfOk makes.result (λ to. IsEntry l f.words a to.place) in
-          subst (P old.at) (sym flash) (subst (λ a. P a makes.store.flash) at (arrival_entered l before makes.store t makes.result order.right order.faithful.code makes.arrives));
-      same = same_by makes.result before makes.store new.kernel.mote.flash flash (arrival_refused l before makes.store t makes.result makes.arrives);
+          subst (P old.at) (sym flash) (subst (λ a. P a makes.store.flash) at (arrival_entered l before makes.store t s makes.result order.right order.faithful.code from makes.arrives));
+      same = same_by makes.result before makes.store new.kernel.mote.flash flash (arrival_refused l before makes.store t s makes.result makes.arrives);
       state = makes.after;
     }
 
@@ -190,15 +197,16 @@ order_arrived old new made result told numbers order =
       right = subst IsRight (sym same.layout) order.right;
       faithful = told.faithful;
       tables = told.tables;
-      paged = subst (λ s. IsPaged s new.kernel.mote.swap) (sym told.sram) (subst (λ w. IsPaged old.kernel.mote.sram w) (sym same.swap) order.paged);
+      paged = subst (λ w. IsPaged new.kernel.mote.sram w) (sym same.swap) (outside_paged old.kernel.mote.sram new.kernel.mote.sram old.kernel.mote.swap told.rest order.paged);
       whole = told.whole;
-      registers = subst (λ (r : List ℕ). 24 < length r) (sym same.r) order.registers;
+      registers = subst (λ (r : List ℕ). 31 < length r) (sym same.r) order.registers;
+      pointer = subst (λ b. b < 256) (sym (outside_pointer old.kernel.mote.sram new.kernel.mote.sram told.rest)) order.pointer;
       quantum = subst (λ q. q < 256) (sym same.quantum) order.quantum;
       pages = ap (λ (k : Numbers). k.pages) numbers ∙ pages_arrived (numbers_of old) made ∙ ap (λ p. p + one_if made) order.pages ∙ sym told.used;
     }
 
-exact_same : (old new : Machine) → new.kernel.mote.sram ≡ old.kernel.mote.sram → new.kernel.quantum ≡ old.kernel.quantum → new.crossings ≡ old.crossings → IsExact old → IsExact new
-exact_same old new sram quantum crossings is = ap (λ m. byte_at m 0x0100) sram ∙ is ∙ ap₂ (λ q c. q - c % q) (sym quantum) (sym crossings)
+exact_same : (old new : Machine) → KeepsRest old.kernel.mote.sram new.kernel.mote.sram → new.kernel.quantum ≡ old.kernel.quantum → new.crossings ≡ old.crossings → IsExact old → IsExact new
+exact_same old new rest quantum crossings is = outside_count old.kernel.mote.sram new.kernel.mote.sram rest ∙ is ∙ ap₂ (λ q c. q - c % q) (sym quantum) (sym crossings)
 
 -- the numbers, and what is counted beside them
 record Counts (old new : Machine) (made : Bool) : Type 0 where
@@ -211,7 +219,7 @@ going_arrived : (old new : Machine) (made : Bool) (result : Result Moved ArriveS
     → IsEntry old.kernel.layout new.kernel.mote.flash.words old.at new.kernel.mote.cpu.pc → IsGoing old → IsGoing new
 going_arrived old new made result told counts going free entry ready =
     let same = told.after in
-    let count : count_in new ≡ count_in old = ap (λ m. byte_at m 0x0100) told.sram in
+    let count : count_in new ≡ count_in old = outside_count old.kernel.mote.sram new.kernel.mote.sram told.rest in
     let polls = ready.polls in
     let E : Layout → ℕ → Type 0 = λ k a. IsEntry k new.kernel.mote.flash.words a new.kernel.mote.cpu.pc in
     record {
@@ -224,7 +232,7 @@ going_arrived old new made result told counts going free entry ready =
       counted = counted_same (numbers_of new) (moved (Arrive made) (numbers_of old)) new.crossings old.crossings new.kernel.quantum old.kernel.quantum (count_in new) (count_in old) new.at old.at counts.numbers counts.crossings same.quantum count counts.at
           (counted_arrived (numbers_of old) made old.crossings old.kernel.quantum (count_in old) old.at ready.counted);
       polls = subst (λ (d : Devices). d.polls ≤ new.steps + 2 ^ 32) (sym same.devices) (subst (λ s. old.kernel.mote.devices.polls ≤ s + 2 ^ 32) (sym counts.steps) polls);
-      exact = exact_same old new told.sram same.quantum counts.crossings ready.exact;
+      exact = exact_same old new told.rest same.quantum counts.crossings ready.exact;
     }
 
 bounded_arrived : (old new : Machine) (made : Bool) (result : Result Moved ArriveStop) → Arrived old new made result → Counts old new made → IsGoing old → HasBounds new
@@ -239,7 +247,7 @@ ended_arrived old new made result end told counts ready is = record {
   order = order_arrived old new made result told counts.numbers ready.order;
   bounded = bounded_arrived old new made result told counts ready;
   ended = λ going. let f : Some end ≡ None = sym is ∙ going in cc;
-  exact = exact_same old new told.sram told.after.quantum counts.crossings ready.exact;
+  exact = exact_same old new told.rest told.after.quantum counts.crossings ready.exact;
 }
 
 -- the room that there is not, of the machine after
@@ -285,7 +293,7 @@ entered_some old new arrived whole ready =
       stays = record { program = ap₂ (λ i n. record { image = i; page_limit = n }) told.image (ap length told.after.swap); layout = told.after.layout; quantum = told.after.quantum };
       broken = arrived.broken;
       steps = steps;
-      flat = flat_parts old new told.store told.after told.sram arrived.at steps arrived.crossings;
+      flat = flat_parts old new told.store told.after told.rest arrived.at steps arrived.crossings;
       pages = told.ways;
       way = way_by old new arrived.made arrived.makes.result told counts ready told.answer;
     }

@@ -20,7 +20,7 @@ law_of m ready few placed =
     entry_laws (state_of m) m.at (record {
       ready = record {
         running = record { free = placed; going = ready.going; room = omega arith };
-        idle = record { registers = order.registers; size = order.paged.sized.sram; top = ready.top; some = ready.some; most = omega arith };
+        idle = record { registers = order.registers; size = order.paged.sized.sram; pointer = order.pointer; top = ready.top; some = ready.some; most = omega arith };
         bounded = record { right = order.right; whole = order.whole; most = ready.most; polls = omega arith };
         paged = order.paged;
       };

@@ -6,6 +6,7 @@ mod Settling
 mod ReadyLaws
 mod Laws
 mod Stepped
+mod OutsideTables
 mod Arriving
 mod Entered
 pub mod Leading

@@ -42,6 +42,7 @@ order_on old new keeps same order =
       paged = keeps.paged;
       whole = subst IsWhole (sym keeps.flash) order.whole;
       registers = omega (arith, keeps.registers);
+      pointer = keeps.pointer;
       quantum = omega (arith, keeps.quantum);
       pages = same ∙ order.pages ∙ ap₂ (λ (l : Layout) (f : Memory). used_pages l f.words) (sym keeps.layout) (sym keeps.flash);
     }

@@ -1,5 +1,7 @@
 -- When a machine is sound, and when it is ready to go on (docs/MACHINE.md, "What always holds").
 use Rattle.std.specs.Prelude.{◌≡◌, ◌≢◌, ℕ, ◌+◌, ◌-◌, ◌*◌, ◌%◌, ◌<◌, ◌≤◌, ◌^◌, false, length, None}
+use Rattle.sram_layout.specs.Bytes.{byte_at}
+use Rattle.sram_layout.specs.Cells.{vsp_cell}
 use Rattle.heap_frames.specs.Paged.{IsPaged}
 use Rattle.flash_model.specs.Layouts.{IsRight}
 use Rattle.flash_model.specs.Memory.{IsWhole}
@@ -22,7 +24,8 @@ abbrev pub count_in : Machine → ℕ
 count_in m = count_of m.kernel
 
 -- The layout is the usual one; flash holds the image and its faithful rewritten code; the tables and the
--- heap are in order; and as many pages are used as were made.
+-- heap are in order; as many pages are used as were made; r0 to r31 are there, and the low half of the program's
+-- stack pointer is a byte.
 pub record IsInOrder (m : Machine) : Type 0 where
   pub layout : m.kernel.layout ≡ usual m.kernel.layout.image_words
   pub right : IsRight m.kernel.layout
@@ -30,7 +33,8 @@ pub record IsInOrder (m : Machine) : Type 0 where
   pub tables : IsTables m.kernel.layout m.kernel.mote.sram m.kernel.mote.flash.words
   pub paged : IsPaged m.kernel.mote.sram m.kernel.mote.swap
   pub whole : IsWhole m.kernel.mote.flash
-  pub registers : 24 < length m.kernel.mote.cpu.r
+  pub registers : 31 < length m.kernel.mote.cpu.r
+  pub pointer : byte_at m.kernel.mote.sram vsp_cell < 256
   pub quantum : m.kernel.quantum < 256
   pub pages : m.pages ≡ used_pages m.kernel.layout m.kernel.mote.flash.words
 

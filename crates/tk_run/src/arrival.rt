@@ -6,6 +6,7 @@ ghost use Rattle.flash_model.specs.Memory.{IsWhole};
 ghost use Rattle.page_index.specs.Cursors.{IsCursor};
 ghost use Rattle.nat_page.specs.Faithful.{IsFaithful};
 ghost use Rattle.addr_tables.specs.Tables.{IsTables};
+ghost use Rattle.branch_bridge.specs.Arrivals.{CameThrough};
 ghost use Rattle.kernel_entry.specs.Parts.{image_of};
 ghost use Rattle.tk_run.specs.Loop.{HasArrived};
 ghost use Rattle.tk_run.specs.Ready.{IsGoing};
@@ -14,7 +15,7 @@ ghost use Rattle.tk_run.specs.Wholes.{whole};
 
 use crate::progress::Progress;
 use crate::{End, Owed};
-use branch_bridge::{ArriveStop, arrive_telling};
+use branch_bridge::{ArriveStop, arrive_from};
 use flash_model::Flash;
 use kernel_entry::Kernel;
 use page_index::Cursor;
@@ -55,17 +56,24 @@ pub fn at_bound(k: &mut Kernel, p: &mut Progress) -> End
     }
 }
 
-/// Makes the arrival that is owed.
+/// Makes the arrival that is owed. The stub that asked for it leads to its place from then on.
 fn arrive_owed(k: &mut Kernel, p: &mut Progress, owed: Owed)
     requires owed { p.old.owed ≡ Some owed }
     requires going { p.old.end ≡ None }
     requires right { IsRight k.old.layout }
     requires faithful { IsFaithful k.old.layout (image_of k.old) k.old.mote.flash.words }
     requires tables { IsTables k.old.layout k.old.mote.sram k.old.mote.flash.words }
+    requires stub { CameThrough k.old.layout k.old.mote.flash.words owed.stub owed.target }
     requires few { p.old.pages < 2 ^ 62 }
     ensures arrived { HasArrived (whole k.old p.old) (whole k.new p.new) }
 {
-    match arrive_telling(&mut k.mote.sram, &mut k.mote.flash, &k.layout, owed.target) {
+    match arrive_from(
+        &mut k.mote.sram,
+        &mut k.mote.flash,
+        &k.layout,
+        owed.target,
+        owed.stub,
+    ) {
         Ok(moved) => {
             k.mote.cpu.pc = moved.place;
             p.owed = None;

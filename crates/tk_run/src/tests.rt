@@ -42,7 +42,28 @@ fn a_loop_is_counted(rt: HostRuntime) -> Result<(), Fail> {
     let mut m = boot(&rt, &LOOP, 255)?;
     assert_eq!(rt; run(&mut m, 1000, &mut out)?, End::Stopped(Stop::Halted(3)));
     assert_eq!(rt; m.at, 3);
-    assert_eq!(rt; counts(&m), [7, 2, 31, 3, 1]);
+    assert_eq!(rt; counts(&m), [7, 2, 31, 2, 1]);
+    Ok(())
+}
+
+/// The pool's first page once the loop has run: the stub of the branch, which was taken twice, jumps to 0x4007.
+const LOOP_PAGE: [u16; 36] = [
+    0x0000, 0x0004, 0x0006, 0x0107, 0x0208, 0x0320, 0xE003, 0x950A, 0xF409, 0xC016, 0x9380, 0x0101,
+    0xB78F, 0x9380, 0x0102, 0x9180, 0x0100, 0x958A, 0x9380, 0x0100, 0xF041, 0x9180, 0x0102, 0xBF8F,
+    0x9180, 0x0101, 0x940C, 0x4007, 0x0001, 0x940E, 0xF002, 0x0001, 0x940E, 0xF00C, 0x0003, 0xFFFF,
+];
+
+#[test]
+fn a_stub_is_patched_where_it_was_run(rt: HostRuntime) -> Result<(), Fail> {
+    let mut out = MemSink::new(rt.alloc(), 100)?;
+    let mut m = boot(&rt, &LOOP, 255)?;
+    assert_eq!(rt; run(&mut m, 1000, &mut out)?, End::Stopped(Stop::Halted(3)));
+    for i in 0..36u16 {
+        assert_eq!(rt;
+            m.kernel.mote.flash.word(0x4000 + i),
+            LOOP_PAGE[usize::from(i)]
+        );
+    }
     Ok(())
 }
 

@@ -2,7 +2,7 @@
 use crate::support::{HEX, LINES, ROOM, run, sink, words_of};
 use kernel_entry::Stop;
 use std::test::Fail;
-use tk_io::{FlakySink, FlakySource, MemSource};
+use tk_io::{FlakySink, FlakySource, MemSink, MemSource};
 use tk_run::End;
 use tkernel_cli::{Status, tkernel};
 
@@ -98,6 +98,28 @@ fn a_failed_write_leaves_a_part_of_the_lines(rt: HostRuntime) -> Result<(), Fail
         assert_eq!(rt; exit.status, Status::WriteFault);
         assert_eq!(rt; out.taken(), &LINES[..went_out], "call {call}");
         assert_eq!(rt; exit.kept.is_some(), true);
+    }
+    Ok(())
+}
+
+/// A sink with room for a part of the lines takes just that part. The machine is broken where the line of
+/// its output, the first, didn't fit.
+#[test]
+fn a_sink_with_too_little_room_takes_what_fits(rt: HostRuntime) -> Result<(), Fail> {
+    let alloc = rt.alloc();
+    for room in 0..=LINES.len() {
+        let mut input = MemSource::new(HEX.to_vec(alloc)?);
+        let mut out = MemSink::new(alloc, room).map_err(|_| "no memory")?;
+        let exit = tkernel(alloc, &words_of(alloc, &["run"])?, &mut input, &mut out);
+        assert_eq!(rt; out.taken(), &LINES[..room]);
+        let status = if room < LINES.len() {
+            Status::WriteFault
+        } else {
+            Status::Done
+        };
+        assert_eq!(rt; exit.status, status, "room {room}");
+        let machine = exit.kept.ok_or("a machine")?;
+        assert_eq!(rt; machine.broken, room < 11, "room {room}");
     }
     Ok(())
 }

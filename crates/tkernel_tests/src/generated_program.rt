@@ -17,7 +17,7 @@ PORTA 0xD8
 PORTA 0x61
 PORTA 0x01
 halted 0x1F4D steps 1600608 checkpoints 49
-natural 1764052 entries 37601 pages 189
+natural 1764052 entries 239 pages 189
 ";
 
 /// The source would fail if it were read.

@@ -52,6 +52,7 @@ fn the_first_fault_is_named(rt: HostRuntime) -> Result<(), Fail> {
     for (text, line) in BROKEN {
         let (exit, out) = run(rt.alloc(), text)?;
         assert_eq!(rt; out.taken(), line);
+        assert_eq!(rt; exit.status, Status::BadInput);
         assert_eq!(rt; exit.kept.is_none(), true);
     }
     Ok(())
@@ -60,16 +61,32 @@ fn the_first_fault_is_named(rt: HostRuntime) -> Result<(), Fail> {
 /// The first program's text, cut to its first bytes.
 #[test]
 fn a_text_cut_short_is_refused(rt: HostRuntime) -> Result<(), Fail> {
-    for length in 0..HEX.len() {
-        let (_, out) = run(rt.alloc(), &HEX[..length])?;
-        let line: &[u8] = match length {
-            0 => b"bad hex line 1 end\n",
-            1..=22 => b"bad hex line 1 length\n",
-            23 | 24 => b"bad hex line 2 end\n",
-            25..=34 => b"bad hex line 2 length\n",
-            _ => LINES,
+    for length in 0..=HEX.len() {
+        let (exit, out) = run(rt.alloc(), &HEX[..length])?;
+        let (line, status): (&[u8], Status) = match length {
+            0 => (b"bad hex line 1 end\n", Status::BadInput),
+            1..=22 => (b"bad hex line 1 length\n", Status::BadInput),
+            23 | 24 => (b"bad hex line 2 end\n", Status::BadInput),
+            25..=34 => (b"bad hex line 2 length\n", Status::BadInput),
+            _ => (LINES, Status::Done),
         };
         assert_eq!(rt; out.taken(), line, "{length} bytes");
+        assert_eq!(rt; exit.status, status, "{length} bytes");
+    }
+    Ok(())
+}
+
+/// A record without bytes has no place, so none is too large.
+#[test]
+fn a_text_without_bytes_has_no_word_to_run(rt: HostRuntime) -> Result<(), Fail> {
+    let texts: [&[u8]; 2] = [b":00000001FF\n", b":00FFFF0002\n:00000001FF\n"];
+    for text in texts {
+        let (exit, out) = run(rt.alloc(), text)?;
+        assert_eq!(rt;
+            out.taken(),
+            b"fault wild 0x0000 steps 0 checkpoints 0\nnatural 0 entries 0 pages 0\n".as_slice()
+        );
+        assert_eq!(rt; exit.status, Status::Fault);
     }
     Ok(())
 }

@@ -14,4 +14,6 @@ mod programs;
 #[cfg(test)]
 mod programs_with_options;
 #[cfg(test)]
+mod stack_instructions;
+#[cfg(test)]
 mod support;

@@ -1,7 +1,8 @@
 //! Programs and what they print, with the options as they are by themselves.
-use crate::support::{Row, run_image};
+use crate::support::{ROOM, Row, input_of, run_image, run_with};
 use std::test::Fail;
-use tkernel_cli::Status;
+use tk_io::{SlowSink, SlowSource};
+use tkernel_cli::{Status, tkernel};
 
 const START_UP: [u16; 115] = [
     0x940C, 0x0046, 0x940C, 0x0065, 0x940C, 0x0065, 0x940C, 0x0065, 0x940C, 0x0065, 0x940C, 0x0065,
@@ -16,7 +17,7 @@ const START_UP: [u16; 115] = [
     0xB98C, 0xE080, 0xE090, 0x9508, 0x94F8, 0xCFFF, 0x6948,
 ];
 
-const ROWS: [Row; 19] = [
+const ROWS: [Row; 21] = [
     Row {
         // jump into a JMP's second word
         image: &[0xC001, 0x940C, 0xE00F, 0xBB0B, 0xCFFF],
@@ -31,7 +32,7 @@ const ROWS: [Row; 19] = [
         options: &[],
         script: b"",
         status: Status::Done,
-        text: b"halted 0x0003 steps 7 checkpoints 0\nnatural 31 entries 3 pages 1\n",
+        text: b"halted 0x0003 steps 7 checkpoints 0\nnatural 31 entries 2 pages 1\n",
     },
     Row {
         // PUSH at reset
@@ -87,7 +88,25 @@ const ROWS: [Row; 19] = [
         options: &[],
         script: b"",
         status: Status::Done,
-        text: b"PORTA 0x41\nhalted 0x000D steps 94 checkpoints 0\nnatural 295 entries 39 pages 1\n",
+        text: b"PORTA 0x41\nhalted 0x000D steps 94 checkpoints 0\nnatural 295 entries 23 pages 1\n",
+    },
+    Row {
+        // PUSH and POP inside the stack window
+        image: &[
+            0xE100, 0xBF0E, 0xEF0F, 0xBF0D, 0xE50A, 0x930F, 0x911F, 0xBB1B, 0xCFFF,
+        ],
+        options: &[],
+        script: b"",
+        status: Status::Done,
+        text: b"PORTA 0x5A\nhalted 0x0008 steps 8 checkpoints 0\nnatural 45 entries 3 pages 1\n",
+    },
+    Row {
+        // STD and LDD of Y + 2 in the heap
+        image: &[0xE0C0, 0xE0D1, 0xE707, 0x830A, 0x811A, 0xBB1B, 0xCFFF],
+        options: &[],
+        script: b"",
+        status: Status::Done,
+        text: b"PORTA 0x77\nhalted 0x0006 steps 6 checkpoints 0\nnatural 31 entries 3 pages 1\n",
     },
     Row {
         // LPM of the last byte and of one past it
@@ -153,7 +172,7 @@ const ROWS: [Row; 19] = [
         options: &[],
         script: b"at 3 uart 0x41\n",
         status: Status::Done,
-        text: b"UART0 0x41\nhalted 0x0005 steps 10 checkpoints 0\nnatural 34 entries 4 pages 2\n",
+        text: b"UART0 0x41\nhalted 0x0005 steps 10 checkpoints 0\nnatural 34 entries 3 pages 2\n",
     },
     Row {
         // avr-gcc's start-up
@@ -161,7 +180,7 @@ const ROWS: [Row; 19] = [
         options: &[],
         script: b"",
         status: Status::Done,
-        text: b"UART0 0x48\nUART0 0x69\nhalted 0x0071 steps 49 checkpoints 0\nnatural 89 entries 23 pages 8\n",
+        text: b"UART0 0x48\nUART0 0x69\nhalted 0x0071 steps 49 checkpoints 0\nnatural 89 entries 21 pages 8\n",
     },
     Row {
         // IJMP
@@ -188,6 +207,24 @@ fn each_prints_its_lines(rt: HostRuntime) -> Result<(), Fail> {
         assert_eq!(rt; out.taken(), row.text);
         assert_eq!(rt; exit.status, row.status);
         assert_eq!(rt; exit.kept.is_some(), true);
+    }
+    Ok(())
+}
+
+/// Streams that move 1, 7 or 4,096 bytes at each call make no difference.
+#[test]
+fn each_prints_its_lines_over_slow_streams(rt: HostRuntime) -> Result<(), Fail> {
+    let alloc = rt.alloc();
+    for row in &ROWS {
+        for most in [1, 7, 4096] {
+            let mut input = SlowSource::new(input_of(alloc, row.image, row.script)?, most);
+            let mut out = SlowSink::new(alloc, ROOM, most).map_err(|_| "no memory")?;
+            let words = run_with(alloc, row.options)?;
+            let exit = tkernel(alloc, &words, &mut input, &mut out);
+            assert_eq!(rt; out.taken(), row.text, "{most} bytes");
+            assert_eq!(rt; exit.status, row.status, "{most} bytes");
+            assert_eq!(rt; input.left().len(), 0, "{most} bytes");
+        }
     }
     Ok(())
 }

@@ -40,7 +40,7 @@ const ROWS: [Row; 12] = [
         options: &["--swap", "9"],
         script: b"",
         status: Status::Fault,
-        text: b"fault swap 0x0002 address 0x0B00 steps 38 checkpoints 0\nnatural 138 entries 19 pages 1\n",
+        text: b"fault swap 0x0002 address 0x0B00 steps 38 checkpoints 0\nnatural 138 entries 11 pages 1\n",
     },
     Row {
         // no swap
@@ -63,14 +63,14 @@ const ROWS: [Row; 12] = [
         options: &["--steps", "9"],
         script: b"at 3 uart 0x41\n",
         status: Status::Spent,
-        text: b"spent steps 9 checkpoints 0\nnatural 32 entries 3 pages 2\n",
+        text: b"spent steps 9 checkpoints 0\nnatural 32 entries 2 pages 2\n",
     },
     Row {
         image: &[0xB10B, 0xFF07, 0xCFFD, 0xB10C, 0xB90C, 0xCFFF],
         options: &["--steps", "8"],
         script: b"at 3 uart 0x41\n",
         status: Status::Spent,
-        text: b"spent steps 8 checkpoints 0\nnatural 31 entries 3 pages 1\n",
+        text: b"spent steps 8 checkpoints 0\nnatural 31 entries 2 pages 1\n",
     },
     Row {
         image: &[0xB10B, 0xFF07, 0xCFFD, 0xB10C, 0xB90C, 0xCFFF],

@@ -52,18 +52,28 @@ pub fn run_image(
     options: &[&str],
     script: &[u8],
 ) -> Result<(Exit, MemSink), Fail> {
+    let mut input = MemSource::new(input_of(alloc, image, script)?);
+    let mut out = sink(alloc)?;
+    let exit = tkernel(alloc, &run_with(alloc, options)?, &mut input, &mut out);
+    Ok((exit, out))
+}
+
+/// The words of `run` with these options.
+pub fn run_with(alloc: Global, options: &[&str]) -> Result<Vec<String>, Fail> {
+    let mut words = words_of(alloc, &["run"])?;
+    for option in options {
+        words.push(String::from_str(alloc, option)?)?;
+    }
+    Ok(words)
+}
+
+/// The HEX text of an image's words, and a script behind it.
+pub fn input_of(alloc: Global, image: &[u16], script: &[u8]) -> Result<Vec<u8>, Fail> {
     if image.len() > 16_384 {
         return Err("too many words".into());
     }
     let image = Image::from_words(alloc, image).map_err(|_| "no memory")?;
     let mut text = write(alloc, &image).map_err(|_| "no memory")?;
     text.extend_from_slice(script)?;
-    let mut words = words_of(alloc, &["run"])?;
-    for option in options {
-        words.push(String::from_str(alloc, option)?)?;
-    }
-    let mut input = MemSource::new(text);
-    let mut out = sink(alloc)?;
-    let exit = tkernel(alloc, &words, &mut input, &mut out);
-    Ok((exit, out))
+    Ok(text)
 }

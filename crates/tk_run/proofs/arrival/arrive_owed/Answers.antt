@@ -12,8 +12,8 @@ use Rattle.tk_run.proofs.arrival.arrive_owed.Goals as goal
 pub returns-then-moved : goal.returns-then-moved
 returns-then-moved c =
     let m = whole c.args.k.now c.args.p.now in
-    let store : Store = record { flash = c.arrive_telling.new.flash; sram = c.arrive_telling.new.sram } in
-    let arrives = subst (Arrives m.kernel.layout (store_of (state_of m)) store c.args.owed.target) c.in-Ok.is c.arrive_telling.ensures.arrives in
+    let store : Store = record { flash = c.arrive_from.new.flash; sram = c.arrive_from.new.sram } in
+    let arrives = subst (Arrives m.kernel.layout (store_of (state_of m)) store c.args.owed.target c.args.owed.stub) c.in-Ok.is c.arrive_from.ensures.arrives in
     record {
       arrived = record {
         made = true;
@@ -28,8 +28,8 @@ returns-then-moved c =
 pub returns-else-moved : goal.returns-else-moved
 returns-else-moved c =
     let m = whole c.args.k.now c.args.p.now in
-    let store : Store = record { flash = c.arrive_telling.new.flash; sram = c.arrive_telling.new.sram } in
-    let arrives = subst (Arrives m.kernel.layout (store_of (state_of m)) store c.args.owed.target) c.in-Ok.is c.arrive_telling.ensures.arrives in
+    let store : Store = record { flash = c.arrive_from.new.flash; sram = c.arrive_from.new.sram } in
+    let arrives = subst (Arrives m.kernel.layout (store_of (state_of m)) store c.args.owed.target c.args.owed.stub) c.in-Ok.is c.arrive_from.ensures.arrives in
     record {
       arrived = record {
         made = false;
@@ -44,8 +44,8 @@ returns-else-moved c =
 pub returns-in-Err-Wild : goal.returns-in-Err-Wild
 returns-in-Err-Wild c =
     let m = whole c.args.k.now c.args.p.now in
-    let store : Store = record { flash = c.arrive_telling.new.flash; sram = c.arrive_telling.new.sram } in
-    let arrives = subst (Arrives m.kernel.layout (store_of (state_of m)) store c.args.owed.target) (c.in-Err-Wild.is ∙ ap Err c.in-Err-Wild.field-0-is) c.arrive_telling.ensures.arrives in
+    let store : Store = record { flash = c.arrive_from.new.flash; sram = c.arrive_from.new.sram } in
+    let arrives = subst (Arrives m.kernel.layout (store_of (state_of m)) store c.args.owed.target c.args.owed.stub) (c.in-Err-Wild.is ∙ ap Err c.in-Err-Wild.field-0-is) c.arrive_from.ensures.arrives in
     record {
       arrived = record {
         made = false;
@@ -60,8 +60,8 @@ returns-in-Err-Wild c =
 pub returns-in-Err-CodeFull : goal.returns-in-Err-CodeFull
 returns-in-Err-CodeFull c =
     let m = whole c.args.k.now c.args.p.now in
-    let store : Store = record { flash = c.arrive_telling.new.flash; sram = c.arrive_telling.new.sram } in
-    let arrives = subst (Arrives m.kernel.layout (store_of (state_of m)) store c.args.owed.target) (c.in-Err-CodeFull.is ∙ ap Err c.in-Err-CodeFull.field-0-is) c.arrive_telling.ensures.arrives in
+    let store : Store = record { flash = c.arrive_from.new.flash; sram = c.arrive_from.new.sram } in
+    let arrives = subst (Arrives m.kernel.layout (store_of (state_of m)) store c.args.owed.target c.args.owed.stub) (c.in-Err-CodeFull.is ∙ ap Err c.in-Err-CodeFull.field-0-is) c.arrive_from.ensures.arrives in
     record {
       arrived = record {
         made = false;

@@ -1,0 +1,3 @@
+-- The ways through inline templates, step by step.
+pub mod Rows
+pub mod InlineWays

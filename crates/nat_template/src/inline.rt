@@ -1,0 +1,126 @@
+//! The words that do what a call of MEM does, for an address in the stack window.
+
+ghost use Rattle.std.specs.Prelude.{◌≡◌, ◌≤◌, ◌+◌, ◌++◌, ◌∷◌, [], length};
+ghost use Rattle.nat_template.specs.Inline.{back, guard as guard_of, load_forms, pop_forms, push_forms, save, store_forms, trap, words_of_forms};
+
+use arrayvec::ArrayVec;
+use avr_isa::{Form, Reg, Six, WordOp};
+
+/// Z and SREG into their cells.
+const SAVE: [u16; 7] = [
+    0x93E0, 0x0105, // STS Z0, r30
+    0x93F0, 0x0106, // STS Z1, r31
+    0xB7EF, // IN r30, SREG
+    0x93E0, 0x0102, // STS SREG cell, r30
+];
+
+/// Z and SREG from their cells, and over the trap and the pc behind it.
+const BACK: [u16; 8] = [
+    0x91E0, 0x0102, // LDS r30, SREG cell
+    0xBFEF, // OUT SREG, r30
+    0x91E0, 0x0105, // LDS r30, Z0
+    0x91F0, 0x0106, // LDS r31, Z1
+    0xC00A, // RJMP over ten words
+];
+
+/// Z and SREG from their cells, and the kernel.
+const TRAP: [u16; 9] = [
+    0x91E0, 0x0102, // LDS r30, SREG cell
+    0xBFEF, // OUT SREG, r30
+    0x91E0, 0x0105, // LDS r30, Z0
+    0x91F0, 0x0106, // LDS r31, Z1
+    0x940E, 0xF004, // CALL MEM
+];
+
+/// PUSH r, where r is none of Z's: these words use Z themselves, as those of the three below.
+#[tactic(auto, unfolding(avr_isa::specs::Encoding::first_word, avr_isa::specs::Encoding::second_word, crate::specs::Inline::push_forms))]
+pub(crate) fn push_words(r: Reg) -> ArrayVec<u16, 38>
+    ensures words { result.items ≡ words_of_forms (push_forms r) }
+{
+    let store = 0x8200 + 16 * u16::from(r.get());
+    let pointer = [
+        0x91E0, 0x0103, // LDS r30, SPL
+        0x91F0, 0x0104, // LDS r31, SPH
+    ];
+    let access = [
+        store, // ST Z, r
+        0x9731, // SBIW r30, 1
+        0x93E0, 0x0103, // STS SPL, r30
+        0x93F0, 0x0104, // STS SPH, r31
+    ];
+    guarded(&pointer, &access)
+}
+
+/// POP d.
+#[tactic(auto, unfolding(avr_isa::specs::Encoding::first_word, avr_isa::specs::Encoding::second_word, crate::specs::Inline::pop_forms))]
+pub(crate) fn pop_words(d: Reg) -> ArrayVec<u16, 38>
+    ensures words { result.items ≡ words_of_forms (pop_forms d) }
+{
+    let load = 0x8000 + 16 * u16::from(d.get());
+    let pointer = [
+        0x91E0, 0x0103, // LDS r30, SPL
+        0x91F0, 0x0104, // LDS r31, SPH
+        0x9631, // ADIW r30, 1
+    ];
+    let access = [
+        load, // LD d, Z
+        0x93E0, 0x0103, // STS SPL, r30
+        0x93F0, 0x0104, // STS SPH, r31
+    ];
+    guarded(&pointer, &access)
+}
+
+/// LDD d, Y+q.
+#[tactic(auto, unfolding(avr_isa::specs::Encoding::first_word, avr_isa::specs::Encoding::second_word, crate::specs::Inline::load_forms))]
+pub(crate) fn load_words(d: Reg, q: Six) -> ArrayVec<u16, 38>
+    ensures words { result.items ≡ words_of_forms (load_forms d q) }
+{
+    let load = 0x8000 + 16 * u16::from(d.get()); // LD d, Z
+    guarded(&behind_y(q), &[load])
+}
+
+/// STD Y+q, r.
+#[tactic(auto, unfolding(avr_isa::specs::Encoding::first_word, avr_isa::specs::Encoding::second_word, crate::specs::Inline::store_forms))]
+pub(crate) fn store_words(q: Six, r: Reg) -> ArrayVec<u16, 38>
+    ensures words { result.items ≡ words_of_forms (store_forms q r) }
+{
+    let store = 0x8200 + 16 * u16::from(r.get()); // ST Z, r
+    guarded(&behind_y(q), &[store])
+}
+
+/// Y+q into Z.
+#[tactic(auto, unfolding(avr_isa::specs::Encoding::first_word, avr_isa::specs::Encoding::second_word))]
+fn behind_y(q: Six) -> [u16; 2]
+    ensures words { result ≡ words_of_forms (Form.Movw 30 28 ∷ Form.Word WordOp.Adiw 30 q ∷ []) }
+{
+    let q = u16::from(q.get());
+    let add = 0x9630 + 64 * (q / 16) + q % 16;
+    [
+        0x01FE, // MOVW r30, r28
+        add, // ADIW r30, q
+    ]
+}
+
+/// The words that bring the address into Z, and behind the guard those of the access, between what all
+/// templates begin and end with.
+#[tactic(auto, unfolding(avr_isa::specs::Encoding::first_word, avr_isa::specs::Encoding::second_word))]
+fn guarded(pointer: &[u16], access: &[u16]) -> ArrayVec<u16, 38>
+    requires room { length pointer.now + length access.now ≤ 10 }
+    ensures words { result.items ≡ words_of_forms save ++ pointer.now ++ words_of_forms (guard_of (10 + length access.now) (8 + length access.now)) ++ access.now ++ words_of_forms (back ++ trap) }
+{
+    let over = 8 + access.len() as u16; // the access, and BACK
+    let guard = [
+        0x30FD, // CPI r31, 0x0D
+        0xF000 + 8 * (2 + over), // BRLO to the trap
+        0x31F1, // CPI r31, 0x11
+        0xF400 + 8 * over, // BRSH to the trap
+    ];
+    let mut all = ArrayVec::new();
+    all.try_extend_from_slice(&SAVE).unwrap();
+    all.try_extend_from_slice(pointer).unwrap();
+    all.try_extend_from_slice(&guard).unwrap();
+    all.try_extend_from_slice(access).unwrap();
+    all.try_extend_from_slice(&BACK).unwrap();
+    all.try_extend_from_slice(&TRAP).unwrap();
+    all
+}

@@ -1,0 +1,203 @@
+-- A call of the kernel, behind any plain moves of a template, and what follows from the service's answer.
+use Rattle.std.proofs.Common.{[], ℕ, ◌≡◌, ◌+◌, ◌<◌, ◌≤◌, ◌∷◌, ◌++◌, ◌∙◌, true, false, List, length, refl, sym, ap, arith, subst, inl}
+use Rattle.std.specs.Prelude.{◌≢◌, ◌&&◌, Some, None, not}
+use Rattle.avr_isa.specs.Crossing.{is_crossing}
+use Rattle.avr_isa.specs.declared.form.Form.{Form}
+use Rattle.avr_flags.specs.Status.{has_bit, interrupts}
+use Rattle.avr_exec.specs.declared.cpu.Cpu.{Cpu}
+use Rattle.avr_exec.specs.declared.stop.BusStop.{BusStop}
+use Rattle.avr_exec.specs.Registers.{raised}
+use Rattle.avr_exec.specs.Execution.{is_executed}
+use Rattle.avr_exec.specs.Spaces.{Outcome, Went as WentOn, Stopped as StoppedOn}
+use Rattle.sram_layout.specs.Bytes.{byte_at, with_word}
+use Rattle.sram_layout.specs.Cells.{vsp_cell}
+use Rattle.sram_layout.proofs.Laws.{byte_out_of_word, length-with_word, word_low}
+use Rattle.heap_frames.specs.Paged.{IsPaged}
+use Rattle.heap_frames.proofs.SamePagingLaws.{same_paging_word, paged_same}
+use Rattle.nat_template.specs.declared.shapes.TemplateShape.TheVariants.{SelfJump}
+use Rattle.nat_template.specs.Shapes.{shape_of_form}
+use Rattle.nat_page.specs.Runs.{shape_at}
+use Rattle.mem_guard.specs.FlatMachine.{Goes, Stops, tried, next_size, jumps_to_itself}
+use Rattle.mem_guard.specs.Guarded.{Guarded, guarded_calls}
+use Rattle.mem_guard.specs.Left.{IsKept}
+use Rattle.mem_guard.proofs.GuardedStep.{guarded_goes, guarded_stops}
+use Rattle.kernel_entry.specs.declared.kernel.Kernel.{Kernel}
+use Rattle.kernel_entry.specs.declared.kernel.Stop.{Stop}
+use Rattle.kernel_entry.specs.declared.kernel.Served.TheVariants as answers
+use Rattle.step_laws.specs.States.{State, mote_of, with_mote}
+use Rattle.step_laws.specs.Settings.{IsIdle, IsRunning, IsSetting}
+use Rattle.step_laws.specs.Links.{Links}
+use Rattle.step_laws.specs.Walks.{Makes, Walk}
+use Rattle.step_laws.proofs.Ways.{walk_on}
+use Rattle.step_laws.proofs.PlainRuns.{plains_inner, plains_counted, plains_length, plains_served, plains_stopped, plains_lines, plains_reset}
+use Rattle.step_laws.proofs.Onward.{Onward}
+use Rattle.step_laws.specs.Moves.{Plain, Serve, line_before, lines_of, plains}
+use Rattle.step_laws.proofs.SameProgram.{flat_same, paged_after}
+use Rattle.step_laws.specs.StepLaws.{StepLaw, Outcome as StepOutcome, crossings_over}
+use Rattle.step_laws.proofs.KernelCalls.{pushed, serve_by}
+use Rattle.avr_exec.proofs.RegistersKept.{exec_kept}
+use Rattle.step_laws.proofs.Executed.{end_stop, flat_put, kept_of, executed_at, returned, executed_is}
+use Rattle.step_laws.specs.declared.moves.End.TheVariants as ends
+use Rattle.step_laws.specs.Numbers.{moved}
+use Rattle.avr_decode.specs.Program.{instruction_at}
+use Rattle.kernel_entry.specs.Parts.{core_of, descriptor, image_of, memory_of, rested, return_address}
+use Rattle.kernel_entry.specs.Services.{resumed, resumed_by, served, stop_of, if_instruction, execution, execution_by}
+use Rattle.kernel_entry.specs.Conditions.{CanExecute, CanServe, shape_behind}
+use Rattle.preempt_count.specs.Counting.{count_over}
+use Rattle.kernel_entry.specs.declared.kernel.Served.{Served}
+use Rattle.kernel_entry.specs.Seen.{program, state_at, end_of}
+use Rattle.kernel_entry.proofs.ShapeLaws.{jumps_on}
+
+-- The state at the entry of a service, where SRAM was `ram` before the call, which left the address `back`; and its kernel.
+abbrev pub asked_of : State → List ℕ → (back entry : ℕ) → State
+asked_of x ram back entry = with_mote x (record (mote_of x) { cpu = record (mote_of x).cpu { sp = 0x011D; pc = entry }; sram = pushed ram back })
+
+abbrev pub asked : State → List ℕ → (back entry : ℕ) → Kernel
+asked x ram back entry = (asked_of x ram back entry).kernel
+
+-- MEM, or another service, is asked there for the instruction at a, and the program sees what it saw.
+pub record IsAsked (x : State) (a : ℕ) (ram : List ℕ) (back entry : ℕ) : Type 0 where
+  pub low : back + 1 ≤ 0xF000
+  pub address : return_address (asked x ram back entry) ≡ back
+  pub behind : descriptor (asked x ram back entry) ≡ a
+  pub sees : (pc s c : ℕ) → state_at (rested (asked x ram back entry)) pc s c ≡ state_at x.kernel pc s c
+  pub count : byte_at (pushed ram back) 0x0100 ≡ byte_at (mote_of x).sram 0x0100
+  pub pointer : byte_at (pushed ram back) 0x0103 < 256
+  pub tables : (b : ℕ) → 0x0142 ≤ b → b < 0x0400 → byte_at (pushed ram back) b ≡ byte_at (mote_of x).sram b
+  pub shape : shape_behind (asked x ram back entry) ≡ shape_at (image_of x.kernel) a
+  pub can : CanExecute (asked x ram back entry)
+
+-- A first plain move and `more` others led there.
+pub record Asked (x : State) (a : ℕ) (ram : List ℕ) (back entry more : ℕ) : Type 0 where
+  pub few : more ≤ 20
+  pub walk : Walk x (Plain true None ∷ plains more) (asked_of x ram back entry)
+  pub state : IsAsked x a ram back entry
+
+-- the service stops the program
+pub stop_asked : (links : Links) (x : State) (a v : ℕ) (ram : List ℕ) (back entry more : ℕ) (stop : Stop) → IsSetting links x a v → Asked x a ram back entry more → CanServe (asked x ram back entry)
+    → served (asked x ram back entry) ≡ (answers.Stopped stop, rested (asked x ram back entry)) → ((s c : ℕ) → tried (program x.kernel) (state_at x.kernel a s c) ≡ Stops (end_of stop)) → StepLaw links x a
+unfolding lines_of
+stop_asked links x a v ram back entry more stop s c can is stops =
+    let kc = asked x ram back entry in
+    let y = asked_of x ram back entry in
+    let ms = Serve None true ∷ [] in
+    let z : State = record { kernel = rested kc; owed = None; end = Some (ends.Stopped stop) } in
+    let served' : Makes y (Serve None true) z = serve_by y (answers.Stopped stop, rested kc) (record { free = s.ready.running.free; going = s.ready.running.going; room = s.ready.running.room }) can is in
+    record {
+      end = z;
+      first = None;
+      rest = plains more ++ ms;
+      line = None;
+      walk = walk_on x y z (Plain true None ∷ plains more) ms c.walk (z, served', refl);
+      inner = plains_inner more ms;
+      few = let few = c.few in omega (arith, plains_counted more ms);
+      short = let few = c.few in omega (arith, plains_length more ms);
+      serves = omega (arith, plains_served more ms);
+      lines = plains_lines more ms;
+      keeps = record { layout = refl; quantum = refl; flash = refl; slots = refl; paged = c.state.can.paged; registers = refl; top = refl; polls = omega arith; pointer = c.state.pointer; tables = c.state.tables };
+      outcome = StepOutcome.Stopped stop (record {
+        ended = refl;
+        silent = refl;
+        original = stops;
+        same = c.state.sees a;
+        count = c.state.count;
+        stopped = plains_stopped more ms;
+      });
+    }
+
+-- what the service executes, as the original's step
+abbrev pub RunsOn : Kernel → ℕ → Form → Type 0
+RunsOn k a form = jumps_to_itself a form && not (has_bit k.mote.cpu.sreg interrupts) ≡ false
+
+pub bus_stops_asked : (x : State) (a : ℕ) (ram : List ℕ) (back entry more : ℕ) (form : Form) (stop : BusStop) → Asked x a ram back entry more → instruction_at (image_of x.kernel) a ≡ Some form → is_executed form ≡ true → RunsOn x.kernel a form
+    → executed_at (asked x ram back entry) a form ≡ StoppedOn stop → (s c : ℕ) → tried (program x.kernel) (state_at x.kernel a s c) ≡ Stops (end_of (stop_of a stop))
+bus_stops_asked x a ram back entry more form stop c is runs apart stopped n m =
+    let kc = asked x ram back entry in
+    ap (tried (program x.kernel)) (sym (c.state.sees a n m))
+    ∙ guarded_stops (memory_of kc) (core_of kc a) n m form stop c.state.can.paged refl is runs apart stopped
+    ∙ ap Stops (sym (end_stop a stop))
+
+-- the service goes on behind the descriptor
+pub resume_asked : (links : Links) (x : State) (a v : ℕ) (ram : List ℕ) (back entry more to : ℕ) (form : Form) (cpu : Cpu) (g : Guarded) → IsSetting links x a v → Asked x a ram back entry more → CanServe (asked x ram back entry)
+    → instruction_at (image_of x.kernel) a ≡ Some form → is_executed form ≡ true → RunsOn x.kernel a form → executed_at (asked x ram back entry) a form ≡ WentOn cpu g → cpu.pc ≡ to
+    → served (asked x ram back entry) ≡ (answers.Resume g.line, returned (asked x ram back entry) cpu g (raised back 1))
+    → (let z : State = record { kernel = returned (asked x ram back entry) cpu g (raised back 1); owed = None; end = None } in IsRunning z → IsIdle z.kernel → Onward 0 links z to (count_over x.kernel.quantum a to (byte_at (mote_of z).sram 0x0100)) (is_crossing a to)) → StepLaw links x a
+unfolding lines_of
+resume_asked links x a v ram back entry more to form cpu g s c can is runs apart went pc answer ahead =
+    let k = x.kernel in
+    let image = image_of k in
+    let kc = asked x ram back entry in
+    let y = asked_of x ram back entry in
+    let kept : IsKept (memory_of kc) g = kept_of kc a form cpu g c.state.can.paged went in
+    let size' : length g.sram ≡ 4096 = kept.paged.sized.sram in
+    let z1 : State = record { kernel = returned kc cpu g (raised back 1); owed = None; end = None } in
+    let served' : Makes y (Serve g.line false) z1 = serve_by y (answers.Resume g.line, returned kc cpu g (raised back 1)) (record { free = s.ready.running.free; going = s.ready.running.going; room = s.ready.running.room }) can answer in
+    let count' : byte_at (with_word g.sram vsp_cell cpu.sp) 0x0100 ≡ byte_at k.mote.sram 0x0100 = byte_out_of_word g.sram vsp_cell 0x0100 cpu.sp (omega arith) (omega arith) (λ e. omega arith) (λ e. omega arith) ∙ kept.cells 0x0100 (omega arith) (omega arith) ∙ c.state.count in
+    let pointer' : byte_at (with_word g.sram vsp_cell cpu.sp) 0x0103 < 256 = omega (arith, word_low g.sram vsp_cell cpu.sp (omega arith) (omega arith)) in
+    let some = s.ready.idle.some in
+    let most = s.ready.idle.most in
+    let room = s.ready.bounded.polls in
+    let registers' : length cpu.r ≡ length k.mote.cpu.r = exec_kept guarded_calls form (core_of kc a) cpu (memory_of kc) g (next_size image a) went in
+    let registers = s.ready.idle.registers in
+    let fit' : IsIdle z1.kernel = record { registers = omega arith; size = length-with_word g.sram vsp_cell cpu.sp ∙ size'; pointer = pointer'; top = refl; some = omega arith; most = omega arith } in
+    let on = ahead (record { free = refl; going = refl; room = let polls = kept.polls in omega arith }) fit' in
+    let end = on.end in
+    let paged'' : IsPaged z1.kernel.mote.sram z1.kernel.mote.swap = paged_same g.sram (with_word g.sram vsp_cell cpu.sp) g.swap (same_paging_word g.sram vsp_cell cpu.sp (omega arith) (inl (omega arith))) kept.paged in
+    let P : ℕ → Type 0 = λ to. (s c : ℕ) → tried (program k) (state_at k a s c) ≡ Goes g.line (state_at end.kernel to (s + 1) (crossings_over a to c)) in
+    let goes : P cpu.pc = λ n m.
+    ap (tried (program k)) (sym (c.state.sees a n m))
+    ∙ guarded_goes (memory_of kc) g (core_of kc a) cpu n m form c.state.can.paged refl is runs apart went
+    ∙ ap (Goes g.line) (sym (flat_put kc cpu g (raised back 1) (n + 1) (crossings_over a cpu.pc m) size') ∙ sym (flat_same z1.kernel end.kernel cpu.pc (n + 1) (crossings_over a cpu.pc m) on.left.same)) in
+    let ms = Serve g.line false ∷ on.moves in
+    record {
+      end = end;
+      first = None;
+      rest = plains more ++ ms;
+      line = g.line;
+      walk = walk_on x y end (Plain true None ∷ plains more) ms c.walk (z1, served', on.walk);
+      inner = plains_inner more ms ∙ on.inner;
+      few = let few = on.few in let few' = c.few in omega (arith, plains_counted more ms);
+      short = let short = on.short in let few = c.few in omega (arith, plains_length more ms);
+      serves = let serves = on.serves in omega (arith, plains_served more ms);
+      lines = plains_lines more ms ∙ ap (line_before g.line) on.silent;
+      keeps = record {
+        layout = on.left.layout;
+        quantum = on.left.quantum;
+        flash = on.left.same.flash;
+        slots = ap length on.left.same.swap ∙ kept.slots;
+        paged = paged_after z1.kernel.mote end.kernel.mote on.left.same paged'';
+        registers = ap length on.left.same.registers ∙ registers';
+        top = on.left.same.top;
+        polls = let polls = kept.polls in omega (arith, ap (λ d. d.polls) on.left.same.devices);
+        tables = λ b low high. on.left.same.bytes b (omega arith) (λ e. omega arith) (λ e. omega arith) ∙ byte_out_of_word g.sram vsp_cell b cpu.sp (omega arith) (omega arith) (λ e. omega arith) (λ e. omega arith) ∙ kept.tables b (omega arith) high ∙ c.state.tables b low high;
+        pointer = omega (arith, on.left.same.bytes 0x0103 (omega arith) (λ e. omega arith) (λ e. omega arith));
+      };
+      outcome = StepOutcome.Went to (record {
+        going = on.left.going;
+        original = subst P pc goes;
+        reaches = on.left.reaches;
+        count = on.left.count ∙ ap (λ c. count_over k.quantum a to c) count';
+        unstopped = plains_stopped more ms ∙ on.goes;
+        reset = plains_reset x (is_crossing a to) more ms (λ crosses one n. on.reset crosses (count' ∙ one) (moved (Serve g.line false) n));
+      });
+    }
+
+-- the answer, by the outcome of the execution
+abbrev pub resumed_to : Kernel → (back a : ℕ) → Outcome Guarded Cpu → Served × Kernel
+resumed_to k back a (WentOn cpu g) = (answers.Resume g.line, returned k cpu g (raised back 1))
+resumed_to k back a (StoppedOn stop) = (answers.Stopped (stop_of a stop), rested k)
+
+resumed_by_is : (k : Kernel) (back a : ℕ) (o : Outcome Guarded Cpu) → return_address k ≡ back → descriptor k ≡ a → resumed_by k (execution_by k o).0 (execution_by k o).1 ≡ resumed_to k back a o
+resumed_by_is k back a (WentOn cpu g) address behind = ap (λ b. (answers.Resume g.line, returned k cpu g (raised b 1))) address
+resumed_by_is k back a (StoppedOn stop) address behind = ap (λ w. (answers.Stopped (stop_of w stop), rested k)) behind
+
+pub resumed_is : (k : Kernel) (back a : ℕ) (form : Form) (o : Outcome Guarded Cpu) → return_address k ≡ back → descriptor k ≡ a → instruction_at (image_of k) a ≡ Some form → executed_at k a form ≡ o
+    → resumed k ≡ resumed_to k back a o
+unfolding resumed
+resumed_is k back a form o address behind is done =
+    ap (λ i. if_instruction k i (λ form. resumed_by k (execution k form).0 (execution k form).1)) (ap (instruction_at (image_of k)) behind ∙ is)
+    ∙ ap (λ o. resumed_by k (execution_by k o).0 (execution_by k o).1) (executed_is k a form behind ∙ done)
+    ∙ resumed_by_is k back a o address behind
+
+pub runs_on : (k : Kernel) (a : ℕ) (form : Form) → shape_of_form a form ≢ SelfJump → RunsOn k a form
+runs_on k a form apart = ap (λ b. b && not (has_bit k.mote.cpu.sreg interrupts)) (jumps_on a form apart)
