@@ -1,0 +1,209 @@
+// Runs a program on the core of simavr, with the memory and the devices that docs/MOTE.md gives it, and prints what
+// tkernel is to print: the device lines and the stop line. So the examples' outputs are compared with a machine
+// that has no part in common with tkernel, neither code nor authors of the instructions.
+//
+//     cc -O2 -o reference reference.c -lsimavr -lelf
+//     ./reference STEPS HEX-FILE [SCRIPT-FILE]
+//
+// The quantum is 255. It knows the ends halted, asleep, spent, wild, io and stack, and no bound of pages stored to.
+
+#include <simavr/sim_avr.h>
+#include <simavr/sim_core.h>
+#include <simavr/sim_hex.h>
+#include <stdbool.h>
+#include <stdio.h>
+#include <stdlib.h>
+#include <string.h>
+
+enum { QUANTUM = 255, EVENTS = 65536, WINDOW_FIRST = 0x0D00, WINDOW_LAST = 0x10FF };
+
+struct event {
+    unsigned long poll;
+    char kind[8];
+    unsigned value;
+};
+
+static struct event events[EVENTS];
+static int event_count, next_event;
+static unsigned long polls;
+
+static uint8_t received[EVENTS], pins[4];
+static int received_count, received_taken;
+static unsigned converted;
+
+static int refused = -1; // the device register that the last step would have touched and may not
+
+// A device register: whether it is read by a poll, read or written at all, and the name of its lines.
+static const struct device {
+    uint8_t address;
+    bool polled, readable, writable;
+    const char *line;
+} devices[] = {
+    {0x24, true, true, false, NULL},   {0x25, true, true, false, NULL},   {0x26, true, true, true, NULL},
+    {0x27, false, true, true, NULL},   {0x29, false, true, true, NULL},   {0x2A, false, true, true, NULL},
+    {0x2B, true, true, true, NULL},    {0x2C, true, true, true, "UART0"}, {0x30, true, true, false, NULL},
+    {0x31, false, true, true, "DDRD"}, {0x32, false, true, true, "PORTD"}, {0x33, true, true, false, NULL},
+    {0x34, false, true, true, "DDRC"}, {0x35, false, true, true, "PORTC"}, {0x36, true, true, false, NULL},
+    {0x37, false, true, true, "DDRB"}, {0x38, false, true, true, "PORTB"}, {0x39, true, true, false, NULL},
+    {0x3A, false, true, true, "DDRA"}, {0x3B, false, true, true, "PORTA"}, {0x52, true, true, true, NULL},
+    {0x53, false, true, true, NULL},   {0x55, false, true, true, NULL},   {0x59, false, true, true, NULL},
+    {0x5A, false, true, true, NULL},   {0x5B, false, true, true, NULL},   {0x6A, false, true, true, NULL},
+    {0x90, false, true, true, NULL},   {0x95, false, true, true, NULL},
+};
+
+static const struct device *device_at(unsigned address) {
+    for (size_t i = 0; i < sizeof devices / sizeof *devices; i++) {
+        if (devices[i].address == address) {
+            return &devices[i];
+        }
+    }
+    return NULL;
+}
+
+static void poll(void) {
+    polls++;
+    for (; next_event < event_count && events[next_event].poll <= polls; next_event++) {
+        const struct event *event = &events[next_event];
+        if (strcmp(event->kind, "uart") == 0) {
+            received[received_count++] = event->value;
+        } else if (strcmp(event->kind, "adc") == 0) {
+            converted = event->value;
+        } else {
+            pins[event->kind[3] - 'a'] = event->value;
+        }
+    }
+}
+
+static uint8_t on_read(avr_t *avr, avr_io_addr_t address, void *unused) {
+    const struct device *device = device_at(address);
+    if (device == NULL || !device->readable) {
+        refused = address;
+        return 0;
+    }
+    if (device->polled) {
+        poll();
+    }
+    switch (address) {
+    case 0x24: return converted & 0xFF;
+    case 0x25: return converted >> 8;
+    case 0x26: return (avr->data[address] & ~0x40) | 0x10;
+    case 0x2B: return received_taken < received_count ? 0xA0 : 0x20;
+    case 0x2C: return received_taken < received_count ? received[received_taken++] : 0;
+    case 0x30: return pins[3];
+    case 0x33: return pins[2];
+    case 0x36: return pins[1];
+    case 0x39: return pins[0];
+    case 0x52: return polls & 0xFF;
+    default: return avr->data[address];
+    }
+}
+
+static void on_write(avr_t *avr, avr_io_addr_t address, uint8_t value, void *unused) {
+    const struct device *device = device_at(address);
+    if (device == NULL || !device->writable) {
+        refused = address;
+        return;
+    }
+    if (device->line != NULL) {
+        printf("%s 0x%02X\n", device->line, value);
+    }
+    avr->data[address] = value;
+}
+
+// The byte outside the stack window that this instruction would touch first, or -1.
+static int outside_window(unsigned word, unsigned sp) {
+    bool push = (word & 0xFE0F) == 0x920F, pop = (word & 0xFE0F) == 0x900F;
+    bool call = (word & 0xFE0E) == 0x940E || (word & 0xF000) == 0xD000 || word == 0x9509;
+    bool back = word == 0x9508 || word == 0x9518;
+    unsigned bytes = push || pop ? 1 : call || back ? 2 : 0;
+    for (unsigned i = 0; i < bytes; i++) {
+        unsigned address = (pop || back ? sp + 1 + i : sp - i) & 0xFFFF;
+        if (address < WINDOW_FIRST || address > WINDOW_LAST) {
+            return address;
+        }
+    }
+    return -1;
+}
+
+static unsigned word_at(const avr_t *avr, unsigned pc) {
+    return avr->flash[2 * pc] | avr->flash[2 * pc + 1] << 8;
+}
+
+static bool is_jump_to_itself(const avr_t *avr, unsigned pc) {
+    return word_at(avr, pc) == 0xCFFF || (word_at(avr, pc) == 0x940C && word_at(avr, pc + 1) == pc);
+}
+
+static void run(avr_t *avr, unsigned image_words, unsigned long bound) {
+    unsigned long steps = 0, crossings = 0;
+    for (;;) {
+        unsigned pc = avr->pc / 2, next;
+        int outside = outside_window(word_at(avr, pc), avr->data[R_SPL] | avr->data[R_SPH] << 8);
+        if (pc >= image_words) {
+            printf("fault wild 0x%04X", pc);
+        } else if (steps == bound) {
+            printf("spent");
+        } else if (word_at(avr, pc) == 0x9588) {
+            printf("asleep 0x%04X", pc);
+        } else if (is_jump_to_itself(avr, pc) && !avr->sreg[S_I]) {
+            printf("halted 0x%04X", pc);
+        } else if (outside >= 0) {
+            printf("fault stack 0x%04X address 0x%04X", pc, outside);
+        } else {
+            avr->pc = avr_run_one(avr);
+            next = avr->pc / 2;
+            if (refused < 0) {
+                steps++;
+                crossings += next <= pc || next / 128 != pc / 128;
+                continue;
+            }
+            printf("fault io 0x%04X address 0x%04X", pc, refused);
+        }
+        printf(" steps %lu checkpoints %lu\n", steps, crossings / QUANTUM);
+        return;
+    }
+}
+
+static avr_t *mote(void) {
+    avr_t *avr = avr_make_mcu_by_name("atmega128");
+    avr->ramend = 0xFFFF;
+    avr_init(avr);
+    memset(avr->flash, 0xFF, avr->flashend + 1);
+    memset(avr->data, 0, avr->ramend + 1);
+    for (unsigned address = 0x20; address < 0x100; address++) {
+        bool core = address == R_SPL || address == R_SPH || address == R_SREG;
+        avr_io_addr_t io = AVR_DATA_TO_IO(address);
+        memset(&avr->io[io], 0, sizeof avr->io[io]);
+        avr->io[io].r.c = core ? NULL : on_read;
+        avr->io[io].w.c = core ? NULL : on_write;
+    }
+    avr->pc = 0;
+    return avr;
+}
+
+static void read_script(const char *name) {
+    char line[200];
+    FILE *file = fopen(name, "r");
+    while (file != NULL && fgets(line, sizeof line, file) != NULL) {
+        struct event *event = &events[event_count];
+        event_count += sscanf(line, "at %lu %7s %x", &event->poll, event->kind, &event->value) == 3;
+    }
+}
+
+int main(int count, char **words) {
+    ihex_chunk_p chunks;
+    avr_t *avr = mote();
+    unsigned bytes = 0;
+    int chunk_count = count < 3 ? 0 : read_ihex_chunks(words[2], &chunks);
+    if (chunk_count <= 0) {
+        return 1;
+    }
+    for (int i = 0; i < chunk_count; i++) {
+        memcpy(avr->flash + chunks[i].baseaddr, chunks[i].data, chunks[i].size);
+        unsigned end = chunks[i].baseaddr + chunks[i].size;
+        bytes = end > bytes ? end : bytes;
+    }
+    if (count > 3) {
+        read_script(words[3]);
+    }
+    run(avr, (bytes + 1) / 2, strtoul(words[1], NULL, 10));
+}
