@@ -4,7 +4,7 @@ use Rattle.std.specs.Prelude.{◌≢◌}
 use Rattle.std.proofs.lemmas.Bool.{cases_eq}
 use Rattle.flash_model.specs.Pages.{page_words}
 use Rattle.flash_model.specs.declared.layout.Layout.{Layout}
-use Rattle.sram_layout.specs.Bytes.{byte_count, byte_at, word_at}
+use Rattle.sram_layout.specs.Bytes.{byte_count, byte_at, data_word_at}
 use Rattle.sram_layout.specs.Cells.{entry_at, with_entry, way_cell}
 use Rattle.page_index.specs.Entries.{IsEntry}
 use Rattle.addr_tables.specs.Tables.{IsHeld, IsTables}
@@ -19,7 +19,7 @@ below_four : (P : ℕ → Type 0) → P 0 → P 1 → P 2 → P 3 → (b : ℕ) 
 below_four P p0 p1 p2 p3 = below_more P 3 (below_more P 2 (below_more P 1 (below_more P 0 (below_none P) p0) p1) p2) p3
 
 entry_bytes : (m : List ℕ) (a : ℕ) → entry_at m a ≡ entry_of_bytes (byte_at m (a + 0)) (byte_at m (a + 1)) (byte_at m (a + 2)) (byte_at m (a + 3))
-unfolding word_at
+unfolding data_word_at
 entry_bytes m a = ap₂ (λ low high. entry_of_bytes low (byte_at m (a + 1)) (byte_at m (a + 2)) high) (ap (byte_at m) (omega arith)) (ap (byte_at m) (omega arith))
 
 -- an entry whose bytes stay, and one whose bytes are 0

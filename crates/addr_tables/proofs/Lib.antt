@@ -5,4 +5,3 @@ pub mod FindLaws
 pub mod ForgetLaws
 pub mod ForgottenLaws
 mod WorkedValues
-mod TestPage

@@ -1,15 +1,15 @@
 -- When the tables are right, and stay right.
 use Rattle.std.proofs.Common.{◌≡◌, ℕ, ◌+◌, ◌*◌, ◌<◌, ◌≤◌, List, arith, sym, ap₂, subst, inl}
 use Rattle.flash_model.specs.declared.layout.Layout.{Layout}
-use Rattle.sram_layout.specs.Bytes.{byte_at, word_at}
+use Rattle.sram_layout.specs.Bytes.{byte_at, data_word_at}
 use Rattle.sram_layout.specs.Cells.{entry_at, aside_cell, way_cell}
 use Rattle.sram_layout.specs.Boot.{at_boot}
 use Rattle.sram_layout.proofs.BootLaws.{boot_zero}
 use Rattle.page_index.specs.Entries.{IsEntry}
 use Rattle.addr_tables.specs.Tables.{IsHeld, IsTables}
 
-boot_word : (a : ℕ) → 0x0100 ≤ a → a + 1 < 0x0400 → word_at at_boot a ≡ 0
-unfolding word_at
+boot_word : (a : ℕ) → 0x0100 ≤ a → a + 1 < 0x0400 → data_word_at at_boot a ≡ 0
+unfolding data_word_at
 boot_word a from to = ap₂ (λ low high. low + 256 * high) (boot_zero a from (omega arith) (inl (omega arith))) (boot_zero (a + 1) (omega arith) (omega arith) (inl (omega arith)))
 
 -- at boot every entry is empty
@@ -19,8 +19,8 @@ boot_tables layout words = record {
   way = λ set which below below' full. absurd (full (boot_word (way_cell set which + 2) (omega arith) (omega arith)));
 }
 
-same_word : (sram sram' : List ℕ) (a : ℕ) → byte_at sram' a ≡ byte_at sram a → byte_at sram' (a + 1) ≡ byte_at sram (a + 1) → word_at sram a ≡ word_at sram' a
-unfolding word_at
+same_word : (sram sram' : List ℕ) (a : ℕ) → byte_at sram' a ≡ byte_at sram a → byte_at sram' (a + 1) ≡ byte_at sram (a + 1) → data_word_at sram a ≡ data_word_at sram' a
+unfolding data_word_at
 same_word sram sram' a low high = ap₂ (λ x y. x + 256 * y) (sym low) (sym high)
 
 -- a table's entry whose bytes stay

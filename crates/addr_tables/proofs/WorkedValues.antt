@@ -2,7 +2,8 @@
 use Rattle.std.proofs.Common.{◌≡◌, ℕ, List, refl, arith}
 use Rattle.std.specs.Prelude.{Some, None}
 use Rattle.flash_model.specs.declared.layout.Layout.{Layout}
-use Rattle.sram_layout.specs.Bytes.{many, byte_at, with_byte, word_at, with_word, with_block}
+use Rattle.sram_layout.specs.Bytes.{byte_at, with_byte, data_word_at, with_word, with_block}
+use Rattle.list_parts.specs.Lists.{many}
 use Rattle.sram_layout.specs.Boot.{at_boot}
 use Rattle.sram_layout.specs.Cells.{entry_at, way_cell}
 use Rattle.page_index.specs.Entries.{IsEntry, IsMapped}
@@ -50,7 +51,7 @@ record Worked : Type 0 where
 
 -- by computation
 worked : Worked
-unfolding noted noted_in_set forgotten at_boot many byte_at with_byte word_at with_word with_block
+unfolding noted noted_in_set forgotten at_boot many byte_at with_byte data_word_at with_word with_block
 worked = record {
   empty = refl;
   place = refl;
@@ -66,7 +67,7 @@ worked = record {
 
 -- a wrong place that is noted makes the tables wrong, and is answered
 wrong_place : (layout : Layout) (words : List ℕ) → IsMapped layout words → IsEntry layout words 2 0x4008 → IsTables layout (noted at_boot 2 0x4007) words → ⊥
-unfolding noted noted_in_set at_boot many byte_at with_byte word_at with_word with_block
+unfolding noted noted_in_set at_boot many byte_at with_byte data_word_at with_word with_block
 wrong_place layout words mapped entry tables =
     let same : ◌≡◌ {A = ℕ} 0x4007 0x4008 = one_place layout words 2 0x4007 0x4008 mapped (hit_entry layout (noted at_boot 2 0x4007) words 2 0x4007 tables refl) entry in
     absurd (omega arith)

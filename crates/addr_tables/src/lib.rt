@@ -23,6 +23,3 @@
 mod tables;
 
 pub use tables::{find, forget_page, note};
-
-#[cfg(test)]
-mod tests;

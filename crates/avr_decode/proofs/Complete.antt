@@ -25,14 +25,18 @@ use Rattle.avr_decode.specs.Decoding.{the_form, is_long, two_word_form, one_word
 use Rattle.avr_decode.proofs.Tables.{by_one, by_two}
 
 product_complete : (op : ProductOp) (d r w : ℕ) → IsTrue (is_valid (Product op d r)) → the_form (first_word (Product op d r)) w ≡ Some (Product op d r)
-unfolding the_form is_long two_word_form one_word_form product_form move_or_product_form form_0000 form_0001 form_0010 displaced_form load_form store_form plain_form flag_or_plain_form one_register_form register_or_pair_form io_bit_form transfer_form form_1001 io_form register_bit_form form_1111 defined_form if_defined first_word is_valid fields_in_range is_undefined
+unfolding the_form is_long two_word_form one_word_form product_form move_or_product_form form_0000 form_0001 form_0010 displaced_form load_form
+    store_form plain_form flag_or_plain_form one_register_form register_or_pair_form io_bit_form transfer_form form_1001 io_form register_bit_form
+    form_1111 defined_form if_defined first_word is_valid fields_in_range is_undefined
 product_complete Mulsu d r w valid = by_two 24 24 (λ d r. Product Mulsu d r) w refl d r (grind (arith, nat_tests)) (grind (arith, nat_tests)) valid
 product_complete Fmul d r w valid = by_two 24 24 (λ d r. Product Fmul d r) w refl d r (grind (arith, nat_tests)) (grind (arith, nat_tests)) valid
 product_complete Fmuls d r w valid = by_two 24 24 (λ d r. Product Fmuls d r) w refl d r (grind (arith, nat_tests)) (grind (arith, nat_tests)) valid
 product_complete Fmulsu d r w valid = by_two 24 24 (λ d r. Product Fmulsu d r) w refl d r (grind (arith, nat_tests)) (grind (arith, nat_tests)) valid
 
 two_complete : (op : TwoOp) (d r w : ℕ) → IsTrue (is_valid (Two op d r)) → the_form (first_word (Two op d r)) w ≡ Some (Two op d r)
-unfolding the_form is_long two_word_form one_word_form product_form move_or_product_form form_0000 form_0001 form_0010 displaced_form load_form store_form plain_form flag_or_plain_form one_register_form register_or_pair_form io_bit_form transfer_form form_1001 io_form register_bit_form form_1111 defined_form if_defined first_word is_valid fields_in_range is_undefined
+unfolding the_form is_long two_word_form one_word_form product_form move_or_product_form form_0000 form_0001 form_0010 displaced_form load_form
+    store_form plain_form flag_or_plain_form one_register_form register_or_pair_form io_bit_form transfer_form form_1001 io_form register_bit_form
+    form_1111 defined_form if_defined first_word is_valid fields_in_range is_undefined
 two_complete Cpc d r w valid = by_two 32 32 (λ d r. Two Cpc d r) w refl d r (grind (arith, nat_tests)) (grind (arith, nat_tests)) valid
 two_complete Sbc d r w valid = by_two 32 32 (λ d r. Two Sbc d r) w refl d r (grind (arith, nat_tests)) (grind (arith, nat_tests)) valid
 two_complete Add d r w valid = by_two 32 32 (λ d r. Two Add d r) w refl d r (grind (arith, nat_tests)) (grind (arith, nat_tests)) valid
@@ -46,27 +50,39 @@ two_complete Mov d r w valid = by_two 32 32 (λ d r. Two Mov d r) w refl d r (gr
 two_complete Mul d r w valid = by_two 32 32 (λ d r. Two Mul d r) w refl d r (grind (arith, nat_tests)) (grind (arith, nat_tests)) valid
 
 cpi_complete : (d k w : ℕ) → IsTrue (is_valid (Imm Cpi d k)) → the_form (first_word (Imm Cpi d k)) w ≡ Some (Imm Cpi d k)
-unfolding the_form is_long two_word_form one_word_form product_form move_or_product_form form_0000 form_0001 form_0010 displaced_form load_form store_form plain_form flag_or_plain_form one_register_form register_or_pair_form io_bit_form transfer_form form_1001 io_form register_bit_form form_1111 defined_form if_defined first_word is_valid fields_in_range is_undefined
+unfolding the_form is_long two_word_form one_word_form product_form move_or_product_form form_0000 form_0001 form_0010 displaced_form load_form
+    store_form plain_form flag_or_plain_form one_register_form register_or_pair_form io_bit_form transfer_form form_1001 io_form register_bit_form
+    form_1111 defined_form if_defined first_word is_valid fields_in_range is_undefined
 cpi_complete d k w valid = by_two 32 256 (λ d k. Imm Cpi d k) w refl d k (grind (arith, nat_tests)) (grind (arith, nat_tests)) valid
 
 sbci_complete : (d k w : ℕ) → IsTrue (is_valid (Imm Sbci d k)) → the_form (first_word (Imm Sbci d k)) w ≡ Some (Imm Sbci d k)
-unfolding the_form is_long two_word_form one_word_form product_form move_or_product_form form_0000 form_0001 form_0010 displaced_form load_form store_form plain_form flag_or_plain_form one_register_form register_or_pair_form io_bit_form transfer_form form_1001 io_form register_bit_form form_1111 defined_form if_defined first_word is_valid fields_in_range is_undefined
+unfolding the_form is_long two_word_form one_word_form product_form move_or_product_form form_0000 form_0001 form_0010 displaced_form load_form
+    store_form plain_form flag_or_plain_form one_register_form register_or_pair_form io_bit_form transfer_form form_1001 io_form register_bit_form
+    form_1111 defined_form if_defined first_word is_valid fields_in_range is_undefined
 sbci_complete d k w valid = by_two 32 256 (λ d k. Imm Sbci d k) w refl d k (grind (arith, nat_tests)) (grind (arith, nat_tests)) valid
 
 subi_complete : (d k w : ℕ) → IsTrue (is_valid (Imm Subi d k)) → the_form (first_word (Imm Subi d k)) w ≡ Some (Imm Subi d k)
-unfolding the_form is_long two_word_form one_word_form product_form move_or_product_form form_0000 form_0001 form_0010 displaced_form load_form store_form plain_form flag_or_plain_form one_register_form register_or_pair_form io_bit_form transfer_form form_1001 io_form register_bit_form form_1111 defined_form if_defined first_word is_valid fields_in_range is_undefined
+unfolding the_form is_long two_word_form one_word_form product_form move_or_product_form form_0000 form_0001 form_0010 displaced_form load_form
+    store_form plain_form flag_or_plain_form one_register_form register_or_pair_form io_bit_form transfer_form form_1001 io_form register_bit_form
+    form_1111 defined_form if_defined first_word is_valid fields_in_range is_undefined
 subi_complete d k w valid = by_two 32 256 (λ d k. Imm Subi d k) w refl d k (grind (arith, nat_tests)) (grind (arith, nat_tests)) valid
 
 ori_complete : (d k w : ℕ) → IsTrue (is_valid (Imm Ori d k)) → the_form (first_word (Imm Ori d k)) w ≡ Some (Imm Ori d k)
-unfolding the_form is_long two_word_form one_word_form product_form move_or_product_form form_0000 form_0001 form_0010 displaced_form load_form store_form plain_form flag_or_plain_form one_register_form register_or_pair_form io_bit_form transfer_form form_1001 io_form register_bit_form form_1111 defined_form if_defined first_word is_valid fields_in_range is_undefined
+unfolding the_form is_long two_word_form one_word_form product_form move_or_product_form form_0000 form_0001 form_0010 displaced_form load_form
+    store_form plain_form flag_or_plain_form one_register_form register_or_pair_form io_bit_form transfer_form form_1001 io_form register_bit_form
+    form_1111 defined_form if_defined first_word is_valid fields_in_range is_undefined
 ori_complete d k w valid = by_two 32 256 (λ d k. Imm Ori d k) w refl d k (grind (arith, nat_tests)) (grind (arith, nat_tests)) valid
 
 andi_complete : (d k w : ℕ) → IsTrue (is_valid (Imm Andi d k)) → the_form (first_word (Imm Andi d k)) w ≡ Some (Imm Andi d k)
-unfolding the_form is_long two_word_form one_word_form product_form move_or_product_form form_0000 form_0001 form_0010 displaced_form load_form store_form plain_form flag_or_plain_form one_register_form register_or_pair_form io_bit_form transfer_form form_1001 io_form register_bit_form form_1111 defined_form if_defined first_word is_valid fields_in_range is_undefined
+unfolding the_form is_long two_word_form one_word_form product_form move_or_product_form form_0000 form_0001 form_0010 displaced_form load_form
+    store_form plain_form flag_or_plain_form one_register_form register_or_pair_form io_bit_form transfer_form form_1001 io_form register_bit_form
+    form_1111 defined_form if_defined first_word is_valid fields_in_range is_undefined
 andi_complete d k w valid = by_two 32 256 (λ d k. Imm Andi d k) w refl d k (grind (arith, nat_tests)) (grind (arith, nat_tests)) valid
 
 ldi_complete : (d k w : ℕ) → IsTrue (is_valid (Imm Ldi d k)) → the_form (first_word (Imm Ldi d k)) w ≡ Some (Imm Ldi d k)
-unfolding the_form is_long two_word_form one_word_form product_form move_or_product_form form_0000 form_0001 form_0010 displaced_form load_form store_form plain_form flag_or_plain_form one_register_form register_or_pair_form io_bit_form transfer_form form_1001 io_form register_bit_form form_1111 defined_form if_defined first_word is_valid fields_in_range is_undefined
+unfolding the_form is_long two_word_form one_word_form product_form move_or_product_form form_0000 form_0001 form_0010 displaced_form load_form
+    store_form plain_form flag_or_plain_form one_register_form register_or_pair_form io_bit_form transfer_form form_1001 io_form register_bit_form
+    form_1111 defined_form if_defined first_word is_valid fields_in_range is_undefined
 ldi_complete d k w valid = by_two 32 256 (λ d k. Imm Ldi d k) w refl d k (grind (arith, nat_tests)) (grind (arith, nat_tests)) valid
 
 immediate_complete : (op : ImmOp) (d k w : ℕ) → IsTrue (is_valid (Imm op d k)) → the_form (first_word (Imm op d k)) w ≡ Some (Imm op d k)
@@ -78,12 +94,16 @@ immediate_complete Andi = andi_complete
 immediate_complete Ldi = ldi_complete
 
 pair_complete : (op : WordOp) (p k w : ℕ) → IsTrue (is_valid (Word op p k)) → the_form (first_word (Word op p k)) w ≡ Some (Word op p k)
-unfolding the_form is_long two_word_form one_word_form product_form move_or_product_form form_0000 form_0001 form_0010 displaced_form load_form store_form plain_form flag_or_plain_form one_register_form register_or_pair_form io_bit_form transfer_form form_1001 io_form register_bit_form form_1111 defined_form if_defined first_word is_valid fields_in_range is_undefined
+unfolding the_form is_long two_word_form one_word_form product_form move_or_product_form form_0000 form_0001 form_0010 displaced_form load_form
+    store_form plain_form flag_or_plain_form one_register_form register_or_pair_form io_bit_form transfer_form form_1001 io_form register_bit_form
+    form_1111 defined_form if_defined first_word is_valid fields_in_range is_undefined
 pair_complete Adiw p k w valid = by_two 32 64 (λ p k. Word Adiw p k) w refl p k (grind (arith, nat_tests)) (grind (arith, nat_tests)) valid
 pair_complete Sbiw p k w valid = by_two 32 64 (λ p k. Word Sbiw p k) w refl p k (grind (arith, nat_tests)) (grind (arith, nat_tests)) valid
 
 one_complete : (op : OneOp) (d w : ℕ) → IsTrue (is_valid (One op d)) → the_form (first_word (One op d)) w ≡ Some (One op d)
-unfolding the_form is_long two_word_form one_word_form product_form move_or_product_form form_0000 form_0001 form_0010 displaced_form load_form store_form plain_form flag_or_plain_form one_register_form register_or_pair_form io_bit_form transfer_form form_1001 io_form register_bit_form form_1111 defined_form if_defined first_word is_valid fields_in_range is_undefined
+unfolding the_form is_long two_word_form one_word_form product_form move_or_product_form form_0000 form_0001 form_0010 displaced_form load_form
+    store_form plain_form flag_or_plain_form one_register_form register_or_pair_form io_bit_form transfer_form form_1001 io_form register_bit_form
+    form_1111 defined_form if_defined first_word is_valid fields_in_range is_undefined
 one_complete Com d w valid = by_one 32 (λ d. One Com d) w refl d (grind (arith, nat_tests)) valid
 one_complete Neg d w valid = by_one 32 (λ d. One Neg d) w refl d (grind (arith, nat_tests)) valid
 one_complete Swap d w valid = by_one 32 (λ d. One Swap d) w refl d (grind (arith, nat_tests)) valid
@@ -94,17 +114,23 @@ one_complete Ror d w valid = by_one 32 (λ d. One Ror d) w refl d (grind (arith,
 one_complete Dec d w valid = by_one 32 (λ d. One Dec d) w refl d (grind (arith, nat_tests)) valid
 
 load_displaced_complete : (base : Base) (d q w : ℕ) → IsTrue (is_valid (LoadOff d base q)) → the_form (first_word (LoadOff d base q)) w ≡ Some (LoadOff d base q)
-unfolding the_form is_long two_word_form one_word_form product_form move_or_product_form form_0000 form_0001 form_0010 displaced_form load_form store_form plain_form flag_or_plain_form one_register_form register_or_pair_form io_bit_form transfer_form form_1001 io_form register_bit_form form_1111 defined_form if_defined first_word is_valid fields_in_range is_undefined
+unfolding the_form is_long two_word_form one_word_form product_form move_or_product_form form_0000 form_0001 form_0010 displaced_form load_form
+    store_form plain_form flag_or_plain_form one_register_form register_or_pair_form io_bit_form transfer_form form_1001 io_form register_bit_form
+    form_1111 defined_form if_defined first_word is_valid fields_in_range is_undefined
 load_displaced_complete Y d q w valid = by_two 32 64 (λ d q. LoadOff d Y q) w refl d q (grind (arith, nat_tests)) (grind (arith, nat_tests)) valid
 load_displaced_complete Z d q w valid = by_two 32 64 (λ d q. LoadOff d Z q) w refl d q (grind (arith, nat_tests)) (grind (arith, nat_tests)) valid
 
 store_displaced_complete : (base : Base) (q r w : ℕ) → IsTrue (is_valid (StoreOff base q r)) → the_form (first_word (StoreOff base q r)) w ≡ Some (StoreOff base q r)
-unfolding the_form is_long two_word_form one_word_form product_form move_or_product_form form_0000 form_0001 form_0010 displaced_form load_form store_form plain_form flag_or_plain_form one_register_form register_or_pair_form io_bit_form transfer_form form_1001 io_form register_bit_form form_1111 defined_form if_defined first_word is_valid fields_in_range is_undefined
+unfolding the_form is_long two_word_form one_word_form product_form move_or_product_form form_0000 form_0001 form_0010 displaced_form load_form
+    store_form plain_form flag_or_plain_form one_register_form register_or_pair_form io_bit_form transfer_form form_1001 io_form register_bit_form
+    form_1111 defined_form if_defined first_word is_valid fields_in_range is_undefined
 store_displaced_complete Y q r w valid = by_two 64 32 (λ q r. StoreOff Y q r) w refl q r (grind (arith, nat_tests)) (grind (arith, nat_tests)) valid
 store_displaced_complete Z q r w valid = by_two 64 32 (λ q r. StoreOff Z q r) w refl q r (grind (arith, nat_tests)) (grind (arith, nat_tests)) valid
 
 load_complete : (pointer : Ptr) (d w : ℕ) → IsTrue (is_valid (LoadAt d pointer)) → the_form (first_word (LoadAt d pointer)) w ≡ Some (LoadAt d pointer)
-unfolding the_form is_long two_word_form one_word_form product_form move_or_product_form form_0000 form_0001 form_0010 displaced_form load_form store_form plain_form flag_or_plain_form one_register_form register_or_pair_form io_bit_form transfer_form form_1001 io_form register_bit_form form_1111 defined_form if_defined first_word is_valid fields_in_range is_undefined
+unfolding the_form is_long two_word_form one_word_form product_form move_or_product_form form_0000 form_0001 form_0010 displaced_form load_form
+    store_form plain_form flag_or_plain_form one_register_form register_or_pair_form io_bit_form transfer_form form_1001 io_form register_bit_form
+    form_1111 defined_form if_defined first_word is_valid fields_in_range is_undefined
 load_complete ZInc d w valid = by_one 32 (λ d. LoadAt d ZInc) w refl d (grind (arith, nat_tests)) valid
 load_complete ZDec d w valid = by_one 32 (λ d. LoadAt d ZDec) w refl d (grind (arith, nat_tests)) valid
 load_complete YInc d w valid = by_one 32 (λ d. LoadAt d YInc) w refl d (grind (arith, nat_tests)) valid
@@ -114,7 +140,9 @@ load_complete XInc d w valid = by_one 32 (λ d. LoadAt d XInc) w refl d (grind (
 load_complete XDec d w valid = by_one 32 (λ d. LoadAt d XDec) w refl d (grind (arith, nat_tests)) valid
 
 store_complete : (pointer : Ptr) (r w : ℕ) → IsTrue (is_valid (StoreAt pointer r)) → the_form (first_word (StoreAt pointer r)) w ≡ Some (StoreAt pointer r)
-unfolding the_form is_long two_word_form one_word_form product_form move_or_product_form form_0000 form_0001 form_0010 displaced_form load_form store_form plain_form flag_or_plain_form one_register_form register_or_pair_form io_bit_form transfer_form form_1001 io_form register_bit_form form_1111 defined_form if_defined first_word is_valid fields_in_range is_undefined
+unfolding the_form is_long two_word_form one_word_form product_form move_or_product_form form_0000 form_0001 form_0010 displaced_form load_form
+    store_form plain_form flag_or_plain_form one_register_form register_or_pair_form io_bit_form transfer_form form_1001 io_form register_bit_form
+    form_1111 defined_form if_defined first_word is_valid fields_in_range is_undefined
 store_complete ZInc r w valid = by_one 32 (λ r. StoreAt ZInc r) w refl r (grind (arith, nat_tests)) valid
 store_complete ZDec r w valid = by_one 32 (λ r. StoreAt ZDec r) w refl r (grind (arith, nat_tests)) valid
 store_complete YInc r w valid = by_one 32 (λ r. StoreAt YInc r) w refl r (grind (arith, nat_tests)) valid
@@ -124,38 +152,52 @@ store_complete XInc r w valid = by_one 32 (λ r. StoreAt XInc r) w refl r (grind
 store_complete XDec r w valid = by_one 32 (λ r. StoreAt XDec r) w refl r (grind (arith, nat_tests)) valid
 
 lpm_complete : (increment : Bool) (d w : ℕ) → IsTrue (is_valid (Lpm d increment)) → the_form (first_word (Lpm d increment)) w ≡ Some (Lpm d increment)
-unfolding the_form is_long two_word_form one_word_form product_form move_or_product_form form_0000 form_0001 form_0010 displaced_form load_form store_form plain_form flag_or_plain_form one_register_form register_or_pair_form io_bit_form transfer_form form_1001 io_form register_bit_form form_1111 defined_form if_defined first_word is_valid fields_in_range is_undefined
+unfolding the_form is_long two_word_form one_word_form product_form move_or_product_form form_0000 form_0001 form_0010 displaced_form load_form
+    store_form plain_form flag_or_plain_form one_register_form register_or_pair_form io_bit_form transfer_form form_1001 io_form register_bit_form
+    form_1111 defined_form if_defined first_word is_valid fields_in_range is_undefined
 lpm_complete true d w valid = by_one 32 (λ d. Lpm d true) w refl d (grind (arith, nat_tests)) valid
 lpm_complete false d w valid = by_one 32 (λ d. Lpm d false) w refl d (grind (arith, nat_tests)) valid
 
 elpm_complete : (increment : Bool) (d w : ℕ) → IsTrue (is_valid (Elpm d increment)) → the_form (first_word (Elpm d increment)) w ≡ Some (Elpm d increment)
-unfolding the_form is_long two_word_form one_word_form product_form move_or_product_form form_0000 form_0001 form_0010 displaced_form load_form store_form plain_form flag_or_plain_form one_register_form register_or_pair_form io_bit_form transfer_form form_1001 io_form register_bit_form form_1111 defined_form if_defined first_word is_valid fields_in_range is_undefined
+unfolding the_form is_long two_word_form one_word_form product_form move_or_product_form form_0000 form_0001 form_0010 displaced_form load_form
+    store_form plain_form flag_or_plain_form one_register_form register_or_pair_form io_bit_form transfer_form form_1001 io_form register_bit_form
+    form_1111 defined_form if_defined first_word is_valid fields_in_range is_undefined
 elpm_complete true d w valid = by_one 32 (λ d. Elpm d true) w refl d (grind (arith, nat_tests)) valid
 elpm_complete false d w valid = by_one 32 (λ d. Elpm d false) w refl d (grind (arith, nat_tests)) valid
 
 brbs_complete : (s : ℕ) (k : ℤ) (w : ℕ) → IsTrue (is_valid (Brbs s k)) → the_form (first_word (Brbs s k)) w ≡ Some (Brbs s k)
-unfolding the_form is_long two_word_form one_word_form product_form move_or_product_form form_0000 form_0001 form_0010 displaced_form load_form store_form plain_form flag_or_plain_form one_register_form register_or_pair_form io_bit_form transfer_form form_1001 io_form register_bit_form form_1111 defined_form if_defined first_word is_valid fields_in_range is_undefined
+unfolding the_form is_long two_word_form one_word_form product_form move_or_product_form form_0000 form_0001 form_0010 displaced_form load_form
+    store_form plain_form flag_or_plain_form one_register_form register_or_pair_form io_bit_form transfer_form form_1001 io_form register_bit_form
+    form_1111 defined_form if_defined first_word is_valid fields_in_range is_undefined
 brbs_complete s (pos k) w valid = by_two 8 64 (λ s k. Brbs s (pos k)) w refl s k (grind (arith, nat_tests)) (grind (arith, nat_tests)) valid
 brbs_complete s (negsuc k) w valid = by_two 8 64 (λ s k. Brbs s (negsuc k)) w refl s k (grind (arith, nat_tests)) (grind (arith, nat_tests)) valid
 
 brbc_complete : (s : ℕ) (k : ℤ) (w : ℕ) → IsTrue (is_valid (Brbc s k)) → the_form (first_word (Brbc s k)) w ≡ Some (Brbc s k)
-unfolding the_form is_long two_word_form one_word_form product_form move_or_product_form form_0000 form_0001 form_0010 displaced_form load_form store_form plain_form flag_or_plain_form one_register_form register_or_pair_form io_bit_form transfer_form form_1001 io_form register_bit_form form_1111 defined_form if_defined first_word is_valid fields_in_range is_undefined
+unfolding the_form is_long two_word_form one_word_form product_form move_or_product_form form_0000 form_0001 form_0010 displaced_form load_form
+    store_form plain_form flag_or_plain_form one_register_form register_or_pair_form io_bit_form transfer_form form_1001 io_form register_bit_form
+    form_1111 defined_form if_defined first_word is_valid fields_in_range is_undefined
 brbc_complete s (pos k) w valid = by_two 8 64 (λ s k. Brbc s (pos k)) w refl s k (grind (arith, nat_tests)) (grind (arith, nat_tests)) valid
 brbc_complete s (negsuc k) w valid = by_two 8 64 (λ s k. Brbc s (negsuc k)) w refl s k (grind (arith, nat_tests)) (grind (arith, nat_tests)) valid
 
 rjmp_complete : (k : ℤ) (w : ℕ) → IsTrue (is_valid (Rjmp k)) → the_form (first_word (Rjmp k)) w ≡ Some (Rjmp k)
-unfolding the_form is_long two_word_form one_word_form product_form move_or_product_form form_0000 form_0001 form_0010 displaced_form load_form store_form plain_form flag_or_plain_form one_register_form register_or_pair_form io_bit_form transfer_form form_1001 io_form register_bit_form form_1111 defined_form if_defined first_word is_valid fields_in_range is_undefined
+unfolding the_form is_long two_word_form one_word_form product_form move_or_product_form form_0000 form_0001 form_0010 displaced_form load_form
+    store_form plain_form flag_or_plain_form one_register_form register_or_pair_form io_bit_form transfer_form form_1001 io_form register_bit_form
+    form_1111 defined_form if_defined first_word is_valid fields_in_range is_undefined
 rjmp_complete (pos k) w valid = by_one 2048 (λ k. Rjmp (pos k)) w refl k (grind (arith, nat_tests)) valid
 rjmp_complete (negsuc k) w valid = by_one 2048 (λ k. Rjmp (negsuc k)) w refl k (grind (arith, nat_tests)) valid
 
 rcall_complete : (k : ℤ) (w : ℕ) → IsTrue (is_valid (Rcall k)) → the_form (first_word (Rcall k)) w ≡ Some (Rcall k)
-unfolding the_form is_long two_word_form one_word_form product_form move_or_product_form form_0000 form_0001 form_0010 displaced_form load_form store_form plain_form flag_or_plain_form one_register_form register_or_pair_form io_bit_form transfer_form form_1001 io_form register_bit_form form_1111 defined_form if_defined first_word is_valid fields_in_range is_undefined
+unfolding the_form is_long two_word_form one_word_form product_form move_or_product_form form_0000 form_0001 form_0010 displaced_form load_form
+    store_form plain_form flag_or_plain_form one_register_form register_or_pair_form io_bit_form transfer_form form_1001 io_form register_bit_form
+    form_1111 defined_form if_defined first_word is_valid fields_in_range is_undefined
 rcall_complete (pos k) w valid = by_one 2048 (λ k. Rcall (pos k)) w refl k (grind (arith, nat_tests)) valid
 rcall_complete (negsuc k) w valid = by_one 2048 (λ k. Rcall (negsuc k)) w refl k (grind (arith, nat_tests)) valid
 
 -- each valid form is what its first word means, before its second
 pub complete : (f : Form) (w : ℕ) → IsTrue (is_valid f) → MatchOption (second_word f) ⊤ (λ a. w ≡ a) → the_form (first_word f) w ≡ Some f
-unfolding the_form is_long two_word_form one_word_form product_form move_or_product_form form_0000 form_0001 form_0010 displaced_form load_form store_form plain_form flag_or_plain_form one_register_form register_or_pair_form io_bit_form transfer_form form_1001 io_form register_bit_form form_1111 defined_form if_defined first_word is_valid fields_in_range is_undefined second_word
+unfolding the_form is_long two_word_form one_word_form product_form move_or_product_form form_0000 form_0001 form_0010 displaced_form load_form
+    store_form plain_form flag_or_plain_form one_register_form register_or_pair_form io_bit_form transfer_form form_1001 io_form register_bit_form
+    form_1111 defined_form if_defined first_word is_valid fields_in_range is_undefined second_word
 complete Nop w valid second = refl
 complete (Movw d r) w valid second = by_two 32 32 (λ d r. Movw d r) w refl d r (grind (arith, nat_tests)) (grind (arith, nat_tests)) valid
 complete (Muls d r) w valid second = by_two 32 32 (λ d r. Muls d r) w refl d r (grind (arith, nat_tests)) (grind (arith, nat_tests)) valid

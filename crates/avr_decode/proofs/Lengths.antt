@@ -7,7 +7,7 @@ use Rattle.avr_isa.specs.declared.form.Form.TheVariants.{Lds, Sts, Jmp, Call}
 use Rattle.avr_isa.specs.Instruction.{is_undefined, is_valid, size_of}
 use Rattle.avr_isa.specs.Encoding.{first_word, second_word, IsRow, BeginsTwoWords}
 use Rattle.avr_isa.proofs.Laws.{size_of-second_word}
-use Rattle.avr_decode.specs.Decoding.{one_word_form, is_long, two_word_form, defined_form, if_defined, the_form}
+use Rattle.avr_decode.specs.Decoding.{one_word_form, is_long, size_by_first_word, two_word_form, defined_form, if_defined, the_form}
 use Rattle.avr_decode.proofs.Tables.{both_true}
 use Rattle.avr_decode.proofs.Complete.{complete}
 use Rattle.avr_decode.proofs.Sound.{is_one_word, one_word_fits, sound}
@@ -61,7 +61,7 @@ size_by_length true first second f fits same = rw (← defined_form-same (two_wo
 size_by_length false first second f fits same = one_word_size (one_word_form first) f first (one_word_fits first fits) same
 
 -- the number of words is told by the first word
-pub the_form-size : (first second : ℕ) (f : Form) → first < 65536 → the_form first second ≡ Some f → size_of f ≡ cond (is_long first) 2 1
+pub the_form-size : (first second : ℕ) (f : Form) → first < 65536 → the_form first second ≡ Some f → size_of f ≡ size_by_first_word first
 unfolding the_form
 the_form-size first second f = size_by_length (is_long first) first second f
 

@@ -16,7 +16,9 @@ is_one_word w None = true
 is_one_word w (Some f) = (first_word f == w) && fields_in_range f && is_none (second_word f)
 
 every_word : below (λ p. below (λ n. is_one_word (256 * p + n) (one_word_form (256 * p + n))) 256) 256 ≡ true
-unfolding is_one_word first_word second_word fields_in_range product_form move_or_product_form form_0000 form_0001 form_0010 displaced_form load_form store_form plain_form flag_or_plain_form one_register_form register_or_pair_form io_bit_form transfer_form form_1001 io_form register_bit_form form_1111 one_word_form
+unfolding is_one_word first_word second_word fields_in_range product_form move_or_product_form form_0000 form_0001 form_0010 displaced_form load_form
+    store_form plain_form flag_or_plain_form one_register_form register_or_pair_form io_bit_form transfer_form form_1001 io_form register_bit_form
+    form_1111 one_word_form
 every_word = refl
 
 pub one_word_fits : (w : ℕ) → w < 65536 → is_one_word w (one_word_form w) ≡ true
@@ -53,7 +55,9 @@ one_word_is_sound (Some f) first second h =
     defined_is_sound f first second inner.1 (record { opcode = sym (eqb-true _ _ inner.0); address = no_address (second_word f) second outer.1 })
 
 -- the four instructions of two words, by the tests that tell them apart
-two_words_by_tests : (jump call load : Bool) (w a : ℕ) → (w == 0x940C) ≡ jump → (w == 0x940E) ≡ call → (w / 512 % 2 == 0) ≡ load → is_direct w || (jump || call) ≡ true → a < 65536 → IsSound w a (defined_form (cond jump (Jmp a) (cond call (Call a) (cond load (Lds (destination_of w) a) (Sts a (destination_of w))))))
+two_words_by_tests : (jump call load : Bool) (w a : ℕ) → (w == 0x940C) ≡ jump → (w == 0x940E) ≡ call → (w / 512 % 2 == 0) ≡ load
+    → is_direct w || (jump || call) ≡ true → a < 65536
+    → IsSound w a (defined_form (cond jump (Jmp a) (cond call (Call a) (cond load (Lds (destination_of w) a) (Sts a (destination_of w))))))
 unfolding defined_form is_undefined is_valid fields_in_range first_word second_word
 two_words_by_tests true call load w a j c l long bound = (grind (arith, nat_tests), record { opcode = eqb-true _ _ j; address = refl })
 two_words_by_tests false true load w a j c l long bound = (grind (arith, nat_tests), record { opcode = eqb-true _ _ c; address = refl })

@@ -290,6 +290,10 @@ is_absolute w = (w == 0x940C) || (w == 0x940E)
 unfoldable pub is_long : ℕ → Bool
 is_long w = is_direct w || is_absolute w
 
+-- how many words the instruction has that begins with this word; what is no instruction has one
+abbrev pub size_by_first_word : ℕ → ℕ
+size_by_first_word w = if is_long w then 2 else 1
+
 -- what such a word means with the word after it
 unfoldable pub two_word_form : ℕ → ℕ → Form
 two_word_form w a =

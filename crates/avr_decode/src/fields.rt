@@ -5,119 +5,119 @@ ghost use Rattle.avr_decode.specs.Decoding.{bit_of, branch_of, constant_of, dest
 use avr_isa::{Bit, EvenReg, HighReg, IoAddr, LowIo, MidReg, PairReg, Reg, Rel7, Rel12, Six};
 
 // .... ...d dddd ....
-pub fn destination(w: u16) -> Reg
+pub(crate) fn destination(w: u16) -> Reg
     ensures value { result ≡ destination_of w }
 {
     Reg::new((w >> 4 & 0x1F) as u8).unwrap()
 }
 
 // .... ..r. .... rrrr
-pub fn source(w: u16) -> Reg
+pub(crate) fn source(w: u16) -> Reg
     ensures value { result ≡ source_of w }
 {
     Reg::new((16 * (w >> 9 & 1) + (w & 0xF)) as u8).unwrap()
 }
 
 // .... .... dddd ....
-pub fn pair_destination(w: u16) -> EvenReg
+pub(crate) fn pair_destination(w: u16) -> EvenReg
     ensures value { result ≡ 2 * (w / 16 % 16) }
 {
     EvenReg::new((2 * (w >> 4 & 0xF)) as u8).unwrap()
 }
 
 // .... .... .... rrrr
-pub fn pair_source(w: u16) -> EvenReg
+pub(crate) fn pair_source(w: u16) -> EvenReg
     ensures value { result ≡ 2 * (w % 16) }
 {
     EvenReg::new((2 * (w & 0xF)) as u8).unwrap()
 }
 
 // .... .... dddd ....
-pub fn high_destination(w: u16) -> HighReg
+pub(crate) fn high_destination(w: u16) -> HighReg
     ensures value { result ≡ high_destination_of w }
 {
     HighReg::new((16 + (w >> 4 & 0xF)) as u8).unwrap()
 }
 
 // .... .... .... rrrr
-pub fn high_source(w: u16) -> HighReg
+pub(crate) fn high_source(w: u16) -> HighReg
     ensures value { result ≡ 16 + w % 16 }
 {
     HighReg::new((16 + (w & 0xF)) as u8).unwrap()
 }
 
 // .... .... .ddd ....
-pub fn mid_destination(w: u16) -> MidReg
+pub(crate) fn mid_destination(w: u16) -> MidReg
     ensures value { result ≡ mid_destination_of w }
 {
     MidReg::new((16 + (w >> 4 & 7)) as u8).unwrap()
 }
 
 // .... .... .... .rrr
-pub fn mid_source(w: u16) -> MidReg
+pub(crate) fn mid_source(w: u16) -> MidReg
     ensures value { result ≡ mid_source_of w }
 {
     MidReg::new((16 + (w & 7)) as u8).unwrap()
 }
 
 // .... KKKK .... KKKK
-pub fn constant(w: u16) -> u8
+pub(crate) fn constant(w: u16) -> u8
     ensures value { result ≡ constant_of w }
 {
     (16 * (w >> 8 & 0xF) + (w & 0xF)) as u8
 }
 
 // .... .... ..dd ....
-pub fn register_pair(w: u16) -> PairReg
+pub(crate) fn register_pair(w: u16) -> PairReg
     ensures value { result ≡ pair_of w }
 {
     PairReg::new((24 + 2 * (w >> 4 & 3)) as u8).unwrap()
 }
 
 // .... .... KK.. KKKK
-pub fn six_bits(w: u16) -> Six
+pub(crate) fn six_bits(w: u16) -> Six
     ensures value { result ≡ six_bits_of w }
 {
     Six::new((16 * (w >> 6 & 3) + (w & 0xF)) as u8).unwrap()
 }
 
 // ..q. qq.. .... .qqq
-pub fn displacement(w: u16) -> Six
+pub(crate) fn displacement(w: u16) -> Six
     ensures value { result ≡ displacement_of w }
 {
     Six::new((32 * (w >> 13 & 1) + (8 * (w >> 10 & 3) + (w & 7))) as u8).unwrap()
 }
 
 // .... .AA. .... AAAA
-pub fn io_address(w: u16) -> IoAddr
+pub(crate) fn io_address(w: u16) -> IoAddr
     ensures value { result ≡ io_of w }
 {
     IoAddr::new((16 * (w >> 9 & 3) + (w & 0xF)) as u8).unwrap()
 }
 
 // .... .... AAAA A...
-pub fn low_io_address(w: u16) -> LowIo
+pub(crate) fn low_io_address(w: u16) -> LowIo
     ensures value { result ≡ low_io_of w }
 {
     LowIo::new((w >> 3 & 0x1F) as u8).unwrap()
 }
 
 // .... .... .... .bbb
-pub fn bit(w: u16) -> Bit
+pub(crate) fn bit(w: u16) -> Bit
     ensures value { result ≡ bit_of w }
 {
     Bit::new((w & 7) as u8).unwrap()
 }
 
 // .... .... .sss ....
-pub fn flag(w: u16) -> Bit
+pub(crate) fn flag(w: u16) -> Bit
     ensures value { result ≡ flag_of w }
 {
     Bit::new((w >> 4 & 7) as u8).unwrap()
 }
 
 // .... ..kk kkkk k...
-pub fn branch_distance(w: u16) -> Rel7
+pub(crate) fn branch_distance(w: u16) -> Rel7
     ensures value { result ≡ branch_of w }
 {
     let k = (w >> 3 & 0x7F) as i16;
@@ -125,7 +125,7 @@ pub fn branch_distance(w: u16) -> Rel7
 }
 
 // .... kkkk kkkk kkkk
-pub fn jump_distance(w: u16) -> Rel12
+pub(crate) fn jump_distance(w: u16) -> Rel12
     ensures value { result ≡ jump_of w }
 {
     let k = (w & 0xFFF) as i16;

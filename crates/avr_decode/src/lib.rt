@@ -14,16 +14,14 @@
 //! number of words).
 #![tactic(auto)]
 
-ghost use Rattle.std.specs.Prelude.{◌≡◌, ◌↔◌, IsTrue};
+ghost use Rattle.std.specs.Prelude.{◌≡◌, ◌≤◌, ◌↔◌, IsTrue};
 ghost use Rattle.avr_isa.specs.Encoding.{BeginsTwoWords, IsDecoded};
-ghost use Rattle.avr_decode.specs.Decoding.{is_absolute, is_direct, is_long, the_form};
+ghost use Rattle.avr_decode.specs.Decoding.{is_absolute, is_direct, is_long, size_by_first_word as size_by_first_word_of, the_form};
 
 use avr_isa::Instr;
 
 mod fields;
 mod rows;
-#[cfg(test)]
-mod tests;
 
 /// The instruction that two words begin with; the second matters only where the first begins an
 /// instruction of two words. None where no instruction of the ATmega128 has these words, as for
@@ -47,6 +45,14 @@ pub fn two_words(w: u16) -> bool
     ensures rows { IsTrue result ↔ BeginsTwoWords w }
 {
     is_direct(w) | is_absolute(w)
+}
+
+/// How many words the instruction has that begins with this word. What is no instruction counts as one.
+pub fn size_by_first_word(w: u16) -> u16
+    ensures value { result ≡ size_by_first_word_of w }
+    ensures range { (1 ≤ result) × (result ≤ 2) }
+{
+    if two_words(w) { 2 } else { 1 }
 }
 
 // LDS and STS.

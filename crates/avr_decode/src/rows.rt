@@ -11,7 +11,7 @@ use avr_isa::{Base, Form, ImmOp, OneOp, ProductOp, Ptr, TwoOp, WordOp};
 
 // Every instruction of one word.
 #[tactic(auto, unfolding(crate::specs::Decoding::one_word_form))]
-pub fn one_word(w: u16) -> Option<Form>
+pub(crate) fn one_word(w: u16) -> Option<Form>
     ensures value { result ≡ one_word_form w }
 {
     match w >> 12 {
@@ -35,7 +35,7 @@ pub fn one_word(w: u16) -> Option<Form>
 
 // The instruction of two words whose first is LDS, STS, JMP or CALL.
 #[tactic(auto, unfolding(crate::specs::Decoding::two_word_form))]
-pub fn two_word(w: u16, a: u16) -> Form
+pub(crate) fn two_word(w: u16, a: u16) -> Form
     ensures value { result ≡ two_word_form w a }
 {
     match w {

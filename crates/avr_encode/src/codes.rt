@@ -6,7 +6,7 @@ ghost use Rattle.avr_isa.specs.declared.form.Form.TheVariants as form;
 use avr_isa::{ImmOp, OneOp, ProductOp, Ptr, TwoOp, WordOp};
 
 #[tactic(auto, unfolding(avr_isa::specs::Encoding::first_word))]
-pub fn product(op: &ProductOp) -> u16
+pub(crate) fn product(op: &ProductOp) -> u16
     ensures code { (d r : ℕ) → first_word (form.Product op.now d r) ≡ result + two_high_registers d r }
     ensures range { result ≤ 0x388 }
 {
@@ -19,7 +19,7 @@ pub fn product(op: &ProductOp) -> u16
 }
 
 #[tactic(auto, unfolding(avr_isa::specs::Encoding::first_word))]
-pub fn two(op: &TwoOp) -> u16
+pub(crate) fn two(op: &TwoOp) -> u16
     ensures code { (d r : ℕ) → first_word (form.Two op.now d r) ≡ result + two_registers d r }
     ensures range { result ≤ 0x9C00 }
 {
@@ -39,7 +39,7 @@ pub fn two(op: &TwoOp) -> u16
 }
 
 #[tactic(auto, unfolding(avr_isa::specs::Encoding::first_word))]
-pub fn immediate(op: &ImmOp) -> u16
+pub(crate) fn immediate(op: &ImmOp) -> u16
     ensures code { (d r : ℕ) → first_word (form.Imm op.now d r) ≡ result + high_register_and_byte d r }
     ensures range { result ≤ 0xE000 }
 {
@@ -54,7 +54,7 @@ pub fn immediate(op: &ImmOp) -> u16
 }
 
 #[tactic(auto, unfolding(avr_isa::specs::Encoding::first_word))]
-pub fn word(op: &WordOp) -> u16
+pub(crate) fn word(op: &WordOp) -> u16
     ensures code { (d r : ℕ) → first_word (form.Word op.now d r) ≡ result + pair_and_six_bits d r }
     ensures range { result ≤ 0x9700 }
 {
@@ -65,7 +65,7 @@ pub fn word(op: &WordOp) -> u16
 }
 
 #[tactic(auto, unfolding(avr_isa::specs::Encoding::first_word))]
-pub fn one(op: &OneOp) -> u16
+pub(crate) fn one(op: &OneOp) -> u16
     ensures code { (d : ℕ) → first_word (form.One op.now d) ≡ result + one_register d }
     ensures range { result ≤ 0x940A }
 {
@@ -82,7 +82,7 @@ pub fn one(op: &OneOp) -> u16
 }
 
 #[tactic(auto, unfolding(avr_isa::specs::Encoding::first_word))]
-pub fn load(pointer: &Ptr) -> u16
+pub(crate) fn load(pointer: &Ptr) -> u16
     ensures code { (d : ℕ) → first_word (form.LoadAt d pointer.now) ≡ result + one_register d }
     ensures range { result ≤ 0x900E }
 {
@@ -98,7 +98,7 @@ pub fn load(pointer: &Ptr) -> u16
 }
 
 #[tactic(auto, unfolding(avr_isa::specs::Encoding::first_word))]
-pub fn store(pointer: &Ptr) -> u16
+pub(crate) fn store(pointer: &Ptr) -> u16
     ensures code { (d : ℕ) → first_word (form.StoreAt pointer.now d) ≡ result + one_register d }
     ensures range { result ≤ 0x920E }
 {

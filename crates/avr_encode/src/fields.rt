@@ -5,7 +5,7 @@ ghost use Rattle.avr_isa.specs.Encoding.{flag, flag_and_branch, high_register_an
 use avr_isa::{Bit, EvenReg, HighReg, IoAddr, LowIo, MidReg, PairReg, Reg, Rel7, Rel12, Six};
 
 // .... ..rd dddd rrrr
-pub fn registers(d: &Reg, r: &Reg) -> u16
+pub(crate) fn registers(d: &Reg, r: &Reg) -> u16
     ensures value { result ≡ two_registers d.now r.now }
     ensures range { result < 1024 }
 {
@@ -15,7 +15,7 @@ pub fn registers(d: &Reg, r: &Reg) -> u16
 }
 
 // .... .... dddd rrrr
-pub fn register_pairs(d: &EvenReg, r: &EvenReg) -> u16
+pub(crate) fn register_pairs(d: &EvenReg, r: &EvenReg) -> u16
     ensures value { result ≡ two_pairs d.now r.now }
     ensures range { result < 256 }
 {
@@ -25,7 +25,7 @@ pub fn register_pairs(d: &EvenReg, r: &EvenReg) -> u16
 }
 
 // .... .... dddd rrrr
-pub fn high_registers(d: &HighReg, r: &HighReg) -> u16
+pub(crate) fn high_registers(d: &HighReg, r: &HighReg) -> u16
     ensures value { result ≡ two_high_registers d.now r.now }
     ensures range { result < 256 }
 {
@@ -35,7 +35,7 @@ pub fn high_registers(d: &HighReg, r: &HighReg) -> u16
 }
 
 // .... .... .ddd .rrr
-pub fn mid_registers(d: &MidReg, r: &MidReg) -> u16
+pub(crate) fn mid_registers(d: &MidReg, r: &MidReg) -> u16
     ensures value { result ≡ two_high_registers d.now r.now }
     ensures range { result < 120 }
 {
@@ -45,7 +45,7 @@ pub fn mid_registers(d: &MidReg, r: &MidReg) -> u16
 }
 
 // .... KKKK dddd KKKK
-pub fn high_register_with(d: &HighReg, k: u8) -> u16
+pub(crate) fn high_register_with(d: &HighReg, k: u8) -> u16
     ensures value { result ≡ high_register_and_byte d.now k }
     ensures range { result < 4096 }
 {
@@ -55,7 +55,7 @@ pub fn high_register_with(d: &HighReg, k: u8) -> u16
 }
 
 // .... .... KKdd KKKK
-pub fn pair_with(p: &PairReg, k: &Six) -> u16
+pub(crate) fn pair_with(p: &PairReg, k: &Six) -> u16
     ensures value { result ≡ pair_and_six_bits p.now k.now }
     ensures range { result < 256 }
 {
@@ -65,7 +65,7 @@ pub fn pair_with(p: &PairReg, k: &Six) -> u16
 }
 
 // .... ...d dddd ....
-pub fn register(d: &Reg) -> u16
+pub(crate) fn register(d: &Reg) -> u16
     ensures value { result ≡ one_register d.now }
     ensures range { result < 512 }
 {
@@ -73,7 +73,7 @@ pub fn register(d: &Reg) -> u16
 }
 
 // ..q. qq.d dddd .qqq
-pub fn displaced(d: &Reg, q: &Six) -> u16
+pub(crate) fn displaced(d: &Reg, q: &Six) -> u16
     ensures value { result ≡ register_and_displacement d.now q.now }
     ensures range { result < 0x2E00 }
 {
@@ -83,7 +83,7 @@ pub fn displaced(d: &Reg, q: &Six) -> u16
 }
 
 // .... .AAd dddd AAAA
-pub fn register_with_io(d: &Reg, a: &IoAddr) -> u16
+pub(crate) fn register_with_io(d: &Reg, a: &IoAddr) -> u16
     ensures value { result ≡ register_and_io d.now a.now }
     ensures range { result < 2048 }
 {
@@ -93,7 +93,7 @@ pub fn register_with_io(d: &Reg, a: &IoAddr) -> u16
 }
 
 // .... .... AAAA Abbb
-pub fn io_bit(a: &LowIo, b: &Bit) -> u16
+pub(crate) fn io_bit(a: &LowIo, b: &Bit) -> u16
     ensures value { result ≡ io_and_bit a.now b.now }
     ensures range { result < 256 }
 {
@@ -103,7 +103,7 @@ pub fn io_bit(a: &LowIo, b: &Bit) -> u16
 }
 
 // .... ...d dddd .bbb
-pub fn register_bit(d: &Reg, b: &Bit) -> u16
+pub(crate) fn register_bit(d: &Reg, b: &Bit) -> u16
     ensures value { result ≡ register_and_bit d.now b.now }
     ensures range { result < 512 }
 {
@@ -113,7 +113,7 @@ pub fn register_bit(d: &Reg, b: &Bit) -> u16
 }
 
 // .... .... .sss ....
-pub fn flag_place(s: &Bit) -> u16
+pub(crate) fn flag_place(s: &Bit) -> u16
     ensures value { result ≡ flag s.now }
     ensures range { result < 128 }
 {
@@ -121,7 +121,7 @@ pub fn flag_place(s: &Bit) -> u16
 }
 
 // .... ..kk kkkk ksss
-pub fn branch(s: &Bit, k: &Rel7) -> u16
+pub(crate) fn branch(s: &Bit, k: &Rel7) -> u16
     ensures value { result ≡ flag_and_branch s.now k.now }
     ensures range { result < 1024 }
 {
@@ -131,7 +131,7 @@ pub fn branch(s: &Bit, k: &Rel7) -> u16
 }
 
 // .... kkkk kkkk kkkk
-pub fn distance(k: &Rel12) -> u16
+pub(crate) fn distance(k: &Rel12) -> u16
     ensures value { result ≡ jump k.now }
     ensures range { result < 4096 }
 {

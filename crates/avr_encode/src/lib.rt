@@ -21,8 +21,6 @@ use avr_isa::{Base, Form, Instr};
 
 mod codes;
 mod fields;
-#[cfg(test)]
-mod tests;
 
 use fields::{
     branch, displaced, distance, flag_place, high_register_with, high_registers, io_bit,

@@ -6,9 +6,10 @@ use Rattle.avr_isa.specs.declared.form.Form.TheVariants.{Nop, Movw, Muls, Produc
 use Rattle.avr_isa.specs.Instruction.{size_of}
 use Rattle.avr_exec.specs.declared.cpu.Cpu.{Cpu}
 use Rattle.avr_exec.specs.declared.answer.Answer.{Answer}
-use Rattle.avr_exec.specs.Registers.{register, with_register, raised, own_byte, pair}
+use Rattle.avr_exec.specs.Registers.{register, with_register, wrapping_sum, own_byte, pair}
 use Rattle.avr_exec.specs.Spaces.{Outcome, Went, Stopped, Calls}
-use Rattle.avr_exec.specs.Asks.{ask_of, io_address, displaced, target, pointer_value}
+use Rattle.avr_exec.specs.Asks.{ask_of, displaced, target, pointer_value}
+use Rattle.avr_isa.specs.IoTable.{io_address}
 use Rattle.avr_exec.specs.Effects.{next, after_two_words, finish_of, loaded, stored, with_pointer, byte_of}
 use Rattle.avr_exec.specs.Execution.{answered_by, answer_of, exec_of}
 use Rattle.avr_exec.specs.Likeness.{is_straight, is_transfer, moved, placed}
@@ -45,7 +46,7 @@ ask_of_straight Wdr cpu p s h = refl
 ask_of_straight _ cpu p s h = absurd (false≢true h)
 
 finish_of-straight : (form : Form) (cpu : Cpu) (p : ℕ) (s : ℕ → ℕ) (n m : ℕ) (answer : Answer) → is_straight form ≡ true
-    → finish_of form (changed cpu p s) m answer ≡ changed (finish_of form cpu n answer) (raised p 1) s
+    → finish_of form (changed cpu p s) m answer ≡ changed (finish_of form cpu n answer) (wrapping_sum p 1) s
 unfolding finish_of is_straight
 finish_of-straight Nop cpu p s n m answer h = refl
 finish_of-straight (Movw d r) cpu p s n m answer h = refl
@@ -110,7 +111,7 @@ ask_of_moved Wdr cpu p h = refl
 ask_of_moved _ cpu p h = absurd (false≢true (sym h))
 
 finish_of-moved : (form : Form) (cpu : Cpu) (p n m : ℕ) (answer : Answer) → is_transfer form ≡ false
-    → finish_of form (moved cpu p) m answer ≡ moved (finish_of form cpu n answer) (raised p (size_of form))
+    → finish_of form (moved cpu p) m answer ≡ moved (finish_of form cpu n answer) (wrapping_sum p (size_of form))
 unfolding finish_of is_transfer size_of loaded own_byte
 finish_of-moved Nop cpu p n m answer h = refl
 finish_of-moved (Movw d r) cpu p n m answer h = refl
@@ -156,27 +157,27 @@ answered_by-then f g h (Stopped stop) e = refl
 -- An instruction that neither transfers control nor may reach SP gives the same registers, SREG and space
 -- at another pc, with another SP and before an instruction of another size.
 pub exec_straight : {S : Type 0} (calls : Calls S) (form : Form) (cpu : Cpu) (space : S) (n m p q : ℕ) → is_straight form ≡ true
-    → exec_of calls form (placed cpu p q) space m ≡ answered_by (λ t. placed t (raised p 1) q) (exec_of calls form cpu space n)
+    → exec_of calls form (placed cpu p q) space m ≡ answered_by (λ t. placed t (wrapping_sum p 1) q) (exec_of calls form cpu space n)
 unfolding exec_of
 exec_straight calls form cpu space n m p q h =
     ap (λ a. answered_by (finish_of form (placed cpu p q) m) (answer_of calls space a)) (ask_of_straight form cpu p (λ _. q) h)
     ∙ answered_by-then
     (finish_of form (placed cpu p q) m)
     (finish_of form cpu n)
-    (λ t. placed t (raised p 1) q)
+    (λ t. placed t (wrapping_sum p 1) q)
     (answer_of calls space (ask_of form cpu))
     (λ a. finish_of-straight form cpu p (λ _. q) n m a h)
 
 -- An instruction that transfers no control gives the same registers, SREG, SP and space at another pc and
 -- before an instruction of another size.
 pub exec_moved : {S : Type 0} (calls : Calls S) (form : Form) (cpu : Cpu) (space : S) (n m p : ℕ) → is_transfer form ≡ false
-    → exec_of calls form (moved cpu p) space m ≡ answered_by (λ t. moved t (raised p (size_of form))) (exec_of calls form cpu space n)
+    → exec_of calls form (moved cpu p) space m ≡ answered_by (λ t. moved t (wrapping_sum p (size_of form))) (exec_of calls form cpu space n)
 unfolding exec_of
 exec_moved calls form cpu space n m p h =
     ap (λ a. answered_by (finish_of form (moved cpu p) m) (answer_of calls space a)) (ask_of_moved form cpu p h)
     ∙ answered_by-then
     (finish_of form (moved cpu p) m)
     (finish_of form cpu n)
-    (λ t. moved t (raised p (size_of form)))
+    (λ t. moved t (wrapping_sum p (size_of form)))
     (answer_of calls space (ask_of form cpu))
     (λ a. finish_of-moved form cpu p n m a h)

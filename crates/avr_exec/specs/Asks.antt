@@ -1,7 +1,7 @@
 -- What an instruction asks of its bus: nothing, or one thing. The addresses of the core's own registers
 -- are never asked for.
 -- AVR Instruction Set Manual, "Operation" of each instruction; "The Program and Data Addressing Modes".
-use Rattle.std.specs.Prelude.{ℕ, true, false, ◌+◌, ◌^◌, ◌<◌, ◌≤◌, ◌≡◌, if◌then◌else◌}
+use Rattle.std.specs.Prelude.{ℕ, true, false, ◌^◌, ◌<◌, ◌≤◌, ◌≡◌, if◌then◌else◌}
 use Rattle.avr_isa.specs.declared.form.Form.{Form}
 use Rattle.avr_isa.specs.declared.form.Form.TheVariants.{LoadOff, StoreOff, LoadAt, StoreAt, Lds, Sts, Pop, Push, Lpm0, Elpm0, Lpm, Elpm, InIo, OutIo, Cbi, Sbic, Sbi, Sbis, Rcall, Call, Icall, Ret, Reti}
 use Rattle.avr_isa.specs.declared.operation.Base.{Base}
@@ -9,10 +9,11 @@ use Rattle.avr_isa.specs.declared.operation.Base.TheVariants.{Y, Z}
 use Rattle.avr_isa.specs.declared.operation.Ptr.{Ptr}
 use Rattle.avr_isa.specs.declared.operation.Ptr.TheVariants.{ZInc, ZDec, YInc, YDec, X, XInc, XDec}
 use Rattle.avr_isa.specs.Instruction.{low_register}
+pub use Rattle.avr_isa.specs.IoTable.{io_address}
 use Rattle.avr_exec.specs.declared.cpu.Cpu.{Cpu}
 use Rattle.avr_exec.specs.declared.ask.Ask.{Ask}
 use Rattle.avr_exec.specs.declared.ask.Ask.TheVariants.{Nothing, Load, Store, Modify, PushByte, PopByte, PushReturn, PopReturn, Program, ExtendedProgram, ExtendedProgramRaising}
-use Rattle.avr_exec.specs.Registers.{register, pair, is_own, raised, lowered}
+use Rattle.avr_exec.specs.Registers.{register, pair, is_own, wrapping_sum, wrapping_difference}
 
 -- the low register of Y and of Z
 abbrev pub base_register : Base → ℕ
@@ -21,7 +22,7 @@ base_register Z = 30
 
 -- the data address of a displacement from Y or Z
 abbrev pub displaced : Cpu → Base → ℕ → ℕ
-displaced cpu base q = raised (pair cpu (base_register base)) q
+displaced cpu base q = wrapping_sum (pair cpu (base_register base)) q
 
 -- a pointer's value
 abbrev pub pointer_value : Cpu → Ptr → ℕ
@@ -29,9 +30,9 @@ pointer_value cpu pointer = pair cpu (low_register pointer)
 
 -- the data address of a pointer with this value: the value, lowered first by a pre-decrement
 unfoldable pub pointed : Ptr → ℕ → ℕ
-pointed ZDec value = lowered value 1
-pointed YDec value = lowered value 1
-pointed XDec value = lowered value 1
+pointed ZDec value = wrapping_difference value 1
+pointed YDec value = wrapping_difference value 1
+pointed XDec value = wrapping_difference value 1
 pointed ZInc value = value
 pointed YInc value = value
 pointed XInc value = value
@@ -40,10 +41,6 @@ pointed X value = value
 -- the data address of a pointer
 abbrev pub target : Cpu → Ptr → ℕ
 target cpu pointer = pointed pointer (pointer_value cpu pointer)
-
--- the data address of an I/O register from the address in the instruction
-abbrev pub io_address : ℕ → ℕ
-io_address a = a + 0x20
 
 -- a byte wanted from a data address, and a byte for it
 unfoldable pub load_of : ℕ → Ask
@@ -73,9 +70,9 @@ ask_of (Cbi a b) cpu = Modify (io_address a) (2 ^ b) 0
 ask_of (Sbi a b) cpu = Modify (io_address a) 0 (2 ^ b)
 ask_of (Sbic a b) cpu = load_of (io_address a)
 ask_of (Sbis a b) cpu = load_of (io_address a)
-ask_of (Rcall k) cpu = PushReturn cpu.sp (raised cpu.pc 1)
-ask_of (Call a) cpu = PushReturn cpu.sp (raised cpu.pc 2)
-ask_of Icall cpu = PushReturn cpu.sp (raised cpu.pc 1)
+ask_of (Rcall k) cpu = PushReturn cpu.sp (wrapping_sum cpu.pc 1)
+ask_of (Call a) cpu = PushReturn cpu.sp (wrapping_sum cpu.pc 2)
+ask_of Icall cpu = PushReturn cpu.sp (wrapping_sum cpu.pc 1)
 ask_of Ret cpu = PopReturn cpu.sp
 ask_of Reti cpu = PopReturn cpu.sp
 ask_of _ cpu = Nothing

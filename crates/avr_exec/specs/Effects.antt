@@ -10,9 +10,10 @@ use Rattle.avr_flags.specs.Products.{muls_of}
 use Rattle.avr_exec.specs.declared.cpu.Cpu.{Cpu}
 use Rattle.avr_exec.specs.declared.answer.Answer.{Answer}
 use Rattle.avr_exec.specs.declared.answer.Answer.TheVariants.{Done, Byte, Address}
-use Rattle.avr_exec.specs.Registers.{register, with_register, pair, with_pair, with_status, with_stack, with_counter, is_own, own_byte, with_own_byte, raised, lowered, relative}
-use Rattle.avr_exec.specs.Asks.{displaced, target, pointer_value, io_address}
-use Rattle.avr_exec.specs.Arithmetic.{with_word, two_of, immediate_of, word_of, one_of, product_of}
+use Rattle.avr_exec.specs.Registers.{register, with_register, pair, with_pair, with_status, with_stack, with_counter, is_own, own_byte, with_own_byte, wrapping_sum, wrapping_difference, relative}
+use Rattle.avr_exec.specs.Asks.{displaced, target, pointer_value}
+use Rattle.avr_isa.specs.IoTable.{io_address}
+use Rattle.avr_exec.specs.Arithmetic.{with_pair_result, two_of, immediate_of, word_of, one_of, product_of}
 
 -- the byte of an answer, and the address of an answer
 abbrev pub byte_of : Answer → ℕ
@@ -35,46 +36,46 @@ stored cpu a v = if is_own a then with_own_byte cpu a v else cpu
 
 -- a pointer that changes gets its new value, computed from the old one
 unfoldable pub with_pointer : Cpu → Ptr → ℕ → Cpu
-with_pointer cpu ZInc value = with_pair cpu 30 (raised value 1)
-with_pointer cpu ZDec value = with_pair cpu 30 (lowered value 1)
-with_pointer cpu YInc value = with_pair cpu 28 (raised value 1)
-with_pointer cpu YDec value = with_pair cpu 28 (lowered value 1)
-with_pointer cpu XInc value = with_pair cpu 26 (raised value 1)
-with_pointer cpu XDec value = with_pair cpu 26 (lowered value 1)
+with_pointer cpu ZInc value = with_pair cpu 30 (wrapping_sum value 1)
+with_pointer cpu ZDec value = with_pair cpu 30 (wrapping_difference value 1)
+with_pointer cpu YInc value = with_pair cpu 28 (wrapping_sum value 1)
+with_pointer cpu YDec value = with_pair cpu 28 (wrapping_difference value 1)
+with_pointer cpu XInc value = with_pair cpu 26 (wrapping_sum value 1)
+with_pointer cpu XDec value = with_pair cpu 26 (wrapping_difference value 1)
 with_pointer cpu X value = cpu
 
 -- Z raised by one where a load from the program asks for it
 abbrev pub with_z_raised_if : Cpu → Bool → ℕ → Cpu
-with_z_raised_if cpu inc z = if inc then with_pair cpu 30 (raised z 1) else cpu
+with_z_raised_if cpu inc z = if inc then with_pair cpu 30 (wrapping_sum z 1) else cpu
 
 -- the pc one or two words on
 abbrev pub next : Cpu → Cpu
-next cpu = with_counter cpu (raised cpu.pc 1)
+next cpu = with_counter cpu (wrapping_sum cpu.pc 1)
 
 abbrev pub after_two_words : Cpu → Cpu
-after_two_words cpu = with_counter cpu (raised cpu.pc 2)
+after_two_words cpu = with_counter cpu (wrapping_sum cpu.pc 2)
 
 -- a branch by k where the test holds
 abbrev pub branch_if : Bool → ℤ → Cpu → Cpu
-branch_if taken k cpu = with_counter cpu (if taken then relative cpu.pc k else raised cpu.pc 1)
+branch_if taken k cpu = with_counter cpu (if taken then relative cpu.pc k else wrapping_sum cpu.pc 1)
 
 -- the next instruction, of this many words, passed over where the test holds
 abbrev pub skip_if : Bool → ℕ → Cpu → Cpu
-skip_if passed next_size cpu = with_counter cpu (if passed then raised cpu.pc (1 + next_size) else raised cpu.pc 1)
+skip_if passed next_size cpu = with_counter cpu (if passed then wrapping_sum cpu.pc (1 + next_size) else wrapping_sum cpu.pc 1)
 
 -- at the address of a called function, its return address pushed
 abbrev pub called : Cpu → ℕ → Cpu
-called cpu a = with_counter (with_stack cpu (lowered cpu.sp 2)) a
+called cpu a = with_counter (with_stack cpu (wrapping_difference cpu.sp 2)) a
 
 -- at a return address, which was popped
 abbrev pub returned : Cpu → ℕ → Cpu
-returned cpu a = with_counter (with_stack cpu (raised cpu.sp 2)) a
+returned cpu a = with_counter (with_stack cpu (wrapping_sum cpu.sp 2)) a
 
 -- the registers after each instruction; SLEEP and SPM aren't executed
 unfoldable pub finish_of : Form → Cpu → ℕ → Answer → Cpu
 finish_of Nop cpu n answer = next cpu
 finish_of (Movw d r) cpu n answer = next (with_pair cpu d (pair cpu r))
-finish_of (Muls d r) cpu n answer = next (with_word cpu 0 (muls_of cpu.sreg (register cpu d) (register cpu r)))
+finish_of (Muls d r) cpu n answer = next (with_pair_result cpu 0 (muls_of cpu.sreg (register cpu d) (register cpu r)))
 finish_of (Product op d r) cpu n answer = next (product_of op cpu d r)
 finish_of (Two op d r) cpu n answer = next (two_of op cpu d r)
 finish_of (Cpse d r) cpu n answer = skip_if (register cpu d == register cpu r) n cpu
@@ -87,8 +88,8 @@ finish_of (LoadAt d pointer) cpu n answer = next (with_pointer (with_register cp
 finish_of (StoreAt pointer r) cpu n answer = next (with_pointer (stored cpu (target cpu pointer) (register cpu r)) pointer (pointer_value cpu pointer))
 finish_of (Lds d a) cpu n answer = after_two_words (with_register cpu d (loaded cpu a answer))
 finish_of (Sts a r) cpu n answer = after_two_words (stored cpu a (register cpu r))
-finish_of (Pop d) cpu n answer = next (with_stack (with_register cpu d (byte_of answer)) (raised cpu.sp 1))
-finish_of (Push r) cpu n answer = next (with_stack cpu (lowered cpu.sp 1))
+finish_of (Pop d) cpu n answer = next (with_stack (with_register cpu d (byte_of answer)) (wrapping_sum cpu.sp 1))
+finish_of (Push r) cpu n answer = next (with_stack cpu (wrapping_difference cpu.sp 1))
 finish_of Lpm0 cpu n answer = next (with_register cpu 0 (byte_of answer))
 finish_of Elpm0 cpu n answer = next (with_register cpu 0 (byte_of answer))
 finish_of (Lpm d inc) cpu n answer = next (with_z_raised_if (with_register cpu d (byte_of answer)) inc (pair cpu 30))

@@ -6,4 +6,5 @@ pub mod Arithmetic
 pub mod Effects
 pub mod Execution
 pub mod Likeness
-pub mod SmallSpace
+pub mod Kinds
+pub mod StackRules

@@ -48,11 +48,11 @@ with_own_byte cpu a v =
     else with_status cpu v
 
 -- sums modulo 65,536
-abbrev pub raised : ℕ → ℕ → ℕ
-raised a by = (a + by) % 65536
+abbrev pub wrapping_sum : ℕ → ℕ → ℕ
+wrapping_sum a by = (a + by) % 65536
 
-abbrev pub lowered : ℕ → ℕ → ℕ
-lowered a by = (a + 65536 - by) % 65536
+abbrev pub wrapping_difference : ℕ → ℕ → ℕ
+wrapping_difference a by = (a + 65536 - by) % 65536
 
 -- pc + 1 + k
 unfoldable pub relative : ℕ → ℤ → ℕ

@@ -22,6 +22,6 @@ pub record Calls (S : Type 0) : Type 0 where
   pub flash_byte : S → ℕ → ℕ
 
 -- what a call's result and the space after it tell
-abbrev pub told : {S A : Type 0} → Result A BusStop → S → Outcome S A
-told (Ok answer) next = Went answer next
-told (Err stop) next = Stopped stop
+abbrev pub outcome_of : {S A : Type 0} → Result A BusStop → S → Outcome S A
+outcome_of (Ok answer) next = Went answer next
+outcome_of (Err stop) next = Stopped stop

@@ -1,7 +1,7 @@
-// The arithmetic instructions.
+//! The arithmetic instructions.
 
 ghost use Rattle.std.specs.Prelude.{◌≡◌, ◌<◌, ◌≤◌};
-ghost use Rattle.avr_exec.specs.Arithmetic.{with_byte, compared, with_word, two_of, immediate_of, word_of, one_of, product_of};
+ghost use Rattle.avr_exec.specs.Arithmetic.{with_result, compared, with_pair_result, two_of, immediate_of, word_of, one_of, product_of};
 
 use crate::cpu::Cpu;
 use avr_flags::{
@@ -13,7 +13,7 @@ use avr_isa::{ImmOp, OneOp, ProductOp, TwoOp, WordOp};
 /// Keeps a result in register `d`, and SREG.
 fn keep_byte(cpu: &mut Cpu, d: u8, outcome: (u8, u8))
     requires { d < 32 }
-    ensures { cpu.new ≡ with_byte cpu.old d outcome }
+    ensures { cpu.new ≡ with_result cpu.old d outcome }
 {
     cpu.set_register(d, outcome.0);
     cpu.sreg = outcome.1;
@@ -29,7 +29,7 @@ fn compare(cpu: &mut Cpu, outcome: (u8, u8))
 /// Keeps a result in a pair, and SREG.
 pub(crate) fn keep_word(cpu: &mut Cpu, low: u8, outcome: (u16, u8))
     requires { low < 31 }
-    ensures { cpu.new ≡ with_word cpu.old low outcome }
+    ensures { cpu.new ≡ with_pair_result cpu.old low outcome }
 {
     cpu.set_pair(low, outcome.0);
     cpu.sreg = outcome.1;
@@ -37,6 +37,7 @@ pub(crate) fn keep_word(cpu: &mut Cpu, low: u8, outcome: (u16, u8))
 
 /// An operation on two registers.
 #[tactic(auto, unfolding(crate::specs::Arithmetic::two_of))]
+#[inline(always)]
 pub(crate) fn two(op: &TwoOp, cpu: &mut Cpu, d: u8, r: u8)
     requires left { d < 32 }
     requires right { r < 32 }
@@ -60,6 +61,7 @@ pub(crate) fn two(op: &TwoOp, cpu: &mut Cpu, d: u8, r: u8)
 
 /// An operation on a register and a constant.
 #[tactic(auto, unfolding(crate::specs::Arithmetic::immediate_of))]
+#[inline(always)]
 pub(crate) fn immediate(op: &ImmOp, cpu: &mut Cpu, d: u8, k: u8)
     requires { d < 32 }
     ensures { cpu.new ≡ immediate_of op.now cpu.old d k }
@@ -77,6 +79,7 @@ pub(crate) fn immediate(op: &ImmOp, cpu: &mut Cpu, d: u8, k: u8)
 
 /// An operation on a pair and a constant.
 #[tactic(auto, unfolding(crate::specs::Arithmetic::word_of))]
+#[inline(always)]
 pub(crate) fn word(op: &WordOp, cpu: &mut Cpu, p: u8, k: u8)
     requires pair { p < 31 }
     requires constant { k ≤ 63 }
@@ -91,6 +94,7 @@ pub(crate) fn word(op: &WordOp, cpu: &mut Cpu, p: u8, k: u8)
 
 /// An operation on one register.
 #[tactic(auto, unfolding(crate::specs::Arithmetic::one_of))]
+#[inline(always)]
 pub(crate) fn one(op: &OneOp, cpu: &mut Cpu, d: u8)
     requires { d < 32 }
     ensures { cpu.new ≡ one_of op.now cpu.old d }

@@ -1,7 +1,7 @@
-// What an instruction asks of its bus.
+//! What an instruction asks of its bus.
 
 ghost use Rattle.std.specs.Prelude.{◌≡◌, ◌+◌, ◌-◌, ◌*◌, ◌/◌, ◌%◌, ◌<◌, ◌≤◌, ◌^◌};
-ghost use Rattle.avr_exec.specs.Asks.{ask_of, IsFine, load_of, store_of, pointed as pointed_of, target as target_of, displaced as displaced_of, base_register, io_address as io_address_of};
+ghost use Rattle.avr_exec.specs.Asks.{ask_of, IsFine, load_of, store_of, pointed as pointed_of, target as target_of, displaced as displaced_of, base_register};
 ghost use Rattle.avr_isa.specs.Instruction.{low_register as low_register_of};
 
 use crate::bits::bit_weight;
@@ -56,14 +56,6 @@ pub(crate) fn pointed(pointer: &Ptr, value: u16) -> u16
         Ptr::XDec | Ptr::YDec | Ptr::ZDec => value.wrapping_sub(1),
         Ptr::X | Ptr::XInc | Ptr::YInc | Ptr::ZInc => value,
     }
-}
-
-/// The data address of an I/O register, from the address that an instruction holds.
-pub(crate) fn io_address(field: u8) -> u16
-    requires { field < 64 }
-    ensures { result ≡ io_address_of field }
-{
-    u16::from(field) + 0x20
 }
 
 /// The low register of Y or Z.
@@ -141,11 +133,11 @@ pub fn asks(i: &Instr, cpu: &Cpu) -> Ask
         Form::Lpm0 | Form::Lpm(_, _) => Ask::Program(cpu.pair(30)),
         Form::Elpm0 | Form::Elpm(_, false) => Ask::ExtendedProgram(cpu.pair(30)),
         Form::Elpm(_, true) => Ask::ExtendedProgramRaising(cpu.pair(30)),
-        Form::InIo(_, a) => load_from(io_address(a.get())),
-        Form::OutIo(a, r) => store_to(io_address(a.get()), cpu.register(r.get())),
-        Form::Cbi(a, b) => Ask::Modify(io_address(a.get()), bit_weight(b.get()), 0),
-        Form::Sbi(a, b) => Ask::Modify(io_address(a.get()), 0, bit_weight(b.get())),
-        Form::Sbic(a, _) | Form::Sbis(a, _) => load_from(io_address(a.get())),
+        Form::InIo(_, a) => load_from(a.address()),
+        Form::OutIo(a, r) => store_to(a.address(), cpu.register(r.get())),
+        Form::Cbi(a, b) => Ask::Modify(a.address(), bit_weight(b.get()), 0),
+        Form::Sbi(a, b) => Ask::Modify(a.address(), 0, bit_weight(b.get())),
+        Form::Sbic(a, _) | Form::Sbis(a, _) => load_from(a.address()),
         Form::Rcall(_) | Form::Icall => Ask::PushReturn(sp, pc.wrapping_add(1)),
         Form::Call(_) => Ask::PushReturn(sp, pc.wrapping_add(2)),
         Form::Ret | Form::Reti => Ask::PopReturn(sp),

@@ -1,4 +1,4 @@
-// One bit of a byte.
+//! One bit of a byte.
 
 ghost use Rattle.std.specs.Prelude.{◌≡◌, ◌<◌, ◌^◌};
 ghost use Rattle.avr_flags.specs.Status.{has_bit as has_bit_of_weight, with_bit as with_bit_of_weight};

@@ -1,8 +1,8 @@
-// What an instruction reaches beside the core's own registers.
+//! What an instruction reaches beside the core's own registers.
 
 ghost use Rattle.std.specs.Prelude.{◌≡◌, ◌≤◌, ◌<◌, false, OnErr};
 ghost use Rattle.avr_exec.specs.Registers.{is_own};
-ghost use Rattle.avr_exec.specs.Spaces.{Calls, told};
+ghost use Rattle.avr_exec.specs.Spaces.{Calls, outcome_of};
 
 use crate::stop::BusStop;
 
@@ -31,7 +31,7 @@ pub trait Bus {
     fn load(&mut self, a: u16) -> Result<u8, BusStop>
         requires ready { ready self.old }
         requires outside { is_own a ≡ false }
-        ensures answer { told result (space self.new) ≡ calls.load (space self.old) a }
+        ensures answer { outcome_of result (space self.new) ≡ calls.load (space self.old) a }
         ensures stop { OnErr result (space self.new ≡ space self.old) }
         ensures lent { lent self.new ≡ lent self.old };
 
@@ -39,7 +39,7 @@ pub trait Bus {
     fn store(&mut self, a: u16, v: u8) -> Result<(), BusStop>
         requires ready { ready self.old }
         requires outside { is_own a ≡ false }
-        ensures answer { told result (space self.new) ≡ calls.store (space self.old) a v }
+        ensures answer { outcome_of result (space self.new) ≡ calls.store (space self.old) a v }
         ensures stop { OnErr result (space self.new ≡ space self.old) }
         ensures lent { lent self.new ≡ lent self.old };
 
@@ -49,35 +49,35 @@ pub trait Bus {
         requires ready { ready self.old }
         requires outside { is_own a ≡ false }
         requires register { (0x20 ≤ a) × (a ≤ 0xFF) }
-        ensures answer { told result (space self.new) ≡ calls.modify (space self.old) a clear set }
+        ensures answer { outcome_of result (space self.new) ≡ calls.modify (space self.old) a clear set }
         ensures stop { OnErr result (space self.new ≡ space self.old) }
         ensures lent { lent self.new ≡ lent self.old };
 
     /// Stores a byte at `sp`.
     fn push(&mut self, sp: u16, v: u8) -> Result<(), BusStop>
         requires ready { ready self.old }
-        ensures answer { told result (space self.new) ≡ calls.push (space self.old) sp v }
+        ensures answer { outcome_of result (space self.new) ≡ calls.push (space self.old) sp v }
         ensures stop { OnErr result (space self.new ≡ space self.old) }
         ensures lent { lent self.new ≡ lent self.old };
 
     /// Reads the byte at `sp + 1`.
     fn pop(&mut self, sp: u16) -> Result<u8, BusStop>
         requires ready { ready self.old }
-        ensures answer { told result (space self.new) ≡ calls.pop (space self.old) sp }
+        ensures answer { outcome_of result (space self.new) ≡ calls.pop (space self.old) sp }
         ensures stop { OnErr result (space self.new ≡ space self.old) }
         ensures lent { lent self.new ≡ lent self.old };
 
     /// Stores a return address: its low byte at `sp`, its high byte at `sp - 1`.
     fn push_ret(&mut self, sp: u16, ret: u16) -> Result<(), BusStop>
         requires ready { ready self.old }
-        ensures answer { told result (space self.new) ≡ calls.push_ret (space self.old) sp ret }
+        ensures answer { outcome_of result (space self.new) ≡ calls.push_ret (space self.old) sp ret }
         ensures stop { OnErr result (space self.new ≡ space self.old) }
         ensures lent { lent self.new ≡ lent self.old };
 
     /// Reads a return address: its high byte at `sp + 1`, its low byte at `sp + 2`.
     fn pop_ret(&mut self, sp: u16) -> Result<u16, BusStop>
         requires ready { ready self.old }
-        ensures answer { told result (space self.new) ≡ calls.pop_ret (space self.old) sp }
+        ensures answer { outcome_of result (space self.new) ≡ calls.pop_ret (space self.old) sp }
         ensures stop { OnErr result (space self.new ≡ space self.old) }
         ensures lent { lent self.new ≡ lent self.old };
 

@@ -1,4 +1,4 @@
-// The registers of the core.
+//! The registers of the core.
 
 ghost use Rattle.std.specs.Prelude.{◌≡◌};
 ghost use Rattle.avr_exec.specs.Registers.{is_own as is_own_test};
@@ -18,7 +18,7 @@ pub struct Cpu {
 
 impl Cpu {
     ghost use Rattle.std.specs.Prelude.{◌≡◌, ℕ, ◌+◌, ◌-◌, ◌*◌, ◌/◌, ◌%◌, ◌<◌, ◌≤◌, IsTrue, true};
-    ghost use Rattle.avr_exec.specs.Registers.{register as register_of, with_register, pair as pair_of, with_pair, with_status, with_stack, with_counter, is_own, own_byte as own_byte_of, with_own_byte, raised, lowered, relative};
+    ghost use Rattle.avr_exec.specs.Registers.{register as register_of, with_register, pair as pair_of, with_pair, with_status, with_stack, with_counter, is_own, own_byte as own_byte_of, with_own_byte, wrapping_sum, wrapping_difference, relative};
 
     /// The register of this number.
     pub(crate) fn register(&self, number: u8) -> u8
@@ -86,5 +86,5 @@ impl Cpu {
 pub(crate) fn is_own_address(address: u16) -> bool
     ensures { result ≡ is_own_test address }
 {
-    address < 0x20 || (0x5D <= address && address <= 0x5F)
+    address < 0x60 && (address < 0x20 || 0x5D <= address)
 }

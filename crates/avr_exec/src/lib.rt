@@ -23,9 +23,11 @@ mod ask;
 mod bits;
 mod bus;
 mod cpu;
+mod effect;
 mod execution;
-mod finish;
+mod memory;
 mod stop;
+mod transfer;
 
 pub use answer::Answer;
 pub use ask::{Ask, asks};
@@ -33,6 +35,3 @@ pub use bus::Bus;
 pub use cpu::Cpu;
 pub use execution::exec;
 pub use stop::BusStop;
-
-#[cfg(test)]
-mod tests;

@@ -1,4 +1,4 @@
-// Why a bus refuses a call.
+//! Why a bus refuses a call.
 
 /// Why a call of a bus, and so the instruction that made it, stopped. Nothing was changed.
 #[derive(Clone, Copy, PartialEq, Eq, Debug)]

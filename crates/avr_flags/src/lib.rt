@@ -17,6 +17,3 @@ pub use logic::{and_bits, asr, com, eor, lsr, or_bits, ror};
 pub use pairs::{adiw, sbiw};
 pub use products::{fmul, fmuls, fmulsu, mul, muls, mulsu};
 pub use sums::{adc, add, dec, inc, neg, sbc, sub};
-
-#[cfg(test)]
-mod tests;

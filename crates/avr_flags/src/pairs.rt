@@ -1,4 +1,4 @@
-// A constant added to or subtracted from a register pair.
+//! A constant added to or subtracted from a register pair.
 
 ghost use Rattle.std.specs.Prelude.{◌≡◌, ◌+◌, ◌-◌, ◌*◌, ◌/◌, ◌%◌, ◌≤◌, nat_le, nat_lt, pos, ◌+ℤ◌, ◌-ℤ◌};
 ghost use Rattle.avr_flags.specs.Pairs.{signed_pair, leaves_pair, pair_status as status_of_pair, adiw_of, sbiw_of};

@@ -1,4 +1,4 @@
-// Products of two bytes.
+//! Products of two bytes.
 
 ghost use Rattle.std.specs.Prelude.{◌≡◌, ℕ, ◌+◌, ◌-◌, ◌*◌, ◌/◌, ◌%◌, ◌≤◌, ◌==◌, nat_le};
 ghost use Rattle.avr_flags.specs.Sums.{signed_byte};

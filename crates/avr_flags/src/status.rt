@@ -1,4 +1,4 @@
-// The status register as a set of named flags.
+//! The status register as a set of named flags.
 
 ghost use Rattle.std.specs.Prelude.{⊤, ◌≡◌, [], ◌∷◌, codes, IsTrue};
 ghost use Rattle.avr_flags.specs.Status.{is_weight, has_bit, with_bit, with_result_flags, zero_flag};

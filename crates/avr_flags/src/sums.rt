@@ -1,4 +1,4 @@
-// Sums and differences of bytes.
+//! Sums and differences of bytes.
 
 ghost use Rattle.std.specs.Prelude.{◌≡◌, ℕ, ◌+◌, ◌-◌, ◌*◌, ◌/◌, ◌%◌, ◌≤◌, ◌==◌, ◌&&◌, ◌||◌, not, nat_le, nat_lt, pos, ◌+ℤ◌, ◌-ℤ◌};
 ghost use Rattle.avr_flags.specs.Status.{has_bit, zero_flag};
@@ -13,43 +13,20 @@ pub(crate) fn bit_7(byte: u8) -> bool
     byte >> 7 == 1
 }
 
-/// Bit 3 of a byte.
-fn bit_3(byte: u8) -> bool
-    ensures { result ≡ nat_le 8 (byte % 16) }
-{
-    byte >> 3 & 1 == 1
-}
-
-/// Whether a sum carries out of a bit, from that bit of the operands and of the sum.
-fn carries(d: bool, r: bool, sum: bool) -> bool
-    ensures { result ≡ (d && r || r && not sum || not sum && d) }
-{
-    d & r | r & !sum | !sum & d
-}
-
-/// Whether a difference borrows into a bit, from that bit of the operands and of the difference.
-fn borrows(d: bool, r: bool, difference: bool) -> bool
-    ensures { result ≡ (not d && r || r && difference || difference && not d) }
-{
-    !d & r | r & difference | difference & !d
-}
-
-/// C of a sum whose low byte is `value`.
-fn sum_carry(d: u8, r: u8, carry: u8, value: u8) -> bool
+/// C of a sum.
+fn sum_carry(d: u8, r: u8, carry: u8) -> bool
     requires carry_is_bit { carry ≤ 1 }
-    requires value_is_sum { value ≡ (d + r + carry) % 256 }
     ensures { result ≡ nat_le 256 (d + r + carry) }
 {
-    carries(bit_7(d), bit_7(r), bit_7(value))
+    u16::from(d) + u16::from(r) + u16::from(carry) > 0xFF
 }
 
-/// H of a sum whose low byte is `value`.
-fn sum_half_carry(d: u8, r: u8, carry: u8, value: u8) -> bool
+/// H of a sum.
+fn sum_half_carry(d: u8, r: u8, carry: u8) -> bool
     requires carry_is_bit { carry ≤ 1 }
-    requires value_is_sum { value ≡ (d + r + carry) % 256 }
     ensures { result ≡ nat_le 16 (d % 16 + r % 16 + carry) }
 {
-    carries(bit_3(d), bit_3(r), bit_3(value))
+    (d & 0xF) + (r & 0xF) + carry > 0xF
 }
 
 /// V of a sum whose low byte is `value`.
@@ -71,27 +48,25 @@ fn sum_status(sreg: u8, d: u8, r: u8, carry: u8, value: u8) -> u8
 {
     Status::new(sreg)
         .with_result(bit_7(value), value == 0, sum_overflow(d, r, carry, value))
-        .with(Status::HALF_CARRY, sum_half_carry(d, r, carry, value))
-        .with(Status::CARRY, sum_carry(d, r, carry, value))
+        .with(Status::HALF_CARRY, sum_half_carry(d, r, carry))
+        .with(Status::CARRY, sum_carry(d, r, carry))
         .sreg()
 }
 
-/// C of a difference whose low byte is `value`.
-fn difference_carry(d: u8, r: u8, carry: u8, value: u8) -> bool
+/// C of a difference.
+fn difference_carry(d: u8, r: u8, carry: u8) -> bool
     requires carry_is_bit { carry ≤ 1 }
-    requires value_is_difference { value ≡ byte_difference d r carry }
     ensures { result ≡ nat_lt d (r + carry) }
 {
-    borrows(bit_7(d), bit_7(r), bit_7(value))
+    u16::from(d) < u16::from(r) + u16::from(carry)
 }
 
-/// H of a difference whose low byte is `value`.
-fn difference_half_carry(d: u8, r: u8, carry: u8, value: u8) -> bool
+/// H of a difference.
+fn difference_half_carry(d: u8, r: u8, carry: u8) -> bool
     requires carry_is_bit { carry ≤ 1 }
-    requires value_is_difference { value ≡ byte_difference d r carry }
     ensures { result ≡ nat_lt (d % 16) (r % 16 + carry) }
 {
-    borrows(bit_3(d), bit_3(r), bit_3(value))
+    d & 0xF < (r & 0xF) + carry
 }
 
 /// V of a difference whose low byte is `value`.
@@ -113,11 +88,8 @@ fn difference_status(sreg: u8, d: u8, r: u8, carry: u8, value: u8, zero: bool) -
 {
     Status::new(sreg)
         .with_result(bit_7(value), zero, difference_overflow(d, r, carry, value))
-        .with(
-            Status::HALF_CARRY,
-            difference_half_carry(d, r, carry, value),
-        )
-        .with(Status::CARRY, difference_carry(d, r, carry, value))
+        .with(Status::HALF_CARRY, difference_half_carry(d, r, carry))
+        .with(Status::CARRY, difference_carry(d, r, carry))
         .sreg()
 }
 

@@ -9,7 +9,7 @@ use Rattle.avr_isa.specs.declared.operation.Base.TheVariants.{Y}
 use Rattle.avr_isa.specs.declared.operation.Ptr.TheVariants.{X, XInc}
 use Rattle.avr_isa.specs.Instruction.{fields_in_range, is_undefined, is_valid}
 use Rattle.avr_isa.specs.Encoding.{first_word, second_word}
-use Rattle.avr_isa.specs.IoTable.{can_read, can_write, data_address}
+use Rattle.avr_isa.specs.IoTable.{can_read, can_write, io_address}
 use Rattle.avr_isa.specs.Image.{word, byte, is_inside}
 use Rattle.avr_isa.specs.Crossing.{is_crossing}
 
@@ -40,7 +40,7 @@ unfolding is_valid fields_in_range is_undefined
 pairs = (refl, refl)
 
 -- PINA (field 0x19) is only read, PORTA is read and written, 0x5C is nothing
-ports : (can_read (data_address 0x19) ≡ true) × (can_write (data_address 0x19) ≡ false) × (can_write (data_address 0x1B) ≡ true) × (can_read 0x5C ≡ false)
+ports : (can_read (io_address 0x19) ≡ true) × (can_write (io_address 0x19) ≡ false) × (can_write (io_address 0x1B) ≡ true) × (can_read 0x5C ≡ false)
 unfolding can_read can_write
 ports = (refl, refl, refl, refl)
 

@@ -3,8 +3,8 @@ use Rattle.std.specs.Prelude.{ℕ, ◌+◌, Bool, true, false, ◌&&◌, ◌==�
 use Rattle.std.specs.List.{list_any}
 
 -- the data address of the I/O register that an instruction names by its field A
-abbrev pub data_address : ℕ → ℕ
-data_address field = field + 0x20
+abbrev pub io_address : ℕ → ℕ
+io_address field = field + 0x20
 
 -- a register: its data address, whether a program may read it, and whether it may write it
 abbrev pub Register : Type 0

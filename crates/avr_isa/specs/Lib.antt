@@ -3,3 +3,4 @@ pub mod Encoding
 pub mod IoTable
 pub mod Image
 pub mod Crossing
+pub mod OperandKinds

@@ -1,4 +1,4 @@
-// The instructions with their operands.
+//! The instructions with their operands.
 use crate::operand::{Bit, IoAddr, LowIo, Rel7, Rel12, Six};
 use crate::operation::{Base, ImmOp, OneOp, ProductOp, Ptr, TwoOp, WordOp};
 use crate::register::{EvenReg, HighReg, MidReg, PairReg, Reg};

@@ -1,5 +1,6 @@
-// A valid instruction, and the number of its words.
-ghost use Rattle.std.specs.Prelude.{◌≡◌, ◌≤◌, false, IsTrue, SomeIff, ◌&&◌};
+//! A valid instruction, and the number of its words.
+ghost use Rattle.std.specs.Prelude.{◌≡◌, ◌≤◌, true, false, IsTrue, SomeIff, ◌&&◌};
+ghost use Rattle.avr_isa.specs.OperandKinds.{makes_access, makes_result};
 ghost use Rattle.avr_isa.specs.Instruction.{changes, fields_in_range, is_in_pair, is_undefined, is_valid, low_register, size_of};
 
 use crate::form::Form;
@@ -65,7 +66,7 @@ pub fn size(i: &Instr) -> u16
     }
 }
 
-// Whether a load or store changes the pointer that its data register is part of.
+/// Whether a load or store changes the pointer that its data register is part of.
 #[tactic(auto, unfolding(crate::specs::Instruction::is_undefined))]
 #[inline(always)]
 fn is_undefined_pair(form: &Form) -> bool
@@ -91,10 +92,40 @@ fn is_own_pair(register: u8, pointer: &Ptr) -> bool
     }
 }
 
-// Reads each operand once, which tells the proof the ranges that the operands keep.
+/// Reads each operand once, which tells the proof the ranges that the operands keep.
 #[tactic(auto, unfolding(crate::specs::Instruction::fields_in_range))]
 fn read_fields(form: &Form)
     ensures ranges { IsTrue (fields_in_range form.now) }
+{
+    match form {
+        Form::Movw(..)
+        | Form::Muls(..)
+        | Form::Product(..)
+        | Form::Two(..)
+        | Form::Cpse(..)
+        | Form::Imm(..)
+        | Form::Word(..)
+        | Form::One(..) => read_result_operands(form),
+        Form::LoadOff(..)
+        | Form::StoreOff(..)
+        | Form::LoadAt(..)
+        | Form::StoreAt(..)
+        | Form::Lds(..)
+        | Form::Sts(..)
+        | Form::Pop(_)
+        | Form::Push(_)
+        | Form::Lpm(..)
+        | Form::Elpm(..)
+        | Form::InIo(..)
+        | Form::OutIo(..) => read_access_operands(form),
+        _ => read_other_operands(form),
+    }
+}
+
+/// The operands of an instruction that makes a result of registers and a constant.
+#[tactic(auto, unfolding(crate::specs::Instruction::fields_in_range))]
+fn read_result_operands(form: &Form)
+    ensures ranges { makes_result form.now ≡ true → IsTrue (fields_in_range form.now) }
 {
     match form {
         Form::Movw(d, r) => {
@@ -121,8 +152,28 @@ fn read_fields(form: &Form)
             p.get();
             k.get();
         }
-        Form::One(_, d)
-        | Form::LoadAt(d, _)
+        Form::One(_, d) => {
+            d.get();
+        }
+        _ => {}
+    }
+}
+
+/// The operands of an instruction that moves a register to or from an address.
+#[tactic(auto, unfolding(crate::specs::Instruction::fields_in_range))]
+fn read_access_operands(form: &Form)
+    ensures ranges { makes_access form.now ≡ true → IsTrue (fields_in_range form.now) }
+{
+    match form {
+        Form::LoadOff(d, _, q) | Form::StoreOff(_, q, d) => {
+            d.get();
+            q.get();
+        }
+        Form::Lds(d, a) | Form::Sts(a, d) => {
+            d.get();
+            let _a = *a;
+        }
+        Form::LoadAt(d, _)
         | Form::StoreAt(_, d)
         | Form::Pop(d)
         | Form::Push(d)
@@ -130,18 +181,20 @@ fn read_fields(form: &Form)
         | Form::Elpm(d, _) => {
             d.get();
         }
-        Form::Lds(d, a) | Form::Sts(a, d) => {
-            d.get();
-            let _a = *a;
-        }
-        Form::LoadOff(d, _, q) | Form::StoreOff(_, q, d) => {
-            d.get();
-            q.get();
-        }
         Form::InIo(d, a) | Form::OutIo(a, d) => {
             d.get();
             a.get();
         }
+        _ => {}
+    }
+}
+
+/// The operands of every other instruction: bits and targets.
+#[tactic(auto, unfolding(crate::specs::Instruction::fields_in_range))]
+fn read_other_operands(form: &Form)
+    ensures ranges { makes_result form.now ≡ false → makes_access form.now ≡ false → IsTrue (fields_in_range form.now) }
+{
+    match form {
         Form::Cbi(a, b) | Form::Sbic(a, b) | Form::Sbi(a, b) | Form::Sbis(a, b) => {
             a.get();
             b.get();

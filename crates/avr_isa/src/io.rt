@@ -1,4 +1,4 @@
-// Which I/O registers a program may read and write.
+//! Which I/O registers a program may read and write.
 ghost use Rattle.std.specs.Prelude.{◌≡◌};
 ghost use Rattle.avr_isa.specs.IoTable.{can_read, can_write};
 

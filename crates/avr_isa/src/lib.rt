@@ -2,7 +2,7 @@
 //!
 //! A [`Form`] is an operation with its operands; each operand has a type of its own, which keeps its
 //! range. An [`Instr`] is a form whose effect the manual defines. [`io_access`] says which I/O
-//! registers a program may read and write.
+//! registers a program may read and write, and [`is_crossing`] which steps are counted.
 //!
 //! ```rust
 //! use avr_isa::{Form, HighReg, ImmOp, Instr, size};
@@ -18,15 +18,15 @@
 //! and an `Instr` is its `Form`.
 #![tactic(auto)]
 
+mod crossing;
 mod form;
 mod instr;
 mod io;
 mod operand;
 mod operation;
 mod register;
-#[cfg(test)]
-mod tests;
 
+pub use crossing::is_crossing;
 pub use form::Form;
 pub use instr::{Instr, size};
 pub use io::{IoAccess, io_access};

@@ -1,5 +1,6 @@
-// The operands of an instruction that name no register.
-ghost use Rattle.std.specs.Prelude.{◌≡◌, ℕ, ℤ, pos, negsuc, ◌<◌, ◌≤ℤ◌, SomeIff};
+//! The operands of an instruction that name no register.
+ghost use Rattle.std.specs.Prelude.{◌≡◌, ℕ, ℤ, pos, negsuc, ◌<◌, ◌≤◌, ◌≤ℤ◌, SomeIff};
+ghost use Rattle.avr_isa.specs.IoTable.{io_address};
 
 use std::marker::Model;
 
@@ -93,12 +94,20 @@ impl IoAddr {
         if v < 64 { Some(IoAddr { v }) } else { None }
     }
 
-    /// The field, 0 to 63; the data address is 0x20 more.
+    /// The field, 0 to 63.
     pub fn get(&self) -> u8
         ensures value { result ≡ self.now }
         ensures range { result < 64 }
     {
         self.v
+    }
+
+    /// The data address of the I/O register that the field names.
+    pub fn address(&self) -> u16
+        ensures value { result ≡ io_address self.now }
+        ensures range { (0x20 ≤ result) × (result ≤ 0x5F) }
+    {
+        u16::from(self.get()) + 0x20
     }
 }
 
@@ -126,12 +135,20 @@ impl LowIo {
         if v < 32 { Some(LowIo { v }) } else { None }
     }
 
-    /// The field, 0 to 31; the data address is 0x20 more.
+    /// The field, 0 to 31.
     pub fn get(&self) -> u8
         ensures value { result ≡ self.now }
         ensures range { result < 32 }
     {
         self.v
+    }
+
+    /// The data address of the I/O register that the field names.
+    pub fn address(&self) -> u16
+        ensures value { result ≡ io_address self.now }
+        ensures range { (0x20 ≤ result) × (result ≤ 0x3F) }
+    {
+        u16::from(self.get()) + 0x20
     }
 }
 

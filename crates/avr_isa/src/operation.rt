@@ -1,4 +1,4 @@
-// The operations that share a form, in the order of their codes, and the pointers.
+//! The operations that share a form, in the order of their codes, and the pointers.
 
 /// The multiplications of two registers of r16 to r23.
 #[derive(Clone, Copy, Debug, PartialEq, Eq)]

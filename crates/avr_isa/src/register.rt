@@ -1,4 +1,4 @@
-// The five ranges of registers that an instruction's field may name.
+//! The five ranges of registers that an instruction's field may name.
 ghost use Rattle.std.specs.Prelude.{◌≡◌, ℕ, ◌<◌, ◌≤◌, ◌%◌, SomeIff};
 
 use std::marker::Model;

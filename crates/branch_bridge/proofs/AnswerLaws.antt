@@ -1,11 +1,11 @@
 -- What an arrival answers.
 use Rattle.std.proofs.Common.{◌≡◌, ℕ, ◌≤◌, Bool, List, ◌∷◌, Option, Some, None, Result, arith, sym, ap, subst, ◌∙◌}
 use Rattle.std.specs.Prelude.{IfOk, OnErr, IsErrOf, IsTrue, ◌↔◌, true, false}
-use Rattle.flash_model.specs.Layouts.{IsRight}
+use Rattle.flash_model.specs.Layouts.{IsRight, image_of}
 use Rattle.flash_model.specs.declared.layout.Layout.{Layout}
 use Rattle.page_index.specs.Entries.{IsEntry}
 use Rattle.nat_page.specs.Faithful.{HoldsCode}
-use Rattle.nat_page.specs.Making.{image_of, HasNoEntry}
+use Rattle.nat_page.specs.Making.{HasNoEntry}
 use Rattle.branch_bridge.specs.declared.arrival.ArriveStop.{ArriveStop}
 use Rattle.branch_bridge.specs.declared.arrival.ArriveStop.TheVariants.{Wild, CodeFull}
 use Rattle.branch_bridge.specs.declared.arrival.Moved.{Moved}
@@ -51,7 +51,10 @@ arrival_refused layout old new t stub result arrives =
     subst P (sym arrives.after) (refused_by layout old t stub arrives.effects result arrives.plan)
 
 -- an answer that goes on at a place has what that place has; a refusal has nothing to show
-pub went_by : (P : Moved → Store → Type 0) (layout : Layout) (old new : Store) (t : ℕ) (stub : Option ℕ) (result : Result Moved ArriveStop) → ((effects : List Effect) → (goes : Goes layout old t stub effects result) → P (record { place = goes.place; made = makes_page effects }) (finished (all_done old goes.making) t stub goes.place)) → Arrives layout old new t stub result → IfOk result (λ moved. P moved new)
+pub went_by : (P : Moved → Store → Type 0) (layout : Layout) (old new : Store) (t : ℕ) (stub : Option ℕ) (result : Result Moved ArriveStop)
+    → ((effects : List Effect) → (goes : Goes layout old t stub effects result)
+    → P (record { place = goes.place; made = makes_page effects }) (finished (all_done old goes.making) t stub goes.place))
+    → Arrives layout old new t stub result → IfOk result (λ moved. P moved new)
 went_by P layout old new t stub result went arrives = elim arrives.plan [
   | Outside outside ↦ subst (λ (r : Result Moved ArriveStop). IfOk r (λ moved. P moved new)) (sym outside.answer) tt
   | Full full ↦ subst (λ (r : Result Moved ArriveStop). IfOk r (λ moved. P moved new)) (sym full.answer) tt
@@ -68,7 +71,9 @@ entry_finished layout old mid t place None right from has = has.entry
 entry_finished layout old mid t place (Some s) right from has =
     ((relinked layout (image_of layout old.flash.words) mid.flash.words s t place right has.code (has.stubs s t from) has.entry).entries t place).0 has.entry
 
-pub arrival_entered : (layout : Layout) (old new : Store) (t : ℕ) (stub : Option ℕ) (result : Result Moved ArriveStop) → IsRight layout → HoldsCode layout (image_of layout old.flash.words) old.flash.words → CameThrough layout old.flash.words stub t → Arrives layout old new t stub result → IfOk result (λ moved. IsEntry layout new.flash.words t moved.place)
+pub arrival_entered : (layout : Layout) (old new : Store) (t : ℕ) (stub : Option ℕ) (result : Result Moved ArriveStop) → IsRight layout
+    → HoldsCode layout (image_of layout old.flash.words) old.flash.words → CameThrough layout old.flash.words stub t
+    → Arrives layout old new t stub result → IfOk result (λ moved. IsEntry layout new.flash.words t moved.place)
 arrival_entered layout old new t stub result right code from =
     went_by (λ moved store. IsEntry layout store.flash.words t moved.place) layout old new t stub result (λ effects goes.
     entry_finished layout old (all_done old goes.making) t goes.place stub right from (has_place layout old t goes.place goes.making right code goes.places))

@@ -5,7 +5,8 @@ use Rattle.page_index.specs.Entries.{IsMapped}
 use Rattle.page_index.proofs.EntryLaws.{one_place}
 use Rattle.nat_template.specs.Stubs.{words_of}
 use Rattle.nat_page.specs.CodePages.{page_pieces}
-use Rattle.nat_page.specs.Making.{image_of, filled, MakesPage}
+use Rattle.nat_page.specs.Making.{filled, MakesPage}
+use Rattle.flash_model.specs.Layouts.{image_of}
 use Rattle.nat_page.proofs.OnePage.{one_free, one_last, one_flash}
 use Rattle.branch_bridge.specs.declared.arrival.ArriveStop.{ArriveStop}
 use Rattle.branch_bridge.specs.declared.arrival.Moved.{Moved}
@@ -40,7 +41,9 @@ one_way layout store t place place' effects effects' mapped (Made one) (Made oth
     let make : ℕ → ℕ → List Effect = λ p l. Make p (filled (words_of (page_pieces image t l))) ∷ [] in
     (one.making ∙ ap₂ make page last ∙ sym other.making, (one_flash layout image store.flash.words new new' t place place' one.made other.made).1)
 
-one_going : (layout : Layout) (store : Store) (t : ℕ) (stub : Option ℕ) (effects effects' : List Effect) (result result' : Result Moved ArriveStop) → IsMapped layout store.flash.words → Goes layout store t stub effects result → Goes layout store t stub effects' result' → (effects ≡ effects') × (result ≡ result')
+one_going : (layout : Layout) (store : Store) (t : ℕ) (stub : Option ℕ) (effects effects' : List Effect) (result result' : Result Moved ArriveStop)
+    → IsMapped layout store.flash.words → Goes layout store t stub effects result → Goes layout store t stub effects' result'
+    → (effects ≡ effects') × (result ≡ result')
 one_going layout store t stub effects effects' result result' mapped one other =
     let way = one_way layout store t one.place other.place one.making other.making mapped one.places other.places in
     let whole : List Effect → ℕ → List Effect = λ making place. making ++ (Note t place ∷ resolving stub place) in
@@ -49,7 +52,9 @@ one_going layout store t stub effects effects' result result' mapped one other =
     (same, one.answer ∙ ap₂ moved way.1 same ∙ sym other.answer)
 
 -- the effects, and the answer
-one_plan : (layout : Layout) (store : Store) (t : ℕ) (stub : Option ℕ) (effects effects' : List Effect) (result result' : Result Moved ArriveStop) → IsMapped layout store.flash.words → Plans layout store t stub effects result → Plans layout store t stub effects' result' → (effects ≡ effects') × (result ≡ result')
+one_plan : (layout : Layout) (store : Store) (t : ℕ) (stub : Option ℕ) (effects effects' : List Effect) (result result' : Result Moved ArriveStop)
+    → IsMapped layout store.flash.words → Plans layout store t stub effects result → Plans layout store t stub effects' result'
+    → (effects ≡ effects') × (result ≡ result')
 one_plan layout store t stub effects effects' result result' mapped (Outside one) (Outside other) =
     (one.nothing ∙ sym other.nothing, one.answer ∙ sym other.answer)
 one_plan layout store t stub effects effects' result result' mapped (Outside one) (Full other) =

@@ -1,16 +1,16 @@
 -- The page that an arrival makes: one more is used, and its first address is the arrival's.
 use Rattle.std.proofs.Common.{◌≡◌, ℕ, Bool, ◌+◌, ◌*◌, ◌/◌, ◌≤◌, List, length, Option, Some, None, Result, arith, refl, sym, ap, ap₂, subst, ◌∙◌, inl, inr, add-zero}
-use Rattle.std.specs.Prelude.{if◌then◌else◌, true, false, IfOk}
+use Rattle.std.specs.Prelude.{if◌then◌else◌, IfOk}
 use Rattle.std.proofs.lemmas.Bool.{cases_eq}
 use Rattle.flash_model.specs.Pages.{page_words}
-use Rattle.flash_model.specs.Layouts.{IsRight}
+use Rattle.flash_model.specs.Layouts.{IsRight, image_of}
 use Rattle.flash_model.specs.declared.layout.Layout.{Layout}
 use Rattle.page_index.specs.Maps.{address_of}
 use Rattle.page_index.specs.Entries.{IsEntry}
 use Rattle.nat_page.specs.Standing.{jump_word}
 use Rattle.nat_page.specs.Links.{with_two_words}
 use Rattle.nat_page.specs.Faithful.{HoldsCode}
-use Rattle.nat_page.specs.Making.{image_of, Naturalises}
+use Rattle.nat_page.specs.Making.{Naturalises}
 use Rattle.nat_page.specs.Used.{is_used, used_pages}
 use Rattle.nat_page.proofs.HeldLaws.{address_held}
 use Rattle.nat_page.proofs.KeptLaws.{KeepsRun}
@@ -21,13 +21,16 @@ use Rattle.branch_bridge.specs.declared.arrival.ArriveStop.{ArriveStop}
 use Rattle.branch_bridge.specs.declared.arrival.Moved.{Moved}
 use Rattle.branch_bridge.specs.Effects.{Store, Effect, all_done, makes_page}
 use Rattle.branch_bridge.specs.Arrivals.{CameThrough, Places, Known, Made, Arrives}
+use Rattle.branch_bridge.specs.PageChanges.{PageAfter}
 use Rattle.branch_bridge.proofs.EffectLaws.{makes_page-all}
 use Rattle.branch_bridge.proofs.ResolveLaws.{jump_links, relinked}
 use Rattle.branch_bridge.proofs.KeptLaws.{HasPlace, has_place, finished, arrival_by}
 use Rattle.branch_bridge.proofs.AnswerLaws.{went_by}
 
 -- how many pages are used where t's place is found or made
-used_placed : (layout : Layout) (store : Store) (t place : ℕ) (making : List Effect) → IsRight layout → HoldsCode layout (image_of layout store.flash.words) store.flash.words → Places layout store t place making → used_pages layout (all_done store making).flash.words ≡ used_pages layout store.flash.words + (if makes_page making then 1 else 0)
+used_placed : (layout : Layout) (store : Store) (t place : ℕ) (making : List Effect) → IsRight layout
+    → HoldsCode layout (image_of layout store.flash.words) store.flash.words → Places layout store t place making
+    → used_pages layout (all_done store making).flash.words ≡ used_pages layout store.flash.words + (if makes_page making then 1 else 0)
 used_placed layout store t place making right code (Known known) =
     let count : List Effect → ℕ = λ es. used_pages layout (all_done store es).flash.words in
     let more : List Effect → ℕ = λ es. used_pages layout store.flash.words + (if makes_page es then 1 else 0) in
@@ -44,18 +47,15 @@ used_finished layout old mid t place (Some s) right from has =
     (relinked layout (image_of layout old.flash.words) mid.flash.words s t place right has.code (has.stubs s t from) has.entry).used
 
 -- one more exactly where a page was made
-pub arrival_used : (layout : Layout) (old new : Store) (t : ℕ) (stub : Option ℕ) (result : Result Moved ArriveStop) → IsRight layout → HoldsCode layout (image_of layout old.flash.words) old.flash.words → CameThrough layout old.flash.words stub t → Arrives layout old new t stub result → IfOk result (λ moved. used_pages layout new.flash.words ≡ used_pages layout old.flash.words + (if moved.made then 1 else 0))
+pub arrival_used : (layout : Layout) (old new : Store) (t : ℕ) (stub : Option ℕ) (result : Result Moved ArriveStop) → IsRight layout
+    → HoldsCode layout (image_of layout old.flash.words) old.flash.words → CameThrough layout old.flash.words stub t
+    → Arrives layout old new t stub result
+    → IfOk result (λ moved. used_pages layout new.flash.words ≡ used_pages layout old.flash.words + (if moved.made then 1 else 0))
 arrival_used layout old new t stub result right code from =
     went_by (λ moved store. used_pages layout store.flash.words ≡ used_pages layout old.flash.words + (if moved.made then 1 else 0)) layout old new t stub result (λ effects goes.
     let has = has_place layout old t goes.place goes.making right code goes.places in
     let more : Bool → ℕ = λ made. used_pages layout old.flash.words + (if made then 1 else 0) in
     used_finished layout old (all_done old goes.making) t goes.place stub right from has ∙ used_placed layout old t goes.place goes.making right code goes.places ∙ sym (ap more (makes_page-all effects goes.making t goes.place stub goes.all)))
-
--- A page of the pool over an arrival at t: it is used where it was, and its first address stays; or it was
--- free and is used, and its first address is t.
-pub data PageAfter (words words' : List ℕ) (page t : ℕ) : Type 0 where
-  Stays : is_used words' page ≡ is_used words page → address_of words' page 0 ≡ address_of words page 0 → PageAfter words words' page t
-  Begins : is_used words page ≡ false → is_used words' page ≡ true → address_of words' page 0 ≡ t → PageAfter words words' page t
 
 page_made : (layout : Layout) (image words words' : List ℕ) (t place page : ℕ) → IsRight layout → HoldsCode layout image words → Naturalises layout image words words' t place → PageAfter words words' page t
 page_made layout image words words' t place page right code made = elim (cases_eq page made.page) [
@@ -112,7 +112,9 @@ page_finished layout old mid t place page (Some s) right from has =
     let link = (has.stubs s t from).link in
     page_again layout image words (with_two_words words s jump_word place) link.page link.first link.last page (relinks layout image words s t jump_word place right has.code link (jump_links layout words t place has.entry))
 
-pub arrival_page : (layout : Layout) (old new : Store) (t : ℕ) (stub : Option ℕ) (result : Result Moved ArriveStop) (page : ℕ) → IsRight layout → HoldsCode layout (image_of layout old.flash.words) old.flash.words → CameThrough layout old.flash.words stub t → Arrives layout old new t stub result → PageAfter old.flash.words new.flash.words page t
+pub arrival_page : (layout : Layout) (old new : Store) (t : ℕ) (stub : Option ℕ) (result : Result Moved ArriveStop) (page : ℕ) → IsRight layout
+    → HoldsCode layout (image_of layout old.flash.words) old.flash.words → CameThrough layout old.flash.words stub t
+    → Arrives layout old new t stub result → PageAfter old.flash.words new.flash.words page t
 arrival_page layout old new t stub result page right code from =
     let P : Store → Type 0 = λ store. PageAfter old.flash.words store.flash.words page t in
     arrival_by P layout old new t stub result (PageAfter.Stays refl refl) (λ place making places.

@@ -1,13 +1,12 @@
 -- What an arrival leaves: the pool's entries, the image, and all that it doesn't name.
 use Rattle.std.proofs.Common.{◌≡◌, ◌≢◌, ℕ, List, ◌∷◌, length, Option, Some, None, Result, refl, sym, ap, ◌∙◌, subst}
-use Rattle.flash_model.specs.Layouts.{IsRight}
+use Rattle.flash_model.specs.Layouts.{IsRight, image_of}
 use Rattle.flash_model.specs.declared.layout.Layout.{Layout}
 use Rattle.sram_layout.specs.Bytes.{byte_count}
 use Rattle.page_index.specs.Entries.{IsEntry}
 use Rattle.nat_page.specs.Standing.{jump_word}
 use Rattle.nat_page.specs.Links.{IsUnresolved, with_two_words}
 use Rattle.nat_page.specs.Faithful.{HoldsCode, IsFaithful}
-use Rattle.nat_page.specs.Making.{image_of}
 use Rattle.nat_page.proofs.MadeLaws.{makes_code, makes_entry, makes_entries, makes_unresolved, makes_faithful, makes_image}
 use Rattle.nat_page.proofs.RelinkLaws.{relinked_faithful}
 use Rattle.addr_tables.specs.Tables.{IsTables}
@@ -28,7 +27,9 @@ finished store t stub place = all_done store (Note t place ∷ resolving stub pl
 
 -- what holds where nothing is done, and where t's place is found or made and the rest is done, holds of every
 -- arrival
-pub arrival_by : (P : Store → Type 0) (layout : Layout) (old new : Store) (t : ℕ) (stub : Option ℕ) (result : Result Moved ArriveStop) → P old → ((place : ℕ) (making : List Effect) → Places layout old t place making → P (finished (all_done old making) t stub place)) → Arrives layout old new t stub result → P new
+pub arrival_by : (P : Store → Type 0) (layout : Layout) (old new : Store) (t : ℕ) (stub : Option ℕ) (result : Result Moved ArriveStop) → P old
+    → ((place : ℕ) (making : List Effect) → Places layout old t place making → P (finished (all_done old making) t stub place))
+    → Arrives layout old new t stub result → P new
 arrival_by P layout old new t stub result same goes arrives =
     let Q : List Effect → Type 0 = λ effects. P (all_done old effects) in
     let after : Q arrives.effects = elim arrives.plan [
@@ -130,27 +131,38 @@ kept_finished layout old mid t place (Some s) right from has =
       erases = λ none. absurd (cc);
     }
 
-pub arrival_kept : (layout : Layout) (old new : Store) (t : ℕ) (stub : Option ℕ) (result : Result Moved ArriveStop) → IsRight layout → HoldsCode layout (image_of layout old.flash.words) old.flash.words → CameThrough layout old.flash.words stub t → Arrives layout old new t stub result → Kept layout stub old new
+pub arrival_kept : (layout : Layout) (old new : Store) (t : ℕ) (stub : Option ℕ) (result : Result Moved ArriveStop) → IsRight layout
+    → HoldsCode layout (image_of layout old.flash.words) old.flash.words → CameThrough layout old.flash.words stub t
+    → Arrives layout old new t stub result → Kept layout stub old new
 arrival_kept layout old new t stub result right code from =
     arrival_by (Kept layout stub old) layout old new t stub result (kept_same layout stub old code) (λ place making places. kept_finished layout old (all_done old making) t place stub right from (has_place layout old t place making right code places))
 
 -- a faithful pool stays faithful
-faithful_finished : (layout : Layout) (old mid : Store) (t place : ℕ) (stub : Option ℕ) → IsRight layout → CameThrough layout old.flash.words stub t → HasPlace layout old mid t place → IsFaithful layout (image_of layout old.flash.words) mid.flash.words → IsFaithful layout (image_of layout old.flash.words) (finished mid t stub place).flash.words
+faithful_finished : (layout : Layout) (old mid : Store) (t place : ℕ) (stub : Option ℕ) → IsRight layout → CameThrough layout old.flash.words stub t
+    → HasPlace layout old mid t place → IsFaithful layout (image_of layout old.flash.words) mid.flash.words
+    → IsFaithful layout (image_of layout old.flash.words) (finished mid t stub place).flash.words
 faithful_finished layout old mid t place None right from has faithful = faithful
 faithful_finished layout old mid t place (Some s) right from has faithful =
     relinked_faithful layout (image_of layout old.flash.words) mid.flash.words s t jump_word place right faithful (has.stubs s t from).link (jump_links layout mid.flash.words t place has.entry)
 
-faithful_placed : (layout : Layout) (store : Store) (t place : ℕ) (making : List Effect) → IsRight layout → IsFaithful layout (image_of layout store.flash.words) store.flash.words → Places layout store t place making → IsFaithful layout (image_of layout store.flash.words) (all_done store making).flash.words
+faithful_placed : (layout : Layout) (store : Store) (t place : ℕ) (making : List Effect) → IsRight layout
+    → IsFaithful layout (image_of layout store.flash.words) store.flash.words → Places layout store t place making
+    → IsFaithful layout (image_of layout store.flash.words) (all_done store making).flash.words
 faithful_placed layout store t place making right faithful (Known known) =
     subst (λ es. IsFaithful layout (image_of layout store.flash.words) (all_done store es).flash.words) (sym known.nothing) faithful
 faithful_placed layout store t place making right faithful (Made now) =
     makes_faithful layout (image_of layout store.flash.words) store.flash.words (all_done store making).flash.words now.made.page t place right faithful now.made.free now.made.makes
 
-pub arrival_faithful : (layout : Layout) (old new : Store) (t : ℕ) (stub : Option ℕ) (result : Result Moved ArriveStop) → IsRight layout → IsFaithful layout (image_of layout old.flash.words) old.flash.words → CameThrough layout old.flash.words stub t → Arrives layout old new t stub result → IsFaithful layout (image_of layout new.flash.words) new.flash.words
+pub arrival_faithful : (layout : Layout) (old new : Store) (t : ℕ) (stub : Option ℕ) (result : Result Moved ArriveStop) → IsRight layout
+    → IsFaithful layout (image_of layout old.flash.words) old.flash.words → CameThrough layout old.flash.words stub t
+    → Arrives layout old new t stub result → IsFaithful layout (image_of layout new.flash.words) new.flash.words
 arrival_faithful layout old new t stub result right faithful from arrives =
     let image = image_of layout old.flash.words in
     let kept = arrival_kept layout old new t stub result right faithful.code from arrives in
-    let same : IsFaithful layout image new.flash.words = arrival_by (λ store. IsFaithful layout image store.flash.words) layout old new t stub result faithful (λ place making places. faithful_finished layout old (all_done old making) t place stub right from (has_place layout old t place making right faithful.code places) (faithful_placed layout old t place making right faithful places)) arrives in
+    let same : IsFaithful layout image new.flash.words = arrival_by
+    (λ store. IsFaithful layout image store.flash.words) layout old new t stub result faithful
+    (λ place making places. faithful_finished layout old (all_done old making) t place stub right from
+    (has_place layout old t place making right faithful.code places) (faithful_placed layout old t place making right faithful places)) arrives in
     subst (λ i. IsFaithful layout i new.flash.words) (sym kept.image) same
 
 -- right tables stay right
@@ -160,14 +172,18 @@ noted_right layout old mid t place long has tables =
     let noted_here = noted_tables layout old.sram mid.flash.words t place long has.entry here in
     subst (λ m. IsTables layout (noted m t place) mid.flash.words) (sym has.sram) noted_here
 
-tables_finished : (layout : Layout) (old mid : Store) (t place : ℕ) (stub : Option ℕ) → IsRight layout → CameThrough layout old.flash.words stub t → HasPlace layout old mid t place → IsTables layout (noted mid.sram t place) mid.flash.words → IsTables layout (finished mid t stub place).sram (finished mid t stub place).flash.words
+tables_finished : (layout : Layout) (old mid : Store) (t place : ℕ) (stub : Option ℕ) → IsRight layout → CameThrough layout old.flash.words stub t
+    → HasPlace layout old mid t place → IsTables layout (noted mid.sram t place) mid.flash.words
+    → IsTables layout (finished mid t stub place).sram (finished mid t stub place).flash.words
 tables_finished layout old mid t place None right from has tables = tables
 tables_finished layout old mid t place (Some s) right from has tables =
     let stays = relinked layout (image_of layout old.flash.words) mid.flash.words s t place right has.code (has.stubs s t from) has.entry in
     let sram = noted mid.sram t place in
     tables_kept layout sram sram mid.flash.words (with_two_words mid.flash.words s jump_word place) (λ a from' to. refl) (λ a v. (stays.entries a v).0) tables
 
-pub arrival_tables : (layout : Layout) (old new : Store) (t : ℕ) (stub : Option ℕ) (result : Result Moved ArriveStop) → IsRight layout → HoldsCode layout (image_of layout old.flash.words) old.flash.words → CameThrough layout old.flash.words stub t → length old.sram ≡ byte_count → Arrives layout old new t stub result → IsTables layout old.sram old.flash.words → IsTables layout new.sram new.flash.words
+pub arrival_tables : (layout : Layout) (old new : Store) (t : ℕ) (stub : Option ℕ) (result : Result Moved ArriveStop) → IsRight layout
+    → HoldsCode layout (image_of layout old.flash.words) old.flash.words → CameThrough layout old.flash.words stub t → length old.sram ≡ byte_count
+    → Arrives layout old new t stub result → IsTables layout old.sram old.flash.words → IsTables layout new.sram new.flash.words
 arrival_tables layout old new t stub result right code from long arrives tables =
     arrival_by (λ store. IsTables layout store.sram store.flash.words) layout old new t stub result tables (λ place making places.
     let has = has_place layout old t place making right code places in

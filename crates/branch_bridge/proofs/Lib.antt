@@ -5,4 +5,3 @@ pub mod KeptLaws
 pub mod AnswerLaws
 pub mod CountLaws
 pub mod ReachLaws
-mod WorkedPage

@@ -6,7 +6,8 @@ use Rattle.flash_model.specs.declared.layout.Layout.{Layout}
 use Rattle.nat_template.specs.Stubs.{words_of}
 use Rattle.page_index.specs.Entries.{IsEntry}
 use Rattle.nat_page.specs.CodePages.{page_pieces}
-use Rattle.nat_page.specs.Making.{image_of, HasNoEntry, Naturalises, filled}
+use Rattle.nat_page.specs.Making.{HasNoEntry, Naturalises, filled}
+use Rattle.flash_model.specs.Layouts.{image_of}
 use Rattle.addr_tables.specs.Tables.{IsTables}
 use Rattle.addr_tables.specs.Hits.{hit}
 use Rattle.addr_tables.specs.Changes.{noted, Finds}
@@ -36,7 +37,10 @@ arrives_known layout old new t place inside entry after = record {
 }
 
 -- one that makes a page, from what its making changes
-pub arrives_made : (layout : Layout) (flash flash' : Memory) (sram sram' : List ℕ) (t place : ℕ) → t < layout.image_words → HasNoEntry layout flash.words t → Naturalises layout (image_of layout flash.words) flash.words flash'.words t place → flash'.erases ≡ flash.erases → sram' ≡ noted sram t place → Arrives layout (record { flash = flash; sram = sram }) (record { flash = flash'; sram = sram' }) t None (Ok (record { place = place; made = true }))
+pub arrives_made : (layout : Layout) (flash flash' : Memory) (sram sram' : List ℕ) (t place : ℕ) → t < layout.image_words
+    → HasNoEntry layout flash.words t → Naturalises layout (image_of layout flash.words) flash.words flash'.words t place
+    → flash'.erases ≡ flash.erases → sram' ≡ noted sram t place
+    → Arrives layout (record { flash = flash; sram = sram }) (record { flash = flash'; sram = sram' }) t None (Ok (record { place = place; made = true }))
 arrives_made layout flash flash' sram sram' t place inside unknown made erases noted_there =
     let image = image_of layout flash.words in
     let words = filled (words_of (page_pieces image t made.makes.last)) in
@@ -110,7 +114,9 @@ pub then_resolved : (layout : Layout) (old new : Store) (t s : ℕ) (to : Moved)
 then_resolved layout old new t s to arrives = with_resolving layout old new t s to arrives.effects arrives.after arrives.plan
 
 -- where a search answered a place
-pub reach_found : (layout : Layout) (flash : Memory) (sram sram' : List ℕ) (t place : ℕ) → t < layout.image_words → Finds layout flash.words sram sram' t (Some place) → Reaches layout (record { flash = flash; sram = sram }) (record { flash = flash; sram = sram' }) t (Ok (record { place = place; made = false }))
+pub reach_found : (layout : Layout) (flash : Memory) (sram sram' : List ℕ) (t place : ℕ) → t < layout.image_words
+    → Finds layout flash.words sram sram' t (Some place)
+    → Reaches layout (record { flash = flash; sram = sram }) (record { flash = flash; sram = sram' }) t (Ok (record { place = place; made = false }))
 reach_found layout flash sram sram' t place inside (Finds.Hit p found answer after) =
     let store : List ℕ → Store = λ m. record { flash = flash; sram = m } in
     let is : place ≡ p = cc in

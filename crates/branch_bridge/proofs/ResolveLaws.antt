@@ -2,16 +2,15 @@
 use Rattle.std.proofs.Common.{◌≡◌, ◌≢◌, ℕ, ◌+◌, ◌*◌, ◌≤◌, List, length, arith, refl, sym, ap, ◌∙◌, inr}
 use Rattle.std.specs.Prelude.{◌↔◌}
 use Rattle.flash_model.specs.Pages.{page_words, word_at, page_of, set_page, blank}
-use Rattle.flash_model.specs.Layouts.{IsRight}
+use Rattle.flash_model.specs.Layouts.{IsRight, image_of}
 use Rattle.flash_model.specs.declared.layout.Layout.{Layout}
-use Rattle.flash_model.proofs.LoadedLaws.{length-many}
+use Rattle.list_parts.proofs.ManyLaws.{length-many}
 use Rattle.flash_model.proofs.PageLaws.{page_same, set_page_twice}
 use Rattle.nat_template.specs.Stubs.{call_word, bridge_entry}
 use Rattle.page_index.specs.Entries.{IsEntry}
 use Rattle.nat_page.specs.Standing.{IsLink, jump_word}
 use Rattle.nat_page.specs.Links.{IsLinkIn, IsUnresolved, with_two_words}
 use Rattle.nat_page.specs.Faithful.{HoldsCode}
-use Rattle.nat_page.specs.Making.{image_of}
 use Rattle.nat_page.specs.Used.{used_pages}
 use Rattle.nat_page.proofs.TwoWords.{word_beside_two}
 use Rattle.nat_page.proofs.RelinkLaws.{relinked_code, relinked_entries, relinked_entries_back, relinked_links, relinked_image}
@@ -35,7 +34,9 @@ stubs_apart words s b bridge call is =
     omega (arith, same)
 
 -- each other stub stays as it is
-pub unresolved_beside : (layout : Layout) (image words : List ℕ) (s t place b to : ℕ) → IsRight layout → HoldsCode layout image words → IsUnresolved layout image words s t → IsEntry layout words t place → b ≢ s → IsUnresolved layout image words b to → IsUnresolved layout image (with_two_words words s jump_word place) b to
+pub unresolved_beside : (layout : Layout) (image words : List ℕ) (s t place b to : ℕ) → IsRight layout → HoldsCode layout image words
+    → IsUnresolved layout image words s t → IsEntry layout words t place → b ≢ s → IsUnresolved layout image words b to
+    → IsUnresolved layout image (with_two_words words s jump_word place) b to
 unresolved_beside layout image words s t place b to right code stub entry apart other =
     let behind = stubs_apart words s b stub.bridge other.call in
     let before = stubs_apart words b s other.bridge stub.call in

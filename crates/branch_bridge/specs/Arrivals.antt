@@ -3,11 +3,10 @@
 -- after is what the effects leave. t is the address, and `stub` the stub through which control came, if any.
 use Rattle.std.specs.Prelude.{◌≡◌, ℕ, ◌<◌, ◌≤◌, false, List, [], ◌∷◌, ◌++◌, Option, Some, None, IfSome, Result, Ok, Err}
 use Rattle.flash_model.specs.declared.layout.Layout.{Layout}
-use Rattle.nat_template.specs.Stubs.{words_of}
 use Rattle.page_index.specs.Entries.{IsEntry}
-use Rattle.nat_page.specs.CodePages.{page_pieces}
 use Rattle.nat_page.specs.Links.{IsUnresolved}
-use Rattle.nat_page.specs.Making.{image_of, HasNoEntry, HasNoFree, Naturalises, filled}
+use Rattle.nat_page.specs.Making.{HasNoEntry, HasNoFree, Naturalises, made_words}
+use Rattle.flash_model.specs.Layouts.{image_of}
 use Rattle.addr_tables.specs.Hits.{hit}
 use Rattle.branch_bridge.specs.declared.arrival.ArriveStop.{ArriveStop}
 use Rattle.branch_bridge.specs.declared.arrival.ArriveStop.TheVariants.{Wild, CodeFull}
@@ -45,7 +44,7 @@ pub record IsKnown (layout : Layout) (store : Store) (t place : ℕ) (effects : 
 pub record IsMadeNow (layout : Layout) (store : Store) (t place : ℕ) (effects : List Effect) : Type 0 where
   pub unknown : HasNoEntry layout store.flash.words t
   pub made : Naturalises layout (image_of layout store.flash.words) store.flash.words (all_done store effects).flash.words t place
-  pub making : effects ≡ Make made.page (filled (words_of (page_pieces (image_of layout store.flash.words) t made.makes.last))) ∷ []
+  pub making : effects ≡ Make made.page (made_words (image_of layout store.flash.words) t made.makes.last) ∷ []
 
 -- t's place, and what has to be made for it
 pub data Places (layout : Layout) (store : Store) (t place : ℕ) (effects : List Effect) : Type 0 where

@@ -2,3 +2,4 @@
 pub mod Resolving
 pub mod Effects
 pub mod Arrivals
+pub mod PageChanges

@@ -1,12 +1,12 @@
 //! One arrival.
 
 ghost use Rattle.std.specs.Prelude.{◌≡◌, ◌≢◌, ◌+◌, ◌<◌, ◌≤◌, ◌↔◌, ℕ, if◌then◌else◌, Some as Just, None as Nothing, Ok as Gives, IfOk, OnErr, IsErrOf, IsTrue};
-ghost use Rattle.flash_model.specs.Layouts.{IsRight};
+ghost use Rattle.flash_model.specs.Layouts.{IsRight, image_of};
 ghost use Rattle.page_index.specs.Entries.{IsEntry};
 ghost use Rattle.nat_page.specs.Faithful.{IsFaithful};
 ghost use Rattle.nat_page.specs.Links.{IsUnresolved};
 ghost use Rattle.nat_page.specs.Used.{used_pages};
-ghost use Rattle.nat_page.specs.Making.{image_of, HasNoEntry};
+ghost use Rattle.nat_page.specs.Making.{HasNoEntry};
 ghost use Rattle.addr_tables.specs.Tables.{IsTables};
 ghost use Rattle.addr_tables.specs.Hits.{hit};
 ghost use Rattle.addr_tables.specs.Changes.{noted, KeepsRest};

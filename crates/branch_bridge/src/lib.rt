@@ -23,6 +23,3 @@ mod resolving;
 
 pub use arrival::{ArriveStop, Moved, arrive, arrive_from};
 pub use resolving::resolve;
-
-#[cfg(test)]
-mod tests;

@@ -2,13 +2,12 @@
 
 ghost use Rattle.std.specs.Prelude.{◌≡◌, ◌≢◌, ℕ, ◌+◌, ◌*◌, ◌/◌, ◌%◌, ◌<◌, ◌≤◌, ◌↔◌, slice_index, slice_set, length};
 ghost use Rattle.flash_model.specs.Pages.{page_of, set_page, raised};
-ghost use Rattle.flash_model.specs.Layouts.{IsRight};
+ghost use Rattle.flash_model.specs.Layouts.{IsRight, image_of};
 ghost use Rattle.page_index.specs.Entries.{IsEntry};
 ghost use Rattle.nat_page.specs.Standing.{jump_word};
 ghost use Rattle.nat_page.specs.Faithful.{IsFaithful};
 ghost use Rattle.nat_page.specs.Links.{IsLinkIn, IsUnresolved, with_two_words};
 ghost use Rattle.nat_page.specs.Used.{used_pages};
-ghost use Rattle.nat_page.specs.Making.{image_of};
 ghost use Rattle.branch_bridge.specs.Resolving.{CanResolve, resolved as resolved_of};
 
 use flash_model::{Flash, Layout};

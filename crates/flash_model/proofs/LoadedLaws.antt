@@ -1,18 +1,12 @@
 -- What a new flash holds.
-use Rattle.std.proofs.Common.{◌≡◌, ℕ, ◌+◌, ◌-◌, ◌*◌, ◌<◌, ◌≤◌, List, ◌++◌, length, get_or, take, arith, ap, ◌∙◌, sym, refl}
-use Rattle.std.proofs.lemmas.List.{length-replicate, get_or-replicate, length-append, get_or_append_left, get_or-append_right, append_assoc, take_at}
+use Rattle.std.proofs.Common.{◌≡◌, ℕ, ◌+◌, ◌-◌, ◌*◌, ◌<◌, ◌≤◌, List, ◌++◌, length, take, arith, ap, ◌∙◌, sym, refl}
+use Rattle.std.proofs.lemmas.List.{length-append, get_or_append_left, get_or-append_right, append_assoc, take_at}
 use Rattle.std.proofs.lemmas.Grind.{same_number_lists}
-use Rattle.flash_model.specs.Pages.{word_count, page_words, many, word_at, page_of, blank}
+use Rattle.flash_model.specs.Pages.{word_count, page_words, word_at, page_of, blank}
+use Rattle.list_parts.specs.Lists.{many}
 use Rattle.flash_model.specs.Memory.{kernel_first, loaded}
 use Rattle.flash_model.proofs.PageLaws.{page_word, length-page_of}
-
-pub length-many : (n w : ℕ) → length (many n w) ≡ n
-unfolding many
-length-many n w = length-replicate n w
-
-pub get_or-many : (n w k : ℕ) → k < n → get_or (many n w) k 0 ≡ w
-unfolding many
-get_or-many n w k below = get_or-replicate n k w 0 below
+use Rattle.list_parts.proofs.ManyLaws.{length-many, get_or-many}
 
 pub length-loaded : (image : List ℕ) → length image ≤ kernel_first → length (loaded image) ≡ word_count
 unfolding loaded

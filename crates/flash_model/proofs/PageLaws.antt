@@ -4,7 +4,7 @@ use Rattle.std.specs.Prelude.{◌≢◌, slice_index}
 use Rattle.std.proofs.lemmas.Grind.{same_number_lists}
 use Rattle.std.proofs.lemmas.Bool.{cases_lt}
 use Rattle.flash_model.specs.Pages.{page_words, word_at, page_of, set_page}
-use Rattle.flash_model.proofs.Pieces.{length-replaced, replaced_in, replaced_below, replaced_above, front_replaced, replaced_twice, part_replaced, same_part, part_item, length-part}
+use Rattle.list_parts.proofs.Pieces.{length-replaced, replaced_in, replaced_below, replaced_above, front_replaced, replaced_twice, part_replaced, same_part, part_item, length-part}
 
 -- the length stays
 pub length-set_page : (words new : List ℕ) (page : ℕ) → length new ≡ page_words → page_words * page + page_words ≤ length words → length (set_page words page new) ≡ length words
@@ -63,7 +63,9 @@ unfolding page_of
 length-page_of words page inside = length-part (page_words * page) page_words words inside
 
 -- pages whose words agree
-pub page_alike : (words words' : List ℕ) (page page' : ℕ) → ((k : ℕ) → k < page_words → word_at words (page_words * page + k) ≡ word_at words' (page_words * page' + k)) → page_words * page + page_words ≤ length words → page_words * page' + page_words ≤ length words' → page_of words page ≡ page_of words' page'
+pub page_alike : (words words' : List ℕ) (page page' : ℕ)
+    → ((k : ℕ) → k < page_words → word_at words (page_words * page + k) ≡ word_at words' (page_words * page' + k))
+    → page_words * page + page_words ≤ length words → page_words * page' + page_words ≤ length words' → page_of words page ≡ page_of words' page'
 page_alike words words' page page' alike inside inside' =
     let long = length-page_of words page inside in
     let long' = length-page_of words' page' inside' in

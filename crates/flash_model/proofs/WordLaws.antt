@@ -1,12 +1,13 @@
 -- What leaves each word of flash within 16 bits.
 use Rattle.std.proofs.Common.{◌≡◌, ℕ, ◌+◌, ◌-◌, ◌*◌, ◌<◌, ◌≤◌, List, ◌++◌, length, take, arith, refl, inl, inr, ◌∙◌}
-use Rattle.std.specs.Prelude.{slice_index_or}
 use Rattle.std.proofs.lemmas.List.{get_or_append_left, get_or-append_right, get_or_past, get_or_default, get_or-take, length-take}
 use Rattle.std.proofs.lemmas.Bool.{cases_lt}
-use Rattle.flash_model.specs.Pages.{word_count, page_words, many, set_page, blank}
+use Rattle.avr_isa.specs.Image.{word}
+use Rattle.flash_model.specs.Pages.{word_count, page_words, set_page, blank}
+use Rattle.list_parts.specs.Lists.{many}
 use Rattle.flash_model.specs.Memory.{AreWords, kernel_first, loaded}
 use Rattle.flash_model.proofs.PageLaws.{word_in_page, word_out_of_page}
-use Rattle.flash_model.proofs.LoadedLaws.{get_or-many, length-many}
+use Rattle.list_parts.proofs.ManyLaws.{get_or-many, length-many}
 
 below : (n m : ℕ) → n ≡ m → m < 65536 → n < 65536
 below n m same fits = omega arith
@@ -49,7 +50,7 @@ loaded_fits image fit =
     append_fits (image ++ gap) kernel (append_fits image gap fit (many_fits (kernel_first - length image) 0xFFFF (omega arith))) (many_fits (word_count - kernel_first) 0x9508 (omega arith))
 
 -- the first n words, with 0xFFFF behind them
-pub front_fits : (words : List ℕ) (n a : ℕ) → AreWords words → slice_index_or (take n words) a 0xFFFF < 65536
+pub front_fits : (words : List ℕ) (n a : ℕ) → AreWords words → word (take n words) a < 65536
 front_fits words n a fit = elim (cases_lt a (length (take n words))) [
   | inl inside ↦ below _ _ (get_or_default (take n words) a 0xFFFF 0 inside ∙ get_or-take n words a 0 (omega (arith, length-take n words))) (fit a)
   | inr behind ↦ below _ 0xFFFF (get_or_past (take n words) a 0xFFFF behind) (omega arith)

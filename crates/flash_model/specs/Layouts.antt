@@ -1,5 +1,5 @@
 -- How flash is divided between the image, the code pool and the kernel.
-use Rattle.std.specs.Prelude.{◌+◌, ◌*◌, ◌≤◌}
+use Rattle.std.specs.Prelude.{ℕ, ◌+◌, ◌*◌, ◌≤◌, List, take}
 use Rattle.flash_model.specs.Pages.{page_words}
 use Rattle.flash_model.specs.declared.layout.Layout.{Layout}
 
@@ -10,3 +10,7 @@ pub record IsRight (layout : Layout) : Type 0 where
   pub pool_first : 128 ≤ layout.pool_first
   pub pool_pages : 1 ≤ layout.pool_pages
   pub pool_below_kernel : layout.pool_first + layout.pool_pages ≤ 480
+
+-- the words of the image, among those of flash
+abbrev pub image_of : Layout → List ℕ → List ℕ
+image_of layout words = take layout.image_words words

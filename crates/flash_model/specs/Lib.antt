@@ -1,3 +1,4 @@
 pub mod Pages
 pub mod Memory
 pub mod Layouts
+pub mod Code

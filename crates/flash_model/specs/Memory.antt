@@ -1,6 +1,7 @@
 -- The flash as contracts see it, and as it is first.
 use Rattle.std.specs.Prelude.{◌≡◌, ℕ, ◌-◌, ◌<◌, List, ◌++◌, length}
-use Rattle.flash_model.specs.Pages.{word_count, page_count, many, word_at}
+use Rattle.flash_model.specs.Pages.{word_count, page_count, word_at}
+use Rattle.list_parts.specs.Lists.{many}
 
 -- the words from address 0 on, and how often each page was erased
 pub record Memory : Type 0 where

@@ -1,6 +1,7 @@
 -- Program memory as a list of words in pages, and what a page holds after an operation on it
 -- (ATmega128 datasheet, "Boot Loader Support", "Self-Programming the Flash": the flash is erased and programmed page by page).
-use Rattle.std.specs.Prelude.{ℕ, ◌+◌, ◌-◌, ◌*◌, ◌^◌, min, List, [], ◌∷◌, ◌++◌, take, drop, slice_index, replicate, bit_and}
+use Rattle.std.specs.Prelude.{ℕ, ◌+◌, ◌-◌, ◌*◌, ◌^◌, min, List, [], ◌∷◌, ◌++◌, take, drop, slice_index, bit_and}
+pub use Rattle.list_parts.specs.Lists.{many}
 
 -- how many words, pages, and words of a page there are
 abbrev pub word_count : ℕ
@@ -11,10 +12,6 @@ page_count = 512
 
 abbrev pub page_words : ℕ
 page_words = 128
-
--- n words that are all w
-unfoldable pub many : ℕ → ℕ → List ℕ
-many n w = replicate n w
 
 -- the word at word address a
 abbrev pub word_at : List ℕ → ℕ → ℕ

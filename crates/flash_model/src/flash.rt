@@ -1,46 +1,33 @@
-//! Flash: its words, and the operations on its pages.
+//! Flash: its words, and what is decoded of them.
 
-ghost use Rattle.std.specs.Prelude.{◌≡◌, ◌+◌, ◌-◌, ◌*◌, ◌≤◌, ◌<◌, ◌++◌, length, OnOk, OnErr, IfOk, slice_index, slice_set};
-ghost use Rattle.flash_model.specs.Pages.{word_count, page_count, page_words, many, word_at, page_of, set_page, blank, programmed, raised};
-ghost use Rattle.flash_model.specs.Memory.{AreWords, IsWhole, loaded};
+ghost use Rattle.std.specs.Prelude.{◌≡◌, ◌≤◌, ◌<◌, length, IfOk, slice_index, slice_set};
+ghost use Rattle.flash_model.specs.Pages.{word_count, page_count, many, word_at, page_of, set_page, blank, programmed, raised};
+ghost use Rattle.flash_model.specs.Memory.{IsWhole, loaded};
+ghost use Rattle.flash_model.specs.Code.{decoded_at, IsDecoded, IsDecodedOutside, IsDecodedBeside};
 
+use crate::cells::{Cells, PAGE_WORDS, WORDS};
+use crate::decoded::Decoded;
 use std::alloc::Global;
 use std::marker::Model;
 use tk_io::NoMemory;
 
-/// The words of flash.
-const WORDS: usize = 65536;
-
-/// The pages of flash.
-const PAGES: usize = 512;
-
-/// The words of a page.
-const PAGE_WORDS: usize = 128;
-
-/// The first word of the kernel's pages.
-const KERNEL_FIRST: usize = 0xF000;
-
-/// An erased word.
-const BLANK: u16 = 0xFFFF;
-
-/// RET, the word in each place of the kernel's pages.
-const RET: u16 = 0x9508;
-
 /// The program memory, by word addresses.
 #[derive(Debug, Drop)]
 pub struct Flash {
-    words: Vec<u16>,
-    erases: Vec<u32>,
+    cells: Cells,
+    /// What is decoded at each word address.
+    code: Vec<Decoded>,
 }
 
 impl Model for Flash {
     ghost use Rattle.flash_model.specs.Memory.{Memory, IsWhole};
+    ghost use Rattle.flash_model.specs.Code.{IsDecoded};
 
     ghost Value = { Memory };
 
-    ghost view = { λ f. record { words = f.words.items; erases = f.erases.items } };
+    ghost view = { λ f. f.cells };
 
-    ghost invariant = { λ f. IsWhole (record { words = f.words.items; erases = f.erases.items }) };
+    ghost invariant = { λ f. IsWhole f.cells × IsDecoded f.cells.words f.code.items };
 }
 
 impl Flash {
@@ -51,9 +38,10 @@ impl Flash {
         ensures erases { IfOk result (λ flash. flash.erases ≡ many page_count 0) }
         ensures whole { IfOk result IsWhole }
     {
-        let words = loaded_words(alloc, image)?;
-        let erases = no_erases(alloc)?;
-        Ok(Flash { words, erases })
+        let cells = Cells::new(alloc, image)?;
+        let mut code = no_code(alloc)?;
+        renew(&cells, &mut code, 0, WORDS);
+        Ok(Flash { cells, code })
     }
 
     /// The word at a word address.
@@ -61,25 +49,31 @@ impl Flash {
         ensures value { result ≡ word_at self.now.words a }
         ensures whole { IsWhole self.now }
     {
-        self.words[a as usize]
+        self.cells.word(a)
+    }
+
+    /// What is decoded at a word address: the instruction that its word begins, with the word behind it;
+    /// behind the last word comes the first.
+    pub fn decoded(&self, a: u16) -> &Decoded
+        ensures value { result.now ≡ decoded_at self.now.words a }
+        ensures range { (1 ≤ result.now.next_size) × (result.now.next_size ≤ 2) }
+        ensures whole { IsWhole self.now }
+    {
+        &self.code[a as usize]
     }
 
     /// Makes each word of the page 0xFFFF.
-    #[tactic(auto, unfolding(crate::specs::Pages::set_page))]
     pub fn erase(&mut self, page: u16)
         requires { page < page_count }
         ensures words { self.new.words ≡ set_page self.old.words page blank }
         ensures erases { self.new.erases ≡ slice_set self.old.erases page (raised (slice_index self.old.erases page)) }
         ensures whole { IsWhole self.old × IsWhole self.new }
     {
-        let first = PAGE_WORDS * page as usize;
-        self.words[first..first + PAGE_WORDS].copy_from_slice(&erased());
-        let count = self.erases[page as usize];
-        self.erases[page as usize] = count.saturating_add(1);
+        self.cells.erase(page);
+        renew_page(&self.cells, &mut self.code, page);
     }
 
     /// Clears in each word of the page the bits that the word to be programmed has clear.
-    #[tactic(auto, unfolding(crate::specs::Pages::set_page, crate::specs::Pages::page_of))]
     pub fn program(&mut self, page: u16, words: &[u16; 128])
         requires { page < page_count }
         ensures words { self.new.words ≡ set_page self.old.words page (programmed (page_of self.old.words page) words.now) }
@@ -88,8 +82,8 @@ impl Flash {
         ensures erases { self.new.erases ≡ self.old.erases }
         ensures whole { IsWhole self.old × IsWhole self.new }
     {
-        let first = PAGE_WORDS * page as usize;
-        clear_bits(&mut self.words[first..first + PAGE_WORDS], words);
+        self.cells.program(page, words);
+        renew_page(&self.cells, &mut self.code, page);
     }
 
     /// How often the page was erased, 4,294,967,295 for this many times or more.
@@ -98,59 +92,47 @@ impl Flash {
         ensures value { result ≡ slice_index self.now.erases page }
         ensures whole { IsWhole self.now }
     {
-        self.erases[page as usize]
+        self.cells.erases(page)
     }
 }
 
-/// The words of a flash that holds the image and the kernel.
-#[tactic(auto, unfolding(crate::specs::Memory::loaded))]
-fn loaded_words(alloc: Global, image: &[u16]) -> Result<Vec<u16>, NoMemory>
-    requires { length image.now ≤ 16384 }
-    ensures value { IfOk result (λ words. words.items ≡ loaded image.now) }
-    ensures size { IfOk result (λ words. length words.items ≡ word_count) }
-    ensures fit { IfOk result (λ words. AreWords words.items) }
+/// For each word address, what two words of 0 are decoded to.
+fn no_code(alloc: Global) -> Result<Vec<Decoded>, NoMemory>
+    ensures size { IfOk result (λ code. length code.items ≡ word_count) }
 {
-    let mut words = Vec::with_capacity(alloc, WORDS).map_err(|_| NoMemory)?;
-    words.extend_from_slice(image).map_err(|_| NoMemory)?;
-    fill_up(&mut words, KERNEL_FIRST, BLANK)?;
-    fill_up(&mut words, WORDS, RET)?;
-    Ok(words)
+    let mut code = Vec::new(alloc);
+    code.resize(WORDS, Decoded::new(0, 0))
+        .map_err(|_| NoMemory)?;
+    Ok(code)
 }
 
-/// Adds copies of a word until there are `n` words.
-#[tactic(auto, unfolding(crate::specs::Pages::many))]
-fn fill_up(words: &mut Vec<u16>, n: usize, word: u16) -> Result<(), NoMemory>
-    requires { length words.old.items ≤ n }
-    ensures value { OnOk result (words.new.items ≡ words.old.items ++ many (n - length words.old.items) word) }
-    ensures size { OnOk result (length words.new.items ≡ n) }
+/// Decodes anew at one word address.
+fn renew_at(cells: &Cells, code: &mut Vec<Decoded>, a: u16)
+    requires size { length code.old.items ≡ word_count }
+    ensures code { code.new.items ≡ slice_set code.old.items a (decoded_at cells.now.words a) }
 {
-    words.resize(n, word).map_err(|_| NoMemory)
+    code[a as usize] = Decoded::new(cells.word(a), cells.word(a.wrapping_add(1)));
 }
 
-/// The counts of erases of a flash that is new.
-#[tactic(auto, unfolding(crate::specs::Pages::many))]
-fn no_erases(alloc: Global) -> Result<Vec<u32>, NoMemory>
-    ensures value { IfOk result (λ erases. erases.items ≡ many page_count 0) }
-    ensures size { IfOk result (λ erases. length erases.items ≡ page_count) }
+/// Decodes anew at the word addresses from one on up to another.
+fn renew(cells: &Cells, code: &mut Vec<Decoded>, from: usize, to: usize)
+    requires order { from ≤ to }
+    requires end { to ≤ word_count }
+    requires outside { IsDecodedOutside cells.now.words code.old.items from to }
+    ensures decoded { IsDecoded cells.now.words code.new.items }
 {
-    let mut erases = Vec::new(alloc);
-    erases.resize(PAGES, 0).map_err(|_| NoMemory)?;
-    Ok(erases)
-}
-
-#[tactic(auto, unfolding(crate::specs::Pages::blank, crate::specs::Pages::many))]
-fn erased() -> [u16; 128]
-    ensures value { result ≡ blank }
-{
-    [BLANK; 128]
-}
-
-fn clear_bits(page: &mut [u16], words: &[u16; 128])
-    requires { length page.old ≡ page_words }
-    ensures value { page.new ≡ programmed page.old words.now }
-    ensures fresh { page.old ≡ blank → page.new ≡ words.now }
-{
-    for (i, word) in page.iter_mut().enumerate() {
-        *word &= words[i];
+    'renew: for a in from..to {
+        renew_at(cells, code, a as u16);
     }
+}
+
+/// Decodes anew wherever a word of the page is read for it: at its words, and at the one before.
+fn renew_page(cells: &Cells, code: &mut Vec<Decoded>, page: u16)
+    requires page { page < page_count }
+    requires beside { IsDecodedBeside cells.now.words code.old.items page }
+    ensures decoded { IsDecoded cells.now.words code.new.items }
+{
+    let first = PAGE_WORDS * page as usize;
+    renew_at(cells, code, (first as u16).wrapping_sub(1));
+    renew(cells, code, first, first + PAGE_WORDS);
 }

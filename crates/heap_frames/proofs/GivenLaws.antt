@@ -6,7 +6,7 @@ use Rattle.sram_layout.specs.Bytes.{byte_at, block_at}
 use Rattle.sram_layout.specs.Cells.{frame_cell, victim_cell, slot_cell}
 use Rattle.sram_layout.proofs.Laws.{block_alike}
 use Rattle.heap_frames.specs.Addresses.{is_heap_page}
-use Rattle.heap_frames.specs.Frames.{clean, dirty, frame_bytes, page_held, state_of, is_occupied, holds, frame_of, seats, victim, given, slot_of, has_slot}
+use Rattle.heap_frames.specs.Frames.{clean, dirty, frame_bytes, page_held, state_of, is_occupied, holds, frame_of, resident_pages, victim, given, slot_of, has_slot}
 use Rattle.heap_frames.specs.Memory.{heap_byte}
 use Rattle.heap_frames.specs.Paged.{IsPaged}
 use Rattle.heap_frames.specs.Paging.{written_back, with_slot_given}
@@ -67,9 +67,9 @@ give_has {m} {w} {page} g = slot_held (with_slot_given m page) page (λ same. om
 pub give_frame : {m : List ℕ} {w : List (List ℕ)} {page : ℕ} (q : ℕ) → Gives m w page → frame_of (with_slot_given m page) q ≡ frame_of m q
 give_frame {m} {w} {page} q g = same_frame m (with_slot_given m page) q (λ i inside. same_holds m (with_slot_given m page) q i (give_held i g inside) (give_state i g inside))
 
-pub give_seats : {m : List ℕ} {w : List (List ℕ)} {page : ℕ} → Gives m w page → seats (with_slot_given m page) ≡ seats m
-unfolding seats
-give_seats {m} {w} {page} g =
+pub give_resident_pages : {m : List ℕ} {w : List (List ℕ)} {page : ℕ} → Gives m w page → resident_pages (with_slot_given m page) ≡ resident_pages m
+unfolding resident_pages
+give_resident_pages {m} {w} {page} g =
     let n = with_slot_given m page in
     table_same 8 (λ j. if is_occupied n j then Some (page_held n j) else None) (λ j. if is_occupied m j then Some (page_held m j) else None) (λ j inside.
     ap₂ (λ (occupied : Bool) (held : ℕ). if occupied then Some held else None) (same_occupied m n j (give_state j g inside)) (give_held j g inside))

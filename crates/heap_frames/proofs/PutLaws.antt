@@ -3,7 +3,7 @@ use Rattle.std.proofs.Common.{◌≡◌, ℕ, ◌+◌, ◌<◌, List, arith, ap,
 use Rattle.std.specs.Prelude.{◌≢◌, Bool, true, ◌&&◌, ◌==◌, Option, Some, None, if◌then◌else◌}
 use Rattle.std.proofs.lemmas.Bool.{cases_eq}
 use Rattle.sram_layout.specs.Cells.{frame_cell, victim_cell, given_cell, slot_cell}
-use Rattle.heap_frames.specs.Frames.{dirty, frame_bytes, page_held, is_occupied, holds, frame_of, seats, victim}
+use Rattle.heap_frames.specs.Frames.{dirty, frame_bytes, page_held, is_occupied, holds, frame_of, resident_pages, victim}
 use Rattle.heap_frames.specs.Memory.{heap_byte}
 use Rattle.heap_frames.specs.Paged.{IsPaged}
 use Rattle.heap_frames.specs.Paging.{with_byte_in_frame}
@@ -77,9 +77,9 @@ stored_occupied {m} {w} {i} {page} {offset} v j p low =
       | inr apart ↦ same_occupied m n j ((stored_entered v p).states j low apart)
     ]
 
-pub stored_seats : {m : List ℕ} {w : List (List ℕ)} {i page offset : ℕ} (v : ℕ) → Puts m w i page offset → seats (with_byte_in_frame m i page offset v) ≡ seats m
-unfolding seats
-stored_seats {m} {w} {i} {page} {offset} v p =
+pub stored_resident_pages : {m : List ℕ} {w : List (List ℕ)} {i page offset : ℕ} (v : ℕ) → Puts m w i page offset → resident_pages (with_byte_in_frame m i page offset v) ≡ resident_pages m
+unfolding resident_pages
+stored_resident_pages {m} {w} {i} {page} {offset} v p =
     let n = with_byte_in_frame m i page offset v in
     table_same 8 (λ j. if is_occupied n j then Some (page_held n j) else None) (λ j. if is_occupied m j then Some (page_held m j) else None) (λ j low.
     ap₂ (λ (occupied : Bool) (held : ℕ). if occupied then Some held else None) (stored_occupied v j p low) (stored_page_held v j p low))

@@ -138,7 +138,9 @@ absent_still {m} {w} {page} {bytes} {state} q r apart is =
     ])
 
 -- the bytes of a page that was written back
-evicted_bytes : {m : List ℕ} {w : List (List ℕ)} {page : ℕ} {bytes : List ℕ} {state : ℕ} (q offset : ℕ) → Replaces m w page bytes state → q < 256 → q ≢ page → offset < 256 → frame_of m q ≡ Some (victim m) → heap_byte (with_page_in_frame m (victim m) page bytes state) (written_back m w (victim m)) q offset ≡ heap_byte m w q offset
+evicted_bytes : {m : List ℕ} {w : List (List ℕ)} {page : ℕ} {bytes : List ℕ} {state : ℕ} (q offset : ℕ) → Replaces m w page bytes state → q < 256
+    → q ≢ page → offset < 256 → frame_of m q ≡ Some (victim m)
+    → heap_byte (with_page_in_frame m (victim m) page bytes state) (written_back m w (victim m)) q offset ≡ heap_byte m w q offset
 evicted_bytes {m} {w} {page} {bytes} {state} q offset r small apart below found =
     let v = victim m in
     let n = with_page_in_frame m v page bytes state in
@@ -157,7 +159,9 @@ evicted_bytes {m} {w} {page} {bytes} {state} q offset r small apart below found 
     ∙ sym (byte_in_frame m w q offset v found)
 
 -- another page, by the frame that held it
-kept_bytes : {m : List ℕ} {w : List (List ℕ)} {page : ℕ} {bytes : List ℕ} {state : ℕ} (q offset : ℕ) (found : Option ℕ) → frame_of m q ≡ found → Replaces m w page bytes state → q < 256 → q ≢ page → offset < 256 → heap_byte (with_page_in_frame m (victim m) page bytes state) (written_back m w (victim m)) q offset ≡ heap_byte m w q offset
+kept_bytes : {m : List ℕ} {w : List (List ℕ)} {page : ℕ} {bytes : List ℕ} {state : ℕ} (q offset : ℕ) (found : Option ℕ) → frame_of m q ≡ found
+    → Replaces m w page bytes state → q < 256 → q ≢ page → offset < 256
+    → heap_byte (with_page_in_frame m (victim m) page bytes state) (written_back m w (victim m)) q offset ≡ heap_byte m w q offset
 kept_bytes {m} {w} {page} {bytes} {state} q offset None is r small apart below =
     let v = victim m in
     let n = with_page_in_frame m v page bytes state in
@@ -183,5 +187,7 @@ kept_bytes {m} {w} {page} {bytes} {state} q offset (Some i) is r small apart bel
           byte_in_frame n w' q offset i (paged_frame n w' q i (next_paged r) kept) ∙ e.bytes i offset here.inside other below ∙ sym (byte_in_frame m w q offset i is)
     ]
 
-pub next_other_bytes : {m : List ℕ} {w : List (List ℕ)} {page : ℕ} {bytes : List ℕ} {state : ℕ} (q offset : ℕ) → Replaces m w page bytes state → q < 256 → q ≢ page → offset < 256 → heap_byte (with_page_in_frame m (victim m) page bytes state) (written_back m w (victim m)) q offset ≡ heap_byte m w q offset
+pub next_other_bytes : {m : List ℕ} {w : List (List ℕ)} {page : ℕ} {bytes : List ℕ} {state : ℕ} (q offset : ℕ) → Replaces m w page bytes state
+    → q < 256 → q ≢ page → offset < 256
+    → heap_byte (with_page_in_frame m (victim m) page bytes state) (written_back m w (victim m)) q offset ≡ heap_byte m w q offset
 next_other_bytes {m} q offset r small apart below = kept_bytes q offset (frame_of m q) refl r small apart below

@@ -4,7 +4,7 @@ use Rattle.std.specs.Prelude.{◌≢◌, Bool, true, Option, Some, None, if◌th
 use Rattle.sram_layout.specs.Bytes.{byte_count, byte_at, with_byte, block_at, with_word}
 use Rattle.sram_layout.specs.Cells.{frame_cell, victim_cell, given_cell, slot_cell}
 use Rattle.sram_layout.proofs.Laws.{length-with_byte, length-with_word, byte_same, byte_other, byte_out_of_word, block_alike}
-use Rattle.heap_frames.specs.Frames.{frame_bytes, page_held, state_of, is_occupied, seats, frame_of, victim, given, slot_of, has_slot, pages}
+use Rattle.heap_frames.specs.Frames.{frame_bytes, page_held, state_of, is_occupied, resident_pages, frame_of, victim, given, slot_of, has_slot, pages}
 use Rattle.heap_frames.specs.Memory.{heap_byte, vmem}
 use Rattle.heap_frames.specs.Paged.{IsPaged}
 use Rattle.heap_frames.specs.SamePaging.{SamePaging}
@@ -89,9 +89,9 @@ pub pages_same : (m n : List ℕ) → SamePaging m n → pages n ≡ pages m
 unfolding pages
 pages_same m n same = table_same 256 (has_slot n) (has_slot m) (λ page below. has_same m n page same below)
 
-pub seats_same : (m n : List ℕ) → SamePaging m n → seats n ≡ seats m
-unfolding seats
-seats_same m n same = table_same 8 (λ i. if is_occupied n i then Some (page_held n i) else None) (λ i. if is_occupied m i then Some (page_held m i) else None) (λ i inside.
+pub resident_pages_same : (m n : List ℕ) → SamePaging m n → resident_pages n ≡ resident_pages m
+unfolding resident_pages
+resident_pages_same m n same = table_same 8 (λ i. if is_occupied n i then Some (page_held n i) else None) (λ i. if is_occupied m i then Some (page_held m i) else None) (λ i inside.
     ap₂ (λ (occupied : Bool) (held : ℕ). if occupied then Some held else None) (occupied_same m n i same inside) (held_same m n i same inside))
 
 pub frame_of_same : (m n : List ℕ) (page : ℕ) → SamePaging m n → frame_of n page ≡ frame_of m page

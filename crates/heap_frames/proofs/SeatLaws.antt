@@ -5,10 +5,10 @@ use Rattle.std.proofs.lemmas.Bool.{cases_eq}
 use Rattle.swap_store.specs.Slots.{page_in, zero_page}
 use Rattle.swap_store.proofs.Laws.{length-zero_page, zero_page_byte}
 use Rattle.heap_frames.specs.Addresses.{is_heap_page}
-use Rattle.heap_frames.specs.Frames.{clean, dirty, page_held, is_occupied, frame_of, seats, victim, given, slot_of, has_slot}
+use Rattle.heap_frames.specs.Frames.{clean, dirty, page_held, is_occupied, frame_of, resident_pages, victim, given, slot_of, has_slot}
 use Rattle.heap_frames.specs.Memory.{heap_byte}
 use Rattle.heap_frames.specs.Paged.{IsPaged}
-use Rattle.heap_frames.specs.Paging.{Store, written_back, with_page_in_frame, with_slot_given, frame_for, seated, begun}
+use Rattle.heap_frames.specs.Paging.{Store, written_back, with_page_in_frame, with_slot_given, frame_for, seated, first_touched}
 use Rattle.heap_frames.specs.Changes.{LeavesOthers, TakesFrame}
 use Rattle.heap_frames.proofs.Tables.{table_item, table_set}
 use Rattle.heap_frames.proofs.FrameLaws.{Holds, frame_holds, same_occupied, none_some}
@@ -17,7 +17,7 @@ use Rattle.heap_frames.proofs.EntryLaws.{page_below}
 use Rattle.heap_frames.proofs.BackLaws.{back_length}
 use Rattle.heap_frames.proofs.HeapBytes.{byte_in_slot, byte_of_slot, byte_of_no_slot}
 use Rattle.heap_frames.proofs.ReplaceLaws.{Replaces, out_below, out_between, out_above, entered_next, next_paged, next_holds, next_bytes, next_other_bytes}
-use Rattle.heap_frames.proofs.GivenLaws.{Gives, give_paged, give_has, give_absent, give_frame, give_seats, give_victim, give_back, give_other_bytes, give_slot_of, give_more, give_other}
+use Rattle.heap_frames.proofs.GivenLaws.{Gives, give_paged, give_has, give_absent, give_frame, give_resident_pages, give_victim, give_back, give_other_bytes, give_slot_of, give_more, give_other}
 
 -- after, frame i holds the page, and the memory is as before
 pub record Ready (before after : Store) (page i : ℕ) : Type 0 where
@@ -28,9 +28,9 @@ pub record Ready (before after : Store) (page i : ℕ) : Type 0 where
   pub count : length after.swap ≡ length before.swap
   pub frames : TakesFrame before.sram after.sram page
 
--- a frame that holds a page, among the seats
-pub seat_item : (m : List ℕ) (page i : ℕ) → Holds m page i → slice_index_or (seats m) i None ≡ Some page
-unfolding seats
+-- a frame that holds a page, among the resident_pages
+pub seat_item : (m : List ℕ) (page i : ℕ) → Holds m page i → slice_index_or (resident_pages m) i None ≡ Some page
+unfolding resident_pages
 seat_item m page i here =
     table_item 8 (λ j. if is_occupied m j then Some (page_held m j) else None) i None here.inside
     ∙ ap₂ (λ (occupied : Bool) (held : ℕ). if occupied then Some held else None) here.occupied here.names
@@ -45,9 +45,9 @@ put_others {m} {w} {page} {bytes} {state} r =
       window = λ b from to. page_elsewhere m bytes v page state b r.paged.sized.sram r.long inside (omega arith) (out_above v b inside from) (λ same. omega arith);
     }
 
-put_seats : {m : List ℕ} {w : List (List ℕ)} {page : ℕ} {bytes : List ℕ} {state : ℕ} → Replaces m w page bytes state → seats (with_page_in_frame m (victim m) page bytes state) ≡ slice_set (seats m) (victim m) (Some page)
-unfolding seats
-put_seats {m} {w} {page} {bytes} {state} r =
+put_resident_pages : {m : List ℕ} {w : List (List ℕ)} {page : ℕ} {bytes : List ℕ} {state : ℕ} → Replaces m w page bytes state → resident_pages (with_page_in_frame m (victim m) page bytes state) ≡ slice_set (resident_pages m) (victim m) (Some page)
+unfolding resident_pages
+put_resident_pages {m} {w} {page} {bytes} {state} r =
     let n = with_page_in_frame m (victim m) page bytes state in
     let e = entered_next r in
     let there = next_holds r in
@@ -62,7 +62,7 @@ put_takes {m} {w} {page} {bytes} {state} r =
     record {
       holds = (victim m, there.inside, seat_item n page (victim m) there);
       stays = λ held. let none = none_some m page r.absent in absurd (cc);
-      comes = λ missed. (put_seats r, page_victim m bytes (victim m) page state r.paged.sized.sram r.long there.inside);
+      comes = λ missed. (put_resident_pages r, page_victim m bytes (victim m) page state r.paged.sized.sram r.long there.inside);
     }
 
 -- the page is in a frame already
@@ -164,8 +164,8 @@ pub seated_slots : (h : Store) (page : ℕ) → IsPaged h.sram h.swap → is_hea
 seated_slots h page paged heap has = seated_slots_by h page (frame_of h.sram page) refl paged heap has
 
 -- the page gets a slot, and is all zeros
-begun_replaces : {m : List ℕ} {w : List (List ℕ)} {page : ℕ} → Gives m w page → Replaces (with_slot_given m page) w page zero_page dirty
-begun_replaces {m} {w} {page} g = record {
+first_touched_replaces : {m : List ℕ} {w : List (List ℕ)} {page : ℕ} → Gives m w page → Replaces (with_slot_given m page) w page zero_page dirty
+first_touched_replaces {m} {w} {page} g = record {
   paged = give_paged g;
   heap = g.heap;
   slot = give_has g;
@@ -176,19 +176,21 @@ begun_replaces {m} {w} {page} g = record {
   equal = λ is_clean. absurd (omega arith);
 }
 
-begun_at : Store → ℕ → Store
-begun_at h page = record {
+first_touched_at : Store → ℕ → Store
+first_touched_at h page = record {
   sram = with_page_in_frame (with_slot_given h.sram page) (victim (with_slot_given h.sram page)) page zero_page dirty;
   swap = written_back (with_slot_given h.sram page) h.swap (victim (with_slot_given h.sram page));
 }
 
-is_begun : (h : Store) (page : ℕ) → Gives h.sram h.swap page → begun h page ≡ begun_at h page
-unfolding begun begun_at
-is_begun h page g = rw (give_victim g, give_back (victim h.sram) g (omega (arith, g.paged.next)))
+is_first_touched : (h : Store) (page : ℕ) → Gives h.sram h.swap page → first_touched h page ≡ first_touched_at h page
+unfolding first_touched first_touched_at
+is_first_touched h page g = rw (give_victim g, give_back (victim h.sram) g (omega (arith, g.paged.next)))
 
-begun_byte : {m : List ℕ} {w : List (List ℕ)} {page : ℕ} (q o : ℕ) → Gives m w page → q < 256 → o < 256 → heap_byte (with_page_in_frame (with_slot_given m page) (victim (with_slot_given m page)) page zero_page dirty) (written_back (with_slot_given m page) w (victim (with_slot_given m page))) q o ≡ heap_byte m w q o
-begun_byte {m} {w} {page} q o g low below =
-    let r = begun_replaces g in
+first_touched_byte : {m : List ℕ} {w : List (List ℕ)} {page : ℕ} (q o : ℕ) → Gives m w page → q < 256 → o < 256
+    → heap_byte (with_page_in_frame (with_slot_given m page) (victim (with_slot_given m page)) page zero_page dirty)
+    (written_back (with_slot_given m page) w (victim (with_slot_given m page))) q o ≡ heap_byte m w q o
+first_touched_byte {m} {w} {page} q o g low below =
+    let r = first_touched_replaces g in
     let m0 = with_slot_given m page in
     elim (cases_eq q page) [
       | inl same ↦
@@ -198,40 +200,40 @@ begun_byte {m} {w} {page} q o g low below =
       | inr apart ↦ next_other_bytes q o r low apart below ∙ give_other_bytes q o g low apart below
     ]
 
-begun_takes : {m : List ℕ} {w : List (List ℕ)} {page : ℕ} → Gives m w page → TakesFrame m (with_page_in_frame (with_slot_given m page) (victim (with_slot_given m page)) page zero_page dirty) page
-begun_takes {m} {w} {page} g =
+first_touched_takes : {m : List ℕ} {w : List (List ℕ)} {page : ℕ} → Gives m w page → TakesFrame m (with_page_in_frame (with_slot_given m page) (victim (with_slot_given m page)) page zero_page dirty) page
+first_touched_takes {m} {w} {page} g =
     let m0 = with_slot_given m page in
     let n = with_page_in_frame m0 (victim m0) page zero_page dirty in
-    let t = put_takes (begun_replaces g) in
+    let t = put_takes (first_touched_replaces g) in
     let come = t.comes (none_some m0 page (give_frame page g ∙ give_absent g)) in
     record {
       holds = t.holds;
       stays = λ held. let none = none_some m page (give_absent g) in absurd (cc);
-      comes = λ missed. (come.0 ∙ ap₂ (λ (before : List (Option ℕ)) (v : ℕ). slice_set before v (Some page)) (give_seats g) (give_victim g), come.1 ∙ ap (λ (v : ℕ). (v + 1) % 8) (give_victim g));
+      comes = λ missed. (come.0 ∙ ap₂ (λ (before : List (Option ℕ)) (v : ℕ). slice_set before v (Some page)) (give_resident_pages g) (give_victim g), come.1 ∙ ap (λ (v : ℕ). (v + 1) % 8) (give_victim g));
     }
 
-begun_at_ready : (h : Store) (page : ℕ) → Gives h.sram h.swap page → Ready h (begun_at h page) page (victim (with_slot_given h.sram page))
-unfolding begun_at
-begun_at_ready h page g =
-    let r = begun_replaces g in
+first_touched_at_ready : (h : Store) (page : ℕ) → Gives h.sram h.swap page → Ready h (first_touched_at h page) page (victim (with_slot_given h.sram page))
+unfolding first_touched_at
+first_touched_at_ready h page g =
+    let r = first_touched_replaces g in
     let m0 = with_slot_given h.sram page in
     let low = page_below page g.heap in
     let put = put_others r in
     record {
       paged = next_paged r;
       here = next_holds r;
-      bytes = λ q o low below. begun_byte q o g low below;
+      bytes = λ q o low below. first_touched_byte q o g low below;
       others = record {
         cells = λ b from below. put.cells b from below ∙ given_elsewhere h.sram page b from (λ same. omega arith) (λ same. omega arith);
         tables = λ b above below. put.tables b above below ∙ given_elsewhere h.sram page b (omega arith) (λ same. omega arith) (λ same. omega arith);
         window = λ b from to. put.window b from to ∙ given_elsewhere h.sram page b (omega arith) (λ same. omega arith) (λ same. omega arith);
       };
       count = back_length m0 h.swap (victim m0);
-      frames = begun_takes g;
+      frames = first_touched_takes g;
     }
 
-pub begun_ready : (h : Store) (page : ℕ) → Gives h.sram h.swap page → Ready h (begun h page) page (victim h.sram)
-begun_ready h page g = rw (is_begun h page g, ← give_victim g) (begun_at_ready h page g)
+pub first_touched_ready : (h : Store) (page : ℕ) → Gives h.sram h.swap page → Ready h (first_touched h page) page (victim h.sram)
+first_touched_ready h page g = rw (is_first_touched h page g, ← give_victim g) (first_touched_at_ready h page g)
 
 -- the next slot is the page's, and the other slots stay
 pub record NextSlot (m n : List ℕ) (page : ℕ) : Type 0 where
@@ -239,15 +241,15 @@ pub record NextSlot (m n : List ℕ) (page : ℕ) : Type 0 where
   pub more : given n ≡ given m + 1
   pub others : (p : ℕ) → p < 256 → p ≢ page → slot_of n p ≡ slot_of m p
 
-begun_at_slots : (h : Store) (page : ℕ) → Gives h.sram h.swap page → NextSlot h.sram (begun_at h page).sram page
-unfolding begun_at
-begun_at_slots h page g =
-    let e = entered_next (begun_replaces g) in
+first_touched_at_slots : (h : Store) (page : ℕ) → Gives h.sram h.swap page → NextSlot h.sram (first_touched_at h page).sram page
+unfolding first_touched_at
+first_touched_at_slots h page g =
+    let e = entered_next (first_touched_replaces g) in
     record {
       own = e.slots page (page_below page g.heap) ∙ give_slot_of g;
       more = e.same_given ∙ give_more g;
       others = λ p low apart. e.slots p low ∙ give_other p g low apart;
     }
 
-pub begun_slots : (h : Store) (page : ℕ) → Gives h.sram h.swap page → NextSlot h.sram (begun h page).sram page
-begun_slots h page g = rw (is_begun h page g) (begun_at_slots h page g)
+pub first_touched_slots : (h : Store) (page : ℕ) → Gives h.sram h.swap page → NextSlot h.sram (first_touched h page).sram page
+first_touched_slots h page g = rw (is_first_touched h page g) (first_touched_at_slots h page g)

@@ -3,19 +3,19 @@ use Rattle.std.proofs.Common.{◌≡◌, ℕ, ◌/◌, ◌%◌, ◌<◌, List, l
 use Rattle.std.specs.Prelude.{◌≢◌, Bool, true, false, None, Option, nat_lt, slice_index_or, slice_set}
 use Rattle.std.proofs.lemmas.Bool.{ltb-true, ltb-false}
 use Rattle.heap_frames.specs.Addresses.{is_heap}
-use Rattle.heap_frames.specs.Frames.{seats, victim, given, slot_of, has_slot, pages}
+use Rattle.heap_frames.specs.Frames.{resident_pages, victim, given, slot_of, has_slot, pages}
 use Rattle.heap_frames.specs.Memory.{vmem}
 use Rattle.heap_frames.specs.Paged.{IsPaged}
-use Rattle.heap_frames.specs.Paging.{Store, frame_for, seated, begun, with_byte_in_frame, heap_store}
+use Rattle.heap_frames.specs.Paging.{Store, frame_for, seated, first_touched, with_byte_in_frame, heap_store}
 use Rattle.heap_frames.specs.Changes.{LeavesOthers, TakesFrame, Stored, StoredOr}
 use Rattle.heap_frames.proofs.Tables.{table_set}
 use Rattle.heap_frames.proofs.FrameLaws.{slot_held}
 use Rattle.heap_frames.proofs.WriteLaws.{byte_elsewhere}
 use Rattle.heap_frames.proofs.EntryLaws.{page_below, same_slot}
 use Rattle.heap_frames.proofs.MemoryLaws.{heap_below, stack_from, stack_to, page_byte, one_byte}
-use Rattle.heap_frames.proofs.PutLaws.{Puts, stored_entered, stored_paged, stored_seats, stored_victim, stored_byte, stored_other}
+use Rattle.heap_frames.proofs.PutLaws.{Puts, stored_entered, stored_paged, stored_resident_pages, stored_victim, stored_byte, stored_other}
 use Rattle.heap_frames.proofs.GivenLaws.{Gives}
-use Rattle.heap_frames.proofs.SeatLaws.{Ready, seated_ready, seated_slots, begun_ready, begun_slots}
+use Rattle.heap_frames.proofs.SeatLaws.{Ready, seated_ready, seated_slots, first_touched_ready, first_touched_slots}
 
 -- a byte put into a page that is ready
 putting : Store → ℕ → ℕ → ℕ → Store
@@ -48,7 +48,7 @@ put_takes : (h g : Store) (i a v : ℕ) → Ready h g (a / 256) i → TakesFrame
 put_takes h g i a v ready =
     let n = with_byte_in_frame g.sram i (a / 256) (a % 256) v in
     let p = puts_there h g i a ready in
-    let s : seats n ≡ seats g.sram = stored_seats v p in
+    let s : resident_pages n ≡ resident_pages g.sram = stored_resident_pages v p in
     let next : victim n ≡ victim g.sram = stored_victim v p in
     let holds = ready.frames.holds in
     record {
@@ -91,16 +91,16 @@ stored_there h a v has heap paged =
       frames = put_takes h g i a v ready;
     }
 
-stored_first : (h : Store) (a v : ℕ) → Gives h.sram h.swap (a / 256) → is_heap a ≡ true → Stored h a v (putting (begun h (a / 256)) (victim h.sram) a v)
+stored_first : (h : Store) (a v : ℕ) → Gives h.sram h.swap (a / 256) → is_heap a ≡ true → Stored h a v (putting (first_touched h (a / 256)) (victim h.sram) a v)
 unfolding putting
 stored_first h a v gives heap =
     let page = a / 256 in
-    let g = begun h page in
+    let g = first_touched h page in
     let i = victim h.sram in
     let n = with_byte_in_frame g.sram i page (a % 256) v in
     let low : page < 256 = page_below page heap in
-    let ready = begun_ready h page gives in
-    let first = begun_slots h page gives in
+    let ready = first_touched_ready h page gives in
+    let first = first_touched_slots h page gives in
     let own : slot_of n page ≡ given h.sram = put_slots h g i a v page ready low ∙ first.own in
     record {
       memory = put_memory h g i a v heap ready;

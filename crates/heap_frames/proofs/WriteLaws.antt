@@ -25,7 +25,12 @@ page_length m bytes i page state size fits inside =
 pub page_victim : (m bytes : List ℕ) (i page state : ℕ) → length m ≡ byte_count → length bytes ≡ 256 → i < 8 → victim (with_page_in_frame m i page bytes state) ≡ (i + 1) % 8
 unfolding with_page_in_frame
 page_victim m bytes i page state size fits inside =
-    byte_same (with_frame (with_block m (frame_bytes i) bytes) (frame_cell i) page state) victim_cell ((i + 1) % 8) (omega arith) (omega (arith, length-with_frame (with_block m (frame_bytes i) bytes) (frame_cell i) page state, length-with_block m bytes (frame_bytes i) fits (omega arith) (omega arith)))
+    byte_same (with_frame (with_block m (frame_bytes i) bytes) (frame_cell i) page state) victim_cell ((i + 1) % 8) (omega arith)
+    (omega (
+      arith,
+      length-with_frame (with_block m (frame_bytes i) bytes) (frame_cell i) page state,
+      length-with_block m bytes (frame_bytes i) fits (omega arith) (omega arith),
+    ))
 
 pub page_names : (m bytes : List ℕ) (i page state : ℕ) → length m ≡ byte_count → length bytes ≡ 256 → i < 8 → page_held (with_page_in_frame m i page bytes state) i ≡ page
 unfolding with_page_in_frame

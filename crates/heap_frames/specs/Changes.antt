@@ -1,7 +1,7 @@
 -- What a load and a store of the heap leave (docs/MEMORY.md, "How a page is found"). The heap is SRAM's bytes and the swap's pages.
 use Rattle.std.specs.Prelude.{◌≡◌, ◌≢◌, ℕ, ◌+◌, ◌/◌, ◌%◌, ◌<◌, ◌≤◌, true, false, is_some, Option, None, Some, List, length, slice_index, slice_set, slice_index_or}
 use Rattle.sram_layout.specs.Bytes.{byte_at}
-use Rattle.heap_frames.specs.Frames.{seats, frame_of, victim, given, slot_of, has_slot, pages}
+use Rattle.heap_frames.specs.Frames.{resident_pages, frame_of, victim, given, slot_of, has_slot, pages}
 use Rattle.heap_frames.specs.Memory.{vmem}
 use Rattle.heap_frames.specs.Paged.{IsPaged}
 use Rattle.heap_frames.specs.Paging.{Store}
@@ -14,9 +14,9 @@ pub record LeavesOthers (m n : List ℕ) : Type 0 where
 
 -- a frame holds the page in n. Where one did in m, all frames stay; else the next frame was replaced, and it alone
 pub record TakesFrame (m n : List ℕ) (page : ℕ) : Type 0 where
-  pub holds : (i : ℕ) × (i < 8) × (slice_index_or (seats n) i None ≡ Some page)
-  pub stays : is_some (frame_of m page) ≡ true → (seats n ≡ seats m) × (victim n ≡ victim m)
-  pub comes : is_some (frame_of m page) ≡ false → (seats n ≡ slice_set (seats m) (victim m) (Some page)) × (victim n ≡ (victim m + 1) % 8)
+  pub holds : (i : ℕ) × (i < 8) × (slice_index_or (resident_pages n) i None ≡ Some page)
+  pub stays : is_some (frame_of m page) ≡ true → (resident_pages n ≡ resident_pages m) × (victim n ≡ victim m)
+  pub comes : is_some (frame_of m page) ≡ false → (resident_pages n ≡ slice_set (resident_pages m) (victim m) (Some page)) × (victim n ≡ (victim m + 1) % 8)
 
 -- a load at address a gave this byte, and left the heap so
 pub record Loaded (before : Store) (a byte : ℕ) (after : Store) : Type 0 where

@@ -45,8 +45,8 @@ unfoldable pub frame_of : List ℕ → ℕ → Option ℕ
 frame_of m page = find (holds m page) (range_with_len 0 8)
 
 -- the page of each of the eight frames, None where the frame is empty
-unfoldable pub seats : List ℕ → List (Option ℕ)
-seats m = table 8 (λ i. if is_occupied m i then Some (page_held m i) else None)
+unfoldable pub resident_pages : List ℕ → List (Option ℕ)
+resident_pages m = table 8 (λ i. if is_occupied m i then Some (page_held m i) else None)
 
 -- the frame that is replaced next, and the number of slots given
 abbrev pub victim : List ℕ → ℕ

@@ -39,8 +39,8 @@ unfoldable pub with_slot_given : List ℕ → ℕ → List ℕ
 with_slot_given m page = with_byte (with_byte m (slot_cell page) (given m)) given_cell (given m + 1)
 
 -- the heap with a frame that holds a page of zeros, to which the next slot is given
-unfoldable pub begun : Store → ℕ → Store
-begun h page = record {
+unfoldable pub first_touched : Store → ℕ → Store
+first_touched h page = record {
   sram = with_page_in_frame (with_slot_given h.sram page) (victim h.sram) page zero_page dirty;
   swap = written_back h.sram h.swap (victim h.sram);
 }
@@ -60,11 +60,11 @@ heap_store h a v =
       sram = with_byte_in_frame (seated h (a / 256)).sram (frame_for h.sram (a / 256)) (a / 256) (a % 256) v;
       swap = (seated h (a / 256)).swap;
     }) else if nat_lt (given h.sram) (length h.swap) then Some (record {
-      sram = with_byte_in_frame (begun h (a / 256)).sram (victim h.sram) (a / 256) (a % 256) v;
-      swap = (begun h (a / 256)).swap;
+      sram = with_byte_in_frame (first_touched h (a / 256)).sram (victim h.sram) (a / 256) (a % 256) v;
+      swap = (first_touched h (a / 256)).swap;
     }) else None
 
 -- what a store answered and left, in the words of heap_store: None where it was refused
-abbrev pub told : Result (Unit {0}) SwapFull → Store → Option Store
-told (Ok done) after = Some after
-told (Err full) after = None
+abbrev pub stored_or_full : Result (Unit {0}) SwapFull → Store → Option Store
+stored_or_full (Ok done) after = Some after
+stored_or_full (Err full) after = None

@@ -5,7 +5,7 @@ ghost use Rattle.sram_layout.specs.Bytes.{byte_count};
 ghost use Rattle.swap_store.specs.Slots.{IsWhole, page_in, zero_page};
 ghost use Rattle.heap_frames.specs.Frames.{clean, frame_bytes, frame_of, holds, has_slot, slot_of, victim, given};
 ghost use Rattle.heap_frames.specs.Paged.{IsPaged};
-ghost use Rattle.heap_frames.specs.Paging.{store_of, written_back, with_page_in_frame, frame_for, seated, begun, with_slot_given};
+ghost use Rattle.heap_frames.specs.Paging.{store_of, written_back, with_page_in_frame, frame_for, seated, first_touched, with_slot_given};
 
 use sram_layout::Sram;
 use swap_store::Swap;
@@ -120,13 +120,13 @@ fn give_slot(sram: &mut Sram, page: u8)
 }
 
 /// Gives the next slot to a page, and puts the page, all zeros, into the frame that is replaced next.
-#[tactic(auto, unfolding(crate::specs::Paging::begun))]
+#[tactic(auto, unfolding(crate::specs::Paging::first_touched))]
 pub(crate) fn begin(sram: &mut Sram, swap: &mut Swap, page: u8) -> u8
     requires paged { IsPaged sram.old swap.old }
     requires left { given sram.old < length swap.old }
     ensures frame { result ≡ victim sram.old }
     ensures frame_in { result < 8 }
-    ensures after { store_of sram.new swap.new ≡ begun (store_of sram.old swap.old) page }
+    ensures after { store_of sram.new swap.new ≡ first_touched (store_of sram.old swap.old) page }
 {
     let frame = sram.victim();
     write_back(sram, swap, frame);

@@ -3,7 +3,7 @@
 ghost use Rattle.std.specs.Prelude.{◌≡◌, ◌/◌, ◌%◌, ◌<◌, ◌↔◌, true, IfErr, IsErr, OnOk, OnErr};
 ghost use Rattle.heap_frames.specs.Addresses.{is_heap};
 ghost use Rattle.heap_frames.specs.Paged.{IsPaged};
-ghost use Rattle.heap_frames.specs.Paging.{store_of, heap_load, heap_store, told, with_byte_in_frame};
+ghost use Rattle.heap_frames.specs.Paging.{store_of, heap_load, heap_store, stored_or_full, with_byte_in_frame};
 ghost use Rattle.heap_frames.specs.Changes.{Loaded, Stored, IsFull};
 
 use crate::frames::{self, DIRTY};
@@ -43,7 +43,7 @@ pub fn load(sram: &mut Sram, swap: &mut Swap, a: u16) -> u8
 pub fn store(sram: &mut Sram, swap: &mut Swap, a: u16, v: u8) -> Result<(), SwapFull>
     requires heap { is_heap a ≡ true }
     requires paged { IsPaged sram.old swap.old }
-    ensures effect { told result (store_of sram.new swap.new) ≡ heap_store (store_of sram.old swap.old) a v }
+    ensures effect { stored_or_full result (store_of sram.new swap.new) ≡ heap_store (store_of sram.old swap.old) a v }
     // The memory changes at the address alone.
     ensures stored { OnOk result (Stored (store_of sram.old swap.old) a v (store_of sram.new swap.new)) }
     ensures full { IsErr result ↔ IsFull sram.old swap.old (a / 256) }

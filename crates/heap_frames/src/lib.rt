@@ -18,6 +18,3 @@ mod frames;
 mod heap;
 
 pub use heap::{SwapFull, load, store};
-
-#[cfg(test)]
-mod tests;

@@ -4,21 +4,22 @@ use Rattle.std.specs.Prelude.{All, flat_map, unwrap_or}
 use Rattle.std.specs.List.{concat, enumerate_from, last_or, range_with_len, slice_get}
 use Rattle.std.proofs.lemmas.Bool.Decides.{nat_tests}
 use Rattle.std.proofs.lemmas.Grind.{flat_map-append}
-use Rattle.std.proofs.lemmas.List.{append-nil, append_assoc, length-map, length-take, length_push, map-append, take_all, take_at}
+use Rattle.std.proofs.lemmas.List.{append-nil, length-map, length-take, length_push, map-append, take_all, take_at}
 use Rattle.std.proofs.lemmas.List.Elements.{All-drop, All-from_get_or, All-head, All-push, All-tail, All-take}
 use Rattle.std.proofs.lemmas.List.FromFn.{fill_by_all, get_or-map-range_with_len, length-map-range_with_len}
 use Rattle.hex.specs.Hex.{IsBytes}
-use Rattle.hex_image.specs.Pieces.{line_of, pieces_of}
+use Rattle.text_lines.specs.Lines.{pieces_of}
+use Rattle.text_lines.specs.Written.{fed, IsPlain}
+use Rattle.text_lines.proofs.TextLaws.{concat-fed, lines_of-fed, pieces_of-fed}
 use Rattle.hex_image.specs.Lines.{Meaning, bytes_at, end_of_file, meaning_of}
-use Rattle.hex_image.specs.Places.{base_after, base_set_by, byte_at, byte_given, cells_of, extent, image_of, places_of, word_at}
-use Rattle.hex_image.specs.HexText.{AreDifferent, HexText, IsBeforeEnd, lines_of}
+use Rattle.hex_image.specs.Places.{base_after, base_set_by, byte_at, byte_given, cells_of, extent, places_of, word_of_cells, image_of_cells}
+use Rattle.hex_image.specs.HexText.{AreDifferent, HexText, IsBeforeEnd, meanings_of}
 use Rattle.hex_image.specs.Image.{IsImage}
-use Rattle.hex_image.specs.Written.{bytes_of_words, data_line, fed, record_content, record_count, record_line, written}
-use Rattle.hex_image.proofs.PieceLemmas.{pieces_of-line}
+use Rattle.hex_image.specs.Written.{bytes_of_words, data_line, record_content, record_count, record_line, written}
 use Rattle.hex_image.proofs.PlaceLemmas.{range_with_len-push}
 use Rattle.hex_image.proofs.ReadingLemmas.{cells_of-push}
 use Rattle.hex_image.proofs.GrammarLemmas.{AreSound, sound_row}
-use Rattle.hex_image.proofs.WrittenLemmas.{IsPlain, IsWritable, line_of-fed, record_line-meaning, record_line-plain}
+use Rattle.hex_image.proofs.WrittenLemmas.{IsWritable, record_line-meaning, record_line-plain}
 
 -- ---- bytes and words
 
@@ -75,16 +76,16 @@ byte_at-row bytes i inside =
     ap (λ z. byte_at (enumerate_from 0 bytes) z) at ∙ ap (λ z. unwrap_or z 255) (byte_given-row 0 bytes i inside)
 
 -- the bytes of words in a row are the image of the words
-image_back : (words : List ℕ) → words ≡ image_of (enumerate_from 0 (bytes_of_words words))
+image_back : (words : List ℕ) → words ≡ image_of_cells (enumerate_from 0 (bytes_of_words words))
 image_back words =
     let cells = enumerate_from 0 (bytes_of_words words) in
     let size = length-bytes_of_words words in
     let count : length words ≡ (extent cells + 1) / 2 = omega (arith, extent-all (bytes_of_words words), size) in
-    let at : (k : ℕ) → k < length words → get_or words k 0 ≡ word_at cells k = λ k inside.
+    let at : (k : ℕ) → k < length words → get_or words k 0 ≡ word_of_cells cells k = λ k inside.
     let low : byte_at cells (2 * k) ≡ get_or words k 0 % 256 = byte_at-row (bytes_of_words words) (2 * k) (omega (arith, size)) ∙ byte_low words k inside in
     let high : byte_at cells (2 * k + 1) ≡ get_or words k 0 / 256 = byte_at-row (bytes_of_words words) (2 * k + 1) (omega (arith, size)) ∙ byte_high words k inside in
     omega (arith, low, high) in
-    fill_by_all (word_at cells) words (length words) 0 refl at ∙ ap (λ n. map (word_at cells) (range_with_len 0 n)) count
+    fill_by_all (word_of_cells cells) words (length words) 0 refl at ∙ ap (λ n. map (word_of_cells cells) (range_with_len 0 n)) count
 
 enumerate_from-append : (start : ℕ) (xs ys : List ℕ) → enumerate_from start (xs ++ ys) ≡ enumerate_from start xs ++ enumerate_from (start + length xs) ys
 enumerate_from-append start [] ys =
@@ -158,22 +159,6 @@ written-fed words =
     let lines = map (data_line words) (range_with_len 0 (record_count words)) in
     sym (flat_map-append fed lines (record_line 1 0 [] ∷ []) ∙ ap (λ z. flat_map fed lines ++ z) (append-nil (fed (record_line 1 0 []))))
 
--- lines with their line feeds are the pieces of their text
-pieces_of-fed : (lines : List (List ℕ)) → All IsPlain lines → pieces_of (flat_map fed lines) ≡ map fed lines
-pieces_of-fed [] plain = refl
-pieces_of-fed (line ∷ lines) plain =
-    let here : IsPlain line = All-head IsPlain line lines plain in
-    ap pieces_of (append_assoc line (10 ∷ []) (flat_map fed lines))
-    ∙ pieces_of-line line (flat_map fed lines) here.inside
-    ∙ ap (λ z. fed line ∷ z) (pieces_of-fed lines (All-tail IsPlain line lines plain))
-
-meanings-fed : (lines : List (List ℕ)) → All IsPlain lines → map (λ piece. meaning_of (line_of piece)) (map fed lines) ≡ map meaning_of lines
-meanings-fed [] plain = refl
-meanings-fed (line ∷ lines) plain =
-    let here : IsPlain line = All-head IsPlain line lines plain in
-    ap (λ z. meaning_of z ∷ map (λ piece. meaning_of (line_of piece)) (map fed lines)) (line_of-fed line here)
-    ∙ ap (λ z. meaning_of line ∷ z) (meanings-fed lines (All-tail IsPlain line lines plain))
-
 -- what the data lines say
 meanings-data : (words : List ℕ) → IsImage words → (n : ℕ) → n ≤ record_count words → map meaning_of (map (data_line words) (range_with_len 0 n)) ≡ data_meanings words n
 meanings-data words image zero fits = refl
@@ -189,14 +174,13 @@ meanings-data words image (suc n) fits =
     ∙ ap (λ z. data_meanings words n ++ z ∷ []) here
     ∙ sym (ap (map (data_meaning words)) more ∙ map-append (data_meaning words) before (n ∷ []))
 
-lines_of-written : (words : List ℕ) → IsImage words → lines_of (written words) ≡ data_meanings words (record_count words) ++ end_of_file ∷ []
-lines_of-written words image =
+meanings_of-written : (words : List ℕ) → IsImage words → meanings_of (written words) ≡ data_meanings words (record_count words) ++ end_of_file ∷ []
+meanings_of-written words image =
     let n = record_count words in
     let plain = plain_lines words image in
     let lines = map (data_line words) (range_with_len 0 n) in
-    ap lines_of (written-fed words)
-    ∙ ap (map (λ piece. meaning_of (line_of piece))) (pieces_of-fed (all_lines words) plain)
-    ∙ meanings-fed (all_lines words) plain
+    ap meanings_of (written-fed words)
+    ∙ ap (map meaning_of) (lines_of-fed (all_lines words) plain)
     ∙ map-append meaning_of lines (record_line 1 0 [] ∷ [])
     ∙ ap (λ z. z ++ meaning_of (record_line 1 0 []) ∷ []) (meanings-data words image n (omega arith))
     ∙ ap (λ z. data_meanings words n ++ z ∷ []) (record_line-meaning 1 0 [] writable_end)
@@ -232,23 +216,19 @@ slice_get-end : {X : Type 0} (xs : List X) (x : X) → slice_get (xs ++ x ∷ []
 slice_get-end [] x = refl
 slice_get-end (y ∷ ys) x = slice_get-end ys x
 
-concat-fed : (lines : List (List ℕ)) → concat (map fed lines) ≡ flat_map fed lines
-concat-fed [] = refl
-concat-fed (line ∷ lines) = ap (λ z. fed line ++ z) (concat-fed lines)
-
 -- the text of an image has that image, and nothing stands behind it
 pub image_written : (words : List ℕ) → IsImage words → HexText (written words) words (length (written words))
 image_written words image =
     let n = record_count words in
     let text = written words in
     let metas = data_meanings words n in
-    let lines : lines_of text ≡ metas ++ end_of_file ∷ [] = lines_of-written words image in
+    let lines : meanings_of text ≡ metas ++ end_of_file ∷ [] = meanings_of-written words image in
     let size : length metas ≡ n = length-map-range_with_len (data_meaning words) 0 n in
-    let ends : slice_get (lines_of text) n ≡ Some end_of_file =
+    let ends : slice_get (meanings_of text) n ≡ Some end_of_file =
     ap (λ z. slice_get z n) lines ∙ ap (slice_get (metas ++ end_of_file ∷ [])) (sym size) ∙ slice_get-end metas end_of_file in
-    let front : take n (lines_of text) ≡ metas = ap (take n) lines ∙ take_at metas (end_of_file ∷ []) n size in
+    let front : take n (meanings_of text) ≡ metas = ap (take n) lines ∙ take_at metas (end_of_file ∷ []) n size in
     let all : take (8 * n) words ≡ words = take_all (8 * n) words (omega arith) in
-    let cells : cells_of (take n (lines_of text)) ≡ enumerate_from 0 (bytes_of_words words) =
+    let cells : cells_of (take n (meanings_of text)) ≡ enumerate_from 0 (bytes_of_words words) =
     ap cells_of front ∙ cells_of-data words n (omega arith) ∙ ap (λ z. enumerate_from 0 (bytes_of_words z)) all in
     let sound : AreSound (enumerate_from 0 (bytes_of_words words)) = sound_row 0 (bytes_of_words words) (omega (arith, image.few, length-bytes_of_words words)) in
     let right : All IsBeforeEnd metas = All-from_get_or IsBeforeEnd metas end_of_file (λ i inside.
@@ -266,6 +246,6 @@ image_written words image =
       lines = subst (λ z. All IsBeforeEnd z) (sym front) right;
       different = subst (λ z. AreDifferent (places_of z)) (sym cells) sound.different;
       small = subst (λ z. All (λ place. place < 32768) (places_of z)) (sym cells) sound.small;
-      image = image_back words ∙ ap image_of (sym cells);
+      image = image_back words ∙ ap image_of_cells (sym cells);
       cut = ap length (sym whole);
     }

@@ -11,16 +11,16 @@ use Rattle.std.specs.List.{slice_get}
 use Rattle.std.proofs.lemmas.Option.{slice_get_past}
 use Rattle.hex_image.specs.Lines.{Meaning, base, blank, bytes_at, end_of_file, faulty, start_address}
 use Rattle.hex_image.proofs.TextLemmas.{some_same}
-use Rattle.hex_image.specs.Pieces.{pieces_of}
-use Rattle.hex_image.specs.Places.{Cell, byte_at, cells_of, image_of, word_at}
-use Rattle.hex_image.specs.HexText.{HexBad, HexText, IsPassed, fault_at, fault_or_end, lines_of}
+use Rattle.text_lines.specs.Lines.{pieces_of}
+use Rattle.hex_image.specs.Places.{Cell, byte_at, cells_of, word_of_cells, image_of_cells}
+use Rattle.hex_image.specs.HexText.{HexBad, HexText, IsPassed, fault_at, fault_or_end, meanings_of}
 use Rattle.hex_image.specs.Reading.{AreSlots, IsEnded, IsImageAnswer, word_of_slots}
 use Rattle.hex_image.proofs.GrammarLemmas.{extent-small, passed_lines, sound_lines}
 
 -- each line before the end record of a text with an image is passed
-text_passed : (text words : List ℕ) (position : ℕ) → (t : HexText text words position) → (m : ℕ) → m < t.before → IsPassed (lines_of text) m
+text_passed : (text words : List ℕ) (position : ℕ) → (t : HexText text words position) → (m : ℕ) → m < t.before → IsPassed (meanings_of text) m
 text_passed text words position t =
-    passed_lines (lines_of text) t.before _ t.ends t.lines (record { different = t.different; small = t.small })
+    passed_lines (meanings_of text) t.before _ t.ends t.lines (record { different = t.different; small = t.small })
 
 -- a text has one image, and ends at one position
 pub same_image : (text v w : List ℕ) (p q : ℕ) → HexText text v p → HexText text w q → (v ≡ w) × (p ≡ q)
@@ -32,7 +32,7 @@ same_image text v w p q a b =
             | inl less ↦ absurd ((text_passed text v p a b.before less).unended b.ends)
             | inr most ↦
                 let same : a.before ≡ b.before = omega arith in (
-                  a.image ∙ ap (λ n. image_of (cells_of (take n (lines_of text)))) same ∙ sym b.image,
+                  a.image ∙ ap (λ n. image_of_cells (cells_of (take n (meanings_of text)))) same ∙ sym b.image,
                   a.cut ∙ ap (λ n. length (concat (take (n + 1) (pieces_of text)))) same ∙ sym b.cut,
                 )
           ]
@@ -52,7 +52,7 @@ same_fault text l m f g a b =
                 cc (none, b.at)
             | inr most ↦
                 let same : a.before ≡ b.before = omega arith in
-                let faults = sym a.at ∙ ap (fault_at (lines_of text)) same ∙ b.at in
+                let faults = sym a.at ∙ ap (fault_at (meanings_of text)) same ∙ b.at in
                 (a.number ∙ ap (λ n. n + 1) same ∙ sym b.number, cc faults)
           ]
     ]
@@ -69,8 +69,8 @@ never_both text words position line fault t bad =
                 cc (none, bad.at)
             | inr most ↦
                 let same : t.before ≡ bad.before = omega arith in
-                let none : fault_at (lines_of text) t.before ≡ None = ap (fault_or_end (take t.before (lines_of text))) t.ends in
-                let some = ap (fault_at (lines_of text)) same ∙ bad.at in
+                let none : fault_at (meanings_of text) t.before ≡ None = ap (fault_or_end (take t.before (meanings_of text))) t.ends in
+                let some = ap (fault_at (meanings_of text)) same ∙ bad.at in
                 cc (none, some)
           ]
     ]
@@ -83,30 +83,30 @@ map_same f g same (x ∷ xs) = ap (λ z. z ∷ map f xs) (same x) ∙ ap (λ z. 
 
 -- the words of the slots are those of the cells
 words_of_slots : (cells : List Cell) (slots : List (Option ℕ)) → AreSlots cells slots
-    → map (word_of_slots slots) (range_with_len 0 ((length slots + 1) / 2)) ≡ image_of cells
+    → map (word_of_slots slots) (range_with_len 0 ((length slots + 1) / 2)) ≡ image_of_cells cells
 words_of_slots cells slots are =
-    map_same (word_of_slots slots) (word_at cells)
+    map_same (word_of_slots slots) (word_of_cells cells)
     (λ a. ap (λ z. unwrap_or z 255 + 256 * unwrap_or (get_or slots (2 * a + 1) None) 255) (are.bytes (2 * a)) ∙ ap (λ z. byte_at cells (2 * a) + 256 * unwrap_or z 255) (are.bytes (2 * a + 1)))
     (range_with_len 0 ((length slots + 1) / 2))
-    ∙ ap (λ n. map (word_at cells) (range_with_len 0 ((n + 1) / 2))) are.size
+    ∙ ap (λ n. map (word_of_cells cells) (range_with_len 0 ((n + 1) / 2))) are.size
 
 -- an image's bytes are within the limit
 pub slots_few : (text : List ℕ) (slots : List (Option ℕ)) (position : ℕ) → IsEnded text slots position → length slots ≤ 32768
 slots_few text slots position e =
-    omega (arith, e.slots_are.size, extent-small (cells_of (take e.before (lines_of text))) (sound_lines (lines_of text) e.before e.passed).1.small)
+    omega (arith, e.slots_are.size, extent-small (cells_of (take e.before (meanings_of text))) (sound_lines (meanings_of text) e.before e.passed).1.small)
 
 -- what was read is the image
 pub image_read : (text words : List ℕ) (slots : List (Option ℕ)) (position : ℕ) → IsEnded text slots position
     → words ≡ map (word_of_slots slots) (range_with_len 0 ((length slots + 1) / 2)) → HexText text words position
 image_read text words slots position e is =
-    let right = sound_lines (lines_of text) e.before e.passed in
+    let right = sound_lines (meanings_of text) e.before e.passed in
     record {
       before = e.before;
       ends = e.ends;
       lines = right.0;
       different = right.1.different;
       small = right.1.small;
-      image = is ∙ words_of_slots (cells_of (take e.before (lines_of text))) slots e.slots_are;
+      image = is ∙ words_of_slots (cells_of (take e.before (meanings_of text))) slots e.slots_are;
       cut = e.cut;
     }
 
@@ -167,7 +167,7 @@ first_halt lines (suc n) =
 -- a text has an image or a fault
 pub one_of_both : (text : List ℕ) → ((words : List ℕ) × (position : ℕ) × HexText text words position) ⊎ ((line : ℕ) × (fault : HexFault) × HexBad text line fault)
 one_of_both text =
-    let lines = lines_of text in
+    let lines = meanings_of text in
     elim (first_halt lines (suc (length lines))) [
       | inl passed ↦
           let beyond : slice_get lines (length lines) ≡ None = slice_get_past lines (length lines) (omega arith) in
@@ -178,7 +178,7 @@ one_of_both text =
             | inl ends ↦
                 let right = sound_lines lines found.0 found.1 in
                 inl (
-                  image_of (cells_of (take found.0 lines)),
+                  image_of_cells (cells_of (take found.0 lines)),
                   length (concat (take (found.0 + 1) (pieces_of text))),
                   record { before = found.0; ends = ends; lines = right.0; different = right.1.different; small = right.1.small; image = refl; cut = refl },
                 )

@@ -1,5 +1,4 @@
 -- Lemmas on lines, places and texts.
-pub mod PieceLemmas
 pub mod LineLemmas
 pub mod PlaceLemmas
 pub mod ReadingLemmas

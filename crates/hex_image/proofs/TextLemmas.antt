@@ -6,12 +6,13 @@ use Rattle.std.proofs.lemmas.List.Folds.{concat-append}
 use Rattle.std.proofs.lemmas.Bool.{cases_eq}
 use Rattle.hex_image.specs.declared.fault.HexFault.{HexFault}
 use Rattle.hex_image.specs.declared.fault.HexFault.TheVariants.{NoEnd}
-use Rattle.hex_image.specs.Pieces.{line_of, pieces_of}
+use Rattle.text_lines.specs.Lines.{line_of, lines_of, pieces_of}
+use Rattle.text_lines.specs.Cutting.{IsCut}
 use Rattle.hex_image.specs.Lines.{Meaning, end_of_file, meaning_of}
 use Rattle.hex_image.specs.Places.{cells_of, fault_behind}
-use Rattle.hex_image.specs.HexText.{HexBad, IsPassed, NeedsMemory, fault_at, fault_or_end, lines_of}
+use Rattle.hex_image.specs.HexText.{HexBad, IsPassed, NeedsMemory, fault_at, fault_or_end, meanings_of}
 use Rattle.hex_image.specs.declared.reading.Reading.{Reading}
-use Rattle.hex_image.specs.Reading.{IsCut, IsEnded, IsReading}
+use Rattle.hex_image.specs.Reading.{IsEnded, IsReading}
 
 -- the first of what is left of a list, behind n elements
 pub slice_get-drop : {X : Type 0} (n : ℕ) (xs : List X) (y : X) (ys : List X) → drop n xs ≡ y ∷ ys → slice_get xs n ≡ Some y
@@ -39,37 +40,40 @@ slice_get-past zero (x ∷ xs) e = cc e
 slice_get-past (suc n) [] e = refl
 slice_get-past (suc n) (x ∷ xs) e = slice_get-past n xs e
 
+drop-meanings : (n : ℕ) (text : List ℕ) → drop n (meanings_of text) ≡ map meaning_of (map line_of (drop n (pieces_of text)))
+drop-meanings n text = drop-map meaning_of n (lines_of text) ∙ ap (map meaning_of) (drop-map line_of n (pieces_of text))
+
 -- n lines of a text were read, and this is left
 pub record IsRead (text rest : List ℕ) (n : ℕ) (reading : Reading) : Type 0 where
   pub left : drop n (pieces_of text) ≡ pieces_of rest
   pub whole : length (concat (take n (pieces_of text))) + length rest ≡ length text
   pub few : n + length rest ≤ length text
-  pub passed : (m : ℕ) → m < n → IsPassed (lines_of text) m
-  pub kept : IsReading (take n (lines_of text)) reading
+  pub passed : (m : ℕ) → m < n → IsPassed (meanings_of text) m
+  pub kept : IsReading (take n (meanings_of text)) reading
 
 -- a line that is cut off the rest is the next of the text
 pub next_line : (text rest line after : List ℕ) (n : ℕ) (reading : Reading) → IsRead text rest n reading → IsCut rest line after
-    → slice_get (lines_of text) n ≡ Some (meaning_of line)
+    → slice_get (meanings_of text) n ≡ Some (meaning_of line)
 next_line text rest line after n reading is cut =
     let left : drop n (pieces_of text) ≡ cut.piece ∷ pieces_of after = is.left ∙ cut.pieces in
-    let mapped : drop n (lines_of text) ≡ meaning_of (line_of cut.piece) ∷ map (λ piece. meaning_of (line_of piece)) (pieces_of after) =
-    drop-map (λ piece. meaning_of (line_of piece)) n (pieces_of text) ∙ ap (map (λ piece. meaning_of (line_of piece))) left in
-    slice_get-drop n (lines_of text) _ _ mapped ∙ ap (λ z. Some (meaning_of z)) (sym cut.line_is)
+    let mapped : drop n (meanings_of text) ≡ meaning_of (line_of cut.piece) ∷ meanings_of after =
+    drop-meanings n text ∙ ap (λ z. map meaning_of (map line_of z)) left in
+    slice_get-drop n (meanings_of text) _ _ mapped ∙ ap (λ z. Some (meaning_of z)) (sym cut.line_is)
 
 -- the fault at the next line is the one that it has behind the lines before
 pub fault_at-next : (text rest line after : List ℕ) (n : ℕ) (reading : Reading) → IsRead text rest n reading → IsCut rest line after
-    → fault_at (lines_of text) n ≡ fault_behind (take n (lines_of text)) (meaning_of line)
+    → fault_at (meanings_of text) n ≡ fault_behind (take n (meanings_of text)) (meaning_of line)
 fault_at-next text rest line after n reading is cut =
-    ap (fault_or_end (take n (lines_of text))) (next_line text rest line after n reading is cut)
+    ap (fault_or_end (take n (meanings_of text))) (next_line text rest line after n reading is cut)
 
 -- the lines up to the next
 pub lines-next : (text rest line after : List ℕ) (n : ℕ) (reading : Reading) → IsRead text rest n reading → IsCut rest line after
-    → take (suc n) (lines_of text) ≡ take n (lines_of text) ++ meaning_of line ∷ []
+    → take (suc n) (meanings_of text) ≡ take n (meanings_of text) ++ meaning_of line ∷ []
 lines-next text rest line after n reading is cut =
     let left : drop n (pieces_of text) ≡ cut.piece ∷ pieces_of after = is.left ∙ cut.pieces in
-    let mapped : drop n (lines_of text) ≡ meaning_of (line_of cut.piece) ∷ map (λ piece. meaning_of (line_of piece)) (pieces_of after) =
-    drop-map (λ piece. meaning_of (line_of piece)) n (pieces_of text) ∙ ap (map (λ piece. meaning_of (line_of piece))) left in
-    take-drop n (lines_of text) _ _ mapped ∙ ap (λ z. take n (lines_of text) ++ meaning_of z ∷ []) (sym cut.line_is)
+    let mapped : drop n (meanings_of text) ≡ meaning_of (line_of cut.piece) ∷ meanings_of after =
+    drop-meanings n text ∙ ap (λ z. map meaning_of (map line_of z)) left in
+    take-drop n (meanings_of text) _ _ mapped ∙ ap (λ z. take n (meanings_of text) ++ meaning_of z ∷ []) (sym cut.line_is)
 
 -- how far the next line goes
 pub length-next : (text rest line after : List ℕ) (n : ℕ) (reading : Reading) → IsRead text rest n reading → IsCut rest line after
@@ -97,12 +101,12 @@ read_none text reading is = record {
 
 -- one line more was read
 pub read_more : (text rest line after : List ℕ) (n : ℕ) (old new : Reading) → IsRead text rest n old → IsCut rest line after
-    → fault_behind (take n (lines_of text)) (meaning_of line) ≡ None → meaning_of line ≢ end_of_file
-    → IsReading (take n (lines_of text) ++ meaning_of line ∷ []) new → IsRead text after (suc n) new
+    → fault_behind (take n (meanings_of text)) (meaning_of line) ≡ None → meaning_of line ≢ end_of_file
+    → IsReading (take n (meanings_of text) ++ meaning_of line ∷ []) new → IsRead text after (suc n) new
 read_more text rest line after n old new is cut sound unended reads =
     let left : drop n (pieces_of text) ≡ cut.piece ∷ pieces_of after = is.left ∙ cut.pieces in
     let size : length rest ≡ length cut.piece + length after = ap length cut.joined ∙ length-append cut.piece after in
-    let here : IsPassed (lines_of text) n = record {
+    let here : IsPassed (meanings_of text) n = record {
       sound = fault_at-next text rest line after n old is cut ∙ sound;
       unended = λ e. unended (some_same _ _ (sym (next_line text rest line after n old is cut) ∙ e));
     } in
@@ -119,7 +123,7 @@ read_more text rest line after n old new is cut sound unended reads =
 
 -- the end record's line was read
 pub read_end : (text rest line after : List ℕ) (n : ℕ) (reading last : Reading) → IsRead text rest n reading → IsCut rest line after
-    → meaning_of line ≡ end_of_file → IsReading (take n (lines_of text)) last → IsEnded text last.slots.items (length text - length after)
+    → meaning_of line ≡ end_of_file → IsReading (take n (meanings_of text)) last → IsEnded text last.slots.items (length text - length after)
 read_end text rest line after n reading last is cut ends reads = record {
   before = n;
   ends = next_line text rest line after n reading is cut ∙ ap (λ z. Some z) ends;
@@ -130,7 +134,7 @@ read_end text rest line after n reading last is cut ends reads = record {
 
 -- a line with a fault was read
 pub read_fault : (text rest line after : List ℕ) (n number : ℕ) (reading : Reading) (fault : HexFault) → IsRead text rest n reading → IsCut rest line after
-    → number ≡ n + 1 → fault_behind (take n (lines_of text)) (meaning_of line) ≡ Some fault → HexBad text number fault
+    → number ≡ n + 1 → fault_behind (take n (meanings_of text)) (meaning_of line) ≡ Some fault → HexBad text number fault
 read_fault text rest line after n number reading fault is cut counted bad = record {
   before = n;
   number = counted;
@@ -142,20 +146,20 @@ read_fault text rest line after n number reading fault is cut counted bad = reco
 pub read_all : (text rest : List ℕ) (n number : ℕ) (reading : Reading) → IsRead text rest n reading → rest ≡ [] → number ≡ n + 1 → HexBad text number NoEnd
 read_all text rest n number reading is empty counted =
     let left : drop n (pieces_of text) ≡ [] = is.left ∙ ap pieces_of empty in
-    let mapped : drop n (lines_of text) ≡ [] = drop-map (λ piece. meaning_of (line_of piece)) n (pieces_of text) ∙ ap (map (λ piece. meaning_of (line_of piece))) left in
+    let mapped : drop n (meanings_of text) ≡ [] = drop-meanings n text ∙ ap (λ z. map meaning_of (map line_of z)) left in
     record {
       before = n;
       number = counted;
       passed = is.passed;
-      at = ap (fault_or_end (take n (lines_of text))) (slice_get-past n (lines_of text) mapped);
+      at = ap (fault_or_end (take n (meanings_of text))) (slice_get-past n (meanings_of text) mapped);
     }
 
 -- memory ran out at a line that gives bytes
 pub read_without_memory : (text rest line after : List ℕ) (n : ℕ) (reading : Reading) → IsRead text rest n reading → IsCut rest line after
-    → fault_behind (take n (lines_of text)) (meaning_of line) ≡ None → meaning_of line ≢ end_of_file
-    → cells_of (take n (lines_of text) ++ meaning_of line ∷ []) ≢ [] → NeedsMemory text
+    → fault_behind (take n (meanings_of text)) (meaning_of line) ≡ None → meaning_of line ≢ end_of_file
+    → cells_of (take n (meanings_of text) ++ meaning_of line ∷ []) ≢ [] → NeedsMemory text
 read_without_memory text rest line after n reading is cut sound unended some =
-    let here : IsPassed (lines_of text) n = record {
+    let here : IsPassed (meanings_of text) n = record {
       sound = fault_at-next text rest line after n reading is cut ∙ sound;
       unended = λ e. unended (some_same _ _ (sym (next_line text rest line after n reading is cut) ∙ e));
     } in

@@ -1,19 +1,20 @@
 -- What is written is read back, line by line.
 use Rattle.std.proofs.Common.{◌≡◌, ℕ, zero, suc, ◌+◌, ◌-◌, ◌*◌, ◌/◌, ◌%◌, ◌<◌, ◌==◌, nat_lt, not, ◌||◌, true, false, cond, Bool, List, [], ◌∷◌, ◌++◌, length, get_or, take, sum, refl, ap, ◌∙◌, arith, None, Ok, Result}
+use Rattle.std.specs.Prelude.{◌≢◌}
 use Rattle.std.specs.List.{AllPass}
 use Rattle.std.specs.Result.{result_unwrap_or}
 use Rattle.std.proofs.lemmas.Bool.Decides.{nat_tests}
 use Rattle.std.proofs.lemmas.List.{length_push, take_at}
-use Rattle.std.proofs.lemmas.List.Elements.{All-cons, All-get_or, All-weaker}
+use Rattle.std.proofs.lemmas.List.Elements.{All-cons, All-get_or, All-head, All-tail, All-weaker}
 use Rattle.std.proofs.lemmas.List.Sums.{sum_by-append}
 use Rattle.hex.specs.Hex.{IsBytes, decode_of, encode_upper, is_hex_digit}
 use Rattle.hex.specs.declared.error.FromHexError.{FromHexError}
 use Rattle.hex.proofs.HexLemmas.{decode_of-encode_upper, decode_of-ok}
-use Rattle.hex_image.specs.Pieces.{line_of, without_last}
+use Rattle.text_lines.specs.Cutting.{Lacks}
+use Rattle.text_lines.specs.Written.{IsPlain}
 use Rattle.hex_image.specs.Lines.{bytes_of, has_right_count, judged, meaning_of, own_fault, record_meaning}
-use Rattle.hex_image.specs.Written.{checksum_of, fed, fields_of, record_bytes, record_line}
-use Rattle.hex_image.specs.Reading.{fault_in, is_in_line, meaning_in}
-use Rattle.hex_image.proofs.PieceLemmas.{feed_off}
+use Rattle.hex_image.specs.Written.{checksum_of, fields_of, record_bytes, record_line}
+use Rattle.hex_image.specs.Reading.{fault_in, meaning_in}
 use Rattle.hex_image.proofs.LineLemmas.{own_in}
 
 -- a record that has a line
@@ -82,18 +83,24 @@ record_line-meaning kind address content w =
     let sound : own_fault (58 ∷ digits) ≡ None = own_in digits bytes all decoded ∙ record_bytes-sound kind address content w in
     ap (judged (58 ∷ digits)) sound ∙ ap meaning_in whole ∙ record_bytes-meaning kind address content
 
+abbrev IsDigit : ℕ → Type 0
+IsDigit c = is_hex_digit c ≡ true
+
 -- a digit is neither a line feed nor a carriage return
-digit_plain : (c : ℕ) → is_hex_digit c ≡ true → (is_in_line c ≡ true) × ((c == 13) ≡ false)
-digit_plain c digit = (grind (arith, nat_tests), grind (arith, nat_tests))
+digit_no_feed : (c : ℕ) → is_hex_digit c ≡ true → c ≢ 10
+digit_no_feed c digit same = grind (arith, nat_tests)
+
+digit_no_return : (c : ℕ) → is_hex_digit c ≡ true → not (c == 13) ≡ true
+digit_no_return c digit = grind (arith, nat_tests)
+
+digits_lack_feed : (digits : List ℕ) → AllPass is_hex_digit digits → Lacks 10 digits
+digits_lack_feed [] all = tt
+digits_lack_feed (c ∷ digits) all =
+    (digit_no_feed c (All-head IsDigit c digits all), digits_lack_feed digits (All-tail IsDigit c digits all))
 
 kept : (b : Bool) (line : List ℕ) → not b ≡ true → cond b (take (length line - 1) line) line ≡ line
 kept false line last = refl
 kept true line last = cc last
-
--- a line has no line feed, and no carriage return at its end
-pub record IsPlain (line : List ℕ) : Type 0 where
-  pub inside : AllPass is_in_line line
-  pub plain : without_last 13 line ≡ line
 
 pub record_line-plain : (kind address : ℕ) (content : List ℕ) → IsWritable kind address content → IsPlain (record_line kind address content)
 record_line-plain kind address content w =
@@ -101,16 +108,11 @@ record_line-plain kind address content w =
     let digits = encode_upper bytes in
     let decoded : decode_of digits ≡ Ok bytes = decode_of-encode_upper bytes (record_bytes-fit kind address content w) in
     let all : AllPass is_hex_digit digits = (decode_of-ok digits bytes decoded).1 in
-    let insides : AllPass is_in_line digits = All-weaker (λ c. is_hex_digit c ≡ true) (λ c. is_in_line c ≡ true) (λ c d. (digit_plain c d).0) digits all in
-    let returns : AllPass (λ c. not (c == 13)) digits = All-weaker (λ c. is_hex_digit c ≡ true) (λ c. not (c == 13) ≡ true) (λ c d. ap not (digit_plain c d).1) digits all in
+    let returns : AllPass (λ c. not (c == 13)) digits = All-weaker IsDigit (λ c. not (c == 13) ≡ true) digit_no_return digits all in
     let below : length (58 ∷ digits) - 1 < length (58 ∷ digits) = omega arith in
     let last : not (get_or (58 ∷ digits) (length (58 ∷ digits) - 1) 0 == 13) ≡ true =
     All-get_or (λ c. not (c == 13) ≡ true) (58 ∷ digits) (length (58 ∷ digits) - 1) 0 below (All-cons (λ c. not (c == 13) ≡ true) 58 digits refl returns) in
     record {
-      inside = All-cons (λ c. is_in_line c ≡ true) 58 digits refl insides;
+      inside = (λ same. omega (arith, same), digits_lack_feed digits all);
       plain = kept (get_or (58 ∷ digits) (length (58 ∷ digits) - 1) 0 == 13) (58 ∷ digits) last;
     }
-
--- a line with its line feed is the line
-pub line_of-fed : (line : List ℕ) → IsPlain line → line_of (fed line) ≡ line
-line_of-fed line is = ap (without_last 13) (feed_off line) ∙ is.plain

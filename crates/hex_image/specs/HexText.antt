@@ -3,13 +3,13 @@ use Rattle.std.specs.Prelude.{◌≡◌, ◌≢◌, ℕ, ◌+◌, ◌<◌, ◌�
 use Rattle.std.specs.List.{concat}
 use Rattle.hex_image.specs.declared.fault.HexFault.{HexFault}
 use Rattle.hex_image.specs.declared.fault.HexFault.TheVariants.{NoEnd}
-use Rattle.hex_image.specs.Pieces.{line_of, pieces_of}
+use Rattle.text_lines.specs.Lines.{lines_of, pieces_of}
 use Rattle.hex_image.specs.Lines.{Meaning, bytes_at, end_of_file, faulty, meaning_of}
-use Rattle.hex_image.specs.Places.{cells_of, fault_behind, image_of, places_of}
+use Rattle.hex_image.specs.Places.{cells_of, fault_behind, places_of, image_of_cells}
 
 -- what the lines of a text say
-abbrev pub lines_of : List ℕ → List Meaning
-lines_of text = map (λ piece. meaning_of (line_of piece)) (pieces_of text)
+abbrev pub meanings_of : List ℕ → List Meaning
+meanings_of text = map meaning_of (lines_of text)
 
 -- an empty line, or a record other than the end record, whose addresses stay within 16 bits
 abbrev pub IsBeforeEnd : Meaning → Type 0
@@ -27,11 +27,11 @@ AreDifferent xs = (i j : ℕ) → i < j → j < length xs → slice_index xs i �
 -- places within the image's limit of 32,768 bytes.
 pub record HexText (text words : List ℕ) (position : ℕ) : Type 0 where
   pub before : ℕ
-  pub ends : slice_get (lines_of text) before ≡ Some end_of_file
-  pub lines : All IsBeforeEnd (take before (lines_of text))
-  pub different : AreDifferent (places_of (cells_of (take before (lines_of text))))
-  pub small : All (λ place. place < 32768) (places_of (cells_of (take before (lines_of text))))
-  pub image : words ≡ image_of (cells_of (take before (lines_of text)))
+  pub ends : slice_get (meanings_of text) before ≡ Some end_of_file
+  pub lines : All IsBeforeEnd (take before (meanings_of text))
+  pub different : AreDifferent (places_of (cells_of (take before (meanings_of text))))
+  pub small : All (λ place. place < 32768) (places_of (cells_of (take before (meanings_of text))))
+  pub image : words ≡ image_of_cells (cells_of (take before (meanings_of text)))
   pub cut : position ≡ length (concat (take (before + 1) (pieces_of text)))
 
 -- the fault of a line, given the lines before it; where the lines are at their end, that no end record came
@@ -52,11 +52,11 @@ pub record IsPassed (lines : List Meaning) (before : ℕ) : Type 0 where
 pub record HexBad (text : List ℕ) (line : ℕ) (fault : HexFault) : Type 0 where
   pub before : ℕ
   pub number : line ≡ before + 1
-  pub passed : (n : ℕ) → n < before → IsPassed (lines_of text) n
-  pub at : fault_at (lines_of text) before ≡ Some fault
+  pub passed : (n : ℕ) → n < before → IsPassed (meanings_of text) n
+  pub at : fault_at (meanings_of text) before ≡ Some fault
 
 -- lines without a fault, and without an end record, give a byte
 pub record NeedsMemory (text : List ℕ) : Type 0 where
   pub before : ℕ
-  pub passed : (n : ℕ) → n < before → IsPassed (lines_of text) n
-  pub some : cells_of (take before (lines_of text)) ≢ []
+  pub passed : (n : ℕ) → n < before → IsPassed (meanings_of text) n
+  pub some : cells_of (take before (meanings_of text)) ≢ []

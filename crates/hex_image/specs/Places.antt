@@ -52,12 +52,12 @@ abbrev pub byte_at : List Cell → ℕ → ℕ
 byte_at cells place = unwrap_or (byte_given cells place) 255
 
 -- the word of two bytes in a row, the low byte first
-abbrev pub word_at : List Cell → ℕ → ℕ
-word_at cells address = byte_at cells (2 * address) + 256 * byte_at cells (2 * address + 1)
+abbrev pub word_of_cells : List Cell → ℕ → ℕ
+word_of_cells cells address = byte_at cells (2 * address) + 256 * byte_at cells (2 * address + 1)
 
 -- the words of the image, an odd byte at its end filled up
-abbrev pub image_of : List Cell → List ℕ
-image_of cells = map (word_at cells) (range_with_len 0 ((extent cells + 1) / 2))
+abbrev pub image_of_cells : List Cell → List ℕ
+image_of_cells cells = map (word_of_cells cells) (range_with_len 0 ((extent cells + 1) / 2))
 
 -- Whether a data record has one of the faults of its place, behind lines that gave these cells and set
 -- this base: its addresses go beyond 16 bits; one of its places was given before; one of its places is

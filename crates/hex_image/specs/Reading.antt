@@ -1,5 +1,5 @@
--- What the functions that read a text say of one another.
-use Rattle.std.specs.Prelude.{◌≡◌, ◌≢◌, ℕ, ◌+◌, ◌*◌, ◌<◌, ◌==◌, nat_lt, Bool, not, ◌||◌, ◌%◌, if◌then◌else◌, List, [], ◌∷◌, ◌++◌, length, slice_get, slice_index_or, take, sum, unwrap_or, Option, Some, None, Result, Ok, Err, MatchResult}
+-- Serves private functions: what the functions that read a text say of one another.
+use Rattle.std.specs.Prelude.{◌≡◌, ◌≢◌, ℕ, ◌+◌, ◌*◌, ◌<◌, ◌==◌, nat_lt, not, ◌||◌, ◌%◌, if◌then◌else◌, List, [], ◌∷◌, ◌++◌, length, slice_get, slice_index_or, take, sum, unwrap_or, Option, Some, None, Result, Ok, Err, MatchResult}
 use Rattle.std.specs.List.{concat}
 use Rattle.std.specs.Global.{Vec}
 use Rattle.hex_image.specs.declared.fault.HexFault.{HexFault}
@@ -9,7 +9,7 @@ use Rattle.hex_image.specs.declared.line.Line.TheVariants.{Blank, Data, EndOfFil
 use Rattle.hex_image.specs.declared.fault.HexError.{HexError}
 use Rattle.hex_image.specs.declared.fault.HexError.TheVariants.{Bad}
 use Rattle.hex_image.specs.declared.fault.HexError.TheVariants as errors
-use Rattle.hex_image.specs.HexText.{HexBad, HexText, IsPassed, NeedsMemory, lines_of}
+use Rattle.hex_image.specs.HexText.{HexBad, HexText, IsPassed, NeedsMemory, meanings_of}
 use Rattle.hex_image.specs.declared.image.Image.{Image}
 use Rattle.hex_image.specs.declared.reading.Reading.{Reading}
 use Rattle.hex_image.specs.declared.reading.Step.{Step}
@@ -17,20 +17,8 @@ use Rattle.hex_image.specs.declared.reading.Step.TheVariants.{Next, End}
 use Rattle.hex_image.specs.declared.reading.Refusal.{Refusal}
 use Rattle.hex_image.specs.declared.reading.Refusal.TheVariants.{Fault, NoMemory}
 use Rattle.hex_image.specs.Places.{Cell, base_after, byte_given, cells_of, extent, fault_behind}
-use Rattle.hex_image.specs.Pieces.{line_of, pieces_of}
+use Rattle.text_lines.specs.Lines.{pieces_of}
 use Rattle.hex_image.specs.Lines.{Meaning, blank, bytes_at, end_of_file, base, start_address, faulty, address_in, bytes_of, content_in, count_in, has_right_count, kind_in, own_fault, record_meaning}
-
--- a byte that is no line feed
-abbrev pub is_in_line : ℕ → Bool
-is_in_line byte = not (byte == 10)
-
--- the line is the first of the text, and the rest stands behind it
-pub record IsCut (text line rest : List ℕ) : Type 0 where
-  pub piece : List ℕ
-  pub some : 0 < length piece
-  pub joined : text ≡ piece ++ rest
-  pub pieces : pieces_of text ≡ piece ∷ pieces_of rest
-  pub line_is : line ≡ line_of piece
 
 -- what a line says, without where it lies in memory
 abbrev pub seen : Line → Meaning
@@ -87,9 +75,9 @@ word_of_slots slots address =
 -- the text's lines before its end record, their bytes, and where the text behind the end record's line begins
 pub record IsEnded (text : List ℕ) (slots : List (Option ℕ)) (position : ℕ) : Type 0 where
   pub before : ℕ
-  pub ends : slice_get (lines_of text) before ≡ Some end_of_file
-  pub passed : (n : ℕ) → n < before → IsPassed (lines_of text) n
-  pub slots_are : AreSlots (cells_of (take before (lines_of text))) slots
+  pub ends : slice_get (meanings_of text) before ≡ Some end_of_file
+  pub passed : (n : ℕ) → n < before → IsPassed (meanings_of text) n
+  pub slots_are : AreSlots (cells_of (take before (meanings_of text))) slots
   pub cut : position ≡ length (concat (take (before + 1) (pieces_of text)))
 
 -- what was answered for the lines of a text

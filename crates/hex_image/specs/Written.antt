@@ -3,6 +3,7 @@
 use Rattle.std.specs.Prelude.{ℕ, ◌+◌, ◌-◌, ◌*◌, ◌/◌, ◌%◌, List, [], ◌∷◌, ◌++◌, length, take, drop, map, sum, flat_map}
 use Rattle.std.specs.List.{range_with_len}
 use Rattle.hex.specs.Hex.{encode_upper}
+use Rattle.text_lines.specs.Written.{fed}
 
 -- the byte that makes the sum a multiple of 256
 abbrev pub checksum_of : List ℕ → ℕ
@@ -34,10 +35,6 @@ data_line words number = record_line 0 (16 * number) (record_content words numbe
 -- how many of them there are
 abbrev pub record_count : List ℕ → ℕ
 record_count words = (length words + 7) / 8
-
--- a line with its line feed (10)
-abbrev pub fed : List ℕ → List ℕ
-fed line = line ++ 10 ∷ []
 
 -- the text: the data records in the order of their addresses, and then the end record (kind 1)
 abbrev pub written : List ℕ → List ℕ

@@ -8,10 +8,10 @@
 //!
 //! [`read`] gives the image of a text and the position behind its end record's line, or the first faulty
 //! line and the first of its faults; [`write`] gives the text of an image. What a text's image and its
-//! first fault are is defined over all lines at once: `specs/Pieces.antt` cuts the text into lines,
-//! `specs/Lines.antt` says what one line says, `specs/Places.antt` where the bytes of lines stand, and
-//! `specs/HexText.antt` which texts have an image and what is wrong with the others. The code reads line
-//! by line, with a running base, and keeps each byte at its place. [`one_image`], [`one_fault`] and
+//! first fault are is defined over all lines at once: which lines a text has is said by `text_lines`, what
+//! one line says by `specs/Lines.antt`, where the bytes of lines stand by `specs/Places.antt`, and which
+//! texts have an image and what is wrong with the others by `specs/HexText.antt`. The code reads line by
+//! line, with a running base, and keeps each byte at its place. [`one_image`], [`one_fault`] and
 //! [`image_or_fault`] are laws of these definitions, for callers' proofs.
 #![tactic(auto)]
 
@@ -20,7 +20,6 @@ mod image;
 mod kind;
 mod laws;
 mod line;
-mod piece;
 mod places;
 mod reading;
 mod text;
@@ -31,6 +30,3 @@ pub use image::Image;
 pub use laws::{image_or_fault, one_fault, one_image};
 pub use text::read;
 pub use written::write;
-
-#[cfg(test)]
-mod tests;

@@ -2,14 +2,12 @@
 ghost use Rattle.std.specs.Prelude.{◌≡◌, ◌<◌, ◌≤◌, ◌%◌, ◌∷◌, true, drop, length, sum, IfErr, IfOk, MatchResult, None, Some};
 ghost use Rattle.std.specs.List.{AllPass};
 ghost use Rattle.hex.specs.Hex.{is_hex_digit};
+ghost use Rattle.hex_image.specs.Kinds.{code_of};
 ghost use Rattle.hex_image.specs.Lines.{has_right_count, meaning_of, own_fault, record_meaning, word_in};
 ghost use Rattle.hex_image.specs.Reading.{IsRecordOf, IsRecordOfBytes, seen};
 
 use crate::fault::HexFault;
-use crate::kind::{
-    DATA, END_OF_FILE, EXTENDED_LINEAR_ADDRESS, EXTENDED_SEGMENT_ADDRESS, START_LINEAR_ADDRESS,
-    START_SEGMENT_ADDRESS,
-};
+use crate::kind::Kind;
 use arrayvec::ArrayVec;
 
 /// The most bytes of a record: the count, the address, the kind, 255 bytes of content, and the checksum.
@@ -75,10 +73,11 @@ fn digits_of(line: &[u8]) -> Result<&[u8], HexFault>
     }
 }
 
+/// Whether a byte is a digit, in either case.
 fn is_hex_digit(digit: u8) -> bool
     ensures value { result ≡ is_hex_digit digit }
 {
-    matches!(digit, b'0'..=b'9' | b'A'..=b'F' | b'a'..=b'f')
+    digit.is_ascii_hexdigit()
 }
 
 /// What the record says that these digits spell behind a colon.
@@ -101,7 +100,7 @@ fn from_digits(digits: &[u8]) -> Result<Line, HexFault>
 fn from_bytes(bytes: &[u8]) -> Result<Line, HexFault>
     ensures answer { IsRecordOfBytes bytes.now result }
 {
-    let [count, high, low, kind, content @ .., _checksum] = bytes else {
+    let [count, high, low, code, content @ .., _checksum] = bytes else {
         return Err(HexFault::Length);
     };
     if content.len() != usize::from(*count) {
@@ -110,10 +109,10 @@ fn from_bytes(bytes: &[u8]) -> Result<Line, HexFault>
     if byte_sum(bytes) != 0 {
         return Err(HexFault::Checksum);
     }
-    if !has_right_count(*kind, *count) {
-        return Err(HexFault::Kind);
+    match Kind::with_count(*code, *count) {
+        Some(kind) => Ok(meaning(kind, u16::from_be_bytes([*high, *low]), content)),
+        None => Err(HexFault::Kind),
     }
-    Ok(meaning(*kind, u16::from_be_bytes([*high, *low]), content))
 }
 
 /// The sum modulo 256.
@@ -127,34 +126,21 @@ pub(crate) fn byte_sum(bytes: &[u8]) -> u8
     total
 }
 
-/// Whether a record of this kind may have this count.
-fn has_right_count(kind: u8, count: u8) -> bool
-    ensures value { result ≡ has_right_count kind count }
-{
-    match kind {
-        DATA => true,
-        END_OF_FILE => count == 0,
-        EXTENDED_SEGMENT_ADDRESS | EXTENDED_LINEAR_ADDRESS => count == 2,
-        START_SEGMENT_ADDRESS | START_LINEAR_ADDRESS => count == 4,
-        _ => false,
-    }
-}
-
 /// What a record of this kind says.
-fn meaning(kind: u8, address: u16, content: &[u8]) -> Line
+fn meaning(kind: Kind, address: u16, content: &[u8]) -> Line
     requires short { length content.now ≤ 255 }
-    requires count { has_right_count kind (length content.now) ≡ true }
-    ensures value { seen result ≡ record_meaning kind address content.now }
+    requires count { has_right_count (code_of kind) (length content.now) ≡ true }
+    ensures value { seen result ≡ record_meaning (code_of kind) address content.now }
 {
     match kind {
-        DATA => Line::Data {
+        Kind::Data => Line::Data {
             address,
             content: copy_of(content),
         },
-        END_OF_FILE => Line::EndOfFile,
-        EXTENDED_SEGMENT_ADDRESS => Line::Base(16 * word_in(content)),
-        EXTENDED_LINEAR_ADDRESS => Line::Base(65_536 * word_in(content)),
-        _ => Line::StartAddress,
+        Kind::EndOfFile => Line::EndOfFile,
+        Kind::ExtendedSegmentAddress => Line::Base(16 * word_in(content)),
+        Kind::ExtendedLinearAddress => Line::Base(65_536 * word_in(content)),
+        Kind::StartSegmentAddress | Kind::StartLinearAddress => Line::StartAddress,
     }
 }
 
@@ -167,13 +153,12 @@ fn word_in(content: &[u8]) -> u32
     u32::from(u16::from_be_bytes([content[0], content[1]]))
 }
 
+/// The content in a place of its own.
 fn copy_of(content: &[u8]) -> ArrayVec<u8, MOST_CONTENT>
     requires { length content.now ≤ 255 }
     ensures items { result.items ≡ content.now }
 {
     let mut copy = ArrayVec::new();
-    for byte in content {
-        copy.push(*byte);
-    }
+    let _fits = copy.try_extend_from_slice(content);
     copy
 }

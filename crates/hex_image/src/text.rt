@@ -9,10 +9,10 @@ ghost use Rattle.hex_image.specs.Reading.{IsAnswer, IsImageAnswer, word_of_slots
 use crate::fault::{HexError, HexFault};
 use crate::image::Image;
 use crate::line::judge;
-use crate::piece::first_line;
 use crate::places::byte_or_blank;
 use crate::reading::{Reading, Refusal, Step};
 use std::alloc::{AllocError, Global};
+use text_lines::first_line;
 
 /// Reads the image of a text, and where the text behind the end record's line begins.
 pub fn read(alloc: Global, text: &[u8]) -> Result<(Image, usize), HexError>

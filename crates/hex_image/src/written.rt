@@ -1,10 +1,12 @@
 //! Writing the text of an image.
 ghost use Rattle.std.specs.Prelude.{◌≡◌, ◌≤◌, ◌*◌, ◌<◌, ◌++◌, ◌∷◌, [], take, drop, length, IfOk, OnOk};
 ghost use Rattle.hex_image.specs.HexText.{HexText};
-ghost use Rattle.hex_image.specs.Written.{bytes_of_words, fed, fields_of, record_bytes, record_line, written};
+ghost use Rattle.hex_image.specs.Kinds.{code_of};
+ghost use Rattle.text_lines.specs.Written.{fed};
+ghost use Rattle.hex_image.specs.Written.{bytes_of_words, fields_of, record_bytes, record_line, written};
 
 use crate::image::Image;
-use crate::kind::{DATA, END_OF_FILE};
+use crate::kind::Kind;
 use crate::line::byte_sum;
 use arrayvec::ArrayVec;
 use std::alloc::{AllocError, Global};
@@ -38,12 +40,12 @@ fn text_of(alloc: Global, words: &[u16]) -> Result<Vec<u8>, AllocError>
         push_line(
             alloc,
             &mut text,
-            DATA,
+            Kind::Data,
             16 * number as u16,
             content.as_slice(),
         )?;
     }
-    push_line(alloc, &mut text, END_OF_FILE, 0, &[])?;
+    push_line(alloc, &mut text, Kind::EndOfFile, 0, &[])?;
     Ok(text)
 }
 
@@ -75,12 +77,12 @@ fn bytes_of_words(words: &[u16]) -> ArrayVec<u8, 16>
 fn push_line(
     alloc: Global,
     text: &mut Vec<u8>,
-    kind: u8,
+    kind: Kind,
     address: u16,
     content: &[u8],
 ) -> Result<(), AllocError>
     requires { length content.now ≤ 16 }
-    ensures line { OnOk result (text.new.items ≡ text.old.items ++ fed (record_line kind address content.now)) }
+    ensures line { OnOk result (text.new.items ≡ text.old.items ++ fed (record_line (code_of kind) address content.now)) }
 {
     let bytes = record_bytes(kind, address, content);
     let digits = hex::encode_upper(alloc, bytes.as_slice())?;
@@ -91,9 +93,9 @@ fn push_line(
 }
 
 /// The bytes of a record, with its checksum.
-fn record_bytes(kind: u8, address: u16, content: &[u8]) -> ArrayVec<u8, MOST_BYTES>
+fn record_bytes(kind: Kind, address: u16, content: &[u8]) -> ArrayVec<u8, MOST_BYTES>
     requires { length content.now ≤ 16 }
-    ensures items { result.items ≡ record_bytes kind address content.now }
+    ensures items { result.items ≡ record_bytes (code_of kind) address content.now }
 {
     let mut bytes = fields_of(kind, address, content);
     let checksum = byte_sum(bytes.as_slice()).wrapping_neg();
@@ -102,18 +104,16 @@ fn record_bytes(kind: u8, address: u16, content: &[u8]) -> ArrayVec<u8, MOST_BYT
 }
 
 /// The bytes of a record before its checksum.
-fn fields_of(kind: u8, address: u16, content: &[u8]) -> ArrayVec<u8, MOST_BYTES>
+fn fields_of(kind: Kind, address: u16, content: &[u8]) -> ArrayVec<u8, MOST_BYTES>
     requires { length content.now ≤ 16 }
-    ensures items { result.items ≡ fields_of kind address content.now }
+    ensures items { result.items ≡ fields_of (code_of kind) address content.now }
 {
     let [high, low] = address.to_be_bytes();
     let mut bytes = ArrayVec::new();
     bytes.push(content.len() as u8);
     bytes.push(high);
     bytes.push(low);
-    bytes.push(kind);
-    'content: for byte in content {
-        bytes.push(*byte);
-    }
+    bytes.push(kind.code());
+    let _fits = bytes.try_extend_from_slice(content);
     bytes
 }

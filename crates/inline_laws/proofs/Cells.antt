@@ -2,7 +2,7 @@
 use Rattle.std.proofs.Common.{◌≡◌, ℕ, ◌+◌, ◌-◌, ◌*◌, ◌<◌, ◌/◌, ◌%◌, ◌≤◌, List, length, arith, ap, ap₂, refl, sym, ◌∙◌, inl, inr}
 use Rattle.std.specs.Prelude.{◌≢◌}
 use Rattle.std.proofs.lemmas.Bool.{cases_eq}
-use Rattle.sram_layout.specs.Bytes.{byte_at, with_byte, word_at}
+use Rattle.sram_layout.specs.Bytes.{byte_at, with_byte, data_word_at}
 use Rattle.sram_layout.proofs.Laws.{length-with_byte, byte_same, byte_other}
 use Rattle.inline_laws.specs.InlineWays.{saved, with_pointer, with_pushed}
 
@@ -71,16 +71,16 @@ pointer_byte_saved m low high status a from to =
     let two = with_byte one 0x0106 high in
     byte_other two 0x0102 a status (omega arith) (omega arith) (λ e. omega arith) ∙ byte_other one 0x0106 a high (omega arith) (omega arith) (λ e. omega arith) ∙ byte_other m 0x0105 a low (omega arith) (omega arith) (λ e. omega arith)
 
-pub pointer_saved : (m : List ℕ) (low high status : ℕ) → word_at (saved m low high status) 0x0103 ≡ word_at m 0x0103
-unfolding word_at
+pub pointer_saved : (m : List ℕ) (low high status : ℕ) → data_word_at (saved m low high status) 0x0103 ≡ data_word_at m 0x0103
+unfolding data_word_at
 pointer_saved m low high status = ap₂ (λ x y. x + 256 * y) (pointer_byte_saved m low high status 0x0103 (omega arith) (omega arith)) (pointer_byte_saved m low high status 0x0104 (omega arith) (omega arith))
 
-pub pointer_apart : (m : List ℕ) (a v : ℕ) → 0x0107 ≤ a → word_at (with_byte m a v) 0x0103 ≡ word_at m 0x0103
-unfolding word_at
+pub pointer_apart : (m : List ℕ) (a v : ℕ) → 0x0107 ≤ a → data_word_at (with_byte m a v) 0x0103 ≡ data_word_at m 0x0103
+unfolding data_word_at
 pointer_apart m a v from = ap₂ (λ x y. x + 256 * y) (byte_other m a 0x0103 v (omega arith) (omega arith) (λ e. omega arith)) (byte_other m a 0x0104 v (omega arith) (omega arith) (λ e. omega arith))
 
-pub pointer_written : (m : List ℕ) (p : ℕ) → length m ≡ 4096 → word_at (with_pointer m p) 0x0103 ≡ p
-unfolding word_at
+pub pointer_written : (m : List ℕ) (p : ℕ) → length m ≡ 4096 → data_word_at (with_pointer m p) 0x0103 ≡ p
+unfolding data_word_at
 pointer_written m p long =
     let one = with_byte m 0x0103 (p % 256) in
     ap₂ (λ x y. x + 256 * y) (byte_other one 0x0104 0x0103 (p / 256) (omega arith) (omega arith) (λ e. omega arith) ∙ byte_same m 0x0103 (p % 256) (omega arith) (omega arith)) (byte_same one 0x0104 (p / 256) (omega arith) (omega (arith, length-with_byte m 0x0103 (p % 256)))) ∙ omega arith

@@ -8,7 +8,7 @@ use Rattle.avr_isa.specs.declared.operation.WordOp.TheVariants.{Adiw}
 use Rattle.avr_isa.specs.declared.operation.Base.TheVariants.{Z}
 use Rattle.avr_isa.specs.Encoding.{second_word}
 use Rattle.avr_flags.specs.Pairs.{adiw_of}
-use Rattle.avr_exec.specs.Registers.{raised}
+use Rattle.avr_exec.specs.Registers.{wrapping_sum}
 use Rattle.sram_layout.specs.Bytes.{byte_at, with_byte}
 use Rattle.nat_template.specs.Inline.{save, restore, guard, trap, width_of, load_forms, store_forms}
 use Rattle.mote_core.specs.declared.mote.Mote.{Mote}
@@ -40,7 +40,7 @@ frame_forms q access = save ++ behind_save q access
 abbrev frame_status : Mote → ℕ → ℕ
 frame_status m q = (adiw_of m.cpu.sreg (z_of (with_z m.cpu.r (y_of m))) q).1
 
-frame_points : (m : Mote) (v to q p : ℕ) (access : Form) → CanPass m v → v + 32 ≤ to → raised (y_of m) q ≡ p → Row m.flash.words v (frame_forms q access)
+frame_points : (m : Mote) (v to q p : ℕ) (access : Form) → CanPass m v → v + 32 ≤ to → wrapping_sum (y_of m) q ≡ p → Row m.flash.words v (frame_forms q access)
     → Passes (v + 1) to 2 (prepared m v) (pointing m (p % 256) (p / 256) (frame_status m q) (v + 2 + 2 + 1 + 2 + 1 + 1))
 unfolding second_word
 frame_points m v to q p access can fits is row =
@@ -48,7 +48,7 @@ frame_points m v to q p access can fits is row =
     frame_block m (v + 1) to m.cpu.r m.cpu.sreg m.cpu.sreg (slice_index m.cpu.r 31) (v + 2 + 2 + 1 + 2) (saved_of m) q (y_of m) p (guard 11 9 ++ behind_guard access) can.registers refl is (omega arith) (omega arith) (omega arith) row.1.1.1.1
 
 -- an access of one step, inside the window: to these registers and bytes
-frame_inside : (m : Mote) (v q p : ℕ) (access : Form) (r : List ℕ) (sram : List ℕ) → CanPass m v → width_of access ≡ 1 → raised (y_of m) q ≡ p → 0x0D00 ≤ p → p ≤ 0x10FF → Row m.flash.words v (frame_forms q access)
+frame_inside : (m : Mote) (v q p : ℕ) (access : Form) (r : List ℕ) (sram : List ℕ) → CanPass m v → width_of access ≡ 1 → wrapping_sum (y_of m) q ≡ p → 0x0D00 ≤ p → p ≤ 0x10FF → Row m.flash.words v (frame_forms q access)
     → slice_index r 30 ≡ slice_index m.cpu.r 30 → slice_index r 31 ≡ slice_index m.cpu.r 31 → 31 < length r → Holds (slice_index m.cpu.r 30) (slice_index m.cpu.r 31) m.cpu.sreg sram
     → ((s pc : ℕ) → pc + 1 < 65536 → flash_form m pc ≡ Some access → IsQuiet (held m (with_z m.cpu.r p) s pc (saved_of m)) (held m (with_z r p) s (pc + 1) sram))
     → Passes (v + 1) (v + 32) 15 (begun m v) (held m r m.cpu.sreg (v + 32) sram)
@@ -77,7 +77,7 @@ frame_trap m v q t access one is row =
     subst R here row.1.1.1.1.1.1.1.1.1.1.1.1.1.1.1.1
 
 -- outside
-frame_below : (m : Mote) (v q p : ℕ) (access : Form) → CanPass m v → width_of access ≡ 1 → raised (y_of m) q ≡ p → p < 0x0D00 → Row m.flash.words v (frame_forms q access)
+frame_below : (m : Mote) (v q p : ℕ) (access : Form) → CanPass m v → width_of access ≡ 1 → wrapping_sum (y_of m) q ≡ p → p < 0x0D00 → Row m.flash.words v (frame_forms q access)
     → Passes (v + 1) (v + 32) 12 (begun m v) (trapped m (v + 31) (saved_of m))
 unfolding second_word
 frame_below m v q p access can one is under row =
@@ -90,7 +90,7 @@ frame_below m v q p access can one is under row =
     (below_way m v 32 w (p % 256) (p / 256) (frame_status m q) 2 11 9 t (behind_save q access) (behind_guard access) [] can (omega arith) (omega arith) (omega arith) (omega arith) (omega arith) refl
     row row.1.1.1.1.1.1 (frame_trap m v q t access one (omega arith) row) (frame_points m v (v + 32) q p access can (omega arith) is row))
 
-frame_above : (m : Mote) (v q p : ℕ) (access : Form) → CanPass m v → width_of access ≡ 1 → raised (y_of m) q ≡ p → 0x10FF < p → Row m.flash.words v (frame_forms q access)
+frame_above : (m : Mote) (v q p : ℕ) (access : Form) → CanPass m v → width_of access ≡ 1 → wrapping_sum (y_of m) q ≡ p → 0x10FF < p → Row m.flash.words v (frame_forms q access)
     → Passes (v + 1) (v + 32) 14 (begun m v) (trapped m (v + 31) (saved_of m))
 unfolding second_word
 frame_above m v q p access can one is over row =

@@ -8,8 +8,8 @@ use Rattle.avr_isa.specs.declared.operation.WordOp.TheVariants.{Adiw}
 use Rattle.avr_isa.specs.declared.operation.Base.TheVariants.{Z}
 use Rattle.avr_isa.specs.Encoding.{second_word}
 use Rattle.avr_flags.specs.Pairs.{adiw_of}
-use Rattle.avr_exec.specs.Registers.{raised}
-use Rattle.sram_layout.specs.Bytes.{byte_at, with_byte, word_at}
+use Rattle.avr_exec.specs.Registers.{wrapping_sum}
+use Rattle.sram_layout.specs.Bytes.{byte_at, with_byte, data_word_at}
 use Rattle.nat_template.specs.Inline.{restore, from_pointer, to_pointer, guarded, back, trap, pop_forms}
 use Rattle.mote_core.specs.declared.mote.Mote.{Mote}
 use Rattle.mote_core.specs.QuietSteps.{IsQuiet, held, flash_form, z_of, with_z}
@@ -59,9 +59,9 @@ popped_holds m p size =
 abbrev raised_status : Mote → ℕ
 raised_status m = (adiw_of m.cpu.sreg (z_of (with_halves m.cpu.r (byte_at m.sram 0x0103) (byte_at m.sram 0x0104))) 1).1
 
-pop_points : (m : Mote) (v to d p : ℕ) → CanPass m v → v + 39 ≤ to → raised (word_at m.sram 0x0103) 1 ≡ p → Row m.flash.words v (pop_forms d)
+pop_points : (m : Mote) (v to d p : ℕ) → CanPass m v → v + 39 ≤ to → wrapping_sum (data_word_at m.sram 0x0103) 1 ≡ p → Row m.flash.words v (pop_forms d)
     → Passes (v + 1) to 3 (prepared m v) (pointing m (p % 256) (p / 256) (raised_status m) (v + 2 + 2 + 1 + 2 + 2 + 2 + 1))
-unfolding second_word pop_forms word_at
+unfolding second_word pop_forms data_word_at
 pop_points m v to d p can fits is row =
     let room = can.room in
     let a = slice_index m.cpu.r 30 in
@@ -76,7 +76,7 @@ pop_points m v to d p can fits is row =
     (pointer_byte_saved m.sram a b s 0x0103 (omega arith) (omega arith)) (pointer_byte_saved m.sram a b s 0x0104 (omega arith) (omega arith)) (omega arith) (omega arith) (omega arith) row.1.1.1.1)
     (last, omega arith, omega arith, raise_step m m.cpu.r low high s (v1 + 2 + 2) (saved_of m) 1 p (guarded (access d)) can.registers is (omega arith) row.1.1.1.1.1.1, refl)
 
-pop_inside : (m : Mote) (v d p : ℕ) → CanPass m v → d ≢ 30 → d ≢ 31 → raised (word_at m.sram 0x0103) 1 ≡ p → 0x0D00 ≤ p → p ≤ 0x10FF → Row m.flash.words v (pop_forms d)
+pop_inside : (m : Mote) (v d p : ℕ) → CanPass m v → d ≢ 30 → d ≢ 31 → wrapping_sum (data_word_at m.sram 0x0103) 1 ≡ p → 0x0D00 ≤ p → p ≤ 0x10FF → Row m.flash.words v (pop_forms d)
     → Passes (v + 1) (v + 39) 18 (begun m v) (held m (slice_set m.cpu.r d (byte_at m.sram p)) m.cpu.sreg (v + 39) (with_pointer (saved_of m) p))
 unfolding second_word pop_forms
 pop_inside m v d p can apart apart' is bottom top row =
@@ -96,7 +96,7 @@ pop_inside m v d p can apart apart' is bottom top row =
     row row.1.1.1.1.1.1.1 row.1.1.1.1.1.1.1.1.1.1.1.1.1.1 (pop_points m v (v + 39) d p can (omega arith) is row)
     (pop_access m (v + 1) (v + 39) m.cpu.r s (w + 1 + 1 + 1 + 1) (saved_of m) d p (restore ++ Rjmp (pos 10) ∷ trap) can.registers bottom top apart apart' (omega arith) (omega arith) (omega arith) row.1.1.1.1.1.1.1.1.1.1.1)))
 
-pop_below : (m : Mote) (v d p : ℕ) → CanPass m v → raised (word_at m.sram 0x0103) 1 ≡ p → p < 0x0D00 → Row m.flash.words v (pop_forms d)
+pop_below : (m : Mote) (v d p : ℕ) → CanPass m v → wrapping_sum (data_word_at m.sram 0x0103) 1 ≡ p → p < 0x0D00 → Row m.flash.words v (pop_forms d)
     → Passes (v + 1) (v + 39) 13 (begun m v) (trapped m (v + 38) (saved_of m))
 unfolding second_word pop_forms
 pop_below m v d p can is under row =
@@ -111,7 +111,7 @@ pop_below m v d p can is under row =
     (below_way m v 39 w (p % 256) (p / 256) (raised_status m) 3 15 13 t (from_pointer ++ Word Adiw 30 1 ∷ guarded (access d)) ((access d ++ back) ++ trap) [] can (omega arith) (omega arith) (omega arith) (omega arith) (omega arith) refl
     row row.1.1.1.1.1.1.1 trapping (pop_points m v (v + 39) d p can (omega arith) is row))
 
-pop_above : (m : Mote) (v d p : ℕ) → CanPass m v → raised (word_at m.sram 0x0103) 1 ≡ p → 0x10FF < p → Row m.flash.words v (pop_forms d)
+pop_above : (m : Mote) (v d p : ℕ) → CanPass m v → wrapping_sum (data_word_at m.sram 0x0103) 1 ≡ p → 0x10FF < p → Row m.flash.words v (pop_forms d)
     → Passes (v + 1) (v + 39) 15 (begun m v) (trapped m (v + 38) (saved_of m))
 unfolding second_word pop_forms
 pop_above m v d p can is over row =
@@ -129,7 +129,7 @@ pop_above m v d p can is over row =
 pub pop_passes : PopPasses
 unfolding second_word pop_forms
 pop_passes m v d can other row =
-    let p = raised (word_at m.sram 0x0103) 1 in
+    let p = wrapping_sum (data_word_at m.sram 0x0103) 1 in
     record {
       first = let room = can.room in save_first m m.cpu.r m.cpu.sreg v m.sram (slice_index m.cpu.r 30) (from_pointer ++ Word Adiw 30 1 ∷ guarded (access d)) refl (omega arith) row;
       inside = λ bottom top. pop_inside m v d p can other.0 other.1 refl bottom top row;

@@ -7,7 +7,7 @@ use Rattle.avr_isa.specs.declared.operation.WordOp.TheVariants.{Sbiw}
 use Rattle.avr_isa.specs.declared.operation.Base.TheVariants.{Z}
 use Rattle.avr_isa.specs.Encoding.{second_word}
 use Rattle.avr_flags.specs.Pairs.{sbiw_of}
-use Rattle.sram_layout.specs.Bytes.{byte_at, with_byte, word_at}
+use Rattle.sram_layout.specs.Bytes.{byte_at, with_byte, data_word_at}
 use Rattle.nat_template.specs.Inline.{restore, from_pointer, to_pointer, guarded, back, trap, push_forms}
 use Rattle.mote_core.specs.declared.mote.Mote.{Mote}
 use Rattle.mote_core.specs.QuietSteps.{held, z_of, with_z}
@@ -75,9 +75,9 @@ push_points m v to d can fits row =
     pointer_block m (v + 1) to m.cpu.r s b s (v + 2 + 2 + 1 + 2) (saved_of m) (byte_at m.sram 0x0103) (byte_at m.sram 0x0104) (guarded (access d)) can.registers
     (pointer_byte_saved m.sram a b s 0x0103 (omega arith) (omega arith)) (pointer_byte_saved m.sram a b s 0x0104 (omega arith) (omega arith)) (omega arith) (omega arith) (omega arith) row.1.1.1.1
 
-push_inside : (m : Mote) (v d p : ℕ) → CanPass m v → d ≢ 30 → d ≢ 31 → word_at m.sram 0x0103 ≡ p → 0x0D00 ≤ p → p ≤ 0x10FF → Row m.flash.words v (push_forms d)
+push_inside : (m : Mote) (v d p : ℕ) → CanPass m v → d ≢ 30 → d ≢ 31 → data_word_at m.sram 0x0103 ≡ p → 0x0D00 ≤ p → p ≤ 0x10FF → Row m.flash.words v (push_forms d)
     → Passes (v + 1) (v + 39) 18 (begun m v) (held m m.cpu.r m.cpu.sreg (v + 39) (with_pushed (saved_of m) p (slice_index m.cpu.r d)))
-unfolding second_word push_forms word_at
+unfolding second_word push_forms data_word_at
 push_inside m v d p can apart apart' is bottom top row =
     let room = can.room in
     let low = byte_at m.sram 0x0103 in
@@ -96,9 +96,9 @@ push_inside m v d p can apart apart' is bottom top row =
     row row.1.1.1.1.1.1 row.1.1.1.1.1.1.1.1.1.1.1.1.1.1 (push_points m v (v + 39) d can (omega arith) row)
     (push_access m (v + 1) (v + 39) m.cpu.r low high s (w + 1 + 1 + 1 + 1) (saved_of m) d p (restore ++ Rjmp (pos 10) ∷ trap) can.registers is bottom top apart apart' (omega arith) (omega arith) (omega arith) row.1.1.1.1.1.1.1.1.1.1))
 
-push_below : (m : Mote) (v d : ℕ) → CanPass m v → word_at m.sram 0x0103 < 0x0D00 → Row m.flash.words v (push_forms d)
+push_below : (m : Mote) (v d : ℕ) → CanPass m v → data_word_at m.sram 0x0103 < 0x0D00 → Row m.flash.words v (push_forms d)
     → Passes (v + 1) (v + 39) 12 (begun m v) (trapped m (v + 38) (saved_of m))
-unfolding second_word push_forms word_at
+unfolding second_word push_forms data_word_at
 push_below m v d can under row =
     let room = can.room in
     let w = v + 2 + 2 + 1 + 2 + 2 + 2 in
@@ -111,9 +111,9 @@ push_below m v d can under row =
     (below_way m v 39 w (byte_at m.sram 0x0103) (byte_at m.sram 0x0104) m.cpu.sreg 2 16 14 t (from_pointer ++ guarded (access d)) ((access d ++ back) ++ trap) [] can (omega arith) (omega arith) (omega arith) (omega arith) (omega arith) refl
     row row.1.1.1.1.1.1 trapping (push_points m v (v + 39) d can (omega arith) row))
 
-push_above : (m : Mote) (v d : ℕ) → CanPass m v → 0x10FF < word_at m.sram 0x0103 → Row m.flash.words v (push_forms d)
+push_above : (m : Mote) (v d : ℕ) → CanPass m v → 0x10FF < data_word_at m.sram 0x0103 → Row m.flash.words v (push_forms d)
     → Passes (v + 1) (v + 39) 14 (begun m v) (trapped m (v + 38) (saved_of m))
-unfolding second_word push_forms word_at
+unfolding second_word push_forms data_word_at
 push_above m v d can over row =
     let room = can.room in
     let w = v + 2 + 2 + 1 + 2 + 2 + 2 in
@@ -130,7 +130,7 @@ pub push_passes : PushPasses
 unfolding second_word push_forms
 push_passes m v d can other row = record {
   first = let room = can.room in save_first m m.cpu.r m.cpu.sreg v m.sram (slice_index m.cpu.r 30) (from_pointer ++ guarded (access d)) refl (omega arith) row;
-  inside = λ bottom top. push_inside m v d (word_at m.sram 0x0103) can other.0 other.1 refl bottom top row;
+  inside = λ bottom top. push_inside m v d (data_word_at m.sram 0x0103) can other.0 other.1 refl bottom top row;
   below = λ under. at_trap m v 39 12 38 refl (push_below m v d can under row);
   above = λ over. at_trap m v 39 14 38 refl (push_above m v d can over row);
 }

@@ -1,11 +1,11 @@
 -- The ways through an inline template (docs/LOADER.md, "Inline templates"): inside the stack window to the word behind it,
 -- and outside to the kernel's service MEM, with everything that the program sees as before.
 use Rattle.std.specs.Prelude.{◌≡◌, ◌≢◌, ℕ, zero, suc, ◌+◌, ◌-◌, ◌*◌, ◌/◌, ◌%◌, ◌<◌, ◌≤◌, List, length, slice_index, slice_set}
-use Rattle.sram_layout.specs.Bytes.{byte_at, with_byte, word_at}
+use Rattle.sram_layout.specs.Bytes.{byte_at, with_byte, data_word_at}
 use Rattle.sram_layout.specs.Cells.{sreg_cell, vsp_cell, z_cell}
 use Rattle.nat_template.specs.Stubs.{mem_entry}
 use Rattle.nat_template.specs.Inline.{push_forms, pop_forms, load_forms, store_forms}
-use Rattle.avr_exec.specs.Registers.{raised}
+use Rattle.avr_exec.specs.Registers.{wrapping_sum}
 use Rattle.mote_core.specs.declared.mote.Mote.{Mote}
 use Rattle.mote_core.specs.QuietSteps.{IsQuiet, held}
 use Rattle.inline_laws.specs.Rows.{Row}
@@ -60,13 +60,13 @@ pub record Ways (m : Mote) (v size address steps lower upper : ℕ) (r sram : Li
 
 -- the addresses: the stack pointer, the byte above it, and q on from Y
 abbrev pub pointer_of : Mote → ℕ
-pointer_of m = word_at m.sram vsp_cell
+pointer_of m = data_word_at m.sram vsp_cell
 
 abbrev pub above_pointer : Mote → ℕ
-above_pointer m = raised (pointer_of m) 1
+above_pointer m = wrapping_sum (pointer_of m) 1
 
 abbrev pub from_frame : Mote → ℕ → ℕ
-from_frame m q = raised (slice_index m.cpu.r 28 + 256 * slice_index m.cpu.r 29) q
+from_frame m q = wrapping_sum (slice_index m.cpu.r 28 + 256 * slice_index m.cpu.r 29) q
 
 -- each of the four, for a register d other than r30 and r31
 abbrev pub IsOther : ℕ → Type 0

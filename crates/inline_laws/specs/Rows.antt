@@ -2,11 +2,11 @@
 use Rattle.std.specs.Prelude.{◌≡◌, ℕ, ◌+◌, List, [], ◌∷◌, Some}
 use Rattle.avr_isa.specs.declared.form.Form.{Form}
 use Rattle.avr_decode.specs.Decoding.{the_form}
-use Rattle.avr_exec.specs.Registers.{raised}
+use Rattle.avr_exec.specs.Registers.{wrapping_sum}
 use Rattle.flash_model.specs.Pages.{word_at}
 use Rattle.nat_template.specs.Inline.{width_of}
 
 -- the first at the word address a
 abbrev pub Row : List ℕ → ℕ → List Form → Type 0
 Row words a [] = Unit {0}
-Row words a (form ∷ forms) = (the_form (word_at words a) (word_at words (raised a 1)) ≡ Some form) × Row words (a + width_of form) forms
+Row words a (form ∷ forms) = (the_form (word_at words a) (word_at words (wrapping_sum a 1)) ≡ Some form) × Row words (a + width_of form) forms

@@ -6,7 +6,7 @@ use Rattle.input_script.specs.declared.input.Event.{Event}
 use Rattle.input_script.specs.declared.fault.ScriptFault.{ScriptFault}
 use Rattle.input_script.specs.declared.fault.ScriptError.{ScriptError}
 use Rattle.input_script.specs.declared.fault.ScriptError.TheVariants.{Bad, NoMemory}
-use Rattle.input_script.specs.Lines.{lines_of}
+use Rattle.text_lines.specs.Lines.{lines_of}
 use Rattle.input_script.specs.Script.{IsScript, IsBad, NeedsMemory}
 use Rattle.input_script.specs.Judging.{IsRefusal}
 use Rattle.input_script.proofs.Done.{IsDone, done_event, done_fault, done_memory, event_some}

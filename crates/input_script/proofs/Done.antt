@@ -5,7 +5,7 @@ use Rattle.input_script.specs.declared.input.Event.{Event}
 use Rattle.input_script.specs.declared.fault.ScriptFault.{ScriptFault}
 use Rattle.input_script.specs.Grammar.{IsSkipped, IsEvent}
 use Rattle.input_script.specs.Script.{Spells, Accepts, IsFirstFault, IsFaulty, NeedsMemory}
-use Rattle.input_script.specs.Lines.{lines_of}
+use Rattle.text_lines.specs.Lines.{lines_of}
 use Rattle.input_script.specs.Judging.{IsNext, Takes}
 use Rattle.input_script.proofs.Spelling.{spells_join}
 use Rattle.input_script.proofs.Schedules.{schedule_push}

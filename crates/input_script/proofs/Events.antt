@@ -9,8 +9,8 @@ use Rattle.input_script.specs.declared.input.Kind.TheVariants.{PinA, PinB, PinC,
 use Rattle.input_script.specs.declared.input.Input.{Input}
 use Rattle.input_script.specs.declared.input.Event.{Event}
 use Rattle.input_script.specs.Kinds.{word_of, input_of}
-use Rattle.input_script.specs.Lines.{Lacks}
-use Rattle.input_script.proofs.Cutting.{one_cut}
+use Rattle.text_lines.specs.Cutting.{Lacks}
+use Rattle.text_lines.proofs.CutLaws.{one_cut}
 use Rattle.input_script.specs.Grammar.{IsSkipped, IsNumber, IsInput, IsEvent}
 
 -- a decimal digit is no space

@@ -4,7 +4,7 @@ use Rattle.std.proofs.lemmas.Bool.{cases_lt}
 use Rattle.input_script.specs.declared.input.Event.{Event}
 use Rattle.input_script.specs.declared.fault.ScriptFault.{ScriptFault}
 use Rattle.input_script.specs.declared.fault.ScriptFault.TheVariants.{Form, Order, Range, TooMany}
-use Rattle.input_script.specs.Lines.{lines_of}
+use Rattle.text_lines.specs.Lines.{lines_of}
 use Rattle.input_script.specs.Grammar.{IsSkipped, IsEvent}
 use Rattle.input_script.specs.Script.{IsInRange, IsSchedule, Accepts, Has, number_of, IsFirstFault, IsFaulty, HasOneJudgement}
 use Rattle.input_script.specs.Judging.{IsLate, IsNext, IsWrong}

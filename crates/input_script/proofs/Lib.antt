@@ -1,4 +1,3 @@
-mod Cutting
 mod Digits
 mod Events
 mod Reading

@@ -8,7 +8,7 @@ use Rattle.input_script.specs.declared.input.Kind.TheVariants.{PinA, PinB, PinC,
 use Rattle.input_script.specs.declared.input.Input.{Input}
 use Rattle.input_script.specs.declared.input.Event.{Event}
 use Rattle.input_script.specs.Kinds.{width_of}
-use Rattle.input_script.specs.Lines.{Lacks}
+use Rattle.text_lines.specs.Cutting.{Lacks}
 use Rattle.input_script.specs.Grammar.{IsNumber, IsInput, IsEvent}
 use Rattle.input_script.proofs.Events.{event_parts}
 

@@ -1,4 +1,4 @@
--- How one line is judged after others: what its reader promises.
+-- Serves private functions: how one line is judged after others: what its reader promises.
 use Rattle.std.specs.Prelude.{◌≡◌, ℕ, ◌<◌, ◌≤◌, ◌⊎◌, List, [], ◌∷◌, ◌++◌, length, Any}
 use Rattle.input_script.specs.declared.input.Event.{Event}
 use Rattle.input_script.specs.declared.line.Written.{Written}

@@ -1,4 +1,3 @@
-pub mod Lines
 pub mod Kinds
 pub mod Grammar
 pub mod Script

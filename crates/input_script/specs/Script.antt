@@ -5,7 +5,7 @@ use Rattle.input_script.specs.declared.input.Input.TheVariants.{Adc}
 use Rattle.input_script.specs.declared.input.Event.{Event}
 use Rattle.input_script.specs.declared.fault.ScriptFault.{ScriptFault}
 use Rattle.input_script.specs.declared.fault.ScriptFault.TheVariants.{Form, Order, Range, TooMany}
-use Rattle.input_script.specs.Lines.{lines_of}
+use Rattle.text_lines.specs.Lines.{lines_of}
 use Rattle.input_script.specs.Grammar.{IsSkipped, IsEvent}
 
 -- how many events a script may have

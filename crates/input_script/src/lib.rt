@@ -4,19 +4,15 @@
 //! The other inputs are `pina 0xHH` to `pind 0xHH` and `adc 0xHHH`; a line is empty, begins with `#`,
 //! or is one event. [`read`] answers the events, or the first faulty line and its first fault.
 //!
-//! `specs/Lines.antt` says what lines are, `specs/Grammar.antt` which forms a line has, and
+//! The lines of a text are those of `text_lines`; `specs/Grammar.antt` says which forms a line has, and
 //! `specs/Script.antt` what is accepted as a whole.
 #![tactic(auto)]
 
 mod fault;
 mod input;
 mod line;
-mod lines;
 mod script;
 
 pub use fault::{ScriptError, ScriptFault};
 pub use input::{Event, Input};
 pub use script::{Script, read};
-
-#[cfg(test)]
-mod tests;

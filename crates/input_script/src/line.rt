@@ -9,7 +9,7 @@ ghost use Rattle.input_script.specs.Kinds.{word_of};
 ghost use Rattle.input_script.specs.Grammar.{IsNumber, IsInput, IsEvent};
 
 use crate::input::{Input, Kind};
-use crate::lines::split_once;
+use text_lines::split_once;
 
 /// An event as a line writes it: the number has up to 10 digits.
 #[derive(Debug, Clone, Copy, PartialEq, Eq)]

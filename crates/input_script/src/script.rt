@@ -10,9 +10,9 @@ ghost use Rattle.input_script.specs.Judging.{event_of, IsLate, IsNext, IsWrong, 
 use crate::fault::{ScriptError, ScriptFault};
 use crate::input::{Event, Input};
 use crate::line::{Written, event_in};
-use crate::lines::first_line;
 use std::alloc::Global;
 use std::marker::Model;
+use text_lines::first_line;
 
 /// How many events a script may have.
 const MOST_EVENTS: usize = 65536;

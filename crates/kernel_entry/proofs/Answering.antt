@@ -7,20 +7,20 @@ use Rattle.avr_exec.specs.declared.cpu.Cpu.{Cpu}
 use Rattle.avr_exec.specs.declared.stop.BusStop.{BusStop}
 use Rattle.avr_exec.specs.Asks.{ask_of}
 use Rattle.avr_exec.specs.Spaces.{Outcome, Went, Stopped}
-use Rattle.avr_exec.specs.Execution.{is_executed}
 use Rattle.avr_exec.specs.Likeness.{Leaves}
 use Rattle.sram_layout.specs.Bytes.{byte_at}
 use Rattle.sram_layout.specs.Cells.{count_cell, vsp_cell}
 use Rattle.sram_layout.proofs.Laws.{byte_out_of_word}
 use Rattle.nat_template.specs.declared.shapes.TemplateShape.TheVariants.{Fault}
-use Rattle.nat_template.specs.Shapes.{shape_of, shape_of_form}
+use Rattle.nat_template.specs.Shapes.{shape_of}
+use Rattle.nat_template.proofs.ShapeLaws.{runs_or_faults}
 use Rattle.mem_guard.specs.FlatMachine.{next_size}
 use Rattle.mem_guard.specs.Guarded.{Guarded}
 use Rattle.mem_guard.specs.Left.{IsKept, HeapAfter}
 use Rattle.mem_guard.proofs.Leaves.{executed_leaves}
 use Rattle.kernel_entry.specs.declared.kernel.Kernel.{Kernel}
 use Rattle.kernel_entry.specs.declared.execution.Ran.{Ran}
-use Rattle.kernel_entry.specs.Parts.{descriptor, image_of, instruction, memory_of, core_of}
+use Rattle.kernel_entry.specs.Parts.{descriptor, instruction, memory_of, core_of, image_held}
 use Rattle.kernel_entry.specs.Services.{executed, execution, execution_by, if_instruction, resumed_by, resumed, gone_by, gone}
 use Rattle.kernel_entry.specs.Conditions.{CanExecute, CanCount, CanServe, IsCalled, shape_behind, executes, counts}
 
@@ -57,7 +57,7 @@ count_left : (k : Kernel) (form : Form) → CanExecute k → byte_at (execution 
 unfolding executed
 count_left k form can =
     count_by k (λ after. HeapAfter (memory_of k) (ask_of form (core_of k (descriptor k))) after) (executed k form)
-    (executed_leaves form (core_of k (descriptor k)) (memory_of k) (next_size (image_of k) (descriptor k)) can.paged)
+    (executed_leaves form (core_of k (descriptor k)) (memory_of k) (next_size (image_held k) (descriptor k)) can.paged)
 
 pub can_count : (k next : Kernel) (form : Form) (told : Result Ran BusStop) → CanExecute k → CanCount k → ◌≡◌ {A = Result Ran BusStop × Kernel} (told, next) (execution k form)
     → (1 ≤ byte_at next.mote.sram count_cell) × (byte_at next.mote.sram count_cell ≤ next.quantum)
@@ -67,13 +67,6 @@ can_count k next form told can count is =
     let some = count.some in
     let most = count.most in
     (omega arith, omega arith)
-
--- an instruction of a shape other than Fault is executed
-runs_or_faults : (pc : ℕ) (form : Form) → shape_of_form pc form ≢ Fault → is_executed form ≡ true
-unfolding shape_of_form is_executed
-runs_or_faults pc forms.Sleep apart = absurd (apart refl)
-runs_or_faults pc forms.Spm apart = absurd (apart refl)
-runs_or_faults pc _ apart = refl
 
 called_as : (k : Kernel) (i : Option Form) → instruction k ≡ i → shape_of (descriptor k) i ≢ Fault → CanExecute k → IsCalled k
 called_as k None is apart can = absurd (apart refl)

@@ -12,7 +12,7 @@ use Rattle.mem_guard.specs.FlatMachine.{next_size}
 use Rattle.mem_guard.specs.Guarded.{Guarded, guarded_calls}
 use Rattle.kernel_entry.specs.declared.kernel.Kernel.{Kernel}
 use Rattle.kernel_entry.specs.declared.execution.Ran.{Ran}
-use Rattle.kernel_entry.specs.Parts.{descriptor, image_of, virtual_sp, memory_of, put_back, with_sram}
+use Rattle.kernel_entry.specs.Parts.{descriptor, virtual_sp, memory_of, put_back, with_sram, image_held}
 use Rattle.kernel_entry.specs.Services.{executed, execution, execution_by}
 
 -- the program's core, with this stack pointer and pc
@@ -20,13 +20,13 @@ abbrev pub lent_core : Kernel → (at sp : ℕ) → Cpu
 lent_core k at sp = record k.mote.cpu { sp = sp; pc = at }
 
 -- the execution at these numbers is the one at the descriptor's address
-pub outcome_is : (k : Kernel) (at n sp : ℕ) (form : Form) (o : Outcome Guarded Cpu) → at ≡ descriptor k → n ≡ next_size (image_of k) at → sp ≡ virtual_sp k
+pub outcome_is : (k : Kernel) (at n sp : ℕ) (form : Form) (o : Outcome Guarded Cpu) → at ≡ descriptor k → n ≡ next_size (image_held k) at → sp ≡ virtual_sp k
     → o ≡ exec_of guarded_calls form (lent_core k at sp) (memory_of k) n → o ≡ executed k form
 unfolding executed
 outcome_is k at n sp form o here size stack is =
     is
     ∙ ap₂ (λ m s. exec_of guarded_calls form (lent_core k at s) (memory_of k) m) size stack
-    ∙ ap (λ a. exec_of guarded_calls form (lent_core k a (virtual_sp k)) (memory_of k) (next_size (image_of k) a)) here
+    ∙ ap (λ a. exec_of guarded_calls form (lent_core k a (virtual_sp k)) (memory_of k) (next_size (image_held k) a)) here
 
 -- it went on
 pub went_told : (k : Kernel) (form : Form) (core : Cpu) (memory : Guarded) (m : List ℕ) → Went core memory ≡ executed k form → m ≡ with_word memory.sram vsp_cell core.sp

@@ -1,16 +1,12 @@
 -- FAULT against the original program: what may not be executed stops it. Nothing is asked of the heap.
-use Rattle.std.proofs.Common.{◌≡◌, ℕ, ◌+◌, ◌%◌, ◌<◌, ◌≤◌, Bool, true, false, cond, List, length, take, refl, sym, ap, ◌∙◌, arith, subst, IsTrue, inl, inr}
+use Rattle.std.proofs.Common.{◌≡◌, ℕ, ◌+◌, ◌<◌, Bool, true, false, cond, refl, sym, ap, ◌∙◌, arith, IsTrue}
 use Rattle.std.specs.Prelude.{◌≢◌, ◌^◌, ◌==◌, Option, Some, None, if◌then◌else◌, not, ◌&&◌, nat_lt}
-use Rattle.std.proofs.lemmas.Bool.{cases_lt}
 use Rattle.std.proofs.lemmas.Bool.Decides.{nat_tests}
-use Rattle.std.proofs.lemmas.List.{get_or-take, get_or_default, get_or_past, length-take}
-use Rattle.avr_isa.specs.Image.{word}
 use Rattle.avr_isa.specs.Instruction.{is_valid, fields_in_range, is_undefined}
-use Rattle.avr_isa.specs.IoTable.{can_read, can_write, data_address}
+use Rattle.avr_isa.specs.IoTable.{can_read, can_write, io_address}
 use Rattle.avr_isa.specs.declared.form.Form.{Form}
 use Rattle.avr_isa.specs.declared.form.Form.TheVariants as forms
-use Rattle.avr_decode.proofs.Decoded.{the_form_row}
-use Rattle.avr_decode.specs.Program.{instruction_at}
+use Rattle.avr_decode.proofs.Decoded.{valid_at}
 use Rattle.avr_flags.specs.Status.{has_bit, interrupts}
 use Rattle.avr_exec.specs.declared.ask.Ask.TheVariants.{Nothing, Load, Store, Modify}
 use Rattle.avr_exec.specs.declared.answer.Answer.TheVariants.{Done, Byte}
@@ -21,6 +17,7 @@ use Rattle.avr_exec.specs.Execution.{answered_by, answer_of, is_executed}
 use Rattle.avr_exec.specs.Spaces.{Stopped}
 use Rattle.avr_exec.proofs.OneAnswer.{exec_stopped}
 use Rattle.flash_model.specs.Memory.{AreWords}
+use Rattle.flash_model.proofs.WordLaws.{front_fits}
 use Rattle.mote_devices.specs.State.{State}
 use Rattle.mote_devices.specs.Accesses.{Refused, read, modify as modify_device, written_back}
 use Rattle.mote_devices.proofs.AccessLaws.{read_refused, write_refused}
@@ -33,32 +30,13 @@ use Rattle.mem_guard.specs.FlatSpace.{FlatSpace, flat_calls, load, store, modify
 use Rattle.mem_guard.specs.FlatMachine.{Stops, Io as IoEnd, tried, stepped, next_size, jumps_to_itself}
 use Rattle.mem_guard.proofs.MachineLaws.{tried_illegal, tried_spm, tried_sleep, tried_step}
 use Rattle.kernel_entry.specs.declared.kernel.Kernel.{Kernel}
-use Rattle.kernel_entry.specs.Parts.{descriptor, image_of, instruction, core_of}
+use Rattle.kernel_entry.specs.Parts.{descriptor, instruction, core_of, image_held}
 use Rattle.kernel_entry.specs.Services.{fault_of}
 use Rattle.kernel_entry.specs.Seen.{space_of, program, state_at, end_of}
 use Rattle.kernel_entry.specs.Conditions.{shape_behind}
 
--- an instruction of the image is valid
-past : (words : List ℕ) (n a : ℕ) → length (take n words) ≤ a → word (take n words) a < 65536
-past words n a out = omega (arith, get_or_past (take n words) a 0xFFFF out)
-
-inside : (words : List ℕ) (n a : ℕ) → AreWords words → a < n → a < length words → word (take n words) a < 65536
-inside words n a fit below here =
-    let P : ℕ → Type 0 = λ w. w < 65536 in
-    subst P (sym (get_or-take n words a 0xFFFF below ∙ get_or_default words a 0xFFFF 0 here)) (fit a)
-
-word_fits : (words : List ℕ) (n a : ℕ) → AreWords words → word (take n words) a < 65536
-word_fits words n a fit =
-    elim (cases_lt a n) [
-      | inl below ↦ elim (cases_lt a (length words)) [ inl here ↦ inside words n a fit below here | inr out ↦ past words n a (omega (arith, length-take n words)) ]
-      | inr out ↦ past words n a (omega (arith, length-take n words))
-    ]
-
-valid_at : (words : List ℕ) (n a : ℕ) (form : Form) → AreWords words → instruction_at (take n words) a ≡ Some form → IsTrue (is_valid form)
-valid_at words n a form fit is = (the_form_row form (word (take n words) a) (word (take n words) ((a + 1) % 65536)) (word_fits words n a fit) (word_fits words n ((a + 1) % 65536) fit) is).0
-
 -- a register that may not be accessed so stops the program
-io_class : (a : ℕ) → a < 256 → is_own a ≡ false → class_of a ≡ Io
+pub io_class : (a : ℕ) → a < 256 → is_own a ≡ false → class_of a ≡ Io
 unfolding class_of
 io_class a low own = grind (arith, nat_tests)
 
@@ -76,7 +54,7 @@ refused_store s a v low own can =
     ∙ ap (λ c. answered_by {A = Unit {0}} (λ _. Done) (store_in c s a v)) (io_class a low own)
     ∙ ap (λ o. answered_by {A = Unit {0}} (λ _. Done) (to_device s a o)) (write_refused s.devices a v can)
 
-reads_not : (r w : Bool) → w ≡ true → r && w ≡ false → r ≡ false
+pub reads_not : (r w : Bool) → w ≡ true → r && w ≡ false → r ≡ false
 reads_not true w on off = absurd (let e = sym on ∙ off in cc)
 reads_not false w on off = refl
 
@@ -91,27 +69,27 @@ unfolding answer_of modify
 refused_modify s a clear set can = ap (λ o. answered_by {A = Unit {0}} (λ _. Done) (to_device s a o)) (modify_refused s.devices a clear set (can_write a) refl can)
 
 -- the fields of a valid instruction; of SPL, SPH and SREG, which the core answers itself, none faults
-six_right : (d q : ℕ) → IsTrue ((nat_lt d 32 && nat_lt q 64) && true) → q < 64
+pub six_right : (d q : ℕ) → IsTrue ((nat_lt d 32 && nat_lt q 64) && true) → q < 64
 six_right d q valid = grind (arith, nat_tests)
 
-six_left : (q r : ℕ) → IsTrue ((nat_lt q 64 && nat_lt r 32) && true) → q < 64
+pub six_left : (q r : ℕ) → IsTrue ((nat_lt q 64 && nat_lt r 32) && true) → q < 64
 six_left q r valid = grind (arith, nat_tests)
 
-low_left : (q r : ℕ) → IsTrue ((nat_lt q 32 && nat_lt r 8) && true) → q < 32
+pub low_left : (q r : ℕ) → IsTrue ((nat_lt q 32 && nat_lt r 8) && true) → q < 32
 low_left q r valid = grind (arith, nat_tests)
 
 low_own : (q : ℕ) → q < 32 → is_own (q + 0x20) ≡ false
 low_own q low = grind (arith, nat_tests)
 
-only_sreg : (q : ℕ) → q < 64 → is_stack_pointer q ≡ false → is_own (q + 0x20) ≡ true → q ≡ 0x3F
+pub only_sreg : (q : ℕ) → q < 64 → is_stack_pointer q ≡ false → is_own (q + 0x20) ≡ true → q ≡ 0x3F
 only_sreg q low apart own = grind (arith, nat_tests)
 
-own_read : (q : ℕ) (b : Bool) → is_own (q + 0x20) ≡ b → q < 64 → is_stack_pointer q ≡ false → can_read (q + 0x20) ≡ false → b ≡ false
+pub own_read : (q : ℕ) (b : Bool) → is_own (q + 0x20) ≡ b → q < 64 → is_stack_pointer q ≡ false → can_read (q + 0x20) ≡ false → b ≡ false
 unfolding can_read
 own_read q true own low apart can = absurd (let e : true ≡ false = sym (ap (λ q. can_read (q + 0x20)) (only_sreg q low apart own)) ∙ can in cc)
 own_read q false own low apart can = refl
 
-own_write : (q : ℕ) (b : Bool) → is_own (q + 0x20) ≡ b → q < 64 → is_stack_pointer q ≡ false → can_write (q + 0x20) ≡ false → b ≡ false
+pub own_write : (q : ℕ) (b : Bool) → is_own (q + 0x20) ≡ b → q < 64 → is_stack_pointer q ≡ false → can_write (q + 0x20) ≡ false → b ≡ false
 unfolding can_write
 own_write q true own low apart can = absurd (let e : true ≡ false = sym (ap (λ q. can_write (q + 0x20)) (only_sreg q low apart own)) ∙ can in cc)
 own_write q false own low apart can = refl
@@ -137,37 +115,37 @@ io_stops : (k : Kernel) (b : ℕ) (form : Form) → instruction k ≡ Some form 
     → answer_of flat_calls (space_of k) (ask_of form (core_of k (descriptor k))) ≡ Stopped (IoStop b) → (s c : ℕ) → tried (program k) (state_at k (descriptor k) s c) ≡ Stops (IoEnd (descriptor k) b)
 io_stops k b form is runs apart stopped s c =
     tried_step (program k) (state_at k (descriptor k) s c) form is runs (ap (λ b. b && not (has_bit k.mote.cpu.sreg interrupts)) apart)
-    ∙ ap (stepped (state_at k (descriptor k) s c)) (exec_stopped flat_calls form (core_of k (descriptor k)) (space_of k) (next_size (image_of k) (descriptor k)) (IoStop b) stopped)
+    ∙ ap (stepped (state_at k (descriptor k) s c)) (exec_stopped flat_calls form (core_of k (descriptor k)) (space_of k) (next_size (image_held k) (descriptor k)) (IoStop b) stopped)
 
 some_tries : (k : Kernel) (form : Form) → instruction k ≡ Some form → IsTrue (is_valid form) → shape_of_form (descriptor k) form ≡ Fault → TriedSo k (Some form)
 unfolding shape_of_form is_executed ask_of is_valid fields_in_range is_undefined
 some_tries k forms.Sleep is valid shape = λ s c. tried_sleep (program k) (state_at k (descriptor k) s c) is
 some_tries k forms.Spm is valid shape = λ s c. tried_spm (program k) (state_at k (descriptor k) s c) is
 some_tries k (forms.InIo d q) is valid shape =
-    let t = fault_io (is_stack_pointer q) (can_read (data_address q)) shape in
+    let t = fault_io (is_stack_pointer q) (can_read (io_address q)) shape in
     let low = six_right d q valid in
     io_stops k (q + 0x20) (forms.InIo d q) is refl refl (refused_load (space_of k) (q + 0x20) (omega arith) (own_read q (is_own (q + 0x20)) refl low t.0 t.1) t.1)
 some_tries k (forms.OutIo q r) is valid shape =
-    let t = fault_io (is_stack_pointer q) (can_write (data_address q)) shape in
+    let t = fault_io (is_stack_pointer q) (can_write (io_address q)) shape in
     let low = six_left q r valid in
     io_stops k (q + 0x20) (forms.OutIo q r) is refl refl (refused_store (space_of k) (q + 0x20) (register (core_of k (descriptor k)) r) (omega arith) (own_write q (is_own (q + 0x20)) refl low t.0 t.1) t.1)
 some_tries k (forms.Cbi q b) is valid shape =
-    io_stops k (q + 0x20) (forms.Cbi q b) is refl refl (refused_modify (space_of k) (q + 0x20) (2 ^ b) 0 (fault_one (can_modify (data_address q)) Native (λ e. cc) shape))
+    io_stops k (q + 0x20) (forms.Cbi q b) is refl refl (refused_modify (space_of k) (q + 0x20) (2 ^ b) 0 (fault_one (can_modify (io_address q)) Native (λ e. cc) shape))
 some_tries k (forms.Sbi q b) is valid shape =
-    io_stops k (q + 0x20) (forms.Sbi q b) is refl refl (refused_modify (space_of k) (q + 0x20) 0 (2 ^ b) (fault_one (can_modify (data_address q)) Native (λ e. cc) shape))
+    io_stops k (q + 0x20) (forms.Sbi q b) is refl refl (refused_modify (space_of k) (q + 0x20) 0 (2 ^ b) (fault_one (can_modify (io_address q)) Native (λ e. cc) shape))
 some_tries k (forms.Sbic q b) is valid shape =
     let low = low_left q b valid in
-    io_stops k (q + 0x20) (forms.Sbic q b) is refl refl (refused_load (space_of k) (q + 0x20) (omega arith) (low_own q low) (fault_one (can_read (data_address q)) Skip (λ e. cc) shape))
+    io_stops k (q + 0x20) (forms.Sbic q b) is refl refl (refused_load (space_of k) (q + 0x20) (omega arith) (low_own q low) (fault_one (can_read (io_address q)) Skip (λ e. cc) shape))
 some_tries k (forms.Sbis q b) is valid shape =
     let low = low_left q b valid in
-    io_stops k (q + 0x20) (forms.Sbis q b) is refl refl (refused_load (space_of k) (q + 0x20) (omega arith) (low_own q low) (fault_one (can_read (data_address q)) Skip (λ e. cc) shape))
+    io_stops k (q + 0x20) (forms.Sbis q b) is refl refl (refused_load (space_of k) (q + 0x20) (omega arith) (low_own q low) (fault_one (can_read (io_address q)) Skip (λ e. cc) shape))
 some_tries k (forms.Rjmp d) is valid shape = absurd (fault_self (relative (descriptor k) d == descriptor k) shape)
 some_tries k (forms.Jmp t) is valid shape = absurd (fault_self (t == descriptor k) shape)
 some_tries k _ is valid shape = absurd (cc)
 
 any_tries : (k : Kernel) (form : Option Form) → instruction k ≡ form → AreWords k.mote.flash.words → shape_of (descriptor k) form ≡ Fault → TriedSo k form
 any_tries k None is fit shape = λ s c. tried_illegal (program k) (state_at k (descriptor k) s c) is
-any_tries k (Some form) is fit shape = some_tries k form is (valid_at k.mote.flash.words k.layout.image_words (descriptor k) form fit is) shape
+any_tries k (Some form) is fit shape = some_tries k form is (valid_at (image_held k) (descriptor k) form (λ a. front_fits k.mote.flash.words k.layout.image_words a fit) is) shape
 
 pub fault_tried : (k : Kernel) → AreWords k.mote.flash.words → shape_behind k ≡ Fault → TriedSo k (instruction k)
 fault_tried k fit shape = any_tries k (instruction k) refl fit shape

@@ -20,7 +20,7 @@ use Rattle.mem_guard.proofs.Leaves.{executed_leaves}
 use Rattle.preempt_count.specs.Counting.{crossed}
 use Rattle.preempt_count.proofs.CountLaws.{byte_crossed, length-crossed}
 use Rattle.kernel_entry.specs.declared.kernel.Kernel.{Kernel}
-use Rattle.kernel_entry.specs.Parts.{descriptor, image_of, memory_of, core_of, rested, with_pc, with_sram}
+use Rattle.kernel_entry.specs.Parts.{descriptor, memory_of, core_of, rested, with_pc, with_sram, image_held}
 use Rattle.kernel_entry.specs.Services.{executed, execution_by}
 use Rattle.kernel_entry.specs.Left.{Leaves, LeavesHeap}
 
@@ -30,7 +30,7 @@ Kept k ask after = IsKept (memory_of k) after × HeapAfter (memory_of k) ask aft
 
 pub kept : (k : Kernel) (form : Form) → IsPaged k.mote.sram k.mote.swap → LeavesSpace (Kept k (ask_of form (core_of k (descriptor k)))) (executed k form)
 unfolding executed
-kept k form paged = executed_leaves form (core_of k (descriptor k)) (memory_of k) (next_size (image_of k) (descriptor k)) paged
+kept k form paged = executed_leaves form (core_of k (descriptor k)) (memory_of k) (next_size (image_held k) (descriptor k)) paged
 
 -- the kernel as it was, and with other bytes of SRAM
 pub leaves_rested : (k : Kernel) → Leaves k (rested k)

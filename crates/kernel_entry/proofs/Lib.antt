@@ -5,8 +5,7 @@ pub mod LeftLaws
 pub mod ViewLaws
 pub mod ShapeLaws
 pub mod RowLaws
-mod FaultLaws
-mod TriedLaws
+pub mod FaultLaws
+pub mod TriedLaws
 pub mod ServedLaws
 mod WorkedTexts
-mod PagedLaws

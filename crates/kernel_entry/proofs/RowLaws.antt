@@ -11,7 +11,7 @@ use Rattle.avr_exec.specs.Asks.{ask_of}
 use Rattle.avr_exec.specs.Effects.{finish_of}
 use Rattle.avr_exec.specs.declared.answer.Answer.TheVariants.{Done, Address}
 use Rattle.avr_exec.specs.Execution.{exec_of, answer_of, answered_by}
-use Rattle.avr_exec.specs.Registers.{raised, lowered, relative}
+use Rattle.avr_exec.specs.Registers.{wrapping_sum, wrapping_difference, relative}
 use Rattle.avr_exec.specs.Spaces.{Outcome, Went, Stopped}
 use Rattle.avr_exec.specs.Likeness.{over, moved, Leaves as LeavesSpace}
 use Rattle.avr_exec.proofs.OtherPlace.{exec_moved}
@@ -30,7 +30,7 @@ use Rattle.preempt_count.specs.Counting.{count_over}
 use Rattle.preempt_count.proofs.CountLaws.{count_crossed}
 use Rattle.kernel_entry.specs.declared.kernel.Kernel.{Kernel}
 use Rattle.kernel_entry.specs.declared.kernel.Served.{Served}
-use Rattle.kernel_entry.specs.Parts.{descriptor, image_of, memory_of, core_of, put_back, virtual_sp}
+use Rattle.kernel_entry.specs.Parts.{descriptor, memory_of, core_of, put_back, virtual_sp, image_held}
 use Rattle.kernel_entry.specs.Services.{executed, execution, execution_by, resumed_by, gone_by, stop_of}
 use Rattle.kernel_entry.specs.Seen.{view_of, view_by, count_of, space_of}
 use Rattle.kernel_entry.specs.Left.{MovesPages}
@@ -41,11 +41,11 @@ use Rattle.kernel_entry.proofs.ViewLaws.{view_put, view_crossed}
 
 -- the execution over flat memory
 abbrev pub flatly : Kernel → Form → Outcome FlatSpace Cpu
-flatly k form = exec_of flat_calls form (core_of k (descriptor k)) (space_of k) (next_size (image_of k) (descriptor k))
+flatly k form = exec_of flat_calls form (core_of k (descriptor k)) (space_of k) (next_size (image_held k) (descriptor k))
 
 pub flatly_is : (k : Kernel) (form : Form) → IsPaged k.mote.sram k.mote.swap → flatly k form ≡ over flat_of (executed k form)
 unfolding executed
-flatly_is k form paged = executed_alike form (core_of k (descriptor k)) (memory_of k) (next_size (image_of k) (descriptor k)) paged
+flatly_is k form paged = executed_alike form (core_of k (descriptor k)) (memory_of k) (next_size (image_held k) (descriptor k)) paged
 
 -- COUNT behind an execution
 count_put : (k : Kernel) (ask : Ask) (core : Cpu) (memory : Guarded) → Kept k ask memory → count_of (put_back k core memory) ≡ count_of k
@@ -100,17 +100,17 @@ goes_row k form paged =
     subst P (sym (flatly_is k form paged)) (goes_by k (ask_of form (core_of k (descriptor k))) (executed k form) (kept k form paged))
 
 -- MEM
-executed_by : (k new : Kernel) (result : Served) (form : Form) (o : Outcome FlatSpace Cpu) → o ≡ answered_by (λ core. moved core (raised (descriptor k) (size_of form))) o
+executed_by : (k new : Kernel) (result : Served) (form : Form) (o : Outcome FlatSpace Cpu) → o ≡ answered_by (λ core. moved core (wrapping_sum (descriptor k) (size_of form))) o
     → ResumedBy k result new (ask_of form (core_of k (descriptor k))) o → ExecutedBy k result new form o
 executed_by k new result form (Went core space) same row =
-    let there : core ≡ moved core (raised (descriptor k) (size_of form)) = cc in
+    let there : core ≡ moved core (wrapping_sum (descriptor k) (size_of form)) = cc in
     record { resumes = row.0; pages = row.1; behind = ap (λ (x : Cpu). x.pc) there }
 executed_by k new result form (Stopped stop) same row = row
 
 pub executed_row : (k new : Kernel) (result : Served) (form : Form) → shape_of_form (descriptor k) form ≡ Mem → ResumedBy k result new (ask_of form (core_of k (descriptor k))) (flatly k form)
     → ExecutedBy k result new form (flatly k form)
 executed_row k new result form shape row =
-    let n = next_size (image_of k) (descriptor k) in
+    let n = next_size (image_held k) (descriptor k) in
     executed_by k new result form (flatly k form) (exec_moved flat_calls form (core_of k (descriptor k)) (space_of k) n n (descriptor k) (mem_straight (descriptor k) form shape)) row
 
 -- PUSHRET: a push shows nothing outside
@@ -122,11 +122,11 @@ line_pushed false c s next sp below low high done is = absurd (cc)
 
 line_after_push : (s next : FlatSpace) (sp ret : ℕ) (done : Unit {0}) → push_return s sp ret ≡ Went done next → next.line ≡ s.line
 unfolding push_return
-line_after_push s next sp ret done is = line_pushed (is_stack sp) (is_stack (lowered sp 1)) s next sp (lowered sp 1) (ret % 256) (ret / 256) done is
+line_after_push s next sp ret done is = line_pushed (is_stack sp) (is_stack (wrapping_difference sp 1)) s next sp (wrapping_difference sp 1) (ret % 256) (ret / 256) done is
 
 -- the same of a call and a jump through Z
 abbrev pub after_push : Kernel → ℕ → Outcome FlatSpace (Unit {0}) → Outcome FlatSpace Cpu
-after_push k to (Went done space) = Went (record (core_of k (descriptor k)) { sp = lowered (virtual_sp k) 2; pc = to }) space
+after_push k to (Went done space) = Went (record (core_of k (descriptor k)) { sp = wrapping_difference (virtual_sp k) 2; pc = to }) space
 after_push k to (Stopped stop) = Stopped stop
 
 pushed_by : (k new : Kernel) (result : Served) (ask : Ask) (to ret : ℕ) (p : Outcome FlatSpace (Unit {0})) → push_return (space_of k) (virtual_sp k) ret ≡ p → ResumedBy k result new ask (after_push k to p) → PushedBy k result new p
@@ -138,21 +138,21 @@ pushed_by k new result ask to ret (Went done space) is row = record {
 }
 pushed_by k new result ask to ret (Stopped stop) is row = row
 
-twice : (k : Kernel) (to : ℕ) (p : Outcome FlatSpace (Unit {0})) → answered_by (λ answer. record (core_of k (descriptor k)) { sp = lowered (virtual_sp k) 2; pc = to }) (answered_by (λ _. Done) p) ≡ after_push k to p
+twice : (k : Kernel) (to : ℕ) (p : Outcome FlatSpace (Unit {0})) → answered_by (λ answer. record (core_of k (descriptor k)) { sp = wrapping_difference (virtual_sp k) 2; pc = to }) (answered_by (λ _. Done) p) ≡ after_push k to p
 twice k to (Went done space) = refl
 twice k to (Stopped stop) = refl
 
-call_near : (k : Kernel) (d : ℤ) → flatly k (forms.Rcall d) ≡ after_push k (relative (descriptor k) d) (push_return (space_of k) (virtual_sp k) (raised (descriptor k) 1))
+call_near : (k : Kernel) (d : ℤ) → flatly k (forms.Rcall d) ≡ after_push k (relative (descriptor k) d) (push_return (space_of k) (virtual_sp k) (wrapping_sum (descriptor k) 1))
 unfolding exec_of ask_of answer_of finish_of
-call_near k d = twice k (relative (descriptor k) d) (push_return (space_of k) (virtual_sp k) (raised (descriptor k) 1))
+call_near k d = twice k (relative (descriptor k) d) (push_return (space_of k) (virtual_sp k) (wrapping_sum (descriptor k) 1))
 
-call_far : (k : Kernel) (a : ℕ) → flatly k (forms.Call a) ≡ after_push k a (push_return (space_of k) (virtual_sp k) (raised (descriptor k) 2))
+call_far : (k : Kernel) (a : ℕ) → flatly k (forms.Call a) ≡ after_push k a (push_return (space_of k) (virtual_sp k) (wrapping_sum (descriptor k) 2))
 unfolding exec_of ask_of answer_of finish_of
-call_far k a = twice k a (push_return (space_of k) (virtual_sp k) (raised (descriptor k) 2))
+call_far k a = twice k a (push_return (space_of k) (virtual_sp k) (wrapping_sum (descriptor k) 2))
 
-call_through : (k : Kernel) → flatly k forms.Icall ≡ after_push k (z_of k) (push_return (space_of k) (virtual_sp k) (raised (descriptor k) 1))
+call_through : (k : Kernel) → flatly k forms.Icall ≡ after_push k (z_of k) (push_return (space_of k) (virtual_sp k) (wrapping_sum (descriptor k) 1))
 unfolding exec_of ask_of answer_of finish_of
-call_through k = twice k (z_of k) (push_return (space_of k) (virtual_sp k) (raised (descriptor k) 1))
+call_through k = twice k (z_of k) (push_return (space_of k) (virtual_sp k) (wrapping_sum (descriptor k) 1))
 
 pushed_as : (k new : Kernel) (result : Served) (ask : Ask) (to ret : ℕ) (o : Outcome FlatSpace Cpu) → o ≡ after_push k to (push_return (space_of k) (virtual_sp k) ret) → ResumedBy k result new ask o
     → PushedBy k result new (push_return (space_of k) (virtual_sp k) ret)
@@ -162,19 +162,19 @@ pushed_as k new result ask to ret o is row =
 -- PUSHRET
 abbrev PushRow : Kernel → Kernel → Served → Form → Type 0
 PushRow k new result form = shape_of_form (descriptor k) form ≡ Call → ResumedBy k result new (ask_of form (core_of k (descriptor k))) (flatly k form)
-    → PushedBy k result new (push_return (space_of k) (virtual_sp k) (raised (descriptor k) (size_of form)))
+    → PushedBy k result new (push_return (space_of k) (virtual_sp k) (wrapping_sum (descriptor k) (size_of form)))
 
 pub pushed_row : (k new : Kernel) (result : Served) (form : Form) → is_service_jump (shape_of_form (descriptor k) form) ≡ true → PushRow k new result form
 unfolding shape_of_form size_of
 pushed_row k new result form is =
     by_service_jump (PushRow k new result)
-    (λ d shape row. pushed_as k new result (ask_of (forms.Rcall d) (core_of k (descriptor k))) (relative (descriptor k) d) (raised (descriptor k) 1) (flatly k (forms.Rcall d)) (call_near k d) row)
-    (λ a shape row. pushed_as k new result (ask_of (forms.Call a) (core_of k (descriptor k))) a (raised (descriptor k) 2) (flatly k (forms.Call a)) (call_far k a) row)
+    (λ d shape row. pushed_as k new result (ask_of (forms.Rcall d) (core_of k (descriptor k))) (relative (descriptor k) d) (wrapping_sum (descriptor k) 1) (flatly k (forms.Rcall d)) (call_near k d) row)
+    (λ a shape row. pushed_as k new result (ask_of (forms.Call a) (core_of k (descriptor k))) a (wrapping_sum (descriptor k) 2) (flatly k (forms.Call a)) (call_far k a) row)
     (λ shape row. absurd (cc)) (λ shape row. absurd (cc)) (λ shape row. absurd (cc)) (λ shape row. absurd (cc)) (descriptor k) form is
 
 -- RET
-popped_by : (k new : Kernel) (result : Served) (form : Form) (p : Outcome FlatSpace ℕ) → WentBy k result new (answered_by (finish_of form (core_of k (descriptor k)) (next_size (image_of k) (descriptor k))) (answered_by Address p))
-    → ((target : ℕ) → finish_of form (core_of k (descriptor k)) (next_size (image_of k) (descriptor k)) (Address target) ≡ record (core_of k (descriptor k)) { sp = raised (virtual_sp k) 2; sreg = status_after form k.mote.cpu.sreg; pc = target })
+popped_by : (k new : Kernel) (result : Served) (form : Form) (p : Outcome FlatSpace ℕ) → WentBy k result new (answered_by (finish_of form (core_of k (descriptor k)) (next_size (image_held k) (descriptor k))) (answered_by Address p))
+    → ((target : ℕ) → finish_of form (core_of k (descriptor k)) (next_size (image_held k) (descriptor k)) (Address target) ≡ record (core_of k (descriptor k)) { sp = wrapping_sum (virtual_sp k) 2; sreg = status_after form k.mote.cpu.sreg; pc = target })
     → PoppedBy k result new form p
 popped_by k new result form (Went target space) row ends =
     let P : Cpu → Type 0 = λ core. Goes k result new (view_by core space) core.pc in
@@ -212,7 +212,7 @@ unfolding shape_of_form
 through_row k new result form is =
     by_service_jump (ThroughRow k new result) (λ d shape row. absurd (cc)) (λ a shape row. absurd (cc)) (λ shape row. absurd (cc)) (λ shape row. absurd (cc))
     (λ shape row. jump_through k new result row)
-    (λ shape row. through_call k new result (flatly k forms.Icall) (push_return (space_of k) (virtual_sp k) (raised (descriptor k) 1)) (call_through k) row)
+    (λ shape row. through_call k new result (flatly k forms.Icall) (push_return (space_of k) (virtual_sp k) (wrapping_sum (descriptor k) 1)) (call_through k) row)
     (descriptor k) form is
 
 -- SELF

@@ -9,7 +9,7 @@ use Rattle.avr_exec.specs.Asks.{ask_of}
 use Rattle.avr_exec.specs.Spaces.{Outcome, Went, Stopped}
 use Rattle.avr_exec.specs.Likeness.{Leaves as LeavesSpace}
 use Rattle.flash_model.specs.Memory.{AreWords}
-use Rattle.sram_layout.specs.Bytes.{with_byte, byte_count, word_at, with_word}
+use Rattle.sram_layout.specs.Bytes.{with_byte, byte_count, data_word_at, with_word}
 use Rattle.sram_layout.specs.Cells.{count_cell, vsp_cell}
 use Rattle.sram_layout.proofs.Laws.{byte_same, byte_other, word_out_of_byte}
 use Rattle.heap_frames.proofs.SamePagingLaws.{same_paging_byte, same_paging_refl, same_paging_trans}
@@ -27,7 +27,7 @@ use Rattle.kernel_entry.specs.declared.kernel.Served.{Served}
 use Rattle.kernel_entry.specs.declared.kernel.Stop.TheVariants.{Halted}
 use Rattle.kernel_entry.specs.Parts.{return_address, descriptor, instruction, memory_of, core_of, virtual_sp, rested, with_sram}
 use Rattle.avr_isa.specs.Instruction.{size_of}
-use Rattle.avr_exec.specs.Registers.{raised}
+use Rattle.avr_exec.specs.Registers.{wrapping_sum}
 use Rattle.heap_frames.specs.SamePaging.{SamePaging}
 use Rattle.mem_guard.specs.FlatSpace.{push_return, pop_return}
 use Rattle.kernel_entry.specs.Services.{bridged, faulted, executed, execution, execution_by, if_instruction, resumed_by, resumed, gone_by, gone, halted_or_gone, quantum_ended, fault_of, served, served_at}
@@ -130,7 +130,7 @@ push_row k can here =
     record {
       form = form;
       is = s.called.is;
-      does = along (λ result new. PushedBy k result new (push_return (space_of k) (virtual_sp k) (raised (descriptor k) (size_of form)))) (served k) e (resumes_at k form push_return_entry here refl s.called.is)
+      does = along (λ result new. PushedBy k result new (push_return (space_of k) (virtual_sp k) (wrapping_sum (descriptor k) (size_of form)))) (served k) e (resumes_at k form push_return_entry here refl s.called.is)
           (pushed_row k e.1 e.0 form (ap is_service_jump s.shaped) s.shaped (resumes_row k form s.called.can.paged));
     }
 
@@ -184,7 +184,7 @@ bridge_row k here = along (λ result new. Bridges k result new) (served k) (brid
 pub fault_row : (k : Kernel) → k.mote.cpu.pc ≡ fault_entry → Faults k (served k).0 (served k).1
 fault_row k here = along (λ result new. Faults k result new) (served k) (faulted k) (at_entry k fault_entry here) (record { answer = refl; stays = refl })
 
-count_written : (m : List ℕ) (q : ℕ) → word_at (with_byte m count_cell q) vsp_cell ≡ word_at m vsp_cell
+count_written : (m : List ℕ) (q : ℕ) → data_word_at (with_byte m count_cell q) vsp_cell ≡ data_word_at m vsp_cell
 count_written m q = word_out_of_byte m count_cell vsp_cell q (omega arith) (omega arith) (λ e. omega arith) (λ e. omega arith)
 
 same_count : (m : List ℕ) (q : ℕ) → SamePaging m (with_byte m count_cell q)
@@ -207,7 +207,7 @@ quantum_row k size here = along (λ result new. EndsQuantum k result new) (serve
 
 -- what every service leaves
 resumed_leaves : (k : Kernel) (ask : Ask) (o : Outcome Guarded Cpu) → Leaves k (execution_by k o).1 → Leaves k (resumed_by k (execution_by k o).0 (execution_by k o).1).1
-resumed_leaves k ask (Went core memory) left = leaves_pc k (execution_by k (Went core memory)).1 (raised (return_address k) 1) left
+resumed_leaves k ask (Went core memory) left = leaves_pc k (execution_by k (Went core memory)).1 (wrapping_sum (return_address k) 1) left
 resumed_leaves k ask (Stopped stop) left = left
 
 gone_leaves : (k : Kernel) (ask : Ask) (o : Outcome Guarded Cpu) → Leaves k (execution_by k o).1 → Leaves k (gone_by k (execution_by k o).0 (execution_by k o).1).1

@@ -4,7 +4,7 @@ use Rattle.std.specs.Prelude.{◌≢◌, ◌==◌, ℤ}
 use Rattle.std.proofs.lemmas.Bool.Decides.{nat_tests}
 use Rattle.avr_isa.specs.declared.form.Form.{Form}
 use Rattle.avr_isa.specs.declared.form.Form.TheVariants as forms
-use Rattle.avr_isa.specs.IoTable.{data_address, can_read, can_write}
+use Rattle.avr_isa.specs.IoTable.{can_read, can_write, io_address}
 use Rattle.avr_exec.specs.Registers.{relative}
 use Rattle.avr_exec.specs.Likeness.{is_transfer}
 use Rattle.nat_template.specs.declared.shapes.TemplateShape.{TemplateShape}
@@ -53,17 +53,17 @@ by_service_jump P rcall call ret reti ijmp icall pc forms.Ret is = ret
 by_service_jump P rcall call ret reti ijmp icall pc forms.Reti is = reti
 by_service_jump P rcall call ret reti ijmp icall pc forms.Ijmp is = ijmp
 by_service_jump P rcall call ret reti ijmp icall pc forms.Icall is = icall
-by_service_jump P rcall call ret reti ijmp icall pc (forms.InIo d a) is = absurd (by_io (is_stack_pointer a) (can_read (data_address a)) is)
-by_service_jump P rcall call ret reti ijmp icall pc (forms.OutIo a r) is = absurd (by_io (is_stack_pointer a) (can_write (data_address a)) is)
-by_service_jump P rcall call ret reti ijmp icall pc (forms.Cbi a b) is = absurd (by_access (can_modify (data_address a)) is)
-by_service_jump P rcall call ret reti ijmp icall pc (forms.Sbi a b) is = absurd (by_access (can_modify (data_address a)) is)
-by_service_jump P rcall call ret reti ijmp icall pc (forms.Sbic a b) is = absurd (by_skip (can_read (data_address a)) is)
-by_service_jump P rcall call ret reti ijmp icall pc (forms.Sbis a b) is = absurd (by_skip (can_read (data_address a)) is)
+by_service_jump P rcall call ret reti ijmp icall pc (forms.InIo d a) is = absurd (by_io (is_stack_pointer a) (can_read (io_address a)) is)
+by_service_jump P rcall call ret reti ijmp icall pc (forms.OutIo a r) is = absurd (by_io (is_stack_pointer a) (can_write (io_address a)) is)
+by_service_jump P rcall call ret reti ijmp icall pc (forms.Cbi a b) is = absurd (by_access (can_modify (io_address a)) is)
+by_service_jump P rcall call ret reti ijmp icall pc (forms.Sbi a b) is = absurd (by_access (can_modify (io_address a)) is)
+by_service_jump P rcall call ret reti ijmp icall pc (forms.Sbic a b) is = absurd (by_skip (can_read (io_address a)) is)
+by_service_jump P rcall call ret reti ijmp icall pc (forms.Sbis a b) is = absurd (by_skip (can_read (io_address a)) is)
 by_service_jump P rcall call ret reti ijmp icall pc (forms.Rjmp k) is = absurd (by_target (relative pc k == pc) is)
 by_service_jump P rcall call ret reti ijmp icall pc (forms.Jmp a) is = absurd (by_target (a == pc) is)
 by_service_jump P rcall call ret reti ijmp icall pc _ is = absurd (cc)
 
--- a jump to itself, and every other instruction
+-- an RJMP or JMP to its own address, and every other instruction
 not_self : (b : Bool) → cond b SelfJump Jump ≢ SelfJump → b ≡ false
 not_self true apart = absurd (apart refl)
 not_self false apart = refl
@@ -98,12 +98,12 @@ pub by_self_form : (P : Form → Type 0) (pc : ℕ) → ((k : ℤ) → relative 
 unfolding shape_of_form
 by_self_form P pc near far (forms.Rjmp k) is = near k (self_target (relative pc k) pc (self_test (relative pc k == pc) is))
 by_self_form P pc near far (forms.Jmp a) is = far a (self_target a pc (self_test (a == pc) is))
-by_self_form P pc near far (forms.InIo d a) is = absurd (self_io (is_stack_pointer a) (can_read (data_address a)) is)
-by_self_form P pc near far (forms.OutIo a r) is = absurd (self_io (is_stack_pointer a) (can_write (data_address a)) is)
-by_self_form P pc near far (forms.Cbi a b) is = absurd (self_access (can_modify (data_address a)) is)
-by_self_form P pc near far (forms.Sbi a b) is = absurd (self_access (can_modify (data_address a)) is)
-by_self_form P pc near far (forms.Sbic a b) is = absurd (self_skip (can_read (data_address a)) is)
-by_self_form P pc near far (forms.Sbis a b) is = absurd (self_skip (can_read (data_address a)) is)
+by_self_form P pc near far (forms.InIo d a) is = absurd (self_io (is_stack_pointer a) (can_read (io_address a)) is)
+by_self_form P pc near far (forms.OutIo a r) is = absurd (self_io (is_stack_pointer a) (can_write (io_address a)) is)
+by_self_form P pc near far (forms.Cbi a b) is = absurd (self_access (can_modify (io_address a)) is)
+by_self_form P pc near far (forms.Sbi a b) is = absurd (self_access (can_modify (io_address a)) is)
+by_self_form P pc near far (forms.Sbic a b) is = absurd (self_skip (can_read (io_address a)) is)
+by_self_form P pc near far (forms.Sbis a b) is = absurd (self_skip (can_read (io_address a)) is)
 by_self_form P pc near far _ is = absurd (cc)
 
 pub equal_test : (a b : ℕ) → a ≡ b → a == b ≡ true
@@ -123,8 +123,8 @@ mem_jump false is = cc
 
 pub mem_straight : (pc : ℕ) (form : Form) → shape_of_form pc form ≡ Mem → is_transfer form ≡ false
 unfolding shape_of_form is_transfer
-mem_straight pc (forms.Sbic a b) is = absurd (mem_access (can_read (data_address a)) Skip (λ e. cc) is)
-mem_straight pc (forms.Sbis a b) is = absurd (mem_access (can_read (data_address a)) Skip (λ e. cc) is)
+mem_straight pc (forms.Sbic a b) is = absurd (mem_access (can_read (io_address a)) Skip (λ e. cc) is)
+mem_straight pc (forms.Sbis a b) is = absurd (mem_access (can_read (io_address a)) Skip (λ e. cc) is)
 mem_straight pc (forms.Cpse d r) is = absurd (cc)
 mem_straight pc (forms.Sbrc r b) is = absurd (cc)
 mem_straight pc (forms.Sbrs r b) is = absurd (cc)

@@ -19,7 +19,7 @@ use Rattle.mem_guard.proofs.GuardedStep.{guarded_goes, guarded_stops}
 use Rattle.mem_guard.proofs.LineLaws.{transfer_line}
 use Rattle.avr_exec.specs.declared.ask.Ask.{Ask}
 use Rattle.kernel_entry.specs.declared.kernel.Kernel.{Kernel}
-use Rattle.kernel_entry.specs.Parts.{descriptor, image_of, instruction, memory_of, core_of, put_back}
+use Rattle.kernel_entry.specs.Parts.{descriptor, instruction, memory_of, core_of, put_back, image_held}
 use Rattle.kernel_entry.specs.Services.{executed, execution_by, resumed_by, gone_by, stop_of}
 use Rattle.kernel_entry.specs.Seen.{View, view_by, end_of}
 use Rattle.kernel_entry.specs.Rows.{AsTried}
@@ -46,7 +46,7 @@ end_stop at (bus.SwapFull a) = refl
 abbrev counted : Kernel → ℕ → ℕ → ℕ
 counted k to crossings = if is_crossing (descriptor k) to then crossings + 1 else crossings
 
--- what the original program does is tried, unless it jumps to itself for ever
+-- what the original program does is tried, unless it is an RJMP or JMP to its own address, for ever
 abbrev GoesOnward : Kernel → Form → Type 0
 GoesOnward k form = jumps_to_itself (descriptor k) form && not (has_bit k.mote.cpu.sreg interrupts) ≡ false
 
@@ -68,7 +68,7 @@ goes_tried k form ask (Went core memory) paged is runs goes moves left went =
     AsTried.GoesToo core.pc refl (λ s c.
     guarded_goes (memory_of k) memory (core_of k (descriptor k)) core s c form paged refl is runs goes went
     ∙ ap (λ line. GoesOn line (state_by (view_by core (flat_of memory)) core.pc (s + 1) (counted k core.pc c)))
-    (transfer_line form (core_of k (descriptor k)) core (memory_of k) memory (next_size (image_of k) (descriptor k)) moves went)
+    (transfer_line form (core_of k (descriptor k)) core (memory_of k) memory (next_size (image_held k) (descriptor k)) moves went)
     ∙ sym (ap (λ v. GoesOn None (state_by v core.pc (s + 1) (counted k core.pc c)))
     (view_crossed (put_back k core memory) k.quantum (descriptor k) core.pc ∙ view_put k core memory left.0.paged.sized.sram)))
 goes_tried k form ask (Stopped stop) paged is runs goes moves left went =

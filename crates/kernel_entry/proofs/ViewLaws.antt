@@ -1,7 +1,7 @@
 -- What the program sees after an execution, and what it doesn't see.
 use Rattle.std.proofs.Common.{◌≡◌, ℕ, ◌+◌, ◌*◌, ◌≤◌, List, length, ap, ap₂, ◌∙◌, arith}
 use Rattle.avr_exec.specs.declared.cpu.Cpu.{Cpu}
-use Rattle.sram_layout.specs.Bytes.{byte_at, with_word, word_at}
+use Rattle.sram_layout.specs.Bytes.{byte_at, with_word, data_word_at}
 use Rattle.sram_layout.specs.Cells.{vsp_cell}
 use Rattle.sram_layout.proofs.Laws.{word_same, byte_out_of_word}
 use Rattle.heap_frames.specs.Memory.{vmem}
@@ -20,10 +20,10 @@ abbrev viewed : View → (stack : ℕ) → (memory : List ℕ) → View
 viewed v stack memory = record v { stack_pointer = stack; memory = memory }
 
 -- other bytes of SRAM, of which the program sees nothing
-pub view_sram : (k : Kernel) (m : List ℕ) → SamePaging k.mote.sram m → ((a : ℕ) → 0x0D00 ≤ a → a ≤ 0x10FF → byte_at m a ≡ byte_at k.mote.sram a) → word_at m vsp_cell ≡ word_at k.mote.sram vsp_cell
+pub view_sram : (k : Kernel) (m : List ℕ) → SamePaging k.mote.sram m → ((a : ℕ) → 0x0D00 ≤ a → a ≤ 0x10FF → byte_at m a ≡ byte_at k.mote.sram a) → data_word_at m vsp_cell ≡ data_word_at k.mote.sram vsp_cell
     → view_of (with_sram k m) ≡ view_of k
 view_sram k m same window stack =
-    ap (λ p. record (viewed (view_of k) (word_at m vsp_cell) (vmem m k.mote.swap)) { pages = p }) (pages_same k.mote.sram m same)
+    ap (λ p. record (viewed (view_of k) (data_word_at m vsp_cell) (vmem m k.mote.swap)) { pages = p }) (pages_same k.mote.sram m same)
     ∙ ap₂ (viewed (view_of k)) stack (vmem_same k.mote.sram m k.mote.swap same window)
 
 -- the core and the memory that were put back
@@ -31,13 +31,13 @@ pub view_put : (k : Kernel) (core : Cpu) (memory : Guarded) → length memory.sr
 view_put k core memory size =
     let m = with_word memory.sram vsp_cell core.sp in
     let v = view_by core (flat_of memory) in
-    ap (λ p. record (viewed v (word_at m vsp_cell) (vmem m memory.swap)) { pages = p }) (pages_same memory.sram m (same_stored memory.sram core.sp))
+    ap (λ p. record (viewed v (data_word_at m vsp_cell) (vmem m memory.swap)) { pages = p }) (pages_same memory.sram m (same_stored memory.sram core.sp))
     ∙ ap₂ (viewed v) (word_same memory.sram vsp_cell core.sp (omega arith) (omega arith))
     (vmem_same memory.sram m memory.swap (same_stored memory.sram core.sp) (λ a from to. byte_out_of_word memory.sram vsp_cell a core.sp (omega arith) (omega arith) (λ e. omega arith) (λ e. omega arith)))
 
 -- a counted step
-word_crossed : (q pc t : ℕ) (m : List ℕ) → word_at (crossed q pc t m) vsp_cell ≡ word_at m vsp_cell
-unfolding word_at
+word_crossed : (q pc t : ℕ) (m : List ℕ) → data_word_at (crossed q pc t m) vsp_cell ≡ data_word_at m vsp_cell
+unfolding data_word_at
 word_crossed q pc t m =
     ap₂ (λ low high. low + 256 * high) (byte_crossed q pc t vsp_cell m (omega arith) (λ e. omega arith)) (byte_crossed q pc t (vsp_cell + 1) m (omega arith) (λ e. omega arith))
 

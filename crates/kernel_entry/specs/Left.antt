@@ -2,18 +2,18 @@
 use Rattle.std.specs.Prelude.{◌≡◌, ℕ, ◌+◌, ◌≤◌, length}
 use Rattle.avr_exec.specs.declared.ask.Ask.{Ask}
 use Rattle.sram_layout.specs.Bytes.{byte_at, with_word}
-use Rattle.sram_layout.specs.Cells.{vsp_cell}
+use Rattle.sram_layout.specs.Cells.{vsp_cell, kernel_stack_top}
 use Rattle.heap_frames.specs.Paged.{IsPaged}
 use Rattle.mem_guard.specs.Guarded.{Guarded}
 use Rattle.mem_guard.specs.Left.{HeapAfter}
 use Rattle.kernel_entry.specs.declared.kernel.Kernel.{Kernel}
-use Rattle.kernel_entry.specs.Parts.{stack_top, virtual_sp, memory_of}
+use Rattle.kernel_entry.specs.Parts.{virtual_sp, memory_of}
 
 -- every service: the kernel's stack is empty; flash, the layout, the quantum, the number of slots and the
 -- kernel's tables of places, in 0x0142 to 0x03FF, stay; the devices are polled once at most; and the heap
 -- stays in order
 pub record Leaves (old new : Kernel) : Type 0 where
-  pub stack : new.mote.cpu.sp ≡ stack_top
+  pub stack : new.mote.cpu.sp ≡ kernel_stack_top
   pub flash : new.mote.flash ≡ old.mote.flash
   pub layout : new.layout ≡ old.layout
   pub quantum : new.quantum ≡ old.quantum

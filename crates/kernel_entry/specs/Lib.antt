@@ -5,5 +5,4 @@ pub mod Conditions
 pub mod Seen
 pub mod Left
 pub mod Rows
-pub mod KernelPart
 pub mod Texts

@@ -1,17 +1,14 @@
 -- What the kernel has of the program (docs/LOADER.md, "What a service does").
-use Rattle.std.specs.Prelude.{ℕ, ◌+◌, ◌*◌, List, take, Option, None}
+use Rattle.std.specs.Prelude.{ℕ, ◌+◌, ◌*◌, List, Option, None}
 use Rattle.avr_isa.specs.declared.form.Form.{Form}
 use Rattle.avr_decode.specs.Program.{instruction_at}
 use Rattle.avr_exec.specs.declared.cpu.Cpu.{Cpu}
 use Rattle.flash_model.specs.Pages.{word_at}
-use Rattle.sram_layout.specs.Bytes.{byte_at, with_word, word_at as cell_at}
-use Rattle.sram_layout.specs.Cells.{vsp_cell}
+use Rattle.flash_model.specs.Layouts.{image_of}
+use Rattle.sram_layout.specs.Bytes.{byte_at, with_word, data_word_at as cell_at}
+use Rattle.sram_layout.specs.Cells.{vsp_cell, kernel_stack_top}
 use Rattle.mem_guard.specs.Guarded.{Guarded}
 use Rattle.kernel_entry.specs.declared.kernel.Kernel.{Kernel}
-
--- the physical stack pointer where the kernel's own stack is empty
-abbrev pub stack_top : ℕ
-stack_top = 0x011F
 
 -- the address behind the call of the kernel, where the call left it: its high byte at the lower address
 abbrev pub return_address : Kernel → ℕ
@@ -22,11 +19,11 @@ abbrev pub descriptor : Kernel → ℕ
 descriptor k = word_at k.mote.flash.words (return_address k)
 
 -- the program's image, and its instruction at the descriptor's address
-abbrev pub image_of : Kernel → List ℕ
-image_of k = take k.layout.image_words k.mote.flash.words
+abbrev pub image_held : Kernel → List ℕ
+image_held k = image_of k.layout k.mote.flash.words
 
 abbrev pub instruction : Kernel → Option Form
-instruction k = instruction_at (image_of k) (descriptor k)
+instruction k = instruction_at (image_held k) (descriptor k)
 
 -- the program's stack pointer
 abbrev pub virtual_sp : Kernel → ℕ
@@ -39,7 +36,7 @@ memory_of k = record {
   swap = k.mote.swap;
   devices = k.mote.devices;
   words = k.mote.flash.words;
-  image_words = k.layout.image_words;
+  layout = k.layout;
   line = None;
 }
 
@@ -48,7 +45,7 @@ core_of k pc = record { r = k.mote.cpu.r; sreg = k.mote.cpu.sreg; sp = virtual_s
 
 -- the kernel's stack is empty
 abbrev pub rested : Kernel → Kernel
-rested k = record k { mote = record k.mote { cpu = record k.mote.cpu { sp = stack_top } } }
+rested k = record k { mote = record k.mote { cpu = record k.mote.cpu { sp = kernel_stack_top } } }
 
 -- with another physical pc, and with other bytes of SRAM
 abbrev pub with_pc : Kernel → ℕ → Kernel
@@ -61,7 +58,7 @@ with_sram k m = record k { mote = record k.mote { sram = m } }
 abbrev pub put_back : Kernel → Cpu → Guarded → Kernel
 put_back k core memory = record k {
   mote = record k.mote {
-    cpu = record { r = core.r; sreg = core.sreg; sp = stack_top; pc = k.mote.cpu.pc };
+    cpu = record { r = core.r; sreg = core.sreg; sp = kernel_stack_top; pc = k.mote.cpu.pc };
     sram = with_word memory.sram vsp_cell core.sp;
     devices = memory.devices;
     swap = memory.swap;

@@ -7,7 +7,7 @@ use Rattle.avr_isa.specs.Crossing.{is_crossing}
 use Rattle.avr_isa.specs.Instruction.{size_of}
 use Rattle.avr_flags.specs.Status.{has_bit, with_bit, interrupts}
 use Rattle.avr_exec.specs.declared.cpu.Cpu.{Cpu}
-use Rattle.avr_exec.specs.Registers.{pair, raised, lowered, with_stack, with_status}
+use Rattle.avr_exec.specs.Registers.{pair, wrapping_sum, wrapping_difference, with_stack, with_status}
 use Rattle.avr_exec.specs.Spaces.{Outcome, Went, Stopped}
 use Rattle.avr_exec.specs.Asks.{ask_of}
 use Rattle.avr_exec.specs.Execution.{exec_of}
@@ -22,7 +22,7 @@ use Rattle.kernel_entry.specs.declared.kernel.Stop.{Stop}
 use Rattle.kernel_entry.specs.declared.kernel.Stop.TheVariants.{Halted}
 use Rattle.kernel_entry.specs.declared.kernel.Served.{Served}
 use Rattle.kernel_entry.specs.declared.kernel.Served.TheVariants as answers
-use Rattle.kernel_entry.specs.Parts.{return_address, descriptor, image_of, instruction, virtual_sp, core_of, rested}
+use Rattle.kernel_entry.specs.Parts.{return_address, descriptor, instruction, virtual_sp, core_of, rested, image_held}
 use Rattle.kernel_entry.specs.Services.{stop_of, fault_of}
 use Rattle.kernel_entry.specs.Seen.{View, view_of, view_by, count_of, space_of, program, state_at, end_of}
 use Rattle.kernel_entry.specs.Left.{MovesPages}
@@ -35,7 +35,7 @@ pub record HasStopped (old : Kernel) (result : Served) (new : Kernel) (stop : St
 -- the template goes on behind the descriptor; the program sees this, and COUNT stays
 pub record Resumes (old : Kernel) (result : Served) (new : Kernel) (seen : View) (line : Option Line) : Type 0 where
   pub answer : result ≡ answers.Resume line
-  pub pc : new.mote.cpu.pc ≡ raised (return_address old) 1
+  pub pc : new.mote.cpu.pc ≡ wrapping_sum (return_address old) 1
   pub view : view_of new ≡ seen
   pub count : count_of new ≡ count_of old
 
@@ -48,7 +48,7 @@ pub record Goes (old : Kernel) (result : Served) (new : Kernel) (seen : View) (t
 
 -- BRIDGE: control goes to the descriptor's address, and the stub is where the call stands
 pub record Bridges (old : Kernel) (result : Served) (new : Kernel) : Type 0 where
-  pub answer : result ≡ answers.Goto (descriptor old) (Some (lowered (return_address old) 2))
+  pub answer : result ≡ answers.Goto (descriptor old) (Some (wrapping_difference (return_address old) 2))
   pub stays : new ≡ rested old
 
 -- QUANTUM: r24 and SREG come back from their cells, and COUNT is the quantum; no other byte changes
@@ -66,7 +66,7 @@ pub record EndsQuantum (old : Kernel) (result : Served) (new : Kernel) : Type 0 
 pub record HasExecuted (old : Kernel) (result : Served) (new : Kernel) (form : Form) (core : Cpu) (space : FlatSpace) : Type 0 where
   pub resumes : Resumes old result new (view_by core space) space.line
   pub pages : MovesPages old new (ask_of form (core_of old (descriptor old)))
-  pub behind : core.pc ≡ raised (descriptor old) (size_of form)
+  pub behind : core.pc ≡ wrapping_sum (descriptor old) (size_of form)
 
 abbrev pub ExecutedBy : Kernel → Served → Kernel → Form → Outcome FlatSpace Cpu → Type 0
 ExecutedBy old result new form (Went core space) = HasExecuted old result new form core space
@@ -75,17 +75,17 @@ ExecutedBy old result new form (Stopped stop) = HasStopped old result new (stop_
 pub record Executes (old : Kernel) (result : Served) (new : Kernel) : Type 0 where
   pub form : Form
   pub is : instruction old ≡ Some form
-  pub does : ExecutedBy old result new form (exec_of flat_calls form (core_of old (descriptor old)) (space_of old) (next_size (image_of old) (descriptor old)))
+  pub does : ExecutedBy old result new form (exec_of flat_calls form (core_of old (descriptor old)) (space_of old) (next_size (image_held old) (descriptor old)))
 
 -- PUSHRET: the address behind the call is pushed onto the program's stack
 abbrev pub PushedBy : Kernel → Served → Kernel → Outcome FlatSpace (Unit {0}) → Type 0
-PushedBy old result new (Went done space) = Resumes old result new (view_by (with_stack (core_of old (descriptor old)) (lowered (virtual_sp old) 2)) space) None
+PushedBy old result new (Went done space) = Resumes old result new (view_by (with_stack (core_of old (descriptor old)) (wrapping_difference (virtual_sp old) 2)) space) None
 PushedBy old result new (Stopped stop) = HasStopped old result new (stop_of (descriptor old) stop)
 
 pub record PushesReturn (old : Kernel) (result : Served) (new : Kernel) : Type 0 where
   pub form : Form
   pub is : instruction old ≡ Some form
-  pub does : PushedBy old result new (push_return (space_of old) (virtual_sp old) (raised (descriptor old) (size_of form)))
+  pub does : PushedBy old result new (push_return (space_of old) (virtual_sp old) (wrapping_sum (descriptor old) (size_of form)))
 
 -- RET: the return address is popped, and RETI sets the flag I
 abbrev pub status_after : Form → ℕ → ℕ
@@ -94,7 +94,7 @@ status_after _ status = status
 
 abbrev pub PoppedBy : Kernel → Served → Kernel → Form → Outcome FlatSpace ℕ → Type 0
 PoppedBy old result new form (Went target space) =
-    Goes old result new (view_by (with_status (with_stack (core_of old (descriptor old)) (raised (virtual_sp old) 2)) (status_after form old.mote.cpu.sreg)) space) target
+    Goes old result new (view_by (with_status (with_stack (core_of old (descriptor old)) (wrapping_sum (virtual_sp old) 2)) (status_after form old.mote.cpu.sreg)) space) target
 PoppedBy old result new form (Stopped stop) = HasStopped old result new (stop_of (descriptor old) stop)
 
 pub record Returns (old : Kernel) (result : Served) (new : Kernel) : Type 0 where
@@ -107,11 +107,11 @@ abbrev pub z_of : Kernel → ℕ
 z_of k = pair (core_of k (descriptor k)) 30
 
 abbrev pub CalledBy : Kernel → Served → Kernel → Outcome FlatSpace (Unit {0}) → Type 0
-CalledBy old result new (Went done space) = Goes old result new (view_by (with_stack (core_of old (descriptor old)) (lowered (virtual_sp old) 2)) space) (z_of old)
+CalledBy old result new (Went done space) = Goes old result new (view_by (with_stack (core_of old (descriptor old)) (wrapping_difference (virtual_sp old) 2)) space) (z_of old)
 CalledBy old result new (Stopped stop) = HasStopped old result new (stop_of (descriptor old) stop)
 
 abbrev pub GoneThrough : Kernel → Served → Kernel → Form → Type 0
-GoneThrough old result new forms.Icall = CalledBy old result new (push_return (space_of old) (virtual_sp old) (raised (descriptor old) 1))
+GoneThrough old result new forms.Icall = CalledBy old result new (push_return (space_of old) (virtual_sp old) (wrapping_sum (descriptor old) 1))
 GoneThrough old result new _ = Goes old result new (view_of old) (z_of old)
 
 pub record GoesThrough (old : Kernel) (result : Served) (new : Kernel) : Type 0 where

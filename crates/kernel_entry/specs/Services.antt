@@ -2,16 +2,16 @@
 use Rattle.std.specs.Prelude.{ℕ, ◌==◌, ◌||◌, if◌then◌else◌, slice_set, Option, Some, None, Result, Ok, Err}
 use Rattle.avr_isa.specs.declared.form.Form.{Form}
 use Rattle.avr_isa.specs.declared.form.Form.TheVariants as forms
-use Rattle.avr_isa.specs.IoTable.{data_address}
+use Rattle.avr_isa.specs.IoTable.{io_address}
 use Rattle.avr_flags.specs.Status.{has_bit, interrupts}
 use Rattle.avr_exec.specs.declared.cpu.Cpu.{Cpu}
 use Rattle.avr_exec.specs.declared.stop.BusStop.{BusStop}
 use Rattle.avr_exec.specs.declared.stop.BusStop.TheVariants as bus
-use Rattle.avr_exec.specs.Registers.{raised, lowered}
+use Rattle.avr_exec.specs.Registers.{wrapping_sum, wrapping_difference}
 use Rattle.avr_exec.specs.Spaces.{Outcome, Went, Stopped}
 use Rattle.avr_exec.specs.Execution.{exec_of}
 use Rattle.sram_layout.specs.Bytes.{byte_at, with_byte}
-use Rattle.sram_layout.specs.Cells.{count_cell, r24_cell, sreg_cell}
+use Rattle.sram_layout.specs.Cells.{count_cell, r24_cell, sreg_cell, kernel_stack_top}
 use Rattle.nat_template.specs.Stubs.{bridge_entry, quantum_entry, mem_entry, push_return_entry, return_entry, indirect_entry, self_entry}
 use Rattle.mem_guard.specs.FlatMachine.{next_size}
 use Rattle.mem_guard.specs.Guarded.{Guarded, guarded_calls}
@@ -22,12 +22,12 @@ use Rattle.kernel_entry.specs.declared.kernel.Stop.TheVariants.{Halted, Asleep, 
 use Rattle.kernel_entry.specs.declared.kernel.Served.{Served}
 use Rattle.kernel_entry.specs.declared.kernel.Served.TheVariants as answers
 use Rattle.kernel_entry.specs.declared.execution.Ran.{Ran}
-use Rattle.kernel_entry.specs.Parts.{stack_top, return_address, descriptor, image_of, instruction, memory_of, core_of, rested, with_pc, with_sram, put_back}
+use Rattle.kernel_entry.specs.Parts.{return_address, descriptor, instruction, memory_of, core_of, rested, with_pc, with_sram, put_back, image_held}
 
 -- The program's instruction at the descriptor's address, executed over the program's memory: the new core
 -- and memory, or a stop, which leaves both.
 unfoldable pub executed : Kernel → Form → Outcome Guarded Cpu
-executed k form = exec_of guarded_calls form (core_of k (descriptor k)) (memory_of k) (next_size (image_of k) (descriptor k))
+executed k form = exec_of guarded_calls form (core_of k (descriptor k)) (memory_of k) (next_size (image_held k) (descriptor k))
 
 -- what the execution tells, and the kernel after it
 abbrev pub execution_by : Kernel → Outcome Guarded Cpu → Result Ran BusStop × Kernel
@@ -45,7 +45,7 @@ stop_of at (bus.SwapFull a) = SwapFull at a
 
 -- BRIDGE: control goes to the descriptor's address; the stub is the call of two words before it
 abbrev pub bridged : Kernel → Served × Kernel
-bridged k = (answers.Goto (descriptor k) (Some (lowered (return_address k) 2)), rested k)
+bridged k = (answers.Goto (descriptor k) (Some (wrapping_difference (return_address k) 2)), rested k)
 
 -- QUANTUM: r24 and SREG are what their cells have, and COUNT is the quantum
 abbrev pub quantum_ended : Kernel → Served × Kernel
@@ -53,7 +53,7 @@ quantum_ended k = (
   answers.Goto (descriptor k) None,
   record k {
     mote = record k.mote {
-      cpu = record k.mote.cpu { r = slice_set k.mote.cpu.r 24 (byte_at k.mote.sram r24_cell); sreg = byte_at k.mote.sram sreg_cell; sp = stack_top };
+      cpu = record k.mote.cpu { r = slice_set k.mote.cpu.r 24 (byte_at k.mote.sram r24_cell); sreg = byte_at k.mote.sram sreg_cell; sp = kernel_stack_top };
       sram = with_byte k.mote.sram count_cell k.quantum;
     };
   },
@@ -66,7 +66,7 @@ if_instruction k (Some form) service = service form
 
 -- MEM and PUSHRET: after the execution the physical pc is behind the descriptor
 abbrev pub resumed_by : Kernel → Result Ran BusStop → Kernel → Served × Kernel
-resumed_by k (Ok ran) next = (answers.Resume ran.line, with_pc next (raised (return_address k) 1))
+resumed_by k (Ok ran) next = (answers.Resume ran.line, with_pc next (wrapping_sum (return_address k) 1))
 resumed_by k (Err stop) next = (answers.Stopped (stop_of (descriptor k) stop), next)
 
 unfoldable pub resumed : Kernel → Served × Kernel
@@ -88,12 +88,12 @@ halted_or_gone k = if has_bit k.mote.cpu.sreg interrupts then gone k else (answe
 abbrev pub fault_of : ℕ → Option Form → Stop
 fault_of at (Some forms.Sleep) = Asleep at
 fault_of at (Some forms.Spm) = SelfProgram at
-fault_of at (Some (forms.InIo d a)) = Io at (data_address a)
-fault_of at (Some (forms.OutIo a r)) = Io at (data_address a)
-fault_of at (Some (forms.Cbi a b)) = Io at (data_address a)
-fault_of at (Some (forms.Sbi a b)) = Io at (data_address a)
-fault_of at (Some (forms.Sbic a b)) = Io at (data_address a)
-fault_of at (Some (forms.Sbis a b)) = Io at (data_address a)
+fault_of at (Some (forms.InIo d a)) = Io at (io_address a)
+fault_of at (Some (forms.OutIo a r)) = Io at (io_address a)
+fault_of at (Some (forms.Cbi a b)) = Io at (io_address a)
+fault_of at (Some (forms.Sbi a b)) = Io at (io_address a)
+fault_of at (Some (forms.Sbic a b)) = Io at (io_address a)
+fault_of at (Some (forms.Sbis a b)) = Io at (io_address a)
 fault_of at _ = Illegal at
 
 abbrev pub faulted : Kernel → Served × Kernel

@@ -11,9 +11,7 @@ use avr_exec::{BusStop, exec};
 use avr_isa::Instr;
 use mem_guard::{VirtualBus, next_size_in_image};
 use mote_devices::Line;
-
-/// The physical stack pointer where the kernel's own stack is empty.
-pub(crate) const STACK_TOP: u16 = 0x011F;
+use sram_layout::KERNEL_STACK_TOP;
 
 /// What an execution tells: the program's new pc, and what a device showed.
 #[derive(Clone, Copy, Debug, PartialEq, Eq)]
@@ -48,7 +46,7 @@ pub(crate) fn execute(k: &mut Kernel, at: u16, instr: &Instr) -> Result<Ran, Bus
     let pc = k.mote.cpu.pc;
     let sp = k.mote.cpu.sp;
     k.mote.cpu.pc = place;
-    k.mote.cpu.sp = STACK_TOP;
+    k.mote.cpu.sp = KERNEL_STACK_TOP;
     match done {
         Ok(()) => {
             k.mote.sram.set_vsp(sp);

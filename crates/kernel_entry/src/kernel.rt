@@ -17,7 +17,7 @@ pub struct Kernel {
 /// address that it would have touched.
 #[derive(Clone, Copy, Debug, PartialEq, Eq)]
 pub enum Stop {
-    /// A jump to itself with interrupts off.
+    /// An RJMP or JMP to its own address with interrupts off.
     Halted(u16),
     /// SLEEP.
     Asleep(u16),

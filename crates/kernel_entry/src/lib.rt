@@ -16,8 +16,8 @@
 //! docs/LOADER.md has the entries and what each service does. `specs/Services` is that as one function of
 //! the whole kernel, `specs/Rows` the same entry by entry, over what the program sees (`specs/Seen`), and
 //! `specs/Left` what every service leaves; `specs/Conditions` says when a service may be asked.
-//! `specs/KernelPart` has the memory that rewritten code never changes, and `specs/Texts` the text of a
-//! device's line and of the end of a run. `proofs/ServedLaws` has the rows as laws of the one function.
+//! `specs/Texts` has the text of a device's line and of the end of a run. `proofs/ServedLaws` has the rows
+//! as laws of the one function.
 #![tactic(auto)]
 
 mod execution;
@@ -26,6 +26,3 @@ mod services;
 
 pub use kernel::{Kernel, Served, Stop};
 pub use services::serve;
-
-#[cfg(test)]
-mod tests;

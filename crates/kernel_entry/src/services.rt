@@ -13,12 +13,13 @@ ghost use Rattle.kernel_entry.specs.Services.{bridged, quantum_ended, resumed, g
 ghost use Rattle.kernel_entry.specs.Left.{Leaves, LeavesHeap};
 ghost use Rattle.kernel_entry.specs.Rows.{Bridges, EndsQuantum, Executes, PushesReturn, Returns, GoesThrough, LoopsOrHalts, Faults, AsTried};
 
-use crate::execution::{STACK_TOP, execute};
+use crate::execution::execute;
 use crate::kernel::{Kernel, Served, Stop};
 use avr_exec::BusStop;
 use avr_isa::{Form, Instr};
 use mem_guard::instruction_in_image;
 use preempt_count::cross;
+use sram_layout::KERNEL_STACK_TOP;
 
 /// Serves the entry of the kernel at which the pc stands. The call has left the address behind it, where
 /// the descriptor is, at the top of the kernel's own stack, which is empty again then.
@@ -71,7 +72,7 @@ fn bridge(k: &mut Kernel, at: u16) -> Served
     ensures served { (result, k.new) ≡ bridged k.old }
 {
     let stub = behind_call(k).wrapping_sub(2);
-    k.mote.cpu.sp = STACK_TOP;
+    k.mote.cpu.sp = KERNEL_STACK_TOP;
     Served::Goto {
         target: at,
         stub: Some(stub),
@@ -85,7 +86,7 @@ fn end_quantum(k: &mut Kernel, at: u16) -> Served
 {
     k.mote.cpu.r[24] = k.mote.sram.r24();
     k.mote.cpu.sreg = k.mote.sram.sreg();
-    k.mote.cpu.sp = STACK_TOP;
+    k.mote.cpu.sp = KERNEL_STACK_TOP;
     k.mote.sram.set_count(k.quantum);
     Served::Goto {
         target: at,
@@ -130,7 +131,7 @@ fn go(k: &mut Kernel, at: u16) -> Served
     }
 }
 
-/// SELF: a jump to itself halts where interrupts are off.
+/// SELF: an RJMP or JMP to its own address halts where interrupts are off.
 #[tactic(auto, unfolding(crate::specs::Services::halted_or_gone))]
 fn halt_or_go(k: &mut Kernel, at: u16) -> Served
     requires at { at ≡ descriptor_of k.old }
@@ -141,7 +142,7 @@ fn halt_or_go(k: &mut Kernel, at: u16) -> Served
     if has_interrupts(k) {
         return go(k, at);
     }
-    k.mote.cpu.sp = STACK_TOP;
+    k.mote.cpu.sp = KERNEL_STACK_TOP;
     Served::Stopped(Stop::Halted(at))
 }
 
@@ -151,7 +152,7 @@ fn fault(k: &mut Kernel, at: u16) -> Served
     ensures served { (result, k.new) ≡ faulted k.old }
 {
     let instr = instruction_in_image(&k.mote.flash, &k.layout, at);
-    k.mote.cpu.sp = STACK_TOP;
+    k.mote.cpu.sp = KERNEL_STACK_TOP;
     Served::Stopped(fault_of(at, instr.as_ref()))
 }
 
@@ -161,7 +162,10 @@ fn behind_call(k: &Kernel) -> u16
     ensures value { result ≡ return_address k.now }
     ensures size { length k.now.mote.sram ≡ byte_count }
 {
-    u16::from_be_bytes([k.mote.sram.byte(STACK_TOP - 1), k.mote.sram.byte(STACK_TOP)])
+    u16::from_be_bytes([
+        k.mote.sram.byte(KERNEL_STACK_TOP - 1),
+        k.mote.sram.byte(KERNEL_STACK_TOP),
+    ])
 }
 
 /// The word behind the call.
@@ -208,11 +212,10 @@ fn fault_of(at: u16, instr: Option<&Instr>) -> Stop
     match instr.map(Instr::form) {
         Some(Form::Sleep) => Stop::Asleep(at),
         Some(Form::Spm) => Stop::SelfProgram(at),
-        Some(Form::InIo(_, a) | Form::OutIo(a, _)) => Stop::Io(at, u16::from(a.get()) + 0x20),
-        Some(Form::Cbi(a, _) | Form::Sbi(a, _) | Form::Sbic(a, _) | Form::Sbis(a, _)) => Stop::Io(
-            at,
-            u16::from(a.get()) + 0x20,
-        ),
+        Some(Form::InIo(_, a) | Form::OutIo(a, _)) => Stop::Io(at, a.address()),
+        Some(Form::Cbi(a, _) | Form::Sbi(a, _) | Form::Sbic(a, _) | Form::Sbis(a, _)) => {
+            Stop::Io(at, a.address())
+        }
         _ => Stop::Illegal(at),
     }
 }

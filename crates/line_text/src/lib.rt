@@ -13,6 +13,3 @@ mod pieces;
 
 pub use device::device_line;
 pub use pieces::{Text, push, push_address, push_byte, push_number};
-
-#[cfg(test)]
-mod tests;

@@ -6,7 +6,7 @@ use Rattle.avr_exec.specs.declared.cpu.Cpu.{Cpu}
 use Rattle.avr_exec.specs.declared.ask.Ask.{Ask}
 use Rattle.avr_exec.specs.declared.ask.Ask.TheVariants.{Nothing, Load as LoadAsk, Store as StoreAsk, Modify, PushByte, PopByte, PushReturn, PopReturn, Program, ExtendedProgram, ExtendedProgramRaising}
 use Rattle.avr_exec.specs.declared.stop.BusStop.TheVariants.{Stack as StackStop, SwapFull as FullStop}
-use Rattle.avr_exec.specs.Registers.{raised, lowered}
+use Rattle.avr_exec.specs.Registers.{wrapping_sum, wrapping_difference}
 use Rattle.avr_exec.specs.Spaces.{Outcome, Went, Stopped}
 use Rattle.avr_exec.specs.Asks.{ask_of}
 use Rattle.avr_exec.specs.Execution.{answered_by, answer_of, exec_of}
@@ -114,7 +114,7 @@ pops false g a is paged = refl
 
 pub pop_alike : (g : Guarded) (sp : ℕ) → IsPaged g.sram g.swap → flat_pop (flat_of g) sp ≡ over flat_of (pop g sp)
 unfolding pop flat_pop
-pop_alike g sp paged = pops (is_stack (raised sp 1)) g (raised sp 1) refl paged
+pop_alike g sp paged = pops (is_stack (wrapping_sum sp 1)) g (wrapping_sum sp 1) refl paged
 
 two_pushes : (b c : Bool) (g : Guarded) (a below low high : ℕ) → is_stack a ≡ b → is_stack below ≡ c → IsPaged g.sram g.swap
     → ◌≡◌ {A = Outcome FlatSpace (Unit {0})}
@@ -128,7 +128,7 @@ two_pushes false c g a below low high is is' paged = refl
 
 pub push_return_alike : (g : Guarded) (sp ret : ℕ) → IsPaged g.sram g.swap → flat_push_return (flat_of g) sp ret ≡ over flat_of (push_return g sp ret)
 unfolding push_return flat_push_return
-push_return_alike g sp ret paged = two_pushes (is_stack sp) (is_stack (lowered sp 1)) g sp (lowered sp 1) (ret % 256) (ret / 256) refl refl paged
+push_return_alike g sp ret paged = two_pushes (is_stack sp) (is_stack (wrapping_difference sp 1)) g sp (wrapping_difference sp 1) (ret % 256) (ret / 256) refl refl paged
 
 two_pops : (b c : Bool) (g : Guarded) (high low : ℕ) → is_stack high ≡ b → is_stack low ≡ c → IsPaged g.sram g.swap
     → cond b (cond c (Went (slice_index (vmem g.sram g.swap) high * 256 + slice_index (vmem g.sram g.swap) low) (flat_of g)) (Stopped (StackStop low))) (Stopped (StackStop high))
@@ -140,7 +140,7 @@ two_pops false c g high low is is' paged = refl
 
 pub pop_return_alike : (g : Guarded) (sp : ℕ) → IsPaged g.sram g.swap → flat_pop_return (flat_of g) sp ≡ over flat_of (pop_return g sp)
 unfolding pop_return flat_pop_return
-pop_return_alike g sp paged = two_pops (is_stack (raised sp 1)) (is_stack (raised sp 2)) g (raised sp 1) (raised sp 2) refl refl paged
+pop_return_alike g sp paged = two_pops (is_stack (wrapping_sum sp 1)) (is_stack (wrapping_sum sp 2)) g (wrapping_sum sp 1) (wrapping_sum sp 2) refl refl paged
 
 -- whatever is asked, the guarded space answers as flat memory does
 pub answers_alike : (g : Guarded) (ask : Ask) → IsPaged g.sram g.swap → answer_of flat_calls (flat_of g) ask ≡ over flat_of (answer_of guarded_calls g ask)

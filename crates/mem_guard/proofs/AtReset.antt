@@ -1,19 +1,15 @@
 -- The mote at boot is the original program's machine at reset: its memory and its pages.
-use Rattle.std.proofs.Common.{◌≡◌, ℕ, List, refl, ◌∙◌}
-use Rattle.sram_layout.specs.Bytes.{many}
+use Rattle.std.proofs.Common.{◌≡◌, ℕ, List}
+use Rattle.list_parts.specs.Lists.{zeros}
 use Rattle.sram_layout.specs.Boot.{at_boot}
 use Rattle.heap_frames.specs.Frames.{pages}
 use Rattle.heap_frames.specs.Memory.{vmem}
 use Rattle.heap_frames.proofs.BootLaws.{boot_memory, boot_pages}
-use Rattle.mem_guard.specs.FlatMachine.{zeros, no_pages}
-
-many_zeros : (n : ℕ) → many n 0 ≡ zeros n
-unfolding many zeros
-many_zeros n = refl
+use Rattle.mem_guard.specs.FlatMachine.{no_pages}
 
 -- whatever the swap holds, all of the memory is 0
 pub memory_at_reset : (w : List (List ℕ)) → vmem at_boot w ≡ zeros 65536
-memory_at_reset w = boot_memory w ∙ many_zeros 65536
+memory_at_reset w = boot_memory w
 
 -- and no page was stored to
 pub pages_at_reset : pages at_boot ≡ no_pages

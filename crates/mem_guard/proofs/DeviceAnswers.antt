@@ -16,7 +16,7 @@ use Rattle.sram_layout.specs.Bytes.{byte_at}
 use Rattle.heap_frames.specs.Addresses.{is_stack, is_heap}
 use Rattle.mote_devices.specs.Registers.{register_at, is_polled}
 use Rattle.mote_devices.specs.State.{State, polled}
-use Rattle.mote_devices.specs.Accesses.{Gave, read, write, modify, value_of, after_value, after_write, line_of, written_byte}
+use Rattle.mote_devices.specs.Accesses.{Gave, read, write, modify, value_of, after_value, after_write, line_written, written_byte}
 use Rattle.mote_devices.proofs.AccessLaws.{can_read_below, can_write_below, read_allowed, write_allowed, modify_allowed, Afterwards, polls_after_read, polls_after_write, polls_after_modify}
 use Rattle.mote_core.specs.Physical.{Physical, is_sram, with_sram, physical_calls, load as physical_load, store as physical_store, modify as physical_modify, from_device as physical_from, to_device as physical_to}
 use Rattle.mote_core.specs.Conditions.{is_device_ask}
@@ -85,7 +85,7 @@ abbrev byte_back : State → (a clear set : ℕ) → ℕ
 byte_back s a clear set = written_byte (value s a) clear set
 
 modified : (s : State) (a clear set : ℕ) → can_read a ≡ true → can_write a ≡ true
-    → modify s a clear set ≡ Gave (line_of (register_at a) (byte_back s a clear set)) (after_write (register_at a) (after_read s a) a (byte_back s a clear set))
+    → modify s a clear set ≡ Gave (line_written (register_at a) (byte_back s a clear set)) (after_write (register_at a) (after_read s a) a (byte_back s a clear set))
 modified s a clear set reads writes = modify_allowed s a clear set reads writes ∙ write_allowed (after_read s a) a (byte_back s a clear set) writes
 
 -- so both spaces answer alike
@@ -111,7 +111,7 @@ answers_alike words g (Store a v) can =
     record {
       answer = Done;
       devices = after_write (register_at a) g.devices a v;
-      line = line_of (register_at a) v;
+      line = line_written (register_at a) v;
       guarded = ap (answered_by {A = Unit {0}} (λ _. Done)) (store_low g a v low ∙ ap (to_device g a) given);
       physical = ap (answered_by {A = Unit {0}} (λ _. Done)) (physical_store_low s a v low ∙ ap (physical_to s a) given);
       polls = omega (arith, polls_after_write (register_at a) g.devices a v);
@@ -122,7 +122,7 @@ answers_alike words g (Modify a clear set) can =
     record {
       answer = Done;
       devices = after_write (register_at a) (after_read g.devices a) a (byte_back g.devices a clear set);
-      line = line_of (register_at a) (byte_back g.devices a clear set);
+      line = line_written (register_at a) (byte_back g.devices a clear set);
       guarded = ap (answered_by {A = Unit {0}} (λ _. Done)) (ap (to_device g a) given);
       physical = ap (answered_by {A = Unit {0}} (λ _. Done)) (ap (physical_to s a) given);
       polls = subst (Afterwards (λ next. next.polls ≤ g.devices.polls + 1)) given (polls_after_modify g.devices a clear set);

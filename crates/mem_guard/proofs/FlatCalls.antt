@@ -2,7 +2,7 @@
 use Rattle.std.proofs.Common.{◌≡◌, refl, sym, ap, subst, ◌∙◌}
 use Rattle.std.specs.Prelude.{Result, Ok, Err, OnOk, OnErr}
 use Rattle.avr_exec.specs.declared.stop.BusStop.{BusStop}
-use Rattle.avr_exec.specs.Spaces.{Outcome, told}
+use Rattle.avr_exec.specs.Spaces.{Outcome, outcome_of}
 use Rattle.avr_exec.specs.Likeness.{over, Leaves}
 use Rattle.heap_frames.specs.Paged.{IsPaged}
 use Rattle.mem_guard.specs.FlatSpace.{FlatSpace}
@@ -10,29 +10,29 @@ use Rattle.mem_guard.specs.Guarded.{Guarded, flat_of}
 use Rattle.mem_guard.specs.Left.{IsKept}
 use Rattle.mem_guard.proofs.Leaves.{kept_same}
 
-told_flat : {A : Type 0} (result : Result A BusStop) (next : Guarded) → told result (flat_of next) ≡ over flat_of (told result next)
+told_flat : {A : Type 0} (result : Result A BusStop) (next : Guarded) → outcome_of result (flat_of next) ≡ over flat_of (outcome_of result next)
 told_flat (Ok answer) next = refl
 told_flat (Err stop) next = refl
 
 -- the call's answer over flat memory
 pub flat_answer : {A : Type 0} (result : Result A BusStop) (next : Guarded) (outcome : Outcome Guarded A) (flat : Outcome FlatSpace A)
-    → told result next ≡ outcome → flat ≡ over flat_of outcome → told result (flat_of next) ≡ flat
+    → outcome_of result next ≡ outcome → flat ≡ over flat_of outcome → outcome_of result (flat_of next) ≡ flat
 flat_answer result next outcome flat answer alike = told_flat result next ∙ ap (over flat_of) answer ∙ sym alike
 
 -- what the call leaves
 kept_or_same : {A : Type 0} (P : Guarded → Type 0) (g next : Guarded) (result : Result A BusStop) → IsPaged g.sram g.swap
-    → Leaves (λ n. IsKept g n × P n) (told result next) → OnErr result (next ≡ g) → IsKept g next
+    → Leaves (λ n. IsKept g n × P n) (outcome_of result next) → OnErr result (next ≡ g) → IsKept g next
 kept_or_same P g next (Ok answer) paged left stop = left.0
 kept_or_same P g next (Err stopped) paged left stop = subst (IsKept g) (sym stop) (kept_same g paged)
 
 pub kept_by : {A : Type 0} (P : Guarded → Type 0) (g next : Guarded) (result : Result A BusStop) (outcome : Outcome Guarded A) → IsPaged g.sram g.swap
-    → told result next ≡ outcome → Leaves (λ n. IsKept g n × P n) outcome → OnErr result (next ≡ g) → IsKept g next
+    → outcome_of result next ≡ outcome → Leaves (λ n. IsKept g n × P n) outcome → OnErr result (next ≡ g) → IsKept g next
 kept_by P g next result outcome paged answer left stop = kept_or_same P g next result paged (subst (Leaves (λ n. IsKept g n × P n)) (sym answer) left) stop
 
-done_on_ok : {A : Type 0} (P : Guarded → Type 0) (g next : Guarded) (result : Result A BusStop) → Leaves (λ n. IsKept g n × P n) (told result next) → OnOk result (P next)
+done_on_ok : {A : Type 0} (P : Guarded → Type 0) (g next : Guarded) (result : Result A BusStop) → Leaves (λ n. IsKept g n × P n) (outcome_of result next) → OnOk result (P next)
 done_on_ok P g next (Ok answer) left = left.1
 done_on_ok P g next (Err stopped) left = tt
 
 pub heap_by : {A : Type 0} (P : Guarded → Type 0) (g next : Guarded) (result : Result A BusStop) (outcome : Outcome Guarded A)
-    → told result next ≡ outcome → Leaves (λ n. IsKept g n × P n) outcome → OnOk result (P next)
+    → outcome_of result next ≡ outcome → Leaves (λ n. IsKept g n × P n) outcome → OnOk result (P next)
 heap_by P g next result outcome answer left = done_on_ok P g next result (subst (Leaves (λ n. IsKept g n × P n)) (sym answer) left)

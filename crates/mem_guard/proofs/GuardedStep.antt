@@ -12,9 +12,10 @@ use Rattle.avr_exec.specs.Asks.{ask_of}
 use Rattle.avr_exec.specs.Execution.{exec_of, is_executed, finished}
 use Rattle.avr_exec.specs.Likeness.{over, Leaves}
 use Rattle.heap_frames.specs.Paged.{IsPaged}
+use Rattle.flash_model.specs.Layouts.{image_of}
 use Rattle.mem_guard.specs.FlatSpace.{flat_calls}
 use Rattle.mem_guard.specs.FlatMachine.{Stops, Goes, tried, stepped, space_of, next_size, jumps_to_itself, end_at}
-use Rattle.mem_guard.specs.Guarded.{Guarded, flat_of, state_of, image_of, program_of, guarded_calls}
+use Rattle.mem_guard.specs.Guarded.{Guarded, flat_of, state_of, program_of, guarded_calls}
 use Rattle.mem_guard.specs.Left.{IsKept, HeapAfter}
 use Rattle.mem_guard.proofs.MachineLaws.{tried_step}
 use Rattle.mem_guard.proofs.Alike.{executed_alike}
@@ -51,25 +52,25 @@ same_space : (g : Guarded) (cpu : Cpu) (steps crossings : ℕ) → g.line ≡ No
 same_space g cpu steps crossings none = ap (λ line. record (flat_of g) { line = line }) (sym none)
 
 step_tried : (g : Guarded) (cpu : Cpu) (steps crossings : ℕ) (form : Form) → IsPaged g.sram g.swap → g.line ≡ None
-    → instruction_at (image_of g) cpu.pc ≡ Some form → is_executed form ≡ true → jumps_to_itself cpu.pc form && not (has_bit cpu.sreg interrupts) ≡ false
-    → tried (program_of g) (state_of g cpu steps crossings) ≡ stepped (state_of g cpu steps crossings) (over flat_of (exec_of guarded_calls form cpu g (next_size (image_of g) cpu.pc)))
+    → instruction_at (image_of g.layout g.words) cpu.pc ≡ Some form → is_executed form ≡ true → jumps_to_itself cpu.pc form && not (has_bit cpu.sreg interrupts) ≡ false
+    → tried (program_of g) (state_of g cpu steps crossings) ≡ stepped (state_of g cpu steps crossings) (over flat_of (exec_of guarded_calls form cpu g (next_size (image_of g.layout g.words) cpu.pc)))
 step_tried g cpu steps crossings form paged none is runs goes =
     let s = state_of g cpu steps crossings in
-    let n = next_size (image_of g) cpu.pc in
+    let n = next_size (image_of g.layout g.words) cpu.pc in
     tried_step (program_of g) s form is runs goes
     ∙ ap (λ space. stepped s (exec_of flat_calls form cpu space n)) (same_space g cpu steps crossings none)
     ∙ ap (stepped s) (executed_alike form cpu g n paged)
 
 pub guarded_goes : (g next : Guarded) (cpu cpu' : Cpu) (steps crossings : ℕ) (form : Form) → IsPaged g.sram g.swap → g.line ≡ None
-    → instruction_at (image_of g) cpu.pc ≡ Some form → is_executed form ≡ true → jumps_to_itself cpu.pc form && not (has_bit cpu.sreg interrupts) ≡ false
-    → exec_of guarded_calls form cpu g (next_size (image_of g) cpu.pc) ≡ Went cpu' next
+    → instruction_at (image_of g.layout g.words) cpu.pc ≡ Some form → is_executed form ≡ true → jumps_to_itself cpu.pc form && not (has_bit cpu.sreg interrupts) ≡ false
+    → exec_of guarded_calls form cpu g (next_size (image_of g.layout g.words) cpu.pc) ≡ Went cpu' next
     → tried (program_of g) (state_of g cpu steps crossings) ≡ Goes next.line (state_of next cpu' (steps + 1) (counted crossings cpu cpu'))
 guarded_goes g next cpu cpu' steps crossings form paged none is runs goes went =
     step_tried g cpu steps crossings form paged none is runs goes ∙ ap (λ o. stepped (state_of g cpu steps crossings) (over flat_of o)) went
 
 pub guarded_stops : (g : Guarded) (cpu : Cpu) (steps crossings : ℕ) (form : Form) (stop : BusStop) → IsPaged g.sram g.swap → g.line ≡ None
-    → instruction_at (image_of g) cpu.pc ≡ Some form → is_executed form ≡ true → jumps_to_itself cpu.pc form && not (has_bit cpu.sreg interrupts) ≡ false
-    → exec_of guarded_calls form cpu g (next_size (image_of g) cpu.pc) ≡ Stopped stop
+    → instruction_at (image_of g.layout g.words) cpu.pc ≡ Some form → is_executed form ≡ true → jumps_to_itself cpu.pc form && not (has_bit cpu.sreg interrupts) ≡ false
+    → exec_of guarded_calls form cpu g (next_size (image_of g.layout g.words) cpu.pc) ≡ Stopped stop
     → tried (program_of g) (state_of g cpu steps crossings) ≡ Stops (end_at cpu.pc stop)
 guarded_stops g cpu steps crossings form stop paged none is runs goes stopped =
     step_tried g cpu steps crossings form paged none is runs goes ∙ ap (λ o. stepped (state_of g cpu steps crossings) (over flat_of o)) stopped

@@ -2,20 +2,12 @@
 use Rattle.std.proofs.Common.{◌≡◌, ℕ, ◌+◌, ◌%◌, ◌<◌, ◌≤◌, Bool, true, false, cond, List, length, take, refl, ap, ap₂, arith, ◌∙◌}
 use Rattle.std.specs.Prelude.{nat_lt, if◌then◌else◌}
 use Rattle.std.proofs.lemmas.Bool.Decides.{nat_tests}
-use Rattle.std.proofs.lemmas.List.{get_or-take, get_or_default, get_or_past, length-take}
 use Rattle.avr_isa.specs.Image.{word}
-use Rattle.avr_decode.specs.Decoding.{the_form, is_long}
+use Rattle.avr_decode.specs.Decoding.{the_form, size_by_first_word}
 use Rattle.avr_decode.specs.Program.{instruction_at}
 use Rattle.flash_model.specs.Pages.{word_at}
+use Rattle.flash_model.proofs.ImageLaws.{word_of_image, word_behind_image}
 use Rattle.mem_guard.specs.FlatMachine.{next_size}
-
--- a word of the image is flash's word at the same address
-pub word_of_image : (n a : ℕ) (words : List ℕ) → a < n → n ≤ length words → word (take n words) a ≡ word_at words a
-word_of_image n a words below fits = get_or-take n words a 0xFFFF below ∙ get_or_default words a 0xFFFF 0 (omega arith)
-
--- behind the image every word is 0xFFFF
-pub word_behind_image : (n a : ℕ) (words : List ℕ) → n ≤ a → word (take n words) a ≡ 0xFFFF
-word_behind_image n a words behind = get_or_past (take n words) a 0xFFFF (omega (arith, length-take n words))
 
 -- the word behind address a, in flash's words: behind the image's last word it is 0xFFFF
 abbrev pub next_word : ℕ → List ℕ → ℕ → ℕ
@@ -34,5 +26,5 @@ next_of_image n a words inside fits small =
 pub instruction_of_image : (n a : ℕ) (words : List ℕ) → a < n → n ≤ length words → n < 65536 → instruction_at (take n words) a ≡ the_form (word_at words a) (next_word n words a)
 instruction_of_image n a words inside fits small = ap₂ the_form (word_of_image n a words inside fits) (next_of_image n a words inside fits small)
 
-pub next_size_of_image : (n a : ℕ) (words : List ℕ) → a < n → n ≤ length words → n < 65536 → next_size (take n words) a ≡ (if is_long (next_word n words a) then 2 else 1)
-next_size_of_image n a words inside fits small = ap (λ w. if is_long w then 2 else 1) (next_of_image n a words inside fits small)
+pub next_size_of_image : (n a : ℕ) (words : List ℕ) → a < n → n ≤ length words → n < 65536 → next_size (take n words) a ≡ size_by_first_word (next_word n words a)
+next_size_of_image n a words inside fits small = ap size_by_first_word (next_of_image n a words inside fits small)

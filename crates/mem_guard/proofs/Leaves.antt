@@ -7,7 +7,7 @@ use Rattle.avr_exec.specs.declared.cpu.Cpu.{Cpu}
 use Rattle.avr_exec.specs.declared.ask.Ask.{Ask}
 use Rattle.avr_exec.specs.declared.ask.Ask.TheVariants.{Nothing, Load as LoadAsk, Store as StoreAsk, Modify, PushByte, PopByte, PushReturn, PopReturn, Program, ExtendedProgram, ExtendedProgramRaising}
 use Rattle.avr_exec.specs.declared.stop.BusStop.TheVariants.{Stack as StackStop}
-use Rattle.avr_exec.specs.Registers.{raised, lowered}
+use Rattle.avr_exec.specs.Registers.{wrapping_sum, wrapping_difference}
 use Rattle.avr_exec.specs.Spaces.{Outcome, Went, Stopped}
 use Rattle.avr_exec.specs.Asks.{ask_of}
 use Rattle.avr_exec.specs.Execution.{answered_by, answer_of, exec_of}
@@ -26,7 +26,7 @@ use Rattle.heap_frames.proofs.SamePagingLaws.{same_paging_refl, same_paging_tran
 use Rattle.mote_devices.specs.declared.line.Line.{Line}
 use Rattle.mote_devices.specs.Registers.{register_at}
 use Rattle.mote_devices.specs.State.{State}
-use Rattle.mote_devices.specs.Accesses.{Asked, Gave, Refused, read, write, modify as modify_device, line_of, after_write}
+use Rattle.mote_devices.specs.Accesses.{Asked, Gave, Refused, read, write, modify as modify_device, line_written, after_write}
 use Rattle.mote_devices.proofs.AccessLaws.{Afterwards, polls_after_read, polls_after_write, polls_after_modify}
 use Rattle.mem_guard.specs.declared.address.AddrClass.{AddrClass}
 use Rattle.mem_guard.specs.declared.address.AddrClass.TheVariants.{Stack, Heap}
@@ -61,7 +61,7 @@ device_writes g a Refused paged few = tt
 -- a write makes no poll
 write_polls : (s : State) (a v : ℕ) → Afterwards (λ next. next.polls ≤ s.polls + 1) (write s a v)
 unfolding write
-write_polls s a v = elim (can_write a) as (λ b. Afterwards (λ next. next.polls ≤ s.polls + 1) (cond b (Gave (line_of (register_at a) v) (after_write (register_at a) s a v)) Refused)) [
+write_polls s a v = elim (can_write a) as (λ b. Afterwards (λ next. next.polls ≤ s.polls + 1) (cond b (Gave (line_written (register_at a) v) (after_write (register_at a) s a v)) Refused)) [
   | true ↦ omega (arith, polls_after_write (register_at a) s a v)
   | false ↦ tt
 ]
@@ -157,7 +157,7 @@ pops false g a v paged = tt
 
 pub pop_leaves_kept : (g : Guarded) (sp : ℕ) → IsPaged g.sram g.swap → Leaves (λ next. IsKept g next × KeepsHeap g next) (pop g sp)
 unfolding pop
-pop_leaves_kept g sp paged = pops (is_stack (raised sp 1)) g (raised sp 1) (byte_at g.sram (raised sp 1)) paged
+pop_leaves_kept g sp paged = pops (is_stack (wrapping_sum sp 1)) g (wrapping_sum sp 1) (byte_at g.sram (wrapping_sum sp 1)) paged
 
 two_pushes : (b c : Bool) (g : Guarded) (a below low high : ℕ) → is_stack a ≡ b → is_stack below ≡ c → IsPaged g.sram g.swap
     → Leaves {A = Unit {0}} (λ next. IsKept g next × KeepsHeap g next) (cond b (cond c (Went tt (with_sram (with_sram g a low) below high)) (Stopped (StackStop below))) (Stopped (StackStop a)))
@@ -172,7 +172,7 @@ two_pushes false c g a below low high is is' paged = tt
 
 pub push_return_leaves_kept : (g : Guarded) (sp ret : ℕ) → IsPaged g.sram g.swap → Leaves (λ next. IsKept g next × KeepsHeap g next) (push_return g sp ret)
 unfolding push_return
-push_return_leaves_kept g sp ret paged = two_pushes (is_stack sp) (is_stack (lowered sp 1)) g sp (lowered sp 1) (ret % 256) (ret / 256) refl refl paged
+push_return_leaves_kept g sp ret paged = two_pushes (is_stack sp) (is_stack (wrapping_difference sp 1)) g sp (wrapping_difference sp 1) (ret % 256) (ret / 256) refl refl paged
 
 two_pops : (b c : Bool) (g : Guarded) (high low v : ℕ) → IsPaged g.sram g.swap
     → Leaves (λ next. IsKept g next × KeepsHeap g next) (cond b (cond c (Went v g) (Stopped (StackStop low))) (Stopped (StackStop high)))
@@ -182,7 +182,7 @@ two_pops false c g high low v paged = tt
 
 pub pop_return_leaves_kept : (g : Guarded) (sp : ℕ) → IsPaged g.sram g.swap → Leaves (λ next. IsKept g next × KeepsHeap g next) (pop_return g sp)
 unfolding pop_return
-pop_return_leaves_kept g sp paged = two_pops (is_stack (raised sp 1)) (is_stack (raised sp 2)) g (raised sp 1) (raised sp 2) _ paged
+pop_return_leaves_kept g sp paged = two_pops (is_stack (wrapping_sum sp 1)) (is_stack (wrapping_sum sp 2)) g (wrapping_sum sp 1) (wrapping_sum sp 2) _ paged
 
 -- the same told in other words
 answered_left : {A B : Type 0} (P : Guarded → Type 0) (f : A → B) (o : Outcome Guarded A) → Leaves P o → Leaves P (answered_by f o)

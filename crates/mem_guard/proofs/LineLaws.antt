@@ -8,9 +8,10 @@ use Rattle.avr_exec.specs.declared.ask.Ask.{Ask}
 use Rattle.avr_exec.specs.declared.ask.Ask.TheVariants.{Nothing, Load as LoadAsk, Store as StoreAsk, Modify, PushByte, PopByte, PushReturn, PopReturn, Program, ExtendedProgram, ExtendedProgramRaising}
 use Rattle.avr_exec.specs.declared.stop.BusStop.{BusStop}
 use Rattle.avr_exec.specs.declared.stop.BusStop.TheVariants.{Stack as StackStop}
-use Rattle.avr_exec.specs.Registers.{is_own, raised, lowered}
+use Rattle.avr_exec.specs.Registers.{is_own, wrapping_sum, wrapping_difference}
 use Rattle.avr_exec.specs.Spaces.{Outcome, Went, Stopped}
-use Rattle.avr_exec.specs.Asks.{ask_of, load_of, io_address}
+use Rattle.avr_exec.specs.Asks.{ask_of, load_of}
+use Rattle.avr_isa.specs.IoTable.{io_address}
 use Rattle.avr_exec.specs.Execution.{answered_by, answer_of, exec_of}
 use Rattle.avr_exec.specs.Likeness.{Leaves, is_transfer}
 use Rattle.avr_exec.proofs.OneAnswer.{exec_leaves}
@@ -84,12 +85,12 @@ pop_line g sp = one _ g _ _ _ refl
 pub push_return_line : (g : Guarded) (sp ret : ℕ) → Leaves (LineAfter g (PushReturn sp ret)) (push_return g sp ret)
 unfolding push_return
 push_return_line g sp ret =
-    both {A = Unit {0}} (is_stack sp) (is_stack (lowered sp 1)) g (with_sram (with_sram g sp (ret % 256)) (lowered sp 1) (ret / 256)) tt (StackStop (lowered sp 1)) (StackStop sp) refl
+    both {A = Unit {0}} (is_stack sp) (is_stack (wrapping_difference sp 1)) g (with_sram (with_sram g sp (ret % 256)) (wrapping_difference sp 1) (ret / 256)) tt (StackStop (wrapping_difference sp 1)) (StackStop sp) refl
 
 pub pop_return_line : (g : Guarded) (sp : ℕ) → Leaves (LineAfter g (PopReturn sp)) (pop_return g sp)
 unfolding pop_return
 pop_return_line g sp =
-    both (is_stack (raised sp 1)) (is_stack (raised sp 2)) g g (byte_at g.sram (raised sp 1) * 256 + byte_at g.sram (raised sp 2)) (StackStop (raised sp 2)) (StackStop (raised sp 1)) refl
+    both (is_stack (wrapping_sum sp 1)) (is_stack (wrapping_sum sp 2)) g g (byte_at g.sram (wrapping_sum sp 1) * 256 + byte_at g.sram (wrapping_sum sp 2)) (StackStop (wrapping_sum sp 2)) (StackStop (wrapping_sum sp 1)) refl
 
 answered_line : {A B : Type 0} (P : Guarded → Type 0) (f : A → B) (o : Outcome Guarded A) → Leaves P o → Leaves P (answered_by f o)
 answered_line P f (Went answer next) left = left

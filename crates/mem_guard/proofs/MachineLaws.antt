@@ -34,7 +34,7 @@ tried_other : (program : Program) (s : FlatState) (form : Form) → instruction_
 unfolding tried
 tried_other program s form is runs = ap (tried_form program s) is ∙ form_tried program s form runs
 
--- a jump to itself with interrupts off halts
+-- an RJMP or JMP to its own address with interrupts off halts
 pub tried_halt : (program : Program) (s : FlatState) (form : Form) → instruction_at program.image s.cpu.pc ≡ Some form → is_executed form ≡ true
     → jumps_to_itself s.cpu.pc form ≡ true → has_bit s.cpu.sreg interrupts ≡ false → tried program s ≡ Stops (Halted s.cpu.pc)
 tried_halt program s form is runs itself off =

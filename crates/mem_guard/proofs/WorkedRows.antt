@@ -10,11 +10,12 @@ use Rattle.avr_exec.specs.Effects.{finish_of, loaded, stored, with_pointer}
 use Rattle.avr_exec.specs.Execution.{answer_of, exec_of}
 use Rattle.mote_devices.specs.declared.line.Line.{Line}
 use Rattle.mote_devices.specs.declared.line.Port.TheVariants.{PortA}
+use Rattle.list_parts.specs.Lists.{many}
 use Rattle.mote_devices.specs.Registers.{register_at}
 use Rattle.mote_devices.specs.Accesses.{write, read}
 use Rattle.mem_guard.specs.Classes.{class_of}
 use Rattle.mem_guard.specs.FlatSpace.{load, store, push, pop, push_return, pop_return}
-use Rattle.mem_guard.specs.FlatMachine.{Program, End, Spent, Wild, Illegal, SelfProgram, Asleep, Halted, Io, Stack, SwapFull, Run, original, run, tried, zeros, no_pages}
+use Rattle.mem_guard.specs.FlatMachine.{Program, End, Spent, Wild, Illegal, SelfProgram, Asleep, Halted, Io, Stack, SwapFull, Run, original, run, tried, no_pages}
 
 -- a program of these words that may store to as many pages
 abbrev pub program : ℕ → List ℕ → Program
@@ -75,7 +76,10 @@ record Rows : Type 0 where
 
 -- by computation
 rows : Rows
-unfolding run tried the_form is_long two_word_form one_word_form if_defined defined_form is_undefined load_form store_form io_form form_1001 transfer_form register_or_pair_form one_register_form flag_or_plain_form plain_form exec_of answer_of ask_of finish_of immediate_of load_of store_of pointed loaded stored with_pointer own_byte with_own_byte zeros no_pages class_of load store push pop push_return pop_return read write can_read can_write register_at relative
+unfolding run tried the_form is_long two_word_form one_word_form if_defined defined_form is_undefined load_form store_form io_form form_1001
+    transfer_form register_or_pair_form one_register_form flag_or_plain_form plain_form exec_of answer_of ask_of finish_of immediate_of load_of
+    store_of pointed loaded stored with_pointer own_byte with_own_byte many no_pages class_of load store push pop push_return pop_return read write
+    can_read can_write register_at relative
 rows = record {
   first = refl;
   jumps_to_itself = refl;

@@ -13,7 +13,7 @@ guarded_of b = record {
   swap = b.swap.now;
   devices = b.devices.now;
   words = b.flash.now.words;
-  image_words = b.layout.now.image_words;
+  layout = b.layout.now;
   line = b.line;
 }
 

@@ -6,16 +6,17 @@ use Rattle.avr_isa.specs.declared.form.Form.{Form}
 use Rattle.avr_isa.specs.declared.form.Form.TheVariants.{Jmp, Rjmp, Sleep, Spm}
 use Rattle.avr_isa.specs.Image.{word, is_inside}
 use Rattle.avr_isa.specs.Crossing.{is_crossing}
-use Rattle.avr_decode.specs.Decoding.{is_long}
+use Rattle.avr_decode.specs.Decoding.{size_by_first_word}
 use Rattle.avr_decode.specs.Program.{instruction_at}
 use Rattle.avr_flags.specs.Status.{has_bit, interrupts}
 use Rattle.avr_exec.specs.declared.cpu.Cpu.{Cpu}
 use Rattle.avr_exec.specs.declared.stop.BusStop.{BusStop}
 use Rattle.avr_exec.specs.declared.stop.BusStop.TheVariants.{Io as IoStop, Stack as StackStop, SwapFull as FullStop}
-use Rattle.avr_exec.specs.Registers.{raised, relative}
+use Rattle.avr_exec.specs.Registers.{wrapping_sum, relative}
 use Rattle.avr_exec.specs.Spaces.{Outcome, Went, Stopped}
 use Rattle.avr_exec.specs.Execution.{exec_of}
 use Rattle.mote_devices.specs.declared.line.Line.{Line}
+use Rattle.list_parts.specs.Lists.{zeros}
 use Rattle.mote_devices.specs.State.{State, at_reset as devices_at_reset}
 use Rattle.mem_guard.specs.FlatSpace.{FlatSpace, flat_calls}
 
@@ -54,9 +55,9 @@ pub data Tried : Type 0 where
 
 -- how many words the next instruction has, which a skip passes over
 abbrev pub next_size : List ℕ → ℕ → ℕ
-next_size image pc = if is_long (word image (raised pc 1)) then 2 else 1
+next_size image pc = size_by_first_word (word image (wrapping_sum pc 1))
 
--- a jump whose target is its own address
+-- an RJMP or JMP to its own address
 abbrev pub jumps_to_itself : ℕ → Form → Bool
 jumps_to_itself pc (Jmp a) = a == pc
 jumps_to_itself pc (Rjmp k) = relative pc k == pc
@@ -91,7 +92,8 @@ stepped s (Went cpu space) = Goes space.line (record {
   crossings = if is_crossing s.cpu.pc cpu.pc then s.crossings + 1 else s.crossings;
 })
 
--- the instruction is executed, unless it jumps to itself for ever
+-- the instruction is executed, unless it is an RJMP or JMP to its own address with interrupts off, which would
+-- run for ever
 abbrev pub executed : Program → FlatState → Form → Tried
 executed program s form =
     if jumps_to_itself s.cpu.pc form && not (has_bit s.cpu.sreg interrupts) then Stops (Halted s.cpu.pc)
@@ -134,10 +136,6 @@ if_inside program s r = if is_inside program.image s.cpu.pc then r else ended (W
 unfoldable pub run : Program → FlatState → ℕ → Run
 run program s zero = if_inside program s (ended Spent s)
 run program s (suc n) = if_inside program s (followed s (tried program s) (λ next. run program next n))
-
--- n zeros
-unfoldable pub zeros : ℕ → List ℕ
-zeros n = replicate n 0
 
 -- how many pages of 256 bytes the data addresses have, none of them stored to
 unfoldable pub no_pages : List Bool

@@ -1,14 +1,15 @@
 -- The data memory of the original program's machine: flat bytes, and the devices' registers.
 -- ATmega128 datasheet, "AVR ATmega128 Memories"; docs/MEMORY.md has what the profile adds.
-use Rattle.std.specs.Prelude.{ℕ, ◌/◌, ◌%◌, ◌+◌, ◌*◌, Bool, true, false, ◌||◌, nat_lt, if◌then◌else◌, List, slice_index, slice_index_or, slice_set, count_by, Option}
+use Rattle.std.specs.Prelude.{ℕ, ◌/◌, Bool, true, false, ◌||◌, nat_lt, if◌then◌else◌, List, slice_index, slice_index_or, slice_set, count_by, Option}
 use Rattle.avr_isa.specs.Image.{byte}
-use Rattle.avr_exec.specs.declared.stop.BusStop.TheVariants.{Io as IoStop, Stack as StackStop, SwapFull as FullStop}
-use Rattle.avr_exec.specs.Registers.{raised, lowered}
+use Rattle.avr_exec.specs.declared.stop.BusStop.TheVariants.{Stack as StackStop, SwapFull as FullStop}
 use Rattle.avr_exec.specs.Spaces.{Outcome, Went, Stopped, Calls}
+use Rattle.avr_exec.specs.StackRules.{StackRule, push_on, pop_from, push_return_on, pop_return_from}
 use Rattle.heap_frames.specs.Addresses.{is_stack}
 use Rattle.mote_devices.specs.declared.line.Line.{Line}
 use Rattle.mote_devices.specs.State.{State, stored, with_stored, rampz_address}
-use Rattle.mote_devices.specs.Accesses.{Asked, Gave, Refused, read, write, modify as modify_device}
+use Rattle.mote_devices.specs.Accesses.{Asked, read, write, modify as modify_device}
+use Rattle.mote_core.specs.DeviceAnswers.{read_answer, write_answer}
 use Rattle.mem_guard.specs.declared.address.AddrClass.{AddrClass}
 use Rattle.mem_guard.specs.declared.address.AddrClass.TheVariants.{Stack, Heap}
 use Rattle.mem_guard.specs.Classes.{class_of}
@@ -44,12 +45,10 @@ has_room s = nat_lt (count_by (λ b. b) s.pages) s.page_limit
 
 -- what the devices answered to a read, and to a write, at data address a
 abbrev pub from_device : FlatSpace → ℕ → Asked ℕ → Outcome FlatSpace ℕ
-from_device s a (Gave v next) = Went v (record s { devices = next })
-from_device s a Refused = Stopped (IoStop a)
+from_device s a asked = read_answer (λ next. record s { devices = next }) a asked
 
 abbrev pub to_device : FlatSpace → ℕ → Asked (Option Line) → Outcome FlatSpace (Unit {0})
-to_device s a (Gave line next) = Went tt (record s { devices = next; line = line })
-to_device s a Refused = Stopped (IoStop a)
+to_device s a asked = write_answer (λ line next. record s { devices = next; line = line }) a asked
 
 -- A load: from memory, or else from the devices, which refuse where a program may not read. The core
 -- answers its own addresses, and never asks for them here.
@@ -79,28 +78,21 @@ store s a v = store_in (class_of a) s a v
 unfoldable pub modify : FlatSpace → ℕ → ℕ → ℕ → Outcome FlatSpace (Unit {0})
 modify s a clear set = to_device s a (modify_device s.devices a clear set)
 
--- a byte pushed at sp, and one popped from above it; the stack keeps to its window
+-- the stack keeps to its window
+abbrev pub flat_stack : StackRule FlatSpace
+flat_stack = record { holds = λ a. is_stack a; byte = λ s a. memory_byte s a; with_byte = λ s a v. with_memory s a v; stop = λ a. StackStop a }
+
 unfoldable pub push : FlatSpace → ℕ → ℕ → Outcome FlatSpace (Unit {0})
-push s sp v = if is_stack sp then Went tt (with_memory s sp v) else Stopped (StackStop sp)
+push s sp v = push_on flat_stack s sp v
 
 unfoldable pub pop : FlatSpace → ℕ → Outcome FlatSpace ℕ
-pop s sp = if is_stack (raised sp 1) then Went (memory_byte s (raised sp 1)) s else Stopped (StackStop (raised sp 1))
+pop s sp = pop_from flat_stack s sp
 
--- a return address pushed: its low byte at sp, then its high byte below
 unfoldable pub push_return : FlatSpace → ℕ → ℕ → Outcome FlatSpace (Unit {0})
-push_return s sp ret =
-    if is_stack sp then
-    if is_stack (lowered sp 1) then Went tt (with_memory (with_memory s sp (ret % 256)) (lowered sp 1) (ret / 256))
-    else Stopped (StackStop (lowered sp 1))
-    else Stopped (StackStop sp)
+push_return s sp ret = push_return_on flat_stack s sp ret
 
--- a return address popped: its high byte from sp + 1, then its low byte from sp + 2
 unfoldable pub pop_return : FlatSpace → ℕ → Outcome FlatSpace ℕ
-pop_return s sp =
-    if is_stack (raised sp 1) then
-    if is_stack (raised sp 2) then Went (memory_byte s (raised sp 1) * 256 + memory_byte s (raised sp 2)) s
-    else Stopped (StackStop (raised sp 2))
-    else Stopped (StackStop (raised sp 1))
+pop_return s sp = pop_return_from flat_stack s sp
 
 -- the space as a bus's calls
 abbrev pub flat_calls : Calls FlatSpace

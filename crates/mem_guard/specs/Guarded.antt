@@ -1,11 +1,13 @@
 -- The guarded space: the program's memory over the mote's own parts. The stack window is SRAM at the same
 -- addresses, and the heap is kept in frames and swap slots (crate heap_frames).
-use Rattle.std.specs.Prelude.{ℕ, ◌/◌, ◌%◌, ◌+◌, ◌*◌, if◌then◌else◌, List, take, length, Option, Some, None}
+use Rattle.std.specs.Prelude.{ℕ, List, length, Option, Some, None}
 use Rattle.avr_isa.specs.Image.{byte}
 use Rattle.avr_exec.specs.declared.cpu.Cpu.{Cpu}
-use Rattle.avr_exec.specs.declared.stop.BusStop.TheVariants.{Io as IoStop, Stack as StackStop, SwapFull as FullStop}
-use Rattle.avr_exec.specs.Registers.{raised, lowered}
+use Rattle.avr_exec.specs.declared.stop.BusStop.TheVariants.{Stack as StackStop, SwapFull as FullStop}
 use Rattle.avr_exec.specs.Spaces.{Outcome, Went, Stopped, Calls}
+use Rattle.avr_exec.specs.StackRules.{StackRule, push_on, pop_from, push_return_on, pop_return_from}
+use Rattle.flash_model.specs.declared.layout.Layout.{Layout}
+use Rattle.flash_model.specs.Layouts.{image_of}
 use Rattle.sram_layout.specs.Bytes.{byte_at, with_byte}
 use Rattle.heap_frames.specs.Addresses.{is_stack}
 use Rattle.heap_frames.specs.Frames.{pages}
@@ -13,30 +15,27 @@ use Rattle.heap_frames.specs.Memory.{vmem}
 use Rattle.heap_frames.specs.Paging.{Store, heap_load, heap_store}
 use Rattle.mote_devices.specs.declared.line.Line.{Line}
 use Rattle.mote_devices.specs.State.{State, stored, with_stored, rampz_address}
-use Rattle.mote_devices.specs.Accesses.{Asked, Gave, Refused, read, write, modify as modify_device}
+use Rattle.mote_devices.specs.Accesses.{Asked, read, write, modify as modify_device}
+use Rattle.mote_core.specs.DeviceAnswers.{read_answer, write_answer}
 use Rattle.mem_guard.specs.declared.address.AddrClass.{AddrClass}
 use Rattle.mem_guard.specs.declared.address.AddrClass.TheVariants.{Stack, Heap}
 use Rattle.mem_guard.specs.Classes.{class_of}
 use Rattle.mem_guard.specs.FlatSpace.{FlatSpace}
 use Rattle.mem_guard.specs.FlatMachine.{Program, FlatState}
 
--- the bytes of SRAM, the swap slots, the devices, the words of flash and how many of them are the
--- image's, and what the last write of a device showed outside
+-- the bytes of SRAM, the swap slots, the devices, the words of flash and which of them are the image's,
+-- and what the last write of a device showed outside
 pub record Guarded : Type 0 where
   pub sram : List ℕ
   pub swap : List (List ℕ)
   pub devices : State
   pub words : List ℕ
-  pub image_words : ℕ
+  pub layout : Layout
   pub line : Option Line
-
--- the program's words
-abbrev pub image_of : Guarded → List ℕ
-image_of g = take g.image_words g.words
 
 -- the program: as many pages of the heap may be stored to as there are slots
 abbrev pub program_of : Guarded → Program
-program_of g = record { image = image_of g; page_limit = length g.swap }
+program_of g = record { image = image_of g.layout g.words; page_limit = length g.swap }
 
 -- what the program sees of it: flat memory
 abbrev pub flat_of : Guarded → FlatSpace
@@ -45,7 +44,7 @@ flat_of g = record {
   devices = g.devices;
   pages = pages g.sram;
   page_limit = length g.swap;
-  image = image_of g;
+  image = image_of g.layout g.words;
   line = g.line;
 }
 
@@ -73,12 +72,10 @@ with_sram g a v = record g { sram = with_byte g.sram a v }
 
 -- what the devices answered to a read, and to a write, at data address a
 abbrev pub from_device : Guarded → ℕ → Asked ℕ → Outcome Guarded ℕ
-from_device g a (Gave v next) = Went v (record g { devices = next })
-from_device g a Refused = Stopped (IoStop a)
+from_device g a asked = read_answer (λ next. record g { devices = next }) a asked
 
 abbrev pub to_device : Guarded → ℕ → Asked (Option Line) → Outcome Guarded (Unit {0})
-to_device g a (Gave line next) = Went tt (record g { devices = next; line = line })
-to_device g a Refused = Stopped (IoStop a)
+to_device g a asked = write_answer (λ line next. record g { devices = next; line = line }) a asked
 
 -- what the heap answered to a load, and to a store at data address a
 abbrev pub from_heap : Guarded → ℕ × Store → Outcome Guarded ℕ
@@ -107,25 +104,21 @@ store g a v = store_in (class_of a) g a v
 unfoldable pub modify : Guarded → ℕ → ℕ → ℕ → Outcome Guarded (Unit {0})
 modify g a clear set = to_device g a (modify_device g.devices a clear set)
 
+-- the stack keeps to its window
+abbrev pub guarded_stack : StackRule Guarded
+guarded_stack = record { holds = λ a. is_stack a; byte = λ g a. byte_at g.sram a; with_byte = λ g a v. with_sram g a v; stop = λ a. StackStop a }
+
 unfoldable pub push : Guarded → ℕ → ℕ → Outcome Guarded (Unit {0})
-push g sp v = if is_stack sp then Went tt (with_sram g sp v) else Stopped (StackStop sp)
+push g sp v = push_on guarded_stack g sp v
 
 unfoldable pub pop : Guarded → ℕ → Outcome Guarded ℕ
-pop g sp = if is_stack (raised sp 1) then Went (byte_at g.sram (raised sp 1)) g else Stopped (StackStop (raised sp 1))
+pop g sp = pop_from guarded_stack g sp
 
 unfoldable pub push_return : Guarded → ℕ → ℕ → Outcome Guarded (Unit {0})
-push_return g sp ret =
-    if is_stack sp then
-    if is_stack (lowered sp 1) then Went tt (with_sram (with_sram g sp (ret % 256)) (lowered sp 1) (ret / 256))
-    else Stopped (StackStop (lowered sp 1))
-    else Stopped (StackStop sp)
+push_return g sp ret = push_return_on guarded_stack g sp ret
 
 unfoldable pub pop_return : Guarded → ℕ → Outcome Guarded ℕ
-pop_return g sp =
-    if is_stack (raised sp 1) then
-    if is_stack (raised sp 2) then Went (byte_at g.sram (raised sp 1) * 256 + byte_at g.sram (raised sp 2)) g
-    else Stopped (StackStop (raised sp 2))
-    else Stopped (StackStop (raised sp 1))
+pop_return g sp = pop_return_from guarded_stack g sp
 
 -- the space as a bus's calls
 abbrev pub guarded_calls : Calls Guarded
@@ -139,5 +132,5 @@ guarded_calls = record {
   pop_ret = pop_return;
   rampz = λ g. stored g.devices rampz_address;
   set_rampz = λ g v. record g { devices = with_stored g.devices rampz_address v };
-  flash_byte = λ g a. byte (image_of g) a;
+  flash_byte = λ g a. byte (image_of g.layout g.words) a;
 }

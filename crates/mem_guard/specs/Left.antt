@@ -20,7 +20,7 @@ pub record IsKept (g next : Guarded) : Type 0 where
   pub tables : (b : ℕ) → 0x0141 < b → b < 0x0400 → byte_at next.sram b ≡ byte_at g.sram b
   pub slots : length next.swap ≡ length g.swap
   pub words : next.words ≡ g.words
-  pub image : next.image_words ≡ g.image_words
+  pub image : next.layout ≡ g.layout
   pub polls : next.devices.polls ≤ g.devices.polls + 1
 
 -- frames, slots and their tables stay as they were

@@ -9,7 +9,7 @@
 //! exec(&instr, &mut cpu, &mut bus, next_size)?; // a stop says why, and changes nothing
 //! ```
 //!
-//! [`instruction_in_image`], [`next_size_in_image`] and [`word_in_image`] read the program itself from flash.
+//! [`instruction_in_image`] and [`next_size_in_image`] read the program itself from flash.
 //!
 //! The machine that the program believes it runs on stands in `specs/FlatSpace` and `specs/FlatMachine`,
 //! in plain lists and numbers: its memory, one step, and a run with its end. `specs/Guarded` is what a
@@ -19,7 +19,7 @@
 //! Laws for the layers above: `proofs/MachineLaws` (a try in each case, and what a run does first),
 //! `proofs/Alike`, `proofs/Leaves` and `proofs/LineLaws` (every call and every instruction),
 //! `proofs/GuardedStep` (an instruction executed over the guarded space is the original program's step),
-//! and `proofs/ImageLaws` (the program's words and instructions as flash has them).
+//! and `proofs/ImageLaws` (the program's instructions as flash has them).
 #![tactic(auto)]
 
 mod address;
@@ -28,8 +28,5 @@ mod parts;
 mod virtual_bus;
 
 pub use address::{AddrClass, class};
-pub use image::{instruction_in_image, next_size_in_image, word_in_image};
+pub use image::{instruction_in_image, next_size_in_image};
 pub use virtual_bus::VirtualBus;
-
-#[cfg(test)]
-mod tests;

@@ -2,7 +2,7 @@
 
 ghost use Rattle.std.specs.Prelude.{◌≡◌, ◌≤◌, false, OnErr};
 ghost use Rattle.avr_exec.specs.Registers.{is_own};
-ghost use Rattle.avr_exec.specs.Spaces.{told};
+ghost use Rattle.avr_exec.specs.Spaces.{outcome_of};
 ghost use Rattle.heap_frames.specs.Addresses.{is_stack as is_stack_test};
 ghost use Rattle.mem_guard.specs.Guarded.{load, store, modify, push, pop, push_return, pop_return};
 ghost use Rattle.mem_guard.specs.Bus.{guarded_of, lent_of};
@@ -20,7 +20,7 @@ impl VirtualBus<'_> {
     pub(crate) fn load_byte(&mut self, a: u16) -> Result<u8, BusStop>
         requires ready { IsReady (guarded_of self.old) }
         requires outside { is_own a ≡ false }
-        ensures answer { told result (guarded_of self.new) ≡ load (guarded_of self.old) a }
+        ensures answer { outcome_of result (guarded_of self.new) ≡ load (guarded_of self.old) a }
         ensures stop { OnErr result (guarded_of self.new ≡ guarded_of self.old) }
         ensures lent { lent_of self.new ≡ lent_of self.old }
     {
@@ -36,7 +36,7 @@ impl VirtualBus<'_> {
     pub(crate) fn store_byte(&mut self, a: u16, v: u8) -> Result<(), BusStop>
         requires ready { IsReady (guarded_of self.old) }
         requires outside { is_own a ≡ false }
-        ensures answer { told result (guarded_of self.new) ≡ store (guarded_of self.old) a v }
+        ensures answer { outcome_of result (guarded_of self.new) ≡ store (guarded_of self.old) a v }
         ensures stop { OnErr result (guarded_of self.new ≡ guarded_of self.old) }
         ensures lent { lent_of self.new ≡ lent_of self.old }
     {
@@ -54,7 +54,7 @@ impl VirtualBus<'_> {
         requires ready { IsReady (guarded_of self.old) }
         requires outside { is_own a ≡ false }
         requires register { (0x20 ≤ a) × (a ≤ 0xFF) }
-        ensures answer { told result (guarded_of self.new) ≡ modify (guarded_of self.old) a clear set }
+        ensures answer { outcome_of result (guarded_of self.new) ≡ modify (guarded_of self.old) a clear set }
         ensures stop { OnErr result (guarded_of self.new ≡ guarded_of self.old) }
         ensures lent { lent_of self.new ≡ lent_of self.old }
     {
@@ -65,7 +65,7 @@ impl VirtualBus<'_> {
     /// A byte pushed at `sp`.
     #[tactic(auto, unfolding(crate::specs::Guarded::push))]
     pub(crate) fn push_byte(&mut self, sp: u16, v: u8) -> Result<(), BusStop>
-        ensures answer { told result (guarded_of self.new) ≡ push (guarded_of self.old) sp v }
+        ensures answer { outcome_of result (guarded_of self.new) ≡ push (guarded_of self.old) sp v }
         ensures stop { OnErr result (guarded_of self.new ≡ guarded_of self.old) }
         ensures lent { lent_of self.new ≡ lent_of self.old }
     {
@@ -79,7 +79,7 @@ impl VirtualBus<'_> {
     /// The byte above `sp`.
     #[tactic(auto, unfolding(crate::specs::Guarded::pop))]
     pub(crate) fn pop_byte(&mut self, sp: u16) -> Result<u8, BusStop>
-        ensures answer { told result (guarded_of self.new) ≡ pop (guarded_of self.old) sp }
+        ensures answer { outcome_of result (guarded_of self.new) ≡ pop (guarded_of self.old) sp }
         ensures stop { OnErr result (guarded_of self.new ≡ guarded_of self.old) }
         ensures lent { lent_of self.new ≡ lent_of self.old }
     {
@@ -93,7 +93,7 @@ impl VirtualBus<'_> {
     /// A return address pushed: its low byte at `sp`, then its high byte below.
     #[tactic(auto, unfolding(crate::specs::Guarded::push_return))]
     pub(crate) fn push_return(&mut self, sp: u16, ret: u16) -> Result<(), BusStop>
-        ensures answer { told result (guarded_of self.new) ≡ push_return (guarded_of self.old) sp ret }
+        ensures answer { outcome_of result (guarded_of self.new) ≡ push_return (guarded_of self.old) sp ret }
         ensures stop { OnErr result (guarded_of self.new ≡ guarded_of self.old) }
         ensures lent { lent_of self.new ≡ lent_of self.old }
     {
@@ -112,7 +112,7 @@ impl VirtualBus<'_> {
     /// A return address popped: its high byte from `sp + 1`, then its low byte from `sp + 2`.
     #[tactic(auto, unfolding(crate::specs::Guarded::pop_return))]
     pub(crate) fn pop_return(&mut self, sp: u16) -> Result<u16, BusStop>
-        ensures answer { told result (guarded_of self.new) ≡ pop_return (guarded_of self.old) sp }
+        ensures answer { outcome_of result (guarded_of self.new) ≡ pop_return (guarded_of self.old) sp }
         ensures stop { OnErr result (guarded_of self.new ≡ guarded_of self.old) }
         ensures lent { lent_of self.new ≡ lent_of self.old }
     {

@@ -1,8 +1,7 @@
 //! The program's memory over the mote's own parts, as a bus.
 
-use crate::image::word_in_image;
 use avr_exec::{Bus, BusStop};
-use flash_model::{Flash, Layout};
+use flash_model::{Flash, Layout, word_in_image};
 use mote_devices::{Devices, Line};
 use sram_layout::Sram;
 use swap_store::Swap;
@@ -24,7 +23,7 @@ pub struct VirtualBus<'a> {
 impl Bus for VirtualBus<'_> {
     ghost use Rattle.std.specs.Prelude.{◌≡◌, ◌≤◌, false, OnOk, OnErr};
     ghost use Rattle.avr_exec.specs.Registers.{is_own};
-    ghost use Rattle.avr_exec.specs.Spaces.{told};
+    ghost use Rattle.avr_exec.specs.Spaces.{outcome_of};
     ghost use Rattle.mem_guard.specs.FlatSpace.{load as flat_load, store as flat_store, modify as flat_modify, push as flat_push, pop as flat_pop, push_return as flat_push_return, pop_return as flat_pop_return};
     ghost use Rattle.mem_guard.specs.Guarded.{Guarded, guarded_calls, load as load_of, store as store_of, modify as modify_of, push as push_of, pop as pop_of, push_return as push_return_of, pop_return as pop_return_of};
     ghost use Rattle.mem_guard.specs.Bus.{guarded_of, seen_of, Lent, lent_of};
@@ -47,10 +46,10 @@ impl Bus for VirtualBus<'_> {
     fn load(&mut self, a: u16) -> Result<u8, BusStop>
         requires ready { IsReady (guarded_of self.old) }
         requires outside { is_own a ≡ false }
-        ensures answer { told result (guarded_of self.new) ≡ load_of (guarded_of self.old) a }
+        ensures answer { outcome_of result (guarded_of self.new) ≡ load_of (guarded_of self.old) a }
         ensures stop { OnErr result (guarded_of self.new ≡ guarded_of self.old) }
         ensures lent { lent_of self.new ≡ lent_of self.old }
-        ensures flat { told result (seen_of self.new) ≡ flat_load (seen_of self.old) a }
+        ensures flat { outcome_of result (seen_of self.new) ≡ flat_load (seen_of self.old) a }
         ensures kept { IsKept (guarded_of self.old) (guarded_of self.new) }
         ensures heap { OnOk result (HeapAfter (guarded_of self.old) (LoadAsk a) (guarded_of self.new)) }
     {
@@ -60,10 +59,10 @@ impl Bus for VirtualBus<'_> {
     fn store(&mut self, a: u16, v: u8) -> Result<(), BusStop>
         requires ready { IsReady (guarded_of self.old) }
         requires outside { is_own a ≡ false }
-        ensures answer { told result (guarded_of self.new) ≡ store_of (guarded_of self.old) a v }
+        ensures answer { outcome_of result (guarded_of self.new) ≡ store_of (guarded_of self.old) a v }
         ensures stop { OnErr result (guarded_of self.new ≡ guarded_of self.old) }
         ensures lent { lent_of self.new ≡ lent_of self.old }
-        ensures flat { told result (seen_of self.new) ≡ flat_store (seen_of self.old) a v }
+        ensures flat { outcome_of result (seen_of self.new) ≡ flat_store (seen_of self.old) a v }
         ensures kept { IsKept (guarded_of self.old) (guarded_of self.new) }
         ensures heap { OnOk result (HeapAfter (guarded_of self.old) (StoreAsk a v) (guarded_of self.new)) }
     {
@@ -74,10 +73,10 @@ impl Bus for VirtualBus<'_> {
         requires ready { IsReady (guarded_of self.old) }
         requires outside { is_own a ≡ false }
         requires register { (0x20 ≤ a) × (a ≤ 0xFF) }
-        ensures answer { told result (guarded_of self.new) ≡ modify_of (guarded_of self.old) a clear set }
+        ensures answer { outcome_of result (guarded_of self.new) ≡ modify_of (guarded_of self.old) a clear set }
         ensures stop { OnErr result (guarded_of self.new ≡ guarded_of self.old) }
         ensures lent { lent_of self.new ≡ lent_of self.old }
-        ensures flat { told result (seen_of self.new) ≡ flat_modify (seen_of self.old) a clear set }
+        ensures flat { outcome_of result (seen_of self.new) ≡ flat_modify (seen_of self.old) a clear set }
         ensures kept { IsKept (guarded_of self.old) (guarded_of self.new) }
         ensures heap { OnOk result (HeapAfter (guarded_of self.old) (Modify a clear set) (guarded_of self.new)) }
     {
@@ -86,10 +85,10 @@ impl Bus for VirtualBus<'_> {
 
     fn push(&mut self, sp: u16, v: u8) -> Result<(), BusStop>
         requires ready { IsReady (guarded_of self.old) }
-        ensures answer { told result (guarded_of self.new) ≡ push_of (guarded_of self.old) sp v }
+        ensures answer { outcome_of result (guarded_of self.new) ≡ push_of (guarded_of self.old) sp v }
         ensures stop { OnErr result (guarded_of self.new ≡ guarded_of self.old) }
         ensures lent { lent_of self.new ≡ lent_of self.old }
-        ensures flat { told result (seen_of self.new) ≡ flat_push (seen_of self.old) sp v }
+        ensures flat { outcome_of result (seen_of self.new) ≡ flat_push (seen_of self.old) sp v }
         ensures kept { IsKept (guarded_of self.old) (guarded_of self.new) }
         ensures heap { OnOk result (HeapAfter (guarded_of self.old) (PushByte sp v) (guarded_of self.new)) }
     {
@@ -98,10 +97,10 @@ impl Bus for VirtualBus<'_> {
 
     fn pop(&mut self, sp: u16) -> Result<u8, BusStop>
         requires ready { IsReady (guarded_of self.old) }
-        ensures answer { told result (guarded_of self.new) ≡ pop_of (guarded_of self.old) sp }
+        ensures answer { outcome_of result (guarded_of self.new) ≡ pop_of (guarded_of self.old) sp }
         ensures stop { OnErr result (guarded_of self.new ≡ guarded_of self.old) }
         ensures lent { lent_of self.new ≡ lent_of self.old }
-        ensures flat { told result (seen_of self.new) ≡ flat_pop (seen_of self.old) sp }
+        ensures flat { outcome_of result (seen_of self.new) ≡ flat_pop (seen_of self.old) sp }
         ensures kept { IsKept (guarded_of self.old) (guarded_of self.new) }
         ensures heap { OnOk result (HeapAfter (guarded_of self.old) (PopByte sp) (guarded_of self.new)) }
     {
@@ -110,10 +109,10 @@ impl Bus for VirtualBus<'_> {
 
     fn push_ret(&mut self, sp: u16, ret: u16) -> Result<(), BusStop>
         requires ready { IsReady (guarded_of self.old) }
-        ensures answer { told result (guarded_of self.new) ≡ push_return_of (guarded_of self.old) sp ret }
+        ensures answer { outcome_of result (guarded_of self.new) ≡ push_return_of (guarded_of self.old) sp ret }
         ensures stop { OnErr result (guarded_of self.new ≡ guarded_of self.old) }
         ensures lent { lent_of self.new ≡ lent_of self.old }
-        ensures flat { told result (seen_of self.new) ≡ flat_push_return (seen_of self.old) sp ret }
+        ensures flat { outcome_of result (seen_of self.new) ≡ flat_push_return (seen_of self.old) sp ret }
         ensures kept { IsKept (guarded_of self.old) (guarded_of self.new) }
         ensures heap { OnOk result (HeapAfter (guarded_of self.old) (PushReturn sp ret) (guarded_of self.new)) }
     {
@@ -122,10 +121,10 @@ impl Bus for VirtualBus<'_> {
 
     fn pop_ret(&mut self, sp: u16) -> Result<u16, BusStop>
         requires ready { IsReady (guarded_of self.old) }
-        ensures answer { told result (guarded_of self.new) ≡ pop_return_of (guarded_of self.old) sp }
+        ensures answer { outcome_of result (guarded_of self.new) ≡ pop_return_of (guarded_of self.old) sp }
         ensures stop { OnErr result (guarded_of self.new ≡ guarded_of self.old) }
         ensures lent { lent_of self.new ≡ lent_of self.old }
-        ensures flat { told result (seen_of self.new) ≡ flat_pop_return (seen_of self.old) sp }
+        ensures flat { outcome_of result (seen_of self.new) ≡ flat_pop_return (seen_of self.old) sp }
         ensures kept { IsKept (guarded_of self.old) (guarded_of self.new) }
         ensures heap { OnOk result (HeapAfter (guarded_of self.old) (PopReturn sp) (guarded_of self.new)) }
     {

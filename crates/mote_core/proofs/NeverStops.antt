@@ -8,7 +8,7 @@ use Rattle.avr_exec.specs.declared.ask.Ask.TheVariants.{Nothing, Load, Store, Mo
 use Rattle.avr_exec.specs.declared.answer.Answer.TheVariants.{Done, Byte, Address}
 use Rattle.avr_exec.specs.declared.stop.BusStop.{BusStop}
 use Rattle.avr_exec.specs.declared.stop.BusStop.TheVariants.{Io}
-use Rattle.avr_exec.specs.Registers.{raised, lowered}
+use Rattle.avr_exec.specs.Registers.{wrapping_sum, wrapping_difference}
 use Rattle.avr_exec.specs.Spaces.{Outcome, Went, Stopped}
 use Rattle.avr_exec.specs.Asks.{ask_of}
 use Rattle.avr_exec.specs.Execution.{answered_by, answer_of, exec_of}
@@ -70,9 +70,9 @@ never_stops s (Load a) mapped = load_went (is_sram a) s a mapped
 never_stops s (Store a v) mapped = store_went (is_sram a) s a v mapped
 never_stops s (Modify a clear set) mapped = modify_went s a clear set (both _ _ mapped).0 (both _ _ mapped).1
 never_stops s (PushByte sp v) mapped = push_went (is_sram sp) s sp v mapped
-never_stops s (PopByte sp) mapped = pop_went (is_sram (raised sp 1)) s (raised sp 1) mapped
-never_stops s (PushReturn sp ret) mapped = push_return_went (is_sram sp) (is_sram (lowered sp 1)) s sp ret (lowered sp 1) _ mapped
-never_stops s (PopReturn sp) mapped = pop_return_went (is_sram (raised sp 1)) (is_sram (raised sp 2)) s _ (raised sp 1) (raised sp 2) mapped
+never_stops s (PopByte sp) mapped = pop_went (is_sram (wrapping_sum sp 1)) s (wrapping_sum sp 1) mapped
+never_stops s (PushReturn sp ret) mapped = push_return_went (is_sram sp) (is_sram (wrapping_difference sp 1)) s sp ret (wrapping_difference sp 1) _ mapped
+never_stops s (PopReturn sp) mapped = pop_return_went (is_sram (wrapping_sum sp 1)) (is_sram (wrapping_sum sp 2)) s _ (wrapping_sum sp 1) (wrapping_sum sp 2) mapped
 never_stops s (Program z) mapped = tt
 never_stops s (ExtendedProgram z) mapped = tt
 never_stops s (ExtendedProgramRaising z) mapped = tt

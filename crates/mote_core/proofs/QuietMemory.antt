@@ -8,7 +8,7 @@ use Rattle.avr_isa.specs.declared.operation.Base.TheVariants.{Z}
 use Rattle.avr_exec.specs.declared.cpu.Cpu.{Cpu}
 use Rattle.avr_exec.specs.declared.ask.Ask.TheVariants.{Nothing, Load, Store, PushReturn}
 use Rattle.avr_exec.specs.declared.answer.Answer.TheVariants.{Done, Byte}
-use Rattle.avr_exec.specs.Registers.{is_own, own_byte, with_own_byte, with_counter, raised, lowered}
+use Rattle.avr_exec.specs.Registers.{is_own, own_byte, with_own_byte, with_counter, wrapping_sum, wrapping_difference}
 use Rattle.avr_exec.specs.Asks.{ask_of, load_of, store_of}
 use Rattle.avr_exec.specs.Effects.{finish_of, loaded, stored}
 use Rattle.avr_exec.specs.Execution.{answered_by, answer_of, is_executed}
@@ -24,10 +24,10 @@ use Rattle.mote_core.specs.QuietSteps.{KeepsKernel, IsQuiet, core, held, flash_f
 use Rattle.mote_core.proofs.StepsByAnswer.{quiet_by, keeps_same, keeps_stack}
 
 -- the pc one or two words on, as a sum
-pub pc_one : (m : Mote) (r : List ℕ) (status pc : ℕ) → pc + 1 < 65536 → core m r status (raised pc 1) ≡ core m r status (pc + 1)
+pub pc_one : (m : Mote) (r : List ℕ) (status pc : ℕ) → pc + 1 < 65536 → core m r status (wrapping_sum pc 1) ≡ core m r status (pc + 1)
 pc_one m r status pc below = let e : (pc + 1) % 65536 ≡ pc + 1 = omega arith in ap (core m r status) e
 
-pub pc_two : (m : Mote) (r : List ℕ) (status pc : ℕ) → pc + 2 < 65536 → core m r status (raised pc 2) ≡ core m r status (pc + 2)
+pub pc_two : (m : Mote) (r : List ℕ) (status pc : ℕ) → pc + 2 < 65536 → core m r status (wrapping_sum pc 2) ≡ core m r status (pc + 2)
 pc_two m r status pc below = let e : (pc + 2) % 65536 ≡ pc + 2 = omega arith in ap (core m r status) e
 
 -- an address of SRAM is none of the core's own
@@ -69,7 +69,7 @@ pub quiet_lds : (m : Mote) (r r' : List ℕ) (s pc : ℕ) (sram : List ℕ) (d a
 unfolding is_executed ask_of finish_of
 quiet_lds m r r' s pc sram d a is ram below value =
     quiet_by (held m r s pc sram) (Lds d a) (Byte (byte_at sram a)) sram (core m r' s (pc + 2)) is refl (load_mapped a ram) (load_answered (space_of (held m r s pc sram) None) a ram)
-    (ap (λ v. core m (slice_set r d v) s (raised pc 2)) (loaded_is (core m r s pc) a (byte_at sram a) ram) ∙ ap (λ x. core m x s (raised pc 2)) value ∙ pc_two m r' s pc below) (keeps_same sram)
+    (ap (λ v. core m (slice_set r d v) s (wrapping_sum pc 2)) (loaded_is (core m r s pc) a (byte_at sram a) ram) ∙ ap (λ x. core m x s (wrapping_sum pc 2)) value ∙ pc_two m r' s pc below) (keeps_same sram)
 
 pub quiet_sts : (m : Mote) (r : List ℕ) (s pc : ℕ) (sram : List ℕ) (a d v : ℕ) → flash_form m pc ≡ Some (Sts a d) → is_sram a ≡ true → pc + 2 < 65536 → slice_index r d ≡ v → KeepsKernel sram (with_byte sram a v)
     → IsQuiet (held m r s pc sram) (held m r s (pc + 2) (with_byte sram a v))
@@ -77,7 +77,7 @@ unfolding is_executed ask_of finish_of
 quiet_sts m r s pc sram a d v is ram below value keeps =
     quiet_by (held m r s pc sram) (Sts a d) Done (with_byte sram a v) (core m r s (pc + 2)) is refl (store_mapped a (slice_index r d) ram)
     (store_answered (space_of (held m r s pc sram) None) a (slice_index r d) ram ∙ ap (λ x. WentOn Done (with_sram (space_of (held m r s pc sram) None) a x)) value)
-    (ap (λ (c : Cpu). with_counter c (raised c.pc 2)) (stored_is (core m r s pc) a (slice_index r d) ram) ∙ pc_two m r s pc below) keeps
+    (ap (λ (c : Cpu). with_counter c (wrapping_sum c.pc 2)) (stored_is (core m r s pc) a (slice_index r d) ram) ∙ pc_two m r s pc below) keeps
 
 sram_small : (a : ℕ) → is_sram a ≡ true → a ≤ 0x10FF
 sram_small a ram = grind (arith, nat_tests)
@@ -97,7 +97,9 @@ quiet_ld_z m r r' s pc sram d a is z ram below value =
     let there = z_there r a z ram in
     quiet_by (held m r s pc sram) (LoadOff d Z 0) (Byte (byte_at sram a)) sram (core m r' s (pc + 1)) is refl (ap (λ x. is_mapped (load_of x)) there ∙ load_mapped a ram)
     (ap (λ x. answer_of physical_calls (space_of (held m r s pc sram) None) (load_of x)) there ∙ load_answered (space_of (held m r s pc sram) None) a ram)
-    (ap (λ x. core m (slice_set r d (loaded (core m r s pc) x (Byte (byte_at sram a)))) s (raised pc 1)) there ∙ ap (λ v. core m (slice_set r d v) s (raised pc 1)) (loaded_is (core m r s pc) a (byte_at sram a) ram) ∙ ap (λ x. core m x s (raised pc 1)) value ∙ pc_one m r' s pc below) (keeps_same sram)
+    (ap (λ x. core m (slice_set r d (loaded (core m r s pc) x (Byte (byte_at sram a)))) s (wrapping_sum pc 1)) there
+    ∙ ap (λ v. core m (slice_set r d v) s (wrapping_sum pc 1)) (loaded_is (core m r s pc) a (byte_at sram a) ram)
+    ∙ ap (λ x. core m x s (wrapping_sum pc 1)) value ∙ pc_one m r' s pc below) (keeps_same sram)
 
 pub quiet_st_z : (m : Mote) (r : List ℕ) (s pc : ℕ) (sram : List ℕ) (d a v : ℕ) → flash_form m pc ≡ Some (StoreOff Z 0 d) → z_of r ≡ a → is_sram a ≡ true → pc + 1 < 65536 → slice_index r d ≡ v → KeepsKernel sram (with_byte sram a v)
     → IsQuiet (held m r s pc sram) (held m r s (pc + 1) (with_byte sram a v))
@@ -106,7 +108,7 @@ quiet_st_z m r s pc sram d a v is z ram below value keeps =
     let there = z_there r a z ram in
     quiet_by (held m r s pc sram) (StoreOff Z 0 d) Done (with_byte sram a v) (core m r s (pc + 1)) is refl (ap (λ x. is_mapped (store_of x (slice_index r d))) there ∙ store_mapped a (slice_index r d) ram)
     (ap (λ x. answer_of physical_calls (space_of (held m r s pc sram) None) (store_of x (slice_index r d))) there ∙ store_answered (space_of (held m r s pc sram) None) a (slice_index r d) ram ∙ ap (λ x. WentOn Done (with_sram (space_of (held m r s pc sram) None) a x)) value)
-    (ap (λ x. let c = stored (core m r s pc) x (slice_index r d) in with_counter c (raised c.pc 1)) there ∙ ap (λ (c : Cpu). with_counter c (raised c.pc 1)) (stored_is (core m r s pc) a (slice_index r d) ram) ∙ pc_one m r s pc below) keeps
+    (ap (λ x. let c = stored (core m r s pc) x (slice_index r d) in with_counter c (wrapping_sum c.pc 1)) there ∙ ap (λ (c : Cpu). with_counter c (wrapping_sum c.pc 1)) (stored_is (core m r s pc) a (slice_index r d) ram) ∙ pc_one m r s pc below) keeps
 
 -- CALL from the top of the kernel's stack
 call_mapped : (ret : ℕ) → is_mapped (PushReturn 0x011F ret) ≡ true
@@ -123,8 +125,8 @@ unfolding is_executed ask_of finish_of
 quiet_call m r s pc sram target is top below =
     let e : (pc + 2) % 65536 ≡ pc + 2 = omega arith in
     let sram' = with_byte (with_byte sram 0x011F ((pc + 2) % 256)) 0x011E ((pc + 2) / 256) in
-    let cpu' : ℕ → Cpu = λ sp. record m.cpu { r = r; sreg = s; sp = lowered sp 2; pc = target } in
-    quiet_by (held m r s pc sram) (Call target) Done sram' (record m.cpu { r = r; sreg = s; sp = 0x011D; pc = target }) is refl (ap (λ sp. is_mapped (PushReturn sp (raised pc 2))) top ∙ call_mapped (raised pc 2))
+    let cpu' : ℕ → Cpu = λ sp. record m.cpu { r = r; sreg = s; sp = wrapping_difference sp 2; pc = target } in
+    quiet_by (held m r s pc sram) (Call target) Done sram' (record m.cpu { r = r; sreg = s; sp = 0x011D; pc = target }) is refl (ap (λ sp. is_mapped (PushReturn sp (wrapping_sum pc 2))) top ∙ call_mapped (wrapping_sum pc 2))
     (ap₂ (λ sp ret. answer_of physical_calls (space_of (held m r s pc sram) None) (PushReturn sp ret)) top e ∙ call_answered (space_of (held m r s pc sram) None) (pc + 2))
     (ap cpu' top) (keeps_stack sram ((pc + 2) % 256) ((pc + 2) / 256))
 

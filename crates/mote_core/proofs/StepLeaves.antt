@@ -9,7 +9,7 @@ use Rattle.avr_exec.specs.declared.ask.Ask.TheVariants.{Nothing, Load, Store, Mo
 use Rattle.avr_exec.specs.declared.answer.Answer.{Answer}
 use Rattle.avr_exec.specs.declared.answer.Answer.TheVariants.{Done, Byte, Address}
 use Rattle.avr_exec.specs.declared.stop.BusStop.TheVariants.{Io}
-use Rattle.avr_exec.specs.Registers.{raised, lowered}
+use Rattle.avr_exec.specs.Registers.{wrapping_sum, wrapping_difference}
 use Rattle.avr_exec.specs.Spaces.{Outcome, Went as WentOn, Stopped}
 use Rattle.avr_exec.specs.Asks.{ask_of}
 use Rattle.avr_exec.specs.Execution.{answered_by, answer_of, exec_of}
@@ -21,12 +21,12 @@ use Rattle.sram_layout.proofs.Laws.{byte_other, length-with_byte}
 use Rattle.mote_devices.specs.declared.line.Line.{Line}
 use Rattle.mote_devices.specs.Registers.{register_at}
 use Rattle.mote_devices.specs.State.{State, with_stored, rampz_address}
-use Rattle.mote_devices.specs.Accesses.{Asked, Gave, Refused, read, write, modify as modify_device, line_of as shown_by, after_write}
+use Rattle.mote_devices.specs.Accesses.{Asked, Gave, Refused, read, write, modify as modify_device, line_written as shown_by, after_write}
 use Rattle.mote_devices.proofs.AccessLaws.{Afterwards, polls_after_read, polls_after_write, polls_after_modify}
 use Rattle.mote_core.specs.declared.mote.Mote.{Mote}
 use Rattle.mote_core.specs.declared.mote.Plain.{Plain}
 use Rattle.mote_core.specs.Physical.{Physical, is_sram, with_sram, from_device, to_device, load, store, modify, push, pop, push_return, pop_return, physical_calls}
-use Rattle.mote_core.specs.Shown.{line_of}
+use Rattle.mote_core.specs.Shown.{line_shown}
 use Rattle.mote_core.specs.Step.{form_at, next_size, space_of, IsPlainStep}
 use Rattle.mote_core.specs.Leaving.{is_written, reaches_devices, LeavesRest}
 use Rattle.mote_core.proofs.Steps.{stepped_is}
@@ -102,17 +102,17 @@ pop_left : (b : Bool) (ask : Ask) (s : Physical) (a v : ℕ) → LeftBy ask s (a
 pop_left true ask s a v = same_left ask s
 pop_left false ask s a v = tt
 
-apart_return : (sp ret b : ℕ) → is_written (PushReturn sp ret) b ≡ false → (b ≢ sp) × (b ≢ lowered sp 1)
+apart_return : (sp ret b : ℕ) → is_written (PushReturn sp ret) b ≡ false → (b ≢ sp) × (b ≢ wrapping_difference sp 1)
 unfolding is_written
 apart_return sp ret b other = ((λ same. (grind (arith, nat_tests))), (λ same. (grind (arith, nat_tests))))
 
-push_return_left : (b c : Bool) (s : Physical) (sp ret : ℕ) → is_sram sp ≡ b → is_sram (lowered sp 1) ≡ c
-    → LeftBy (PushReturn sp ret) s (answered_by {A = Unit {0}} (λ _. Done) (cond b (cond c (WentOn tt (with_sram (with_sram s sp (ret % 256)) (lowered sp 1) (ret / 256))) (Stopped (Io (lowered sp 1)))) (Stopped (Io sp))))
+push_return_left : (b c : Bool) (s : Physical) (sp ret : ℕ) → is_sram sp ≡ b → is_sram (wrapping_difference sp 1) ≡ c
+    → LeftBy (PushReturn sp ret) s (answered_by {A = Unit {0}} (λ _. Done) (cond b (cond c (WentOn tt (with_sram (with_sram s sp (ret % 256)) (wrapping_difference sp 1) (ret / 256))) (Stopped (Io (wrapping_difference sp 1)))) (Stopped (Io sp))))
 push_return_left true true s sp ret high low = record {
   bytes = λ b from other.
       let apart = apart_return sp ret b other in
-      byte_other (with_byte s.sram sp (ret % 256)) (lowered sp 1) b (ret / 256) (sram_from (lowered sp 1) low) from apart.1 ∙ byte_other s.sram sp b (ret % 256) (sram_from sp high) from apart.0;
-  size = length-with_byte (with_byte s.sram sp (ret % 256)) (lowered sp 1) (ret / 256) ∙ length-with_byte s.sram sp (ret % 256);
+      byte_other (with_byte s.sram sp (ret % 256)) (wrapping_difference sp 1) b (ret / 256) (sram_from (wrapping_difference sp 1) low) from apart.1 ∙ byte_other s.sram sp b (ret % 256) (sram_from sp high) from apart.0;
+  size = length-with_byte (with_byte s.sram sp (ret % 256)) (wrapping_difference sp 1) (ret / 256) ∙ length-with_byte s.sram sp (ret % 256);
   polls = omega arith;
   devices = λ away. refl;
   line = λ away. refl;
@@ -132,9 +132,9 @@ answer_left s (Load a) = load_left (is_sram a) s a refl
 answer_left s (Store a v) = store_left (is_sram a) s a v refl
 answer_left s (Modify a clear set) = to_left (Modify a clear set) s a (modify_device s.devices a clear set) refl (polls_after_modify s.devices a clear set)
 answer_left s (PushByte sp v) = push_left (is_sram sp) s sp v refl
-answer_left s (PopByte sp) = pop_left (is_sram (raised sp 1)) (PopByte sp) s (raised sp 1) _
-answer_left s (PushReturn sp ret) = push_return_left (is_sram sp) (is_sram (lowered sp 1)) s sp ret refl refl
-answer_left s (PopReturn sp) = pop_return_left (is_sram (raised sp 1)) (is_sram (raised sp 2)) (PopReturn sp) s _ (raised sp 1) (raised sp 2)
+answer_left s (PopByte sp) = pop_left (is_sram (wrapping_sum sp 1)) (PopByte sp) s (wrapping_sum sp 1) _
+answer_left s (PushReturn sp ret) = push_return_left (is_sram sp) (is_sram (wrapping_difference sp 1)) s sp ret refl refl
+answer_left s (PopReturn sp) = pop_return_left (is_sram (wrapping_sum sp 1)) (is_sram (wrapping_sum sp 2)) (PopReturn sp) s _ (wrapping_sum sp 1) (wrapping_sum sp 2)
 answer_left s (Program z) = same_left (Program z) s
 answer_left s (ExtendedProgram z) = same_left (ExtendedProgram z) s
 answer_left s (ExtendedProgramRaising z) = device_left (ExtendedProgramRaising z) s (with_stored s.devices rampz_address _) s.line refl (omega arith)
@@ -142,13 +142,13 @@ answer_left s (ExtendedProgramRaising z) = device_left (ExtendedProgramRaising z
 -- so every step leaves that much, by what its instruction asks
 pub step_leaves : (m next : Mote) (shown : Plain) (form : Form) → IsPlainStep m shown next → form_at m ≡ Some form → LeavesRest (ask_of form m.cpu) m shown next
 step_leaves m next shown form step is =
-    let went : exec_of physical_calls form m.cpu (space_of m None) (next_size m) ≡ WentOn next.cpu (space_of next (line_of shown)) = let same = sym (stepped_is m form is) ∙ step.executed in cc in
+    let went : exec_of physical_calls form m.cpu (space_of m None) (next_size m) ≡ WentOn next.cpu (space_of next (line_shown shown)) = let same = sym (stepped_is m form is) ∙ step.executed in cc in
     let all = exec_leaves (IsLeft (ask_of form m.cpu) (space_of m None)) physical_calls form m.cpu (space_of m None) (next_size m) (answer_left (space_of m None) (ask_of form m.cpu)) in
-    let left : IsLeft (ask_of form m.cpu) (space_of m None) (space_of next (line_of shown)) = subst (AllLeave (IsLeft (ask_of form m.cpu) (space_of m None))) went all in
+    let left : IsLeft (ask_of form m.cpu) (space_of m None) (space_of next (line_shown shown)) = subst (AllLeave (IsLeft (ask_of form m.cpu) (space_of m None))) went all in
     record {
       bytes = left.bytes;
       size = left.size;
-      registers = exec_kept physical_calls form m.cpu next.cpu (space_of m None) (space_of next (line_of shown)) (next_size m) went;
+      registers = exec_kept physical_calls form m.cpu next.cpu (space_of m None) (space_of next (line_shown shown)) (next_size m) went;
       flash = step.flash;
       swap = step.swap;
       polls = left.polls;

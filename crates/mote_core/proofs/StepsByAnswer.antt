@@ -17,7 +17,7 @@ use Rattle.mote_core.specs.declared.mote.Plain.{Plain}
 use Rattle.mote_core.specs.declared.mote.Plain.TheVariants.{Went}
 use Rattle.mote_core.specs.Physical.{physical_calls}
 use Rattle.mote_core.specs.Conditions.{is_mapped, can_step}
-use Rattle.mote_core.specs.Shown.{line_of}
+use Rattle.mote_core.specs.Shown.{line_shown}
 use Rattle.mote_core.specs.Step.{form_at, next_size, space_of, IsPlainStep}
 use Rattle.mote_core.specs.QuietSteps.{BelowStack, AboveStack, KeepsKernel, IsQuiet, Leads}
 use Rattle.mote_core.proofs.Steps.{stepped_is}
@@ -33,10 +33,10 @@ can_by f form cpu is executed mapped = ap (λ x. can_step x cpu) is ∙ both_tru
 
 -- the step, from what the space answers to what the instruction asks
 pub steps_by : (m : Mote) (form : Form) (answer : Answer) (sram : List ℕ) (devices : State) (shown : Plain) → form_at m ≡ Some form
-    → answer_of physical_calls (space_of m None) (ask_of form m.cpu) ≡ WentOn answer (record (space_of m None) { sram = sram; devices = devices; line = line_of shown })
+    → answer_of physical_calls (space_of m None) (ask_of form m.cpu) ≡ WentOn answer (record (space_of m None) { sram = sram; devices = devices; line = line_shown shown })
     → IsPlainStep m shown (record m { cpu = finish_of form m.cpu (next_size m) answer; sram = sram; devices = devices })
 steps_by m form answer sram devices shown is answered = record {
-  executed = stepped_is m form is ∙ ap Some (exec_went physical_calls form m.cpu (space_of m None) (next_size m) answer (record (space_of m None) { sram = sram; devices = devices; line = line_of shown }) answered);
+  executed = stepped_is m form is ∙ ap Some (exec_went physical_calls form m.cpu (space_of m None) (next_size m) answer (record (space_of m None) { sram = sram; devices = devices; line = line_shown shown }) answered);
   flash = refl;
   swap = refl;
 }

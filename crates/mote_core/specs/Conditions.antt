@@ -5,7 +5,7 @@ use Rattle.avr_isa.specs.IoTable.{can_read, can_write}
 use Rattle.avr_exec.specs.declared.cpu.Cpu.{Cpu}
 use Rattle.avr_exec.specs.declared.ask.Ask.{Ask}
 use Rattle.avr_exec.specs.declared.ask.Ask.TheVariants.{Nothing, Load, Store, Modify, PushByte, PopByte, PushReturn, PopReturn, Program, ExtendedProgram, ExtendedProgramRaising}
-use Rattle.avr_exec.specs.Registers.{raised, lowered}
+use Rattle.avr_exec.specs.Registers.{wrapping_sum, wrapping_difference}
 use Rattle.avr_exec.specs.Asks.{ask_of}
 use Rattle.avr_exec.specs.Execution.{is_executed}
 use Rattle.mote_core.specs.Physical.{is_sram}
@@ -18,9 +18,9 @@ is_mapped (Load a) = is_sram a || can_read a
 is_mapped (Store a v) = is_sram a || can_write a
 is_mapped (Modify a clear set) = can_read a && can_write a
 is_mapped (PushByte sp v) = is_sram sp
-is_mapped (PopByte sp) = is_sram (raised sp 1)
-is_mapped (PushReturn sp ret) = is_sram sp && is_sram (lowered sp 1)
-is_mapped (PopReturn sp) = is_sram (raised sp 1) && is_sram (raised sp 2)
+is_mapped (PopByte sp) = is_sram (wrapping_sum sp 1)
+is_mapped (PushReturn sp ret) = is_sram sp && is_sram (wrapping_difference sp 1)
+is_mapped (PopReturn sp) = is_sram (wrapping_sum sp 1) && is_sram (wrapping_sum sp 2)
 is_mapped (Program z) = true
 is_mapped (ExtendedProgram z) = true
 is_mapped (ExtendedProgramRaising z) = true

@@ -2,7 +2,7 @@
 use Rattle.std.specs.Prelude.{◌≡◌, ℕ, ◌+◌, ◌≤◌, Bool, true, false, not, ◌||◌, ◌==◌, length}
 use Rattle.avr_exec.specs.declared.ask.Ask.{Ask}
 use Rattle.avr_exec.specs.declared.ask.Ask.TheVariants.{Load, Store, Modify, PushByte, PushReturn, ExtendedProgramRaising}
-use Rattle.avr_exec.specs.Registers.{lowered}
+use Rattle.avr_exec.specs.Registers.{wrapping_difference}
 use Rattle.sram_layout.specs.Bytes.{byte_at}
 use Rattle.mote_core.specs.declared.mote.Mote.{Mote}
 use Rattle.mote_core.specs.declared.mote.Plain.{Plain}
@@ -13,7 +13,7 @@ use Rattle.mote_core.specs.Physical.{is_sram}
 unfoldable pub is_written : Ask → ℕ → Bool
 is_written (Store a v) b = b == a
 is_written (PushByte sp v) b = b == sp
-is_written (PushReturn sp ret) b = b == sp || b == lowered sp 1
+is_written (PushReturn sp ret) b = b == sp || b == wrapping_difference sp 1
 is_written _ b = false
 
 -- the devices are asked, or their RAMPZ is set

@@ -5,3 +5,4 @@ pub mod Shown
 pub mod Step
 pub mod QuietSteps
 pub mod Leaving
+pub mod DeviceAnswers

@@ -1,14 +1,15 @@
 -- The physical data space: SRAM at its own addresses, the devices' registers, and nothing else
 -- (ATmega128 datasheet, "SRAM Data Memory"); and the program's bytes, which are those of flash.
-use Rattle.std.specs.Prelude.{ℕ, ◌+◌, ◌*◌, ◌/◌, ◌%◌, Bool, ◌&&◌, ◌==◌, nat_le, if◌then◌else◌, List, Option}
+use Rattle.std.specs.Prelude.{ℕ, ◌/◌, ◌%◌, Bool, ◌&&◌, ◌==◌, nat_le, if◌then◌else◌, List, Option}
 use Rattle.avr_exec.specs.declared.stop.BusStop.TheVariants.{Io}
-use Rattle.avr_exec.specs.Registers.{raised, lowered}
-use Rattle.avr_exec.specs.Spaces.{Outcome, Went, Stopped, Calls}
+use Rattle.avr_exec.specs.Spaces.{Outcome, Went, Calls}
+use Rattle.avr_exec.specs.StackRules.{StackRule, push_on, pop_from, push_return_on, pop_return_from}
 use Rattle.flash_model.specs.Pages.{word_at}
 use Rattle.sram_layout.specs.Bytes.{byte_at, with_byte}
 use Rattle.mote_devices.specs.declared.line.Line.{Line}
 use Rattle.mote_devices.specs.State.{State, stored, with_stored, rampz_address}
-use Rattle.mote_devices.specs.Accesses.{Asked, Gave, Refused, read, write, modify as modify_device}
+use Rattle.mote_devices.specs.Accesses.{Asked, read, write, modify as modify_device}
+use Rattle.mote_core.specs.DeviceAnswers.{read_answer, write_answer}
 
 -- the bytes of SRAM, the devices, the words of flash, and what the last write of a device showed outside
 pub record Physical : Type 0 where
@@ -27,12 +28,10 @@ with_sram s a v = record s { sram = with_byte s.sram a v }
 
 -- what the devices answered to a read, and to a write, at data address a
 abbrev pub from_device : Physical → ℕ → Asked ℕ → Outcome Physical ℕ
-from_device s a (Gave v next) = Went v (record s { devices = next })
-from_device s a Refused = Stopped (Io a)
+from_device s a asked = read_answer (λ next. record s { devices = next }) a asked
 
 abbrev pub to_device : Physical → ℕ → Asked (Option Line) → Outcome Physical (Unit {0})
-to_device s a (Gave line next) = Went tt (record s { devices = next; line = line })
-to_device s a Refused = Stopped (Io a)
+to_device s a asked = write_answer (λ line next. record s { devices = next; line = line }) a asked
 
 -- the devices refuse every address at which they have no register
 unfoldable pub load : Physical → ℕ → Outcome Physical ℕ
@@ -44,28 +43,21 @@ store s a v = if is_sram a then Went tt (with_sram s a v) else to_device s a (wr
 unfoldable pub modify : Physical → ℕ → ℕ → ℕ → Outcome Physical (Unit {0})
 modify s a clear set = to_device s a (modify_device s.devices a clear set)
 
--- the stack is in SRAM
+-- the stack keeps to SRAM
+abbrev pub physical_stack : StackRule Physical
+physical_stack = record { holds = λ a. is_sram a; byte = λ s a. byte_at s.sram a; with_byte = λ s a v. with_sram s a v; stop = λ a. Io a }
+
 unfoldable pub push : Physical → ℕ → ℕ → Outcome Physical (Unit {0})
-push s sp v = if is_sram sp then Went tt (with_sram s sp v) else Stopped (Io sp)
+push s sp v = push_on physical_stack s sp v
 
 unfoldable pub pop : Physical → ℕ → Outcome Physical ℕ
-pop s sp = if is_sram (raised sp 1) then Went (byte_at s.sram (raised sp 1)) s else Stopped (Io (raised sp 1))
+pop s sp = pop_from physical_stack s sp
 
--- a return address: its low byte at sp, its high byte below
 unfoldable pub push_return : Physical → ℕ → ℕ → Outcome Physical (Unit {0})
-push_return s sp ret =
-    if is_sram sp then
-    if is_sram (lowered sp 1) then Went tt (with_sram (with_sram s sp (ret % 256)) (lowered sp 1) (ret / 256))
-    else Stopped (Io (lowered sp 1))
-    else Stopped (Io sp)
+push_return s sp ret = push_return_on physical_stack s sp ret
 
--- a return address: its high byte at sp + 1, its low byte at sp + 2
 unfoldable pub pop_return : Physical → ℕ → Outcome Physical ℕ
-pop_return s sp =
-    if is_sram (raised sp 1) then
-    if is_sram (raised sp 2) then Went (byte_at s.sram (raised sp 1) * 256 + byte_at s.sram (raised sp 2)) s
-    else Stopped (Io (raised sp 2))
-    else Stopped (Io (raised sp 1))
+pop_return s sp = pop_return_from physical_stack s sp
 
 -- the high or the low byte of a word
 abbrev pub half_of : ℕ → Bool → ℕ

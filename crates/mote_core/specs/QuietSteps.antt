@@ -4,7 +4,7 @@ use Rattle.std.specs.Prelude.{◌≡◌, ℕ, zero, suc, ◌+◌, ◌*◌, ◌/�
 use Rattle.avr_isa.specs.declared.form.Form.{Form}
 use Rattle.avr_decode.specs.Decoding.{the_form}
 use Rattle.avr_exec.specs.declared.cpu.Cpu.{Cpu}
-use Rattle.avr_exec.specs.Registers.{raised}
+use Rattle.avr_exec.specs.Registers.{wrapping_sum}
 use Rattle.flash_model.specs.Pages.{word_at}
 use Rattle.sram_layout.specs.Bytes.{byte_at}
 use Rattle.mote_core.specs.declared.mote.Mote.{Mote}
@@ -51,4 +51,4 @@ held m r status pc sram = record m { cpu = core m r status pc; sram = sram }
 
 -- the instruction that flash has at a word address, if there is one
 abbrev pub flash_form : Mote → ℕ → Option Form
-flash_form m pc = the_form (word_at m.flash.words pc) (word_at m.flash.words (raised pc 1))
+flash_form m pc = the_form (word_at m.flash.words pc) (word_at m.flash.words (wrapping_sum pc 1))

@@ -5,6 +5,6 @@ use Rattle.mote_core.specs.declared.mote.Plain.{Plain}
 use Rattle.mote_core.specs.declared.mote.Plain.TheVariants.{Went, Wrote}
 
 -- the line, where there is one
-abbrev pub line_of : Plain → Option Line
-line_of Went = None
-line_of (Wrote line) = Some line
+abbrev pub line_shown : Plain → Option Line
+line_shown Went = None
+line_shown (Wrote line) = Some line

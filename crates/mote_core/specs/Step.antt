@@ -1,30 +1,32 @@
 -- One AVR step over the mote, and the mote at reset.
-use Rattle.std.specs.Prelude.{◌≡◌, ℕ, if◌then◌else◌, List, Option, Some, None}
+use Rattle.std.specs.Prelude.{◌≡◌, ℕ, List, Option, Some, None}
 use Rattle.std.specs.Option.{option_map}
 use Rattle.input_script.specs.declared.input.Event.{Event}
 use Rattle.avr_isa.specs.declared.form.Form.{Form}
-use Rattle.avr_decode.specs.Decoding.{the_form, is_long}
+use Rattle.avr_decode.specs.Decoding.{the_form, size_by_first_word}
 use Rattle.avr_exec.specs.declared.cpu.Cpu.{Cpu}
-use Rattle.avr_exec.specs.Registers.{raised}
+use Rattle.avr_exec.specs.Registers.{wrapping_sum}
 use Rattle.avr_exec.specs.Spaces.{Outcome, Went}
 use Rattle.avr_exec.specs.Execution.{exec_of}
 use Rattle.flash_model.specs.Memory.{loaded}
-use Rattle.flash_model.specs.Pages.{word_at, page_count, many}
+use Rattle.flash_model.specs.Pages.{word_at, page_count}
+use Rattle.list_parts.specs.Lists.{many}
 use Rattle.sram_layout.specs.Boot.{at_boot}
+use Rattle.sram_layout.specs.Cells.{kernel_stack_top}
 use Rattle.swap_store.specs.Slots.{zero_slots}
 use Rattle.mote_devices.specs.declared.line.Line.{Line}
 use Rattle.mote_devices.specs.State.{at_reset}
 use Rattle.mote_core.specs.declared.mote.Mote.{Mote}
 use Rattle.mote_core.specs.declared.mote.Plain.{Plain}
 use Rattle.mote_core.specs.Physical.{Physical, physical_calls}
-use Rattle.mote_core.specs.Shown.{line_of}
+use Rattle.mote_core.specs.Shown.{line_shown}
 
 -- the word at the pc, and the one after it
 abbrev pub first_at : Mote → ℕ
 first_at m = word_at m.flash.words m.cpu.pc
 
 abbrev pub second_at : Mote → ℕ
-second_at m = word_at m.flash.words (raised m.cpu.pc 1)
+second_at m = word_at m.flash.words (wrapping_sum m.cpu.pc 1)
 
 -- the instruction at the pc, if there is one
 abbrev pub form_at : Mote → Option Form
@@ -32,7 +34,7 @@ form_at m = the_form (first_at m) (second_at m)
 
 -- how many words a skip passes over: those of the instruction that follows one word on
 abbrev pub next_size : Mote → ℕ
-next_size m = if is_long (second_at m) then 2 else 1
+next_size m = size_by_first_word (second_at m)
 
 -- what the instruction reaches of the mote, where a write has shown this outside
 abbrev pub space_of : Mote → Option Line → Physical
@@ -44,13 +46,9 @@ stepped m = option_map (λ (form : Form). exec_of physical_calls form m.cpu (spa
 
 -- One plain step, with what it shows outside: the instruction doesn't stop, and it leaves flash and swap.
 pub record IsPlainStep (m : Mote) (shown : Plain) (next : Mote) : Type 0 where
-  pub executed : stepped m ≡ Some (Went next.cpu (space_of next (line_of shown)))
+  pub executed : stepped m ≡ Some (Went next.cpu (space_of next (line_shown shown)))
   pub flash : next.flash ≡ m.flash
   pub swap : next.swap ≡ m.swap
-
--- where the kernel's own stack is empty
-abbrev pub kernel_stack_top : ℕ
-kernel_stack_top = 0x011F
 
 -- the core at reset
 abbrev pub cpu_at_reset : Cpu

@@ -25,6 +25,3 @@ mod space;
 
 pub use mote::{Mote, Plain};
 pub use mote_devices::{Line, Port};
-
-#[cfg(test)]
-mod tests;

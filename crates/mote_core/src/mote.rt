@@ -1,22 +1,20 @@
 //! The mote and its step.
 
 ghost use Rattle.std.specs.Prelude.{◌≡◌, ◌<◌, ◌≤◌, ◌^◌, true, if◌then◌else◌};
-ghost use Rattle.avr_decode.specs.Decoding.{is_long};
 ghost use Rattle.avr_exec.specs.Asks.{ask_of};
 ghost use Rattle.avr_exec.specs.Execution.{exec_of, is_executed};
 ghost use Rattle.avr_exec.specs.Spaces.{Went};
 ghost use Rattle.mote_core.specs.Physical.{physical_calls};
 ghost use Rattle.mote_core.specs.Conditions.{is_mapped};
-ghost use Rattle.mote_core.specs.Shown.{line_of};
+ghost use Rattle.mote_core.specs.Shown.{line_shown};
 
 use crate::space::PhysicalSpace;
-use avr_decode::{decode, two_words};
 use avr_exec::{Cpu, exec};
 use avr_isa::Instr;
 use flash_model::Flash;
 use input_script::Script;
 use mote_devices::{Devices, Line};
-use sram_layout::Sram;
+use sram_layout::{KERNEL_STACK_TOP, Sram};
 use std::alloc::Global;
 use swap_store::Swap;
 use tk_io::NoMemory;
@@ -62,7 +60,7 @@ impl Mote {
             cpu: Cpu {
                 r: [0; 32],
                 sreg: 0,
-                sp: 0x011F,
+                sp: KERNEL_STACK_TOP,
                 pc: 0,
             },
             sram: Sram::new(),
@@ -73,35 +71,30 @@ impl Mote {
     }
 
     /// Executes the instruction of flash at the pc.
+    #[inline(always)]
     pub fn plain_step(&mut self) -> Plain
         requires step { can_step (form_at self.old) self.old.cpu ≡ true }
         requires room { self.old.devices.polls < 2 ^ 63 }
         ensures step { IsPlainStep self.old result self.new }
         ensures whole { IsWhole self.new.flash }
     {
-        let pc = self.cpu.pc;
-        let second = self.flash.word(pc.wrapping_add(1));
-        let instr = decode(self.flash.word(pc), second).unwrap();
-        execute(
-            &instr,
-            &mut self.cpu,
-            &mut self.sram,
-            &mut self.devices,
-            &self.flash,
-            words_of(second),
-        )
+        let decoded = self.flash.decoded(self.cpu.pc);
+        match &decoded.instr {
+            Some(instr) => execute(
+                instr,
+                &mut self.cpu,
+                &mut self.sram,
+                &mut self.devices,
+                &self.flash,
+                decoded.next_size,
+            ),
+            None => unreachable!(),
+        }
     }
 }
 
-/// How many words the instruction with this first word has.
-fn words_of(first: u16) -> u16
-    ensures value { result ≡ if is_long first then 2 else 1 }
-    ensures range { (1 ≤ result) × (result ≤ 2) }
-{
-    if two_words(first) { 2 } else { 1 }
-}
-
 /// Executes an instruction that touches no other address than the physical space has.
+#[inline(always)]
 fn execute(
     instr: &Instr,
     cpu: &mut Cpu,
@@ -115,7 +108,7 @@ fn execute(
     requires next { (1 ≤ next_size) × (next_size ≤ 2) }
     requires room { devices.old.polls < 2 ^ 63 }
     ensures outcome { exec_of physical_calls instr.now cpu.old (record { sram = sram.old; devices = devices.old; words = flash.now.words; line = None }) next_size
-        ≡ Went cpu.new (record { sram = sram.new; devices = devices.new; words = flash.now.words; line = line_of result }) }
+        ≡ Went cpu.new (record { sram = sram.new; devices = devices.new; words = flash.now.words; line = line_shown result }) }
 {
     let mut space = PhysicalSpace {
         sram,

@@ -44,6 +44,7 @@ impl Bus for PhysicalSpace<'_> {
     ghost ready = { λ b. b.devices.now.polls < 2 ^ 63 };
 
     #[tactic(auto, unfolding(crate::specs::Physical::load))]
+    #[inline(always)]
     fn load(&mut self, a: u16) -> Result<u8, BusStop> {
         if is_sram(a) {
             Ok(self.sram.byte(a))
@@ -53,6 +54,7 @@ impl Bus for PhysicalSpace<'_> {
     }
 
     #[tactic(auto, unfolding(crate::specs::Physical::store))]
+    #[inline(always)]
     fn store(&mut self, a: u16, v: u8) -> Result<(), BusStop> {
         if is_sram(a) {
             self.sram.set(a, v);
@@ -69,6 +71,7 @@ impl Bus for PhysicalSpace<'_> {
     }
 
     #[tactic(auto, unfolding(crate::specs::Physical::push))]
+    #[inline(always)]
     fn push(&mut self, sp: u16, v: u8) -> Result<(), BusStop> {
         if !is_sram(sp) {
             return Err(BusStop::Io(sp));
@@ -78,6 +81,7 @@ impl Bus for PhysicalSpace<'_> {
     }
 
     #[tactic(auto, unfolding(crate::specs::Physical::pop))]
+    #[inline(always)]
     fn pop(&mut self, sp: u16) -> Result<u8, BusStop> {
         let a = sp.wrapping_add(1);
         if !is_sram(a) {
@@ -87,6 +91,7 @@ impl Bus for PhysicalSpace<'_> {
     }
 
     #[tactic(auto, unfolding(crate::specs::Physical::push_return))]
+    #[inline(always)]
     fn push_ret(&mut self, sp: u16, ret: u16) -> Result<(), BusStop> {
         let below = sp.wrapping_sub(1);
         if !is_sram(sp) {
@@ -101,6 +106,7 @@ impl Bus for PhysicalSpace<'_> {
     }
 
     #[tactic(auto, unfolding(crate::specs::Physical::pop_return))]
+    #[inline(always)]
     fn pop_ret(&mut self, sp: u16) -> Result<u16, BusStop> {
         let high = sp.wrapping_add(1);
         let low = sp.wrapping_add(2);

@@ -6,7 +6,7 @@ use Rattle.mote_devices.specs.declared.register.Register.{Register}
 use Rattle.mote_devices.specs.declared.register.Register.TheVariants.{SerialStatus, SerialData, Timer}
 use Rattle.mote_devices.specs.Registers.{register_at, is_polled}
 use Rattle.mote_devices.specs.State.{State, polled, register_count}
-use Rattle.mote_devices.specs.Accesses.{Asked, Gave, Refused, read, read_from, written_back, write, modify, written_byte, after_value, line_of, after_write}
+use Rattle.mote_devices.specs.Accesses.{Asked, Gave, Refused, read, read_from, written_back, write, modify, written_byte, after_value, line_written, after_write}
 
 -- the registers of the profile are below data address 256
 pub can_read_below : (a : ℕ) → can_read a ≡ true → a < register_count
@@ -26,13 +26,13 @@ pub read_refused : (s : State) (a : ℕ) → can_read a ≡ false → read s a �
 unfolding read
 read_refused s a cannot = ap (λ b. cond b (read_from s (register_at a) a) Refused) cannot
 
-pub write_allowed : (s : State) (a v : ℕ) → can_write a ≡ true → write s a v ≡ Gave (line_of (register_at a) v) (after_write (register_at a) s a v)
+pub write_allowed : (s : State) (a v : ℕ) → can_write a ≡ true → write s a v ≡ Gave (line_written (register_at a) v) (after_write (register_at a) s a v)
 unfolding write
-write_allowed s a v can = ap (λ b. cond b (Gave (line_of (register_at a) v) (after_write (register_at a) s a v)) Refused) can
+write_allowed s a v can = ap (λ b. cond b (Gave (line_written (register_at a) v) (after_write (register_at a) s a v)) Refused) can
 
 pub write_refused : (s : State) (a v : ℕ) → can_write a ≡ false → write s a v ≡ Refused
 unfolding write
-write_refused s a v cannot = ap (λ b. cond b (Gave (line_of (register_at a) v) (after_write (register_at a) s a v)) Refused) cannot
+write_refused s a v cannot = ap (λ b. cond b (Gave (line_written (register_at a) v) (after_write (register_at a) s a v)) Refused) cannot
 
 pub modify_allowed : (s : State) (a clear set : ℕ) → can_read a ≡ true → can_write a ≡ true → modify s a clear set ≡ written_back (read_from s (register_at a) a) a clear set
 unfolding modify
@@ -68,7 +68,7 @@ polls_after_write _ s a v = refl
 
 written_polls : (n : ℕ) (asked : Asked ℕ) (a clear set : ℕ) → Afterwards (λ next. next.polls ≤ n) asked → Afterwards (λ next. next.polls ≤ n) (written_back asked a clear set)
 unfolding write
-written_polls n (Gave v now) a clear set few = elim (can_write a) as (λ b. Afterwards (λ next. next.polls ≤ n) (cond b (Gave (line_of (register_at a) (written_byte v clear set)) (after_write (register_at a) now a (written_byte v clear set))) Refused)) [
+written_polls n (Gave v now) a clear set few = elim (can_write a) as (λ b. Afterwards (λ next. next.polls ≤ n) (cond b (Gave (line_written (register_at a) (written_byte v clear set)) (after_write (register_at a) now a (written_byte v clear set))) Refused)) [
   | true ↦ omega (arith, few, polls_after_write (register_at a) now a (written_byte v clear set))
   | false ↦ tt
 ]

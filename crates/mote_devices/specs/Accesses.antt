@@ -20,9 +20,9 @@ pub data Asked (A : Type 0) : Type 0 where
   Refused : Asked A
 
 -- what a call's result and the state after it tell
-abbrev pub told : {A : Type 0} → Result A IoStop → State → Asked A
-told (Ok answer) next = Gave answer next
-told (Err stop) next = Refused
+abbrev pub device_answer : {A : Type 0} → Result A IoStop → State → Asked A
+device_answer (Ok answer) next = Gave answer next
+device_answer (Err stop) next = Refused
 
 -- UCSR0A: the transmit register is always empty (UDRE, bit 5); bit 7 (RXC) is set where a byte is waiting
 abbrev pub serial_status : Bool → ℕ
@@ -64,13 +64,13 @@ after_write Timer s a v = s
 after_write _ s a v = with_stored s a v
 
 -- what a write shows outside
-abbrev pub line_of : Register → ℕ → Option Line
-line_of (Shown port) v = Some (record { port = port; value = v })
-line_of SerialData v = Some (record { port = Uart0; value = v })
-line_of _ v = None
+abbrev pub line_written : Register → ℕ → Option Line
+line_written (Shown port) v = Some (record { port = port; value = v })
+line_written SerialData v = Some (record { port = Uart0; value = v })
+line_written _ v = None
 
 unfoldable pub write : State → ℕ → ℕ → Asked (Option Line)
-write s a v = if can_write a then Gave (line_of (register_at a) v) (after_write (register_at a) s a v) else Refused
+write s a v = if can_write a then Gave (line_written (register_at a) v) (after_write (register_at a) s a v) else Refused
 
 -- a byte with the bits of `clear` cleared and those of `set` set
 abbrev pub written_byte : ℕ → ℕ → ℕ → ℕ

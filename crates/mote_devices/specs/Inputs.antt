@@ -1,12 +1,9 @@
 -- What the devices have received, and when an input of the script takes effect.
-use Rattle.std.specs.Prelude.{ℕ, Bool, true, false, not, nat_le, List, [], ◌∷◌, ◌++◌, filter, fold, slice_set, replicate}
+use Rattle.std.specs.Prelude.{ℕ, Bool, true, false, not, nat_le, List, [], ◌∷◌, ◌++◌, filter, fold, slice_set}
+use Rattle.list_parts.specs.Lists.{zeros}
 use Rattle.input_script.specs.declared.input.Input.{Input}
 use Rattle.input_script.specs.declared.input.Input.TheVariants.{Pin, Uart, Adc}
 use Rattle.input_script.specs.declared.input.Event.{Event}
-
--- n bytes that are all 0
-unfoldable pub zeros : ℕ → List ℕ
-zeros n = replicate n 0
 
 -- The pins of ports A to D, the converter's result, the bytes that the serial port received and that were
 -- not read yet, and the events to come.

@@ -1,4 +1,4 @@
--- How the serial port's queue is kept: as places in the list of the script's events.
+-- Serves private functions: how the serial port's queue is kept, as places in the list of the script's events.
 use Rattle.std.specs.Prelude.{◌≡◌, ℕ, ◌+◌, ◌<◌, ◌≤◌, Bool, false, List, [], ◌∷◌, length}
 use Rattle.std.specs.List.{flat_map, slice_range}
 use Rattle.input_script.specs.declared.input.Input.{Input}

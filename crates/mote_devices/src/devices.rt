@@ -49,10 +49,10 @@ impl Devices {
     ghost use Rattle.std.specs.Prelude.{◌≡◌, ◌<◌, ◌^◌, false, OnErr, IfErr};
     ghost use Rattle.mote_devices.specs.Inputs.{is_empty};
     ghost use Rattle.mote_devices.specs.State.{State, at_reset, stored, with_stored, polled, rampz_address, register_count};
-    ghost use Rattle.mote_devices.specs.Accesses.{is_core_register, Gave, told, read as read_of, read_from, write as write_of, modify as modify_of, value_of, after_value, line_of, after_write, serial_status as serial_status_of};
+    ghost use Rattle.mote_devices.specs.Accesses.{is_core_register, Gave, device_answer, read as read_of, read_from, write as write_of, modify as modify_of, value_of, after_value, line_written, after_write, serial_status as serial_status_of};
 
     /// The devices at reset.
-    #[tactic(auto, unfolding(crate::specs::Inputs::zeros))]
+    #[tactic(auto, unfolding(list_parts::specs::Lists::many))]
     pub fn new(script: Script) -> Devices
         ensures value { result ≡ at_reset script }
     {
@@ -91,10 +91,11 @@ impl Devices {
     ///
     /// `IoStop` where a program may not read the register.
     #[tactic(auto, using(crate::proofs::AccessLaws::can_read_below), unfolding(crate::specs::Accesses::read))]
+    #[inline(never)]
     pub fn read(&mut self, a: u16) -> Result<u8, IoStop>
         requires outside { is_core_register a ≡ false }
         requires room { self.old.polls < 2 ^ 63 }
-        ensures answer { told result self.new ≡ read_of self.old a }
+        ensures answer { device_answer result self.new ≡ read_of self.old a }
         ensures address { IfErr result (λ stop. stop.address ≡ a) }
         ensures refused { OnErr result (self.new ≡ self.old) }
     {
@@ -111,9 +112,10 @@ impl Devices {
     ///
     /// `IoStop` where a program may not write the register.
     #[tactic(auto, using(crate::proofs::AccessLaws::can_write_below), unfolding(crate::specs::Accesses::write))]
+    #[inline(never)]
     pub fn write(&mut self, a: u16, v: u8) -> Result<Option<Line>, IoStop>
         requires outside { is_core_register a ≡ false }
-        ensures answer { told result self.new ≡ write_of self.old a v }
+        ensures answer { device_answer result self.new ≡ write_of self.old a v }
         ensures address { IfErr result (λ stop. stop.address ≡ a) }
         ensures refused { OnErr result (self.new ≡ self.old) }
     {
@@ -131,10 +133,11 @@ impl Devices {
     ///
     /// `IoStop` where a program may not both read and write the register.
     #[tactic(auto, unfolding(crate::specs::Accesses::modify, crate::specs::Accesses::write))]
+    #[inline(never)]
     pub fn modify(&mut self, a: u16, clear: u8, set: u8) -> Result<Option<Line>, IoStop>
         requires outside { is_core_register a ≡ false }
         requires room { self.old.polls < 2 ^ 63 }
-        ensures answer { told result self.new ≡ modify_of self.old a clear set }
+        ensures answer { device_answer result self.new ≡ modify_of self.old a clear set }
         ensures address { IfErr result (λ stop. stop.address ≡ a) }
         ensures refused { OnErr result (self.new ≡ self.old) }
     {
@@ -199,7 +202,7 @@ impl Devices {
     /// Writes a register that a program may write.
     fn write_register(&mut self, register: Register, a: u16, v: u8) -> Option<Line>
         requires within { a < register_count }
-        ensures line { result ≡ line_of register v }
+        ensures line { result ≡ line_written register v }
         ensures after { self.new ≡ after_write register self.old a v }
     {
         match register {

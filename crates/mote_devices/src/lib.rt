@@ -21,6 +21,3 @@ mod register;
 
 pub use devices::{Devices, IoStop};
 pub use line::{Line, Port};
-
-#[cfg(test)]
-mod tests;

@@ -2,7 +2,7 @@
 use Rattle.std.proofs.Common.{◌≡◌, ℕ, ◌-◌, drop}
 use Rattle.std.specs.Prelude.{replicate}
 use Rattle.std.proofs.lemmas.List.{drop-replicate}
-use Rattle.flash_model.specs.Pages.{many}
+use Rattle.list_parts.specs.Lists.{many}
 
 pub erased_rest : (n : ℕ) → drop n (replicate 128 0xFFFF) ≡ many (128 - n) 0xFFFF
 unfolding many

@@ -26,7 +26,10 @@ uncounted : (from to : ℕ) → from < to → to / 128 ≡ from / 128 → is_cro
 uncounted from to forward paged = grind (arith, nat_tests)
 
 -- the links of the template of instruction i, and of the closing, are links of a page of the pool
-links_in : (layout : Layout) (image words : List ℕ) (page t last i : ℕ) → IsPool layout page → HoldsRun (IsEntry layout words) image words page t last → i ≤ last → EachLink (IsLinkIn layout image words) (page_words * page + place_in_page image t (suc last) i) (template_at image (address image t i)) × EachLink (IsLinkIn layout image words) (page_words * page + (2 + suc last + size (templates image t (suc last)))) (closing_at image (address image t last))
+links_in : (layout : Layout) (image words : List ℕ) (page t last i : ℕ) → IsPool layout page → HoldsRun (IsEntry layout words) image words page t last
+    → i ≤ last → EachLink (IsLinkIn layout image words) (page_words * page + place_in_page image t (suc last) i)
+    (template_at image (address image t i)) × EachLink (IsLinkIn layout image words)
+    (page_words * page + (2 + suc last + size (templates image t (suc last)))) (closing_at image (address image t last))
 links_in layout image words page t last i pool holds near =
     let own : ℕ → ℕ → Type 0 = λ s to. IsLinkOf (page_pieces image t last) (page_words * page) s to in
     let all : ℕ → ℕ → Type 0 = λ s to. IsLinkIn layout image words s to in
@@ -35,7 +38,9 @@ links_in layout image words page t last i pool holds near =
     (each_link_more own all (page_words * page + place_in_page image t (suc last) i) (template_at image (address image t i)) each both.0, each_link_more own all (page_words * page + (2 + suc last + size (templates image t (suc last)))) (closing_at image (address image t last)) each both.1)
 
 -- instruction i of a page that isn't its last
-next_in : (layout : Layout) (image words : List ℕ) (page t last i : ℕ) → length image ≤ 24576 → IsMapped layout words → IsPool layout page → HoldsRun (IsEntry layout words) image words page t last → i < last → HasNext (IsEntry layout words) layout image words (address image t i) (page_words * page + place_in_page image t (suc last) i)
+next_in : (layout : Layout) (image words : List ℕ) (page t last i : ℕ) → length image ≤ 24576 → IsMapped layout words → IsPool layout page
+    → HoldsRun (IsEntry layout words) image words page t last → i < last
+    → HasNext (IsEntry layout words) layout image words (address image t i) (page_words * page + place_in_page image t (suc last) i)
 next_in layout image words page t last i short mapped pool holds before =
     let leads : ℕ → ℕ → Type 0 = λ a v. IsEntry layout words a v in
     let a = address image t i in
@@ -57,7 +62,10 @@ next_in layout image words page t last i short mapped pool holds before =
     }
 
 -- the last instruction of a page
-last_in : (layout : Layout) (image words : List ℕ) (page t last : ℕ) → length image ≤ 24576 → IsMapped layout words → IsPool layout page → HoldsRun (IsEntry layout words) image words page t last → IsLast (IsEntry layout words) (IsLinkIn layout image words) layout image words (address image t last) (page_words * page + place_in_page image t (suc last) last)
+last_in : (layout : Layout) (image words : List ℕ) (page t last : ℕ) → length image ≤ 24576 → IsMapped layout words → IsPool layout page
+    → HoldsRun (IsEntry layout words) image words page t last
+    → IsLast (IsEntry layout words) (IsLinkIn layout image words) layout image words (address image t last)
+    (page_words * page + place_in_page image t (suc last) last)
 last_in layout image words page t last short mapped pool holds =
     let leads : ℕ → ℕ → Type 0 = λ a v. IsEntry layout words a v in
     let links : ℕ → ℕ → Type 0 = λ s to. IsLinkIn layout image words s to in
@@ -82,7 +90,9 @@ last_in layout image words page t last short mapped pool holds =
     }
 
 -- at each entry of a page that holds a run, whatever the other pages hold
-pub entry_stands : (layout : Layout) (image words : List ℕ) (page t last i a v : ℕ) → length image ≤ 24576 → IsMapped layout words → IsPool layout page → HoldsRun (IsEntry layout words) image words page t last → Lists words page i a v → StandsIn (IsEntry layout words) (IsLinkIn layout image words) layout image words a v
+pub entry_stands : (layout : Layout) (image words : List ℕ) (page t last i a v : ℕ) → length image ≤ 24576 → IsMapped layout words
+    → IsPool layout page → HoldsRun (IsEntry layout words) image words page t last → Lists words page i a v
+    → StandsIn (IsEntry layout words) (IsLinkIn layout image words) layout image words a v
 entry_stands layout image words page t last i a v short mapped pool holds lists =
     let leads : ℕ → ℕ → Type 0 = λ a v. IsEntry layout words a v in
     let links : ℕ → ℕ → Type 0 = λ s to. IsLinkIn layout image words s to in

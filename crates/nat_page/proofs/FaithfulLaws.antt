@@ -1,6 +1,6 @@
 -- A faithful pool: it is mapped, and that of a new flash is faithful.
 use Rattle.std.proofs.Common.{◌≡◌, ℕ, ◌≤◌, List, length, take, arith, sym, ap, ◌∙◌, inl, inr, subst}
-use Rattle.flash_model.specs.Layouts.{IsRight}
+use Rattle.flash_model.specs.Layouts.{IsRight, image_of}
 use Rattle.flash_model.specs.Memory.{kernel_first, loaded}
 use Rattle.flash_model.specs.declared.layout.Layout.{Layout}
 use Rattle.flash_model.proofs.LoadedLaws.{length-loaded, loaded_image, loaded_blank, loaded_kernel}
@@ -8,7 +8,6 @@ use Rattle.page_index.specs.Maps.{IsPool, IsFree}
 use Rattle.page_index.specs.Entries.{IsEntry, IsMapped}
 use Rattle.page_index.proofs.ChangeLaws.{new_flash_free, new_flash_mapped}
 use Rattle.nat_page.specs.Faithful.{HoldsCode, IsFaithful}
-use Rattle.nat_page.specs.Making.{image_of}
 use Rattle.nat_page.proofs.HeldLaws.{map_held}
 use Rattle.nat_page.proofs.StayLaws.{held_used}
 
@@ -46,5 +45,5 @@ new_flash_faithful layout image right long =
 pub new_flash_held : (layout : Layout) (image words : List ℕ) → IsRight layout → length image ≡ layout.image_words → words ≡ loaded image → IsFaithful layout (image_of layout words) words
 new_flash_held layout image words right long new =
     let P : List ℕ → List ℕ → Type 0 = λ held all. IsFaithful layout held all in
-    let same : image ≡ image_of layout words = sym (ap (λ all. take layout.image_words all) new ∙ ap (λ n. take n (loaded image)) (sym long) ∙ loaded_image image) in
+    let same : image ≡ image_of layout words = sym (ap (image_of layout) new ∙ ap (λ n. take n (loaded image)) (sym long) ∙ loaded_image image) in
     subst (λ (held : List ℕ). P held words) same (subst (P image) (sym new) (new_flash_faithful layout image right long))

@@ -127,7 +127,10 @@ counts_of layout image words t draft here drafting =
     }
 
 -- the draft with that instruction
-entries_more : (layout : Layout) (image words : List ℕ) (t : ℕ) (draft draft' : Draft) (here : Instruction) → (drafting : IsDrafting layout image words t draft here) → draft'.entries.items ≡ draft.entries.items ++ (256 * (here.pc % 128) + length draft.code.items) ∷ [] → draft'.entries.items ≡ starts image t (suc drafting.last)
+entries_more : (layout : Layout) (image words : List ℕ) (t : ℕ) (draft draft' : Draft) (here : Instruction)
+    → (drafting : IsDrafting layout image words t draft here)
+    → draft'.entries.items ≡ draft.entries.items ++ (256 * (here.pc % 128) + length draft.code.items) ∷ []
+    → draft'.entries.items ≡ starts image t (suc drafting.last)
 entries_more layout image words t draft draft' here drafting added =
     let start : 256 * (here.pc % 128) + length draft.code.items ≡ 256 * (address image t drafting.last % 128) + size (templates image t drafting.last) = ap₂ (λ pc n. 256 * (pc % 128) + n) drafting.reached (ap length drafting.code) in
     added ∙ ap₂ (λ front x. front ++ x ∷ []) drafting.entries start ∙ sym (starts-more image t drafting.last)
@@ -138,15 +141,23 @@ code_more layout image words t draft draft' here drafting added =
     added ∙ ap₂ (λ front back. front ++ back) drafting.code body ∙ sym (words_of-append (templates image t drafting.last) (template_at image (address image t drafting.last)))
 
 -- what the search behind an instruction finds, said of the run
-behind : (layout : Layout) (image words : List ℕ) (t others : ℕ) (draft : Draft) (here : Instruction) → (drafting : IsDrafting layout image words t draft here) → others ≡ length draft.entries.items + length draft.code.items + length here.code.items + 3 → others ≡ drafting.last + 3 + size (templates image t (suc drafting.last))
+behind : (layout : Layout) (image words : List ℕ) (t others : ℕ) (draft : Draft) (here : Instruction)
+    → (drafting : IsDrafting layout image words t draft here)
+    → others ≡ length draft.entries.items + length draft.code.items + length here.code.items + 3
+    → others ≡ drafting.last + 3 + size (templates image t (suc drafting.last))
 behind layout image words t others draft here drafting told =
     let counts = counts_of layout image words t draft here drafting in
     omega (arith, counts.entries, counts.code)
 
-pub drafting_more : (layout : Layout) (image words : List ℕ) (t others : ℕ) (draft draft' : Draft) (here next : Instruction) → IsDrafting layout image words t draft here → others ≡ length draft.entries.items + length draft.code.items + length here.code.items + 3 → GoesOn layout image words here.pc others next → draft'.entries.items ≡ draft.entries.items ++ (256 * (here.pc % 128) + length draft.code.items) ∷ [] → draft'.code.items ≡ draft.code.items ++ here.code.items → IsDrafting layout image words t draft' next
+pub drafting_more : (layout : Layout) (image words : List ℕ) (t others : ℕ) (draft draft' : Draft) (here next : Instruction)
+    → IsDrafting layout image words t draft here → others ≡ length draft.entries.items + length draft.code.items + length here.code.items + 3
+    → GoesOn layout image words here.pc others next → draft'.entries.items ≡ draft.entries.items ++ (256 * (here.pc % 128) + length draft.code.items)
+    ∷ [] → draft'.code.items ≡ draft.code.items ++ here.code.items → IsDrafting layout image words t draft' next
 drafting_more layout image words t others draft draft' here next drafting told on entries code =
     let P : ℕ → ℕ → Type 0 = λ pc n. GoesOn layout image words pc n next in
-    let there : GoesOn layout image words (address image t drafting.last) (drafting.last + 3 + size (templates image t (suc drafting.last))) next = subst (P (address image t drafting.last)) (behind layout image words t others draft here drafting told) (subst (λ (pc : ℕ). P pc others) drafting.reached on) in
+    let there : GoesOn layout image words (address image t drafting.last)
+    (drafting.last + 3 + size (templates image t (suc drafting.last))) next = subst (P (address image t drafting.last))
+    (behind layout image words t others draft here drafting told) (subst (λ (pc : ℕ). P pc others) drafting.reached on) in
     record {
       last = suc drafting.last;
       begun = begun_more layout image words t drafting.last next drafting.begun there;
@@ -157,12 +168,17 @@ drafting_more layout image words t others draft draft' here next drafting told o
     }
 
 -- where no instruction is found, the run stops
-pub stop_told : (layout : Layout) (image words : List ℕ) (pc others : ℕ) (found : Option Instruction) → MatchOption found (StopsBehind layout image words pc others) (λ next. GoesOn layout image words pc others next) → ((next : Instruction) → found ≡ Some next → ⊥) → StopsBehind layout image words pc others
+pub stop_told : (layout : Layout) (image words : List ℕ) (pc others : ℕ) (found : Option Instruction)
+    → MatchOption found (StopsBehind layout image words pc others) (λ next. GoesOn layout image words pc others next)
+    → ((next : Instruction) → found ≡ Some next → ⊥) → StopsBehind layout image words pc others
 stop_told layout image words pc others None told none = told
 stop_told layout image words pc others (Some next) told none = absurd (none next refl)
 
 -- the whole draft, where the run stops
-pub drafted : (layout : Layout) (image words : List ℕ) (t others : ℕ) (draft whole : Draft) (here : Instruction) → IsDrafting layout image words t draft here → others ≡ length draft.entries.items + length draft.code.items + length here.code.items + 3 → StopsBehind layout image words here.pc others → whole.entries.items ≡ draft.entries.items ++ (256 * (here.pc % 128) + length draft.code.items) ∷ [] → whole.code.items ≡ draft.code.items ++ here.code.items ++ here.closing.items → IsDrafted layout image words t whole
+pub drafted : (layout : Layout) (image words : List ℕ) (t others : ℕ) (draft whole : Draft) (here : Instruction)
+    → IsDrafting layout image words t draft here → others ≡ length draft.entries.items + length draft.code.items + length here.code.items + 3
+    → StopsBehind layout image words here.pc others → whole.entries.items ≡ draft.entries.items ++ (256 * (here.pc % 128) + length draft.code.items)
+    ∷ [] → whole.code.items ≡ draft.code.items ++ here.code.items ++ here.closing.items → IsDrafted layout image words t whole
 unfolding code
 drafted layout image words t others draft whole here drafting told stops entries code =
     let P : ℕ → ℕ → Type 0 = λ pc n. StopsBehind layout image words pc n in

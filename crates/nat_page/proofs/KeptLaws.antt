@@ -6,7 +6,7 @@ use Rattle.std.proofs.lemmas.Bool.{cases_eq}
 use Rattle.std.proofs.lemmas.Grind.{same_number_lists}
 use Rattle.std.proofs.lemmas.List.{get_or-take}
 use Rattle.flash_model.specs.Pages.{word_count, page_words, word_at}
-use Rattle.flash_model.specs.Layouts.{IsRight}
+use Rattle.flash_model.specs.Layouts.{IsRight, image_of}
 use Rattle.flash_model.specs.declared.layout.Layout.{Layout}
 use Rattle.page_index.specs.Maps.{IsPool, IsFree}
 use Rattle.page_index.specs.Entries.{Lists, IsEntry}
@@ -110,7 +110,7 @@ kept_word layout image words words' page t last a keeps apart =
     sym (ap (word_at words') here) ∙ sym same ∙ ap (word_at words) here
 
 -- the image stays
-pub kept_image : (layout : Layout) (image words words' : List ℕ) (page t last : ℕ) → IsRight layout → IsPool layout page → KeepsRun layout image words words' page t last → take layout.image_words words' ≡ take layout.image_words words
+pub kept_image : (layout : Layout) (image words words' : List ℕ) (page t last : ℕ) → IsRight layout → IsPool layout page → KeepsRun layout image words words' page t last → image_of layout words' ≡ image_of layout words
 kept_image layout image words words' page t last right pool keeps =
     let n = layout.image_words in
     let long : n ≤ 65536 = omega (arith, right.image_fits) in

@@ -67,7 +67,9 @@ one_template links image a t (suc n) i below all =
     ]
 
 -- the links of the template of instruction i, and of the closing, in a page at the word address a
-pub page_links : (image : List ℕ) (a t last i : ℕ) → i ≤ last → EachLink (IsLinkOf (page_pieces image t last) a) (a + place_in_page image t (suc last) i) (template_at image (address image t i)) × EachLink (IsLinkOf (page_pieces image t last) a) (a + (2 + suc last + size (templates image t (suc last)))) (closing_at image (address image t last))
+pub page_links : (image : List ℕ) (a t last i : ℕ) → i ≤ last
+    → EachLink (IsLinkOf (page_pieces image t last) a) (a + place_in_page image t (suc last) i) (template_at image (address image t i)) × EachLink
+    (IsLinkOf (page_pieces image t last) a) (a + (2 + suc last + size (templates image t (suc last)))) (closing_at image (address image t last))
 unfolding page_pieces code
 page_links image a t last i near =
     let links : ℕ → ℕ → Type 0 = λ s to. IsLinkOf (page_pieces image t last) a s to in

@@ -1,13 +1,14 @@
 -- The page that is made: it holds its run, all else stays, and the pool stays faithful.
-use Rattle.std.proofs.Common.{◌≡◌, ℕ, ◌+◌, ◌-◌, ◌*◌, ◌<◌, ◌≤◌, List, length, get_or, take, arith, refl, sym, ap, ◌∙◌, inl, inr, subst}
+use Rattle.std.proofs.Common.{◌≡◌, ℕ, ◌+◌, ◌-◌, ◌*◌, ◌<◌, ◌≤◌, List, length, get_or, arith, refl, sym, ap, ◌∙◌, inl, inr, subst}
 use Rattle.std.specs.Prelude.{◌≢◌, slice_index}
 use Rattle.std.proofs.lemmas.Bool.{cases_lt, cases_eq}
 use Rattle.std.proofs.lemmas.List.{length-append, get_or_append_left, get_or-append_right}
-use Rattle.flash_model.specs.Pages.{word_count, page_words, many, word_at, set_page}
-use Rattle.flash_model.specs.Layouts.{IsRight}
+use Rattle.flash_model.specs.Pages.{word_count, page_words, word_at, set_page}
+use Rattle.list_parts.specs.Lists.{many}
+use Rattle.flash_model.specs.Layouts.{IsRight, image_of}
 use Rattle.flash_model.specs.declared.layout.Layout.{Layout}
 use Rattle.flash_model.proofs.PageLaws.{length-set_page, word_in_page, word_out_of_page, take-set_page}
-use Rattle.flash_model.proofs.LoadedLaws.{length-many, get_or-many}
+use Rattle.list_parts.proofs.ManyLaws.{get_or-many, length-many}
 use Rattle.nat_template.specs.Stubs.{words_of}
 use Rattle.page_index.specs.Maps.{IsPool, IsFree}
 use Rattle.page_index.specs.Entries.{Lists, IsEntry}
@@ -17,7 +18,7 @@ use Rattle.nat_page.specs.Runs.{address, IsRun}
 use Rattle.nat_page.specs.CodePages.{page_pieces, page_size, HoldsRun}
 use Rattle.nat_page.specs.Links.{IsLinkIn, IsUnresolved}
 use Rattle.nat_page.specs.Faithful.{Stops, IsRewritten, HoldsCode, IsFaithful}
-use Rattle.nat_page.specs.Making.{image_of, HasNoEntry, IsLowestFree, filled, MakesPage}
+use Rattle.nat_page.specs.Making.{HasNoEntry, IsLowestFree, filled, MakesPage}
 use Rattle.nat_page.proofs.PieceLaws.{stands_unresolved}
 use Rattle.nat_page.proofs.HeldLaws.{lists_held, held_listed, map_held, IsHeld}
 use Rattle.nat_page.proofs.LinkLaws.{link_room}
@@ -88,7 +89,9 @@ lists_stay words new page other i a v fits inside free lists =
     change.lists_alike words (set_page words page new) other i a v (change.page_left words new page other fits inside apart) lists
 
 -- another page holds its run still
-other_stays : (layout : Layout) (image words new : List ℕ) (page other t last : ℕ) → length new ≡ page_words → page_words * page + page_words ≤ length words → IsFree words page → other ≢ page → HoldsRun (IsEntry layout words) image words other t last → HoldsRun (IsEntry layout (set_page words page new)) image (set_page words page new) other t last
+other_stays : (layout : Layout) (image words new : List ℕ) (page other t last : ℕ) → length new ≡ page_words
+    → page_words * page + page_words ≤ length words → IsFree words page → other ≢ page → HoldsRun (IsEntry layout words) image words other t last
+    → HoldsRun (IsEntry layout (set_page words page new)) image (set_page words page new) other t last
 other_stays layout image words new page other t last fits inside free apart holds =
     holds_alike (IsEntry layout words) (IsEntry layout (set_page words page new)) image words (set_page words page new) other t last (λ a v entry. change.entry_stays layout words new page a v fits inside free entry) (change.page_left words new page other fits inside apart) holds
 
@@ -96,7 +99,9 @@ unequal : (a b : ℕ) → a ≢ b → b ≤ a → b < a
 unequal a b apart above = omega arith
 
 -- the pool with the page that is made, where flash is told
-made_code : (layout : Layout) (image words : List ℕ) (page t last : ℕ) → IsRight layout → HoldsCode layout image words → IsPool layout page → IsFree words page → IsRun image t last → ((i : ℕ) → i ≤ last → HasNoEntry layout words (address image t i)) → page_size image t last ≤ page_words → HoldsCode layout image (set_page words page (filled (words_of (page_pieces image t last))))
+made_code : (layout : Layout) (image words : List ℕ) (page t last : ℕ) → IsRight layout → HoldsCode layout image words → IsPool layout page
+    → IsFree words page → IsRun image t last → ((i : ℕ) → i ≤ last → HasNoEntry layout words (address image t i))
+    → page_size image t last ≤ page_words → HoldsCode layout image (set_page words page (filled (words_of (page_pieces image t last))))
 made_code layout image words page t last right code pool free run unknown fits =
     let new = filled (words_of (page_pieces image t last)) in
     let words' = set_page words page new in
@@ -131,7 +136,11 @@ made_code layout image words page t last right code pool free run unknown fits =
     }
 
 -- what the runs stop for, with the run that is made
-made_stops : (layout : Layout) (image words : List ℕ) (page t last other first' last' : ℕ) → IsRight layout → IsFaithful layout image words → IsPool layout page → IsFree words page → Fits image words page t last → Stops layout image words page t last → IsPool layout other → HoldsRun (IsEntry layout (set_page words page (filled (words_of (page_pieces image t last))))) image (set_page words page (filled (words_of (page_pieces image t last)))) other first' last' → Stops layout image (set_page words page (filled (words_of (page_pieces image t last)))) other first' last'
+made_stops : (layout : Layout) (image words : List ℕ) (page t last other first' last' : ℕ) → IsRight layout → IsFaithful layout image words
+    → IsPool layout page → IsFree words page → Fits image words page t last → Stops layout image words page t last → IsPool layout other
+    → HoldsRun (IsEntry layout (set_page words page (filled (words_of (page_pieces image t last))))) image
+    (set_page words page (filled (words_of (page_pieces image t last)))) other first' last'
+    → Stops layout image (set_page words page (filled (words_of (page_pieces image t last)))) other first' last'
 made_stops layout image words page t last other first' last' right faithful pool free made stops pool' holds =
     let new = filled (words_of (page_pieces image t last)) in
     let words' = set_page words page new in
@@ -157,7 +166,10 @@ made_stops layout image words page t last other first' last' right faithful pool
       ]
     ]
 
-made_lowest : (layout : Layout) (image words : List ℕ) (page t last lower other : ℕ) → IsRight layout → IsFaithful layout image words → IsLowestFree layout words page → Fits image words page t last → IsPool layout lower → IsPool layout other → lower < other → IsFree (set_page words page (filled (words_of (page_pieces image t last)))) lower → IsFree (set_page words page (filled (words_of (page_pieces image t last)))) other
+made_lowest : (layout : Layout) (image words : List ℕ) (page t last lower other : ℕ) → IsRight layout → IsFaithful layout image words
+    → IsLowestFree layout words page → Fits image words page t last → IsPool layout lower → IsPool layout other → lower < other
+    → IsFree (set_page words page (filled (words_of (page_pieces image t last)))) lower
+    → IsFree (set_page words page (filled (words_of (page_pieces image t last)))) other
 made_lowest layout image words page t last lower other right faithful free made pool pool' below blank =
     let new = filled (words_of (page_pieces image t last)) in
     let words' = set_page words page new in
@@ -234,10 +246,12 @@ pub makes_image : (layout : Layout) (image old new : List ℕ) (page t place : �
 makes_image layout image old new page t place right code pool makes =
     let whole = code.whole in
     let front = filled (words_of (page_pieces image t makes.last)) in
-    ap (λ words. take layout.image_words words) makes.changed ∙ take-set_page old front page layout.image_words (omega (arith, pool.to, right.pool_below_kernel)) (omega (arith, right.image_below_pool, pool.from))
+    ap (image_of layout) makes.changed ∙ take-set_page old front page layout.image_words (omega (arith, pool.to, right.pool_below_kernel)) (omega (arith, right.image_below_pool, pool.from))
 
 -- each page that holds a run holds it still
-pub makes_runs : (layout : Layout) (image old new : List ℕ) (page t place other first end : ℕ) → IsRight layout → HoldsCode layout image old → IsPool layout page → IsFree old page → MakesPage layout image old new page t place → HoldsRun (IsEntry layout old) image old other first end → HoldsRun (IsEntry layout new) image new other first end
+pub makes_runs : (layout : Layout) (image old new : List ℕ) (page t place other first end : ℕ) → IsRight layout → HoldsCode layout image old
+    → IsPool layout page → IsFree old page → MakesPage layout image old new page t place → HoldsRun (IsEntry layout old) image old other first end
+    → HoldsRun (IsEntry layout new) image new other first end
 makes_runs layout image old new page t place other first end right code pool free makes holds =
     let short : length image ≤ 24576 = omega (arith, code.image_length, right.image_fits) in
     let P : ℕ → Type 0 = λ p. HoldsRun (IsEntry layout old) image old p first end in
@@ -255,7 +269,9 @@ makes_links layout image old new page t place s to right code pool free makes li
   link = link.link;
 }
 
-pub makes_link_words : (layout : Layout) (image old new : List ℕ) (page t place s to k : ℕ) → IsRight layout → HoldsCode layout image old → IsPool layout page → IsFree old page → MakesPage layout image old new page t place → IsLinkIn layout image old s to → k < 3 → word_at new (s + k) ≡ word_at old (s + k)
+pub makes_link_words : (layout : Layout) (image old new : List ℕ) (page t place s to k : ℕ) → IsRight layout → HoldsCode layout image old
+    → IsPool layout page → IsFree old page → MakesPage layout image old new page t place → IsLinkIn layout image old s to → k < 3
+    → word_at new (s + k) ≡ word_at old (s + k)
 makes_link_words layout image old new page t place s to k right code pool free makes link below =
     let short : length image ≤ 24576 = omega (arith, code.image_length, right.image_fits) in
     let room = link_room image link.page link.first link.last s to link.holds.fits link.link in

@@ -2,7 +2,7 @@
 -- The page holds its run, and all that makes the pool faithful stays.
 use Rattle.std.proofs.Common.{◌≡◌, ℕ, ◌+◌, ◌*◌, ◌/◌, ◌%◌, ◌<◌, ◌≤◌, List, ◌∷◌, ◌++◌, length, arith, sym, ap, ◌∙◌, subst}
 use Rattle.flash_model.specs.Pages.{word_count, page_words, word_at, page_of, set_page}
-use Rattle.flash_model.specs.Layouts.{IsRight}
+use Rattle.flash_model.specs.Layouts.{IsRight, image_of}
 use Rattle.flash_model.specs.declared.layout.Layout.{Layout}
 use Rattle.nat_template.specs.declared.piece.Piece.{Piece}
 use Rattle.nat_template.specs.declared.piece.Piece.TheVariants.{Link}
@@ -11,14 +11,15 @@ use Rattle.nat_page.specs.Standing.{IsLink, Stands, size}
 use Rattle.nat_page.specs.CodePages.{page_pieces, page_size, HoldsRun}
 use Rattle.nat_page.specs.Links.{IsLinkOf, IsLinkIn, with_two_words}
 use Rattle.nat_page.specs.Faithful.{HoldsCode, IsFaithful}
-use Rattle.nat_page.specs.Making.{image_of}
 use Rattle.nat_page.proofs.PieceLaws.{size-append, size-cons, stands_split, stands_join, stands_same}
 use Rattle.nat_page.proofs.LinkLaws.{link_room}
 use Rattle.nat_page.proofs.TwoWords.{length-with_two_words, first_of_two, second_of_two, word_beside_two, two_in_page}
 use Rattle.nat_page.proofs.KeptLaws.{KeepsRun, kept_entries, kept_entries_back, kept_holds, kept_image, kept_code, kept_faithful}
 
 -- the pieces stand as before, with the new words of one link among them
-stands_relinked : (leads : ℕ → ℕ → Type 0) (words : List ℕ) (a t first second : ℕ) (before behind : List Piece) → a + size before + 1 < length words → IsLink leads first second t → Stands leads words a (before ++ Link t ∷ behind) → Stands leads (with_two_words words (a + size before) first second) a (before ++ Link t ∷ behind)
+stands_relinked : (leads : ℕ → ℕ → Type 0) (words : List ℕ) (a t first second : ℕ) (before behind : List Piece) → a + size before + 1 < length words
+    → IsLink leads first second t → Stands leads words a (before ++ Link t ∷ behind)
+    → Stands leads (with_two_words words (a + size before) first second) a (before ++ Link t ∷ behind)
 stands_relinked leads words a t first second before behind inside link stands =
     let s = a + size before in
     let words' = with_two_words words s first second in
@@ -27,10 +28,18 @@ stands_relinked leads words a t first second before behind inside link stands =
     let P : ℕ → ℕ → Type 0 = λ w w'. IsLink leads w w' t in
     let there : P (word_at words' s) (word_at words' (s + 1)) = subst (P (word_at words' s)) (sym (second_of_two words s first second inside)) (subst (λ (w : ℕ). P w second) (sym (first_of_two words s first second inside)) link) in
     let target : word_at words' (s + 2) ≡ t = word_beside_two words s (s + 2) first second (λ is. omega arith) (λ is. omega arith) ∙ two.1.0.1 in
-    stands_join leads words' a before (Link t ∷ behind) (stands_same leads leads words words' a before same (λ k below. word_beside_two words s (a + k) first second (λ is. omega arith) (λ is. omega arith)) two.0) ((there, target), stands_same leads leads words words' (s + 3) behind same (λ k below. word_beside_two words s (s + 3 + k) first second (λ is. omega arith) (λ is. omega arith)) two.1.1)
+    stands_join leads words' a before (Link t ∷ behind)
+    (stands_same leads leads words words' a before same
+    (λ k below. word_beside_two words s (a + k) first second (λ is. omega arith) (λ is. omega arith)) two.0) (
+      (there, target),
+      stands_same leads leads words words' (s + 3) behind same
+          (λ k below. word_beside_two words s (s + 3 + k) first second (λ is. omega arith) (λ is. omega arith)) two.1.1,
+    )
 
 -- the page holds its run with the new words; its links may lead where they did
-pub holds_relinked : (leads : ℕ → ℕ → Type 0) (image words : List ℕ) (page first last s t w w' : ℕ) → page_words * page + page_words ≤ length words → IsLinkOf (page_pieces image first last) (page_words * page) s t → IsLink leads w w' t → HoldsRun leads image words page first last → HoldsRun leads image (with_two_words words s w w') page first last
+pub holds_relinked : (leads : ℕ → ℕ → Type 0) (image words : List ℕ) (page first last s t w w' : ℕ) → page_words * page + page_words ≤ length words
+    → IsLinkOf (page_pieces image first last) (page_words * page) s t → IsLink leads w w' t → HoldsRun leads image words page first last
+    → HoldsRun leads image (with_two_words words s w w') page first last
 holds_relinked leads image words page first last s t w w' inside at link holds =
     let room = link_room image page first last s t holds.fits at in
     let base = page_words * page in
@@ -68,7 +77,9 @@ link_placed layout image words s t w w' right whole in_page =
     }
 
 -- all other pages stay, and this one keeps its run
-pub relinks : (layout : Layout) (image words : List ℕ) (s t w w' : ℕ) → IsRight layout → HoldsCode layout image words → (in_page : IsLinkIn layout image words s t) → IsLink (IsEntry layout words) w w' t → KeepsRun layout image words (with_two_words words s w w') in_page.page in_page.first in_page.last
+pub relinks : (layout : Layout) (image words : List ℕ) (s t w w' : ℕ) → IsRight layout → HoldsCode layout image words
+    → (in_page : IsLinkIn layout image words s t) → IsLink (IsEntry layout words) w w' t
+    → KeepsRun layout image words (with_two_words words s w w') in_page.page in_page.first in_page.last
 relinks layout image words s t w w' right code in_page link =
     let page = in_page.page in
     let whole = code.whole in

@@ -27,7 +27,9 @@ word_beside_two words s a first second apart apart' =
     get_or-set_other _ (s + 1) a second 0 apart' ∙ get_or-set_other words s a first 0 apart
 
 -- word k of the page with its two words, in flash with them
-word_of_page : (words : List ℕ) (page k j first second : ℕ) → page_words * page + page_words ≤ length words → k + 1 < page_words → j < page_words → slice_index (with_two_words (page_of words page) k first second) j ≡ word_at (with_two_words words (page_words * page + k) first second) (page_words * page + j)
+word_of_page : (words : List ℕ) (page k j first second : ℕ) → page_words * page + page_words ≤ length words → k + 1 < page_words → j < page_words
+    → slice_index (with_two_words (page_of words page) k first second) j
+    ≡ word_at (with_two_words words (page_words * page + k) first second) (page_words * page + j)
 word_of_page words page k j first second inside below near =
     let old = page_of words page in
     let s = page_words * page + k in

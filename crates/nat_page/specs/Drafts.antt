@@ -1,4 +1,4 @@
--- A page while it is made: its run's instructions one after another.
+-- Serves private functions: a page while it is made: its run's instructions one after another.
 use Rattle.std.specs.Prelude.{◌≡◌, ◌≢◌, ℕ, suc, ◌+◌, ◌*◌, ◌/◌, ◌%◌, ◌<◌, ◌≤◌, true, false, List, ◌∷◌, ◌++◌, length, map}
 use Rattle.std.specs.List.{range_with_len}
 use Rattle.flash_model.specs.Pages.{page_words}

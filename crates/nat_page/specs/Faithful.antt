@@ -1,9 +1,10 @@
 -- When a code pool is faithful to the image: all that it holds is rewritten code of the image, and it is as
 -- full as making pages leaves it.
-use Rattle.std.specs.Prelude.{◌≡◌, ◌≢◌, ℕ, suc, ◌*◌, ◌/◌, ◌<◌, ◌≤◌, ◌⊎◌, true, List, length, take}
+use Rattle.std.specs.Prelude.{◌≡◌, ◌≢◌, ℕ, suc, ◌*◌, ◌/◌, ◌<◌, ◌≤◌, ◌⊎◌, true, List, length}
 use Rattle.flash_model.specs.Pages.{word_count, page_words, word_at}
 use Rattle.flash_model.specs.Memory.{kernel_first}
 use Rattle.flash_model.specs.declared.layout.Layout.{Layout}
+use Rattle.flash_model.specs.Layouts.{image_of}
 use Rattle.page_index.specs.Maps.{IsPool, IsFree}
 use Rattle.page_index.specs.Entries.{Lists, IsEntry}
 use Rattle.nat_page.specs.Runs.{address, ends_at}
@@ -20,7 +21,7 @@ pub record IsRewritten (layout : Layout) (image words : List ℕ) (page : ℕ) :
 pub record HoldsCode (layout : Layout) (image words : List ℕ) : Type 0 where
   pub whole : length words ≡ word_count
   pub image_length : length image ≡ layout.image_words
-  pub held : take layout.image_words words ≡ image
+  pub held : image_of layout words ≡ image
   pub erased : (a : ℕ) → layout.image_words ≤ a → a < page_words * layout.pool_first → word_at words a ≡ 0xFFFF
   pub kernel : (a : ℕ) → kernel_first ≤ a → a < word_count → word_at words a ≡ 0x9508
   pub pages : (page : ℕ) → IsPool layout page → IsFree words page ⊎ IsRewritten layout image words page

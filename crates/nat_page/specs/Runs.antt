@@ -4,7 +4,7 @@ use Rattle.std.specs.Prelude.{◌≡◌, ℕ, zero, suc, ◌+◌, ◌/◌, ◌<�
 use Rattle.avr_isa.specs.declared.form.Form.{Form}
 use Rattle.avr_isa.specs.declared.form.Form.TheVariants as forms
 use Rattle.avr_isa.specs.Image.{word}
-use Rattle.avr_decode.specs.Decoding.{is_long}
+use Rattle.avr_decode.specs.Decoding.{size_by_first_word}
 use Rattle.avr_decode.specs.Program.{instruction_at}
 use Rattle.flash_model.specs.Pages.{page_words}
 use Rattle.nat_template.specs.declared.shapes.TemplateShape.{TemplateShape}
@@ -20,7 +20,7 @@ shape_at image pc = shape_of pc (instruction_at image pc)
 
 -- how many words the instruction has, by its first word; what is no instruction has one
 abbrev pub size_at : List ℕ → ℕ → ℕ
-size_at image pc = if is_long (word image pc) then 2 else 1
+size_at image pc = size_by_first_word (word image pc)
 
 -- the address behind it
 abbrev pub next_of : List ℕ → ℕ → ℕ

@@ -2,9 +2,9 @@
 
 ghost use Rattle.std.specs.Prelude.{◌≡◌, ◌+◌, ◌-◌, ◌*◌, ◌%◌, ◌<◌, ◌≤◌, ◌∷◌, ◌++◌, [], All, MatchOption, length, map};
 ghost use Rattle.arrayvec.specs.ArrayVec.{array_vec_len};
-ghost use Rattle.flash_model.specs.Layouts.{IsRight};
+ghost use Rattle.flash_model.specs.Layouts.{IsRight, image_of};
 ghost use Rattle.page_index.specs.Entries.{IsMapped};
-ghost use Rattle.nat_page.specs.Making.{image_of, HasNoEntry, filled};
+ghost use Rattle.nat_page.specs.Making.{HasNoEntry, filled};
 ghost use Rattle.nat_page.specs.Drafts.{IsRead, StopsBehind, GoesOn, IsDrafted, draft_words};
 
 use crate::instruction::{Instruction, read};

@@ -2,18 +2,15 @@
 
 ghost use Rattle.std.specs.Prelude.{◌≡◌, ◌<◌, ◌≤◌, [], length, if◌then◌else◌};
 ghost use Rattle.std.specs.Option.{option_map};
-ghost use Rattle.flash_model.specs.Layouts.{IsRight};
-ghost use Rattle.avr_isa.specs.Image.{word};
-ghost use Rattle.avr_decode.specs.Decoding.{is_long};
+ghost use Rattle.flash_model.specs.Layouts.{IsRight, image_of};
 ghost use Rattle.nat_template.specs.Stubs.{stub as stub_of, words_of};
 ghost use Rattle.nat_page.specs.Runs.{is_closed as is_closed_test, is_jump_through_z as is_jump_through_z_test, never_returns as never_returns_test};
-ghost use Rattle.nat_page.specs.Making.{image_of};
 ghost use Rattle.nat_page.specs.Drafts.{IsRead};
 
 use arrayvec::ArrayVec;
-use avr_decode::{decode, two_words};
+use avr_decode::{decode, size_by_first_word};
 use avr_isa::{Form, Instr};
-use flash_model::{Flash, Layout};
+use flash_model::{Flash, Layout, word_in_image};
 use nat_template::{TemplateShape, closing, shape, template};
 
 /// An instruction of the image.
@@ -40,39 +37,19 @@ pub(crate) fn read(flash: &Flash, layout: &Layout, pc: u16) -> Instruction
     ensures pc { result.pc ≡ pc }
     ensures read { IsRead (image_of layout.now flash.now.words) result }
 {
-    let first = image_word(flash, layout, pc);
-    let second = image_word(flash, layout, pc + 1);
+    let first = word_in_image(flash, layout, u32::from(pc));
+    let second = word_in_image(flash, layout, u32::from(pc + 1));
     let instr = decode(first, second);
     let instr = instr.as_ref();
     let shape = shape(pc, instr);
-    let next = pc + words_from(first);
+    let next = pc + size_by_first_word(first);
     Instruction {
         pc,
         next,
         ends: never_returns(shape, instr),
-        code: template(pc, first, second, words_from(second)),
+        code: template(pc, first, second, size_by_first_word(second)),
         closing: closing_by(shape, pc, next),
     }
-}
-
-/// The word of the image at a word address; an erased word outside.
-fn image_word(flash: &Flash, layout: &Layout, a: u16) -> u16
-    requires right { IsRight layout.now }
-    ensures value { result ≡ word (image_of layout.now flash.now.words) a }
-{
-    if a < layout.image_words {
-        flash.word(a)
-    } else {
-        0xFFFF
-    }
-}
-
-/// How many words the instruction with this first word has.
-fn words_from(first: u16) -> u16
-    ensures value { result ≡ if is_long first then 2 else 1 }
-    ensures range { (1 ≤ result) × (result ≤ 2) }
-{
-    if two_words(first) { 2 } else { 1 }
 }
 
 /// Whether nothing behind the instruction is reached from it.

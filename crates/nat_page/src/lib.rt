@@ -27,6 +27,3 @@ mod instruction;
 mod making;
 
 pub use making::{NatStop, naturalise};
-
-#[cfg(test)]
-mod tests;

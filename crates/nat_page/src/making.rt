@@ -1,14 +1,14 @@
 //! Making a page.
 
 ghost use Rattle.std.specs.Prelude.{◌≡◌, ℕ, ◌+◌, ◌*◌, ◌<◌, ◌≤◌, IfOk, IfErr, OnErr};
-ghost use Rattle.flash_model.specs.Layouts.{IsRight};
+ghost use Rattle.flash_model.specs.Layouts.{IsRight, image_of};
 ghost use Rattle.page_index.specs.Maps.{IsPool, IsFree};
 ghost use Rattle.page_index.specs.Entries.{IsEntry};
 ghost use Rattle.nat_page.specs.declared.making.NatStop.TheVariants as stops;
 ghost use Rattle.nat_page.specs.Faithful.{HoldsCode, IsFaithful};
 ghost use Rattle.nat_page.specs.Links.{IsUnresolved};
 ghost use Rattle.nat_page.specs.Used.{used_pages};
-ghost use Rattle.nat_page.specs.Making.{image_of, HasNoEntry, HasNoFree, MakesPage, Naturalises};
+ghost use Rattle.nat_page.specs.Making.{HasNoEntry, HasNoFree, MakesPage, Naturalises};
 
 use crate::draft::draft_of;
 use flash_model::{Flash, Layout};

@@ -1,3 +1,4 @@
 -- Laws of stubs and templates.
 pub mod Sizes
+pub mod ShapeLaws
 pub mod WorkedTemplates

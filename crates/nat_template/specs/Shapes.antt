@@ -2,7 +2,7 @@
 use Rattle.std.specs.Prelude.{ℕ, ◌==◌, ◌&&◌, ◌||◌, Bool, if◌then◌else◌, Option, Some, None}
 use Rattle.avr_isa.specs.declared.form.Form.{Form}
 use Rattle.avr_isa.specs.declared.form.Form.TheVariants as forms
-use Rattle.avr_isa.specs.IoTable.{data_address, can_read, can_write}
+use Rattle.avr_isa.specs.IoTable.{can_read, can_write, io_address}
 use Rattle.avr_exec.specs.Registers.{relative}
 use Rattle.nat_template.specs.declared.shapes.TemplateShape.{TemplateShape}
 use Rattle.nat_template.specs.declared.shapes.TemplateShape.TheVariants.{Native, Mem, Jump, Branch, Skip, Call, Ret, Ind, SelfJump, Fault}
@@ -19,7 +19,7 @@ if_allowed allowed own = if allowed then own else Fault
 abbrev pub can_modify : ℕ → Bool
 can_modify a = can_read a && can_write a
 
--- a jump to itself halts
+-- an RJMP or JMP to its own address halts
 abbrev pub jump_shape : ℕ → ℕ → TemplateShape
 jump_shape pc target = if target == pc then SelfJump else Jump
 
@@ -37,12 +37,12 @@ shape_of_form pc forms.Lpm0 = Mem
 shape_of_form pc forms.Elpm0 = Mem
 shape_of_form pc (forms.Lpm d inc) = Mem
 shape_of_form pc (forms.Elpm d inc) = Mem
-shape_of_form pc (forms.InIo d a) = if is_stack_pointer a then Mem else if_allowed (can_read (data_address a)) Native
-shape_of_form pc (forms.OutIo a r) = if is_stack_pointer a then Mem else if_allowed (can_write (data_address a)) Native
-shape_of_form pc (forms.Cbi a b) = if_allowed (can_modify (data_address a)) Native
-shape_of_form pc (forms.Sbi a b) = if_allowed (can_modify (data_address a)) Native
-shape_of_form pc (forms.Sbic a b) = if_allowed (can_read (data_address a)) Skip
-shape_of_form pc (forms.Sbis a b) = if_allowed (can_read (data_address a)) Skip
+shape_of_form pc (forms.InIo d a) = if is_stack_pointer a then Mem else if_allowed (can_read (io_address a)) Native
+shape_of_form pc (forms.OutIo a r) = if is_stack_pointer a then Mem else if_allowed (can_write (io_address a)) Native
+shape_of_form pc (forms.Cbi a b) = if_allowed (can_modify (io_address a)) Native
+shape_of_form pc (forms.Sbi a b) = if_allowed (can_modify (io_address a)) Native
+shape_of_form pc (forms.Sbic a b) = if_allowed (can_read (io_address a)) Skip
+shape_of_form pc (forms.Sbis a b) = if_allowed (can_read (io_address a)) Skip
 shape_of_form pc (forms.Cpse d r) = Skip
 shape_of_form pc (forms.Sbrc r b) = Skip
 shape_of_form pc (forms.Sbrs r b) = Skip

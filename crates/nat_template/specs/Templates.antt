@@ -4,7 +4,7 @@ use Rattle.avr_isa.specs.declared.form.Form.{Form}
 use Rattle.avr_isa.specs.declared.form.Form.TheVariants as forms
 use Rattle.avr_isa.specs.declared.operation.Base.TheVariants.{Y}
 use Rattle.avr_isa.specs.Encoding.{first_word}
-use Rattle.avr_exec.specs.Registers.{raised, relative}
+use Rattle.avr_exec.specs.Registers.{wrapping_sum, relative}
 use Rattle.nat_template.specs.declared.shapes.TemplateShape.{TemplateShape}
 use Rattle.nat_template.specs.declared.shapes.TemplateShape.TheVariants.{Native, Mem, Jump, Branch, Skip, Call, Ret, Ind, SelfJump, Fault}
 use Rattle.nat_template.specs.declared.piece.Piece.{Piece}
@@ -35,7 +35,7 @@ short_branch _ = 0
 
 -- where a skip leads: behind the next instruction, which has this many words
 abbrev pub skip_target : ℕ → ℕ → ℕ
-skip_target pc next_size = raised pc (1 + next_size)
+skip_target pc next_size = wrapping_sum pc (1 + next_size)
 
 -- r30 and r31, which an inline template uses itself
 abbrev pub is_z : ℕ → Bool

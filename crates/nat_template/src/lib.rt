@@ -26,6 +26,3 @@ pub use piece::Piece;
 pub use shapes::{TemplateShape, shape};
 pub use stubs::{closing, resolved, stub};
 pub use templates::{pieces, template};
-
-#[cfg(test)]
-mod tests;

@@ -4,9 +4,9 @@ ghost use Rattle.std.specs.Option.{option_map};
 ghost use Rattle.nat_template.specs.declared.shapes.TemplateShape.TheVariants as variants;
 ghost use Rattle.avr_exec.specs.Registers.{relative as relative_of};
 ghost use Rattle.nat_template.specs.Shapes.{can_modify as can_modify_test, if_allowed as if_allowed_of, is_stack_pointer as is_stack_pointer_test, jump_shape as jump_shape_of, shape_of, shape_of_form};
-ghost use Rattle.avr_isa.specs.IoTable.{data_address, can_read as can_read_test, can_write as can_write_test};
+ghost use Rattle.avr_isa.specs.IoTable.{can_read as can_read_test, can_write as can_write_test, io_address};
 
-use avr_isa::{Form, Instr, io_access};
+use avr_isa::{Form, Instr, IoAddr, io_access};
 
 /// How an instruction is rewritten.
 #[derive(Clone, Copy, Debug, PartialEq, Eq)]
@@ -28,7 +28,7 @@ pub enum TemplateShape {
     Ret,
     /// A jump or a call through Z: a call of the kernel.
     Ind,
-    /// A jump to itself: a call of the kernel.
+    /// An RJMP or JMP to its own address: a call of the kernel.
     SelfJump,
     /// No instruction of the profile, or one that may not be executed: a call of the kernel.
     Fault,
@@ -61,10 +61,16 @@ fn shape_of_instruction(pc: u16, form: &Form) -> TemplateShape
         | Form::Elpm0
         | Form::Lpm(..)
         | Form::Elpm(..) => TemplateShape::Mem,
-        Form::InIo(_, a) => input_shape(a.get()),
-        Form::OutIo(a, _) => output_shape(a.get()),
-        Form::Cbi(a, _) | Form::Sbi(a, _) => if_allowed(can_modify(a.get()), TemplateShape::Native),
-        Form::Sbic(a, _) | Form::Sbis(a, _) => if_allowed(can_read(a.get()), TemplateShape::Skip),
+        Form::InIo(_, a) => input_shape(&a),
+        Form::OutIo(a, _) => output_shape(&a),
+        Form::Cbi(a, _) | Form::Sbi(a, _) => if_allowed(
+            can_modify(a.address()),
+            TemplateShape::Native,
+        ),
+        Form::Sbic(a, _) | Form::Sbis(a, _) => if_allowed(
+            io_access(a.address()).read,
+            TemplateShape::Skip,
+        ),
         Form::Cpse(..) | Form::Sbrc(..) | Form::Sbrs(..) => TemplateShape::Skip,
         Form::Brbs(..) | Form::Brbc(..) => TemplateShape::Branch,
         Form::Rjmp(k) => jump_shape(pc, relative(pc, k.get())),
@@ -107,24 +113,24 @@ fn jump_shape(pc: u16, target: u16) -> TemplateShape
 }
 
 /// IN: the stack pointer is the program's own, which the kernel keeps.
-fn input_shape(field: u8) -> TemplateShape
-    ensures shape { result ≡ if is_stack_pointer_test field then variants.Mem else if_allowed_of (can_read_test (data_address field)) variants.Native }
+fn input_shape(field: &IoAddr) -> TemplateShape
+    ensures shape { result ≡ if is_stack_pointer_test field.now then variants.Mem else if_allowed_of (can_read_test (io_address field.now)) variants.Native }
 {
-    if is_stack_pointer(field) {
+    if is_stack_pointer(field.get()) {
         TemplateShape::Mem
     } else {
-        if_allowed(can_read(field), TemplateShape::Native)
+        if_allowed(io_access(field.address()).read, TemplateShape::Native)
     }
 }
 
 /// OUT, likewise.
-fn output_shape(field: u8) -> TemplateShape
-    ensures shape { result ≡ if is_stack_pointer_test field then variants.Mem else if_allowed_of (can_write_test (data_address field)) variants.Native }
+fn output_shape(field: &IoAddr) -> TemplateShape
+    ensures shape { result ≡ if is_stack_pointer_test field.now then variants.Mem else if_allowed_of (can_write_test (io_address field.now)) variants.Native }
 {
-    if is_stack_pointer(field) {
+    if is_stack_pointer(field.get()) {
         TemplateShape::Mem
     } else {
-        if_allowed(can_write(field), TemplateShape::Native)
+        if_allowed(io_access(field.address()).write, TemplateShape::Native)
     }
 }
 
@@ -135,25 +141,12 @@ fn is_stack_pointer(field: u8) -> bool
     field == 0x3D || field == 0x3E
 }
 
-/// Whether a program may read the register with this field A.
-fn can_read(field: u8) -> bool
-    ensures value { result ≡ can_read_test (data_address field) }
+/// Whether a program may read and write the register at this data address in one.
+fn can_modify(address: u16) -> bool
+    ensures value { result ≡ can_modify_test address }
 {
-    io_access(u16::from(field) + 0x20).read
-}
-
-/// Whether a program may write it.
-fn can_write(field: u8) -> bool
-    ensures value { result ≡ can_write_test (data_address field) }
-{
-    io_access(u16::from(field) + 0x20).write
-}
-
-/// Whether a program may read and write it in one.
-fn can_modify(field: u8) -> bool
-    ensures value { result ≡ can_modify_test (data_address field) }
-{
-    can_read(field) && can_write(field)
+    let access = io_access(address);
+    access.read && access.write
 }
 
 /// pc + 1 + k.

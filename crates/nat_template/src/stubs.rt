@@ -7,6 +7,7 @@ ghost use Rattle.nat_template.specs.Stubs.{crossing_stub, jump_words, service as
 
 use crate::piece::{CALL, Piece, written};
 use arrayvec::ArrayVec;
+use avr_isa::is_crossing;
 
 /// JMP, the first of its two words.
 const JMP: u16 = 0x940C;
@@ -83,11 +84,4 @@ fn push_crossing(pieces: &mut ArrayVec<Piece, 20>, to: u16)
     pieces.try_extend_from_slice(&COUNT_DOWN).unwrap();
     pieces.push(Piece::Link(to));
     pieces.try_extend_from_slice(&service(QUANTUM, to)).unwrap();
-}
-
-/// Whether a step goes back, stays, or leaves its page.
-pub(crate) fn is_crossing(from: u16, to: u16) -> bool
-    ensures value { result ≡ is_crossing_test from to }
-{
-    to <= from || to / 128 != from / 128
 }

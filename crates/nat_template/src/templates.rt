@@ -10,10 +10,10 @@ ghost use Rattle.nat_template.specs.Templates.{is_z as is_z_test, jump_over, mem
 use crate::inline::{load_words, pop_words, push_words, store_words};
 use crate::piece::{Piece, written};
 use crate::shapes::{TemplateShape, relative, shape};
-use crate::stubs::{is_crossing, service, stub};
+use crate::stubs::{service, stub};
 use arrayvec::ArrayVec;
 use avr_decode::decode;
-use avr_isa::{Base, Form, Instr, Reg};
+use avr_isa::{Base, Form, Instr, Reg, is_crossing};
 
 /// The kernel's entries (docs/LOADER.md).
 const MEM: u16 = 0xF004;

@@ -96,7 +96,9 @@ entry_was layout words new page other i t v fits inside apart pool lists = recor
 }
 
 -- A pool stays mapped where a free page gets a map whose addresses had no entry.
-pub still_mapped : (layout : Layout) (words new : List ℕ) (page : ℕ) → IsRight layout → length words ≡ word_count → length new ≡ page_words → page < 480 → IsMapped layout words → IsMap (set_page words page new) page → ((i t v v' : ℕ) → Lists (set_page words page new) page i t v → IsEntry layout words t v' → ⊥) → IsMapped layout (set_page words page new)
+pub still_mapped : (layout : Layout) (words new : List ℕ) (page : ℕ) → IsRight layout → length words ≡ word_count → length new ≡ page_words
+    → page < 480 → IsMapped layout words → IsMap (set_page words page new) page
+    → ((i t v v' : ℕ) → Lists (set_page words page new) page i t v → IsEntry layout words t v' → ⊥) → IsMapped layout (set_page words page new)
 still_mapped layout words new page right whole fits in_front mapped map fresh =
     let words' = set_page words page new in
     let inside : page_words * page + page_words ≤ length words = omega arith in

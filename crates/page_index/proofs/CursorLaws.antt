@@ -1,14 +1,14 @@
 -- Between one place of a page and the next no entry begins.
 use Rattle.std.proofs.Common.{◌≡◌, ℕ, ◌+◌, ◌-◌, ◌*◌, ◌/◌, ◌%◌, ◌<◌, ◌≤◌, List, arith, refl, subst, sym, inl, inr}
-use Rattle.std.specs.Prelude.{◌≢◌}
+use Rattle.std.specs.Prelude.{◌≢◌, Option, Some, None, IfSome}
 use Rattle.std.proofs.lemmas.Bool.{cases_lt, cases_eq, cases_order}
 use Rattle.flash_model.specs.Pages.{page_words}
 use Rattle.flash_model.specs.declared.layout.Layout.{Layout}
 use Rattle.page_index.specs.Maps.{IsPool, IsMap, entry_count, address_of, place_of}
-use Rattle.page_index.specs.declared.cursor.Cursor.{Cursor}
+use Rattle.page_index.specs.declared.stretch.Stretch.{Stretch}
 use Rattle.page_index.proofs.MapLaws.{lists_entry, map_of_entry}
 use Rattle.page_index.specs.Entries.{Lists, IsEntry, IsMapped}
-use Rattle.page_index.specs.Cursors.{IsCursor}
+use Rattle.page_index.specs.Cursors.{IsStretch, IsReached}
 use Rattle.page_index.proofs.EntryLaws.{page_of_place}
 
 -- an entry behind the place is one of those that are not before it
@@ -69,9 +69,9 @@ all_up_to words page index place map below most i low = omega (arith, up_to word
 pub all_behind : (words : List ℕ) (page index place : ℕ) → IsMap words page → index < entry_count words page → place < place_of words page index → (i : ℕ) → index ≤ i → i < entry_count words page → place < place_of words page i
 all_behind words page index place map below after i from listed = omega (arith, at_or_behind words page index i map from listed)
 
--- a cursor whose next entry is this one
+-- a stretch whose next entry is this one
 pub next_listed : (layout : Layout) (words : List ℕ) (page place behind next : ℕ) → IsMapped layout words → IsPool layout page → IsMap words page → place / page_words ≡ page → behind < entry_count words page
-    → ((i : ℕ) → i < behind → place_of words page i ≤ place) → next ≡ place_of words page behind → IsCursor layout words (record { place = place; next = next; listed = page_words * page + (2 + behind) })
+    → ((i : ℕ) → i < behind → place_of words page i ≤ place) → next ≡ place_of words page behind → IsStretch layout words (record { place = place; next = next; listed = page_words * page + (2 + behind) })
 next_listed layout words page place behind next mapped pool map inside below earlier is = record {
   quiet = λ t v entry after. omega (arith, is, quiet_to_next layout words page place behind t v mapped map inside below earlier entry after);
   listed = λ some. record {
@@ -81,8 +81,8 @@ next_listed layout words page place behind next mapped pool map inside below ear
   };
 }
 
--- what the map says of the entry that a cursor has next: its page and its number are read off the map's word
-pub record Told (layout : Layout) (words : List ℕ) (c : Cursor) : Type 0 where
+-- what the map says of the entry that a stretch has next: its page and its number are read off the map's word
+pub record Told (layout : Layout) (words : List ℕ) (c : Stretch) : Type 0 where
   pub map : IsMap words (c.listed / page_words)
   pub pool : IsPool layout (c.listed / page_words)
   pub listed : c.listed % page_words - 2 < entry_count words (c.listed / page_words)
@@ -92,7 +92,7 @@ pub record Told (layout : Layout) (words : List ℕ) (c : Cursor) : Type 0 where
   pub earlier : (i : ℕ) → i < c.listed % page_words - 2 + 1 → place_of words (c.listed / page_words) i ≤ c.next
   pub entry : IsEntry layout words (address_of words (c.listed / page_words) (c.listed % page_words - 2)) c.next
 
-pub told : (layout : Layout) (words : List ℕ) (c : Cursor) → IsMapped layout words → IsCursor layout words c → c.listed ≢ 0 → Told layout words c
+pub told : (layout : Layout) (words : List ℕ) (c : Stretch) → IsMapped layout words → IsStretch layout words c → c.listed ≢ 0 → Told layout words c
 told layout words c mapped cursor some =
     let l = cursor.listed some in
     let page = c.listed / page_words in
@@ -141,3 +141,14 @@ last_there layout words place last t mapped below most later entry =
       | inr (inl lower) ↦ absurd (omega (arith, (map.ascending entry.index last lower below).1, lists.place, most))
       | inr (inr higher) ↦ absurd (omega (arith, later entry.index (omega (arith, higher)) lists.listed, lists.place))
     ]
+
+-- an entry that was found, with the stretch that begins at its place
+pub reached_found : (layout : Layout) (words : List ℕ) (found : Option ℕ) (address place : ℕ) (s : Stretch) → found ≡ Some address → IfSome found (λ t. IsEntry layout words t place) → IfSome found (λ t. s.place ≡ place) → IsStretch layout words s
+    → IsReached layout words (record { address = address; stretch = s })
+reached_found layout words None address place s is entry at stretch = absurd (cc)
+reached_found layout words (Some t) address place s is entry at stretch =
+    let same : t ≡ address = cc in
+    record {
+      entry = λ some. let P : ℕ → Type 0 = λ a. IsEntry layout words a s.place in subst P same (subst (λ (v : ℕ). IsEntry layout words t v) (sym at) entry);
+      stretch = stretch;
+    }

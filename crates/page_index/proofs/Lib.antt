@@ -2,4 +2,3 @@ pub mod MapLaws
 pub mod EntryLaws
 pub mod ChangeLaws
 mod CursorLaws
-mod TestPage

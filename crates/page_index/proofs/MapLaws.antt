@@ -4,7 +4,7 @@ use Rattle.std.specs.Prelude.{◌≢◌, slice_index}
 use Rattle.std.proofs.lemmas.Bool.{cases_lt, cases_order}
 use Rattle.flash_model.specs.Pages.{page_words, blank}
 use Rattle.flash_model.proofs.PageLaws as pages
-use Rattle.flash_model.proofs.LoadedLaws.{get_or-many}
+use Rattle.list_parts.proofs.ManyLaws.{get_or-many}
 use Rattle.page_index.specs.Maps.{page_word, original_page, entry_count, address_of, place_of, IsFree, IsMap}
 use Rattle.page_index.specs.Entries.{Lists}
 

@@ -1,28 +1,35 @@
-//! The search for a place, for control that mostly goes on within one page.
+//! The search for a place, for control that mostly goes on within one page, or comes again.
 
-ghost use Rattle.std.specs.Prelude.{◌≡◌, ◌≢◌, ℕ, ◌/◌, ◌<◌, ◌≤◌, IfSome};
+ghost use Rattle.std.specs.Prelude.{◌≡◌, ◌≢◌, ℕ, ◌<◌, IfSome, IfNone};
 ghost use Rattle.flash_model.specs.Layouts.{IsRight};
-ghost use Rattle.page_index.specs.Maps.{IsPool, IsMap, entry_count, address_of, place_of};
 ghost use Rattle.page_index.specs.Entries.{IsEntry, IsMapped};
-ghost use Rattle.page_index.specs.Cursors.{IsCursor, IsCursorAnywhere};
+ghost use Rattle.page_index.specs.Cursors.{IsStretch, IsReached, IsCursor, IsCursorAnywhere};
 
-use crate::page::{FIRST_ENTRY, PAGE_WORDS, address_at, count_up_to, entries, is_free, place_at};
-use crate::pool::is_in_pool;
+use crate::stretch::Stretch;
 use flash_model::{Flash, Layout};
 
-/// Where the last search was, and how far behind it no other entry begins. [`Cursor::origin`] answers
-/// as [`origin`] does: without a search inside a template, and where control goes on to the next entry
-/// of the page. A cursor is right for one state of flash; where flash has changed, begin with a new one.
+/// How many entries are kept.
+const KEPT: usize = 256;
+
+/// An entry that control has reached.
+#[derive(Clone, Copy, Debug)]
+struct Reached {
+    /// The original address.
+    address: u16,
+    /// The stretch that begins at the entry's place, which is 0 where no entry is kept.
+    stretch: Stretch,
+}
+
+/// Where the last search was, and how far behind it no other entry begins; and entries that were reached
+/// before, by the last bits of their places. [`Cursor::origin`] answers as [`origin`] does: without a search
+/// inside a template, where control goes on to the next entry of the page, and at an entry that is kept. A
+/// cursor is right for one state of flash; where flash has changed, begin with a new one.
 ///
 /// [`origin`]: crate::origin
 #[derive(Clone, Copy, Debug)]
 pub struct Cursor {
-    /// Where the last search was.
-    place: u16,
-    /// No entry begins between `place` and here.
-    next: u16,
-    /// The map's word of the entry that begins at `next`; 0 where none is known.
-    listed: u16,
+    stretch: Stretch,
+    reached: [Reached; 256],
 }
 
 impl Cursor {
@@ -30,15 +37,19 @@ impl Cursor {
     pub fn new() -> Cursor
         ensures right { IsCursorAnywhere result }
     {
+        let none = Reached {
+            address: 0,
+            stretch: Stretch::new(),
+        };
         Cursor {
-            place: 0,
-            next: 0,
-            listed: 0,
+            stretch: Stretch::new(),
+            reached: [none; 256],
         }
     }
 
     /// The original address whose code begins at this place, a word address of flash; None where that
     /// is no entry's place.
+    #[inline(always)]
     pub fn origin(&mut self, flash: &Flash, layout: &Layout, place: u16) -> Option<u16>
         requires right { IsRight layout.now }
         requires mapped { IsMapped layout.now flash.now.words }
@@ -47,69 +58,57 @@ impl Cursor {
         ensures only { (t : ℕ) → IsEntry layout.now flash.now.words t place → result ≡ Some t }
         ensures cursor { IsCursor layout.now flash.now.words self.new }
     {
-        if self.place < place && place < self.next {
+        if self.stretch.place < place && place < self.stretch.next {
             return None;
         }
-        if self.listed != 0 && place == self.next {
-            return Some(self.go_on(flash, layout));
+        let kept = self.reached[slot(place)];
+        if place != 0 && kept.stretch.place == place {
+            self.stretch = kept.stretch;
+            return Some(kept.address);
         }
-        let page = place / PAGE_WORDS;
-        if !is_in_pool(layout, page) {
-            return None;
-        }
-        if is_free(flash, page) {
-            return None;
-        }
-        let behind = count_up_to(flash, page, place);
-        *self = before(flash, layout, page, place, behind);
-        if behind == 0 {
-            return None;
-        }
-        let last = behind - 1;
-        if place_at(flash, page, last) != place {
-            return None;
-        }
-        Some(address_at(flash, page, last))
+        self.find(flash, layout, place)
     }
 
-    /// Goes on to the next entry, and tells its original address.
-    fn go_on(&mut self, flash: &Flash, layout: &Layout) -> u16
+    /// The same at a place that isn't kept. An entry that is found is kept from then on.
+    #[inline(never)]
+    fn find(&mut self, flash: &Flash, layout: &Layout, place: u16) -> Option<u16>
         requires right { IsRight layout.now }
         requires mapped { IsMapped layout.now flash.now.words }
         requires cursor { IsCursor layout.now flash.now.words self.old }
-        requires listed { self.old.listed ≢ 0 }
-        ensures entry { IsEntry layout.now flash.now.words result self.old.next }
+        ensures found { IfSome result (λ t. IsEntry layout.now flash.now.words t place) }
+        ensures only { (t : ℕ) → IsEntry layout.now flash.now.words t place → result ≡ Some t }
         ensures cursor { IsCursor layout.now flash.now.words self.new }
     {
-        let page = self.listed / PAGE_WORDS;
-        let index = self.listed % PAGE_WORDS - FIRST_ENTRY;
-        *self = before(flash, layout, page, self.next, index + 1);
-        address_at(flash, page, index)
+        let mut stretch = self.stretch;
+        let found = follow(&mut stretch, flash, layout, place);
+        if let Some(address) = found {
+            self.reached[slot(place)] = Reached { address, stretch };
+        }
+        self.stretch = stretch;
+        found
     }
 }
 
-/// A cursor at a place of the page, of whose entries so many begin at most there.
-fn before(flash: &Flash, layout: &Layout, page: u16, place: u16, behind: u16) -> Cursor
+/// Which of those that are kept an entry at this place is.
+#[inline(always)]
+fn slot(place: u16) -> usize
+    ensures range { result < 256 }
+{
+    place as usize % KEPT
+}
+
+/// The next entry of the page, or what a search finds.
+fn follow(stretch: &mut Stretch, flash: &Flash, layout: &Layout, place: u16) -> Option<u16>
     requires right { IsRight layout.now }
     requires mapped { IsMapped layout.now flash.now.words }
-    requires pool { IsPool layout.now page }
-    requires map { IsMap flash.now.words page }
-    requires inside { place / 128 ≡ page }
-    requires most { behind ≤ entry_count flash.now.words page }
-    requires earlier { (i : ℕ) → i < behind → place_of flash.now.words page i ≤ place }
-    ensures cursor { IsCursor layout.now flash.now.words result }
+    requires stretch { IsStretch layout.now flash.now.words stretch.old }
+    ensures found { IfSome result (λ t. IsEntry layout.now flash.now.words t place) }
+    ensures only { (t : ℕ) → IsEntry layout.now flash.now.words t place → result ≡ Some t }
+    ensures stretch { IsStretch layout.now flash.now.words stretch.new }
+    ensures place { IfSome result (λ _. stretch.new.place ≡ place) }
 {
-    if behind < entries(flash, page) {
-        Cursor {
-            place,
-            next: place_at(flash, page, behind),
-            listed: PAGE_WORDS * page + (FIRST_ENTRY + behind),
-        }
-    } else {
-        Cursor {
-            place,
-            next: PAGE_WORDS * page + PAGE_WORDS,
-            listed: 0,
-        }
+    if stretch.listed != 0 && place == stretch.next {
+        return Some(stretch.go_on(flash, layout));
     }
+    stretch.search(flash, layout, place)
 }

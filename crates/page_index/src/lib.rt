@@ -4,7 +4,8 @@
 //! the original page, the number of entries, and one word an entry, which tells where in the original
 //! page an address lies and where in this page its code begins, its *place*. [`entry`] finds the place
 //! of an original address, [`origin`] the original address of a place, and [`free_page`] the lowest
-//! page that is free. Nothing is kept beside flash: each search reads the maps themselves.
+//! page that is free. Nothing has to be kept beside flash: each search reads the maps themselves. A
+//! [`Cursor`] keeps what was found, for one state of flash.
 //!
 //! `specs/Maps.antt` says what a map is, and `specs/Entries.antt` what an entry of the pool is and when
 //! a pool is mapped, which every search asks for. Laws for the layers above: what a map says of its
@@ -15,9 +16,7 @@
 mod cursor;
 mod page;
 mod pool;
+mod stretch;
 
 pub use cursor::Cursor;
 pub use pool::{entry, free_page, origin};
-
-#[cfg(test)]
-mod tests;

@@ -7,13 +7,13 @@ ghost use Rattle.page_index.specs.Entries.{Lists};
 use flash_model::Flash;
 
 /// The words of a page.
-pub const PAGE_WORDS: u16 = 128;
+pub(crate) const PAGE_WORDS: u16 = 128;
 
 /// A word of a page that is free.
 const BLANK: u16 = 0xFFFF;
 
 /// Where in a map its entries begin.
-pub const FIRST_ENTRY: u16 = 2;
+pub(crate) const FIRST_ENTRY: u16 = 2;
 
 /// An entry of a map.
 #[derive(Clone, Copy)]
@@ -25,7 +25,7 @@ struct MapEntry {
 }
 
 /// Whether the page is free: its first word tells, since no map begins with 0xFFFF.
-pub fn is_free(flash: &Flash, page: u16) -> bool
+pub(crate) fn is_free(flash: &Flash, page: u16) -> bool
     requires below_kernel { page < 480 }
     requires mapped { IsFree flash.now.words page ⊎ IsMap flash.now.words page }
     ensures value { IsTrue result ↔ IsFree flash.now.words page }
@@ -34,7 +34,7 @@ pub fn is_free(flash: &Flash, page: u16) -> bool
 }
 
 /// The place of the original address `t`, where this page has its entry.
-pub fn place_in(flash: &Flash, page: u16, t: u16) -> Option<u16>
+pub(crate) fn place_in(flash: &Flash, page: u16, t: u16) -> Option<u16>
     requires below_kernel { page < 480 }
     requires mapped { IsFree flash.now.words page ⊎ IsMap flash.now.words page }
     ensures found { IfSome result (λ v. (i : ℕ) × Lists flash.now.words page i t v) }
@@ -53,7 +53,7 @@ pub fn place_in(flash: &Flash, page: u16, t: u16) -> Option<u16>
 }
 
 /// The original address whose place is this, where this page has such an entry.
-pub fn address_in(flash: &Flash, page: u16, place: u16) -> Option<u16>
+pub(crate) fn address_in(flash: &Flash, page: u16, place: u16) -> Option<u16>
     requires below_kernel { page < 480 }
     requires mapped { IsFree flash.now.words page ⊎ IsMap flash.now.words page }
     ensures found { IfSome result (λ t. (i : ℕ) × Lists flash.now.words page i t place) }
@@ -72,7 +72,7 @@ pub fn address_in(flash: &Flash, page: u16, place: u16) -> Option<u16>
 }
 
 /// The number of the page's entries.
-pub fn entries(flash: &Flash, page: u16) -> u16
+pub(crate) fn entries(flash: &Flash, page: u16) -> u16
     requires below_kernel { page < 480 }
     requires map { IsMap flash.now.words page }
     ensures value { result ≡ entry_count flash.now.words page }
@@ -82,7 +82,7 @@ pub fn entries(flash: &Flash, page: u16) -> u16
 }
 
 /// The original address of entry `i` of the page.
-pub fn address_at(flash: &Flash, page: u16, i: u16) -> u16
+pub(crate) fn address_at(flash: &Flash, page: u16, i: u16) -> u16
     requires below_kernel { page < 480 }
     requires map { IsMap flash.now.words page }
     requires listed { i < entry_count flash.now.words page }
@@ -92,7 +92,7 @@ pub fn address_at(flash: &Flash, page: u16, i: u16) -> u16
 }
 
 /// The place of entry `i` of the page.
-pub fn place_at(flash: &Flash, page: u16, i: u16) -> u16
+pub(crate) fn place_at(flash: &Flash, page: u16, i: u16) -> u16
     requires below_kernel { page < 480 }
     requires map { IsMap flash.now.words page }
     requires listed { i < entry_count flash.now.words page }
@@ -102,7 +102,7 @@ pub fn place_at(flash: &Flash, page: u16, i: u16) -> u16
 }
 
 /// How many entries of the page begin at most at this place: places ascend, so the search halves.
-pub fn count_up_to(flash: &Flash, page: u16, place: u16) -> u16
+pub(crate) fn count_up_to(flash: &Flash, page: u16, place: u16) -> u16
     requires below_kernel { page < 480 }
     requires map { IsMap flash.now.words page }
     ensures most { result ≤ entry_count flash.now.words page }

@@ -57,7 +57,7 @@ pub fn free_page(flash: &Flash, layout: &Layout) -> Option<u16>
 }
 
 /// Whether the page is one of the pool.
-pub fn is_in_pool(layout: &Layout, page: u16) -> bool
+pub(crate) fn is_in_pool(layout: &Layout, page: u16) -> bool
     requires right { IsRight layout.now }
     ensures value { IsTrue result ↔ IsPool layout.now page }
 {

@@ -13,15 +13,12 @@
 #![tactic(auto)]
 
 ghost use Rattle.std.specs.Prelude.{◌≡◌, ◌≤◌};
-ghost use Rattle.avr_isa.specs.Crossing.{is_crossing as is_crossing_test};
 ghost use Rattle.sram_layout.specs.Bytes.{byte_at};
 ghost use Rattle.sram_layout.specs.Cells.{count_cell};
 ghost use Rattle.preempt_count.specs.Counting.{is_checkpoint, crossed};
 
+pub use avr_isa::is_crossing;
 use sram_layout::Sram;
-
-#[cfg(test)]
-mod tests;
 
 /// How many plain steps run at most between two kernel services, for each crossing of the quantum:
 /// between two crossings at most 128 instructions begin, and each takes at most 40 plain steps with the
@@ -48,11 +45,4 @@ pub fn cross(sram: &mut Sram, q: u8, pc: u16, t: u16) -> bool
         sram.set_count(count - 1);
         false
     }
-}
-
-/// Whether a step of the program from one word address to another is a crossing.
-pub fn is_crossing(from: u16, to: u16) -> bool
-    ensures value { result ≡ is_crossing_test from to }
-{
-    to <= from || to / 128 != from / 128
 }

@@ -29,6 +29,8 @@ unfolding first_word
 beginning_is = refl
 
 -- PORTA is the I/O register 0x1B, and the flag of BREQ is 1.
-ending_is : first_word (One Dec 24) ∷ first_word (Brbs 1 (pos 2)) ∷ first_word (Jmp 1) ∷ 1 ∷ first_word (OutIo 0x1B 16) ∷ first_word (OutIo 0x1B 17) ∷ first_word (OutIo 0x1B 18) ∷ first_word (OutIo 0x1B 19) ∷ first_word (OutIo 0x1B 20) ∷ first_word (OutIo 0x1B 21) ∷ first_word (OutIo 0x1B 22) ∷ first_word (OutIo 0x1B 23) ∷ first_word (Rjmp (negsuc 0)) ∷ [] ≡ ending
+ending_is : first_word (One Dec 24) ∷ first_word (Brbs 1 (pos 2)) ∷ first_word (Jmp 1) ∷ 1 ∷ first_word (OutIo 0x1B 16) ∷ first_word (OutIo 0x1B 17)
+    ∷ first_word (OutIo 0x1B 18) ∷ first_word (OutIo 0x1B 19) ∷ first_word (OutIo 0x1B 20) ∷ first_word (OutIo 0x1B 21) ∷ first_word (OutIo 0x1B 22)
+    ∷ first_word (OutIo 0x1B 23) ∷ first_word (Rjmp (negsuc 0)) ∷ [] ≡ ending
 unfolding first_word
 ending_is = refl

@@ -23,7 +23,7 @@ unfoldable pub words_from : (x n : ℕ) → List ℕ
 words_from x zero = []
 words_from x (suc n) = first_word (instruction_of (next x)) ∷ words_from (next x) n
 
--- back to word 1 while r24, counted down, isn't 0; then r16 to r23 at PORTA, and a jump to itself
+-- back to word 1 while r24, counted down, isn't 0; then r16 to r23 at PORTA, and an RJMP to its own address
 abbrev pub ending : List ℕ
 ending =
     0x958A ∷  -- DEC r24

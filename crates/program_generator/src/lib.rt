@@ -8,7 +8,7 @@
 //!
 //! The program of seed 7 begins `LDI r24,200`, `ADD r21,r16`, `INC r17`, `SUB r20,r20`. It goes 200 times
 //! through the same 8,000 instructions, each an ADD, EOR, SUB or INC of the registers r16 to r23, then
-//! writes r16 to r23 to PORTA, and stays at a jump to itself. A sequence of numbers chooses the 8,000:
+//! writes r16 to r23 to PORTA, and stays at an RJMP to its own address. A sequence of numbers chooses the 8,000:
 //! the seed, which itself chooses none, is followed by itself times 1,664,525 plus 1,013,904,223 modulo
 //! 2 to the 32, that number by the next in the same way, and so on. Of a number the two highest bits say
 //! which operation it is, and two bytes which registers. `specs/Generated` has the program of each seed.
@@ -23,9 +23,6 @@ use avr_isa::{Form, Instr, OneOp, Reg, TwoOp};
 use hex_image::Image;
 use std::alloc::{AllocError, Global};
 use tk_io::NoMemory;
-
-#[cfg(test)]
-mod tests;
 
 // How many words a program has.
 const LENGTH: usize = 8014;

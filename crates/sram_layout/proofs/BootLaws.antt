@@ -1,18 +1,11 @@
 -- What SRAM holds at boot, byte by byte.
-use Rattle.std.proofs.Common.{◌≡◌, ℕ, ◌-◌, ◌<◌, ◌≤◌, ◌⊎◌, length, get_or, arith, ◌∙◌}
-use Rattle.std.proofs.lemmas.List.{length-replicate, get_or-replicate}
-use Rattle.sram_layout.specs.Bytes.{byte_count, many, byte_at}
+use Rattle.std.proofs.Common.{◌≡◌, ℕ, ◌-◌, ◌<◌, ◌≤◌, ◌⊎◌, length, arith, ◌∙◌}
+use Rattle.sram_layout.specs.Bytes.{byte_count, byte_at}
+use Rattle.list_parts.specs.Lists.{many}
 use Rattle.sram_layout.specs.Cells.{slot_cell}
 use Rattle.sram_layout.specs.Boot.{at_boot}
+use Rattle.list_parts.proofs.ManyLaws.{length-many, get_or-many}
 use Rattle.sram_layout.proofs.Laws.{length-with_block, byte_in_block, byte_out_of_block}
-
-length-many : (n b : ℕ) → length (many n b) ≡ n
-unfolding many
-length-many n b = length-replicate n b
-
-get_or-many : (n b k : ℕ) → k < n → get_or (many n b) k 0 ≡ b
-unfolding many
-get_or-many n b k below = get_or-replicate n k b 0 below
 
 pub length-at_boot : length at_boot ≡ byte_count
 unfolding at_boot

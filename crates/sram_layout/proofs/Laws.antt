@@ -2,8 +2,8 @@
 use Rattle.std.proofs.Common.{◌≡◌, ℕ, ◌+◌, ◌-◌, ◌*◌, ◌/◌, ◌%◌, ◌<◌, ◌≤◌, ◌⊎◌, List, length, get_or, arith, ap, ap₂, ◌∙◌, sym, inl, inr}
 use Rattle.std.specs.Prelude.{◌≢◌, slice_index}
 use Rattle.std.proofs.lemmas.List.{length-set, get_or-set_same, get_or-set_other}
-use Rattle.sram_layout.specs.Bytes.{byte_at, with_byte, word_at, with_word, block_at, with_block}
-use Rattle.sram_layout.proofs.Pieces.{length-replaced, replaced_in, replaced_below, replaced_above, part_replaced, same_part, part_item, length-part}
+use Rattle.sram_layout.specs.Bytes.{byte_at, with_byte, data_word_at, with_word, block_at, with_block}
+use Rattle.list_parts.proofs.Pieces.{length-replaced, replaced_in, replaced_below, replaced_above, part_replaced, same_part, part_item, length-part}
 
 -- the length stays
 pub length-with_byte : (m : List ℕ) (a v : ℕ) → length (with_byte m a v) ≡ length m
@@ -40,8 +40,8 @@ word_high m a w from to =
     byte_same (with_byte m a (w % 256)) (a + 1) (w / 256) (omega arith) (omega (arith, length-with_byte m a (w % 256)))
 
 -- a word that was written
-pub word_same : (m : List ℕ) (a w : ℕ) → 256 ≤ a → a + 1 < 256 + length m → word_at (with_word m a w) a ≡ w
-unfolding word_at
+pub word_same : (m : List ℕ) (a w : ℕ) → 256 ≤ a → a + 1 < 256 + length m → data_word_at (with_word m a w) a ≡ w
+unfolding data_word_at
 word_same m a w from to = ap₂ (λ low high. low + 256 * high) (word_low m a w from to) (word_high m a w from to) ∙ omega arith
 
 -- a byte outside a word that was written
@@ -51,12 +51,12 @@ byte_out_of_word m a b w from from' apart apart' =
     byte_other (with_byte m a (w % 256)) (a + 1) b (w / 256) (omega arith) from' apart' ∙ byte_other m a b (w % 256) from from' apart
 
 -- a word of which no byte was written
-pub word_out_of_byte : (m : List ℕ) (a b v : ℕ) → 256 ≤ a → 256 ≤ b → b ≢ a → b + 1 ≢ a → word_at (with_byte m a v) b ≡ word_at m b
-unfolding word_at
+pub word_out_of_byte : (m : List ℕ) (a b v : ℕ) → 256 ≤ a → 256 ≤ b → b ≢ a → b + 1 ≢ a → data_word_at (with_byte m a v) b ≡ data_word_at m b
+unfolding data_word_at
 word_out_of_byte m a b v from from' apart apart' =
     ap₂ (λ low high. low + 256 * high) (byte_other m a b v from from' apart) (byte_other m a (b + 1) v from (omega arith) apart')
 
-pub word_other : (m : List ℕ) (a b w : ℕ) → 256 ≤ a → 256 ≤ b → (b + 2 ≤ a) ⊎ (a + 2 ≤ b) → word_at (with_word m a w) b ≡ word_at m b
+pub word_other : (m : List ℕ) (a b w : ℕ) → 256 ≤ a → 256 ≤ b → (b + 2 ≤ a) ⊎ (a + 2 ≤ b) → data_word_at (with_word m a w) b ≡ data_word_at m b
 unfolding with_word
 word_other m a b w from from' apart =
     word_out_of_byte (with_byte m a (w % 256)) (a + 1) b (w / 256) (omega arith) from' (λ same. omega arith) (λ same. omega arith) ∙ word_out_of_byte m a b (w % 256) from from' (λ same. omega arith) (λ same. omega arith)
@@ -76,8 +76,8 @@ byte_out_of_block m new a b fits from inside from' outside = elim outside [
 ]
 
 -- a word outside
-pub word_out_of_block : (m new : List ℕ) (a b : ℕ) → length new ≡ 256 → 256 ≤ a → a ≤ length m → 256 ≤ b → (b + 2 ≤ a) ⊎ (a + 256 ≤ b) → word_at (with_block m a new) b ≡ word_at m b
-unfolding word_at
+pub word_out_of_block : (m new : List ℕ) (a b : ℕ) → length new ≡ 256 → 256 ≤ a → a ≤ length m → 256 ≤ b → (b + 2 ≤ a) ⊎ (a + 256 ≤ b) → data_word_at (with_block m a new) b ≡ data_word_at m b
+unfolding data_word_at
 word_out_of_block m new a b fits from inside from' outside =
     let low : (b < a) ⊎ (a + 256 ≤ b) = elim outside [ inl below ↦ inl (omega arith) | inr above ↦ inr above ] in
     let high : (b + 1 < a) ⊎ (a + 256 ≤ b + 1) = elim outside [ inl below ↦ inl (omega arith) | inr above ↦ inr (omega arith) ] in

@@ -1,4 +1,3 @@
-mod Pieces
 pub mod Laws
 pub mod CellLaws
 pub mod BootLaws

@@ -1,6 +1,6 @@
 -- Bytes, words and blocks of the internal SRAM, seen as the list of its 4,096 bytes, and what a write of each leaves.
 -- An address is a data address (ATmega128 datasheet, "AVR ATmega128 Memories", SRAM data memory): the SRAM begins at 0x0100.
-use Rattle.std.specs.Prelude.{ℕ, ◌+◌, ◌-◌, ◌*◌, ◌/◌, ◌%◌, List, ◌++◌, take, drop, slice_index, slice_set, replicate}
+use Rattle.std.specs.Prelude.{ℕ, ◌+◌, ◌-◌, ◌*◌, ◌/◌, ◌%◌, List, ◌++◌, take, drop, slice_index, slice_set}
 
 -- the data address of the first byte
 abbrev pub first_address : ℕ
@@ -9,10 +9,6 @@ first_address = 0x0100
 -- how many bytes there are
 abbrev pub byte_count : ℕ
 byte_count = 4096
-
--- n bytes that are all b
-unfoldable pub many : ℕ → ℕ → List ℕ
-many n b = replicate n b
 
 -- the byte at address a
 unfoldable pub byte_at : List ℕ → ℕ → ℕ
@@ -23,8 +19,8 @@ unfoldable pub with_byte : List ℕ → ℕ → ℕ → List ℕ
 with_byte m a b = slice_set m (a - first_address) b
 
 -- the word at address a, its low byte first
-unfoldable pub word_at : List ℕ → ℕ → ℕ
-word_at m a = byte_at m a + 256 * byte_at m (a + 1)
+unfoldable pub data_word_at : List ℕ → ℕ → ℕ
+data_word_at m a = byte_at m a + 256 * byte_at m (a + 1)
 
 -- m with the word w at address a, its low byte first
 unfoldable pub with_word : List ℕ → ℕ → ℕ → List ℕ

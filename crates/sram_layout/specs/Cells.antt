@@ -1,7 +1,7 @@
 -- Where the kernel keeps its cells and tables in SRAM: the profile's map of 0x0100 to 0x04FF, as data addresses.
 -- A word cell and each word of a table entry have their low byte first, as AVR code stores them.
 use Rattle.std.specs.Prelude.{ℕ, ◌+◌, ◌*◌, List}
-use Rattle.sram_layout.specs.Bytes.{word_at, with_word, byte_at, with_byte}
+use Rattle.sram_layout.specs.Bytes.{data_word_at, with_word, byte_at, with_byte}
 
 -- COUNT: crossings left before the next checkpoint
 abbrev pub count_cell : ℕ
@@ -22,6 +22,10 @@ vsp_cell = 0x0103
 -- Z0 and Z1: the program's Z pointer while a template uses r31:r30, a word
 abbrev pub z_cell : ℕ
 z_cell = 0x0105
+
+-- the stack pointer where the kernel's own stack is empty: its two bytes are this one and the one below
+abbrev pub kernel_stack_top : ℕ
+kernel_stack_top = 0x011F
 
 -- entry i of the frame table, four bytes: page, state, 0, 0
 abbrev pub frame_cell : ℕ → ℕ
@@ -57,7 +61,7 @@ with_frame m a page state = with_byte (with_byte m a page) (a + 1) state
 
 -- the two words of a table entry at address a: original address and place
 abbrev pub entry_at : List ℕ → ℕ → ℕ × ℕ
-entry_at m a = (word_at m a, word_at m (a + 2))
+entry_at m a = (data_word_at m a, data_word_at m (a + 2))
 
 -- m with these two words in the table entry at address a
 abbrev pub with_entry : List ℕ → ℕ → ℕ → ℕ → List ℕ

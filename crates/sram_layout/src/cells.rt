@@ -1,10 +1,13 @@
 //! The kernel's cells of one byte or one word.
 
 ghost use Rattle.std.specs.Prelude.{◌≡◌, length};
-ghost use Rattle.sram_layout.specs.Bytes.{byte_count, byte_at, with_byte, word_at, with_word};
+ghost use Rattle.sram_layout.specs.Bytes.{byte_count, byte_at, with_byte, data_word_at, with_word};
 ghost use Rattle.sram_layout.specs.Cells.{count_cell, r24_cell, sreg_cell, vsp_cell, z_cell, victim_cell, given_cell};
 
 use crate::sram::Sram;
+
+/// The stack pointer where the kernel's own stack is empty: its two bytes are this one and the one below.
+pub const KERNEL_STACK_TOP: u16 = 0x011F;
 
 const COUNT: u16 = 0x0100;
 
@@ -71,7 +74,7 @@ impl Sram {
 
     /// The program's stack pointer.
     pub fn vsp(&self) -> u16
-        ensures value { result ≡ word_at self.now vsp_cell }
+        ensures value { result ≡ data_word_at self.now vsp_cell }
         ensures size { length self.now ≡ byte_count }
     {
         self.word(VSP)
@@ -87,7 +90,7 @@ impl Sram {
 
     /// The program's Z pointer while a template uses r31:r30.
     pub fn z(&self) -> u16
-        ensures value { result ≡ word_at self.now z_cell }
+        ensures value { result ≡ data_word_at self.now z_cell }
         ensures size { length self.now ≡ byte_count }
     {
         self.word(Z)

@@ -13,7 +13,5 @@ mod cells;
 mod sram;
 mod tables;
 
+pub use cells::KERNEL_STACK_TOP;
 pub use sram::Sram;
-
-#[cfg(test)]
-mod tests;

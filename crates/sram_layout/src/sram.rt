@@ -1,7 +1,8 @@
 //! The bytes, and what is read and written of them in one piece.
 
 ghost use Rattle.std.specs.Prelude.{◌≡◌, ◌+◌, ◌-◌, ◌≤◌, ◌<◌, length};
-ghost use Rattle.sram_layout.specs.Bytes.{byte_count, many, byte_at, with_byte, word_at, with_word, block_at, with_block};
+ghost use Rattle.sram_layout.specs.Bytes.{byte_count, byte_at, with_byte, data_word_at, with_word, block_at, with_block};
+ghost use Rattle.list_parts.specs.Lists.{many};
 ghost use Rattle.sram_layout.specs.Boot.{at_boot};
 
 use std::marker::Model;
@@ -84,10 +85,10 @@ impl Sram {
     }
 
     /// The word at a data address, low byte first.
-    #[tactic(auto, unfolding(crate::specs::Bytes::word_at))]
+    #[tactic(auto, unfolding(crate::specs::Bytes::data_word_at))]
     pub(crate) fn word(&self, a: u16) -> u16
         requires { (0x0100 ≤ a) × (a < 0x10FF) }
-        ensures value { result ≡ word_at self.now a }
+        ensures value { result ≡ data_word_at self.now a }
         ensures size { length self.now ≡ byte_count }
     {
         u16::from(self.byte(a + 1)) * 256 + u16::from(self.byte(a))
@@ -105,14 +106,14 @@ impl Sram {
     }
 }
 
-#[tactic(auto, unfolding(crate::specs::Bytes::many))]
+#[tactic(auto, unfolding(list_parts::specs::Lists::many))]
 fn zeros() -> [u8; 4096]
     ensures value { result ≡ many byte_count 0 }
 {
     [0; 4096]
 }
 
-#[tactic(auto, unfolding(crate::specs::Bytes::many))]
+#[tactic(auto, unfolding(list_parts::specs::Lists::many))]
 fn no_slots() -> [u8; 256]
     ensures value { result ≡ many 256 0xFF }
 {

@@ -6,7 +6,7 @@ use Rattle.avr_isa.specs.declared.form.Form.{Form}
 use Rattle.avr_flags.specs.Status.{has_bit, interrupts}
 use Rattle.avr_exec.specs.declared.cpu.Cpu.{Cpu}
 use Rattle.avr_exec.specs.declared.stop.BusStop.{BusStop}
-use Rattle.avr_exec.specs.Registers.{raised}
+use Rattle.avr_exec.specs.Registers.{wrapping_sum}
 use Rattle.avr_exec.specs.Execution.{is_executed}
 use Rattle.avr_exec.specs.Spaces.{Outcome, Went as WentOn, Stopped as StoppedOn}
 use Rattle.sram_layout.specs.Bytes.{byte_at, with_word}
@@ -40,7 +40,7 @@ use Rattle.step_laws.proofs.Executed.{end_stop, flat_put, kept_of, executed_at, 
 use Rattle.step_laws.specs.declared.moves.End.TheVariants as ends
 use Rattle.step_laws.specs.Numbers.{moved}
 use Rattle.avr_decode.specs.Program.{instruction_at}
-use Rattle.kernel_entry.specs.Parts.{core_of, descriptor, image_of, memory_of, rested, return_address}
+use Rattle.kernel_entry.specs.Parts.{core_of, descriptor, memory_of, rested, return_address, image_held}
 use Rattle.kernel_entry.specs.Services.{resumed, resumed_by, served, stop_of, if_instruction, execution, execution_by}
 use Rattle.kernel_entry.specs.Conditions.{CanExecute, CanServe, shape_behind}
 use Rattle.preempt_count.specs.Counting.{count_over}
@@ -64,7 +64,7 @@ pub record IsAsked (x : State) (a : ℕ) (ram : List ℕ) (back entry : ℕ) : T
   pub count : byte_at (pushed ram back) 0x0100 ≡ byte_at (mote_of x).sram 0x0100
   pub pointer : byte_at (pushed ram back) 0x0103 < 256
   pub tables : (b : ℕ) → 0x0142 ≤ b → b < 0x0400 → byte_at (pushed ram back) b ≡ byte_at (mote_of x).sram b
-  pub shape : shape_behind (asked x ram back entry) ≡ shape_at (image_of x.kernel) a
+  pub shape : shape_behind (asked x ram back entry) ≡ shape_at (image_held x.kernel) a
   pub can : CanExecute (asked x ram back entry)
 
 -- A first plain move and `more` others led there.
@@ -109,7 +109,7 @@ stop_asked links x a v ram back entry more stop s c can is stops =
 abbrev pub RunsOn : Kernel → ℕ → Form → Type 0
 RunsOn k a form = jumps_to_itself a form && not (has_bit k.mote.cpu.sreg interrupts) ≡ false
 
-pub bus_stops_asked : (x : State) (a : ℕ) (ram : List ℕ) (back entry more : ℕ) (form : Form) (stop : BusStop) → Asked x a ram back entry more → instruction_at (image_of x.kernel) a ≡ Some form → is_executed form ≡ true → RunsOn x.kernel a form
+pub bus_stops_asked : (x : State) (a : ℕ) (ram : List ℕ) (back entry more : ℕ) (form : Form) (stop : BusStop) → Asked x a ram back entry more → instruction_at (image_held x.kernel) a ≡ Some form → is_executed form ≡ true → RunsOn x.kernel a form
     → executed_at (asked x ram back entry) a form ≡ StoppedOn stop → (s c : ℕ) → tried (program x.kernel) (state_at x.kernel a s c) ≡ Stops (end_of (stop_of a stop))
 bus_stops_asked x a ram back entry more form stop c is runs apart stopped n m =
     let kc = asked x ram back entry in
@@ -119,19 +119,19 @@ bus_stops_asked x a ram back entry more form stop c is runs apart stopped n m =
 
 -- the service goes on behind the descriptor
 pub resume_asked : (links : Links) (x : State) (a v : ℕ) (ram : List ℕ) (back entry more to : ℕ) (form : Form) (cpu : Cpu) (g : Guarded) → IsSetting links x a v → Asked x a ram back entry more → CanServe (asked x ram back entry)
-    → instruction_at (image_of x.kernel) a ≡ Some form → is_executed form ≡ true → RunsOn x.kernel a form → executed_at (asked x ram back entry) a form ≡ WentOn cpu g → cpu.pc ≡ to
-    → served (asked x ram back entry) ≡ (answers.Resume g.line, returned (asked x ram back entry) cpu g (raised back 1))
-    → (let z : State = record { kernel = returned (asked x ram back entry) cpu g (raised back 1); owed = None; end = None } in IsRunning z → IsIdle z.kernel → Onward 0 links z to (count_over x.kernel.quantum a to (byte_at (mote_of z).sram 0x0100)) (is_crossing a to)) → StepLaw links x a
+    → instruction_at (image_held x.kernel) a ≡ Some form → is_executed form ≡ true → RunsOn x.kernel a form → executed_at (asked x ram back entry) a form ≡ WentOn cpu g → cpu.pc ≡ to
+    → served (asked x ram back entry) ≡ (answers.Resume g.line, returned (asked x ram back entry) cpu g (wrapping_sum back 1))
+    → (let z : State = record { kernel = returned (asked x ram back entry) cpu g (wrapping_sum back 1); owed = None; end = None } in IsRunning z → IsIdle z.kernel → Onward 0 links z to (count_over x.kernel.quantum a to (byte_at (mote_of z).sram 0x0100)) (is_crossing a to)) → StepLaw links x a
 unfolding lines_of
 resume_asked links x a v ram back entry more to form cpu g s c can is runs apart went pc answer ahead =
     let k = x.kernel in
-    let image = image_of k in
+    let image = image_held k in
     let kc = asked x ram back entry in
     let y = asked_of x ram back entry in
     let kept : IsKept (memory_of kc) g = kept_of kc a form cpu g c.state.can.paged went in
     let size' : length g.sram ≡ 4096 = kept.paged.sized.sram in
-    let z1 : State = record { kernel = returned kc cpu g (raised back 1); owed = None; end = None } in
-    let served' : Makes y (Serve g.line false) z1 = serve_by y (answers.Resume g.line, returned kc cpu g (raised back 1)) (record { free = s.ready.running.free; going = s.ready.running.going; room = s.ready.running.room }) can answer in
+    let z1 : State = record { kernel = returned kc cpu g (wrapping_sum back 1); owed = None; end = None } in
+    let served' : Makes y (Serve g.line false) z1 = serve_by y (answers.Resume g.line, returned kc cpu g (wrapping_sum back 1)) (record { free = s.ready.running.free; going = s.ready.running.going; room = s.ready.running.room }) can answer in
     let count' : byte_at (with_word g.sram vsp_cell cpu.sp) 0x0100 ≡ byte_at k.mote.sram 0x0100 = byte_out_of_word g.sram vsp_cell 0x0100 cpu.sp (omega arith) (omega arith) (λ e. omega arith) (λ e. omega arith) ∙ kept.cells 0x0100 (omega arith) (omega arith) ∙ c.state.count in
     let pointer' : byte_at (with_word g.sram vsp_cell cpu.sp) 0x0103 < 256 = omega (arith, word_low g.sram vsp_cell cpu.sp (omega arith) (omega arith)) in
     let some = s.ready.idle.some in
@@ -147,7 +147,7 @@ resume_asked links x a v ram back entry more to form cpu g s c can is runs apart
     let goes : P cpu.pc = λ n m.
     ap (tried (program k)) (sym (c.state.sees a n m))
     ∙ guarded_goes (memory_of kc) g (core_of kc a) cpu n m form c.state.can.paged refl is runs apart went
-    ∙ ap (Goes g.line) (sym (flat_put kc cpu g (raised back 1) (n + 1) (crossings_over a cpu.pc m) size') ∙ sym (flat_same z1.kernel end.kernel cpu.pc (n + 1) (crossings_over a cpu.pc m) on.left.same)) in
+    ∙ ap (Goes g.line) (sym (flat_put kc cpu g (wrapping_sum back 1) (n + 1) (crossings_over a cpu.pc m) size') ∙ sym (flat_same z1.kernel end.kernel cpu.pc (n + 1) (crossings_over a cpu.pc m) on.left.same)) in
     let ms = Serve g.line false ∷ on.moves in
     record {
       end = end;
@@ -184,18 +184,18 @@ resume_asked links x a v ram back entry more to form cpu g s c can is runs apart
 
 -- the answer, by the outcome of the execution
 abbrev pub resumed_to : Kernel → (back a : ℕ) → Outcome Guarded Cpu → Served × Kernel
-resumed_to k back a (WentOn cpu g) = (answers.Resume g.line, returned k cpu g (raised back 1))
+resumed_to k back a (WentOn cpu g) = (answers.Resume g.line, returned k cpu g (wrapping_sum back 1))
 resumed_to k back a (StoppedOn stop) = (answers.Stopped (stop_of a stop), rested k)
 
 resumed_by_is : (k : Kernel) (back a : ℕ) (o : Outcome Guarded Cpu) → return_address k ≡ back → descriptor k ≡ a → resumed_by k (execution_by k o).0 (execution_by k o).1 ≡ resumed_to k back a o
-resumed_by_is k back a (WentOn cpu g) address behind = ap (λ b. (answers.Resume g.line, returned k cpu g (raised b 1))) address
+resumed_by_is k back a (WentOn cpu g) address behind = ap (λ b. (answers.Resume g.line, returned k cpu g (wrapping_sum b 1))) address
 resumed_by_is k back a (StoppedOn stop) address behind = ap (λ w. (answers.Stopped (stop_of w stop), rested k)) behind
 
-pub resumed_is : (k : Kernel) (back a : ℕ) (form : Form) (o : Outcome Guarded Cpu) → return_address k ≡ back → descriptor k ≡ a → instruction_at (image_of k) a ≡ Some form → executed_at k a form ≡ o
+pub resumed_is : (k : Kernel) (back a : ℕ) (form : Form) (o : Outcome Guarded Cpu) → return_address k ≡ back → descriptor k ≡ a → instruction_at (image_held k) a ≡ Some form → executed_at k a form ≡ o
     → resumed k ≡ resumed_to k back a o
 unfolding resumed
 resumed_is k back a form o address behind is done =
-    ap (λ i. if_instruction k i (λ form. resumed_by k (execution k form).0 (execution k form).1)) (ap (instruction_at (image_of k)) behind ∙ is)
+    ap (λ i. if_instruction k i (λ form. resumed_by k (execution k form).0 (execution k form).1)) (ap (instruction_at (image_held k)) behind ∙ is)
     ∙ ap (λ o. resumed_by k (execution_by k o).0 (execution_by k o).1) (executed_is k a form behind ∙ done)
     ∙ resumed_by_is k back a o address behind
 

@@ -11,13 +11,13 @@ use Rattle.step_laws.specs.Bounds.{KeepBounds, EndBounds}
 use Rattle.step_laws.proofs.NumberLaws.{natural_is, entries_is, since_bound, longest_bound, pages_inner, steps_inner}
 
 -- a step that is no crossing goes up within its page
-not_crossing : (from to : ℕ) → is_crossing from to ≡ false → (from < to) × (to / 128 ≡ from / 128)
+pub not_crossing : (from to : ℕ) → is_crossing from to ≡ false → (from < to) × (to / 128 ≡ from / 128)
 not_crossing from to is = (grind (arith, nat_tests), grind (arith, nat_tests))
 
 is_one : (count : ℕ) → (count == 1) ≡ true → count ≡ 1
 is_one count is = grind (arith, nat_tests)
 
-not_one : (count : ℕ) → (count == 1) ≡ false → count ≢ 1
+pub not_one : (count : ℕ) → (count == 1) ≡ false → count ≢ 1
 not_one count more = grind (arith, nat_tests)
 
 within_by : (quantum count from to since since' : ℕ) (b c : Bool) → is_crossing from to ≡ b → (count == 1) ≡ c → 1 ≤ count → count ≤ quantum → since ≤ 40 * (128 * (quantum - count) + from % 128) → since' ≤ since + 40
@@ -40,7 +40,7 @@ within_on quantum count from to since since' some most within few reset = within
 longest_on : (quantum count at since : ℕ) → 1 ≤ count → count ≤ quantum → since ≤ 40 * (128 * (quantum - count) + at % 128) → since + 40 ≤ 5120 * quantum
 longest_on quantum count at since some most within = omega arith
 
-at_most_one : (b : Bool) (crossings steps steps' : ℕ) → crossings ≤ steps → steps' ≡ steps + 1 → (if b then crossings + 1 else crossings) ≤ steps'
+pub at_most_one : (b : Bool) (crossings steps steps' : ℕ) → crossings ≤ steps → steps' ≡ steps + 1 → (if b then crossings + 1 else crossings) ≤ steps'
 at_most_one true crossings steps steps' few more = omega arith
 at_most_one false crossings steps steps' few more = omega arith
 

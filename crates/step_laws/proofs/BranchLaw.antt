@@ -6,14 +6,14 @@ use Rattle.avr_isa.specs.Encoding.{first_word, second_word}
 use Rattle.avr_isa.specs.Instruction.{is_valid, fields_in_range, is_undefined, size_of}
 use Rattle.avr_isa.specs.declared.form.Form.{Form}
 use Rattle.avr_isa.specs.declared.form.Form.TheVariants as forms
-use Rattle.avr_isa.specs.IoTable.{can_read, can_write, data_address}
+use Rattle.avr_isa.specs.IoTable.{can_read, can_write, io_address}
 use Rattle.avr_decode.specs.Decoding.{the_form}
-use Rattle.avr_decode.proofs.Decoded.{the_form_only}
+use Rattle.avr_decode.proofs.Decoded.{the_form_only, valid_at}
 use Rattle.avr_decode.proofs.Lengths.{the_form-size}
 use Rattle.avr_flags.specs.Status.{has_bit}
 use Rattle.avr_exec.specs.declared.ask.Ask.TheVariants as asks
 use Rattle.avr_exec.specs.declared.answer.Answer.TheVariants.{Done}
-use Rattle.avr_exec.specs.Registers.{relative, raised, with_counter}
+use Rattle.avr_exec.specs.Registers.{relative, wrapping_sum, with_counter}
 use Rattle.avr_exec.specs.Asks.{ask_of}
 use Rattle.avr_exec.specs.Effects.{finish_of}
 use Rattle.avr_exec.specs.Execution.{is_executed}
@@ -33,11 +33,11 @@ use Rattle.step_laws.specs.Links.{Links}
 use Rattle.step_laws.specs.StepLaws.{ShapeLaw, StepLaw}
 use Rattle.step_laws.specs.States.{State, mote_of}
 use Rattle.step_laws.proofs.ForkLaw.{fork_law}
-use Rattle.step_laws.proofs.CodeLaws.{form_of_shape, valid_at, setting_short, image_words}
+use Rattle.step_laws.proofs.CodeLaws.{form_of_shape, setting_short, image_words}
 use Rattle.step_laws.proofs.JumpLaw.{jump_tried}
 use Rattle.avr_decode.specs.Program.{instruction_at}
 use Rattle.step_laws.proofs.Stretches.{stretch_of}
-use Rattle.kernel_entry.specs.Parts.{core_of, image_of}
+use Rattle.kernel_entry.specs.Parts.{core_of, image_held}
 use Rattle.step_laws.proofs.PlainMoves.{form_there, quiet_nothing}
 use Rattle.step_laws.proofs.ShapeTests.{not_chosen, not_io}
 
@@ -47,16 +47,16 @@ short_valid true true h = h
 short_valid true false h = absurd (cc)
 short_valid false q h = absurd (cc)
 
-branch_by : (links : Links) (x : State) (a v : ℕ) (form short : Form) (far : Bool) (t : ℕ) → IsSetting links x a v → shape_at (image_of x.kernel) a ≡ Branch → instruction_at (image_of x.kernel) a ≡ Some form
+branch_by : (links : Links) (x : State) (a v : ℕ) (form short : Form) (far : Bool) (t : ℕ) → IsSetting links x a v → shape_at (image_held x.kernel) a ≡ Branch → instruction_at (image_held x.kernel) a ≡ Some form
     → size_of form ≡ 1 → target_of a (Some form) ≡ t → short_branch (Some form) ≡ first_word short → IsTrue (is_valid short) → second_word short ≡ None
     → is_executed form ≡ true → is_executed short ≡ true → jumps_to_itself a form ≡ false → ask_of form (core_of x.kernel a) ≡ asks.Nothing → ask_of short (mote_of x).cpu ≡ asks.Nothing
-    → ((n : ℕ) → finish_of form (core_of x.kernel a) n Done ≡ core_of x.kernel (if far then t else raised a 1))
-    → ((n : ℕ) → finish_of short (mote_of x).cpu n Done ≡ with_counter (mote_of x).cpu (if far then relative (mote_of x).cpu.pc (pos 1) else raised (mote_of x).cpu.pc 1)) → StepLaw links x a
+    → ((n : ℕ) → finish_of form (core_of x.kernel a) n Done ≡ core_of x.kernel (if far then t else wrapping_sum a 1))
+    → ((n : ℕ) → finish_of short (mote_of x).cpu n Done ≡ with_counter (mote_of x).cpu (if far then relative (mote_of x).cpu.pc (pos 1) else wrapping_sum (mote_of x).cpu.pc 1)) → StepLaw links x a
 unfolding template_by relative
 branch_by links x a v form short far t s shape is one target first valid none runs runs' apart asks asks' after after' =
     let k = x.kernel in
     let m = k.mote in
-    let image = image_of k in
+    let image = image_held k in
     let words = m.flash.words in
     let inside = s.code.inside in
     let short' = setting_short x s.ready.bounded.right in
@@ -72,9 +72,9 @@ branch_by links x a v form short far t s shape is one target first valid none ru
     let meant : the_form (first_word short) w ≡ Some short = the_form_only short (first_word short) w valid (record { opcode = refl; address = subst (λ (o : Option ℕ). MatchOption o ⊤ (λ b. w ≡ b)) (sym none) tt }) in
     let form' : form_at_mote m ≡ Some short = form_there m m.cpu.pc (first_word short) w (Some short) (ap (word_at words) s.at ∙ stands.0, refl, omega arith) meant in
     let long : size_of form ≡ size_at image a = the_form-size (word image a) (word image ((a + 1) % 65536)) form ((image_words x.kernel s.ready.bounded) a) is in
-    let next : raised a 1 ≡ next_of image a = omega arith in
+    let next : wrapping_sum a 1 ≡ next_of image a = omega arith in
     let there : relative m.cpu.pc (pos 1) ≡ v + 2 = omega arith in
-    let there' : raised m.cpu.pc 1 ≡ v + 1 = omega arith in
+    let there' : wrapping_sum m.cpu.pc 1 ≡ v + 1 = omega arith in
     let made = quiet_nothing m short _ form' runs' asks' (after' (mote_next_size m) ∙ ap₂ (λ p q. with_counter m.cpu (if far then p else q)) there there') in
     fork_law links x a v t far (first_word short) s (ap is_closed shape) template (record {
       devices = m.devices;
@@ -95,22 +95,24 @@ branch_form pc (forms.Brbs b n) is = IsBranch.BySet b n refl
 branch_form pc (forms.Brbc b n) is = IsBranch.ByClear b n refl
 branch_form pc (forms.Rjmp k) is = absurd (not_chosen (relative pc k == pc) SelfJump Jump Branch (λ e. cc) (λ e. cc) is)
 branch_form pc (forms.Jmp t) is = absurd (not_chosen (t == pc) SelfJump Jump Branch (λ e. cc) (λ e. cc) is)
-branch_form pc (forms.InIo d a) is = absurd (not_io (is_stack_pointer a) (can_read (data_address a)) Branch (λ e. cc) (λ e. cc) (λ e. cc) is)
-branch_form pc (forms.OutIo a r) is = absurd (not_io (is_stack_pointer a) (can_write (data_address a)) Branch (λ e. cc) (λ e. cc) (λ e. cc) is)
-branch_form pc (forms.Cbi a b) is = absurd (not_chosen (can_modify (data_address a)) Native Fault Branch (λ e. cc) (λ e. cc) is)
-branch_form pc (forms.Sbi a b) is = absurd (not_chosen (can_modify (data_address a)) Native Fault Branch (λ e. cc) (λ e. cc) is)
-branch_form pc (forms.Sbic a b) is = absurd (not_chosen (can_read (data_address a)) Skip Fault Branch (λ e. cc) (λ e. cc) is)
-branch_form pc (forms.Sbis a b) is = absurd (not_chosen (can_read (data_address a)) Skip Fault Branch (λ e. cc) (λ e. cc) is)
+branch_form pc (forms.InIo d a) is = absurd (not_io (is_stack_pointer a) (can_read (io_address a)) Branch (λ e. cc) (λ e. cc) (λ e. cc) is)
+branch_form pc (forms.OutIo a r) is = absurd (not_io (is_stack_pointer a) (can_write (io_address a)) Branch (λ e. cc) (λ e. cc) (λ e. cc) is)
+branch_form pc (forms.Cbi a b) is = absurd (not_chosen (can_modify (io_address a)) Native Fault Branch (λ e. cc) (λ e. cc) is)
+branch_form pc (forms.Sbi a b) is = absurd (not_chosen (can_modify (io_address a)) Native Fault Branch (λ e. cc) (λ e. cc) is)
+branch_form pc (forms.Sbic a b) is = absurd (not_chosen (can_read (io_address a)) Skip Fault Branch (λ e. cc) (λ e. cc) is)
+branch_form pc (forms.Sbis a b) is = absurd (not_chosen (can_read (io_address a)) Skip Fault Branch (λ e. cc) (λ e. cc) is)
 branch_form pc _ is = absurd (cc)
 
-branch_cases : (links : Links) (x : State) (a v : ℕ) (form : Form) → IsSetting links x a v → shape_at (image_of x.kernel) a ≡ Branch → instruction_at (image_of x.kernel) a ≡ Some form → IsTrue (is_valid form) → IsBranch form → StepLaw links x a
+branch_cases : (links : Links) (x : State) (a v : ℕ) (form : Form) → IsSetting links x a v → shape_at (image_held x.kernel) a ≡ Branch → instruction_at (image_held x.kernel) a ≡ Some form → IsTrue (is_valid form) → IsBranch form → StepLaw links x a
 unfolding is_executed ask_of finish_of size_of is_valid fields_in_range is_undefined second_word
 branch_cases links x a v form s shape is valid (IsBranch.BySet b n same) =
     branch_by links x a v (forms.Brbs b n) (forms.Brbs b (pos 1)) (has_bit (mote_of x).cpu.sreg (2 ^ b)) (relative a n) s shape (is ∙ ap Some same) refl refl refl (short_valid (nat_lt b 8) _ (subst (λ (f : Form). IsTrue (is_valid f)) same valid)) refl refl refl refl refl refl (λ n. refl) (λ n. refl)
 branch_cases links x a v form s shape is valid (IsBranch.ByClear b n same) =
-    branch_by links x a v (forms.Brbc b n) (forms.Brbc b (pos 1)) (not (has_bit (mote_of x).cpu.sreg (2 ^ b))) (relative a n) s shape (is ∙ ap Some same) refl refl refl (short_valid (nat_lt b 8) _ (subst (λ (f : Form). IsTrue (is_valid f)) same valid)) refl refl refl refl refl refl (λ n. refl) (λ n. refl)
+    branch_by links x a v (forms.Brbc b n) (forms.Brbc b (pos 1)) (not (has_bit (mote_of x).cpu.sreg (2 ^ b))) (relative a n) s shape
+    (is ∙ ap Some same) refl refl refl
+    (short_valid (nat_lt b 8) _ (subst (λ (f : Form). IsTrue (is_valid f)) same valid)) refl refl refl refl refl refl (λ n. refl) (λ n. refl)
 
 pub branch_law : ShapeLaw Branch
 branch_law links x a v s shape =
-    let some = form_of_shape Branch a (instruction_at (image_of x.kernel) a) shape (λ e. cc) in
-    branch_cases links x a v some.0 s shape some.1 (valid_at (image_of x.kernel) a some.0 (image_words x.kernel s.ready.bounded) some.1) (branch_form a some.0 some.2)
+    let some = form_of_shape Branch a (instruction_at (image_held x.kernel) a) shape (λ e. cc) in
+    branch_cases links x a v some.0 s shape some.1 (valid_at (image_held x.kernel) a some.0 (image_words x.kernel s.ready.bounded) some.1) (branch_form a some.0 some.2)

@@ -5,7 +5,7 @@ use Rattle.avr_isa.specs.Image.{word}
 use Rattle.avr_isa.specs.declared.form.Form.{Form}
 use Rattle.avr_exec.specs.declared.cpu.Cpu.{Cpu}
 use Rattle.avr_exec.specs.declared.answer.Answer.{Answer}
-use Rattle.avr_exec.specs.Registers.{raised}
+use Rattle.avr_exec.specs.Registers.{wrapping_sum}
 use Rattle.avr_exec.specs.Asks.{ask_of}
 use Rattle.avr_exec.specs.Effects.{finish_of}
 use Rattle.avr_exec.specs.Execution.{answered_by, answer_of, is_executed}
@@ -32,12 +32,13 @@ use Rattle.step_laws.specs.Settings.{IsSetting}
 use Rattle.step_laws.proofs.Stretches.{IsStretch, stretch_of, stretch_behind}
 use Rattle.step_laws.specs.StepLaws.{ShapeLaw, StepLaw}
 use Rattle.step_laws.proofs.Onward.{by_way}
-use Rattle.step_laws.proofs.CodeLaws.{form_of_shape, runs_or_faults}
+use Rattle.nat_template.proofs.ShapeLaws.{runs_or_faults}
+use Rattle.step_laws.proofs.CodeLaws.{form_of_shape}
 use Rattle.step_laws.proofs.StubLaw.{stub_law}
 use Rattle.avr_decode.specs.Program.{instruction_at}
 use Rattle.nat_page.specs.Links.{EachLink}
 use Rattle.nat_page.specs.Entered.{IsPlace}
-use Rattle.kernel_entry.specs.Parts.{core_of, image_of, memory_of}
+use Rattle.kernel_entry.specs.Parts.{core_of, memory_of, image_held}
 use Rattle.kernel_entry.specs.Services.{served, stop_of}
 use Rattle.kernel_entry.specs.Conditions.{CanServe}
 use Rattle.step_laws.proofs.Executed.{executed_at, returned}
@@ -57,16 +58,16 @@ pc_went f (WentOn answer next) t cpu g h went =
 pc_went f (StoppedOn stop) t cpu g h went = absurd (cc)
 
 call_by : (links : Links) (x : State) (a v t : ℕ) (form : Form) (o : Outcome Guarded Cpu) → executed_at (called x v push_return_entry) a form ≡ o → IsSetting links x a v → Called x a v push_return_entry → CanServe (called x v push_return_entry)
-    → instruction_at (image_of x.kernel) a ≡ Some form → shape_of_form a form ≡ Call → target_of a (Some form) ≡ t
-    → template_at (image_of x.kernel) a ≡ Fixed call_word ∷ Fixed push_return_entry ∷ Fixed a ∷ stub a t → is_executed form ≡ true → RunsOn x.kernel a form → StepLaw links x a
+    → instruction_at (image_held x.kernel) a ≡ Some form → shape_of_form a form ≡ Call → target_of a (Some form) ≡ t
+    → template_at (image_held x.kernel) a ≡ Fixed call_word ∷ Fixed push_return_entry ∷ Fixed a ∷ stub a t → is_executed form ≡ true → RunsOn x.kernel a form → StepLaw links x a
 unfolding served
 call_by links x a v t form (WentOn cpu g) done s c can is shape target template runs apart =
     let k = x.kernel in
-    let image = image_of k in
+    let image = image_held k in
     let words = (mote_of x).flash.words in
     let way = stub a t in
     let kc = called x v push_return_entry in
-    let z : State = record { kernel = returned kc cpu g (raised (v + 2) 1); owed = None; end = None } in
+    let z : State = record { kernel = returned kc cpu g (wrapping_sum (v + 2) 1); owed = None; end = None } in
     let bound = stub_bound a t in
     let three : size (template_at image a) ≡ 3 + size way = omega (arith, ap size template, size-cons (Fixed call_word) (Fixed push_return_entry ∷ Fixed a ∷ way), size-cons (Fixed push_return_entry) (Fixed a ∷ way), size-cons (Fixed a) way) in
     let row : IsStretch k.layout words v (3 + size way) = subst (IsStretch k.layout words v) three (stretch_of links k.layout image words a v s.ready.bounded.right s.code) in
@@ -76,9 +77,12 @@ call_by links x a v t form (WentOn cpu g) done s c can is shape target template 
     let marks : EachLink links.marks v (Fixed call_word ∷ Fixed push_return_entry ∷ Fixed a ∷ way) = subst (λ (pieces : List Piece). EachLink links.marks v pieces) template s.code.linked in
     let marks' : EachLink links.marks (v + 3) way = subst (λ (w : ℕ). EachLink links.marks w way) there marks in
     let low = c.low in
-    let at : raised (v + 2) 1 ≡ v + 3 = omega arith in
+    let at : wrapping_sum (v + 2) 1 ≡ v + 3 = omega arith in
     let begins : ¬ IsPlace k.layout words (v + 3) = row.inner 3 (omega arith) (omega arith) in
-    let pc : cpu.pc ≡ t = pc_went (finish_of form (core_of kc a) (next_size image a)) (answer_of guarded_calls (memory_of kc) (ask_of form (core_of kc a))) t cpu g (λ answer. call_goes kc a form (next_size image a) answer shape ∙ target) (sym (exec_by_ask guarded_calls form (core_of kc a) (memory_of kc) (next_size image a)) ∙ done) in
+    let pc : cpu.pc ≡ t = pc_went (finish_of form (core_of kc a) (next_size image a))
+    (answer_of guarded_calls (memory_of kc) (ask_of form (core_of kc a))) t cpu g
+    (λ answer. call_goes kc a form (next_size image a) answer shape ∙ target)
+    (sym (exec_by_ask guarded_calls form (core_of kc a) (memory_of kc) (next_size image a)) ∙ done) in
     resume_law links x a v push_return_entry t form cpu g s c can is runs apart done pc (resumed_is kc (v + 2) a form (WentOn cpu g) c.back c.behind is done)
     (λ free fit. by_way 0 links z t _ _ (stub_law links z a t (v + 3) false free (stretch_behind k.layout words v 3 (size way) row (omega arith) (omega arith)) stands' marks' fit at begins))
 call_by links x a v t form (StoppedOn stop) done s c can is shape target template runs apart =
@@ -87,7 +91,7 @@ call_by links x a v t form (StoppedOn stop) done s c can is shape target templat
 pub call_law : ShapeLaw Call
 unfolding template_by
 call_law links x a v s shape =
-    let image = image_of x.kernel in
+    let image = image_held x.kernel in
     let some = form_of_shape Call a (instruction_at image a) shape (λ e. cc) in
     let form : Form = some.0 in
     let t = target_of a (Some form) in

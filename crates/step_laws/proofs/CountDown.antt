@@ -4,7 +4,7 @@ use Rattle.std.specs.Prelude.{◌==◌, if◌then◌else◌, None, pos}
 use Rattle.std.proofs.lemmas.Bool.Decides.{nat_tests}
 use Rattle.avr_flags.specs.Status.{has_bit, with_bit, with_result_flags}
 use Rattle.avr_flags.specs.Sums.{dec_of, dec_status, byte_difference}
-use Rattle.avr_exec.specs.Registers.{register, raised, relative}
+use Rattle.avr_exec.specs.Registers.{register, wrapping_sum, relative}
 use Rattle.flash_model.specs.declared.layout.Layout.{Layout}
 use Rattle.flash_model.specs.Pages.{word_at}
 use Rattle.sram_layout.specs.Bytes.{byte_at, with_byte}
@@ -83,7 +83,11 @@ front links x w t b free stub fits starts =
     let d = lowered_of m in
     let w0 : w + 0 ≡ w = omega arith in
     let P : ℕ → Type 0 = λ p. Begins l m.flash.words p b in
-    let first : Makes (with_held x v s (w + 0) m.sram) (Plain b None) (with_held x v s (w + 2) ram1) = quiet_move (with_held x v s (w + 0) m.sram) (held m v s (w + 2) ram1) b (record { free = free.free; going = free.going; room = free.room }) (stub.row.pool 0 (omega arith)) (subst P (sym w0) starts) (sts_held m v s (w + 0) (w + 2) 0x0101 m.sram fits (form_there m (w + 0) 0x9380 0x0101 _ (word_pair links l m w t 0 stub (omega arith)) (sts_form 0x0101)) (omega arith) (omega arith) (omega arith) (omega arith)) in (
+    let first : Makes (with_held x v s (w + 0) m.sram) (Plain b None) (with_held x v s (w + 2) ram1) = quiet_move (with_held x v s (w + 0) m.sram)
+    (held m v s (w + 2) ram1) b (record { free = free.free; going = free.going; room = free.room }) (stub.row.pool 0 (omega arith))
+    (subst P (sym w0) starts) (sts_held m v s (w + 0) (w + 2) 0x0101 m.sram fits
+    (form_there m (w + 0) 0x9380 0x0101 _ (word_pair links l m w t 0 stub (omega arith)) (sts_form 0x0101)) (omega arith) (omega arith)
+    (omega arith) (omega arith)) in (
       with_held x v s (w + 2) ram1,
       first,
       (
@@ -91,16 +95,25 @@ front links x w t b free stub fits starts =
         inner_move links x w t 2 v s s s (w + 3) ram1 ram1 free stub (omega arith) (omega arith) (in_held m v s (w + 2) (w + 3) ram1 (form_there m (w + 2) 0xB78F 0x9380 _ (word_pair links l m w t 2 stub (omega arith)) (in_form 0x9380)) (omega arith) (omega arith)),
         (
           with_held x s s (w + 5) ram2,
-          inner_move links x w t 3 s s s s (w + 5) ram1 ram2 free stub (omega arith) (omega arith) (sts_held m s s (w + 3) (w + 5) 0x0102 ram1 fits (form_there m (w + 3) 0x9380 0x0102 _ (word_pair links l m w t 3 stub (omega arith)) (sts_form 0x0102)) (omega arith) (omega arith) (omega arith) (omega arith)),
+          inner_move links x w t 3 s s s s (w + 5) ram1 ram2 free stub (omega arith) (omega arith)
+              (sts_held m s s (w + 3) (w + 5) 0x0102 ram1 fits
+              (form_there m (w + 3) 0x9380 0x0102 _ (word_pair links l m w t 3 stub (omega arith)) (sts_form 0x0102)) (omega arith) (omega arith)
+              (omega arith) (omega arith)),
           (
             with_held x c s (w + 7) ram2,
-            inner_move links x w t 5 s s c s (w + 7) ram2 ram2 free stub (omega arith) (omega arith) (lds_held m s s (w + 5) (w + 7) 0x0100 ram2 (form_there m (w + 5) 0x9180 0x0100 _ (word_pair links l m w t 5 stub (omega arith)) (lds_form 0x0100)) (omega arith) (omega arith) (omega arith) (omega arith)),
+            inner_move links x w t 5 s s c s (w + 7) ram2 ram2 free stub (omega arith) (omega arith)
+                (lds_held m s s (w + 5) (w + 7) 0x0100 ram2
+                (form_there m (w + 5) 0x9180 0x0100 _ (word_pair links l m w t 5 stub (omega arith)) (lds_form 0x0100)) (omega arith) (omega arith)
+                (omega arith) (omega arith)),
             (
               with_held x d.0 d.1 (w + 8) ram2,
               inner_move links x w t 7 c s d.0 d.1 (w + 8) ram2 ram2 free stub (omega arith) (omega arith) (dec_held m c s (w + 7) (w + 8) ram2 fits (form_there m (w + 7) 0x958A 0x9380 _ (word_pair links l m w t 7 stub (omega arith)) (dec_form 0x9380)) (omega arith) (omega arith)),
               (
                 with_held x d.0 d.1 (w + 10) ram3,
-                inner_move links x w t 8 d.0 d.1 d.0 d.1 (w + 10) ram2 ram3 free stub (omega arith) (omega arith) (sts_held m d.0 d.1 (w + 8) (w + 10) 0x0100 ram2 fits (form_there m (w + 8) 0x9380 0x0100 _ (word_pair links l m w t 8 stub (omega arith)) (sts_form 0x0100)) (omega arith) (omega arith) (omega arith) (omega arith)),
+                inner_move links x w t 8 d.0 d.1 d.0 d.1 (w + 10) ram2 ram3 free stub (omega arith) (omega arith)
+                    (sts_held m d.0 d.1 (w + 8) (w + 10) 0x0100 ram2 fits
+                    (form_there m (w + 8) 0x9380 0x0100 _ (word_pair links l m w t 8 stub (omega arith)) (sts_form 0x0100)) (omega arith) (omega arith)
+                    (omega arith) (omega arith)),
                 refl,
               ),
             ),
@@ -147,17 +160,29 @@ tail_on links x w t free stub fit on =
     let e = byte_at ram 0x0102 in
     let es : e ≡ s = sreg_read m fit.size in
     let ev : byte_at ram 0x0101 ≡ v = r24_read m fit.size in
-    let on' : (if has_bit d.1 2 then relative (w + 10) (pos 8) else raised (w + 10) 1) ≡ w + 11 = ap (λ b. if b then relative (w + 10) (pos 8) else raised (w + 10) 1) on ∙ omega arith in
+    let on' : (if has_bit d.1 2 then relative (w + 10) (pos 8) else wrapping_sum (w + 10) 1) ≡ w + 11 = ap (λ b. if b then relative (w + 10) (pos 8) else wrapping_sum (w + 10) 1) on ∙ omega arith in
     let P : ℕ → ℕ → Type 0 = λ y u. Walk (with_held x y u (w + 14) ram) (Plain false None ∷ []) (with_held x v s (w + 16) ram) in
-    let last : P s s = (with_held x (byte_at ram 0x0101) s (w + 16) ram, inner_move links x w t 14 s s (byte_at ram 0x0101) s (w + 16) ram ram free stub (omega arith) (omega arith) (lds_held m s s (w + 14) (w + 16) 0x0101 ram (form_there m (w + 14) 0x9180 0x0101 _ (word_pair links l m w t 14 stub (omega arith)) (lds_form 0x0101)) (omega arith) (omega arith) (omega arith) (omega arith)), ap (λ y. with_held x y s (w + 16) ram) ev) in (
+    let last : P s s = (
+      with_held x (byte_at ram 0x0101) s (w + 16) ram,
+      inner_move links x w t 14 s s (byte_at ram 0x0101) s (w + 16) ram ram free stub (omega arith) (omega arith)
+          (lds_held m s s (w + 14) (w + 16) 0x0101 ram
+          (form_there m (w + 14) 0x9180 0x0101 _ (word_pair links l m w t 14 stub (omega arith)) (lds_form 0x0101)) (omega arith) (omega arith)
+          (omega arith) (omega arith)),
+      ap (λ y. with_held x y s (w + 16) ram) ev,
+    ) in (
       with_held x d.0 d.1 (w + 11) ram,
       inner_move links x w t 10 d.0 d.1 d.0 d.1 (w + 11) ram ram free stub (omega arith) (omega arith) (breq_held m d.0 d.1 (w + 10) (w + 11) ram (form_there m (w + 10) 0xF041 0x9180 _ (word_pair links l m w t 10 stub (omega arith)) (breq_form 0x9180)) on'),
       (
         with_held x e d.1 (w + 13) ram,
-        inner_move links x w t 11 d.0 d.1 e d.1 (w + 13) ram ram free stub (omega arith) (omega arith) (lds_held m d.0 d.1 (w + 11) (w + 13) 0x0102 ram (form_there m (w + 11) 0x9180 0x0102 _ (word_pair links l m w t 11 stub (omega arith)) (lds_form 0x0102)) (omega arith) (omega arith) (omega arith) (omega arith)),
+        inner_move links x w t 11 d.0 d.1 e d.1 (w + 13) ram ram free stub (omega arith) (omega arith)
+            (lds_held m d.0 d.1 (w + 11) (w + 13) 0x0102 ram
+            (form_there m (w + 11) 0x9180 0x0102 _ (word_pair links l m w t 11 stub (omega arith)) (lds_form 0x0102)) (omega arith) (omega arith)
+            (omega arith) (omega arith)),
         (
           with_held x e e (w + 14) ram,
-          inner_move links x w t 13 e d.1 e e (w + 14) ram ram free stub (omega arith) (omega arith) (out_held m e d.1 (w + 13) (w + 14) ram (let registers = fit.registers in omega arith) (form_there m (w + 13) 0xBF8F 0x9180 _ (word_pair links l m w t 13 stub (omega arith)) (out_form 0x9180)) (omega arith) (omega arith)),
+          inner_move links x w t 13 e d.1 e e (w + 14) ram ram free stub (omega arith) (omega arith)
+              (out_held m e d.1 (w + 13) (w + 14) ram (let registers = fit.registers in omega arith)
+              (form_there m (w + 13) 0xBF8F 0x9180 _ (word_pair links l m w t 13 stub (omega arith)) (out_form 0x9180)) (omega arith) (omega arith)),
           subst (λ y. P y y) (sym es) last,
         ),
       ),
@@ -177,5 +202,5 @@ tail_over links x w t free stub over =
     let low = stub.row.low in
     let ram = counted_down m in
     let d = lowered_of m in
-    let over' : (if has_bit d.1 2 then relative (w + 10) (pos 8) else raised (w + 10) 1) ≡ w + 19 = ap (λ b. if b then relative (w + 10) (pos 8) else raised (w + 10) 1) over ∙ relative_eight (w + 10) (omega arith) ∙ omega arith in
+    let over' : (if has_bit d.1 2 then relative (w + 10) (pos 8) else wrapping_sum (w + 10) 1) ≡ w + 19 = ap (λ b. if b then relative (w + 10) (pos 8) else wrapping_sum (w + 10) 1) over ∙ relative_eight (w + 10) (omega arith) ∙ omega arith in
     (with_held x d.0 d.1 (w + 19) ram, inner_move links x w t 10 d.0 d.1 d.0 d.1 (w + 19) ram ram free stub (omega arith) (omega arith) (breq_held m d.0 d.1 (w + 10) (w + 19) ram (form_there m (w + 10) 0xF041 0x9180 _ (word_pair links l m w t 10 stub (omega arith)) (breq_form 0x9180)) over'), refl)

@@ -73,7 +73,11 @@ count_down_is m q size some most more =
     ∙ ap (λ n. byte_difference n 1 0) (count_read m) ∙ lowered_by_one q (byte_at m.sram 0x0100) some most more
 
 -- and behind a call and a service that leaves r24 and SREG
-same_called : (m : Mote) (ram : List ℕ) (ret pc : ℕ) → m.cpu.sp ≡ 0x011F → SameProgram m (held m (register m.cpu 24) m.cpu.sreg 0 ram) → SameProgram m (record (held m (register m.cpu 24) m.cpu.sreg 0 (pushed ram ret)) { cpu = record (held m (register m.cpu 24) m.cpu.sreg 0 ram).cpu { sp = 0x011F; pc = pc } })
+same_called : (m : Mote) (ram : List ℕ) (ret pc : ℕ) → m.cpu.sp ≡ 0x011F → SameProgram m (held m (register m.cpu 24) m.cpu.sreg 0 ram)
+    → SameProgram m (record (held m (register m.cpu 24) m.cpu.sreg 0 (pushed ram ret)) {
+      cpu = record
+          (held m (register m.cpu 24) m.cpu.sreg 0 ram).cpu { sp = 0x011F; pc = pc };
+    })
 same_called m ram ret pc top same = record {
   registers = same.registers;
   status = same.status;
@@ -125,8 +129,12 @@ link_way links x w t b free stub fit is more way =
       | inl bridge ↦ (
           let called : State = with_mote x (record (mote_of y) { cpu = record (mote_of y).cpu { sp = 0x011D; pc = 0xF000 }; sram = pushed ram (w + 16 + 2) }) in
           let target : w + 16 + 2 ≡ w + 18 = omega arith in
-          let first : Makes y (Plain false None) called = call_move y (w + 16) 0xF000 false (record { free = free.free; going = free.going; room = free.room }) refl (stub.row.pool 16 (omega arith)) (omega arith) (stub.row.inner 16 (omega arith) (omega arith)) bridge.0 (ap (word_at m.flash.words) there ∙ bridge.1) fit.top in
-          let served : Makes called (Serve None false) (owing (rested called.kernel) t (Some (w + 16))) = bridge_move called (w + 16) t (record { free = free.free; going = free.going; room = free.room }) refl (omega arith) (pushed_address ram (w + 16 + 2) size) (ap (word_at m.flash.words) target ∙ stub.target) in
+          let first : Makes y (Plain false None) called = call_move y (w + 16) 0xF000 false
+          (record { free = free.free; going = free.going; room = free.room }) refl (stub.row.pool 16 (omega arith)) (omega arith)
+          (stub.row.inner 16 (omega arith) (omega arith)) bridge.0 (ap (word_at m.flash.words) there ∙ bridge.1) fit.top in
+          let served : Makes called (Serve None false) (owing (rested called.kernel) t (Some (w + 16))) = bridge_move called (w + 16) t
+          (record { free = free.free; going = free.going; room = free.room }) refl (omega arith) (pushed_address ram (w + 16 + 2) size)
+          (ap (word_at m.flash.words) target ∙ stub.target) in
           record {
             end = owing (rested called.kernel) t (Some (w + 16));
             rest = plains 9 ++ (Plain false None ∷ Serve None false ∷ []);
@@ -190,7 +198,9 @@ over_way links x w t b free stub fit one way =
     let there : w + 19 + 1 ≡ w + 20 = omega arith in
     let target : w + 19 + 2 ≡ w + 21 = omega arith in
     let called : State = with_mote x (record (mote_of y) { cpu = record (mote_of y).cpu { sp = 0x011D; pc = 0xF002 }; sram = pushed ram (w + 19 + 2) }) in
-    let first : Makes y (Plain false None) called = call_move y (w + 19) 0xF002 false (record { free = free.free; going = free.going; room = free.room }) refl (stub.row.pool 19 (omega arith)) (omega arith) (stub.row.inner 19 (omega arith) (omega arith)) stub.call (ap (word_at m.flash.words) there ∙ stub.entry) fit.top in
+    let first : Makes y (Plain false None) called = call_move y (w + 19) 0xF002 false
+    (record { free = free.free; going = free.going; room = free.room }) refl (stub.row.pool 19 (omega arith)) (omega arith)
+    (stub.row.inner 19 (omega arith) (omega arith)) stub.call (ap (word_at m.flash.words) there ∙ stub.entry) fit.top in
     let served : Makes called (Serve None false) (quantum_state called t) = quantum_move called (w + 19) t (record { free = free.free; going = free.going; room = free.room }) refl (pushed_address ram (w + 19 + 2) size) (ap (word_at m.flash.words) target ∙ stub.last) in
     record {
       end = quantum_state called t;

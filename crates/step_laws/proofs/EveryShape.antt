@@ -16,7 +16,7 @@ use Rattle.step_laws.proofs.GoneLaw.{ret_law, ind_law}
 use Rattle.step_laws.proofs.SelfLaw.{self_law}
 use Rattle.step_laws.proofs.FaultLaw.{fault_law}
 use Rattle.nat_page.proofs.EnteredLaws.{entry_law}
-use Rattle.kernel_entry.specs.Parts.{image_of}
+use Rattle.kernel_entry.specs.Parts.{image_held}
 
 pub shape_law : (shape : TemplateShape) → ShapeLaw shape
 shape_law shapes.Native = native_law
@@ -39,8 +39,8 @@ pub entry_setting : (x : State) (a : ℕ) → IsAtEntry x a → IsSetting (links
 entry_setting x a here = record {
   ready = here.ready;
   at = refl;
-  code = entry_law x.kernel.layout (image_of x.kernel) (mote_of x).flash.words a (mote_of x).cpu.pc here.ready.bounded.right here.code here.entry;
+  code = entry_law x.kernel.layout (image_held x.kernel) (mote_of x).flash.words a (mote_of x).cpu.pc here.ready.bounded.right here.code here.entry;
 }
 
 pub entry_laws : HasEntryLaws
-entry_laws x a here = shape_law (shape_at (image_of x.kernel) a) (links_at x) x a (mote_of x).cpu.pc (entry_setting x a here) refl
+entry_laws x a here = shape_law (shape_at (image_held x.kernel) a) (links_at x) x a (mote_of x).cpu.pc (entry_setting x a here) refl

@@ -1,9 +1,8 @@
 -- Instructions that stop the program, tried by the original machine.
-use Rattle.std.proofs.Common.{ℕ, ◌≡◌, ◌+◌, ◌<◌, ◌==◌, ◌∙◌, Bool, true, false, cond, refl, sym, ap, arith, IsTrue}
-use Rattle.std.specs.Prelude.{◌^◌, if◌then◌else◌, ◌&&◌, Option, Some, None, not, nat_lt}
-use Rattle.std.proofs.lemmas.Bool.Decides.{nat_tests}
+use Rattle.std.proofs.Common.{ℕ, ◌≡◌, ◌+◌, ◌<◌, ◌==◌, ◌∙◌, Bool, true, false, cond, refl, ap, arith, IsTrue}
+use Rattle.std.specs.Prelude.{◌^◌, if◌then◌else◌, ◌&&◌, Option, Some, None, not}
 use Rattle.avr_isa.specs.Instruction.{is_valid, fields_in_range, is_undefined}
-use Rattle.avr_isa.specs.IoTable.{can_read, can_write, data_address}
+use Rattle.avr_isa.specs.IoTable.{can_read, can_write, io_address}
 use Rattle.avr_isa.specs.declared.form.Form.{Form}
 use Rattle.avr_isa.specs.declared.form.Form.TheVariants as forms
 use Rattle.avr_flags.specs.Status.{has_bit, interrupts}
@@ -29,17 +28,12 @@ use Rattle.mem_guard.proofs.MachineLaws.{tried_illegal, tried_spm, tried_sleep}
 use Rattle.kernel_entry.specs.declared.kernel.Kernel.{Kernel}
 use Rattle.step_laws.proofs.SkipForms.{low_field}
 use Rattle.avr_decode.specs.Program.{instruction_at}
-use Rattle.kernel_entry.specs.Parts.{core_of, image_of, memory_of}
+use Rattle.kernel_entry.specs.Parts.{core_of, memory_of, image_held}
 use Rattle.kernel_entry.specs.Services.{fault_of}
-use Rattle.mem_guard.specs.Classes.{class_of}
 use Rattle.mem_guard.specs.declared.address.AddrClass.TheVariants.{Io}
 use Rattle.step_laws.proofs.ShapeTests.{not_chosen, chosen_other}
 use Rattle.kernel_entry.specs.Seen.{program, state_at, end_of}
-
--- a device's address is of the class of devices
-io_class : (a : ℕ) → a < 256 → is_own a ≡ false → class_of a ≡ Io
-unfolding class_of
-io_class a low own = grind (arith, nat_tests)
+use Rattle.kernel_entry.proofs.FaultLaws.{io_class, reads_not, six_right, six_left, low_left, own_read, own_write}
 
 -- a register that isn't allowed stops the program
 refused_load : (g : Guarded) (a : ℕ) → a < 256 → is_own a ≡ false → can_read a ≡ false → answer_of guarded_calls g (load_of a) ≡ StoppedOn (bus.Io a)
@@ -56,10 +50,6 @@ refused_store g a v low own can =
     ∙ ap (λ c. answered_by {A = Unit {0}} (λ _. Done) (store_in c g a v)) (io_class a low own)
     ∙ ap (λ o. answered_by {A = Unit {0}} (λ _. Done) (to_device g a o)) (write_refused g.devices a v can)
 
-reads_not : (r w : Bool) → w ≡ true → r && w ≡ false → r ≡ false
-reads_not true w on off = absurd (let e = sym on ∙ off in cc)
-reads_not false w on off = refl
-
 modify_refused : (s : Devices) (a clear set : ℕ) (b : Bool) → can_write a ≡ b → can_modify a ≡ false → modify_device s a clear set ≡ Refused
 unfolding modify_device
 modify_refused s a clear set true w can =
@@ -70,29 +60,6 @@ refused_modify : (g : Guarded) (a clear set : ℕ) → can_modify a ≡ false �
 unfolding answer_of modify
 refused_modify g a clear set can = ap (λ o. answered_by {A = Unit {0}} (λ _. Done) (to_device g a o)) (modify_refused g.devices a clear set _ refl can)
 
--- the fields
-six_right : (d q : ℕ) → IsTrue ((nat_lt d 32 && nat_lt q 64) && true) → q < 64
-six_right d q valid = grind (arith, nat_tests)
-
-six_left : (q r : ℕ) → IsTrue ((nat_lt q 64 && nat_lt r 32) && true) → q < 64
-six_left q r valid = grind (arith, nat_tests)
-
-low_left : (q r : ℕ) → IsTrue ((nat_lt q 32 && nat_lt r 8) && true) → q < 32
-low_left q r valid = grind (arith, nat_tests)
-
-only_sreg : (q : ℕ) → q < 64 → is_stack_pointer q ≡ false → is_own (q + 0x20) ≡ true → q ≡ 0x3F
-only_sreg q low apart own = grind (arith, nat_tests)
-
-own_read : (q : ℕ) (b : Bool) → is_own (q + 0x20) ≡ b → q < 64 → is_stack_pointer q ≡ false → can_read (q + 0x20) ≡ false → b ≡ false
-unfolding can_read
-own_read q true own low apart can = absurd (let e : true ≡ false = sym (ap (λ q. can_read (q + 0x20)) (only_sreg q low apart own)) ∙ can in cc)
-own_read q false own low apart can = refl
-
-own_write : (q : ℕ) (b : Bool) → is_own (q + 0x20) ≡ b → q < 64 → is_stack_pointer q ≡ false → can_write (q + 0x20) ≡ false → b ≡ false
-unfolding can_write
-own_write q true own low apart can = absurd (let e : true ≡ false = sym (ap (λ q. can_write (q + 0x20)) (only_sreg q low apart own)) ∙ can in cc)
-own_write q false own low apart can = refl
-
 -- the tests by which the shape was chosen
 fault_io : (b c : Bool) → (if b then Mem else if c then Native else Fault) ≡ Fault → (b ≡ false) × (c ≡ false)
 fault_io true c is = absurd (cc)
@@ -102,37 +69,37 @@ fault_io false false is = (refl, refl)
 abbrev Tries : Kernel → ℕ → Option Form → Type 0
 Tries k a form = (s c : ℕ) → tried (program k) (state_at k a s c) ≡ Stops (end_of (fault_of a form))
 
-io_stops : (k : Kernel) (a b : ℕ) (form : Form) → IsPaged k.mote.sram k.mote.swap → instruction_at (image_of k) a ≡ Some form → is_executed form ≡ true → jumps_to_itself a form ≡ false
+io_stops : (k : Kernel) (a b : ℕ) (form : Form) → IsPaged k.mote.sram k.mote.swap → instruction_at (image_held k) a ≡ Some form → is_executed form ≡ true → jumps_to_itself a form ≡ false
     → answer_of guarded_calls (memory_of k) (ask_of form (core_of k a)) ≡ StoppedOn (bus.Io b) → (s c : ℕ) → tried (program k) (state_at k a s c) ≡ Stops (flat_ends.Io a b)
 io_stops k a b form paged is runs apart stopped s c =
-    guarded_stops (memory_of k) (core_of k a) s c form (bus.Io b) paged refl is runs (ap (λ b. b && not (has_bit k.mote.cpu.sreg interrupts)) apart) (exec_stopped guarded_calls form (core_of k a) (memory_of k) (next_size (image_of k) a) (bus.Io b) stopped)
+    guarded_stops (memory_of k) (core_of k a) s c form (bus.Io b) paged refl is runs (ap (λ b. b && not (has_bit k.mote.cpu.sreg interrupts)) apart) (exec_stopped guarded_calls form (core_of k a) (memory_of k) (next_size (image_held k) a) (bus.Io b) stopped)
 
-some_tries : (k : Kernel) (a : ℕ) (form : Form) → IsPaged k.mote.sram k.mote.swap → instruction_at (image_of k) a ≡ Some form → IsTrue (is_valid form) → shape_of_form a form ≡ Fault → Tries k a (Some form)
+some_tries : (k : Kernel) (a : ℕ) (form : Form) → IsPaged k.mote.sram k.mote.swap → instruction_at (image_held k) a ≡ Some form → IsTrue (is_valid form) → shape_of_form a form ≡ Fault → Tries k a (Some form)
 unfolding shape_of_form is_executed ask_of is_valid fields_in_range is_undefined
 some_tries k a forms.Sleep paged is valid shape = λ s c. tried_sleep (program k) (state_at k a s c) is
 some_tries k a forms.Spm paged is valid shape = λ s c. tried_spm (program k) (state_at k a s c) is
 some_tries k a (forms.InIo d q) paged is valid shape =
-    let t = fault_io (is_stack_pointer q) (can_read (data_address q)) shape in
+    let t = fault_io (is_stack_pointer q) (can_read (io_address q)) shape in
     let low = six_right d q valid in
     io_stops k a (q + 0x20) (forms.InIo d q) paged is refl refl (refused_load (memory_of k) (q + 0x20) (omega arith) (own_read q _ refl low t.0 t.1) t.1)
 some_tries k a (forms.OutIo q r) paged is valid shape =
-    let t = fault_io (is_stack_pointer q) (can_write (data_address q)) shape in
+    let t = fault_io (is_stack_pointer q) (can_write (io_address q)) shape in
     let low = six_left q r valid in
     io_stops k a (q + 0x20) (forms.OutIo q r) paged is refl refl (refused_store (memory_of k) (q + 0x20) (register (core_of k a) r) (omega arith) (own_write q _ refl low t.0 t.1) t.1)
 some_tries k a (forms.Cbi q b) paged is valid shape =
-    io_stops k a (q + 0x20) (forms.Cbi q b) paged is refl refl (refused_modify (memory_of k) (q + 0x20) (2 ^ b) 0 (chosen_other (can_modify (data_address q)) Native Fault Fault (λ e. cc) shape))
+    io_stops k a (q + 0x20) (forms.Cbi q b) paged is refl refl (refused_modify (memory_of k) (q + 0x20) (2 ^ b) 0 (chosen_other (can_modify (io_address q)) Native Fault Fault (λ e. cc) shape))
 some_tries k a (forms.Sbi q b) paged is valid shape =
-    io_stops k a (q + 0x20) (forms.Sbi q b) paged is refl refl (refused_modify (memory_of k) (q + 0x20) 0 (2 ^ b) (chosen_other (can_modify (data_address q)) Native Fault Fault (λ e. cc) shape))
+    io_stops k a (q + 0x20) (forms.Sbi q b) paged is refl refl (refused_modify (memory_of k) (q + 0x20) 0 (2 ^ b) (chosen_other (can_modify (io_address q)) Native Fault Fault (λ e. cc) shape))
 some_tries k a (forms.Sbic q b) paged is valid shape =
     let low = low_left q b valid in
-    io_stops k a (q + 0x20) (forms.Sbic q b) paged is refl refl (refused_load (memory_of k) (q + 0x20) (omega arith) (low_field q _ valid) (chosen_other (can_read (data_address q)) Skip Fault Fault (λ e. cc) shape))
+    io_stops k a (q + 0x20) (forms.Sbic q b) paged is refl refl (refused_load (memory_of k) (q + 0x20) (omega arith) (low_field q _ valid) (chosen_other (can_read (io_address q)) Skip Fault Fault (λ e. cc) shape))
 some_tries k a (forms.Sbis q b) paged is valid shape =
     let low = low_left q b valid in
-    io_stops k a (q + 0x20) (forms.Sbis q b) paged is refl refl (refused_load (memory_of k) (q + 0x20) (omega arith) (low_field q _ valid) (chosen_other (can_read (data_address q)) Skip Fault Fault (λ e. cc) shape))
+    io_stops k a (q + 0x20) (forms.Sbis q b) paged is refl refl (refused_load (memory_of k) (q + 0x20) (omega arith) (low_field q _ valid) (chosen_other (can_read (io_address q)) Skip Fault Fault (λ e. cc) shape))
 some_tries k a (forms.Rjmp d) paged is valid shape = absurd (not_chosen (relative a d == a) SelfJump Jump Fault (λ e. cc) (λ e. cc) shape)
 some_tries k a (forms.Jmp t) paged is valid shape = absurd (not_chosen (t == a) SelfJump Jump Fault (λ e. cc) (λ e. cc) shape)
 some_tries k a _ paged is valid shape = absurd (cc)
 
-pub fault_tries : (k : Kernel) (a : ℕ) (form : Option Form) → IsPaged k.mote.sram k.mote.swap → instruction_at (image_of k) a ≡ form → ((f : Form) → form ≡ Some f → IsTrue (is_valid f)) → shape_of a form ≡ Fault → Tries k a form
+pub fault_tries : (k : Kernel) (a : ℕ) (form : Option Form) → IsPaged k.mote.sram k.mote.swap → instruction_at (image_held k) a ≡ form → ((f : Form) → form ≡ Some f → IsTrue (is_valid f)) → shape_of a form ≡ Fault → Tries k a form
 fault_tries k a None paged is valid shape = λ s c. tried_illegal (program k) (state_at k a s c) is
 fault_tries k a (Some form) paged is valid shape = some_tries k a form paged is (valid form refl) shape

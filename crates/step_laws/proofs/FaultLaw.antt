@@ -9,9 +9,10 @@ use Rattle.kernel_entry.specs.declared.kernel.Served.TheVariants as answers
 use Rattle.step_laws.specs.StepLaws.{ShapeLaw}
 use Rattle.step_laws.proofs.ServiceLaw.{called, called_by, stop_law}
 use Rattle.step_laws.proofs.FaultForms.{fault_tries}
-use Rattle.step_laws.proofs.CodeLaws.{valid_at, image_words}
+use Rattle.step_laws.proofs.CodeLaws.{image_words}
+use Rattle.avr_decode.proofs.Decoded.{valid_at}
 use Rattle.avr_decode.specs.Program.{instruction_at}
-use Rattle.kernel_entry.specs.Parts.{image_of, rested}
+use Rattle.kernel_entry.specs.Parts.{rested, image_held}
 use Rattle.kernel_entry.specs.Services.{fault_of, served}
 use Rattle.kernel_entry.specs.Conditions.{CanServe}
 
@@ -19,7 +20,7 @@ pub fault_law : ShapeLaw Fault
 unfolding template_by served
 fault_law links x a v s shape =
     let k = x.kernel in
-    let image = image_of k in
+    let image = image_held k in
     let c = called_by links x a v fault_entry [] s (ap (λ s. template_by s a (word image a) (instruction_at image a) (size_at image (a + 1))) shape) in
     let kc = called x v fault_entry in
     stop_law links x a v fault_entry (fault_of a (instruction_at image a)) s c (CanServe.AtFault refl (c.shape ∙ shape))

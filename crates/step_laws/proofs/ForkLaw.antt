@@ -35,7 +35,7 @@ use Rattle.step_laws.proofs.PlainLaw.{plain_law}
 use Rattle.step_laws.proofs.StubLaw.{stub_law}
 use Rattle.nat_page.specs.Links.{EachLink}
 use Rattle.nat_page.specs.Entered.{IsPlace}
-use Rattle.kernel_entry.specs.Parts.{image_of}
+use Rattle.kernel_entry.specs.Parts.{image_held}
 use Rattle.preempt_count.specs.Counting.{count_over}
 use Rattle.mote_core.specs.QuietSteps.{flash_form, IsQuiet}
 use Rattle.mote_core.proofs.QuietCore.{quiet_rjmp}
@@ -54,13 +54,13 @@ pub record Forks (k : Kernel) (a to p : ℕ) : Type 0 where
   pub polls : devices.polls ≤ k.mote.devices.polls + 1
   pub goes : (s c : ℕ) → tried (program k) (state_at k a s c) ≡ Goes None (record (state_at k to (s + 1) (crossings_over a to c)) { devices = devices })
 
-fork_ends : (links : Links) (x : State) (a v to p : ℕ) → IsSetting links x a v → 0 < size (template_at (image_of x.kernel) a) → (f : Forks x.kernel a to p)
+fork_ends : (links : Links) (x : State) (a v to p : ℕ) → IsSetting links x a v → 0 < size (template_at (image_held x.kernel) a) → (f : Forks x.kernel a to p)
     → Onward 1 links (with_mote x (at_place (mote_of x) p f.devices)) to (count_over x.kernel.quantum a to (byte_at (mote_of x).sram 0x0100)) (is_crossing a to) → StepLaw links x a
 unfolding lines_of
 fork_ends links x a v to p s some f on =
     let k = x.kernel in
     let m = k.mote in
-    let image = image_of k in
+    let image = image_held k in
     let words = m.flash.words in
     let y = with_mote x (at_place m p f.devices) in
     let row = stretch_of links k.layout image words a v s.ready.bounded.right s.code in
@@ -78,7 +78,7 @@ fork_ends links x a v to p s some f on =
       next = at_place m p f.devices;
       step = f.step;
       written = refl;
-      kept = record { bytes = λ a is. refl; flash = refl };
+      kept = λ a is. refl;
       result = refl;
     } in
     plain_law links x a to None (at_place m p f.devices) 1 (omega arith) s.ready.paged (record { first = first; flash = refl; sram = refl; swap = refl; registers = refl; polls = f.polls; pointer = s.ready.idle.pointer; goes = f.goes }) on
@@ -122,12 +122,12 @@ step_on links y p t c crosses first on =
     }
 
 -- both ways
-pub fork_law : (links : Links) (x : State) (a v t : ℕ) (far : Bool) (first : ℕ) → IsSetting links x a v → is_closed (shape_at (image_of x.kernel) a) ≡ true
-    → template_at (image_of x.kernel) a ≡ Fixed first ∷ jump_over (stub a t) ∷ stub a t
-    → Forks x.kernel a (if far then t else next_of (image_of x.kernel) a) (if far then v + 2 else v + 1) → StepLaw links x a
+pub fork_law : (links : Links) (x : State) (a v t : ℕ) (far : Bool) (first : ℕ) → IsSetting links x a v → is_closed (shape_at (image_held x.kernel) a) ≡ true
+    → template_at (image_held x.kernel) a ≡ Fixed first ∷ jump_over (stub a t) ∷ stub a t
+    → Forks x.kernel a (if far then t else next_of (image_held x.kernel) a) (if far then v + 2 else v + 1) → StepLaw links x a
 fork_law links x a v t true first s closed template f =
     let k = x.kernel in
-    let image = image_of k in
+    let image = image_held k in
     let words = (mote_of x).flash.words in
     let way = stub a t in
     let y = with_mote x (at_place (mote_of x) (v + 2) f.devices) in
@@ -148,7 +148,7 @@ fork_law links x a v t true first s closed template f =
     fork_ends links x a v t (v + 2) s (omega arith) f (by_way 1 links y t _ _ (stub_law links y a t (v + 2) false free' (stretch_behind k.layout words v 2 (size way) row (omega arith) (omega arith)) stands' marks' fit' refl begins))
 fork_law links x a v t false first s closed template f =
     let k = x.kernel in
-    let image = image_of k in
+    let image = image_held k in
     let words = (mote_of x).flash.words in
     let way = stub a t in
     let y = with_mote x (at_place (mote_of x) (v + 1) f.devices) in

@@ -14,7 +14,6 @@ use Rattle.sram_layout.proofs.Laws.{byte_out_of_word, length-with_word, word_low
 use Rattle.heap_frames.specs.Paged.{IsPaged}
 use Rattle.heap_frames.proofs.SamePagingLaws.{same_paging_word, paged_same}
 use Rattle.nat_template.specs.declared.shapes.TemplateShape.TheVariants.{Ret, Ind}
-use Rattle.nat_template.specs.Shapes.{shape_of_form}
 use Rattle.nat_template.specs.Stubs.{return_entry, indirect_entry}
 use Rattle.nat_template.specs.Templates.{template_by}
 use Rattle.nat_page.specs.Runs.{size_at}
@@ -38,16 +37,18 @@ use Rattle.step_laws.proofs.KernelCalls.{called_of, pushed_kept, serve_by}
 use Rattle.step_laws.proofs.Counting.{count_crossed, same_crossed}
 use Rattle.avr_exec.proofs.RegistersKept.{exec_kept}
 use Rattle.step_laws.proofs.Executed.{flat_put, kept_of, executed_at, returned, executed_is}
-use Rattle.step_laws.proofs.CodeLaws.{form_of_shape, runs_or_faults}
+use Rattle.nat_template.proofs.ShapeLaws.{runs_or_faults}
+use Rattle.step_laws.proofs.CodeLaws.{form_of_shape}
 use Rattle.step_laws.specs.Numbers.{moved}
 use Rattle.avr_decode.specs.Program.{instruction_at}
-use Rattle.kernel_entry.specs.Parts.{core_of, descriptor, image_of, memory_of, put_back, rested, with_sram}
+use Rattle.kernel_entry.specs.Parts.{core_of, descriptor, memory_of, put_back, rested, with_sram, image_held}
 use Rattle.kernel_entry.specs.Services.{gone, gone_by, served, stop_of, if_instruction, execution, execution_by}
 use Rattle.kernel_entry.specs.Conditions.{CanServe}
 use Rattle.kernel_entry.specs.declared.kernel.Served.{Served}
 use Rattle.mem_guard.proofs.LineLaws.{transfer_line}
 use Rattle.kernel_entry.specs.Seen.{program}
-use Rattle.kernel_entry.proofs.ShapeLaws.{is_service_jump, by_service_jump}
+use Rattle.kernel_entry.proofs.ShapeLaws.{is_service_jump}
+use Rattle.kernel_entry.proofs.TriedLaws.{transfers}
 
 -- the answer, by the outcome of the execution
 abbrev pub gone_to : Kernel → ℕ → Outcome Guarded Cpu → Served × Kernel
@@ -56,12 +57,12 @@ gone_to k a (StoppedOn stop) = (answers.Stopped (stop_of a stop), rested k)
 
 -- the service owes an arrival
 pub go_law : (links : Links) (x : State) (a v entry : ℕ) (form : Form) (cpu : Cpu) (g : Guarded) → IsSetting links x a v → Called x a v entry → CanServe (called x v entry)
-    → instruction_at (image_of x.kernel) a ≡ Some form → is_executed form ≡ true → RunsOn x.kernel a form → executed_at (called x v entry) a form ≡ WentOn cpu g → g.line ≡ None
+    → instruction_at (image_held x.kernel) a ≡ Some form → is_executed form ≡ true → RunsOn x.kernel a form → executed_at (called x v entry) a form ≡ WentOn cpu g → g.line ≡ None
     → served (called x v entry) ≡ gone_to (called x v entry) a (WentOn cpu g) → StepLaw links x a
 unfolding lines_of crossed moved
 go_law links x a v entry form cpu g s c can is runs apart went quiet answer =
     let k = x.kernel in
-    let image = image_of k in
+    let image = image_held k in
     let kc = called x v entry in
     let y = called_of x v entry in
     let ram = k.mote.sram in
@@ -73,7 +74,9 @@ go_law links x a v entry form cpu g s c can is runs apart went quiet answer =
     let k2 = with_sram put (crossed k.quantum a cpu.pc m) in
     let z : State = record { kernel = k2; owed = Some (record { target = cpu.pc; stub = None }); end = None } in
     let served' : Makes y (Serve None false) z = serve_by y (answers.Goto cpu.pc None, k2) (record { free = s.ready.running.free; going = s.ready.running.going; room = s.ready.running.room }) can answer in
-    let count' : byte_at m 0x0100 ≡ byte_at ram 0x0100 = byte_out_of_word g.sram vsp_cell 0x0100 cpu.sp (omega arith) (omega arith) (λ e. omega arith) (λ e. omega arith) ∙ kept.cells 0x0100 (omega arith) (omega arith) ∙ pushed_kept ram (v + 2) 0x0100 (omega arith) (λ e. omega arith) (λ e. omega arith) in
+    let count' : byte_at m 0x0100 ≡ byte_at ram 0x0100 = byte_out_of_word g.sram vsp_cell 0x0100 cpu.sp (omega arith) (omega arith) (λ e. omega arith)
+    (λ e. omega arith) ∙ kept.cells 0x0100 (omega arith) (omega arith)
+    ∙ pushed_kept ram (v + 2) 0x0100 (omega arith) (λ e. omega arith) (λ e. omega arith) in
     let same2 : SameProgram put.mote k2.mote = same_crossed put k.quantum a cpu.pc m refl in
     let paged2 : IsPaged put.mote.sram put.mote.swap = paged_same g.sram m g.swap (same_paging_word g.sram vsp_cell cpu.sp (omega arith) (inl (omega arith))) kept.paged in
     let registers' : length cpu.r ≡ length k.mote.cpu.r = exec_kept guarded_calls form (core_of kc a) cpu (memory_of kc) g (next_size image a) went in
@@ -118,35 +121,30 @@ go_law links x a v entry form cpu g s c can is runs apart went quiet answer =
 
 -- what transfers control writes no line
 gone_quiet : (k : Kernel) (a : ℕ) (form : Form) (cpu : Cpu) (g : Guarded) → is_transfer form ≡ true → executed_at k a form ≡ WentOn cpu g → g.line ≡ None
-gone_quiet k a form cpu g transfers went = transfer_line form (core_of k a) cpu (memory_of k) g (next_size (image_of k) a) transfers went
+gone_quiet k a form cpu g transfers went = transfer_line form (core_of k a) cpu (memory_of k) g (next_size (image_held k) a) transfers went
 
 gone_by_is : (k : Kernel) (a : ℕ) (o : Outcome Guarded Cpu) → descriptor k ≡ a → gone_by k (execution_by k o).0 (execution_by k o).1 ≡ gone_to k a o
 gone_by_is k a (WentOn cpu g) behind = ap (λ w. (answers.Goto cpu.pc None, with_sram (put_back k cpu g) (crossed k.quantum w cpu.pc (with_word g.sram vsp_cell cpu.sp)))) behind
 gone_by_is k a (StoppedOn stop) behind = ap (λ w. (answers.Stopped (stop_of w stop), rested k)) behind
 
-gone_is : (k : Kernel) (a : ℕ) (form : Form) (o : Outcome Guarded Cpu) → descriptor k ≡ a → instruction_at (image_of k) a ≡ Some form → executed_at k a form ≡ o → gone k ≡ gone_to k a o
+gone_is : (k : Kernel) (a : ℕ) (form : Form) (o : Outcome Guarded Cpu) → descriptor k ≡ a → instruction_at (image_held k) a ≡ Some form → executed_at k a form ≡ o → gone k ≡ gone_to k a o
 unfolding gone
 gone_is k a form o behind is done =
-    ap (λ i. if_instruction k i (λ form. gone_by k (execution k form).0 (execution k form).1)) (ap (instruction_at (image_of k)) behind ∙ is)
+    ap (λ i. if_instruction k i (λ form. gone_by k (execution k form).0 (execution k form).1)) (ap (instruction_at (image_held k)) behind ∙ is)
     ∙ ap (λ o. gone_by k (execution_by k o).0 (execution_by k o).1) (executed_is k a form behind ∙ done)
     ∙ gone_by_is k a o behind
 
 pub gone_law : (links : Links) (x : State) (a v entry : ℕ) (form : Form) (o : Outcome Guarded Cpu) → executed_at (called x v entry) a form ≡ o → IsSetting links x a v → Called x a v entry → CanServe (called x v entry)
-    → instruction_at (image_of x.kernel) a ≡ Some form → is_executed form ≡ true → RunsOn x.kernel a form → is_transfer form ≡ true → served (called x v entry) ≡ gone (called x v entry) → StepLaw links x a
+    → instruction_at (image_held x.kernel) a ≡ Some form → is_executed form ≡ true → RunsOn x.kernel a form → is_transfer form ≡ true → served (called x v entry) ≡ gone (called x v entry) → StepLaw links x a
 gone_law links x a v entry form (WentOn cpu g) done s c can is runs apart h serves =
     go_law links x a v entry form cpu g s c can is runs apart done (gone_quiet (called x v entry) a form cpu g h done) (serves ∙ gone_is (called x v entry) a form (WentOn cpu g) c.behind is done)
 gone_law links x a v entry form (StoppedOn stop) done s c can is runs apart h serves =
     stop_law links x a v entry (stop_of a stop) s c can (serves ∙ gone_is (called x v entry) a form (StoppedOn stop) c.behind is done) (bus_stops links x a v entry form stop s c is runs apart done)
 
--- a return, and a jump or a call through Z
-transfers : (pc : ℕ) (form : Form) → is_service_jump (shape_of_form pc form) ≡ true → is_transfer form ≡ true
-unfolding is_transfer
-transfers pc form is = by_service_jump (λ f. is_transfer f ≡ true) (λ k. refl) (λ t. refl) refl refl refl refl pc form is
-
 pub ret_law : ShapeLaw Ret
 unfolding template_by served
 ret_law links x a v s shape =
-    let image = image_of x.kernel in
+    let image = image_held x.kernel in
     let some = form_of_shape Ret a (instruction_at image a) shape (λ e. cc) in
     let form : Form = some.0 in
     let c = called_by links x a v return_entry [] s (ap (λ s. template_by s a (word image a) (instruction_at image a) (size_at image (a + 1))) shape) in
@@ -155,7 +153,7 @@ ret_law links x a v s shape =
 pub ind_law : ShapeLaw Ind
 unfolding template_by served
 ind_law links x a v s shape =
-    let image = image_of x.kernel in
+    let image = image_held x.kernel in
     let some = form_of_shape Ind a (instruction_at image a) shape (λ e. cc) in
     let form : Form = some.0 in
     let c = called_by links x a v indirect_entry [] s (ap (λ s. template_by s a (word image a) (instruction_at image a) (size_at image (a + 1))) shape) in

@@ -7,7 +7,7 @@ use Rattle.avr_isa.specs.declared.form.Form.TheVariants as forms
 use Rattle.avr_isa.specs.declared.operation.OneOp.TheVariants as ops
 use Rattle.avr_flags.specs.Status.{has_bit}
 use Rattle.avr_flags.specs.Sums.{dec_of}
-use Rattle.avr_exec.specs.Registers.{raised, relative}
+use Rattle.avr_exec.specs.Registers.{wrapping_sum, relative}
 use Rattle.sram_layout.specs.Bytes.{byte_at, with_byte}
 use Rattle.mote_core.specs.declared.mote.Mote.{Mote}
 use Rattle.mote_core.specs.QuietSteps.{IsQuiet, flash_form}
@@ -60,7 +60,7 @@ dec_held m x s p p' ram fits is low behind =
     (ap (λ v. slice_set r 24 (dec_of s v).0) (r24_held m x fits) ∙ set_twice m.cpu.r 24 x (dec_of s x).0)
     (ap (λ v. (dec_of s v).1) (r24_held m x fits)))
 
-pub breq_held : (m : Mote) (x s p p' : ℕ) (ram : List ℕ) → flash_form m p ≡ Some (forms.Brbs 1 (pos 8)) → cond (has_bit s 2) (relative p (pos 8)) (raised p 1) ≡ p' → IsQuiet (held m x s p ram) (held m x s p' ram)
+pub breq_held : (m : Mote) (x s p p' : ℕ) (ram : List ℕ) → flash_form m p ≡ Some (forms.Brbs 1 (pos 8)) → cond (has_bit s 2) (relative p (pos 8)) (wrapping_sum p 1) ≡ p' → IsQuiet (held m x s p ram) (held m x s p' ram)
 breq_held m x s p p' ram is goes = quiet_branch m (slice_set m.cpu.r 24 x) s p p' ram 1 8 (has_bit s 2) is refl goes
 
 pub jmp_held : (m : Mote) (x s p place : ℕ) (ram : List ℕ) → flash_form m p ≡ Some (forms.Jmp place) → IsQuiet (held m x s p ram) (held m x s place ram)

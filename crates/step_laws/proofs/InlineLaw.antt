@@ -4,10 +4,10 @@ use Rattle.std.specs.Prelude.{None, slice_index}
 use Rattle.avr_isa.specs.Crossing.{is_crossing}
 use Rattle.avr_isa.specs.Instruction.{size_of}
 use Rattle.avr_isa.specs.declared.form.Form.{Form}
-use Rattle.avr_exec.specs.Registers.{raised}
+use Rattle.avr_exec.specs.Registers.{wrapping_sum}
 use Rattle.avr_exec.specs.Spaces.{Went as WentOn}
 use Rattle.flash_model.specs.Pages.{word_at as flash_word}
-use Rattle.sram_layout.specs.Bytes.{byte_at, with_byte, word_at}
+use Rattle.sram_layout.specs.Bytes.{byte_at, with_byte, data_word_at}
 use Rattle.sram_layout.specs.Cells.{vsp_cell}
 use Rattle.std.proofs.lemmas.Bool.{cases_lt}
 use Rattle.kernel_entry.specs.Conditions.{CanServe}
@@ -27,7 +27,7 @@ use Rattle.mem_guard.specs.FlatMachine.{Goes, tried}
 use Rattle.mem_guard.specs.Left.{IsKept}
 use Rattle.mem_guard.proofs.GuardedStep.{guarded_goes}
 use Rattle.preempt_count.specs.Counting.{count_over}
-use Rattle.kernel_entry.specs.Parts.{core_of, descriptor, image_of, memory_of, rested, return_address}
+use Rattle.kernel_entry.specs.Parts.{core_of, descriptor, memory_of, rested, return_address, image_held}
 use Rattle.kernel_entry.specs.Seen.{program, state_at}
 use Rattle.inline_laws.specs.InlineWays.{Passes, CanPass, Ways, placed, begun, trapped, saved_of, pointer_of}
 use Rattle.inline_laws.proofs.Cells.{SameButCells, saved_same, pointer_saved, pointer_byte_saved, pointer_apart}
@@ -51,15 +51,15 @@ use Rattle.step_laws.proofs.Stretches.{stretch_of}
 use Rattle.step_laws.proofs.Ways.{walk_on}
 
 -- the walk of the steps, from the place of the template on
-pub inline_walk : (links : Links) (x : State) (a v n more : ℕ) (last : Mote) → IsSetting links x a v → size (template_at (image_of x.kernel) a) ≡ n → IsQuiet (placed (mote_of x) v) (begun (mote_of x) v)
+pub inline_walk : (links : Links) (x : State) (a v n more : ℕ) (last : Mote) → IsSetting links x a v → size (template_at (image_held x.kernel) a) ≡ n → IsQuiet (placed (mote_of x) v) (begun (mote_of x) v)
     → Passes (v + 1) (v + n) more (begun (mote_of x) v) last → Walk x (Plain true None ∷ plains more) (with_mote x last)
 inline_walk links x a v n more last s is first passes =
     let m = mote_of x in
-    let row = stretch_of links x.kernel.layout (image_of x.kernel) m.flash.words a v s.ready.bounded.right s.code in
+    let row = stretch_of links x.kernel.layout (image_held x.kernel) m.flash.words a v s.ready.bounded.right s.code in
     let Q : ℕ → Type 0 = λ pc. IsQuiet (held m m.cpu.r m.cpu.sreg pc m.sram) (begun m v) in
     let P : ℕ → Type 0 = λ k. Passes (v + 1) (v + k) more (begun m v) last in
     let first' : Makes x (Plain true None) (with_mote x (begun m v)) = quiet_move x (begun m v) true s.ready.running (subst (InPool x.kernel.layout) (sym s.at) s.code.pool) (subst (IsPlace x.kernel.layout m.flash.words) (sym s.at) s.code.place) (subst Q (sym s.at) first) in
-    (with_mote x (begun m v), first', passes_walk x v (size (template_at (image_of x.kernel) a)) more (begun m v) last s.ready.running row refl refl (subst P (sym is) passes))
+    (with_mote x (begun m v), first', passes_walk x v (size (template_at (image_held x.kernel) a)) more (begun m v) last s.ready.running row refl refl (subst P (sym is) passes))
 
 -- Inside: the steps leave these registers and bytes, which agree but for the cells with what the instruction leaves.
 pub record Inside (x : State) (a v n more : ℕ) (form : Form) (r sram sram' : List ℕ) (sp : ℕ) : Type 0 where
@@ -67,26 +67,26 @@ pub record Inside (x : State) (a v n more : ℕ) (form : Form) (r sram sram' : L
   pub walk : Walk x (Plain true None ∷ plains more) (with_mote x (held (mote_of x) r (mote_of x).cpu.sreg (v + n) sram'))
   pub went : executed_at x.kernel a form ≡ WentOn (core_after x.kernel a r sp) (memory_after x.kernel sram)
   pub same : SameButCells sram sram'
-  pub pointer : word_at sram' vsp_cell ≡ sp
+  pub pointer : data_word_at sram' vsp_cell ≡ sp
   pub low : byte_at sram' vsp_cell < 256
   pub registers : length r ≡ length (mote_of x).cpu.r
 
 -- which is the original program's step
 pub inside_goes : (x : State) (a v n more : ℕ) (form : Form) (r sram sram' : List ℕ) (sp : ℕ) → Inside x a v n more form r sram sram' sp → IsPaged (mote_of x).sram (mote_of x).swap → IsReached x a form
-    → (s c : ℕ) → tried (program x.kernel) (state_at x.kernel a s c) ≡ Goes None (state_at (with_mote x (held (mote_of x) r (mote_of x).cpu.sreg (v + n) sram')).kernel (raised a 1) (s + 1) (crossings_over a (raised a 1) c))
+    → (s c : ℕ) → tried (program x.kernel) (state_at x.kernel a s c) ≡ Goes None (state_at (with_mote x (held (mote_of x) r (mote_of x).cpu.sreg (v + n) sram')).kernel (wrapping_sum a 1) (s + 1) (crossings_over a (wrapping_sum a 1) c))
 inside_goes x a v n more form r sram sram' sp f paged g s c =
     let k = x.kernel in
     let y = with_mote x (held (mote_of x) r (mote_of x).cpu.sreg (v + n) sram') in
     guarded_goes (memory_of k) (memory_after k sram) (core_of k a) (core_after k a r sp) s c form paged refl g.is g.runs g.apart f.went
-    ∙ ap (Goes None) (sym (seen_alike k y.kernel sram sp (raised a 1) (s + 1) (crossings_over a (raised a 1) c) f.pointer f.same.size (λ b from. f.same.bytes b (omega arith)) refl refl))
+    ∙ ap (Goes None) (sym (seen_alike k y.kernel sram sp (wrapping_sum a 1) (s + 1) (crossings_over a (wrapping_sum a 1) c) f.pointer f.same.size (λ b from. f.same.bytes b (omega arith)) refl refl))
 
 pub inside_law : (links : Links) (x : State) (a v n more : ℕ) (form : Form) (r sram sram' : List ℕ) (sp : ℕ) → IsSetting links x a v → Inside x a v n more form r sram sram' sp → IsReached x a form
-    → raised a 1 ≡ next_of (image_of x.kernel) a → size (template_at (image_of x.kernel) a) ≡ n → 1 ≤ n → StepLaw links x a
+    → wrapping_sum a 1 ≡ next_of (image_held x.kernel) a → size (template_at (image_held x.kernel) a) ≡ n → 1 ≤ n → StepLaw links x a
 unfolding lines_of
 inside_law links x a v n more form r sram sram' sp s f g next width some =
     let k = x.kernel in
     let m = mote_of x in
-    let image = image_of k in
+    let image = image_held k in
     let y = with_mote x (held m r m.cpu.sreg (v + n) sram') in
     let kept : IsKept (memory_of k) (memory_after k sram) = kept_of k a form (core_after k a r sp) (memory_after k sram) s.ready.paged f.went in
     let paging : SamePaging sram sram' = record { size = f.same.size; cells = λ b from to. f.same.bytes b (omega arith); tables = λ b from to. f.same.bytes b (omega arith) } in
@@ -103,9 +103,9 @@ inside_law links x a v n more form r sram sram' sp s f g next width some =
     let on = onward links y image a v free fit s.ready.bounded.right s.code (omega arith) (omega arith) (ap is_closed g.shape) there in
     let end = on.end in
     let P : ℕ → Type 0 = λ to. (s c : ℕ) → tried (program k) (state_at k a s c) ≡ Goes None (state_at end.kernel to (s + 1) (crossings_over a to c)) in
-    let goes : P (raised a 1) = λ steps crossings.
+    let goes : P (wrapping_sum a 1) = λ steps crossings.
     inside_goes x a v n more form r sram sram' sp f s.ready.paged g steps crossings
-    ∙ ap (Goes None) (sym (flat_same y.kernel end.kernel (raised a 1) (steps + 1) (crossings_over a (raised a 1) crossings) on.left.same)) in
+    ∙ ap (Goes None) (sym (flat_same y.kernel end.kernel (wrapping_sum a 1) (steps + 1) (crossings_over a (wrapping_sum a 1) crossings) on.left.same)) in
     record {
       end = end;
       first = None;
@@ -139,16 +139,16 @@ inside_law links x a v n more form r sram sram' sp s f g next width some =
       });
     }
 
-pointer_pushed : (ram : List ℕ) (back : ℕ) → word_at (pushed ram back) vsp_cell ≡ word_at ram vsp_cell
+pointer_pushed : (ram : List ℕ) (back : ℕ) → data_word_at (pushed ram back) vsp_cell ≡ data_word_at ram vsp_cell
 pointer_pushed ram back = pointer_apart (with_byte ram 0x011F (back % 256)) 0x011E (back / 256) (omega arith) ∙ pointer_apart ram 0x011F (back % 256) (omega arith)
 
 -- outside: MEM is asked at the trap, whose last word is the template's
-pub trap_asks : (links : Links) (x : State) (a v n : ℕ) → IsSetting links x a v → CanPass (mote_of x) v → size (template_at (image_of x.kernel) a) ≡ n + 1 → flash_word (mote_of x).flash.words (v + n) ≡ a
+pub trap_asks : (links : Links) (x : State) (a v n : ℕ) → IsSetting links x a v → CanPass (mote_of x) v → size (template_at (image_held x.kernel) a) ≡ n + 1 → flash_word (mote_of x).flash.words (v + n) ≡ a
     → IsAsked x a (saved_of (mote_of x)) (v + n) mem_entry
 trap_asks links x a v n s can width word =
     let k = x.kernel in
     let m = mote_of x in
-    let image = image_of k in
+    let image = image_held k in
     let z_low = slice_index m.cpu.r 30 in
     let z_high = slice_index m.cpu.r 31 in
     let ram = saved_of m in
@@ -161,7 +161,7 @@ trap_asks links x a v n s can width word =
     let address : return_address kc ≡ back = pushed_address ram back (same.size ∙ can.size) in
     let behind : descriptor kc ≡ a = ap (flash_word m.flash.words) address ∙ word in
     let paging : SamePaging m.sram (pushed ram back) = record { size = size'; cells = λ b from to. bytes b from; tables = λ b from to. bytes b (omega arith) } in
-    let pointer : word_at (pushed ram back) vsp_cell ≡ pointer_of m = pointer_pushed ram back ∙ pointer_saved m.sram z_low z_high m.cpu.sreg in
+    let pointer : data_word_at (pushed ram back) vsp_cell ≡ pointer_of m = pointer_pushed ram back ∙ pointer_saved m.sram z_low z_high m.cpu.sreg in
     let polls = s.ready.bounded.polls in
     let byte = can.pointer in
     record {
@@ -179,20 +179,20 @@ trap_asks links x a v n s can width word =
 -- An inline template of n + 1 words that reaches this address: its ways, and what it does inside the window.
 pub record IsInline (x : State) (a v n address steps lower upper : ℕ) (form : Form) (r sram sram' : List ℕ) (sp : ℕ) : Type 0 where
   pub ways : Ways (mote_of x) v (n + 1) address steps lower upper r sram'
-  pub width : size (template_at (image_of x.kernel) a) ≡ n + 1
+  pub width : size (template_at (image_held x.kernel) a) ≡ n + 1
   pub word_there : flash_word (mote_of x).flash.words (v + n) ≡ a
   pub one : size_of form ≡ 1
   pub few : (steps ≤ 20) × (lower ≤ 20) × (upper ≤ 20)
   pub went : 0x0D00 ≤ address → address ≤ 0x10FF → executed_at x.kernel a form ≡ WentOn (core_after x.kernel a r sp) (memory_after x.kernel sram)
   pub same : 0x0D00 ≤ address → address ≤ 0x10FF → SameButCells sram sram'
-  pub pointer : 0x0D00 ≤ address → word_at sram' vsp_cell ≡ sp
+  pub pointer : 0x0D00 ≤ address → data_word_at sram' vsp_cell ≡ sp
   pub low : 0x0D00 ≤ address → byte_at sram' vsp_cell < 256
   pub registers : length r ≡ length (mote_of x).cpu.r
   pub others : 0x0D00 ≤ address → (b : ℕ) → 0x0100 ≤ b → b < 0x0D00 → byte_at sram b ≡ byte_at (mote_of x).sram b
 
 pub can_pass : (links : Links) (x : State) (a v : ℕ) → IsSetting links x a v → CanPass (mote_of x) v
 can_pass links x a v s =
-    let row = stretch_of links x.kernel.layout (image_of x.kernel) (mote_of x).flash.words a v s.ready.bounded.right s.code in
+    let row = stretch_of links x.kernel.layout (image_held x.kernel) (mote_of x).flash.words a v s.ready.bounded.right s.code in
     let low = row.low in
     record { registers = s.ready.idle.registers; size = s.ready.idle.size; pointer = s.ready.idle.pointer; top = s.ready.idle.top; room = omega arith }
 
@@ -209,7 +209,7 @@ inside_of links x a v n address steps lower upper form r sram sram' sp s t from 
   registers = t.registers;
 }
 
-pub outside_of : (links : Links) (x : State) (a v n more : ℕ) → IsSetting links x a v → size (template_at (image_of x.kernel) a) ≡ n + 1 → flash_word (mote_of x).flash.words (v + n) ≡ a → more ≤ 20
+pub outside_of : (links : Links) (x : State) (a v n more : ℕ) → IsSetting links x a v → size (template_at (image_held x.kernel) a) ≡ n + 1 → flash_word (mote_of x).flash.words (v + n) ≡ a → more ≤ 20
     → IsQuiet (placed (mote_of x) v) (begun (mote_of x) v) → Passes (v + 1) (v + (n + 1)) more (begun (mote_of x) v) (trapped (mote_of x) (v + (n + 1) - 1) (saved_of (mote_of x))) → Asked x a (saved_of (mote_of x)) (v + n) mem_entry more
 outside_of links x a v n more s width word few first passes =
     let m = mote_of x in
@@ -231,6 +231,6 @@ inline_law links x a v n address steps lower upper form r sram sram' sp s f t =
         | inl over ↦ outside upper t.few.2 (t.ways.above over)
         | inr to ↦ inside_law links x a v (n + 1) steps form r sram sram' sp s
             (inside_of links x a v n address steps lower upper form r sram sram' sp s t from to)
-            f (ap (raised a) (sym t.one) ∙ f.next) t.width (omega arith)
+            f (ap (wrapping_sum a) (sym t.one) ∙ f.next) t.width (omega arith)
       ]
     ]

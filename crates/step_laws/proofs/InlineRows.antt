@@ -6,7 +6,7 @@ use Rattle.avr_isa.specs.declared.form.Form.{Form}
 use Rattle.avr_isa.specs.Encoding.{first_word, second_word, IsRow}
 use Rattle.avr_isa.specs.Instruction.{is_valid}
 use Rattle.avr_decode.proofs.Decoded.{the_form_only}
-use Rattle.avr_exec.specs.Registers.{raised}
+use Rattle.avr_exec.specs.Registers.{wrapping_sum}
 use Rattle.flash_model.specs.Pages.{word_at}
 use Rattle.nat_template.specs.declared.piece.Piece.{Piece}
 use Rattle.nat_template.specs.declared.piece.Piece.TheVariants.{Fixed}
@@ -33,15 +33,15 @@ stand_split words a (x ∷ xs) ys all =
     let there : a + 1 + length xs ≡ a + length (x ∷ xs) = omega arith in
     ((all.0, rest.0), subst P there rest.1)
 
-row_by : (form : Form) (words : List ℕ) (a : ℕ) (second : Option ℕ) → second_word form ≡ second → a + 1 < 65536 → Stand words a (first_word form ∷ second_words second) → IsRow form (word_at words a) (word_at words (raised a 1))
+row_by : (form : Form) (words : List ℕ) (a : ℕ) (second : Option ℕ) → second_word form ≡ second → a + 1 < 65536 → Stand words a (first_word form ∷ second_words second) → IsRow form (word_at words a) (word_at words (wrapping_sum a 1))
 row_by form words a None is room stands = record {
   opcode = stands.0;
-  address = let P : Option ℕ → Type 0 = λ s. MatchOption s ⊤ (λ w. word_at words (raised a 1) ≡ w) in subst P (sym is) tt;
+  address = let P : Option ℕ → Type 0 = λ s. MatchOption s ⊤ (λ w. word_at words (wrapping_sum a 1) ≡ w) in subst P (sym is) tt;
 }
 row_by form words a (Some w) is room stands = record {
   opcode = stands.0;
   address =
-      let P : Option ℕ → Type 0 = λ s. MatchOption s ⊤ (λ w. word_at words (raised a 1) ≡ w) in
+      let P : Option ℕ → Type 0 = λ s. MatchOption s ⊤ (λ w. word_at words (wrapping_sum a 1) ≡ w) in
       let here : (a + 1) % 65536 ≡ a + 1 = omega arith in
       subst P (sym is) (ap (word_at words) here ∙ stands.1.0);
 }
@@ -52,7 +52,7 @@ row_stands words a (form ∷ forms) room valid stands =
     let two = stand_split words a (words_of_form form) (words_of_forms forms) stands in
     let here : a + 1 < 65536 = omega arith in
     let more : a + width_of form + length (words_of_forms forms) + 1 < 65536 = omega (arith, length-append (second_words (second_word form)) (words_of_forms forms)) in
-    (the_form_only form (word_at words a) (word_at words (raised a 1)) valid.0 (row_by form words a (second_word form) refl here two.0), row_stands words (a + width_of form) forms more valid.1 two.1)
+    (the_form_only form (word_at words a) (word_at words (wrapping_sum a 1)) valid.0 (row_by form words a (second_word form) refl here two.0), row_stands words (a + width_of form) forms more valid.1 two.1)
 
 -- from the pieces of an inline template; behind them stands the pc
 fixed_stand : (leads : ℕ → ℕ → Type 0) (words : List ℕ) (a : ℕ) (ws : List ℕ) (rest : List Piece) → Stands leads words a (map (λ w. Fixed w) ws ++ rest) → Stand words a ws × Stands leads words (a + length ws) rest

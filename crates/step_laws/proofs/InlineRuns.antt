@@ -6,7 +6,7 @@ use Rattle.avr_isa.specs.declared.form.Form.TheVariants as forms
 use Rattle.avr_isa.specs.declared.operation.Base.TheVariants.{Y}
 use Rattle.avr_decode.specs.Program.{instruction_at}
 use Rattle.avr_exec.specs.declared.cpu.Cpu.{Cpu}
-use Rattle.avr_exec.specs.Registers.{raised}
+use Rattle.avr_exec.specs.Registers.{wrapping_sum}
 use Rattle.avr_exec.specs.Execution.{is_executed}
 use Rattle.avr_exec.specs.Spaces.{Outcome, Went as WentOn, Stopped as StoppedOn}
 use Rattle.heap_frames.specs.Paged.{IsPaged}
@@ -23,7 +23,7 @@ use Rattle.mem_guard.proofs.GuardedStep.{guarded_goes, guarded_stops}
 use Rattle.kernel_entry.specs.declared.kernel.Kernel.{Kernel}
 use Rattle.kernel_entry.specs.declared.kernel.Served.TheVariants as answers
 use Rattle.kernel_entry.specs.Conditions.{CanServe}
-use Rattle.kernel_entry.specs.Parts.{core_of, descriptor, image_of, memory_of, return_address}
+use Rattle.kernel_entry.specs.Parts.{core_of, descriptor, memory_of, return_address, image_held}
 use Rattle.kernel_entry.specs.Seen.{program, state_at}
 use Rattle.kernel_entry.specs.Services.{served, served_at}
 use Rattle.inline_laws.specs.InlineWays.{Passes, begun, trapped, saved_of}
@@ -54,7 +54,7 @@ paged_at k (CanServe.AtFault at shape) is = absurd (omega arith)
 
 -- MEM's answer, by what the execution comes to
 mem_goes : (k : Kernel) (a to : ℕ) (form : Form) (end : Kernel) (crossings : ℕ) (o : Outcome Guarded Cpu) → executed_at k a form ≡ o → IsPaged k.mote.sram k.mote.swap → k.mote.cpu.pc ≡ mem_entry → descriptor k ≡ a
-    → instruction_at (image_of k) a ≡ Some form → is_executed form ≡ true → RunsOn k a form → tried (program k) (state_at k a 0 0) ≡ Goes None (state_at end to 1 crossings)
+    → instruction_at (image_held k) a ≡ Some form → is_executed form ≡ true → RunsOn k a form → tried (program k) (state_at k a 0 0) ≡ Goes None (state_at end to 1 crossings)
     → ((served k).0 ≡ answers.Resume None) × ((s c : ℕ) → state_at (served k).1 to s c ≡ state_at end to s c)
 unfolding served
 mem_goes k a to form end crossings (WentOn cpu g) done paged at behind is runs apart goes =
@@ -63,11 +63,11 @@ mem_goes k a to form end crossings (WentOn cpu g) done paged at behind is runs a
     let silent : g.line ≡ None = cc in
     let same : state_of g cpu 1 (crossings_over a cpu.pc 0) ≡ state_at end to 1 crossings = cc in
     let there : cpu.pc ≡ to = ap (λ (f : FlatState). f.cpu.pc) same in
-    let k' = returned k cpu g (raised (return_address k) 1) in
+    let k' = returned k cpu g (wrapping_sum (return_address k) 1) in
     let size = (kept_of k a form cpu g paged done).paged.sized.sram in
     let answer : served k ≡ (answers.Resume g.line, k') = ap (λ pc. served_at pc k) at ∙ resumed_is k (return_address k) a form (WentOn cpu g) refl behind is done in
     let P : ℕ → Type 0 = λ pc. (s c : ℕ) → state_at k' pc s c ≡ state_at end to s c in
-    let sees : P cpu.pc = λ s c. flat_put k cpu g (raised (return_address k) 1) s c size ∙ ap (λ (f : FlatState). record f { steps = s; crossings = c }) same in
+    let sees : P cpu.pc = λ s c. flat_put k cpu g (wrapping_sum (return_address k) 1) s c size ∙ ap (λ (f : FlatState). record f { steps = s; crossings = c }) same in
     (ap (λ o. o.0) answer ∙ ap (λ l. answers.Resume l) silent, λ s c. ap (λ o. state_at o.1 to s c) answer ∙ subst P there sees s c)
 mem_goes k a to form end crossings (StoppedOn stop) done paged at behind is runs apart goes =
     let both = sym (guarded_stops (memory_of k) (core_of k a) 0 0 form stop paged refl is runs apart done) ∙ goes in
@@ -75,13 +75,13 @@ mem_goes k a to form end crossings (StoppedOn stop) done paged at behind is runs
 
 as_mem : (x : State) (a to : ℕ) (form : Form) (end : Kernel) → IsReached x a form → ((s c : ℕ) → tried_at x a s c ≡ Goes None (state_at end to (s + 1) (crossings_over a to c))) → IsAsMem x a to end
 as_mem x a to form end f original k asks =
-    let image : image_of k ≡ image_of x.kernel = ap (λ p. p.image) asks.same in
+    let image : image_held k ≡ image_held x.kernel = ap (λ p. p.image) asks.same in
     let apart : shape_of_form a form ≢ SelfJump = λ e. let e' = sym (sym (ap (shape_of a) f.is) ∙ f.shape) ∙ e in cc in
     mem_goes k a to form end (crossings_over a to 0) _ refl (paged_at k asks.can asks.at) asks.at asks.address (ap (λ i. instruction_at i a) image ∙ f.is) f.runs (runs_on k a form apart)
     (ap₂ (λ p s. tried p s) asks.same (asks.sees a 0 0) ∙ original 0 0)
 
 -- MEM is asked at the trap
-trap_asks_mem : (x : State) (a back : ℕ) (ram : List ℕ) → IsAsked x a ram back mem_entry → shape_at (image_of x.kernel) a ≡ Mem → AsksMem x a (asked x ram back mem_entry)
+trap_asks_mem : (x : State) (a back : ℕ) (ram : List ℕ) → IsAsked x a ram back mem_entry → shape_at (image_held x.kernel) a ≡ Mem → AsksMem x a (asked x ram back mem_entry)
 trap_asks_mem x a back ram c shape = record { at = refl; can = CanServe.AtMem refl (c.shape ∙ shape) c.can; address = c.behind; same = refl; sees = c.sees }
 
 -- the ways through a template
@@ -117,7 +117,7 @@ runs_of links x a v n address steps lower upper form r sram sram' sp s f t =
             top = s.ready.idle.top;
             stack = λ b low high. i.same.bytes b (omega arith) ∙ t.others from b (omega arith) (omega arith);
             original = goes;
-            service = as_mem x a (raised a 1) form (with_mote x end).kernel f goes;
+            service = as_mem x a (wrapping_sum a 1) form (with_mote x end).kernel f goes;
             asker = (asked x (saved_of m) (v + n) mem_entry, trap_asks_mem x a (v + n) (saved_of m) trap f.shape);
             leaves = record {
               flash = refl;
@@ -138,7 +138,7 @@ chosen true x a own t is runs = absurd (cc)
 chosen false x a own t is runs = let same : own ≡ t = cc in subst (HasInlineRun x a) same (runs refl)
 
 -- by the instruction
-runs_by : (links : Links) (x : State) (a v : ℕ) (form : Option Form) (t : Inline) → IsSetting links x a v → instruction_at (image_of x.kernel) a ≡ form → inline_of (mote_of x) form ≡ Some t → HasInlineRun x a t
+runs_by : (links : Links) (x : State) (a v : ℕ) (form : Option Form) (t : Inline) → IsSetting links x a v → instruction_at (image_held x.kernel) a ≡ form → inline_of (mote_of x) form ≡ Some t → HasInlineRun x a t
 unfolding shape_of_form mem_pieces
 runs_by links x a v (Some (forms.Push d)) t s is here = chosen (is_z d) x a _ t here (λ plain.
     let f = reached_by links x a v (forms.Push d) s is refl in
@@ -155,4 +155,4 @@ runs_by links x a v (Some (forms.StoreOff Y q d)) t s is here = chosen (is_z d) 
 runs_by links x a v _ t s is here = absurd (cc)
 
 pub runs_inline : RunInline
-runs_inline x a t here is = runs_by (links_at x) x a (mote_of x).cpu.pc (instruction_at (image_of x.kernel) a) t (entry_setting x a here) refl is
+runs_inline x a t here is = runs_by (links_at x) x a (mote_of x).cpu.pc (instruction_at (image_held x.kernel) a) t (entry_setting x a here) refl is

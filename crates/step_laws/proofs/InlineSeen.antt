@@ -9,13 +9,13 @@ use Rattle.avr_exec.specs.declared.cpu.Cpu.{Cpu}
 use Rattle.avr_exec.specs.declared.ask.Ask.TheVariants.{Nothing, Load, Store, PushByte, PopByte}
 use Rattle.avr_exec.specs.declared.answer.Answer.TheVariants.{Done, Byte}
 use Rattle.avr_exec.specs.declared.stop.BusStop.TheVariants.{Stack as StackStop}
-use Rattle.avr_exec.specs.Registers.{is_own, own_byte, with_own_byte, with_counter, raised, lowered}
+use Rattle.avr_exec.specs.Registers.{is_own, own_byte, with_own_byte, with_counter, wrapping_sum, wrapping_difference}
 use Rattle.avr_exec.specs.Asks.{ask_of, load_of, store_of}
 use Rattle.avr_exec.specs.Effects.{finish_of, loaded, stored}
 use Rattle.avr_exec.specs.Execution.{answered_by, answer_of}
 use Rattle.avr_exec.specs.Spaces.{Went as WentOn, Stopped as StoppedOn}
 use Rattle.avr_exec.proofs.OneAnswer.{exec_went}
-use Rattle.sram_layout.specs.Bytes.{byte_at, with_byte, word_at}
+use Rattle.sram_layout.specs.Bytes.{byte_at, with_byte, data_word_at}
 use Rattle.sram_layout.specs.Cells.{vsp_cell}
 use Rattle.heap_frames.specs.Addresses.{is_stack, is_heap}
 use Rattle.heap_frames.specs.Memory.{vmem}
@@ -27,7 +27,7 @@ use Rattle.mem_guard.specs.Classes.{class_of}
 use Rattle.mem_guard.specs.FlatMachine.{next_size}
 use Rattle.mem_guard.specs.Guarded.{Guarded, guarded_calls, load, load_in, store, store_in, push, pop, with_sram, state_of}
 use Rattle.kernel_entry.specs.declared.kernel.Kernel.{Kernel}
-use Rattle.kernel_entry.specs.Parts.{core_of, image_of, memory_of, virtual_sp}
+use Rattle.kernel_entry.specs.Parts.{core_of, memory_of, virtual_sp, image_held}
 use Rattle.kernel_entry.specs.Seen.{state_at}
 use Rattle.step_laws.proofs.Executed.{executed_at}
 use Rattle.step_laws.proofs.SameProgram.{flat_parts}
@@ -38,9 +38,9 @@ pushed_there : (g : Guarded) (sp v : ℕ) → is_stack sp ≡ true → answer_of
 unfolding answer_of push
 pushed_there g sp v stack = ap (λ b. answered_by (λ (_ : Unit {0}). Done) (cond b (WentOn tt (with_sram g sp v)) (StoppedOn (StackStop sp)))) stack
 
-popped_there : (g : Guarded) (sp : ℕ) → is_stack (raised sp 1) ≡ true → answer_of guarded_calls g (PopByte sp) ≡ WentOn (Byte (byte_at g.sram (raised sp 1))) g
+popped_there : (g : Guarded) (sp : ℕ) → is_stack (wrapping_sum sp 1) ≡ true → answer_of guarded_calls g (PopByte sp) ≡ WentOn (Byte (byte_at g.sram (wrapping_sum sp 1))) g
 unfolding answer_of pop
-popped_there g sp stack = ap (λ b. answered_by Byte (cond b (WentOn (byte_at g.sram (raised sp 1)) g) (StoppedOn (StackStop (raised sp 1))))) stack
+popped_there g sp stack = ap (λ b. answered_by Byte (cond b (WentOn (byte_at g.sram (wrapping_sum sp 1)) g) (StoppedOn (StackStop (wrapping_sum sp 1))))) stack
 
 not_low : (a : ℕ) → 0x0D00 ≤ a → nat_lt a 0x20 ≡ false
 not_low a from = grind (arith, nat_tests)
@@ -80,7 +80,7 @@ stored_is cpu a v from = ap (λ b. cond b (with_own_byte cpu a v) cpu) (not_own 
 
 -- The instruction goes on, with these registers and stack pointer, and these bytes.
 abbrev pub core_after : Kernel → ℕ → List ℕ → ℕ → Cpu
-core_after k a r sp = record { r = r; sreg = k.mote.cpu.sreg; sp = sp; pc = raised a 1 }
+core_after k a r sp = record { r = r; sreg = k.mote.cpu.sreg; sp = sp; pc = wrapping_sum a 1 }
 
 abbrev pub memory_after : Kernel → List ℕ → Guarded
 memory_after k sram = record (memory_of k) { sram = sram }
@@ -91,8 +91,8 @@ unfolding ask_of finish_of
 push_executed k a d from to =
     let sp = virtual_sp k in
     let x = slice_index k.mote.cpu.r d in
-    let down : lowered sp 1 ≡ sp - 1 = omega arith in
-    exec_went guarded_calls (Push d) (core_of k a) (memory_of k) (next_size (image_of k) a) Done (memory_after k (with_byte k.mote.sram sp x)) (pushed_there (memory_of k) sp x (in_window sp from to))
+    let down : wrapping_difference sp 1 ≡ sp - 1 = omega arith in
+    exec_went guarded_calls (Push d) (core_of k a) (memory_of k) (next_size (image_held k) a) Done (memory_after k (with_byte k.mote.sram sp x)) (pushed_there (memory_of k) sp x (in_window sp from to))
     ∙ ap (λ p. WentOn (core_after k a k.mote.cpu.r p) (memory_after k (with_byte k.mote.sram sp x))) down
 
 pub pop_executed : (k : Kernel) (a d : ℕ) → 0x0D00 ≤ above_pointer k.mote → above_pointer k.mote ≤ 0x10FF
@@ -100,7 +100,7 @@ pub pop_executed : (k : Kernel) (a d : ℕ) → 0x0D00 ≤ above_pointer k.mote 
 unfolding ask_of finish_of
 pop_executed k a d from to =
     let p = above_pointer k.mote in
-    exec_went guarded_calls (Pop d) (core_of k a) (memory_of k) (next_size (image_of k) a) (Byte (byte_at k.mote.sram p)) (memory_of k) (popped_there (memory_of k) (virtual_sp k) (in_window p from to))
+    exec_went guarded_calls (Pop d) (core_of k a) (memory_of k) (next_size (image_held k) a) (Byte (byte_at k.mote.sram p)) (memory_of k) (popped_there (memory_of k) (virtual_sp k) (in_window p from to))
 
 pub load_executed : (k : Kernel) (a d q : ℕ) → 0x0D00 ≤ from_frame k.mote q → from_frame k.mote q ≤ 0x10FF
     → executed_at k a (LoadOff d Y q) ≡ WentOn (core_after k a (slice_set k.mote.cpu.r d (byte_at k.mote.sram (from_frame k.mote q))) (virtual_sp k)) (memory_of k)
@@ -108,7 +108,7 @@ unfolding ask_of finish_of
 load_executed k a d q from to =
     let p = from_frame k.mote q in
     let x = byte_at k.mote.sram p in
-    exec_went guarded_calls (LoadOff d Y q) (core_of k a) (memory_of k) (next_size (image_of k) a) (Byte x) (memory_of k) (loaded_there (memory_of k) p from to)
+    exec_went guarded_calls (LoadOff d Y q) (core_of k a) (memory_of k) (next_size (image_held k) a) (Byte x) (memory_of k) (loaded_there (memory_of k) p from to)
     ∙ ap (λ y. WentOn (core_after k a (slice_set k.mote.cpu.r d y) (virtual_sp k)) (memory_of k)) (loaded_is (core_of k a) p x from)
 
 pub store_executed : (k : Kernel) (a d q : ℕ) → 0x0D00 ≤ from_frame k.mote q → from_frame k.mote q ≤ 0x10FF
@@ -117,11 +117,11 @@ unfolding ask_of finish_of
 store_executed k a d q from to =
     let p = from_frame k.mote q in
     let x = slice_index k.mote.cpu.r d in
-    exec_went guarded_calls (StoreOff Y q d) (core_of k a) (memory_of k) (next_size (image_of k) a) Done (memory_after k (with_byte k.mote.sram p x)) (stored_there (memory_of k) p x from to)
-    ∙ ap (λ (c : Cpu). WentOn (with_counter c (raised c.pc 1)) (memory_after k (with_byte k.mote.sram p x))) (stored_is (core_of k a) p x from)
+    exec_went guarded_calls (StoreOff Y q d) (core_of k a) (memory_of k) (next_size (image_held k) a) Done (memory_after k (with_byte k.mote.sram p x)) (stored_there (memory_of k) p x from to)
+    ∙ ap (λ (c : Cpu). WentOn (with_counter c (wrapping_sum c.pc 1)) (memory_after k (with_byte k.mote.sram p x))) (stored_is (core_of k a) p x from)
 
 -- another kernel is seen alike where SRAM agrees from 0x0120 on, and the stack pointer is this
-pub seen_alike : (k l : Kernel) (sram : List ℕ) (sp t s c : ℕ) → word_at l.mote.sram vsp_cell ≡ sp → length l.mote.sram ≡ length sram → ((b : ℕ) → 0x0120 ≤ b → byte_at l.mote.sram b ≡ byte_at sram b)
+pub seen_alike : (k l : Kernel) (sram : List ℕ) (sp t s c : ℕ) → data_word_at l.mote.sram vsp_cell ≡ sp → length l.mote.sram ≡ length sram → ((b : ℕ) → 0x0120 ≤ b → byte_at l.mote.sram b ≡ byte_at sram b)
     → l.mote.devices ≡ k.mote.devices → l.mote.swap ≡ k.mote.swap
     → state_at l t s c ≡ state_of (memory_after k sram) (record { r = l.mote.cpu.r; sreg = l.mote.cpu.sreg; sp = sp; pc = t }) s c
 seen_alike k l sram sp t s c pointer size bytes devices swap =

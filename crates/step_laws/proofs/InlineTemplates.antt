@@ -13,7 +13,7 @@ use Rattle.nat_template.specs.Inline.{push_forms, pop_forms, load_forms, store_f
 use Rattle.nat_template.specs.Templates.{mem_or, inline, is_z}
 use Rattle.nat_page.specs.Standing.{Stands, size}
 use Rattle.nat_page.specs.Runs.{template_at}
-use Rattle.kernel_entry.specs.Parts.{image_of}
+use Rattle.kernel_entry.specs.Parts.{image_held}
 use Rattle.inline_laws.specs.InlineWays.{saved_of, with_pushed, with_pointer, pointer_of, above_pointer, from_frame}
 use Rattle.inline_laws.proofs.Cells.{saved_same, stack_written, pushed_same, pointer_same, pointer_written, pointer_low, pointer_saved, pointer_apart, pointer_byte_saved}
 use Rattle.inline_laws.proofs.PushLaw.{push_passes}
@@ -24,7 +24,8 @@ use Rattle.step_laws.specs.Settings.{IsSetting}
 use Rattle.step_laws.specs.Links.{Links}
 use Rattle.step_laws.specs.StepLaws.{StepLaw}
 use Rattle.step_laws.specs.States.{State, mote_of}
-use Rattle.step_laws.proofs.CodeLaws.{image_words, valid_at}
+use Rattle.step_laws.proofs.CodeLaws.{image_words}
+use Rattle.avr_decode.proofs.Decoded.{valid_at}
 use Rattle.step_laws.proofs.InlineForms.{other_than_z, push_valid, pop_valid, frame_load_valid, frame_store_valid}
 use Rattle.step_laws.proofs.InlineRows.{inline_row}
 use Rattle.step_laws.proofs.InlineSeen.{push_executed, pop_executed, load_executed, store_executed}
@@ -33,14 +34,14 @@ use Rattle.step_laws.proofs.MemService.{IsReached, called_law}
 use Rattle.step_laws.specs.Settings.{IsBounded}
 
 -- the instructions where the template stands, and that the program's own is valid
-at_template : (links : Links) (x : State) (a v : ℕ) (forms : List Form) → IsSetting links x a v → template_at (image_of x.kernel) a ≡ inline forms a → Stands links.enters (mote_of x).flash.words v (inline forms a)
+at_template : (links : Links) (x : State) (a v : ℕ) (forms : List Form) → IsSetting links x a v → template_at (image_held x.kernel) a ≡ inline forms a → Stands links.enters (mote_of x).flash.words v (inline forms a)
 at_template links x a v forms s template = let P : List Piece → Type 0 = λ pieces. Stands links.enters (mote_of x).flash.words v pieces in subst P template s.code.template
 
 valid_there : (x : State) (a : ℕ) (form : Form) → IsBounded x.kernel → IsReached x a form → IsTrue (is_valid form)
-valid_there x a form bounded f = valid_at (image_of x.kernel) a form (image_words x.kernel bounded) f.is
+valid_there x a form bounded f = valid_at (image_held x.kernel) a form (image_words x.kernel bounded) f.is
 
 -- PUSH
-pub push_inline : (links : Links) (x : State) (a v d : ℕ) → is_z d ≡ false → IsSetting links x a v → IsReached x a (forms.Push d) → template_at (image_of x.kernel) a ≡ inline (push_forms d) a
+pub push_inline : (links : Links) (x : State) (a v d : ℕ) → is_z d ≡ false → IsSetting links x a v → IsReached x a (forms.Push d) → template_at (image_held x.kernel) a ≡ inline (push_forms d) a
     → (let m = mote_of x in let p = pointer_of m in IsInline x a v 38 p 18 12 14 (forms.Push d) (m.cpu.r) (with_byte m.sram p (slice_index m.cpu.r d)) (with_pushed (saved_of m) p (slice_index m.cpu.r d)) (p - 1))
 unfolding push_forms second_word size_of
 push_inline links x a v d is s f template =
@@ -67,12 +68,12 @@ push_inline links x a v d is s f template =
       registers = refl;
     }
 
-pub push_law : (links : Links) (x : State) (a v d : ℕ) (called : Bool) → is_z d ≡ called → IsSetting links x a v → IsReached x a (forms.Push d) → template_at (image_of x.kernel) a ≡ mem_or called (push_forms d) a → StepLaw links x a
+pub push_law : (links : Links) (x : State) (a v d : ℕ) (called : Bool) → is_z d ≡ called → IsSetting links x a v → IsReached x a (forms.Push d) → template_at (image_held x.kernel) a ≡ mem_or called (push_forms d) a → StepLaw links x a
 push_law links x a v d true is s f template = called_law links x a v (forms.Push d) s f template
 push_law links x a v d false is s f template = inline_law links x a v 38 _ 18 12 14 (forms.Push d) _ _ _ _ s f (push_inline links x a v d is s f template)
 
 -- POP
-pub pop_inline : (links : Links) (x : State) (a v d : ℕ) → is_z d ≡ false → IsSetting links x a v → IsReached x a (forms.Pop d) → template_at (image_of x.kernel) a ≡ inline (pop_forms d) a
+pub pop_inline : (links : Links) (x : State) (a v d : ℕ) → is_z d ≡ false → IsSetting links x a v → IsReached x a (forms.Pop d) → template_at (image_held x.kernel) a ≡ inline (pop_forms d) a
     → (let m = mote_of x in let p = above_pointer m in IsInline x a v 38 p 18 13 15 (forms.Pop d) (slice_set m.cpu.r d (byte_at m.sram p)) (m.sram) (with_pointer (saved_of m) p) (p))
 unfolding pop_forms second_word size_of
 pop_inline links x a v d is s f template =
@@ -99,12 +100,12 @@ pop_inline links x a v d is s f template =
       registers = length-set m.cpu.r d (byte_at m.sram p);
     }
 
-pub pop_law : (links : Links) (x : State) (a v d : ℕ) (called : Bool) → is_z d ≡ called → IsSetting links x a v → IsReached x a (forms.Pop d) → template_at (image_of x.kernel) a ≡ mem_or called (pop_forms d) a → StepLaw links x a
+pub pop_law : (links : Links) (x : State) (a v d : ℕ) (called : Bool) → is_z d ≡ called → IsSetting links x a v → IsReached x a (forms.Pop d) → template_at (image_held x.kernel) a ≡ mem_or called (pop_forms d) a → StepLaw links x a
 pop_law links x a v d true is s f template = called_law links x a v (forms.Pop d) s f template
 pop_law links x a v d false is s f template = inline_law links x a v 38 _ 18 13 15 (forms.Pop d) _ _ _ _ s f (pop_inline links x a v d is s f template)
 
 -- LDD with Y+q
-pub load_inline : (links : Links) (x : State) (a v d q : ℕ) → is_z d ≡ false → IsSetting links x a v → IsReached x a (forms.LoadOff d Y q) → template_at (image_of x.kernel) a ≡ inline (load_forms d q) a
+pub load_inline : (links : Links) (x : State) (a v d q : ℕ) → is_z d ≡ false → IsSetting links x a v → IsReached x a (forms.LoadOff d Y q) → template_at (image_held x.kernel) a ≡ inline (load_forms d q) a
     → (let m = mote_of x in let p = from_frame m q in IsInline x a v 31 p 15 12 14 (forms.LoadOff d Y q) (slice_set m.cpu.r d (byte_at m.sram p)) (m.sram) (saved_of m) (pointer_of m))
 unfolding load_forms second_word size_of
 load_inline links x a v d q is s f template =
@@ -131,12 +132,12 @@ load_inline links x a v d q is s f template =
       registers = length-set m.cpu.r d (byte_at m.sram p);
     }
 
-pub load_law : (links : Links) (x : State) (a v d q : ℕ) (called : Bool) → is_z d ≡ called → IsSetting links x a v → IsReached x a (forms.LoadOff d Y q) → template_at (image_of x.kernel) a ≡ mem_or called (load_forms d q) a → StepLaw links x a
+pub load_law : (links : Links) (x : State) (a v d q : ℕ) (called : Bool) → is_z d ≡ called → IsSetting links x a v → IsReached x a (forms.LoadOff d Y q) → template_at (image_held x.kernel) a ≡ mem_or called (load_forms d q) a → StepLaw links x a
 load_law links x a v d q true is s f template = called_law links x a v (forms.LoadOff d Y q) s f template
 load_law links x a v d q false is s f template = inline_law links x a v 31 _ 15 12 14 (forms.LoadOff d Y q) _ _ _ _ s f (load_inline links x a v d q is s f template)
 
 -- STD with Y+q
-pub store_inline : (links : Links) (x : State) (a v d q : ℕ) → is_z d ≡ false → IsSetting links x a v → IsReached x a (forms.StoreOff Y q d) → template_at (image_of x.kernel) a ≡ inline (store_forms q d) a
+pub store_inline : (links : Links) (x : State) (a v d q : ℕ) → is_z d ≡ false → IsSetting links x a v → IsReached x a (forms.StoreOff Y q d) → template_at (image_held x.kernel) a ≡ inline (store_forms q d) a
     → (let m = mote_of x in let p = from_frame m q in IsInline x a v 31 p 15 12 14 (forms.StoreOff Y q d) (m.cpu.r) (with_byte m.sram p (slice_index m.cpu.r d)) (with_byte (saved_of m) p (slice_index m.cpu.r d)) (pointer_of m))
 unfolding store_forms second_word size_of
 store_inline links x a v d q is s f template =
@@ -163,6 +164,6 @@ store_inline links x a v d q is s f template =
       registers = refl;
     }
 
-pub store_law : (links : Links) (x : State) (a v d q : ℕ) (called : Bool) → is_z d ≡ called → IsSetting links x a v → IsReached x a (forms.StoreOff Y q d) → template_at (image_of x.kernel) a ≡ mem_or called (store_forms q d) a → StepLaw links x a
+pub store_law : (links : Links) (x : State) (a v d q : ℕ) (called : Bool) → is_z d ≡ called → IsSetting links x a v → IsReached x a (forms.StoreOff Y q d) → template_at (image_held x.kernel) a ≡ mem_or called (store_forms q d) a → StepLaw links x a
 store_law links x a v d q true is s f template = called_law links x a v (forms.StoreOff Y q d) s f template
 store_law links x a v d q false is s f template = inline_law links x a v 31 _ 15 12 14 (forms.StoreOff Y q d) _ _ _ _ s f (store_inline links x a v d q is s f template)

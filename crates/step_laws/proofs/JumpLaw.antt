@@ -5,7 +5,7 @@ use Rattle.avr_isa.specs.Crossing.{is_crossing}
 use Rattle.avr_isa.specs.Image.{word}
 use Rattle.avr_isa.specs.declared.form.Form.{Form}
 use Rattle.avr_isa.specs.declared.form.Form.TheVariants as forms
-use Rattle.avr_isa.specs.IoTable.{can_read, can_write, data_address}
+use Rattle.avr_isa.specs.IoTable.{can_read, can_write, io_address}
 use Rattle.avr_flags.specs.Status.{has_bit, interrupts}
 use Rattle.avr_exec.specs.declared.answer.Answer.TheVariants.{Done}
 use Rattle.avr_exec.specs.declared.ask.Ask.TheVariants.{Nothing}
@@ -39,7 +39,7 @@ use Rattle.step_laws.specs.Moves.{lines_of}
 use Rattle.step_laws.proofs.StubLaw.{stub_law}
 use Rattle.avr_decode.specs.Program.{instruction_at}
 use Rattle.nat_page.specs.Links.{EachLink}
-use Rattle.kernel_entry.specs.Parts.{core_of, image_of, memory_of}
+use Rattle.kernel_entry.specs.Parts.{core_of, memory_of, image_held}
 use Rattle.preempt_count.specs.Counting.{count_over}
 use Rattle.step_laws.proofs.ShapeTests.{not_chosen, not_io, chosen_other}
 use Rattle.kernel_entry.specs.Seen.{program, state_at}
@@ -53,21 +53,21 @@ jump_form : (pc : ℕ) (form : Form) → shape_of_form pc form ≡ Jump → IsJu
 unfolding shape_of_form
 jump_form pc (forms.Rjmp k) is = IsJump.ByRjmp k refl (chosen_other (relative pc k == pc) SelfJump Jump Jump (λ e. cc) is)
 jump_form pc (forms.Jmp t) is = IsJump.ByJmp t refl (chosen_other (t == pc) SelfJump Jump Jump (λ e. cc) is)
-jump_form pc (forms.InIo d a) is = absurd (not_io (is_stack_pointer a) (can_read (data_address a)) Jump (λ e. cc) (λ e. cc) (λ e. cc) is)
-jump_form pc (forms.OutIo a r) is = absurd (not_io (is_stack_pointer a) (can_write (data_address a)) Jump (λ e. cc) (λ e. cc) (λ e. cc) is)
-jump_form pc (forms.Cbi a b) is = absurd (not_chosen (can_modify (data_address a)) Native Fault Jump (λ e. cc) (λ e. cc) is)
-jump_form pc (forms.Sbi a b) is = absurd (not_chosen (can_modify (data_address a)) Native Fault Jump (λ e. cc) (λ e. cc) is)
-jump_form pc (forms.Sbic a b) is = absurd (not_chosen (can_read (data_address a)) Skip Fault Jump (λ e. cc) (λ e. cc) is)
-jump_form pc (forms.Sbis a b) is = absurd (not_chosen (can_read (data_address a)) Skip Fault Jump (λ e. cc) (λ e. cc) is)
+jump_form pc (forms.InIo d a) is = absurd (not_io (is_stack_pointer a) (can_read (io_address a)) Jump (λ e. cc) (λ e. cc) (λ e. cc) is)
+jump_form pc (forms.OutIo a r) is = absurd (not_io (is_stack_pointer a) (can_write (io_address a)) Jump (λ e. cc) (λ e. cc) (λ e. cc) is)
+jump_form pc (forms.Cbi a b) is = absurd (not_chosen (can_modify (io_address a)) Native Fault Jump (λ e. cc) (λ e. cc) is)
+jump_form pc (forms.Sbi a b) is = absurd (not_chosen (can_modify (io_address a)) Native Fault Jump (λ e. cc) (λ e. cc) is)
+jump_form pc (forms.Sbic a b) is = absurd (not_chosen (can_read (io_address a)) Skip Fault Jump (λ e. cc) (λ e. cc) is)
+jump_form pc (forms.Sbis a b) is = absurd (not_chosen (can_read (io_address a)) Skip Fault Jump (λ e. cc) (λ e. cc) is)
 jump_form pc _ is = absurd (cc)
 
 -- the original's step
-pub jump_tried : (k : Kernel) (a t : ℕ) (form : Form) → IsPaged k.mote.sram k.mote.swap → instruction_at (image_of k) a ≡ Some form → is_executed form ≡ true → jumps_to_itself a form ≡ false → ask_of form (core_of k a) ≡ Nothing
-    → finish_of form (core_of k a) (next_size (image_of k) a) Done ≡ core_of k t → (s c : ℕ)
+pub jump_tried : (k : Kernel) (a t : ℕ) (form : Form) → IsPaged k.mote.sram k.mote.swap → instruction_at (image_held k) a ≡ Some form → is_executed form ≡ true → jumps_to_itself a form ≡ false → ask_of form (core_of k a) ≡ Nothing
+    → finish_of form (core_of k a) (next_size (image_held k) a) Done ≡ core_of k t → (s c : ℕ)
     → tried (program k) (state_at k a s c) ≡ Goes None (state_at k t (s + 1) (crossings_over a t c))
 jump_tried k a t form paged is runs apart asks after s c =
     guarded_goes (memory_of k) (memory_of k) (core_of k a) (core_of k t) s c form paged refl is runs (ap (λ b. b && not (has_bit k.mote.cpu.sreg interrupts)) apart)
-    (exec_nothing guarded_calls form (core_of k a) (memory_of k) (next_size (image_of k) a) asks ∙ ap (λ cpu. WentOn cpu (memory_of k)) after)
+    (exec_nothing guarded_calls form (core_of k a) (memory_of k) (next_size (image_held k) a) asks ∙ ap (λ cpu. WentOn cpu (memory_of k)) after)
 
 -- the step from the way through the stub
 keeps_by : (links : Links) (x z : State) (t c : ℕ) → IsPaged (mote_of x).sram (mote_of x).swap → byte_at (mote_of x).sram 0x0103 < 256 → Reached links x t c z → Keeps x z
@@ -112,10 +112,10 @@ jumps_by links x a t paged pointer goes way = record {
 
 -- the target and the original's step, of each form
 record Jumps (k : Kernel) (a t : ℕ) : Type 0 where
-  pub target : target_of a (instruction_at (image_of k) a) ≡ t
+  pub target : target_of a (instruction_at (image_held k) a) ≡ t
   pub goes : (s c : ℕ) → tried (program k) (state_at k a s c) ≡ Goes None (state_at k t (s + 1) (crossings_over a t c))
 
-jumps_of : (k : Kernel) (a : ℕ) (form : Form) → IsPaged k.mote.sram k.mote.swap → instruction_at (image_of k) a ≡ Some form → IsJump a form → (t : ℕ) × Jumps k a t
+jumps_of : (k : Kernel) (a : ℕ) (form : Form) → IsPaged k.mote.sram k.mote.swap → instruction_at (image_held k) a ≡ Some form → IsJump a form → (t : ℕ) × Jumps k a t
 unfolding is_executed ask_of finish_of
 jumps_of k a form paged is (IsJump.ByRjmp n same apart) = (relative a n, record { target = ap (target_of a) (is ∙ ap Some same); goes = jump_tried k a (relative a n) (forms.Rjmp n) paged (is ∙ ap Some same) refl apart refl refl })
 jumps_of k a form paged is (IsJump.ByJmp t same apart) = (t, record { target = ap (target_of a) (is ∙ ap Some same); goes = jump_tried k a t (forms.Jmp t) paged (is ∙ ap Some same) refl apart refl refl })
@@ -126,11 +126,14 @@ jump_law links x a v s shape =
     let code = s.code in
     let paged = s.ready.paged in
     let k = x.kernel in
-    let image = image_of k in
+    let image = image_held k in
     let some = form_of_shape Jump a (instruction_at image a) shape (λ e. cc) in
     let jumps = jumps_of k a some.0 paged some.1 (jump_form a some.0 some.2) in
     let t = jumps.0 in
     let template : template_at image a ≡ stub a t = ap (λ s. template_by s a (word image a) (instruction_at image a) (size_at image (a + 1))) shape ∙ ap (stub a) jumps.1.target in
     let P : List Piece → Type 0 = λ pieces. Stands links.enters (mote_of x).flash.words v pieces in
     let Q : List Piece → Type 0 = λ pieces. IsStretch k.layout (mote_of x).flash.words v (size pieces) in
-    jumps_by links x a t paged s.ready.idle.pointer jumps.1.goes (stub_law links x a t v true s.ready.running (subst Q template (stretch_of links k.layout image (mote_of x).flash.words a v s.ready.bounded.right code)) (subst P template code.template) (subst (λ (pieces : List Piece). EachLink links.marks v pieces) template code.linked) s.ready.idle s.at code.place)
+    jumps_by links x a t paged s.ready.idle.pointer jumps.1.goes
+    (stub_law links x a t v true s.ready.running
+    (subst Q template (stretch_of links k.layout image (mote_of x).flash.words a v s.ready.bounded.right code)) (subst P template code.template)
+    (subst (λ (pieces : List Piece). EachLink links.marks v pieces) template code.linked) s.ready.idle s.at code.place)

@@ -2,7 +2,7 @@
 use Rattle.std.proofs.Common.{ℕ, ◌≡◌, ◌+◌, ◌*◌, ◌/◌, ◌%◌, ◌<◌, ◌≤◌, ◌∙◌, Bool, false, List, length, sym, ap, ap₂, arith, subst}
 use Rattle.std.specs.Prelude.{◌≢◌, Some, None, Option}
 use Rattle.avr_isa.specs.declared.form.Form.TheVariants as forms
-use Rattle.avr_exec.specs.Registers.{lowered}
+use Rattle.avr_exec.specs.Registers.{wrapping_difference}
 use Rattle.flash_model.specs.Pages.{word_at}
 use Rattle.sram_layout.specs.Bytes.{byte_at, with_byte}
 use Rattle.sram_layout.proofs.Laws.{byte_same, byte_other, length-with_byte}
@@ -74,7 +74,7 @@ unfolding served
 bridge_move x p t free at low back word =
     let k = x.kernel in
     let target : descriptor k ≡ t = ap (word_at k.mote.flash.words) back ∙ word in
-    let stub : lowered (return_address k) 2 ≡ p = omega arith in
+    let stub : wrapping_difference (return_address k) 2 ≡ p = omega arith in
     let is : served k ≡ (answers.Goto t (Some p), rested k) = ap (λ pc. served_at pc k) at ∙ ap₂ (λ w q. (answers.Goto w (Some q), rested k)) target stub in
     record {
       free = free.free;

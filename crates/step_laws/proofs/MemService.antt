@@ -6,7 +6,7 @@ use Rattle.avr_isa.specs.Instruction.{size_of}
 use Rattle.avr_isa.specs.Image.{word}
 use Rattle.avr_decode.specs.Program.{instruction_at}
 use Rattle.avr_exec.specs.declared.cpu.Cpu.{Cpu}
-use Rattle.avr_exec.specs.Registers.{raised}
+use Rattle.avr_exec.specs.Registers.{wrapping_sum}
 use Rattle.avr_exec.specs.Execution.{is_executed}
 use Rattle.avr_exec.specs.Likeness.{is_transfer}
 use Rattle.avr_exec.specs.Spaces.{Outcome, Went as WentOn, Stopped as StoppedOn}
@@ -15,7 +15,7 @@ use Rattle.nat_template.specs.Stubs.{service, mem_entry}
 use Rattle.nat_page.specs.Standing.{size}
 use Rattle.nat_page.specs.Runs.{shape_at, template_at, size_at, next_of, is_closed}
 use Rattle.mem_guard.specs.Guarded.{Guarded}
-use Rattle.kernel_entry.specs.Parts.{image_of}
+use Rattle.kernel_entry.specs.Parts.{image_held}
 use Rattle.kernel_entry.specs.Services.{served, stop_of}
 use Rattle.kernel_entry.specs.Conditions.{CanServe}
 use Rattle.step_laws.specs.Settings.{IsSetting}
@@ -33,28 +33,29 @@ use Rattle.avr_isa.proofs.Laws.{size_of-range}
 use Rattle.nat_template.specs.Shapes.{shape_of, shape_of_form}
 use Rattle.nat_template.specs.Templates.{template_by, mem_pieces}
 use Rattle.kernel_entry.proofs.ShapeLaws.{mem_straight}
-use Rattle.step_laws.proofs.CodeLaws.{setting_short, image_words, runs_or_faults}
+use Rattle.nat_template.proofs.ShapeLaws.{runs_or_faults}
+use Rattle.step_laws.proofs.CodeLaws.{setting_short, image_words}
 
 -- the instruction at a, of which MEM is the service
 pub record IsReached (x : State) (a : ℕ) (form : Form) : Type 0 where
-  pub is : instruction_at (image_of x.kernel) a ≡ Some form
-  pub shape : shape_at (image_of x.kernel) a ≡ Mem
+  pub is : instruction_at (image_held x.kernel) a ≡ Some form
+  pub shape : shape_at (image_held x.kernel) a ≡ Mem
   pub straight : is_transfer form ≡ false
   pub runs : is_executed form ≡ true
   pub apart : RunsOn x.kernel a form
-  pub next : raised a (size_of form) ≡ next_of (image_of x.kernel) a
+  pub next : wrapping_sum a (size_of form) ≡ next_of (image_held x.kernel) a
 
 -- MEM is asked, and its call is the last of the template
 pub served_by : (links : Links) (x : State) (a v : ℕ) (ram : List ℕ) (back more : ℕ) (form : Form) (o : Outcome Guarded Cpu) → executed_at (asked x ram back mem_entry) a form ≡ o → IsSetting links x a v → Asked x a ram back mem_entry more
-    → CanServe (asked x ram back mem_entry) → IsReached x a form → back + 1 ≡ v + size (template_at (image_of x.kernel) a) → StepLaw links x a
+    → CanServe (asked x ram back mem_entry) → IsReached x a form → back + 1 ≡ v + size (template_at (image_held x.kernel) a) → StepLaw links x a
 unfolding served
 served_by links x a v ram back more form (WentOn cpu g) done s c can f behind =
-    let image = image_of x.kernel in
+    let image = image_held x.kernel in
     let kc = asked x ram back mem_entry in
-    let z : State = record { kernel = returned kc cpu g (raised back 1); owed = None; end = None } in
+    let z : State = record { kernel = returned kc cpu g (wrapping_sum back 1); owed = None; end = None } in
     let low = c.state.low in
     let row = stretch_of links x.kernel.layout image (mote_of x).flash.words a v s.ready.bounded.right s.code in
-    let there : raised back 1 ≡ v + size (template_at image a) = omega arith in
+    let there : wrapping_sum back 1 ≡ v + size (template_at image a) = omega arith in
     let some = template_size (shape_at image a) a (word image a) (instruction_at image a) (size_at image (a + 1)) in
     let bound = stub_bound a (next_of image a) in
     resume_asked links x a v ram back mem_entry more (next_of image a) form cpu g s c can f.is f.runs f.apart done (straight_next kc a form cpu g f.straight done ∙ f.next) (resumed_is kc back a form (WentOn cpu g) c.state.address c.state.behind f.is done)
@@ -63,16 +64,16 @@ served_by links x a v ram back more form (StoppedOn stop) done s c can f behind 
     stop_asked links x a v ram back mem_entry more (stop_of a stop) s c can (resumed_is (asked x ram back mem_entry) back a form (StoppedOn stop) c.state.address c.state.behind f.is done) (bus_stops_asked x a ram back mem_entry more form stop c f.is f.runs f.apart done)
 
 -- the template is the call
-pub called_law : (links : Links) (x : State) (a v : ℕ) (form : Form) → IsSetting links x a v → IsReached x a form → template_at (image_of x.kernel) a ≡ service mem_entry a → StepLaw links x a
+pub called_law : (links : Links) (x : State) (a v : ℕ) (form : Form) → IsSetting links x a v → IsReached x a form → template_at (image_held x.kernel) a ≡ service mem_entry a → StepLaw links x a
 called_law links x a v form s f template =
     let c = called_by links x a v mem_entry [] s template in
-    let three : size (template_at (image_of x.kernel) a) ≡ 3 = ap size template in
+    let three : size (template_at (image_held x.kernel) a) ≡ 3 = ap size template in
     served_by links x a v (mote_of x).sram (v + 2) 0 form _ refl s (asked_by x a v mem_entry s.ready.idle c) (CanServe.AtMem refl (c.shape ∙ f.shape) c.can) f (omega arith)
 
 -- an instruction that the image has, of this shape, and its template
-pub reached_by : (links : Links) (x : State) (a v : ℕ) (form : Form) → IsSetting links x a v → instruction_at (image_of x.kernel) a ≡ Some form → shape_of_form a form ≡ Mem → IsReached x a form
+pub reached_by : (links : Links) (x : State) (a v : ℕ) (form : Form) → IsSetting links x a v → instruction_at (image_held x.kernel) a ≡ Some form → shape_of_form a form ≡ Mem → IsReached x a form
 reached_by links x a v form s is shape =
-    let image = image_of x.kernel in
+    let image = image_held x.kernel in
     let inside = s.code.inside in
     let short = setting_short x s.ready.bounded.right in
     let long : size_of form ≡ size_at image a = the_form-size (word image a) (word image ((a + 1) % 65536)) form ((image_words x.kernel s.ready.bounded) a) is in
@@ -86,8 +87,8 @@ reached_by links x a v form s is shape =
       next = omega arith;
     }
 
-pub mem_template : (x : State) (a : ℕ) (form : Form) → IsReached x a form → template_at (image_of x.kernel) a ≡ mem_pieces a (Some form)
+pub mem_template : (x : State) (a : ℕ) (form : Form) → IsReached x a form → template_at (image_held x.kernel) a ≡ mem_pieces a (Some form)
 unfolding template_by
 mem_template x a form f =
-    let image = image_of x.kernel in
+    let image = image_held x.kernel in
     ap (λ s. template_by s a (word image a) (instruction_at image a) (size_at image (a + 1))) f.shape ∙ ap (mem_pieces a) f.is

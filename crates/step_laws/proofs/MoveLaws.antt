@@ -5,7 +5,7 @@ use Rattle.std.specs.Prelude.{◌≢◌, Option, None}
 use Rattle.flash_model.specs.Layouts.{IsRight}
 use Rattle.flash_model.specs.declared.layout.Layout.{Layout}
 use Rattle.mote_devices.specs.declared.line.Line.{Line}
-use Rattle.mote_core.specs.Shown.{line_of}
+use Rattle.mote_core.specs.Shown.{line_shown}
 use Rattle.mote_core.proofs.KnownSteps.{one_step}
 use Rattle.kernel_entry.specs.declared.kernel.Kernel.{Kernel}
 use Rattle.kernel_entry.specs.Conditions.{CanServe}
@@ -47,7 +47,7 @@ pub one_plain : (x y z : State) (b c : Bool) (line line' : Option Line) → Make
 one_plain x y z b c line line' one other =
     let same = one_step (mote_of x) one.next other.next one.shown other.shown one.step other.step in (
       begins_alike x.kernel.layout (mote_of x).flash.words (mote_of x).cpu.pc b c one.starts other.starts,
-      sym one.written ∙ ap line_of same.1 ∙ other.written,
+      sym one.written ∙ ap line_shown same.1 ∙ other.written,
       one.result ∙ ap (with_mote x) same.0 ∙ sym other.result,
     )
 

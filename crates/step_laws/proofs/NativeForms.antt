@@ -4,7 +4,7 @@ use Rattle.std.specs.Prelude.{if◌then◌else◌, ◌||◌, not}
 use Rattle.std.proofs.lemmas.Bool.Decides.{nat_tests}
 use Rattle.avr_isa.specs.declared.form.Form.{Form}
 use Rattle.avr_isa.specs.declared.form.Form.TheVariants as forms
-use Rattle.avr_isa.specs.IoTable.{can_read, can_write, data_address}
+use Rattle.avr_isa.specs.IoTable.{can_read, can_write, io_address}
 use Rattle.avr_exec.specs.declared.cpu.Cpu.{Cpu}
 use Rattle.avr_exec.specs.Registers.{relative, is_own, register}
 use Rattle.avr_exec.specs.Asks.{ask_of, load_of, store_of}
@@ -44,17 +44,17 @@ straight_field a is = grind (arith, nat_tests)
 pub native_form : (pc : ℕ) (form : Form) (cpu : Cpu) → shape_of_form pc form ≡ Native → IsNative form cpu
 unfolding shape_of_form is_straight is_executed is_transfer ask_of is_device_ask
 native_form pc (forms.InIo d a) cpu is =
-    let t = native_io (is_stack_pointer a) (can_read (data_address a)) is in
+    let t = native_io (is_stack_pointer a) (can_read (io_address a)) is in
     record { straight = ap not (straight_field a t.0); runs = refl; transfer = refl; asks = load_by (a + 0x20) (is_own (a + 0x20)) refl t.1 }
 native_form pc (forms.OutIo a r) cpu is =
-    let t = native_io (is_stack_pointer a) (can_write (data_address a)) is in
+    let t = native_io (is_stack_pointer a) (can_write (io_address a)) is in
     record { straight = ap not (straight_field a t.0); runs = refl; transfer = refl; asks = store_by (a + 0x20) (register cpu r) (is_own (a + 0x20)) refl t.1 }
 native_form pc (forms.Cbi a b) cpu is =
-    record { straight = refl; runs = refl; transfer = refl; asks = chosen_one (can_modify (data_address a)) Native Fault Native (λ e. cc) is }
+    record { straight = refl; runs = refl; transfer = refl; asks = chosen_one (can_modify (io_address a)) Native Fault Native (λ e. cc) is }
 native_form pc (forms.Sbi a b) cpu is =
-    record { straight = refl; runs = refl; transfer = refl; asks = chosen_one (can_modify (data_address a)) Native Fault Native (λ e. cc) is }
-native_form pc (forms.Sbic a b) cpu is = absurd (not_chosen (can_read (data_address a)) Skip Fault Native (λ e. cc) (λ e. cc) is)
-native_form pc (forms.Sbis a b) cpu is = absurd (not_chosen (can_read (data_address a)) Skip Fault Native (λ e. cc) (λ e. cc) is)
+    record { straight = refl; runs = refl; transfer = refl; asks = chosen_one (can_modify (io_address a)) Native Fault Native (λ e. cc) is }
+native_form pc (forms.Sbic a b) cpu is = absurd (not_chosen (can_read (io_address a)) Skip Fault Native (λ e. cc) (λ e. cc) is)
+native_form pc (forms.Sbis a b) cpu is = absurd (not_chosen (can_read (io_address a)) Skip Fault Native (λ e. cc) (λ e. cc) is)
 native_form pc (forms.Rjmp k) cpu is = absurd (not_chosen (relative pc k == pc) SelfJump Jump Native (λ e. cc) (λ e. cc) is)
 native_form pc (forms.Jmp a) cpu is = absurd (not_chosen (a == pc) SelfJump Jump Native (λ e. cc) (λ e. cc) is)
 native_form pc forms.Nop cpu is = record { straight = refl; runs = refl; transfer = refl; asks = refl }

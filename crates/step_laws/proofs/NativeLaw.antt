@@ -4,7 +4,7 @@ use Rattle.std.specs.Prelude.{if◌then◌else◌, ◌&&◌, Option, Some, None,
 use Rattle.avr_isa.specs.Image.{word}
 use Rattle.avr_isa.specs.declared.form.Form.{Form}
 use Rattle.avr_exec.specs.declared.cpu.Cpu.{Cpu}
-use Rattle.avr_exec.specs.Registers.{raised}
+use Rattle.avr_exec.specs.Registers.{wrapping_sum}
 use Rattle.avr_exec.specs.Asks.{ask_of}
 use Rattle.avr_exec.specs.Effects.{finish_of}
 use Rattle.avr_exec.specs.Execution.{answered_by, exec_of}
@@ -17,12 +17,12 @@ use Rattle.mote_devices.specs.State.{State as Devices}
 use Rattle.mote_core.specs.declared.mote.Mote.{Mote}
 use Rattle.mote_core.specs.Physical.{Physical, physical_calls}
 use Rattle.std.specs.Option.{option_map}
-use Rattle.sram_layout.specs.Bytes.{byte_at, word_at as cell_at}
+use Rattle.sram_layout.specs.Bytes.{byte_at, data_word_at as cell_at}
 use Rattle.sram_layout.specs.Cells.{vsp_cell}
 use Rattle.mote_core.specs.declared.mote.Plain.{Plain}
 use Rattle.mote_core.specs.declared.mote.Plain.TheVariants as shown
 use Rattle.mote_core.specs.Conditions.{can_step, is_device_ask}
-use Rattle.mote_core.specs.Shown.{line_of}
+use Rattle.mote_core.specs.Shown.{line_shown}
 use Rattle.mote_core.specs.Step.{space_of, stepped, IsPlainStep, next_size as mote_next_size, form_at as form_at_mote}
 use Rattle.avr_decode.specs.Decoding.{the_form, is_long}
 use Rattle.avr_decode.proofs.Lengths.{the_form-second, the_form-size}
@@ -56,7 +56,7 @@ use Rattle.step_laws.proofs.Executed.{straight_goes}
 use Rattle.avr_decode.specs.Program.{instruction_at}
 use Rattle.nat_page.specs.Entered.{IsPlace}
 use Rattle.step_laws.proofs.Stretches.{stretch_of}
-use Rattle.kernel_entry.specs.Parts.{core_of, image_of, memory_of}
+use Rattle.kernel_entry.specs.Parts.{core_of, memory_of, image_held}
 use Rattle.mem_guard.proofs.DeviceAnswers.{answers_alike}
 use Rattle.mote_core.proofs.DeviceAsks.{can_step_device}
 use Rattle.kernel_entry.specs.Seen.{program, state_at}
@@ -77,9 +77,9 @@ pub record Executes (k : Kernel) (a v : ℕ) (form : Form) : Type 0 where
   pub next : Mote
   pub can : can_step (form_at_mote k.mote) k.mote.cpu ≡ true
   pub step : IsPlainStep k.mote (shown_of line) next
-  pub after : next ≡ record k.mote { cpu = placed cpu (raised v 1) 0x011F; devices = devices }
-  pub original : exec_of guarded_calls form (core_of k a) (memory_of k) (next_size (image_of k) a) ≡ WentOn cpu (record (memory_of k) { devices = devices; line = line })
-  pub pc : cpu.pc ≡ raised a 1
+  pub after : next ≡ record k.mote { cpu = placed cpu (wrapping_sum v 1) 0x011F; devices = devices }
+  pub original : exec_of guarded_calls form (core_of k a) (memory_of k) (next_size (image_held k) a) ≡ WentOn cpu (record (memory_of k) { devices = devices; line = line })
+  pub pc : cpu.pc ≡ wrapping_sum a 1
   pub sp : cpu.sp ≡ cell_at k.mote.sram vsp_cell
   pub polls : devices.polls ≤ k.mote.devices.polls + 1
 
@@ -90,26 +90,26 @@ core_left cpu core g p q o same is =
     let one : cpu ≡ placed cpu p q = cc in
     (ap (λ (c : Cpu). c.pc) one, ap (λ (c : Cpu). c.sp) one)
 
-line_shown : (line : Option Line) → line_of (shown_of line) ≡ line
-line_shown None = refl
-line_shown (Some l) = refl
+line_of_shown : (line : Option Line) → line_shown (shown_of line) ≡ line
+line_of_shown None = refl
+line_of_shown (Some l) = refl
 
 pub executes : (k : Kernel) (a v : ℕ) (form : Form) → k.mote.cpu.pc ≡ v → k.mote.cpu.sp ≡ 0x011F → form_at_mote k.mote ≡ Some form → IsNative form (core_of k a) → Executes k a v form
 unfolding can_step stepped
 executes k a v form at top is native =
     let m = k.mote in
     let core = core_of k a in
-    let n = next_size (image_of k) a in
+    let n = next_size (image_held k) a in
     let ag = answers_alike m.flash.words (memory_of k) (ask_of form core) native.asks in
     let cpu = finish_of form core n ag.answer in
     let space : Physical = record (space_of m None) { devices = ag.devices; line = ag.line } in
     let here : m.cpu ≡ placed core v 0x011F = ap₂ (λ p s. record m.cpu { pc = p; sp = s }) at top in
     let phys : exec_of physical_calls form core (space_of m None) n ≡ WentOn cpu space = exec_went physical_calls form core (space_of m None) n ag.answer space ag.physical in
-    let moved : exec_of physical_calls form m.cpu (space_of m None) (mote_next_size m) ≡ WentOn (placed cpu (raised v 1) 0x011F) space =
-    ap (λ c. exec_of physical_calls form c (space_of m None) (mote_next_size m)) here ∙ exec_straight physical_calls form core (space_of m None) n (mote_next_size m) v 0x011F native.straight ∙ ap (answered_by (λ t. placed t (raised v 1) 0x011F)) phys in
+    let moved : exec_of physical_calls form m.cpu (space_of m None) (mote_next_size m) ≡ WentOn (placed cpu (wrapping_sum v 1) 0x011F) space =
+    ap (λ c. exec_of physical_calls form c (space_of m None) (mote_next_size m)) here ∙ exec_straight physical_calls form core (space_of m None) n (mote_next_size m) v 0x011F native.straight ∙ ap (answered_by (λ t. placed t (wrapping_sum v 1) 0x011F)) phys in
     let orig : exec_of guarded_calls form core (memory_of k) n ≡ WentOn cpu (record (memory_of k) { devices = ag.devices; line = ag.line }) = exec_went guarded_calls form core (memory_of k) n ag.answer (record (memory_of k) { devices = ag.devices; line = ag.line }) ag.guarded in
-    let left = core_left cpu core (record (memory_of k) { devices = ag.devices; line = ag.line }) (raised a 1) core.sp (exec_of guarded_calls form core (memory_of k) n) (exec_straight guarded_calls form core (memory_of k) n n a core.sp native.straight) orig in
-    let next : Mote = record m { cpu = placed cpu (raised v 1) 0x011F; devices = ag.devices } in
+    let left = core_left cpu core (record (memory_of k) { devices = ag.devices; line = ag.line }) (wrapping_sum a 1) core.sp (exec_of guarded_calls form core (memory_of k) n) (exec_straight guarded_calls form core (memory_of k) n n a core.sp native.straight) orig in
+    let next : Mote = record m { cpu = placed cpu (wrapping_sum v 1) 0x011F; devices = ag.devices } in
     let asks' : ask_of form m.cpu ≡ ask_of form core = ap (ask_of form) here ∙ ask_straight form core v 0x011F native.straight in
     record {
       cpu = cpu;
@@ -118,7 +118,7 @@ executes k a v form at top is native =
       next = next;
       can = can_step_device (form_at_mote m) form m.cpu is native.runs (ap is_device_ask asks' ∙ native.asks);
       step = record {
-        executed = ap (option_map (λ (f : Form). exec_of physical_calls f m.cpu (space_of m None) (mote_next_size m))) is ∙ ap Some (moved ∙ ap (λ l. WentOn (placed cpu (raised v 1) 0x011F) (record (space_of m None) { devices = ag.devices; line = l })) (sym (line_shown ag.line)));
+        executed = ap (option_map (λ (f : Form). exec_of physical_calls f m.cpu (space_of m None) (mote_next_size m))) is ∙ ap Some (moved ∙ ap (λ l. WentOn (placed cpu (wrapping_sum v 1) 0x011F) (record (space_of m None) { devices = ag.devices; line = l })) (sym (line_of_shown ag.line)));
         flash = refl;
         swap = refl;
       };
@@ -141,7 +141,7 @@ native_law links x a v s shape =
     let code = s.code in
     let k = x.kernel in
     let m = k.mote in
-    let image = image_of k in
+    let image = image_held k in
     let words = m.flash.words in
     let some = form_of_shape Native a (instruction_at image a) shape (λ e. cc) in
     let form : Form = some.0 in
@@ -159,10 +159,10 @@ native_law links x a v s shape =
     let InP : ℕ → Type 0 = λ p. InPool k.layout p in
     let pool : InPool k.layout v = subst InP here (row.pool 0 (omega arith)) in
     let short' : is_long (word image a) ≡ false = one_word a form (word image a) (word image ((a + 1) % 65536)) (image_words k set a) some.1 some.2 in
-    let there : raised m.cpu.pc 1 ≡ m.cpu.pc + 1 = omega arith in
-    let is : form_at_mote m ≡ Some form = ap (λ w. the_form w (word_at words (raised m.cpu.pc 1))) (ap (word_at words) at ∙ stands.0) ∙ the_form-second (word image a) (word_at words (raised m.cpu.pc 1)) (word image ((a + 1) % 65536)) short' ∙ some.1 in
+    let there : wrapping_sum m.cpu.pc 1 ≡ m.cpu.pc + 1 = omega arith in
+    let is : form_at_mote m ≡ Some form = ap (λ w. the_form w (word_at words (wrapping_sum m.cpu.pc 1))) (ap (word_at words) at ∙ stands.0) ∙ the_form-second (word image a) (word_at words (wrapping_sum m.cpu.pc 1)) (word image ((a + 1) % 65536)) short' ∙ some.1 in
     let e = executes k a v form at fit.top is native in
-    let y = with_mote x (record m { cpu = placed e.cpu (raised v 1) 0x011F; devices = e.devices }) in
+    let y = with_mote x (record m { cpu = placed e.cpu (wrapping_sum v 1) 0x011F; devices = e.devices }) in
     let room = set.polls in
     let polls = e.polls in
     let first : MakesPlain x true e.line y = record {
@@ -175,14 +175,14 @@ native_law links x a v s shape =
       shown = shown_of e.line;
       next = e.next;
       step = e.step;
-      written = line_shown e.line;
-      kept = record { bytes = λ b is. ap (λ (n : Mote). byte_at n.sram b) e.after; flash = ap (λ (n : Mote). n.flash) e.after };
+      written = line_of_shown e.line;
+      kept = λ b is. ap (λ (n : Mote). byte_at n.sram b) e.after;
       result = ap (with_mote x) (sym e.after);
     } in
     let registers : length e.cpu.r ≡ length m.cpu.r = exec_kept guarded_calls form (core_of k a) e.cpu (memory_of k) _ (next_size image a) e.original in
     let some' = fit.registers in
     let fit' : IsIdle y.kernel = record { registers = omega arith; size = fit.size; pointer = fit.pointer; top = refl; some = fit.some; most = fit.most } in
-    let behind : raised v 1 ≡ v + size (template_at image a) = omega arith in
+    let behind : wrapping_sum v 1 ≡ v + size (template_at image a) = omega arith in
     let on = onward links y image a v (record { free = free.free; going = free.going; room = omega arith }) fit' s.ready.bounded.right code (omega arith) (let b = stub_bound a (next_of image a) in omega arith) (ap is_closed shape) behind in
     let long : size_at image a ≡ 1 = ap (λ b. if b then 2 else 1) short' in
     let next : e.cpu.pc ≡ next_of image a = e.pc ∙ omega arith in

@@ -85,7 +85,10 @@ onward_by links y image a v free fit right pool (Closed last) some some' closed 
     let Q : List Piece → Type 0 = λ pieces. IsStretch y.kernel.layout words v (n + size pieces) in
     let row' = subst Q closing (stretch_closed links y.kernel.layout image words a v right pool last) in
     let begins : ¬ IsPlace y.kernel.layout words (v + n) = row'.inner n some (omega arith) in
-    by_way 0 links y (next_of image a) _ _ (stub_law links y a (next_of image a) (v + n) false free (stretch_behind y.kernel.layout words v n (size (stub a (next_of image a))) row' some some') (subst P closing last.closing) (subst (λ (pieces : List Piece). EachLink links.marks (v + n) pieces) closing last.linked) fit at begins)
+    by_way 0 links y (next_of image a) _ _
+    (stub_law links y a (next_of image a) (v + n) false free
+    (stretch_behind y.kernel.layout words v n (size (stub a (next_of image a))) row' some some') (subst P closing last.closing)
+    (subst (λ (pieces : List Piece). EachLink links.marks (v + n) pieces) closing last.linked) fit at begins)
 
 pub onward : (links : Links) (y : State) (image : List ℕ) (a v : ℕ) → IsRunning y → IsIdle y.kernel → IsRight y.kernel.layout → StandsIn links.enters links.marks y.kernel.layout image (mote_of y).flash.words a v
     → 0 < size (template_at image a) → 0 < size (stub a (next_of image a)) → is_closed (shape_at image a) ≡ true → (mote_of y).cpu.pc ≡ v + size (template_at image a)

@@ -1,12 +1,12 @@
 -- A plain move from a quiet step, and the instruction at the pc by its words.
-use Rattle.std.proofs.Common.{◌≡◌, ℕ, ◌+◌, ◌<◌, Bool, true, refl, ap, ap₂, ◌∙◌, arith, ◌≤◌, inl, inr}
+use Rattle.std.proofs.Common.{◌≡◌, ℕ, ◌+◌, ◌<◌, Bool, true, refl, ap, ap₂, ◌∙◌, arith}
 use Rattle.std.specs.Prelude.{Option, Some, None}
 use Rattle.avr_isa.specs.declared.form.Form.{Form}
 use Rattle.avr_decode.specs.Decoding.{the_form}
 use Rattle.avr_exec.specs.declared.cpu.Cpu.{Cpu}
 use Rattle.avr_exec.specs.declared.ask.Ask.TheVariants.{Nothing}
 use Rattle.avr_exec.specs.declared.answer.Answer.TheVariants.{Done}
-use Rattle.avr_exec.specs.Registers.{raised}
+use Rattle.avr_exec.specs.Registers.{wrapping_sum}
 use Rattle.avr_exec.specs.Asks.{ask_of}
 use Rattle.avr_exec.specs.Effects.{finish_of}
 use Rattle.avr_exec.specs.Execution.{answer_of, is_executed}
@@ -16,33 +16,14 @@ use Rattle.mote_core.specs.declared.mote.Plain.TheVariants.{Went}
 use Rattle.mote_core.specs.Physical.{physical_calls}
 use Rattle.mote_core.specs.Conditions.{is_mapped}
 use Rattle.mote_core.specs.Step.{form_at, next_size, space_of}
-use Rattle.mote_core.specs.QuietSteps.{IsQuiet, flash_form, IsKernels}
+use Rattle.mote_core.specs.QuietSteps.{IsQuiet, flash_form}
 use Rattle.mote_core.proofs.StepsByAnswer.{quiet_by, keeps_same}
 use Rattle.step_laws.specs.Moves.{Plain}
 use Rattle.step_laws.specs.States.{Begins, InPool, State, mote_of, with_mote}
 use Rattle.step_laws.specs.Settings.{IsRunning}
 use Rattle.step_laws.specs.Walks.{Makes}
-use Rattle.std.proofs.lemmas.Bool.{cases_lt}
-use Rattle.std.proofs.lemmas.Bool.Decides.{nat_tests}
-use Rattle.kernel_entry.specs.KernelPart.{is_kernel_byte}
 
--- the bytes that a quiet step leaves are the kernel's
-kernel_from : (a : ℕ) → is_kernel_byte a ≡ true → 0x0108 ≤ a
-kernel_from a is = grind (arith, nat_tests)
-
-kernel_to : (a : ℕ) → is_kernel_byte a ≡ true → a < 0x0500
-kernel_to a is = grind (arith, nat_tests)
-
-kernel_above : (a : ℕ) → is_kernel_byte a ≡ true → 0x011E ≤ a → 0x0120 ≤ a
-kernel_above a is from = grind (arith, nat_tests)
-
-kernels : (a : ℕ) → is_kernel_byte a ≡ true → IsKernels a
-kernels a is = elim (cases_lt a 0x011E) [
-  | inl below ↦ IsKernels.BelowStack (kernel_from a is) below
-  | inr above ↦ IsKernels.AboveStack (kernel_above a is above) (kernel_to a is)
-]
-
--- so a quiet step is a plain move
+-- a quiet step is a plain move
 pub quiet_move : (x : State) (next : Mote) (b : Bool) → IsRunning x → InPool x.kernel.layout (mote_of x).cpu.pc → Begins x.kernel.layout (mote_of x).flash.words (mote_of x).cpu.pc b
     → IsQuiet (mote_of x) next → Makes x (Plain b None) (with_mote x next)
 quiet_move x next b running pool starts quiet = record {
@@ -56,7 +37,7 @@ quiet_move x next b running pool starts quiet = record {
   next = next;
   step = quiet.step;
   written = refl;
-  kept = record { bytes = λ a is. quiet.keeps a (kernels a is); flash = quiet.step.flash };
+  kept = quiet.keeps;
   result = refl;
 }
 
@@ -67,7 +48,7 @@ StandAt m p first second = (word_at m.flash.words p ≡ first) × (word_at m.fla
 pub form_there : (m : Mote) (p first second : ℕ) (form : Option Form) → StandAt m p first second → the_form first second ≡ form → flash_form m p ≡ form
 form_there m p first second form words is =
     let low = words.2 in
-    let there : raised p 1 ≡ p + 1 = omega arith in
+    let there : wrapping_sum p 1 ≡ p + 1 = omega arith in
     ap₂ (λ a b. the_form a b) words.0 (ap (word_at m.flash.words) there ∙ words.1) ∙ is
 
 -- an instruction that asks nothing is quiet

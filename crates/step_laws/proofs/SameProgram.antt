@@ -1,7 +1,7 @@
 -- What the program sees stays where its parts of the mote stay.
 use Rattle.std.proofs.Common.{ℕ, ◌≡◌, ◌+◌, ◌*◌, ◌≤◌, ◌∙◌, length, List, sym, ap, ap₂, arith, subst, refl}
 use Rattle.std.specs.Prelude.{◌≢◌, Bool}
-use Rattle.sram_layout.specs.Bytes.{byte_at, word_at}
+use Rattle.sram_layout.specs.Bytes.{byte_at, data_word_at}
 use Rattle.mote_core.specs.declared.mote.Mote.{Mote}
 use Rattle.sram_layout.specs.Cells.{vsp_cell}
 use Rattle.heap_frames.specs.SamePaging.{SamePaging}
@@ -32,8 +32,8 @@ same_paging m n same = record {
   tables = λ b from to. same.bytes b (omega arith) (λ e. omega arith) (λ e. omega arith);
 }
 
-same_stack : (m n : Mote) → SameProgram m n → word_at n.sram vsp_cell ≡ word_at m.sram vsp_cell
-unfolding word_at
+same_stack : (m n : Mote) → SameProgram m n → data_word_at n.sram vsp_cell ≡ data_word_at m.sram vsp_cell
+unfolding data_word_at
 same_stack m n same = ap₂ (λ low high. low + 256 * high) (same.bytes 0x0103 (omega arith) (λ e. omega arith) (λ e. omega arith)) (same.bytes 0x0104 (omega arith) (λ e. omega arith) (λ e. omega arith))
 
 pub flat_parts : (r r' : List ℕ) (s s' sp sp' a steps crossings : ℕ) (memory memory' : List ℕ) (devices devices' : Devices) (has has' : List Bool) → r ≡ r' → s ≡ s' → sp ≡ sp' → memory ≡ memory' → devices ≡ devices' → has ≡ has'

@@ -1,4 +1,4 @@
--- A jump to itself, which halts the program where interrupts are off.
+-- An RJMP or JMP to its own address, which halts the program where interrupts are off.
 use Rattle.std.proofs.Common.{[], ℕ, ◌≡◌, ◌+◌, ◌∙◌, Bool, true, false, refl, sym, ap, ap₂}
 use Rattle.std.specs.Prelude.{if◌then◌else◌, ◌&&◌, Some, not}
 use Rattle.avr_isa.specs.Image.{word}
@@ -19,10 +19,11 @@ use Rattle.step_laws.specs.Settings.{IsSetting}
 use Rattle.step_laws.specs.Links.{Links}
 use Rattle.step_laws.specs.StepLaws.{ShapeLaw, StepLaw}
 use Rattle.step_laws.specs.States.{State, mote_of}
-use Rattle.step_laws.proofs.CodeLaws.{form_of_shape, runs_or_faults}
+use Rattle.nat_template.proofs.ShapeLaws.{runs_or_faults}
+use Rattle.step_laws.proofs.CodeLaws.{form_of_shape}
 use Rattle.step_laws.proofs.GoneLaw.{gone_law}
 use Rattle.avr_decode.specs.Program.{instruction_at}
-use Rattle.kernel_entry.specs.Parts.{image_of, rested, descriptor}
+use Rattle.kernel_entry.specs.Parts.{rested, descriptor, image_held}
 use Rattle.kernel_entry.specs.Services.{gone, halted_or_gone, served}
 use Rattle.kernel_entry.specs.Conditions.{CanServe}
 use Rattle.kernel_entry.specs.Seen.{program, state_at}
@@ -34,7 +35,7 @@ unfolding halted_or_gone
 halted_is k b is = ap (λ b. if b then gone k else (answers.Stopped (stops.Halted (descriptor k)), rested k)) is
 
 self_by : (links : Links) (x : State) (a v : ℕ) (form : Form) (b : Bool) → has_bit (mote_of x).cpu.sreg interrupts ≡ b → IsSetting links x a v → Called x a v self_entry → CanServe (called x v self_entry)
-    → instruction_at (image_of x.kernel) a ≡ Some form → is_executed form ≡ true → shape_of_form a form ≡ SelfJump → StepLaw links x a
+    → instruction_at (image_held x.kernel) a ≡ Some form → is_executed form ≡ true → shape_of_form a form ≡ SelfJump → StepLaw links x a
 unfolding served is_transfer
 self_by links x a v form true on s c can is runs shape =
     gone_law links x a v self_entry form _ refl s c can is runs (ap₂ (λ j i. j && not i) (self_jumps a form shape) on) (by_self_form (λ f. is_transfer f ≡ true) a (λ k same. refl) (λ t same. refl) form shape) (halted_is (called x v self_entry) true on)
@@ -46,7 +47,7 @@ self_by links x a v form false off s c can is runs shape =
 pub self_law : ShapeLaw SelfJump
 unfolding template_by
 self_law links x a v s shape =
-    let image = image_of x.kernel in
+    let image = image_held x.kernel in
     let some = form_of_shape SelfJump a (instruction_at image a) shape (λ e. cc) in
     let form : Form = some.0 in
     let c = called_by links x a v self_entry [] s (ap (λ s. template_by s a (word image a) (instruction_at image a) (size_at image (a + 1))) shape) in

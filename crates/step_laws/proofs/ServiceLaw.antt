@@ -5,7 +5,7 @@ use Rattle.avr_isa.specs.Crossing.{is_crossing}
 use Rattle.avr_isa.specs.declared.form.Form.{Form}
 use Rattle.avr_exec.specs.declared.cpu.Cpu.{Cpu}
 use Rattle.avr_exec.specs.declared.stop.BusStop.{BusStop}
-use Rattle.avr_exec.specs.Registers.{raised}
+use Rattle.avr_exec.specs.Registers.{wrapping_sum}
 use Rattle.avr_exec.specs.Execution.{is_executed}
 use Rattle.avr_exec.specs.Spaces.{Went as WentOn, Stopped as StoppedOn}
 use Rattle.flash_model.specs.Pages.{word_at as flash_word}
@@ -35,7 +35,7 @@ use Rattle.step_laws.proofs.KernelCalls.{call_move, called_of, pushed_address, p
 use Rattle.step_laws.proofs.Executed.{executed_at, returned}
 use Rattle.avr_decode.specs.Program.{instruction_at}
 use Rattle.step_laws.proofs.Stretches.{stretch_of}
-use Rattle.kernel_entry.specs.Parts.{descriptor, image_of, rested, return_address}
+use Rattle.kernel_entry.specs.Parts.{descriptor, rested, return_address, image_held}
 use Rattle.kernel_entry.specs.Services.{served, stop_of}
 use Rattle.kernel_entry.specs.Conditions.{CanExecute, CanServe, shape_behind, CanCount}
 use Rattle.preempt_count.specs.Counting.{count_over}
@@ -52,14 +52,14 @@ pub record Called (x : State) (a v entry : ℕ) : Type 0 where
   pub back : return_address (called x v entry) ≡ v + 2
   pub behind : descriptor (called x v entry) ≡ a
   pub same : SameProgram (mote_of x) (rested (called x v entry)).mote
-  pub shape : shape_behind (called x v entry) ≡ shape_at (image_of x.kernel) a
+  pub shape : shape_behind (called x v entry) ≡ shape_at (image_held x.kernel) a
   pub can : CanExecute (called x v entry)
   pub counts : CanCount (called x v entry)
 
-pub called_by : (links : Links) (x : State) (a v entry : ℕ) (rest : List Piece) → IsSetting links x a v → template_at (image_of x.kernel) a ≡ Fixed call_word ∷ Fixed entry ∷ Fixed a ∷ rest → Called x a v entry
+pub called_by : (links : Links) (x : State) (a v entry : ℕ) (rest : List Piece) → IsSetting links x a v → template_at (image_held x.kernel) a ≡ Fixed call_word ∷ Fixed entry ∷ Fixed a ∷ rest → Called x a v entry
 called_by links x a v entry rest s template =
     let k = x.kernel in
-    let image = image_of k in
+    let image = image_held k in
     let words = (mote_of x).flash.words in
     let three : size (template_at image a) ≡ 3 + size rest = omega (arith, ap size template, size-cons (Fixed call_word) (Fixed entry ∷ Fixed a ∷ rest), size-cons (Fixed entry) (Fixed a ∷ rest), size-cons (Fixed a) rest) in
     let row = stretch_of links k.layout image words a v s.ready.bounded.right s.code in
@@ -118,13 +118,13 @@ pub stop_law : (links : Links) (x : State) (a v entry : ℕ) (stop : Stop) → I
     → served (called x v entry) ≡ (answers.Stopped stop, rested (called x v entry)) → ((s c : ℕ) → tried (program x.kernel) (state_at x.kernel a s c) ≡ Stops (end_of stop)) → StepLaw links x a
 stop_law links x a v entry stop s c can is stops = stop_asked links x a v (mote_of x).sram (v + 2) entry 0 stop s (asked_by x a v entry s.ready.idle c) can is stops
 
-pub bus_stops : (links : Links) (x : State) (a v entry : ℕ) (form : Form) (stop : BusStop) → IsSetting links x a v → Called x a v entry → instruction_at (image_of x.kernel) a ≡ Some form → is_executed form ≡ true → RunsOn x.kernel a form
+pub bus_stops : (links : Links) (x : State) (a v entry : ℕ) (form : Form) (stop : BusStop) → IsSetting links x a v → Called x a v entry → instruction_at (image_held x.kernel) a ≡ Some form → is_executed form ≡ true → RunsOn x.kernel a form
     → executed_at (called x v entry) a form ≡ StoppedOn stop → (s c : ℕ) → tried (program x.kernel) (state_at x.kernel a s c) ≡ Stops (end_of (stop_of a stop))
 bus_stops links x a v entry form stop s c is runs apart stopped = bus_stops_asked x a (mote_of x).sram (v + 2) entry 0 form stop (asked_by x a v entry s.ready.idle c) is runs apart stopped
 
 pub resume_law : (links : Links) (x : State) (a v entry to : ℕ) (form : Form) (cpu : Cpu) (g : Guarded) → IsSetting links x a v → Called x a v entry → CanServe (called x v entry)
-    → instruction_at (image_of x.kernel) a ≡ Some form → is_executed form ≡ true → RunsOn x.kernel a form → executed_at (called x v entry) a form ≡ WentOn cpu g → cpu.pc ≡ to
-    → served (called x v entry) ≡ (answers.Resume g.line, returned (called x v entry) cpu g (raised (v + 2) 1))
-    → (let z : State = record { kernel = returned (called x v entry) cpu g (raised (v + 2) 1); owed = None; end = None } in IsRunning z → IsIdle z.kernel → Onward 0 links z to (count_over x.kernel.quantum a to (byte_at (mote_of z).sram 0x0100)) (is_crossing a to)) → StepLaw links x a
+    → instruction_at (image_held x.kernel) a ≡ Some form → is_executed form ≡ true → RunsOn x.kernel a form → executed_at (called x v entry) a form ≡ WentOn cpu g → cpu.pc ≡ to
+    → served (called x v entry) ≡ (answers.Resume g.line, returned (called x v entry) cpu g (wrapping_sum (v + 2) 1))
+    → (let z : State = record { kernel = returned (called x v entry) cpu g (wrapping_sum (v + 2) 1); owed = None; end = None } in IsRunning z → IsIdle z.kernel → Onward 0 links z to (count_over x.kernel.quantum a to (byte_at (mote_of z).sram 0x0100)) (is_crossing a to)) → StepLaw links x a
 resume_law links x a v entry to form cpu g s c can is runs apart went pc answer ahead =
     resume_asked links x a v (mote_of x).sram (v + 2) entry 0 to form cpu g s (asked_by x a v entry s.ready.idle c) can is runs apart went pc answer ahead

@@ -5,12 +5,12 @@ use Rattle.std.proofs.lemmas.Bool.Decides.{nat_tests}
 use Rattle.avr_isa.specs.Instruction.{is_valid, fields_in_range, is_undefined, size_of}
 use Rattle.avr_isa.specs.declared.form.Form.{Form}
 use Rattle.avr_isa.specs.declared.form.Form.TheVariants as forms
-use Rattle.avr_isa.specs.IoTable.{can_read, can_write, data_address}
+use Rattle.avr_isa.specs.IoTable.{can_read, can_write, io_address}
 use Rattle.avr_flags.specs.Status.{has_bit}
 use Rattle.avr_exec.specs.declared.cpu.Cpu.{Cpu}
 use Rattle.avr_exec.specs.declared.ask.Ask.TheVariants as asks
 use Rattle.avr_exec.specs.declared.answer.Answer.{Answer}
-use Rattle.avr_exec.specs.Registers.{relative, raised, register, is_own, own_byte}
+use Rattle.avr_exec.specs.Registers.{relative, wrapping_sum, register, is_own, own_byte}
 use Rattle.avr_exec.specs.Asks.{ask_of, load_of}
 use Rattle.avr_exec.specs.Effects.{finish_of, loaded, byte_of, skip_if}
 use Rattle.avr_exec.specs.Execution.{is_executed}
@@ -30,7 +30,7 @@ pub record Skips (form : Form) (core : Cpu) : Type 0 where
   pub reads : is_device_ask (ask_of form core) ≡ true
   pub asks : (p q : ℕ) → ask_of form (placed core p q) ≡ ask_of form core
   pub passed : Answer → Bool
-  pub finish : (p q n : ℕ) (answer : Answer) → finish_of form (placed core p q) n answer ≡ placed core (if passed answer then raised p (1 + n) else raised p 1) q
+  pub finish : (p q n : ℕ) (answer : Answer) → finish_of form (placed core p q) n answer ≡ placed core (if passed answer then wrapping_sum p (1 + n) else wrapping_sum p 1) q
 
 pub low_field : (a : ℕ) (q : Bool) → IsTrue ((nat_lt a 32 && q) && true) → is_own (a + 0x20) ≡ false
 low_field a q valid = grind (arith, nat_tests)
@@ -46,14 +46,34 @@ skip_form pc (forms.Sbrc r b) core valid is = record { runs = refl; one = refl; 
 skip_form pc (forms.Sbrs r b) core valid is = record { runs = refl; one = refl; apart = λ pc. refl; transfers = refl; reads = refl; asks = λ p q. refl; passed = λ answer. has_bit (register core r) (2 ^ b); finish = λ p q n answer. refl }
 skip_form pc (forms.Sbic a b) core valid is =
     let own : is_own (a + 0x20) ≡ false = low_field a _ valid in
-    record { runs = refl; one = refl; apart = λ pc. refl; transfers = refl; reads = ap (λ b. is_device_ask (cond b asks.Nothing (asks.Load (a + 0x20)))) own ∙ chosen_one (can_read (data_address a)) Skip Fault Skip (λ e. cc) is; asks = λ p q. refl; passed = λ answer. not (has_bit (byte_of answer) (2 ^ b)); finish = λ p q n answer. ap (λ y. skip_if (not (has_bit y (2 ^ b))) n (placed core p q)) (loaded_by (placed core p q) (a + 0x20) answer own) }
+    record {
+      runs = refl;
+      one = refl;
+      apart = λ pc. refl;
+      transfers = refl;
+      reads = ap (λ b. is_device_ask (cond b asks.Nothing (asks.Load (a + 0x20)))) own
+          ∙ chosen_one (can_read (io_address a)) Skip Fault Skip (λ e. cc) is;
+      asks = λ p q. refl;
+      passed = λ answer. not (has_bit (byte_of answer) (2 ^ b));
+      finish = λ p q n answer. ap (λ y. skip_if (not (has_bit y (2 ^ b))) n (placed core p q)) (loaded_by (placed core p q) (a + 0x20) answer own);
+    }
 skip_form pc (forms.Sbis a b) core valid is =
     let own : is_own (a + 0x20) ≡ false = low_field a _ valid in
-    record { runs = refl; one = refl; apart = λ pc. refl; transfers = refl; reads = ap (λ b. is_device_ask (cond b asks.Nothing (asks.Load (a + 0x20)))) own ∙ chosen_one (can_read (data_address a)) Skip Fault Skip (λ e. cc) is; asks = λ p q. refl; passed = λ answer. has_bit (byte_of answer) (2 ^ b); finish = λ p q n answer. ap (λ y. skip_if (has_bit y (2 ^ b)) n (placed core p q)) (loaded_by (placed core p q) (a + 0x20) answer own) }
+    record {
+      runs = refl;
+      one = refl;
+      apart = λ pc. refl;
+      transfers = refl;
+      reads = ap (λ b. is_device_ask (cond b asks.Nothing (asks.Load (a + 0x20)))) own
+          ∙ chosen_one (can_read (io_address a)) Skip Fault Skip (λ e. cc) is;
+      asks = λ p q. refl;
+      passed = λ answer. has_bit (byte_of answer) (2 ^ b);
+      finish = λ p q n answer. ap (λ y. skip_if (has_bit y (2 ^ b)) n (placed core p q)) (loaded_by (placed core p q) (a + 0x20) answer own);
+    }
 skip_form pc (forms.Rjmp k) core valid is = absurd (not_chosen (relative pc k == pc) SelfJump Jump Skip (λ e. cc) (λ e. cc) is)
 skip_form pc (forms.Jmp t) core valid is = absurd (not_chosen (t == pc) SelfJump Jump Skip (λ e. cc) (λ e. cc) is)
-skip_form pc (forms.InIo d a) core valid is = absurd (not_io (is_stack_pointer a) (can_read (data_address a)) Skip (λ e. cc) (λ e. cc) (λ e. cc) is)
-skip_form pc (forms.OutIo a r) core valid is = absurd (not_io (is_stack_pointer a) (can_write (data_address a)) Skip (λ e. cc) (λ e. cc) (λ e. cc) is)
-skip_form pc (forms.Cbi a b) core valid is = absurd (not_chosen (can_modify (data_address a)) Native Fault Skip (λ e. cc) (λ e. cc) is)
-skip_form pc (forms.Sbi a b) core valid is = absurd (not_chosen (can_modify (data_address a)) Native Fault Skip (λ e. cc) (λ e. cc) is)
+skip_form pc (forms.InIo d a) core valid is = absurd (not_io (is_stack_pointer a) (can_read (io_address a)) Skip (λ e. cc) (λ e. cc) (λ e. cc) is)
+skip_form pc (forms.OutIo a r) core valid is = absurd (not_io (is_stack_pointer a) (can_write (io_address a)) Skip (λ e. cc) (λ e. cc) (λ e. cc) is)
+skip_form pc (forms.Cbi a b) core valid is = absurd (not_chosen (can_modify (io_address a)) Native Fault Skip (λ e. cc) (λ e. cc) is)
+skip_form pc (forms.Sbi a b) core valid is = absurd (not_chosen (can_modify (io_address a)) Native Fault Skip (λ e. cc) (λ e. cc) is)
 skip_form pc _ core valid is = absurd (cc)

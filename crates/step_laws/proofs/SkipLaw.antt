@@ -6,11 +6,11 @@ use Rattle.avr_isa.specs.Crossing.{is_crossing}
 use Rattle.avr_isa.specs.Image.{word}
 use Rattle.avr_isa.specs.Instruction.{size_of}
 use Rattle.avr_isa.specs.declared.form.Form.{Form}
-use Rattle.avr_decode.specs.Decoding.{the_form, is_long}
+use Rattle.avr_decode.specs.Decoding.{the_form, is_long, size_by_first_word}
 use Rattle.avr_decode.proofs.Lengths.{the_form-second, the_form-size}
 use Rattle.avr_flags.specs.Status.{has_bit, interrupts}
 use Rattle.avr_exec.specs.declared.cpu.Cpu.{Cpu}
-use Rattle.avr_exec.specs.Registers.{raised}
+use Rattle.avr_exec.specs.Registers.{wrapping_sum}
 use Rattle.avr_exec.specs.Asks.{ask_of}
 use Rattle.avr_exec.specs.Effects.{finish_of}
 use Rattle.avr_exec.specs.Execution.{answer_of, exec_of}
@@ -38,10 +38,11 @@ use Rattle.step_laws.specs.StepLaws.{ShapeLaw, StepLaw}
 use Rattle.step_laws.proofs.SkipForms.{Skips, skip_form}
 use Rattle.step_laws.specs.States.{State}
 use Rattle.step_laws.proofs.ForkLaw.{fork_law}
-use Rattle.step_laws.proofs.CodeLaws.{form_of_shape, one_by, valid_at, setting_short, image_words}
+use Rattle.step_laws.proofs.CodeLaws.{form_of_shape, one_by, setting_short, image_words}
+use Rattle.avr_decode.proofs.Decoded.{valid_at}
 use Rattle.avr_decode.specs.Program.{instruction_at}
 use Rattle.step_laws.proofs.Stretches.{stretch_of}
-use Rattle.kernel_entry.specs.Parts.{core_of, image_of, memory_of}
+use Rattle.kernel_entry.specs.Parts.{core_of, memory_of, image_held}
 use Rattle.mem_guard.proofs.DeviceAnswers.{answers_alike}
 use Rattle.mem_guard.proofs.LineLaws.{transfer_line}
 use Rattle.mote_core.proofs.DeviceAsks.{can_step_device}
@@ -51,12 +52,12 @@ unfolding is_long
 short_word true = refl
 short_word false = refl
 
-skip_by : (links : Links) (x : State) (a v : ℕ) (form : Form) → IsSetting links x a v → shape_at (image_of x.kernel) a ≡ Skip → instruction_at (image_of x.kernel) a ≡ Some form → Skips form (core_of x.kernel a) → StepLaw links x a
+skip_by : (links : Links) (x : State) (a v : ℕ) (form : Form) → IsSetting links x a v → shape_at (image_held x.kernel) a ≡ Skip → instruction_at (image_held x.kernel) a ≡ Some form → Skips form (core_of x.kernel a) → StepLaw links x a
 unfolding template_by can_step stepped
 skip_by links x a v form s shape is skips =
     let k = x.kernel in
     let m = k.mote in
-    let image = image_of k in
+    let image = image_held k in
     let words = m.flash.words in
     let core = core_of k a in
     let inside = s.code.inside in
@@ -71,30 +72,32 @@ skip_by links x a v form s shape is skips =
     let at = s.at in
     let long : size_of form ≡ size_at image a = the_form-size (word image a) (word image ((a + 1) % 65536)) form ((image_words x.kernel s.ready.bounded) a) is in
     let alone : is_long (word image a) ≡ false = one_by (is_long (word image a)) (sym long ∙ skips.one) in
-    let w : ℕ = word_at words (raised m.cpu.pc 1) in
+    let w : ℕ = word_at words (wrapping_sum m.cpu.pc 1) in
     let here : form_at_mote m ≡ Some form = ap (λ u. the_form u w) (ap (word_at words) s.at ∙ stands.0) ∙ the_form-second (word image a) w (word image ((a + 1) % 65536)) alone ∙ is in
-    let there' : raised m.cpu.pc 1 ≡ v + 1 = omega arith in
+    let there' : wrapping_sum m.cpu.pc 1 ≡ v + 1 = omega arith in
     let over : is_long w ≡ false = ap (λ p. is_long (word_at words p)) there' ∙ ap is_long (stands.1.0 ∙ ap (λ n. 0xC000 + n) (stub_size a t)) ∙ short_word (is_crossing a t) in
     let n : ℕ = next_size image a in
     let n' : ℕ = mote_next_size m in
     let one' : n' ≡ 1 = ap (λ b. if b then 2 else 1) over in
     let ag = answers_alike m.flash.words (memory_of k) (ask_of form core) skips.reads in
-    let quiet : ag.line ≡ None = transfer_line form core (finish_of form core n ag.answer) (memory_of k) (record (memory_of k) { devices = ag.devices; line = ag.line }) n skips.transfers (exec_went guarded_calls form core (memory_of k) n ag.answer (record (memory_of k) { devices = ag.devices; line = ag.line }) ag.guarded) in
+    let quiet : ag.line ≡ None = transfer_line form core (finish_of form core n ag.answer) (memory_of k)
+    (record (memory_of k) { devices = ag.devices; line = ag.line }) n skips.transfers
+    (exec_went guarded_calls form core (memory_of k) n ag.answer (record (memory_of k) { devices = ag.devices; line = ag.line }) ag.guarded) in
     let far : Bool = skips.passed ag.answer in
     let place : m.cpu ≡ placed core v 0x011F = ap₂ (λ p s. record m.cpu { pc = p; sp = s }) s.at s.ready.idle.top in
     let place' : m.cpu ≡ record m.cpu { pc = v; sp = 0x011F } = place in
     let physical : answer_of physical_calls (space_of m None) (ask_of form m.cpu) ≡ WentOn ag.answer (record (space_of m None) { devices = ag.devices }) =
     ap (λ c. answer_of physical_calls (space_of m None) (ask_of form c)) place ∙ ap (answer_of physical_calls (space_of m None)) (skips.asks v 0x011F) ∙ ag.physical ∙ ap (λ l. WentOn ag.answer (record (space_of m None) { devices = ag.devices; line = l })) quiet in
-    let to : (if far then raised v (1 + n') else raised v 1) ≡ (if far then v + 2 else v + 1) = ap₂ (λ p q. if far then p else q) (let e = one' in omega arith) (omega arith) in
+    let to : (if far then wrapping_sum v (1 + n') else wrapping_sum v 1) ≡ (if far then v + 2 else v + 1) = ap₂ (λ p q. if far then p else q) (let e = one' in omega arith) (omega arith) in
     let after : finish_of form m.cpu n' ag.answer ≡ record m.cpu { pc = if far then v + 2 else v + 1 } =
     ap (λ c. finish_of form c n' ag.answer) place ∙ skips.finish v 0x011F n' ag.answer ∙ ap (λ p. placed core p 0x011F) to ∙ ap (λ s. record m.cpu { pc = if far then v + 2 else v + 1; sp = s }) (sym s.ready.idle.top) in
     let executed : exec_of physical_calls form m.cpu (space_of m None) n' ≡ WentOn (record m.cpu { pc = if far then v + 2 else v + 1 }) (record (space_of m None) { devices = ag.devices }) =
     exec_went physical_calls form m.cpu (space_of m None) n' ag.answer (record (space_of m None) { devices = ag.devices }) physical ∙ ap (λ (c : Cpu). WentOn c (record (space_of m None) { devices = ag.devices })) after in
     let g : Guarded = record (memory_of k) { devices = ag.devices } in
     let guarded : answer_of guarded_calls (memory_of k) (ask_of form core) ≡ WentOn ag.answer g = ag.guarded ∙ ap (λ l. WentOn ag.answer (record (memory_of k) { devices = ag.devices; line = l })) quiet in
-    let next : raised a 1 ≡ a + 1 = omega arith in
-    let whole : (if far then raised a (1 + n) else raised a 1) ≡ (if far then t else next_of image a) =
-    ap₂ (λ p q. if far then p else q) (ap (λ b. raised a (1 + (if is_long (word image b) then 2 else 1))) next) (next ∙ ap (λ b. a + (if b then 2 else 1)) (sym alone)) in
+    let next : wrapping_sum a 1 ≡ a + 1 = omega arith in
+    let whole : (if far then wrapping_sum a (1 + n) else wrapping_sum a 1) ≡ (if far then t else next_of image a) =
+    ap₂ (λ p q. if far then p else q) (ap (λ b. wrapping_sum a (1 + size_by_first_word (word image b))) next) (next ∙ ap (λ b. a + (if b then 2 else 1)) (sym alone)) in
     let original : exec_of guarded_calls form core (memory_of k) n ≡ WentOn (core_of k (if far then t else next_of image a)) g =
     exec_went guarded_calls form core (memory_of k) n ag.answer g guarded ∙ ap (λ (c : Cpu). WentOn c g) (skips.finish a core.sp n ag.answer ∙ ap (core_of k) whole) in
     fork_law links x a v t far (word image a) s (ap is_closed shape) template (record {
@@ -111,5 +114,5 @@ skip_by links x a v form s shape is skips =
 
 pub skip_law : ShapeLaw Skip
 skip_law links x a v s shape =
-    let some = form_of_shape Skip a (instruction_at (image_of x.kernel) a) shape (λ e. cc) in
-    skip_by links x a v some.0 s shape some.1 (skip_form a some.0 (core_of x.kernel a) (valid_at (image_of x.kernel) a some.0 (image_words x.kernel s.ready.bounded) some.1) some.2)
+    let some = form_of_shape Skip a (instruction_at (image_held x.kernel) a) shape (λ e. cc) in
+    skip_by links x a v some.0 s shape some.1 (skip_form a some.0 (core_of x.kernel a) (valid_at (image_held x.kernel) a some.0 (image_words x.kernel s.ready.bounded) some.1) some.2)

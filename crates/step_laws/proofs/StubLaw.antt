@@ -117,12 +117,17 @@ plain_law links x w t b free row stands marks fit is starts =
           })
     ]
 
-stub_by : (links : Links) (x : State) (from t w : ℕ) (b c : Bool) → is_crossing from t ≡ c → IsRunning x → IsStretch x.kernel.layout (mote_of x).flash.words w (size (if c then crossing_stub t else plain_stub t)) → Stands links.enters (mote_of x).flash.words w (if c then crossing_stub t else plain_stub t) → EachLink links.marks w (if c then crossing_stub t else plain_stub t) → IsIdle x.kernel → (mote_of x).cpu.pc ≡ w
+stub_by : (links : Links) (x : State) (from t w : ℕ) (b c : Bool) → is_crossing from t ≡ c → IsRunning x
+    → IsStretch x.kernel.layout (mote_of x).flash.words w (size (if c then crossing_stub t else plain_stub t))
+    → Stands links.enters (mote_of x).flash.words w (if c then crossing_stub t else plain_stub t)
+    → EachLink links.marks w (if c then crossing_stub t else plain_stub t) → IsIdle x.kernel → (mote_of x).cpu.pc ≡ w
     → Begins x.kernel.layout (mote_of x).flash.words w b → Way links x b t (if c then count_after x.kernel.quantum (byte_at (mote_of x).sram 0x0100) else byte_at (mote_of x).sram 0x0100) c
 stub_by links x from t w b true crosses free row stands marks fit is starts = crossing_law links x w t b free (crossing_parts links x.kernel.layout (mote_of x).flash.words w t row stands marks) fit is starts
 stub_by links x from t w b false crosses free row stands marks fit is starts = plain_law links x w t b free row stands marks fit is starts
 
-pub stub_law : (links : Links) (x : State) (from t w : ℕ) (b : Bool) → IsRunning x → IsStretch x.kernel.layout (mote_of x).flash.words w (size (stub from t)) → Stands links.enters (mote_of x).flash.words w (stub from t) → EachLink links.marks w (stub from t) → IsIdle x.kernel → (mote_of x).cpu.pc ≡ w
+pub stub_law : (links : Links) (x : State) (from t w : ℕ) (b : Bool) → IsRunning x
+    → IsStretch x.kernel.layout (mote_of x).flash.words w (size (stub from t)) → Stands links.enters (mote_of x).flash.words w (stub from t)
+    → EachLink links.marks w (stub from t) → IsIdle x.kernel → (mote_of x).cpu.pc ≡ w
     → Begins x.kernel.layout (mote_of x).flash.words w b → Way links x b t (count_over x.kernel.quantum from t (byte_at (mote_of x).sram 0x0100)) (is_crossing from t)
 unfolding stub
 stub_law links x from t w b free row stands marks fit is starts = stub_by links x from t w b (is_crossing from t) refl free row stands marks fit is starts

@@ -4,7 +4,7 @@ use Rattle.avr_isa.specs.declared.form.Form.{Form}
 use Rattle.avr_isa.specs.declared.form.Form.TheVariants.{Push, Pop, LoadOff, StoreOff}
 use Rattle.avr_isa.specs.declared.operation.Base.TheVariants.{Y}
 use Rattle.avr_decode.specs.Program.{instruction_at}
-use Rattle.avr_exec.specs.Registers.{raised}
+use Rattle.avr_exec.specs.Registers.{wrapping_sum}
 use Rattle.sram_layout.specs.Bytes.{byte_at}
 use Rattle.mote_core.specs.declared.mote.Mote.{Mote}
 use Rattle.nat_template.specs.Stubs.{mem_entry}
@@ -13,7 +13,8 @@ use Rattle.mem_guard.specs.FlatMachine.{Goes}
 use Rattle.kernel_entry.specs.declared.kernel.Kernel.{Kernel}
 use Rattle.kernel_entry.specs.declared.kernel.Served.TheVariants as answers
 use Rattle.kernel_entry.specs.Conditions.{CanServe}
-use Rattle.kernel_entry.specs.Parts.{descriptor, image_of, return_address, stack_top}
+use Rattle.kernel_entry.specs.Parts.{descriptor, return_address, image_held}
+use Rattle.sram_layout.specs.Cells.{kernel_stack_top}
 use Rattle.kernel_entry.specs.Seen.{program, state_at}
 use Rattle.kernel_entry.specs.Services.{served}
 use Rattle.inline_laws.specs.InlineWays.{pointer_of, above_pointer, from_frame}
@@ -77,10 +78,10 @@ pub record RunsInside (x : State) (a words steps : ℕ) : Type 0 where
   pub end : Mote
   pub walk : Walk x (plain_moves steps) (with_mote x end)
   pub behind : end.cpu.pc ≡ (mote_of x).cpu.pc + words
-  pub top : end.cpu.sp ≡ stack_top
+  pub top : end.cpu.sp ≡ kernel_stack_top
   pub stack : (b : ℕ) → 0x011E ≤ b → b < 0x0120 → byte_at end.sram b ≡ byte_at (mote_of x).sram b
-  pub original : (s c : ℕ) → tried_at x a s c ≡ Goes None (state_at (with_mote x end).kernel (raised a 1) (s + 1) (crossings_over a (raised a 1) c))
-  pub service : IsAsMem x a (raised a 1) (with_mote x end).kernel
+  pub original : (s c : ℕ) → tried_at x a s c ≡ Goes None (state_at (with_mote x end).kernel (wrapping_sum a 1) (s + 1) (crossings_over a (wrapping_sum a 1) c))
+  pub service : IsAsMem x a (wrapping_sum a 1) (with_mote x end).kernel
   pub asker : (k : Kernel) × AsksMem x a k
   pub leaves : LeavesMote (mote_of x) end
 
@@ -101,4 +102,4 @@ pub record HasInlineRun (x : State) (a : ℕ) (t : Inline) : Type 0 where
 
 -- from each entry whose instruction has an inline template
 abbrev pub RunInline : Type 0
-RunInline = (x : State) → (a : ℕ) → (t : Inline) → IsAtEntry x a → inline_of (mote_of x) (instruction_at (image_of x.kernel) a) ≡ Some t → HasInlineRun x a t
+RunInline = (x : State) → (a : ℕ) → (t : Inline) → IsAtEntry x a → inline_of (mote_of x) (instruction_at (image_held x.kernel) a) ≡ Some t → HasInlineRun x a t

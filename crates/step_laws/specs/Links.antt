@@ -1,7 +1,8 @@
 -- Where control may go on from rewritten code, and which exit stubs lead there (docs/RUN.md, "Links").
-use Rattle.std.specs.Prelude.{◌≡◌, ℕ, ◌+◌, List, take, Option, Some, None}
+use Rattle.std.specs.Prelude.{◌≡◌, ℕ, ◌+◌, List, Option, Some, None}
 use Rattle.flash_model.specs.Pages.{word_at}
 use Rattle.flash_model.specs.declared.layout.Layout.{Layout}
+use Rattle.flash_model.specs.Layouts.{image_of}
 use Rattle.page_index.specs.Entries.{IsEntry}
 use Rattle.nat_template.specs.Stubs.{call_word, bridge_entry}
 use Rattle.nat_page.specs.Links.{IsLinkIn}
@@ -13,7 +14,7 @@ pub record Links : Type 1 where
 
 -- in a code pool control goes on at entries, and the links are those of its pages
 abbrev pub links_of : Layout → List ℕ → Links
-links_of layout words = record { enters = IsEntry layout words; marks = IsLinkIn layout (take layout.image_words words) words }
+links_of layout words = record { enters = IsEntry layout words; marks = IsLinkIn layout (image_of layout words) words }
 
 -- the link to t at s is unresolved: it calls the bridge
 pub record IsBridge (links : Links) (words : List ℕ) (s t : ℕ) : Type 0 where

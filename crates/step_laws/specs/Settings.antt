@@ -1,7 +1,7 @@
 -- What the law of a step rests on (docs/RUN.md, "The law of a step").
 use Rattle.std.specs.Prelude.{◌≡◌, ℕ, ◌+◌, ◌<◌, ◌≤◌, ◌^◌, length, None}
 use Rattle.sram_layout.specs.Bytes.{byte_at}
-use Rattle.sram_layout.specs.Cells.{count_cell, vsp_cell}
+use Rattle.sram_layout.specs.Cells.{count_cell, vsp_cell, kernel_stack_top}
 use Rattle.heap_frames.specs.Paged.{IsPaged}
 use Rattle.flash_model.specs.Layouts.{IsRight}
 use Rattle.flash_model.specs.Memory.{IsWhole}
@@ -11,7 +11,7 @@ use Rattle.nat_page.specs.Faithful.{HoldsCode}
 use Rattle.kernel_entry.specs.declared.kernel.Kernel.{Kernel}
 use Rattle.step_laws.specs.States.{State, mote_of}
 use Rattle.step_laws.specs.Links.{Links}
-use Rattle.kernel_entry.specs.Parts.{image_of, stack_top}
+use Rattle.kernel_entry.specs.Parts.{image_held}
 
 -- nothing is owed, the program has not ended, and a poll can be counted
 pub record IsRunning (x : State) : Type 0 where
@@ -25,7 +25,7 @@ pub record IsIdle (k : Kernel) : Type 0 where
   pub registers : 31 < length k.mote.cpu.r
   pub size : length k.mote.sram ≡ 4096
   pub pointer : byte_at k.mote.sram vsp_cell < 256
-  pub top : k.mote.cpu.sp ≡ stack_top
+  pub top : k.mote.cpu.sp ≡ kernel_stack_top
   pub some : 1 ≤ byte_at k.mote.sram count_cell
   pub most : byte_at k.mote.sram count_cell < 256
 
@@ -47,10 +47,10 @@ pub record CanBegin (x : State) : Type 0 where
 pub record IsSetting (links : Links) (x : State) (a v : ℕ) : Type 0 where
   pub ready : CanBegin x
   pub at : (mote_of x).cpu.pc ≡ v
-  pub code : StandsIn links.enters links.marks x.kernel.layout (image_of x.kernel) (mote_of x).flash.words a v
+  pub code : StandsIn links.enters links.marks x.kernel.layout (image_held x.kernel) (mote_of x).flash.words a v
 
 -- The machine stands at an entry of a, and flash holds the image and rewritten code of it.
 pub record IsAtEntry (x : State) (a : ℕ) : Type 0 where
   pub ready : CanBegin x
-  pub code : HoldsCode x.kernel.layout (image_of x.kernel) (mote_of x).flash.words
+  pub code : HoldsCode x.kernel.layout (image_held x.kernel) (mote_of x).flash.words
   pub entry : IsEntry x.kernel.layout (mote_of x).flash.words a (mote_of x).cpu.pc

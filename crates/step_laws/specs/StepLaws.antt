@@ -3,7 +3,7 @@
 use Rattle.std.specs.Prelude.{◌≡◌, ℕ, ◌+◌, ◌<◌, ◌≤◌, Bool, true, List, [], ◌∷◌, length, Option, Some, None, if◌then◌else◌}
 use Rattle.avr_isa.specs.Crossing.{is_crossing}
 use Rattle.sram_layout.specs.Bytes.{byte_at}
-use Rattle.sram_layout.specs.Cells.{vsp_cell}
+use Rattle.sram_layout.specs.Cells.{vsp_cell, kernel_stack_top}
 use Rattle.heap_frames.specs.Paged.{IsPaged}
 use Rattle.mote_devices.specs.declared.line.Line.{Line}
 use Rattle.nat_template.specs.declared.shapes.TemplateShape.{TemplateShape}
@@ -18,7 +18,7 @@ use Rattle.step_laws.specs.States.{State, mote_of}
 use Rattle.step_laws.specs.Walks.{Walk}
 use Rattle.step_laws.specs.Links.{Links, links_of, OfStub}
 use Rattle.step_laws.specs.Settings.{IsSetting, IsAtEntry}
-use Rattle.kernel_entry.specs.Parts.{image_of, stack_top}
+use Rattle.kernel_entry.specs.Parts.{image_held}
 use Rattle.kernel_entry.specs.Seen.{program, state_at, count_of, end_of}
 
 -- what the original program's next instruction does, at address a and with these counts
@@ -48,7 +48,7 @@ pub record Keeps (x z : State) : Type 0 where
   pub slots : length (mote_of z).swap ≡ length (mote_of x).swap
   pub paged : IsPaged (mote_of z).sram (mote_of z).swap
   pub registers : length (mote_of z).cpu.r ≡ length (mote_of x).cpu.r
-  pub top : (mote_of z).cpu.sp ≡ stack_top
+  pub top : (mote_of z).cpu.sp ≡ kernel_stack_top
   pub polls : (mote_of z).devices.polls ≤ (mote_of x).devices.polls + 1
   pub tables : (b : ℕ) → 0x0142 ≤ b → b < 0x0400 → byte_at (mote_of z).sram b ≡ byte_at (mote_of x).sram b
   pub pointer : byte_at (mote_of z).sram vsp_cell < 256
@@ -95,7 +95,7 @@ pub record StepLaw (links : Links) (x : State) (a : ℕ) : Type 0 where
 
 -- the law of a shape of template, whatever the links
 abbrev pub ShapeLaw : TemplateShape → Type 1
-ShapeLaw shape = (links : Links) → (x : State) → (a v : ℕ) → IsSetting links x a v → shape_at (image_of x.kernel) a ≡ shape → StepLaw links x a
+ShapeLaw shape = (links : Links) → (x : State) → (a v : ℕ) → IsSetting links x a v → shape_at (image_held x.kernel) a ≡ shape → StepLaw links x a
 
 -- the links of the pool that a machine runs in
 abbrev pub links_at : State → Links
@@ -104,7 +104,7 @@ links_at x = links_of x.kernel.layout (mote_of x).flash.words
 -- Each shape has its law in the pool that the machine runs in. A contract can say no more, since no clause
 -- ranges over relations; the lemma `shape_law` has the law for all links.
 abbrev pub HasShapeLaws : Type 0
-HasShapeLaws = (shape : TemplateShape) → (x : State) → (a v : ℕ) → IsSetting (links_at x) x a v → shape_at (image_of x.kernel) a ≡ shape → StepLaw (links_at x) x a
+HasShapeLaws = (shape : TemplateShape) → (x : State) → (a v : ℕ) → IsSetting (links_at x) x a v → shape_at (image_held x.kernel) a ≡ shape → StepLaw (links_at x) x a
 
 -- each entry of rewritten code has its step's law
 abbrev pub HasEntryLaws : Type 0

@@ -4,15 +4,15 @@ use Rattle.mote_devices.specs.declared.line.Line.{Line}
 use Rattle.mote_core.specs.declared.mote.Mote.{Mote}
 use Rattle.mote_core.specs.declared.mote.Plain.{Plain as Shown}
 use Rattle.mote_core.specs.Conditions.{can_step}
-use Rattle.mote_core.specs.Shown.{line_of}
+use Rattle.mote_core.specs.Shown.{line_shown}
 use Rattle.mote_core.specs.Step.{form_at, IsPlainStep}
+use Rattle.mote_core.specs.QuietSteps.{KeepsKernel}
 use Rattle.branch_bridge.specs.declared.arrival.Moved.{Moved}
 use Rattle.branch_bridge.specs.declared.arrival.ArriveStop.{ArriveStop}
 use Rattle.branch_bridge.specs.Effects.{Store, makes_page}
 use Rattle.branch_bridge.specs.Arrivals.{Arrives}
 use Rattle.step_laws.specs.declared.moves.Owed.{Owed}
 use Rattle.step_laws.specs.Moves.{Move, Plain, Serve, Arrive}
-use Rattle.kernel_entry.specs.KernelPart.{SameKernel}
 use Rattle.step_laws.specs.States.{State, mote_of, with_mote, Begins, InPool, line_served, is_stop, after_service, store_of, arrived}
 use Rattle.kernel_entry.specs.Services.{served}
 use Rattle.kernel_entry.specs.Conditions.{CanServe}
@@ -29,8 +29,8 @@ pub record MakesPlain (x : State) (begins : Bool) (line : Option Line) (y : Stat
   pub shown : Shown
   pub next : Mote
   pub step : IsPlainStep (mote_of x) shown next
-  pub written : line_of shown ≡ line
-  pub kept : SameKernel (mote_of x) next
+  pub written : line_shown shown ≡ line
+  pub kept : KeepsKernel (mote_of x).sram next.sram
   pub result : y ≡ with_mote x next
 
 -- A service: nothing is owed, the program has not ended, and the pc is at an entry of the kernel that may

@@ -8,6 +8,3 @@
 mod swap;
 
 pub use swap::Swap;
-
-#[cfg(test)]
-mod tests;

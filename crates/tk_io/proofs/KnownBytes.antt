@@ -1,7 +1,9 @@
 -- What several reads took, one after another, and what several writes added.
 use Rattle.std.proofs.Common.{◌≡◌, ℕ, ◌+◌, ◌<◌, ◌≤◌, List, [], ◌++◌, length, take, drop, refl, sym, ◌∙◌, ap, subst, append_assoc, append-nil, length-append, arith, min, Option, None, Some}
 use Rattle.std.proofs.lemmas.List.{take-append-drop, take_at, drop-drop, drop_all}
+use Rattle.std.proofs.Math.Seq.{take-append-add}
 use Rattle.std.specs.Io.KnownBytes.{Appends, Consumes, Keeps}
+use Rattle.tk_io.specs.Streams.{CutShort, IsSent}
 
 pub appends-nothing : (known : Option (List ℕ)) → Appends known known []
 appends-nothing None = tt
@@ -19,11 +21,11 @@ appends-kept (Some a) None new xs first kept = absurd first
 appends-kept (Some a) (Some b) None xs first kept = absurd kept
 appends-kept (Some a) (Some b) (Some c) xs first kept = kept ∙ first
 
--- some bytes from the front went out, and the rest is left
-pub record IsSent (bytes rest : List ℕ) (old new : Option (List ℕ)) : Type 0 where
-  pub sent : List ℕ
-  pub parts : bytes ≡ sent ++ rest
-  pub appended : Appends old new sent
+-- bytes went out, and of others behind them a shorter part
+pub cut_behind : (old mid new : Option (List ℕ)) (a b : List ℕ) → Appends old mid a → CutShort mid new b → CutShort old new (a ++ b)
+cut_behind old mid new a b first cut =
+    let both = appends-both old mid new a (take cut.0 b) first cut.2 in
+    (length a + cut.0, omega (arith, length-append a b, cut.1), subst (λ z. Appends old new z) (sym (take-append-add a b cut.0)) both)
 
 pub nothing_sent : (bytes : List ℕ) (known : Option (List ℕ)) → IsSent bytes bytes known known
 nothing_sent bytes known = record { sent = []; parts = refl; appended = appends-nothing known }

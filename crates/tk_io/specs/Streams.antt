@@ -1,6 +1,6 @@
 -- What a whole reading takes from a source, and a whole writing gives to a sink. What a stream doesn't
 -- tell is `None`, of which nothing is said.
-use Rattle.std.specs.Prelude.{◌≡◌, ℕ, ◌+◌, ◌<◌, ◌≤◌, List, length, take, Option, Result, Ok, Err, Vec}
+use Rattle.std.specs.Prelude.{◌≡◌, ℕ, ◌+◌, ◌<◌, ◌≤◌, List, ◌++◌, length, take, Option, Result, Ok, Err, Vec}
 use Rattle.std.specs.Io.KnownBytes.{Consumes, Appends, IsAtEnd}
 use Rattle.std.specs.declared.alloc.Global.{Global}
 use Rattle.tk_io.specs.declared.failure.ReadAll.{ReadAll}
@@ -21,6 +21,12 @@ ReadsAll limit old new (Ok bytes) = (length bytes.items ≤ limit) × Consumes o
 ReadsAll limit old new (Err TooLong) = Takes (limit + 1) old new
 ReadsAll limit old new (Err Fault) = TakesAtMost limit old new
 ReadsAll limit old new (Err NoMemory) = TakesAtMost limit old new
+
+-- some of the bytes, from the front, were added, and the rest is left
+pub record IsSent (bytes rest : List ℕ) (old new : Option (List ℕ)) : Type 0 where
+  pub sent : List ℕ
+  pub parts : bytes ≡ sent ++ rest
+  pub appended : Appends old new sent
 
 -- a shorter part of the bytes from the front was added
 abbrev pub CutShort : Option (List ℕ) → Option (List ℕ) → List ℕ → Type 0

@@ -28,6 +28,3 @@ pub use sink::{Sink, put};
 pub use slow::{SlowSink, SlowSource};
 pub use source::{Source, read_all};
 pub use standard::{StdSink, StdSource};
-
-#[cfg(test)]
-mod tests;

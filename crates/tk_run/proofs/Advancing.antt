@@ -1,8 +1,7 @@
 -- The answers of a run.
-use Rattle.std.proofs.Common.{◌≡◌, ℕ, suc, ◌+◌, ◌-◌, ◌<◌, ◌≤◌, true, false, List, [], ◌∷◌, ◌++◌, length, take, refl, sym, ap, ap₂, ◌∙◌, arith, subst}
+use Rattle.std.proofs.Common.{◌≡◌, ℕ, suc, ◌+◌, ◌-◌, ◌<◌, ◌≤◌, true, false, List, [], ◌∷◌, ◌++◌, refl, sym, ap, ap₂, ◌∙◌, arith, subst}
 use Rattle.std.specs.Prelude.{◌^◌, ◌≢◌, Option, Some, None, Ok, Err}
-use Rattle.std.proofs.lemmas.List.{append-nil, length-append}
-use Rattle.std.proofs.Math.Seq.{take-append-add}
+use Rattle.std.proofs.lemmas.List.{append-nil}
 use Rattle.std.specs.Io.KnownBytes.{Appends}
 use Rattle.tk_io.specs.Streams.{CutShort}
 use Rattle.tk_io.proofs.KnownBytes.{appends-both, appends-nothing}
@@ -12,9 +11,9 @@ use Rattle.flash_model.specs.declared.layout.Layout.{Layout}
 use Rattle.nat_page.specs.Making.{HasNoEntry, HasNoFree}
 use Rattle.nat_page.proofs.UsedLaws.{used_pages-most}
 use Rattle.mote_devices.specs.declared.line.Line.{Line}
-use Rattle.mem_guard.specs.FlatMachine.{Program, FlatState, End as FlatEnd, Run, run, with_line, ended, tried}
+use Rattle.mem_guard.specs.FlatMachine.{Program, FlatState, Run, run, ended}
 use Rattle.mem_guard.specs.FlatMachine as flat_ends
-use Rattle.kernel_entry.specs.Parts.{image_of}
+use Rattle.kernel_entry.specs.Parts.{image_held}
 use Rattle.step_laws.specs.declared.moves.End.{End}
 use Rattle.step_laws.specs.declared.moves.End.TheVariants as ends
 use Rattle.step_laws.specs.Moves.{Move, lines_of, line_before}
@@ -23,7 +22,7 @@ use Rattle.tk_run.specs.Machines.{Machine, numbers_of, flat_of}
 use Rattle.tk_run.specs.Ready.{count_in, IsGoing, IsInOrder, IsSound, IsEnded, IsKept, HasBounds}
 use Rattle.tk_run.specs.Stepping.{lines_text}
 use Rattle.tk_run.specs.Stepping.{Goes, Stays, ends_in_arrive, HasStepped, StepWay, HasEntered, Entering, HasBound}
-use Rattle.tk_run.specs.Running.{Leads, original_from, run_of, HasAdvanced}
+use Rattle.tk_run.specs.Running.{Leads, original_from, run_of, Answers, IsBroken, HasAdvanced}
 use Rattle.tk_run.proofs.Bounds.{bounded_counted}
 use Rattle.tk_run.proofs.Leading.{goes_on, last_on, stays_on, stays_self}
 use Rattle.tk_run.proofs.RunSoFar.{Ran, IsBetween, none_ran, nothing, visits_flash, lines_text_on, ran_enter, ran_step, spent_at, wild_at, stop_at}
@@ -63,7 +62,9 @@ kept_ready m few ready =
     let sound : IsSound m = record { order = ready.order; bounded = bounds_ready m ready; steps = few; pages = pages_few m ready.order } in
     record { sound = sound; ready = λ e. record { sound = sound; exact = ready.exact; going = λ going. ready } }
 
-by_wild : (old now new : Machine) (i n t : ℕ) (before after : Option (List ℕ)) → old.end ≡ None → old.broken ≡ false → i ≤ n → t ≡ now.at → Ran old now i before after → is_inside (image_of now.kernel) now.at ≡ false → HasEntered now new (Some (ends.Wild t)) → new.end ≡ Some (ends.Wild t) → IsEnded new
+by_wild : (old now new : Machine) (i n t : ℕ) (before after : Option (List ℕ)) → old.end ≡ None → old.broken ≡ false → i ≤ n → t ≡ now.at
+    → Ran old now i before after → is_inside (image_held now.kernel) now.at ≡ false → HasEntered now new (Some (ends.Wild t))
+    → new.end ≡ Some (ends.Wild t) → IsEnded new
     → HasAdvanced old new n before after (Ok (ends.Wild t))
 unfolding ran_enter
 by_wild old now new i n t before after going whole below same ran outside entered kept over =
@@ -91,7 +92,9 @@ by_wild old now new i n t before after going whole below same ran outside entere
       kept = λ end is. absurd (no_end old end is going);
     }
 
-by_full : (old now new : Machine) (i n t : ℕ) (before after : Option (List ℕ)) → old.end ≡ None → old.broken ≡ false → i < n → t ≡ now.at → Ran old now i before after → is_inside (image_of now.kernel) now.at ≡ true → HasEntered now new (Some (ends.CodeFull t)) → new.end ≡ Some (ends.CodeFull t) → IsEnded new
+by_full : (old now new : Machine) (i n t : ℕ) (before after : Option (List ℕ)) → old.end ≡ None → old.broken ≡ false → i < n → t ≡ now.at
+    → Ran old now i before after → is_inside (image_held now.kernel) now.at ≡ true → HasEntered now new (Some (ends.CodeFull t))
+    → new.end ≡ Some (ends.CodeFull t) → IsEnded new
     → new.at ≡ now.at → HasNoEntry new.kernel.layout new.kernel.mote.flash.words t → HasNoFree new.kernel.layout new.kernel.mote.flash.words → HasAdvanced old new n before after (Ok (ends.CodeFull t))
 unfolding ran_enter
 by_full old now new i n t before after going whole below same ran inside entered kept over at unknown full =
@@ -116,7 +119,9 @@ by_full old now new i n t before after going whole below same ran inside entered
       kept = λ end is. absurd (no_end old end is going);
     }
 
-entered_ends : (old now new : Machine) (i n : ℕ) (before after : Option (List ℕ)) (result : Option End) (end : End) → old.end ≡ None → old.broken ≡ false → i < n → Ran old now i before after → HasEntered now new result → Entering now new result → result ≡ Some end → HasAdvanced old new n before after (Ok end)
+entered_ends : (old now new : Machine) (i n : ℕ) (before after : Option (List ℕ)) (result : Option End) (end : End) → old.end ≡ None
+    → old.broken ≡ false → i < n → Ran old now i before after → HasEntered now new result → Entering now new result → result ≡ Some end
+    → HasAdvanced old new n before after (Ok end)
 entered_ends old now new i n before after result end going whole below ran entered (Entering.In ready free inside) is = absurd (cc)
 entered_ends old now new i n before after result end going whole below ran entered (Entering.Out over kept outside) is =
     let e : ends.Wild now.at ≡ end = cc in
@@ -133,9 +138,9 @@ pub record IsIn (old now : Machine) (i : ℕ) (before after : Option (List ℕ))
   pub ran : Ran old now i before after
   pub ready : IsGoing now
   pub placed : now.owed ≡ None
-  pub inside : is_inside (image_of now.kernel) now.at ≡ true
+  pub inside : is_inside (image_held now.kernel) now.at ≡ true
 
-entered_in : (now new : Machine) (result : Option End) → Stays now new → flat_of new ≡ flat_of now → Entering now new result → result ≡ None → IsGoing new × (new.owed ≡ None) × (is_inside (image_of new.kernel) new.at ≡ true)
+entered_in : (now new : Machine) (result : Option End) → Stays now new → flat_of new ≡ flat_of now → Entering now new result → result ≡ None → IsGoing new × (new.owed ≡ None) × (is_inside (image_held new.kernel) new.at ≡ true)
 entered_in now new result stays flat (Entering.In ready free inside) is = (ready, free, ap₂ (λ (p : Program) a. is_inside p.image a) stays.program (ap (λ (s : FlatState). s.cpu.pc) flat) ∙ inside)
 entered_in now new result stays flat (Entering.Out over kept outside) is = absurd (cc)
 entered_in now new result stays flat (Entering.Full over kept inside unknown full) is = absurd (cc)
@@ -150,7 +155,9 @@ last_step ms [] inner some = absurd (some refl)
 last_step ms (n ∷ ns) inner some = last_on ms ns n ∙ inner
 
 -- behind the step, where its line went out
-between_by : (old now new : Machine) (i : ℕ) (line : Option Line) (before after later : Option (List ℕ)) → IsIn old now i before after → (step : HasStepped now new line) → StepWay now new line → Appends after later (lines_text (line_before line [])) → new.end ≡ None → IsBetween old new (i + 1) before later
+between_by : (old now new : Machine) (i : ℕ) (line : Option Line) (before after later : Option (List ℕ)) → IsIn old now i before after
+    → (step : HasStepped now new line) → StepWay now new line → Appends after later (lines_text (line_before line [])) → new.end ≡ None
+    → IsBetween old new (i + 1) before later
 unfolding ran_step
 between_by old now new i line before after later now' step (StepWay.On ready steps is) put going =
     record { ran = ran_step old now new i line before after later now'.ran now'.inside step steps is put; last = last_step now'.ran.moves step.moves step.last step.some; ready = ready }
@@ -160,7 +167,9 @@ pub between_on : (old now new : Machine) (i : ℕ) (line : Option Line) (before 
 between_on old now new i line before after later now' step put going = between_by old now new i line before after later now' step step.way put going
 
 -- the program stopped
-stopped_by : (old now new : Machine) (i n : ℕ) (line : Option Line) (end : End) (before after later : Option (List ℕ)) → old.end ≡ None → old.broken ≡ false → i < n → IsIn old now i before after → (step : HasStepped now new line) → StepWay now new line → Appends after later (lines_text (line_before line [])) → new.end ≡ Some end → HasAdvanced old new n before later (Ok end)
+stopped_by : (old now new : Machine) (i n : ℕ) (line : Option Line) (end : End) (before after later : Option (List ℕ)) → old.end ≡ None
+    → old.broken ≡ false → i < n → IsIn old now i before after → (step : HasStepped now new line) → StepWay now new line
+    → Appends after later (lines_text (line_before line [])) → new.end ≡ Some end → HasAdvanced old new n before later (Ok end)
 stopped_by old now new i n line end before after later going whole below now' step (StepWay.On ready steps is) put ended' = absurd (no_end new end ended' ready.going)
 stopped_by old now new i n line end before after later going whole below now' step (StepWay.Stopped stop over kept none steps is left) put ended' =
     let ran = now'.ran in
@@ -171,7 +180,9 @@ stopped_by old now new i n line end before after later going whole below now' st
     let all : S n = subst S same (stop_at old now i d.0 before after (end_of stop) ran now'.inside is) in
     let part = spent_at old now i before after ran now'.inside in
     let nothing : ran.lines ++ line_before line [] ≡ ran.lines = ap (λ l. ran.lines ++ line_before l []) none ∙ append-nil ran.lines in
-    let sent : Appends before later (lines_text ran.lines) = subst (λ l. Appends before later (lines_text l)) nothing (subst (Appends before later) (sym (lines_text_on ran.lines (line_before line []))) (appends-both before after later (lines_text ran.lines) (lines_text (line_before line [])) ran.put put)) in
+    let sent : Appends before later (lines_text ran.lines) = subst (λ l. Appends before later (lines_text l)) nothing
+    (subst (Appends before later) (sym (lines_text_on ran.lines (line_before line [])))
+    (appends-both before after later (lines_text ran.lines) (lines_text (line_before line [])) ran.put put)) in
     subst (λ x. HasAdvanced old new n before later (Ok x)) e (record {
       lines = ran.lines;
       leads = leads_by old new (ran.moves ++ step.moves) ran.lines (subst (λ l. Goes old new (ran.moves ++ step.moves) l) nothing (goes_on old now new ran.moves step.moves ran.lines (line_before line []) ran.goes step.goes)) (λ f. absurd (no_end new (ends.Stopped stop) kept f)) going whole;
@@ -191,10 +202,14 @@ stopped_by old now new i n line end before after later going whole below now' st
       kept = λ end is. absurd (no_end old end is going);
     })
 
-pub advanced_stop : (old now new : Machine) (i n : ℕ) (line : Option Line) (end : End) (before after later : Option (List ℕ)) → old.end ≡ None → old.broken ≡ false → i < n → IsIn old now i before after → HasStepped now new line → Appends after later (lines_text (line_before line [])) → new.end ≡ Some end → HasAdvanced old new n before later (Ok end)
+pub advanced_stop : (old now new : Machine) (i n : ℕ) (line : Option Line) (end : End) (before after later : Option (List ℕ)) → old.end ≡ None
+    → old.broken ≡ false → i < n → IsIn old now i before after → HasStepped now new line → Appends after later (lines_text (line_before line []))
+    → new.end ≡ Some end → HasAdvanced old new n before later (Ok end)
 advanced_stop old now new i n line end before after later going whole below now' step put ended' = stopped_by old now new i n line end before after later going whole below now' step step.way put ended'
 
-bound_by : (old now new : Machine) (n : ℕ) (before after : Option (List ℕ)) (result : Option End) → old.end ≡ None → old.broken ≡ false → IsBetween old now n before after → HasEntered now new result → is_inside (image_of now.kernel) now.at ≡ false → Entering now new result → result ≡ Some (ends.Wild now.at) → HasAdvanced old new n before after (Ok (ends.Wild now.at))
+bound_by : (old now new : Machine) (n : ℕ) (before after : Option (List ℕ)) (result : Option End) → old.end ≡ None → old.broken ≡ false
+    → IsBetween old now n before after → HasEntered now new result → is_inside (image_held now.kernel) now.at ≡ false → Entering now new result
+    → result ≡ Some (ends.Wild now.at) → HasAdvanced old new n before after (Ok (ends.Wild now.at))
 bound_by old now new n before after result going whole between entered outside (Entering.In ready free inside) is = absurd (cc)
 bound_by old now new n before after result going whole between entered outside (Entering.Out over kept out) is = by_wild old now new n n now.at before after going whole (omega arith) refl between.ran outside entered kept over
 bound_by old now new n before after result going whole between entered outside (Entering.Full over kept inside unknown full) is = absurd (cc)
@@ -238,51 +253,109 @@ advanced_kept m n known end whole kept = record {
   kept = λ other is. (let e : Some end ≡ Some other = sym kept ∙ is in cc, refl, refl);
 }
 
--- the line of the step could not be put
-nothing_cut : (after later : Option (List ℕ)) (line : Option Line) → line ≡ None → CutShort after later (lines_text (line_before line [])) → ⊥
-nothing_cut after later None none cut = absurd (let e = cut.1 in omega arith)
-nothing_cut after later (Some l) none cut = absurd (cc)
-
-cut_behind : (old mid new : Option (List ℕ)) (a b : List ℕ) → Appends old mid a → CutShort mid new b → CutShort old new (a ++ b)
-cut_behind old mid new a b first cut =
-    let both = appends-both old mid new a (take cut.0 b) first cut.2 in
-    (length a + cut.0, omega (arith, length-append a b, cut.1), subst (λ z. Appends old new z) (sym (take-append-add a b cut.0)) both)
-
--- of what went out nothing is said
-untold : (old now : Machine) (i : ℕ) (before after : Option (List ℕ)) → Ran old now i before after → Ran old now i None None
-untold old now i before after ran = record { lines = ran.lines; moves = ran.moves; goes = ran.goes; stays = ran.stays; broken = ran.broken; steps = ran.steps; put = tt; visits = ran.visits; run = ran.run }
-
+-- a machine that is marked as broken
 bounds_broken : (m : Machine) → HasBounds m → HasBounds (record m { broken = true })
 bounds_broken m bounded = bounded
 
 order_broken : (m : Machine) → IsInOrder m → IsInOrder (record m { broken = true })
-order_broken m order = record { layout = order.layout; right = order.right; faithful = order.faithful; tables = order.tables; paged = order.paged; whole = order.whole; registers = order.registers; pointer = order.pointer; quantum = order.quantum; pages = order.pages }
+order_broken m order = record {
+  layout = order.layout;
+  right = order.right;
+  faithful = order.faithful;
+  tables = order.tables;
+  paged = order.paged;
+  whole = order.whole;
+  registers = order.registers;
+  pointer = order.pointer;
+  quantum = order.quantum;
+  pages = order.pages;
+}
 
-failed_by : (old now new : Machine) (i n : ℕ) (line : Option Line) (e : Failed) (before after later : Option (List ℕ)) → old.end ≡ None → old.broken ≡ false → i < n → IsIn old now i before after → (step : HasStepped now new line) → StepWay now new line → CutShort after later (lines_text (line_before line [])) → HasAdvanced old (record new { broken = true }) n before later (Err e)
-unfolding ran_step untold
-failed_by old now new i n line e before after later going whole below now' step (StepWay.On ready steps is) cut =
-    let ran = ran_step old now new i line None None None (untold old now i before after now'.ran) now'.inside step steps is tt in
-    let none = none_ran (program_of old.kernel) (flat_of new) in
-    let broken : Machine = record new { broken = true } in
+sound_broken : (m : Machine) → IsSound m → IsSound (record m { broken = true })
+sound_broken m sound = record { order = order_broken m sound.order; bounded = bounds_broken m sound.bounded; steps = sound.steps; pages = sound.pages }
+
+kept_broken : (m : Machine) → IsKept m → IsKept (record m { broken = true })
+kept_broken m kept = record { sound = sound_broken m kept.sound; ready = λ e. absurd (cc) }
+
+-- Between two steps the lines so far could not be put.
+pub advanced_cut : (old now : Machine) (i n : ℕ) (e : Failed) (text : List ℕ) (before after : Option (List ℕ)) → old.end ≡ None → old.broken ≡ false → i ≤ n → IsBetween old now i (Some []) (Some text) → CutShort before after text
+    → HasAdvanced old (record now { broken = true }) n before after (Err e)
+advanced_cut old now i n e text before after going whole below between cut =
+    let ran = between.ran in
+    let none = none_ran (program_of old.kernel) (flat_of now) in
+    let goes : Goes old (record now { broken = true }) ran.moves ran.lines = record { walk = ran.goes.walk; told = ran.goes.told; numbers = ran.goes.numbers } in
     record {
       lines = ran.lines;
-      leads = leads_by old broken ran.moves ran.lines (record { walk = ran.goes.walk; told = ran.goes.told; numbers = ran.goes.numbers }) (λ f. last_step now'.ran.moves step.moves step.last step.some) going whole;
-      put = subst (CutShort before later) (sym (lines_text_on now'.ran.lines (line_before line []))) (cut_behind before after later (lines_text now'.ran.lines) (lines_text (line_before line [])) now'.ran.put cut);
+      leads = leads_by old (record now { broken = true }) ran.moves ran.lines goes (λ f. between.last) going whole;
+      put = subst (CutShort before after) ran.put cut;
       stays = record { program = ran.stays.program; layout = ran.stays.layout; quantum = ran.stays.quantum };
       broken = refl;
       ran = λ f. record {
-        done = i + 1;
-        within = omega arith;
+        done = i;
+        within = below;
         steps = ran.steps;
-        written = ap (λ k. (original_from old k).lines) (sym (nothing (i + 1))) ∙ ap (λ (r : Run). r.lines) (ran.run 0) ∙ ap (λ l. ran.lines ++ l) none.0 ∙ append-nil ran.lines;
-        left = ap (λ k. (original_from old k).state) (sym (nothing (i + 1))) ∙ ap (λ (r : Run). r.state) (ran.run 0) ∙ none.1;
+        written = ap (λ k. (original_from old k).lines) (sym (nothing i)) ∙ ap (λ (r : Run). r.lines) (ran.run 0) ∙ ap (λ l. ran.lines ++ l) none.0 ∙ append-nil ran.lines;
+        left = ap (λ k. (original_from old k).state) (sym (nothing i)) ∙ ap (λ (r : Run). r.state) (ran.run 0) ∙ none.1;
         visits = record { visited = ran.visits.visited; stay = ran.visits.stay };
-        answers = record { broken = refl; order = order_broken new ready.order; bounded = bounds_broken new (bounds_ready new ready) };
+        answers = record { broken = refl; order = order_broken now between.ready.order; bounded = bounds_broken now (bounds_ready now between.ready) };
       };
-      keeps = λ few before'. record { sound = record { order = order_broken new ready.order; bounded = bounds_broken new (bounds_ready new ready); steps = omega (arith, ran.steps, few, below); pages = pages_few new ready.order }; ready = λ e. absurd (cc) };
+      keeps = λ few before'. kept_broken now (kept_ready now (omega (arith, ran.steps, few, below)) between.ready);
       kept = λ end is. absurd (no_end old end is going);
     }
-failed_by old now new i n line e before after later going whole below now' step (StepWay.Stopped stop over kept none steps is left) cut = absurd (nothing_cut after later line none cut)
 
-pub advanced_failed : (old now new : Machine) (i n : ℕ) (line : Option Line) (e : Failed) (before after later : Option (List ℕ)) → old.end ≡ None → old.broken ≡ false → i < n → IsIn old now i before after → HasStepped now new line → CutShort after later (lines_text (line_before line [])) → HasAdvanced old (record new { broken = true }) n before later (Err e)
-advanced_failed old now new i n line e before after later going whole below now' step cut = failed_by old now new i n line e before after later going whole below now' step step.way cut
+failed_by : (old now new : Machine) (i n : ℕ) (line : Option Line) (e : Failed) (text : List ℕ) (before after : Option (List ℕ)) → old.end ≡ None → old.broken ≡ false → i < n → IsIn old now i (Some []) (Some text) → (step : HasStepped now new line) → StepWay now new line → line ≢ None
+    → CutShort before after (text ++ lines_text (line_before line [])) → HasAdvanced old (record new { broken = true }) n before after (Err e)
+failed_by old now new i n line e text before after going whole below now' step (StepWay.On ready steps is) some cut =
+    let behind : List ℕ = text ++ lines_text (line_before line []) in
+    advanced_cut old new (i + 1) n e behind before after going whole (omega arith) (between_on old now new i line (Some []) (Some text) (Some behind) now' step refl ready.going) cut
+failed_by old now new i n line e text before after going whole below now' step (StepWay.Stopped stop over kept none steps is left) some cut = absurd (some none)
+
+-- The line of a step could not be put, or those that were gathered before.
+pub advanced_failed : (old now new : Machine) (i n : ℕ) (line : Option Line) (e : Failed) (text : List ℕ) (before after : Option (List ℕ)) → old.end ≡ None → old.broken ≡ false → i < n → IsIn old now i (Some []) (Some text) → HasStepped now new line → line ≢ None
+    → CutShort before after (text ++ lines_text (line_before line [])) → HasAdvanced old (record new { broken = true }) n before after (Err e)
+advanced_failed old now new i n line e text before after going whole below now' step some cut = failed_by old now new i n line e text before after going whole below now' step step.way some cut
+
+-- All steps were done, and then the whole text was put.
+pub advanced_whole : (old new : Machine) (n : ℕ) (end : End) (text : List ℕ) (before after : Option (List ℕ)) → HasAdvanced old new n (Some []) (Some text) (Ok end) → Appends before after text → HasAdvanced old new n before after (Ok end)
+advanced_whole old new n end text before after advanced put = record {
+  lines = advanced.lines;
+  leads = advanced.leads;
+  put = subst (Appends before after) advanced.put put;
+  stays = advanced.stays;
+  broken = advanced.broken;
+  ran = advanced.ran;
+  keeps = advanced.keeps;
+  kept = advanced.kept;
+}
+
+broken_by : (old new : Machine) (n done : ℕ) (lines : List Line) (end : End) → Answers old new n done lines (Ok end) → IsBroken (record new { broken = true })
+broken_by old new n done lines ends.Spent spent = record { broken = refl; order = order_broken new spent.ready.order; bounded = bounds_broken new (bounds_ready new spent.ready) }
+broken_by old new n done lines (ends.CodeFull t) full = record { broken = refl; order = order_broken new full.ended.order; bounded = bounds_broken new full.ended.bounded }
+broken_by old new n done lines (ends.Wild t) over = record { broken = refl; order = order_broken new over.ended.order; bounded = bounds_broken new over.ended.bounded }
+broken_by old new n done lines (ends.Stopped stop) over = record { broken = refl; order = order_broken new over.ended.order; bounded = bounds_broken new over.ended.bounded }
+
+-- All steps were done, and then the text could not be put.
+pub advanced_unput : (old new : Machine) (n : ℕ) (end : End) (e : Failed) (text : List ℕ) (before after : Option (List ℕ)) → old.end ≡ None → old.broken ≡ false → HasAdvanced old new n (Some []) (Some text) (Ok end) → CutShort before after text
+    → HasAdvanced old (record new { broken = true }) n before after (Err e)
+advanced_unput old new n end e text before after going whole advanced cut =
+    let leads = advanced.leads in
+    let ran = advanced.ran going in
+    let goes : Goes old (record new { broken = true }) leads.moves advanced.lines = record { walk = leads.goes.walk; told = leads.goes.told; numbers = leads.goes.numbers } in
+    record {
+      lines = advanced.lines;
+      leads = leads_by old (record new { broken = true }) leads.moves advanced.lines goes (λ f. leads.last f) going whole;
+      put = subst (CutShort before after) advanced.put cut;
+      stays = record { program = advanced.stays.program; layout = advanced.stays.layout; quantum = advanced.stays.quantum };
+      broken = refl;
+      ran = λ f. record {
+        done = ran.done;
+        within = ran.within;
+        steps = ran.steps;
+        written = ran.written;
+        left = ran.left;
+        visits = record { visited = ran.visits.visited; stay = ran.visits.stay };
+        answers = broken_by old new n ran.done advanced.lines end ran.answers;
+      };
+      keeps = λ few before'. kept_broken new (advanced.keeps few before');
+      kept = λ other is. absurd (no_end old other is going);
+    }

@@ -1,11 +1,9 @@
 -- What an arrival makes of pages, and what it answers.
-use Rattle.std.proofs.Common.{◌≡◌, ℕ, ◌+◌, ◌<◌, ◌≤◌, Bool, true, false, List, [], refl, sym, ap, ◌∙◌, subst, add-zero}
-use Rattle.std.specs.Prelude.{Option, Some, None, Result, Ok, Err, IfOk, IfSome}
-use Rattle.flash_model.specs.Layouts.{IsRight}
+use Rattle.std.proofs.Common.{◌≡◌, ℕ, ◌+◌, ◌<◌, ◌≤◌, Bool, false, List, [], refl, sym, ap, ◌∙◌, subst, add-zero}
+use Rattle.std.specs.Prelude.{Option, Some, None, Result, Ok, Err, IfOk}
+use Rattle.flash_model.specs.Layouts.{IsRight, image_of}
 use Rattle.flash_model.specs.declared.layout.Layout.{Layout}
 use Rattle.page_index.specs.Maps.{IsPool}
-use Rattle.nat_page.specs.Links.{IsUnresolved}
-use Rattle.nat_page.specs.Making.{image_of}
 use Rattle.nat_page.specs.Faithful.{HoldsCode}
 use Rattle.nat_page.specs.Used.{used_pages}
 use Rattle.branch_bridge.specs.declared.arrival.Moved.{Moved}
@@ -13,17 +11,18 @@ use Rattle.branch_bridge.specs.declared.arrival.ArriveStop.{ArriveStop}
 use Rattle.branch_bridge.specs.declared.arrival.ArriveStop.TheVariants as refusals
 use Rattle.branch_bridge.specs.Effects.{Store, Effect, all_done, makes_page}
 use Rattle.branch_bridge.specs.Arrivals.{Arrives, CameThrough, Plans, Outside, Full, Went, HasNoRoom}
-use Rattle.branch_bridge.proofs.CountLaws.{PageAfter, arrival_page, arrival_used}
+use Rattle.branch_bridge.specs.PageChanges.{PageAfter}
+use Rattle.branch_bridge.proofs.CountLaws.{arrival_page, arrival_used}
 use Rattle.step_laws.specs.declared.moves.Owed.{Owed}
 use Rattle.step_laws.specs.Moves.{Arrive}
 use Rattle.step_laws.specs.Numbers.{Numbers, moved, one_if}
 use Rattle.step_laws.specs.States.{State, mote_of, store_of, arrived}
 use Rattle.step_laws.specs.Walks.{MakesArrive}
-use Rattle.step_laws.specs.Links.{Links, OfStub}
+use Rattle.step_laws.specs.Links.{OfStub}
 use Rattle.step_laws.specs.StepLaws.{Reaches, links_at}
 use Rattle.tk_run.specs.Machines.{Machine, state_of}
 use Rattle.tk_run.specs.Ready.{IsGoing}
-use Rattle.tk_run.specs.Stepping.{links_in, PageWay}
+use Rattle.tk_run.specs.Stepping.{links_in}
 
 -- the stub that an arrival names is an unresolved link to its address
 came_by : (x : State) (stub : Option ℕ) (t : ℕ) → OfStub (links_at x) (mote_of x).flash.words stub t → CameThrough x.kernel.layout (mote_of x).flash.words stub t
@@ -58,7 +57,7 @@ answered layout old new t stub result arrives = answered_by layout old t stub ar
 -- one page more is used where one was made, and its first address is t
 pub record Pages (layout : Layout) (old new : List ℕ) (t : ℕ) (made : Bool) : Type 0 where
   pub used : used_pages layout new ≡ used_pages layout old + one_if made
-  pub ways : (page : ℕ) → IsPool layout page → PageWay old new t page
+  pub ways : (page : ℕ) → IsPool layout page → PageAfter old new page t
 
 used_same : (layout : Layout) (old new : Store) (effects : List Effect) → effects ≡ [] → new ≡ all_done old effects → used_pages layout new.flash.words ≡ used_pages layout old.flash.words + one_if (makes_page effects)
 used_same layout old new effects nothing after =
@@ -74,15 +73,11 @@ used_by layout old new t stub effects result (Went goes) after used =
     let P : Result Moved ArriveStop → Type 0 = λ r. IfOk r (λ to. used_pages layout new.flash.words ≡ used_pages layout old.flash.words + one_if to.made) in
     subst P goes.answer used
 
-way_after : (old new : List ℕ) (page t : ℕ) → PageAfter old new page t → PageWay old new t page
-way_after old new page t (PageAfter.Stays used first) = PageWay.Same used first
-way_after old new page t (PageAfter.Begins free used first) = PageWay.Made free first
-
 pub arrival_pages : (layout : Layout) (old new : Store) (t : ℕ) (stub : Option ℕ) (result : Result Moved ArriveStop) → IsRight layout → HoldsCode layout (image_of layout old.flash.words) old.flash.words → CameThrough layout old.flash.words stub t → (arrives : Arrives layout old new t stub result)
     → Pages layout old.flash.words new.flash.words t (makes_page arrives.effects)
 arrival_pages layout old new t stub result right code from arrives = record {
   used = used_by layout old new t stub arrives.effects result arrives.plan arrives.after (arrival_used layout old new t stub result right code from arrives);
-  ways = λ page pool. way_after old.flash.words new.flash.words page t (arrival_page layout old new t stub result page right code from arrives);
+  ways = λ page pool. arrival_page layout old new t stub result page right code from arrives;
 }
 
 -- the answer tells whether a page was made

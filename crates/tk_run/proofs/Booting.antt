@@ -1,14 +1,15 @@
 -- The machine at boot is ready, and stands for the original program at reset.
-use Rattle.std.proofs.Common.{◌≡◌, ℕ, ◌+◌, ◌-◌, ◌*◌, ◌%◌, ◌<◌, ◌≤◌, Bool, List, length, take, refl, sym, ap, ap₂, ◌∙◌, arith, subst, inl}
+use Rattle.std.proofs.Common.{◌≡◌, ℕ, ◌+◌, ◌-◌, ◌*◌, ◌%◌, ◌<◌, ◌≤◌, List, length, take, refl, sym, ap, ap₂, ◌∙◌, arith, subst, inl}
 use Rattle.std.specs.Prelude.{None}
 use Rattle.avr_exec.specs.declared.cpu.Cpu.{Cpu}
 use Rattle.hex_image.specs.Image.{IsImage}
 use Rattle.sram_layout.specs.Boot.{at_boot}
-use Rattle.sram_layout.specs.Bytes.{byte_at, with_byte, word_at}
+use Rattle.sram_layout.specs.Bytes.{byte_at, with_byte, data_word_at}
 use Rattle.sram_layout.specs.Cells.{count_cell, vsp_cell}
 use Rattle.sram_layout.proofs.Laws.{byte_same, byte_other, length-with_byte}
 use Rattle.sram_layout.proofs.BootLaws.{length-at_boot, boot_zero}
-use Rattle.flash_model.specs.Pages.{page_count, many}
+use Rattle.flash_model.specs.Pages.{page_count}
+use Rattle.list_parts.specs.Lists.{many}
 use Rattle.flash_model.specs.Memory.{loaded, Memory, IsWhole}
 use Rattle.flash_model.specs.Layouts.{IsRight}
 use Rattle.flash_model.specs.declared.layout.Layout.{Layout}
@@ -23,12 +24,12 @@ use Rattle.mote_core.specs.Step.{IsAtReset, cpu_at_reset}
 use Rattle.swap_store.specs.Slots.{zero_slots}
 use Rattle.swap_store.proofs.Laws.{length-zero_slots}
 use Rattle.std.proofs.Math.Nat.{zero-mod}
-use Rattle.flash_model.proofs.LoadedLaws.{length-many}
-use Rattle.mem_guard.specs.FlatMachine.{FlatState, run, original, at_reset as flat_at_reset, zeros}
+use Rattle.list_parts.proofs.ManyLaws.{length-many}
+use Rattle.mem_guard.specs.FlatMachine.{run, original, at_reset as flat_at_reset}
 use Rattle.mem_guard.proofs.AtReset.{memory_at_reset, pages_at_reset}
 use Rattle.step_laws.specs.StepLaws.{Reaches}
 use Rattle.kernel_entry.specs.Seen.{program as program_of}
-use Rattle.step_laws.proofs.SameProgram.{SameProgram, flat_same, paged_after}
+use Rattle.step_laws.proofs.SameProgram.{SameProgram, flat_same, paged_after, flat_parts}
 use Rattle.nat_page.proofs.UsedLaws.{none_used}
 use Rattle.addr_tables.proofs.TableLaws.{tables_kept}
 use Rattle.tk_run.specs.Machines.{Machine, flat_of}
@@ -102,31 +103,15 @@ going_boot image events quantum slots is some low few whole =
       exact = count ∙ none_off quantum;
     }
 
-zero_registers : many 32 0 ≡ zeros 32
-unfolding many zeros
-zero_registers = refl
-
-stack_boot : word_at at_boot vsp_cell ≡ 0
-unfolding word_at
+stack_boot : data_word_at at_boot vsp_cell ≡ 0
+unfolding data_word_at
 stack_boot = ap₂ (λ low high. low + 256 * high) (boot_zero vsp_cell (omega arith) (omega arith) (inl (omega arith))) (boot_zero (vsp_cell + 1) (omega arith) (omega arith) (inl (omega arith)))
-
--- a flat state from its parts
-flat_parts : (r r' : List ℕ) (s s' sp sp' a steps crossings : ℕ) (memory memory' : List ℕ) (devices devices' : Devices) (has has' : List Bool) → r ≡ r' → s ≡ s' → sp ≡ sp' → memory ≡ memory' → devices ≡ devices' → has ≡ has'
-    → ◌≡◌ {A = FlatState} (record { cpu = record { r = r; sreg = s; sp = sp; pc = a }; memory = memory; devices = devices; pages = has; steps = steps; crossings = crossings })
-    (record { cpu = record { r = r'; sreg = s'; sp = sp'; pc = a }; memory = memory'; devices = devices'; pages = has'; steps = steps; crossings = crossings })
-flat_parts r r' s s' sp sp' a steps crossings memory memory' devices devices' has has' er es ep em ed eh =
-    ap (λ x. record { cpu = record { r = x; sreg = s; sp = sp; pc = a }; memory = memory; devices = devices; pages = has; steps = steps; crossings = crossings }) er
-    ∙ ap (λ x. record { cpu = record { r = r'; sreg = x; sp = sp; pc = a }; memory = memory; devices = devices; pages = has; steps = steps; crossings = crossings }) es
-    ∙ ap (λ x. record { cpu = record { r = r'; sreg = s'; sp = x; pc = a }; memory = memory; devices = devices; pages = has; steps = steps; crossings = crossings }) ep
-    ∙ ap (λ x. record { cpu = record { r = r'; sreg = s'; sp = sp'; pc = a }; memory = x; devices = devices; pages = has; steps = steps; crossings = crossings }) em
-    ∙ ap (λ x. record { cpu = record { r = r'; sreg = s'; sp = sp'; pc = a }; memory = memory'; devices = x; pages = has; steps = steps; crossings = crossings }) ed
-    ∙ ap (λ x. record { cpu = record { r = r'; sreg = s'; sp = sp'; pc = a }; memory = memory'; devices = devices'; pages = x; steps = steps; crossings = crossings }) eh
 
 -- the original's machine at reset
 flat_boot : (image : List ℕ) (events : List Event) (quantum slots : ℕ) → flat_of (booted image events quantum slots) ≡ flat_at_reset events
 flat_boot image events quantum slots =
     flat_same (record { mote = boot_mote image events slots; layout = usual (length image); quantum = quantum }) (booted image events quantum slots).kernel 0 0 0 (same_boot image events quantum slots)
-    ∙ flat_parts _ _ _ _ _ _ 0 0 0 _ _ _ _ _ _ zero_registers refl stack_boot (memory_at_reset (zero_slots slots)) refl pages_at_reset
+    ∙ flat_parts _ _ _ _ _ _ 0 0 0 _ _ _ _ _ _ refl refl stack_boot (memory_at_reset (zero_slots slots)) refl pages_at_reset
 
 -- the program is the image's
 held_boot : (image : List ℕ) → IsImage image → take (length image) (loaded image) ≡ image
@@ -154,7 +139,9 @@ booted_by image events quantum slots mote sram layout reset is same =
     ∙ ap (λ w. m cpu_at_reset (with_byte at_boot count_cell quantum) (record { words = loaded image; erases = many page_count 0 }) (at_reset events) w layout) reset.swap
     ∙ ap (λ l. m cpu_at_reset (with_byte at_boot count_cell quantum) (record { words = loaded image; erases = many page_count 0 }) (at_reset events) (zero_slots slots) l) same
 
-pub boot_is_kept : (image : List ℕ) (events : List Event) (quantum slots : ℕ) (mote : Mote) (sram : List ℕ) (layout : Layout) → IsImage image → 1 ≤ quantum → quantum < 256 → slots ≤ 251 → IsAtReset image events slots mote → IsWhole mote.flash → sram ≡ with_byte mote.sram count_cell quantum → layout ≡ usual (length image)
+pub boot_is_kept : (image : List ℕ) (events : List Event) (quantum slots : ℕ) (mote : Mote) (sram : List ℕ) (layout : Layout) → IsImage image
+    → 1 ≤ quantum → quantum < 256 → slots ≤ 251 → IsAtReset image events slots mote → IsWhole mote.flash
+    → sram ≡ with_byte mote.sram count_cell quantum → layout ≡ usual (length image)
     → IsKept (record (booted image events quantum slots) { kernel = record { mote = record mote { sram = sram }; layout = layout; quantum = quantum } })
 boot_is_kept image events quantum slots mote sram layout is some low few reset whole set same =
     let flash : mote.flash ≡ record { words = loaded image; erases = many page_count 0 } = ap₂ (λ w e. record { words = w; erases = e }) reset.words reset.erases in

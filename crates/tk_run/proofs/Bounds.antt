@@ -1,7 +1,6 @@
 -- How far the numbers go.
 use Rattle.std.proofs.Common.{◌≡◌, ℕ, ◌+◌, ◌-◌, ◌*◌, ◌/◌, ◌%◌, ◌<◌, ◌≤◌, ◌==◌, Bool, true, false, List, [], ◌∷◌, refl, ◌∙◌, arith}
 use Rattle.std.specs.Prelude.{◌≢◌, ◌^◌, Option, if◌then◌else◌}
-use Rattle.std.proofs.lemmas.Bool.Decides.{nat_tests}
 use Rattle.avr_isa.specs.Crossing.{is_crossing}
 use Rattle.preempt_count.specs.Counting.{count_over}
 use Rattle.step_laws.specs.Moves.{Move, Plain, Serve, Arrive}
@@ -9,29 +8,10 @@ use Rattle.step_laws.specs.Numbers.{Numbers, moved, numbered}
 use Rattle.tk_run.specs.Ready.{IsWithin, IsCounted, IsBounded}
 use Rattle.step_laws.specs.Moves.{count_plain, count_serve, count_stop}
 use Rattle.step_laws.specs.StepLaws.{crossings_over}
+use Rattle.step_laws.proofs.NumberLaws.{natural_is, entries_is, since_bound, longest_bound, pages_inner}
 use Rattle.step_laws.specs.Moves.{are_inner}
+use Rattle.step_laws.proofs.BoundLaws.{not_crossing, not_one, at_most_one}
 use Rattle.mote_devices.specs.declared.line.Line.{Line}
-
-pub natural_is : (ms : List Move) (n : Numbers) → (numbered ms n).natural ≡ n.natural + count_plain ms
-unfolding moved
-natural_is [] n = omega arith
-natural_is (Plain b line ∷ ms) n = natural_is ms (moved (Plain b line) n) ∙ omega arith
-natural_is (Serve line stops ∷ ms) n = natural_is ms (moved (Serve line stops) n)
-natural_is (Arrive made ∷ ms) n = natural_is ms (moved (Arrive made) n)
-
-pub entries_is : (ms : List Move) (n : Numbers) → (numbered ms n).entries ≡ n.entries + count_serve ms
-unfolding moved
-entries_is [] n = omega arith
-entries_is (Plain b line ∷ ms) n = entries_is ms (moved (Plain b line) n)
-entries_is (Serve line stops ∷ ms) n = entries_is ms (moved (Serve line stops) n) ∙ omega arith
-entries_is (Arrive made ∷ ms) n = entries_is ms (moved (Arrive made) n)
-
-pub since_bound : (ms : List Move) (n : Numbers) → (numbered ms n).since ≤ n.since + count_plain ms
-unfolding moved
-since_bound [] n = omega arith
-since_bound (Plain b line ∷ ms) n = let h = since_bound ms (moved (Plain b line) n) in omega arith
-since_bound (Serve line stops ∷ ms) n = let h = since_bound ms (moved (Serve line stops) n) in omega arith
-since_bound (Arrive made ∷ ms) n = since_bound ms (moved (Arrive made) n)
 
 -- no later run of plain steps is longer
 pub since_longest : (ms : List Move) (n : Numbers) → n.since ≤ n.longest → (numbered ms n).since ≤ (numbered ms n).longest
@@ -41,21 +21,8 @@ since_longest (Plain b line ∷ ms) n low = since_longest ms (moved (Plain b lin
 since_longest (Serve line stops ∷ ms) n low = since_longest ms (moved (Serve line stops) n) (omega arith)
 since_longest (Arrive made ∷ ms) n low = since_longest ms (moved (Arrive made) n) low
 
-pub longest_bound : (ms : List Move) (n : Numbers) (top : ℕ) → n.longest ≤ top → n.since + count_plain ms ≤ top → (numbered ms n).longest ≤ top
-unfolding moved
-longest_bound [] n top before reach = before
-longest_bound (Plain b line ∷ ms) n top before reach = longest_bound ms (moved (Plain b line) n) top (omega arith) (omega arith)
-longest_bound (Serve line stops ∷ ms) n top before reach = longest_bound ms (moved (Serve line stops) n) top before (omega arith)
-longest_bound (Arrive made ∷ ms) n top before reach = longest_bound ms (moved (Arrive made) n) top before reach
-
-not_crossing : (from to : ℕ) → is_crossing from to ≡ false → (from < to) × (to / 128 ≡ from / 128)
-not_crossing from to is = (grind (arith, nat_tests), grind (arith, nat_tests))
-
 rising : (from to : ℕ) → from < to → to / 128 ≡ from / 128 → from % 128 < to % 128
 rising from to up same = omega arith
-
-other : (count : ℕ) → (count == 1) ≡ false → count ≢ 1
-other count more = grind (arith, nat_tests)
 
 within_by : (quantum count from to since since' : ℕ) (b c : Bool) → is_crossing from to ≡ b → (count == 1) ≡ c → 1 ≤ count → count ≤ quantum → IsWithin quantum count from since → since' ≤ since + 40 → (b ≡ true → c ≡ true → since' ≡ 0)
     → IsWithin quantum (if b then (if c then quantum else count - 1) else count) to since'
@@ -65,7 +32,7 @@ within_by quantum count from to since since' false c goes one some most within f
     omega arith
 within_by quantum count from to since since' true true crosses one some most within few reset = let none : since' ≡ 0 = reset refl refl in omega arith
 within_by quantum count from to since since' true false crosses more some most within few reset =
-    let apart : count ≢ 1 = other count more in
+    let apart : count ≢ 1 = not_one count more in
     omega arith
 
 -- a step keeps the bound on plain steps
@@ -86,10 +53,6 @@ steps_goes (Plain false line ∷ ms) n inner none = steps_goes ms (moved (Plain 
 steps_goes (Serve line true ∷ ms) n inner none = absurd (omega arith)
 steps_goes (Serve line false ∷ ms) n inner none = steps_goes ms (moved (Serve line false) n) inner none ∙ omega arith
 steps_goes (Arrive made ∷ ms) n inner none = absurd (cc)
-
-at_most_one : (b : Bool) (crossings steps steps' : ℕ) → crossings ≤ steps → steps' ≡ steps + 1 → (if b then crossings + 1 else crossings) ≤ steps'
-at_most_one true crossings steps steps' few more = omega arith
-at_most_one false crossings steps steps' few more = omega arith
 
 -- a step keeps them
 pub counted_on : (n : Numbers) (crossings quantum count from to : ℕ) (first : Option Line) (rest : List Move) → IsCounted n crossings quantum count from → 1 ≤ count → count ≤ quantum
@@ -120,17 +83,9 @@ counted_on n crossings quantum count from to first rest counted some most inner 
     }
 
 -- no page is made inside a step
-pages_same : (ms : List Move) (n : Numbers) → are_inner ms ≡ true → (numbered ms n).pages ≡ n.pages
-unfolding moved
-pages_same [] n inner = refl
-pages_same (Plain true line ∷ ms) n inner = absurd (cc)
-pages_same (Plain false line ∷ ms) n inner = pages_same ms (moved (Plain false line) n) inner
-pages_same (Serve line stops ∷ ms) n inner = pages_same ms (moved (Serve line stops) n) inner
-pages_same (Arrive made ∷ ms) n inner = absurd (cc)
-
 pub pages_first : (first : Option Line) (rest : List Move) (n : Numbers) → are_inner rest ≡ true → (numbered (Plain true first ∷ rest) n).pages ≡ n.pages
 unfolding moved
-pages_first first rest n inner = pages_same rest (moved (Plain true first) n) inner
+pages_first first rest n inner = pages_inner rest (moved (Plain true first) n) inner
 
 pub bounded_counted : (n : Numbers) (crossings quantum count at polls : ℕ) → IsCounted n crossings quantum count at → polls ≤ n.steps + 2 ^ 32 → IsBounded n crossings quantum polls
 bounded_counted n crossings quantum count at polls counted few =

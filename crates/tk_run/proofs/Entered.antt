@@ -3,10 +3,10 @@ use Rattle.std.proofs.Common.{◌≡◌, ℕ, ◌+◌, ◌-◌, ◌%◌, ◌<◌
 use Rattle.std.specs.Prelude.{◌^◌, Option, Some, None, Result, Ok, Err, OnErr, IfOk}
 use Rattle.std.proofs.lemmas.Bool.Decides.{nat_tests}
 use Rattle.avr_isa.specs.Image.{is_inside}
-use Rattle.sram_layout.specs.Bytes.{word_at}
+use Rattle.sram_layout.specs.Bytes.{data_word_at}
 use Rattle.sram_layout.specs.Cells.{vsp_cell}
 use Rattle.flash_model.specs.Memory.{Memory, IsWhole}
-use Rattle.flash_model.specs.Layouts.{IsRight}
+use Rattle.flash_model.specs.Layouts.{IsRight, image_of}
 use Rattle.flash_model.specs.declared.layout.Layout.{Layout}
 use Rattle.heap_frames.specs.Paged.{IsPaged}
 use Rattle.heap_frames.specs.Memory.{vmem}
@@ -15,7 +15,6 @@ use Rattle.page_index.specs.Entries.{IsEntry}
 use Rattle.page_index.specs.Maps.{IsPool}
 use Rattle.nat_page.specs.Faithful.{IsFaithful}
 use Rattle.nat_page.specs.Making.{HasNoEntry, HasNoFree}
-use Rattle.nat_page.specs.Making as making
 use Rattle.nat_page.specs.Used.{used_pages}
 use Rattle.nat_page.proofs.EnteredLaws.{entry_law}
 use Rattle.nat_page.proofs.UsedLaws.{used_pages-most}
@@ -29,7 +28,7 @@ use Rattle.branch_bridge.specs.declared.arrival.ArriveStop.TheVariants as refusa
 use Rattle.branch_bridge.specs.Effects.{Store}
 use Rattle.branch_bridge.proofs.AnswerLaws.{arrival_refused, arrival_entered}
 use Rattle.branch_bridge.proofs.KeptLaws.{arrival_kept, arrival_faithful, arrival_tables}
-use Rattle.kernel_entry.specs.Parts.{image_of}
+use Rattle.kernel_entry.specs.Parts.{image_held}
 use Rattle.step_laws.specs.declared.moves.Owed.{Owed}
 use Rattle.step_laws.specs.declared.moves.End.{End}
 use Rattle.step_laws.specs.declared.moves.End.TheVariants as ends
@@ -40,7 +39,8 @@ use Rattle.step_laws.specs.Walks.{MakesArrive}
 use Rattle.step_laws.specs.StepLaws.{Reaches}
 use Rattle.tk_run.specs.Machines.{Machine, state_of, numbers_of, flat_of}
 use Rattle.tk_run.specs.Ready.{usual, count_in, IsGoing, IsInOrder, IsEnded, IsCounted, IsBounded, HasBounds, IsExact}
-use Rattle.tk_run.specs.Stepping.{links_in, Goes, Stays, Entering, HasEntered, HasBound, PageWay}
+use Rattle.branch_bridge.specs.PageChanges.{PageAfter}
+use Rattle.tk_run.specs.Stepping.{links_in, Goes, Stays, Entering, HasEntered, HasBound}
 use Rattle.tk_run.specs.Loop.{HasArrived}
 use Rattle.tk_run.proofs.Arriving.{Answered, answered, arrival_pages, owed_came}
 use Rattle.tk_run.proofs.OutsideTables.{outside_paged, outside_memory, outside_pages, outside_count, outside_pointer, outside_stack}
@@ -54,12 +54,12 @@ inside_of image a below = grind (arith, nat_tests)
 outside_of : (image : List ℕ) (a : ℕ) → length image ≤ a → is_inside image a ≡ false
 outside_of image a beyond = grind (arith, nat_tests)
 
-stands_inside : (m : Machine) → IsGoing m → m.owed ≡ None → Reaches (links_in m) m.at (state_of m) → m.at < length (image_of m.kernel)
-stands_inside m ready placed (Reaches.Placed free entry) = (entry_law m.kernel.layout (image_of m.kernel) m.kernel.mote.flash.words m.at m.kernel.mote.cpu.pc ready.order.right ready.order.faithful.code entry).inside
+stands_inside : (m : Machine) → IsGoing m → m.owed ≡ None → Reaches (links_in m) m.at (state_of m) → m.at < length (image_held m.kernel)
+stands_inside m ready placed (Reaches.Placed free entry) = (entry_law m.kernel.layout (image_held m.kernel) m.kernel.mote.flash.words m.at m.kernel.mote.cpu.pc ready.order.right ready.order.faithful.code entry).inside
 stands_inside m ready placed (Reaches.Owing stub owes of) = absurd (let e : Some (record { target = m.at; stub = stub }) ≡ None = sym owes ∙ placed in cc)
 
-pub place_inside : (m : Machine) → IsGoing m → m.owed ≡ None → is_inside (image_of m.kernel) m.at ≡ true
-place_inside m ready placed = inside_of (image_of m.kernel) m.at (stands_inside m ready placed ready.stands)
+pub place_inside : (m : Machine) → IsGoing m → m.owed ≡ None → is_inside (image_held m.kernel) m.at ≡ true
+place_inside m ready placed = inside_of (image_held m.kernel) m.at (stands_inside m ready placed ready.stands)
 
 owed_by : (m : Machine) (owed : Owed) → m.owed ≡ Some owed → Reaches (links_in m) m.at (state_of m) → owed.target ≡ m.at
 owed_by m owed owes (Reaches.Placed free entry) = absurd (let e : Some owed ≡ None = sym owes ∙ free in cc)
@@ -73,23 +73,23 @@ stays_self m = record { program = refl; layout = refl; quantum = refl }
 
 pub entered_none : (m : Machine) → IsGoing m → m.owed ≡ None → HasEntered m m None
 unfolding lines_of
-entered_none m ready placed = record { moves = []; goes = record { walk = refl; told = refl; numbers = refl }; stays = stays_self m; broken = refl; steps = refl; flat = refl; pages = λ page pool. PageWay.Same refl refl; way = Entering.In ready placed (place_inside m ready placed) }
+entered_none m ready placed = record { moves = []; goes = record { walk = refl; told = refl; numbers = refl }; stays = stays_self m; broken = refl; steps = refl; flat = refl; pages = λ page pool. PageAfter.Stays refl refl; way = Entering.In ready placed (place_inside m ready placed) }
 
 -- an arrival leaves all but the store and the pc
-record After (x y : State) (store : Store) : Type 0 where
-  layout : y.kernel.layout ≡ x.kernel.layout
-  quantum : y.kernel.quantum ≡ x.kernel.quantum
-  swap : (mote_of y).swap ≡ (mote_of x).swap
-  devices : (mote_of y).devices ≡ (mote_of x).devices
-  r : (mote_of y).cpu.r ≡ (mote_of x).cpu.r
-  sreg : (mote_of y).cpu.sreg ≡ (mote_of x).cpu.sreg
-  sp : (mote_of y).cpu.sp ≡ (mote_of x).cpu.sp
-  store_is : store_of y ≡ store
+pub record After (x y : State) (store : Store) : Type 0 where
+  pub layout : y.kernel.layout ≡ x.kernel.layout
+  pub quantum : y.kernel.quantum ≡ x.kernel.quantum
+  pub swap : (mote_of y).swap ≡ (mote_of x).swap
+  pub devices : (mote_of y).devices ≡ (mote_of x).devices
+  pub r : (mote_of y).cpu.r ≡ (mote_of x).cpu.r
+  pub sreg : (mote_of y).cpu.sreg ≡ (mote_of x).cpu.sreg
+  pub sp : (mote_of y).cpu.sp ≡ (mote_of x).cpu.sp
+  pub store_is : store_of y ≡ store
 
 after_same : (x y : State) (store : Store) (z : State) → y ≡ z → After x z store → After x y store
 after_same x y store z is after = subst (λ s. After x s store) (sym is) after
 
-after_arrived : (x y : State) (store : Store) (result : Result Moved ArriveStop) → y ≡ arrived x store result → After x y store
+pub after_arrived : (x y : State) (store : Store) (result : Result Moved ArriveStop) → y ≡ arrived x store result → After x y store
 after_arrived x y store (Ok to) is = after_same x y store (arrived x store (Ok to)) is (record { layout = refl; quantum = refl; swap = refl; devices = refl; r = refl; sreg = refl; sp = refl; store_is = refl })
 after_arrived x y store (Err (refusals.Wild t)) is = after_same x y store (record (with_store x store) { end = Some (ends.Wild t) }) is (record { layout = refl; quantum = refl; swap = refl; devices = refl; r = refl; sreg = refl; sp = refl; store_is = refl })
 after_arrived x y store (Err (refusals.CodeFull t)) is = after_same x y store (record (with_store x store) { end = Some (ends.CodeFull t) }) is (record { layout = refl; quantum = refl; swap = refl; devices = refl; r = refl; sreg = refl; sp = refl; store_is = refl })
@@ -103,8 +103,8 @@ unfolding put_together
 flat_parts old new store same rest at steps crossings =
     let n = new.kernel.mote in
     let o = old.kernel.mote in
-    let nsp = word_at n.sram vsp_cell in
-    let osp = word_at o.sram vsp_cell in
+    let nsp = data_word_at n.sram vsp_cell in
+    let osp = data_word_at o.sram vsp_cell in
     let heap : vmem n.sram n.swap ≡ vmem o.sram o.swap = ap (vmem n.sram) same.swap ∙ outside_memory o.sram n.sram o.swap rest in
     ap (λ x. put_together x n.cpu.sreg nsp (vmem n.sram n.swap) n.devices (pages n.sram) new.at new.steps new.crossings) same.r
     ∙ ap (λ x. put_together o.cpu.r x nsp (vmem n.sram n.swap) n.devices (pages n.sram) new.at new.steps new.crossings) same.sreg
@@ -138,11 +138,11 @@ record Arrived (old new : Machine) (made : Bool) (result : Result Moved ArriveSt
   store : Store
   after : After (state_of old) (state_of new) store
   rest : KeepsRest old.kernel.mote.sram new.kernel.mote.sram
-  image : image_of new.kernel ≡ image_of old.kernel
-  faithful : IsFaithful new.kernel.layout (image_of new.kernel) new.kernel.mote.flash.words
+  image : image_held new.kernel ≡ image_held old.kernel
+  faithful : IsFaithful new.kernel.layout (image_held new.kernel) new.kernel.mote.flash.words
   tables : IsTables new.kernel.layout new.kernel.mote.sram new.kernel.mote.flash.words
   whole : IsWhole new.kernel.mote.flash
-  ways : (page : ℕ) → IsPool old.kernel.layout page → PageWay old.kernel.mote.flash.words new.kernel.mote.flash.words old.at page
+  ways : (page : ℕ) → IsPool old.kernel.layout page → PageAfter old.kernel.mote.flash.words new.kernel.mote.flash.words page old.at
   used : used_pages new.kernel.layout new.kernel.mote.flash.words ≡ used_pages old.kernel.layout old.kernel.mote.flash.words + one_if made
   answer : Answered old.kernel.layout old.kernel.mote.flash.words old.at result
   placed : IfOk result (λ to. IsEntry old.kernel.layout new.kernel.mote.flash.words old.at to.place)
@@ -166,7 +166,7 @@ arrived_by old new made makes whole ready =
     let from = owed_came old makes.owed ready makes.owes in
     let kept = arrival_kept l before makes.store t s makes.result order.right order.faithful.code from makes.arrives in
     let sram : new.kernel.mote.sram ≡ makes.store.sram = ap (λ (s : Store). s.sram) after.store_is in
-    let I : Layout → Memory → Type 0 = λ k f. IsFaithful k (making.image_of k f.words) f.words in
+    let I : Layout → Memory → Type 0 = λ k f. IsFaithful k (image_of k f.words) f.words in
     let faithful = arrival_faithful l before makes.store t s makes.result order.right order.faithful from makes.arrives in
     let T : Layout → List ℕ → Memory → Type 0 = λ k m f. IsTables k m f.words in
     let tables : T l makes.store.sram makes.store.flash = arrival_tables l before makes.store t s makes.result order.right order.faithful.code from order.paged.sized.sram makes.arrives order.tables in
@@ -175,11 +175,11 @@ arrived_by old new made makes whole ready =
       store = makes.store;
       after = after;
       rest = subst (KeepsRest old.kernel.mote.sram) (sym sram) kept.rest;
-      image = ap₂ (λ (k : Layout) (f : Memory). making.image_of k f.words) after.layout flash ∙ kept.image;
+      image = ap₂ (λ (k : Layout) (f : Memory). image_of k f.words) after.layout flash ∙ kept.image;
       faithful = subst (λ k. I k new.kernel.mote.flash) (sym after.layout) (subst (I l) (sym flash) faithful);
       tables = subst (λ k. T k new.kernel.mote.sram new.kernel.mote.flash) (sym after.layout) (subst (λ m. T l m new.kernel.mote.flash) (sym sram) (subst (T l makes.store.sram) (sym flash) tables));
       whole = whole;
-      ways = λ page pool. subst (λ (f : Memory). PageWay old.kernel.mote.flash.words f.words old.at page) (sym flash) (subst (λ a. PageWay old.kernel.mote.flash.words makes.store.flash.words a page) at (pages.ways page pool));
+      ways = λ page pool. subst (λ (f : Memory). PageAfter old.kernel.mote.flash.words f.words page old.at) (sym flash) (subst (λ a. PageAfter old.kernel.mote.flash.words makes.store.flash.words page a) at (pages.ways page pool));
       used = ap₂ (λ (k : Layout) (f : Memory). used_pages k f.words) after.layout flash ∙ pages.used ∙ ap (λ b. used_pages l old.kernel.mote.flash.words + one_if b) makes.makes;
       answer = subst (λ a. Answered l old.kernel.mote.flash.words a makes.result) at (answered l before makes.store t s makes.result makes.arrives);
       placed =
@@ -240,7 +240,11 @@ bounded_arrived old new made result told counts ready =
     let same = told.after in
     let bounded : HasBounds old = bounded_counted (numbers_of old) old.crossings old.kernel.quantum (count_in old) old.at old.kernel.mote.devices.polls ready.counted ready.polls in
     let n = moved (Arrive made) (numbers_of old) in
-    subst (λ x. IsBounded x new.crossings new.kernel.quantum new.kernel.mote.devices.polls) (sym counts.numbers) (subst (λ x. IsBounded n x new.kernel.quantum new.kernel.mote.devices.polls) (sym counts.crossings) (subst (λ x. IsBounded n old.crossings x new.kernel.mote.devices.polls) (sym same.quantum) (subst (λ (d : Devices). IsBounded n old.crossings old.kernel.quantum d.polls) (sym same.devices) (bounded_moved (numbers_of old) made old.crossings old.kernel.quantum old.kernel.mote.devices.polls bounded))))
+    subst (λ x. IsBounded x new.crossings new.kernel.quantum new.kernel.mote.devices.polls) (sym counts.numbers)
+    (subst (λ x. IsBounded n x new.kernel.quantum new.kernel.mote.devices.polls) (sym counts.crossings)
+    (subst (λ x. IsBounded n old.crossings x new.kernel.mote.devices.polls) (sym same.quantum)
+    (subst (λ (d : Devices). IsBounded n old.crossings old.kernel.quantum d.polls) (sym same.devices)
+    (bounded_moved (numbers_of old) made old.crossings old.kernel.quantum old.kernel.mote.devices.polls bounded))))
 
 ended_arrived : (old new : Machine) (made : Bool) (result : Result Moved ArriveStop) (end : End) → Arrived old new made result → Counts old new made → IsGoing old → new.end ≡ Some end → IsEnded new
 ended_arrived old new made result end told counts ready is = record {
@@ -261,12 +265,12 @@ no_free_same l l' f f' el ef none = let N : Layout → Memory → Type 0 = λ k 
 way_by : (old new : Machine) (made : Bool) (result : Result Moved ArriveStop) → (told : Arrived old new made result) → Counts old new made → IsGoing old → Answered old.kernel.layout old.kernel.mote.flash.words old.at result → Entering old new new.end
 way_by old new made result told counts ready (Answered.Wild answer outside) =
     let e : new.end ≡ Some (ends.Wild old.at) = ap (λ (s : State). s.end) (told.state ∙ ap (arrived (state_of old) told.store) answer) in
-    subst (Entering old new) (sym e) (Entering.Out (ended_arrived old new made result (ends.Wild old.at) told counts ready e) e (outside_of (image_of old.kernel) old.at (omega (arith, outside, ready.order.faithful.code.image_length))))
+    subst (Entering old new) (sym e) (Entering.Out (ended_arrived old new made result (ends.Wild old.at) told counts ready e) e (outside_of (image_held old.kernel) old.at (omega (arith, outside, ready.order.faithful.code.image_length))))
 way_by old new made result told counts ready (Answered.NoRoom answer room) =
     let e : new.end ≡ Some (ends.CodeFull old.at) = ap (λ (s : State). s.end) (told.state ∙ ap (arrived (state_of old) told.store) answer) in
     let flash : new.kernel.mote.flash ≡ old.kernel.mote.flash = subst (λ (r : Result Moved ArriveStop). OnErr r (new.kernel.mote.flash ≡ old.kernel.mote.flash)) answer told.same in
     subst (Entering old new) (sym e) (Entering.Full (ended_arrived old new made result (ends.CodeFull old.at) told counts ready e) e
-    (inside_of (image_of old.kernel) old.at (omega (arith, room.inside, ready.order.faithful.code.image_length)))
+    (inside_of (image_held old.kernel) old.at (omega (arith, room.inside, ready.order.faithful.code.image_length)))
     (no_entry_same old.kernel.layout new.kernel.layout old.kernel.mote.flash new.kernel.mote.flash old.at told.after.layout flash room.unknown)
     (no_free_same old.kernel.layout new.kernel.layout old.kernel.mote.flash new.kernel.mote.flash told.after.layout flash room.full))
 way_by old new made result told counts ready (Answered.In to answer inside) =
@@ -276,7 +280,7 @@ way_by old new made result told counts ready (Answered.In to answer inside) =
     let pc : new.kernel.mote.cpu.pc ≡ to.place = ap (λ (x : State). (mote_of x).cpu.pc) s in
     let there : IsEntry old.kernel.layout new.kernel.mote.flash.words old.at to.place = subst (λ (r : Result Moved ArriveStop). IfOk r (λ (m : Moved). IsEntry old.kernel.layout new.kernel.mote.flash.words old.at m.place)) answer told.placed in
     let entry : IsEntry old.kernel.layout new.kernel.mote.flash.words old.at new.kernel.mote.cpu.pc = subst (λ v. IsEntry old.kernel.layout new.kernel.mote.flash.words old.at v) (sym pc) there in
-    subst (Entering old new) (sym e) (Entering.In (going_arrived old new made result told counts e f entry ready) f (inside_of (image_of old.kernel) old.at (omega (arith, inside, ready.order.faithful.code.image_length))))
+    subst (Entering old new) (sym e) (Entering.In (going_arrived old new made result told counts e f entry ready) f (inside_of (image_held old.kernel) old.at (omega (arith, inside, ready.order.faithful.code.image_length))))
 
 goes_arrived : (old new : Machine) (b : Bool) → MakesArrive (state_of old) b (state_of new) → numbers_of new ≡ moved (Arrive b) (numbers_of old) → Goes old new (Arrive b ∷ []) []
 unfolding lines_of
@@ -299,13 +303,13 @@ entered_some old new arrived whole ready =
     }
 
 -- at the bound
-pub bound_inside : (m : Machine) (owed : Owed) → IsGoing m → m.owed ≡ Some owed → owed.target < m.kernel.layout.image_words → is_inside (image_of m.kernel) m.at ≡ true
-bound_inside m owed ready owes below = inside_of (image_of m.kernel) m.at (omega (arith, owed_at m owed ready owes, below, ready.order.faithful.code.image_length))
+pub bound_inside : (m : Machine) (owed : Owed) → IsGoing m → m.owed ≡ Some owed → owed.target < m.kernel.layout.image_words → is_inside (image_held m.kernel) m.at ≡ true
+bound_inside m owed ready owes below = inside_of (image_held m.kernel) m.at (omega (arith, owed_at m owed ready owes, below, ready.order.faithful.code.image_length))
 
-bound_outside : (m : Machine) (owed : Owed) → IsGoing m → m.owed ≡ Some owed → m.kernel.layout.image_words ≤ owed.target → is_inside (image_of m.kernel) m.at ≡ false
-bound_outside m owed ready owes beyond = outside_of (image_of m.kernel) m.at (omega (arith, owed_at m owed ready owes, beyond, ready.order.faithful.code.image_length))
+bound_outside : (m : Machine) (owed : Owed) → IsGoing m → m.owed ≡ Some owed → m.kernel.layout.image_words ≤ owed.target → is_inside (image_held m.kernel) m.at ≡ false
+bound_outside m owed ready owes beyond = outside_of (image_held m.kernel) m.at (omega (arith, owed_at m owed ready owes, beyond, ready.order.faithful.code.image_length))
 
-bound_by : (m new : Machine) (result : Option End) (end : End) → is_inside (image_of m.kernel) m.at ≡ false → HasEntered m new result → Entering m new result → result ≡ Some end → HasBound m new end
+bound_by : (m new : Machine) (result : Option End) (end : End) → is_inside (image_held m.kernel) m.at ≡ false → HasEntered m new result → Entering m new result → result ≡ Some end → HasBound m new end
 bound_by m new result end outside entered (Entering.In ready free inside) is = absurd (cc)
 bound_by m new result end outside entered (Entering.Out over kept out) is =
     let e : ends.Wild m.at ≡ end = cc in
@@ -315,7 +319,7 @@ bound_by m new result end outside entered (Entering.Full over kept inside unknow
 pub bound_wild : (m new : Machine) (owed : Owed) (result : Option End) (end : End) → IsGoing m → m.owed ≡ Some owed → m.kernel.layout.image_words ≤ owed.target → HasEntered m new result → result ≡ Some end → HasBound m new end
 bound_wild m new owed result end ready owes beyond entered is = bound_by m new result end (bound_outside m owed ready owes beyond) entered entered.way is
 
-none_by : (m new : Machine) (result : Option End) → is_inside (image_of m.kernel) m.at ≡ false → Entering m new result → result ≡ None → ⊥
+none_by : (m new : Machine) (result : Option End) → is_inside (image_held m.kernel) m.at ≡ false → Entering m new result → result ≡ None → ⊥
 none_by m new result outside (Entering.In ready free inside) is = let e : true ≡ false = sym inside ∙ outside in absurd (cc)
 none_by m new result outside (Entering.Out over kept out) is = absurd (cc)
 none_by m new result outside (Entering.Full over kept inside unknown full) is = absurd (cc)

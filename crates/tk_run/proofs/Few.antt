@@ -131,7 +131,15 @@ many_addresses layout words t xs mapped used unknown each there =
     let pool : (i : ℕ) → i < n → IsPool layout (layout.pool_first + i) = λ i below. record { from = omega arith; to = omega arith } in
     let inner : (i : ℕ) → i < n → f i ≡ address_of words (layout.pool_first + i) 0 = λ i below. first_in words layout.pool_first n t i below in
     let outer : f n ≡ t = first_out words layout.pool_first n t in
-    let most = pigeons f (suc n) xs (λ i j below below' same. once_by i j n f (λ i' j' b b' s. omega (arith, first_once layout words (layout.pool_first + i') (layout.pool_first + j') mapped (pool i' b) (pool j' b') (used (layout.pool_first + i') (pool i' b)) (used (layout.pool_first + j') (pool j' b')) (sym (inner i' b) ∙ s ∙ inner j' b'))) (λ i' b s. not_first layout words (layout.pool_first + i') t mapped (pool i' b) (used (layout.pool_first + i') (pool i' b)) unknown (sym outer ∙ s ∙ inner i' b)) below below' same)
+    let most = pigeons f (suc n) xs
+    (λ i j below below' same. once_by i j n f
+    (λ i' j' b b' s. omega (
+      arith,
+      first_once layout words (layout.pool_first + i') (layout.pool_first + j') mapped (pool i' b) (pool j' b')
+          (used (layout.pool_first + i') (pool i' b)) (used (layout.pool_first + j') (pool j' b')) (sym (inner i' b) ∙ s ∙ inner j' b'),
+    ))
+    (λ i' b s. not_first layout words (layout.pool_first + i') t mapped (pool i' b) (used (layout.pool_first + i') (pool i' b)) unknown
+    (sym outer ∙ s ∙ inner i' b)) below below' same)
     (λ i below. each_by i n f (is_member nat_eq xs) (λ i' b. ap (is_member nat_eq xs) (inner i' b) ∙ each (layout.pool_first + i') (pool i' b)) (ap (is_member nat_eq xs) outer ∙ there) below) in
     omega arith
 

@@ -9,9 +9,11 @@ mod Stepped
 mod OutsideTables
 mod Arriving
 mod Entered
+mod SameFlash
 pub mod Leading
 mod RunSoFar
 mod Advancing
+mod Gathered
 pub mod Booting
 pub mod WholeRun
 pub mod Few

@@ -1,7 +1,7 @@
 -- A change of the two tables of places alone leaves the heap and all that the program sees. m and n are lists of
 -- SRAM's bytes.
-use Rattle.std.proofs.Common.{◌≡◌, ℕ, ◌+◌, ◌*◌, ◌<◌, ◌≤◌, List, ap₂, arith, inl, inr}
-use Rattle.sram_layout.specs.Bytes.{byte_at, word_at}
+use Rattle.std.proofs.Common.{◌≡◌, ℕ, ◌+◌, ◌*◌, List, ap₂, arith, inl, inr}
+use Rattle.sram_layout.specs.Bytes.{byte_at, data_word_at}
 use Rattle.sram_layout.specs.Cells.{count_cell, vsp_cell}
 use Rattle.heap_frames.specs.SamePaging.{SamePaging}
 use Rattle.heap_frames.specs.Paged.{IsPaged}
@@ -33,6 +33,6 @@ outside_count m n same = same.rest count_cell (omega arith) (inl (omega arith))
 pub outside_pointer : (m n : List ℕ) → KeepsRest m n → byte_at n vsp_cell ≡ byte_at m vsp_cell
 outside_pointer m n same = same.rest vsp_cell (omega arith) (inl (omega arith))
 
-pub outside_stack : (m n : List ℕ) → KeepsRest m n → word_at n vsp_cell ≡ word_at m vsp_cell
-unfolding word_at
+pub outside_stack : (m n : List ℕ) → KeepsRest m n → data_word_at n vsp_cell ≡ data_word_at m vsp_cell
+unfolding data_word_at
 outside_stack m n same = ap₂ (λ low high. low + 256 * high) (outside_pointer m n same) (same.rest (vsp_cell + 1) (omega arith) (inl (omega arith)))

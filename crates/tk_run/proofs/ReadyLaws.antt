@@ -1,12 +1,12 @@
 -- A step keeps the machine ready.
-use Rattle.std.proofs.Common.{suc, ◌≡◌, ℕ, ◌+◌, ◌-◌, ◌%◌, ◌<◌, ◌≤◌, ◌==◌, Bool, true, false, List, ◌∷◌, take, refl, sym, ap, ap₂, ◌∙◌, arith, subst}
+use Rattle.std.proofs.Common.{suc, ◌≡◌, ℕ, ◌+◌, ◌-◌, ◌%◌, ◌<◌, ◌≤◌, ◌==◌, Bool, true, false, List, ◌∷◌, refl, sym, ap, ap₂, ◌∙◌, arith, subst}
 use Rattle.std.proofs.Math.Nat.{mod-lt, mod-eq_of_lt, mod_self, suc-mod}
 use Rattle.std.proofs.Math.Numerals.{suc-eq-add-one}
 use Rattle.std.specs.Prelude.{◌≢◌, None, if◌then◌else◌}
 use Rattle.std.proofs.lemmas.Bool.Decides.{nat_tests}
 use Rattle.avr_isa.specs.Crossing.{is_crossing}
 use Rattle.flash_model.specs.Memory.{Memory, IsWhole}
-use Rattle.flash_model.specs.Layouts.{IsRight}
+use Rattle.flash_model.specs.Layouts.{IsRight, image_of}
 use Rattle.flash_model.specs.declared.layout.Layout.{Layout}
 use Rattle.nat_page.specs.Faithful.{IsFaithful}
 use Rattle.nat_page.specs.Used.{used_pages}
@@ -27,7 +27,7 @@ use Rattle.tk_run.proofs.Bounds.{counted_on, steps_goes, pages_first}
 -- what is in order stays so
 pub order_on : (old new : Machine) → Keeps (state_of old) (state_of new) → new.pages ≡ old.pages → IsInOrder old → IsInOrder new
 order_on old new keeps same order =
-    let L : Layout → Memory → Type 0 = λ l f. IsFaithful l (take l.image_words f.words) f.words in
+    let L : Layout → Memory → Type 0 = λ l f. IsFaithful l (image_of l f.words) f.words in
     let T : Layout → List ℕ → Memory → Type 0 = λ l m f. IsTables l m f.words in
     let m = old.kernel.mote.sram in
     let words = old.kernel.mote.flash.words in
@@ -107,7 +107,10 @@ ready_on old new law to ready taken at crossings going where' count counted step
       top = keeps.top;
       some = omega (arith, same, range.0);
       most = omega (arith, same, range.1, keeps.quantum);
-      stands = subst (λ l. W l new.kernel.mote.flash new.at (state_of new)) (sym keeps.layout) (subst (λ f. W old.kernel.layout f new.at (state_of new)) (sym keeps.flash) (subst (λ t. W old.kernel.layout old.kernel.mote.flash t (state_of new)) (sym at) (subst (W old.kernel.layout old.kernel.mote.flash to) (sym taken.state) where')));
+      stands = subst (λ l. W l new.kernel.mote.flash new.at (state_of new)) (sym keeps.layout)
+          (subst (λ f. W old.kernel.layout f new.at (state_of new)) (sym keeps.flash)
+          (subst (λ t. W old.kernel.layout old.kernel.mote.flash t (state_of new)) (sym at)
+          (subst (W old.kernel.layout old.kernel.mote.flash to) (sym taken.state) where')));
       counted = counted_same (numbers_of new) _ new.crossings _ new.kernel.quantum _ (count_in new) _ new.at to taken.numbers crossings keeps.quantum same at counted;
       polls = omega arith;
       exact = same ∙ exact_on old.kernel.quantum old.at to old.crossings (count_in old) (omega (arith, ready.some, ready.most)) ready.exact ∙ ap₂ (λ q c. q - c % q) (sym keeps.quantum) (sym crossings);

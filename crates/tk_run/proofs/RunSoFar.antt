@@ -14,15 +14,16 @@ use Rattle.mem_guard.specs.FlatMachine.{Program, FlatState, End as FlatEnd, Run,
 use Rattle.mem_guard.specs.FlatMachine as flat_ends
 use Rattle.mem_guard.proofs.MachineLaws.{run_wild, run_spent, run_stops, run_goes}
 use Rattle.mem_guard.proofs.RunLaws.{behind}
-use Rattle.kernel_entry.specs.Parts.{image_of}
+use Rattle.kernel_entry.specs.Parts.{image_held}
 use Rattle.step_laws.specs.declared.moves.End.{End}
 use Rattle.step_laws.specs.Moves.{Move, lines_of, line_before}
 use Rattle.kernel_entry.specs.Seen.{program as program_of}
 use Rattle.tk_run.specs.Machines.{Machine, flat_of}
 use Rattle.tk_run.specs.Ready.{IsGoing}
 use Rattle.kernel_entry.specs.Texts.{line_text}
+use Rattle.branch_bridge.specs.PageChanges.{PageAfter}
 use Rattle.tk_run.specs.Stepping.{lines_text}
-use Rattle.tk_run.specs.Stepping.{Goes, Stays, ends_in_arrive, HasStepped, HasEntered, PageWay}
+use Rattle.tk_run.specs.Stepping.{Goes, Stays, ends_in_arrive, HasStepped, HasEntered}
 use Rattle.tk_run.specs.Running.{original_from, run_of, Visits}
 use Rattle.tk_run.proofs.Leading.{goes_on, stays_on, stays_self}
 
@@ -89,16 +90,18 @@ stands_after : (old now : Machine) (i : ℕ) (before after : Option (List ℕ)) 
 stands_after old now i before after ran =
     ap (λ k. (original_from old k).state.cpu.pc) (sym (nothing i)) ∙ ap (λ (r : Run). r.state.cpu.pc) (ran.run 0) ∙ ap (λ (s : FlatState). s.cpu.pc) (none_ran (program_of old.kernel) (flat_of now)).1
 
-visit_by : (old now new : Machine) (i page : ℕ) (before after : Option (List ℕ)) → Ran old now i before after → PageWay now.kernel.mote.flash.words new.kernel.mote.flash.words now.at page → IsPool old.kernel.layout page → is_used old.kernel.mote.flash.words page ≡ false → is_used new.kernel.mote.flash.words page ≡ true
+visit_by : (old now new : Machine) (i page : ℕ) (before after : Option (List ℕ)) → Ran old now i before after
+    → PageAfter now.kernel.mote.flash.words new.kernel.mote.flash.words page now.at → IsPool old.kernel.layout page
+    → is_used old.kernel.mote.flash.words page ≡ false → is_used new.kernel.mote.flash.words page ≡ true
     → (k : ℕ) × (k ≤ i) × ((original_from old k).state.cpu.pc ≡ address_of new.kernel.mote.flash.words page 0)
-visit_by old now new i page before after ran (PageWay.Same same address) pool free used =
+visit_by old now new i page before after ran (PageAfter.Stays same address) pool free used =
     let v = ran.visits.visited page pool free (sym same ∙ used) in
     (v.0, v.1, v.2 ∙ sym address)
-visit_by old now new i page before after ran (PageWay.Made none address) pool free used = (i, omega arith, stands_after old now i before after ran ∙ sym address)
+visit_by old now new i page before after ran (PageAfter.Begins none made address) pool free used = (i, omega arith, stands_after old now i before after ran ∙ sym address)
 
-stay_by : (old now new : Machine) (i page : ℕ) (t : ℕ) → Visits old now i → PageWay now.kernel.mote.flash.words new.kernel.mote.flash.words t page → IsPool old.kernel.layout page → is_used old.kernel.mote.flash.words page ≡ true → is_used new.kernel.mote.flash.words page ≡ true
-stay_by old now new i page t visits (PageWay.Same same address) pool used = same ∙ visits.stay page pool used
-stay_by old now new i page t visits (PageWay.Made none address) pool used = absurd (let e : true ≡ false = sym (visits.stay page pool used) ∙ none in cc)
+stay_by : (old now new : Machine) (i page : ℕ) (t : ℕ) → Visits old now i → PageAfter now.kernel.mote.flash.words new.kernel.mote.flash.words page t → IsPool old.kernel.layout page → is_used old.kernel.mote.flash.words page ≡ true → is_used new.kernel.mote.flash.words page ≡ true
+stay_by old now new i page t visits (PageAfter.Stays same address) pool used = same ∙ visits.stay page pool used
+stay_by old now new i page t visits (PageAfter.Begins none made address) pool used = absurd (let e : true ≡ false = sym (visits.stay page pool used) ∙ none in cc)
 
 pub visits_enter : (old now new : Machine) (i : ℕ) (before after : Option (List ℕ)) (result : Option End) → Ran old now i before after → HasEntered now new result → Visits old new i
 visits_enter old now new i before after result ran entered = record {
@@ -144,10 +147,10 @@ lines_text_on a b = flat_map-append line_text a b
 pub tried_same : (old now : Machine) (t : flat_ends.Tried) → Stays old now → tried (program_of now.kernel) (flat_of now) ≡ t → tried (program_of old.kernel) (flat_of now) ≡ t
 tried_same old now t stays is = ap (λ p. tried p (flat_of now)) (sym stays.program) ∙ is
 
-pub inside_same : (old now : Machine) → Stays old now → is_inside (image_of now.kernel) now.at ≡ true → is_inside (image_of old.kernel) now.at ≡ true
+pub inside_same : (old now : Machine) → Stays old now → is_inside (image_held now.kernel) now.at ≡ true → is_inside (image_held old.kernel) now.at ≡ true
 inside_same old now stays is = ap (λ (p : Program). is_inside p.image now.at) (sym stays.program) ∙ is
 
-unfoldable pub ran_step : (old now new : Machine) (i : ℕ) (line : Option Line) (before after later : Option (List ℕ)) → Ran old now i before after → is_inside (image_of now.kernel) now.at ≡ true → (step : HasStepped now new line) → new.steps ≡ now.steps + 1
+unfoldable pub ran_step : (old now new : Machine) (i : ℕ) (line : Option Line) (before after later : Option (List ℕ)) → Ran old now i before after → is_inside (image_held now.kernel) now.at ≡ true → (step : HasStepped now new line) → new.steps ≡ now.steps + 1
     → tried (program_of now.kernel) (flat_of now) ≡ flat_ends.Goes line (flat_of new) → Appends after later (lines_text (line_before line [])) → Ran old new (i + 1) before later
 ran_step old now new i line before after later ran inside step steps is put =
     let program = program_of old.kernel in
@@ -167,15 +170,17 @@ ran_step old now new i line before after later ran inside step steps is put =
     }
 
 -- what the run is where it ends
-pub spent_at : (old now : Machine) (i : ℕ) (before after : Option (List ℕ)) → (ran : Ran old now i before after) → is_inside (image_of now.kernel) now.at ≡ true → original_from old i ≡ run_of flat_ends.Spent ran.lines (flat_of now)
+pub spent_at : (old now : Machine) (i : ℕ) (before after : Option (List ℕ)) → (ran : Ran old now i before after) → is_inside (image_held now.kernel) now.at ≡ true → original_from old i ≡ run_of flat_ends.Spent ran.lines (flat_of now)
 spent_at old now i before after ran inside =
     ap (original_from old) (sym (nothing i)) ∙ ran.run 0 ∙ ap (behind ran.lines) (run_spent (program_of old.kernel) (flat_of now) (inside_same old now ran.stays inside)) ∙ behind_ended ran.lines flat_ends.Spent (flat_of now)
 
 -- with any bound that isn't less
-pub wild_at : (old now : Machine) (i k : ℕ) (before after : Option (List ℕ)) → (ran : Ran old now i before after) → is_inside (image_of now.kernel) now.at ≡ false → original_from old (k + i) ≡ run_of (flat_ends.Wild now.at) ran.lines (flat_of now)
+pub wild_at : (old now : Machine) (i k : ℕ) (before after : Option (List ℕ)) → (ran : Ran old now i before after) → is_inside (image_held now.kernel) now.at ≡ false → original_from old (k + i) ≡ run_of (flat_ends.Wild now.at) ran.lines (flat_of now)
 wild_at old now i k before after ran outside =
     ran.run k ∙ ap (behind ran.lines) (run_wild (program_of old.kernel) (flat_of now) k (ap (λ (p : Program). is_inside p.image now.at) (sym ran.stays.program) ∙ outside)) ∙ behind_ended ran.lines (flat_ends.Wild now.at) (flat_of now)
 
-pub stop_at : (old now : Machine) (i k : ℕ) (before after : Option (List ℕ)) (end : FlatEnd) → (ran : Ran old now i before after) → is_inside (image_of now.kernel) now.at ≡ true → tried (program_of now.kernel) (flat_of now) ≡ flat_ends.Stops end → original_from old (suc k + i) ≡ run_of end ran.lines (flat_of now)
+pub stop_at : (old now : Machine) (i k : ℕ) (before after : Option (List ℕ)) (end : FlatEnd) → (ran : Ran old now i before after)
+    → is_inside (image_held now.kernel) now.at ≡ true → tried (program_of now.kernel) (flat_of now) ≡ flat_ends.Stops end
+    → original_from old (suc k + i) ≡ run_of end ran.lines (flat_of now)
 stop_at old now i k before after end ran inside is =
     ran.run (suc k) ∙ ap (behind ran.lines) (run_stops (program_of old.kernel) (flat_of now) k end (inside_same old now ran.stays inside) (tried_same old now _ ran.stays is)) ∙ behind_ended ran.lines end (flat_of now)

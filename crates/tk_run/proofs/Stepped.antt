@@ -1,15 +1,17 @@
 -- A whole step, from its moves and where they led.
-use Rattle.std.proofs.Common.{◌≡◌, ℕ, ◌+◌, ◌-◌, ◌%◌, ◌<◌, Bool, true, false, List, [], ◌∷◌, take, refl, sym, ap, ap₂, ◌∙◌, arith, subst}
-use Rattle.std.specs.Prelude.{◌^◌, ◌&&◌, Option, Some, None}
+use Rattle.std.proofs.Common.{◌≡◌, ℕ, ◌+◌, ◌-◌, ◌%◌, ◌<◌, true, false, List, [], ◌∷◌, refl, sym, ap, ap₂, ◌∙◌, arith, subst}
+use Rattle.std.specs.Prelude.{◌^◌, Option, Some, None}
+use Rattle.mote_core.proofs.NeverStops.{both as parts}
 use Rattle.mote_devices.specs.declared.line.Line.{Line}
 use Rattle.flash_model.specs.Memory.{Memory}
 use Rattle.flash_model.specs.declared.layout.Layout.{Layout}
+use Rattle.flash_model.specs.Layouts.{image_of}
 use Rattle.page_index.specs.Entries.{IsMapped}
 use Rattle.nat_page.proofs.FaithfulLaws.{faithful_mapped}
 use Rattle.mem_guard.specs.FlatMachine as flat_ends
 use Rattle.kernel_entry.specs.declared.kernel.Kernel.{Kernel}
 use Rattle.kernel_entry.specs.declared.kernel.Stop.{Stop}
-use Rattle.kernel_entry.specs.Parts.{image_of}
+use Rattle.kernel_entry.specs.Parts.{image_held}
 use Rattle.kernel_entry.specs.Seen.{count_of}
 use Rattle.step_laws.specs.declared.moves.End.TheVariants as ends
 use Rattle.step_laws.specs.Moves.{Move, Plain, Serve, Arrive, line_before, is_inner, are_inner, count_stop}
@@ -29,7 +31,7 @@ use Rattle.tk_run.proofs.ReadyLaws.{ready_went, order_on}
 use Rattle.tk_run.proofs.Laws.{law_of}
 
 pub mapped_ready : (m : Machine) → IsInOrder m → IsMapped m.kernel.layout m.kernel.mote.flash.words
-mapped_ready m order = faithful_mapped m.kernel.layout (image_of m.kernel) m.kernel.mote.flash.words order.right order.faithful.code
+mapped_ready m order = faithful_mapped m.kernel.layout (image_held m.kernel) m.kernel.mote.flash.words order.right order.faithful.code
 
 pub small_ready : (m : Machine) → IsGoing m → m.steps < 2 ^ 50 → is_small (numbers_of m) (2 ^ 60)
 small_ready m ready steps =
@@ -37,10 +39,6 @@ small_ready m ready steps =
     let b = ready.counted.entries in
     let c = ready.counted.since in
     record { natural = omega arith; entries = omega arith; since = omega arith }
-
-parts : (a b : Bool) → a && b ≡ true → (a ≡ true) × (b ≡ true)
-parts true b h = (refl, h)
-parts false b h = absurd (cc)
 
 inner_last : (ms : List Move) → are_inner ms ≡ true → ends_in_arrive ms ≡ false
 inner_last [] inner = refl
@@ -70,7 +68,7 @@ flat_same k k' a a' s s' c c' ek ea es ec = ap (λ (x : Kernel). state_at x a s 
 
 stays_by : (old new : Machine) → Keeps (state_of old) (state_of new) → Stays old new
 stays_by old new keeps = record {
-  program = ap₂ (λ i n. record { image = i; page_limit = n }) (ap₂ (λ (l : Layout) (f : Memory). take l.image_words f.words) keeps.layout keeps.flash) keeps.slots;
+  program = ap₂ (λ i n. record { image = i; page_limit = n }) (ap₂ (λ (l : Layout) (f : Memory). image_of l f.words) keeps.layout keeps.flash) keeps.slots;
   layout = keeps.layout;
   quantum = keeps.quantum;
 }
@@ -83,7 +81,10 @@ went_by old mid line law to ready took goes =
     let crossed : crossings_over mid.at to mid.crossings ≡ crossings_over old.at to old.crossings = ap₂ (λ a c. crossings_over a to c) took.at took.crossings in
     let taken : Taken old new law = record { state = took.taken.state; numbers = took.taken.numbers } in
     let steps : mid.steps ≡ old.steps + 1 = ap (λ (k : Numbers). k.steps) took.taken.numbers ∙ steps_goes law.rest (moved (Plain true law.first) (numbers_of old)) law.inner goes.unstopped in
-    let same : state_at law.end.kernel to (old.steps + 1) (crossings_over old.at to old.crossings) ≡ flat_of new = flat_same law.end.kernel mid.kernel to to (old.steps + 1) mid.steps (crossings_over old.at to old.crossings) (crossings_over mid.at to mid.crossings) (sym (ap (λ (s : State). s.kernel) took.taken.state)) refl (sym steps) (sym crossed) in
+    let same : state_at law.end.kernel to (old.steps + 1)
+    (crossings_over old.at to old.crossings) ≡ flat_of new = flat_same law.end.kernel mid.kernel to to (old.steps + 1) mid.steps
+    (crossings_over old.at to old.crossings) (crossings_over mid.at to mid.crossings) (sym (ap (λ (s : State). s.kernel) took.taken.state)) refl
+    (sym steps) (sym crossed) in
     record {
       moves = Plain true law.first ∷ law.rest;
       goes = record { walk = subst (λ s. Walk (state_of old) (Plain true law.first ∷ law.rest) s) (sym took.taken.state) law.walk; told = law.lines ∙ ap (λ l. line_before l []) (sym took.written); numbers = took.taken.numbers };
@@ -116,7 +117,8 @@ stopped_by old mid line law stop ready took stops =
       way = StepWay.Stopped stop (record {
         order = order_on old mid keeps (ap (λ (k : Numbers). k.pages) took.taken.numbers ∙ pages_first law.first law.rest (numbers_of old) law.inner) ready.order;
         bounded = bounded_to mid (numbered (Plain true law.first ∷ law.rest) (numbers_of old)) old.crossings old.kernel.quantum took.taken.numbers took.crossings keeps.quantum
-            (bounded_stop (numbers_of old) old.crossings old.kernel.quantum (count_in old) old.at old.kernel.mote.devices.polls mid.kernel.mote.devices.polls law.first law.rest ready.counted ready.some ready.most law.few law.serves (stop_steps law.first law.rest (numbers_of old) law.inner stops.stopped) ready.polls keeps.polls);
+            (bounded_stop (numbers_of old) old.crossings old.kernel.quantum
+            (count_in old) old.at old.kernel.mote.devices.polls mid.kernel.mote.devices.polls law.first law.rest ready.counted ready.some ready.most law.few law.serves (stop_steps law.first law.rest (numbers_of old) law.inner stops.stopped) ready.polls keeps.polls);
         ended = λ going. let e : Some (ends.Stopped stop) ≡ None = sym stopped ∙ going in cc;
         exact = ap (λ (s : State). count_of s.kernel) took.taken.state ∙ stops.count ∙ ready.exact ∙ ap₂ (λ q c. q - c % q) (sym keeps.quantum) (sym took.crossings);
       }) stopped (took.written ∙ stops.silent) steps (stops.original old.steps old.crossings)

@@ -1,17 +1,17 @@
 -- What one call tells of a move.
 use Rattle.std.proofs.Common.{◌≡◌, ℕ, ◌+◌, ◌-◌, ◌<◌, ◌≤◌, Bool, true, false, List, [], ◌∷◌, length, refl, sym, ap, ap₂, ◌∙◌, arith, subst, inl, inr}
-use Rattle.std.specs.Prelude.{◌⊎◌, ◌^◌, max, ◌&&◌, is_some, IfNone, Option, Some, None}
+use Rattle.std.specs.Prelude.{◌⊎◌, ◌^◌, max, is_some, IfNone, Option, Some, None}
 use Rattle.std.specs.Option.{option_or}
 use Rattle.mote_devices.specs.declared.line.Line.{Line}
 use Rattle.mote_core.specs.declared.mote.Mote.{Mote}
 use Rattle.mote_core.specs.declared.mote.Plain.{Plain}
-use Rattle.mote_core.specs.Shown.{line_of}
+use Rattle.mote_core.specs.Shown.{line_shown}
 use Rattle.mote_core.specs.Step.{IsPlainStep}
 use Rattle.mote_core.proofs.KnownSteps.{one_step}
+use Rattle.mote_core.proofs.NeverStops.{both as parts}
 use Rattle.kernel_entry.specs.declared.kernel.Kernel.{Kernel}
 use Rattle.kernel_entry.specs.declared.kernel.Served.{Served}
 use Rattle.kernel_entry.specs.Services.{served}
-use Rattle.kernel_entry.specs.Conditions.{CanServe}
 use Rattle.step_laws.specs.Moves.{Move, Plain as PlainMove, Serve, Arrive, lines_of, line_before}
 use Rattle.step_laws.specs.Numbers.{Numbers, moved, numbered, one_if}
 use Rattle.page_index.specs.Entries.{IsEntry, IsMapped}
@@ -25,14 +25,15 @@ use Rattle.tk_run.specs.Machines.{Machine}
 use Rattle.tk_run.specs.Machines.{state_of, numbers_of}
 use Rattle.step_laws.specs.Moves.{is_inner, are_inner}
 use Rattle.tk_run.specs.Loop.{IsHalted, is_small, IsOver, CanPlain, CanServeNow, HasPlain, HasServed, CanMove, HasMoved, Rest, Passed, line_of_move}
-use Rattle.step_laws.specs.States.{State, mote_of, with_mote, InPool, after_service, line_served, is_stop}
+use Rattle.step_laws.specs.States.{State, mote_of, with_mote, after_service, line_served, is_stop}
 use Rattle.step_laws.specs.Walks.{Makes, MakesPlain, MakesServe, Walk}
+use Rattle.step_laws.proofs.MoveLaws.{entry_high, pool_low}
 use Rattle.nat_page.specs.Entered.{IsPlace}
 
-pub plain_state : (x y : State) (next : Mote) (shown : Plain) (b : Bool) (line : Option Line) → IsPlainStep (mote_of x) shown next → MakesPlain x b line y → (with_mote x next ≡ y) × (line_of shown ≡ line)
+pub plain_state : (x y : State) (next : Mote) (shown : Plain) (b : Bool) (line : Option Line) → IsPlainStep (mote_of x) shown next → MakesPlain x b line y → (with_mote x next ≡ y) × (line_shown shown ≡ line)
 plain_state x y next shown b line step makes =
     let same = one_step (mote_of x) next makes.next shown makes.shown step makes.step in
-    (ap (with_mote x) same.0 ∙ sym makes.result, ap line_of same.1 ∙ makes.written)
+    (ap (with_mote x) same.0 ∙ sym makes.result, ap line_shown same.1 ∙ makes.written)
 
 -- where `longest` lags behind `since`, a plain step raises what it stands for
 pub plain_numbers : (n : Numbers) (line : Option Line) (longest : ℕ) → n.longest ≡ max longest n.since
@@ -72,26 +73,9 @@ is_none_of None is = refl
 is_none_of (Some a) is = absurd (cc)
 
 -- a move inside a step is a plain one or a service, by the pc
--- an entry of the kernel that is served lies behind the pool
-pub called_high : (k : Kernel) → CanServe k → 0xF000 ≤ k.mote.cpu.pc
-called_high k (CanServe.AtBridge at) = omega (arith, at)
-called_high k (CanServe.AtQuantum at) = omega (arith, at)
-called_high k (CanServe.AtMem at is can) = omega (arith, at)
-called_high k (CanServe.AtPushReturn at is can) = omega (arith, at)
-called_high k (CanServe.AtReturn at is can count) = omega (arith, at)
-called_high k (CanServe.AtIndirect at is can count) = omega (arith, at)
-called_high k (CanServe.AtSelf at is can count) = omega (arith, at)
-called_high k (CanServe.AtFault at is) = omega (arith, at)
-
-pub pool_low : (layout : Layout) (a : ℕ) → IsRight layout → InPool layout a → a < 0xF000
-pool_low layout a right pool =
-    let below = right.pool_below_kernel in
-    let to = pool.to in
-    omega arith
-
 plain_by : (x y : State) (move : Move) → Makes x move y → is_inner move ≡ true → (mote_of x).cpu.pc < 0xF000 → CanPlain x
 plain_by x y (PlainMove b line) makes inner low = record { begins = b; line = line; next = y; makes = makes }
-plain_by x y (Serve line stops) makes inner low = absurd (let e = called_high x.kernel makes.can in omega arith)
+plain_by x y (Serve line stops) makes inner low = absurd (let e = entry_high x.kernel makes.can in omega arith)
 plain_by x y (Arrive made) makes inner low = absurd (cc)
 
 pub can_plain : (x : State) → CanMove x → (mote_of x).cpu.pc < 0xF000 → CanPlain x
@@ -110,7 +94,7 @@ moved_plain old new line told low (PlainMove false written) next makes inner =
     let t = told false written next makes in
     record { state = t.0; numbers = t.1; written = t.2; at = t.3; broken = t.4; crossings = t.5 }
 moved_plain old new line told low (PlainMove true written) next makes inner = absurd (cc)
-moved_plain old new line told low (Serve written stops) next makes inner = absurd (let e = called_high old.kernel makes.can in omega arith)
+moved_plain old new line told low (Serve written stops) next makes inner = absurd (let e = entry_high old.kernel makes.can in omega arith)
 moved_plain old new line told low (Arrive made) next makes inner = absurd (cc)
 
 pub moved_serve : (old new : Machine) (line : Option Line) → IsRight old.kernel.layout → HasServed old new line → 0xF000 ≤ old.kernel.mote.cpu.pc → HasMoved old new line
@@ -119,11 +103,6 @@ moved_serve old new line right told high (Serve written stops) next makes inner 
     record { state = t.0; numbers = t.1; written = t.2; at = t.3; broken = t.4; crossings = t.5 }
 moved_serve old new line right told high (PlainMove b written) next makes inner = absurd (let e = pool_low old.kernel.layout old.kernel.mote.cpu.pc right makes.pool in omega arith)
 moved_serve old new line right told high (Arrive made) next makes inner = absurd (cc)
-
--- the rest of the moves
-parts : (a b : Bool) → a && b ≡ true → (a ≡ true) × (b ≡ true)
-parts true b h = (refl, h)
-parts false b h = absurd (cc)
 
 next_by : (x z : State) (ms : List Move) → Walk x ms z → are_inner ms ≡ true → IsOver z → ¬ IsOver x → CanMove x
 next_by x z [] walk inner over on = absurd (on (subst IsOver (sym walk) over))
@@ -192,10 +171,12 @@ none_left x z (PlainMove false line ∷ ms) right mapped walk inner (IsOver.Ende
 none_left x z (PlainMove false line ∷ ms) right mapped walk inner (IsOver.Reached place) = absurd (walk.1.starts place)
 none_left x z (Serve line stops ∷ ms) right mapped walk inner (IsOver.Owes owes) = absurd (owes walk.1.free)
 none_left x z (Serve line stops ∷ ms) right mapped walk inner (IsOver.Ended ended) = absurd (ended walk.1.going)
-none_left x z (Serve line stops ∷ ms) right mapped walk inner (IsOver.Reached place) = absurd (let e = place_low x.kernel.layout (mote_of x).flash.words (mote_of x).cpu.pc right mapped place in let f = called_high x.kernel walk.1.can in omega arith)
+none_left x z (Serve line stops ∷ ms) right mapped walk inner (IsOver.Reached place) = absurd (let e = place_low x.kernel.layout (mote_of x).flash.words (mote_of x).cpu.pc right mapped place in let f = entry_high x.kernel walk.1.can in omega arith)
 none_left x z (Arrive made ∷ ms) right mapped walk inner over = absurd (cc)
 
-passed_by : (old now : Machine) (line : Option Line) (moves ms : List Move) (z : State) → ms ≡ [] → Walk (state_of now) ms z → numbered ms (numbers_of now) ≡ numbered moves (numbers_of old) → now.at ≡ old.at → now.broken ≡ old.broken → now.crossings ≡ old.crossings → line_before line (lines_of ms) ≡ lines_of moves → Passed old now line moves z
+passed_by : (old now : Machine) (line : Option Line) (moves ms : List Move) (z : State) → ms ≡ [] → Walk (state_of now) ms z
+    → numbered ms (numbers_of now) ≡ numbered moves (numbers_of old) → now.at ≡ old.at → now.broken ≡ old.broken → now.crossings ≡ old.crossings
+    → line_before line (lines_of ms) ≡ lines_of moves → Passed old now line moves z
 unfolding lines_of
 passed_by old now line moves [] z none walk numbers at broken crossings lines = record { state = walk; numbers = numbers; at = at; broken = broken; crossings = crossings; lines = lines }
 passed_by old now line moves (m ∷ ms) z none walk numbers at broken crossings lines = absurd (cc)

@@ -9,11 +9,11 @@ use Rattle.flash_model.specs.declared.layout.Layout.{Layout}
 use Rattle.page_index.specs.Maps.{IsPool, IsFree}
 use Rattle.page_index.proofs.ChangeLaws.{new_flash_free}
 use Rattle.input_script.specs.declared.input.Event.{Event}
-use Rattle.mem_guard.specs.FlatMachine.{Program, FlatState, End as FlatEnd, Run, run, original, at_reset as flat_at_reset, zeros}
+use Rattle.mem_guard.specs.FlatMachine.{Program, Run, original}
 use Rattle.mem_guard.specs.FlatMachine as flat_ends
 use Rattle.kernel_entry.specs.declared.kernel.Stop.{Stop}
 use Rattle.kernel_entry.specs.declared.kernel.Stop.TheVariants as stops
-use Rattle.kernel_entry.specs.Parts.{image_of}
+use Rattle.kernel_entry.specs.Parts.{image_held}
 use Rattle.step_laws.specs.declared.moves.End.{End}
 use Rattle.step_laws.specs.declared.moves.End.TheVariants as ends
 use Rattle.kernel_entry.specs.Seen.{end_of}
@@ -69,7 +69,7 @@ full_by image events quantum slots n before after t m is kept advanced ran =
     let pool : m.kernel.layout.pool_pages ≡ 352 = ap (λ (l : Layout). l.pool_pages) advanced.stays.layout in
     let program = advanced.stays.program ∙ program_boot image events quantum slots is in
     let order = kept.sound.order in
-    let mapped = faithful_mapped m.kernel.layout (image_of m.kernel) m.kernel.mote.flash.words order.right order.faithful.code in
+    let mapped = faithful_mapped m.kernel.layout (image_held m.kernel) m.kernel.mote.flash.words order.right order.faithful.code in
     record {
       fewer = omega (arith, full.fewer);
       put = subst (λ l. Appends before after (lines_text l)) lines advanced.put;
@@ -123,7 +123,9 @@ whole_by image events quantum slots n before after (Ok (ends.Stopped stop)) m is
 whole_by image events quantum slots n before after (Err e) m is kept advanced ran = cut_by image events quantum slots n before after e m is kept advanced ran
 
 -- what `advance` leaves of a machine that has just been booted
-pub whole_run : (image : List ℕ) (events : List Event) (quantum slots n : ℕ) (before after : Option (List ℕ)) (result : Result End Failed) (m : Machine) → IsImage image → IsKept (booted image events quantum slots) → n ≤ 10 ^ 12 → HasAdvanced (booted image events quantum slots) m n before after result
+pub whole_run : (image : List ℕ) (events : List Event) (quantum slots n : ℕ) (before after : Option (List ℕ)) (result : Result End Failed)
+    (m : Machine) → IsImage image → IsKept (booted image events quantum slots) → n ≤ 10 ^ 12
+    → HasAdvanced (booted image events quantum slots) m n before after result
     → HasWhole image events quantum slots n before after result m
 whole_run image events quantum slots n before after result m is kept bound advanced =
     whole_by image events quantum slots n before after result m is (advanced.keeps (omega arith) kept) advanced (advanced.ran refl)

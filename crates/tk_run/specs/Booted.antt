@@ -3,7 +3,8 @@ use Rattle.std.specs.Prelude.{ℕ, false, List, length, Some, None}
 use Rattle.sram_layout.specs.Boot.{at_boot}
 use Rattle.sram_layout.specs.Bytes.{with_byte}
 use Rattle.sram_layout.specs.Cells.{count_cell}
-use Rattle.flash_model.specs.Pages.{page_count, many}
+use Rattle.flash_model.specs.Pages.{page_count}
+use Rattle.list_parts.specs.Lists.{many}
 use Rattle.flash_model.specs.Memory.{loaded}
 use Rattle.input_script.specs.declared.input.Event.{Event}
 use Rattle.mote_devices.specs.State.{at_reset}

@@ -7,3 +7,4 @@ pub mod Stepping
 pub mod Running
 pub mod Booted
 pub mod WholeRuns
+pub mod Gathering

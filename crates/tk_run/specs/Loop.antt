@@ -1,6 +1,6 @@
--- What the calls of the loop ask of the machine, and what they leave. A call asks that some move, or walk,
--- may be made; and whichever may, it leaves what that one leads to. So it is told nothing of the law of a
--- step, and follows it all the same.
+-- Serves private functions: what the calls of the loop ask of the machine, and what they leave. A call
+-- asks that some move, or walk, may be made; and whichever may, it leaves what that one leads to. So it
+-- is told nothing of the law of a step, and follows it all the same.
 use Rattle.std.specs.Prelude.{◌≡◌, ◌≢◌, ℕ, ◌+◌, ◌<◌, ◌≤◌, Bool, true, false, List, [], ◌∷◌, length, Option, Some, None}
 use Rattle.mote_devices.specs.declared.line.Line.{Line}
 use Rattle.page_index.specs.Entries.{IsEntry}
@@ -29,7 +29,9 @@ pub record CanPlain (x : State) : Type 0 where
   pub makes : MakesPlain x begins line next
 
 abbrev pub HasPlain : Machine → Machine → Option Line → Type 0
-HasPlain old new result = (begins : Bool) → (line : Option Line) → (y : State) → MakesPlain (state_of old) begins line y → (state_of new ≡ y) × (numbers_of new ≡ moved (Plain false line) (numbers_of old)) × (result ≡ line) × (new.at ≡ old.at) × (new.broken ≡ old.broken) × (new.crossings ≡ old.crossings)
+HasPlain old new result = (begins : Bool) → (line : Option Line) → (y : State) → MakesPlain (state_of old) begins line y
+    → (state_of new ≡ y) × (numbers_of new ≡ moved (Plain false line) (numbers_of old)) × (result ≡ line) × (new.at ≡ old.at) ×
+    (new.broken ≡ old.broken) × (new.crossings ≡ old.crossings)
 
 -- the same of a service
 pub record CanServeNow (x : State) : Type 0 where
@@ -39,7 +41,9 @@ pub record CanServeNow (x : State) : Type 0 where
   pub makes : MakesServe x line stops next
 
 abbrev pub HasServed : Machine → Machine → Option Line → Type 0
-HasServed old new result = (line : Option Line) → (stops : Bool) → (y : State) → MakesServe (state_of old) line stops y → (state_of new ≡ y) × (numbers_of new ≡ moved (Serve line stops) (numbers_of old)) × (result ≡ line) × (new.at ≡ old.at) × (new.broken ≡ old.broken) × (new.crossings ≡ old.crossings)
+HasServed old new result = (line : Option Line) → (stops : Bool) → (y : State) → MakesServe (state_of old) line stops y
+    → (state_of new ≡ y) × (numbers_of new ≡ moved (Serve line stops) (numbers_of old)) × (result ≡ line) × (new.at ≡ old.at) ×
+    (new.broken ≡ old.broken) × (new.crossings ≡ old.crossings)
 
 -- a step of the program is over
 pub data IsOver (x : State) : Type 0 where

@@ -1,7 +1,7 @@
 -- When a machine is sound, and when it is ready to go on (docs/MACHINE.md, "What always holds").
 use Rattle.std.specs.Prelude.{◌≡◌, ◌≢◌, ℕ, ◌+◌, ◌-◌, ◌*◌, ◌%◌, ◌<◌, ◌≤◌, ◌^◌, false, length, None}
 use Rattle.sram_layout.specs.Bytes.{byte_at}
-use Rattle.sram_layout.specs.Cells.{vsp_cell}
+use Rattle.sram_layout.specs.Cells.{vsp_cell, kernel_stack_top}
 use Rattle.heap_frames.specs.Paged.{IsPaged}
 use Rattle.flash_model.specs.Layouts.{IsRight}
 use Rattle.flash_model.specs.Memory.{IsWhole}
@@ -9,7 +9,7 @@ use Rattle.flash_model.specs.declared.layout.Layout.{Layout}
 use Rattle.nat_page.specs.Faithful.{IsFaithful}
 use Rattle.nat_page.specs.Used.{used_pages}
 use Rattle.addr_tables.specs.Tables.{IsTables}
-use Rattle.kernel_entry.specs.Parts.{image_of, stack_top}
+use Rattle.kernel_entry.specs.Parts.{image_held}
 use Rattle.kernel_entry.specs.Seen.{count_of}
 use Rattle.step_laws.specs.Numbers.{Numbers}
 use Rattle.step_laws.specs.StepLaws.{Reaches, links_at}
@@ -29,7 +29,7 @@ count_in m = count_of m.kernel
 pub record IsInOrder (m : Machine) : Type 0 where
   pub layout : m.kernel.layout ≡ usual m.kernel.layout.image_words
   pub right : IsRight m.kernel.layout
-  pub faithful : IsFaithful m.kernel.layout (image_of m.kernel) m.kernel.mote.flash.words
+  pub faithful : IsFaithful m.kernel.layout (image_held m.kernel) m.kernel.mote.flash.words
   pub tables : IsTables m.kernel.layout m.kernel.mote.sram m.kernel.mote.flash.words
   pub paged : IsPaged m.kernel.mote.sram m.kernel.mote.swap
   pub whole : IsWhole m.kernel.mote.flash
@@ -82,7 +82,7 @@ IsExact m = count_in m ≡ m.kernel.quantum - m.crossings % m.kernel.quantum
 pub record IsGoing (m : Machine) : Type 0 where
   pub order : IsInOrder m
   pub going : m.end ≡ None
-  pub top : m.kernel.mote.cpu.sp ≡ stack_top
+  pub top : m.kernel.mote.cpu.sp ≡ kernel_stack_top
   pub some : 1 ≤ count_in m
   pub most : count_in m ≤ m.kernel.quantum
   pub stands : Reaches (links_at (state_of m)) m.at (state_of m)

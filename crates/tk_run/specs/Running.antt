@@ -10,7 +10,7 @@ use Rattle.mem_guard.specs.FlatMachine.{FlatState, End as FlatEnd, Run, run}
 use Rattle.mem_guard.specs.FlatMachine as flat_ends
 use Rattle.tk_io.specs.declared.failure.Failed.{Failed}
 use Rattle.tk_io.specs.Streams.{Puts}
-use Rattle.kernel_entry.specs.Parts.{image_of}
+use Rattle.kernel_entry.specs.Parts.{image_held}
 use Rattle.step_laws.specs.declared.moves.End.{End}
 use Rattle.step_laws.specs.declared.moves.End.TheVariants as ends
 use Rattle.step_laws.specs.Moves.{Move}
@@ -63,7 +63,7 @@ pub record IsFull (old new : Machine) (n done : ℕ) (lines : List Line) (t : �
   pub kept : new.end ≡ Some (ends.CodeFull t)
   pub ended : IsEnded new
   pub at : new.at ≡ t
-  pub inside : is_inside (image_of old.kernel) t ≡ true
+  pub inside : is_inside (image_held old.kernel) t ≡ true
   pub unknown : HasNoEntry new.kernel.layout new.kernel.mote.flash.words t
   pub full : HasNoFree new.kernel.layout new.kernel.mote.flash.words
 

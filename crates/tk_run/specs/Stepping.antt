@@ -1,14 +1,14 @@
 -- What one step of the program, and one arrival, leave of the machine.
 use Rattle.std.specs.Prelude.{◌≡◌, ◌≢◌, ℕ, ◌+◌, Bool, true, false, List, [], ◌∷◌, Option, Some, None, flat_map}
 use Rattle.avr_isa.specs.Image.{is_inside}
-use Rattle.page_index.specs.Maps.{IsPool, address_of}
-use Rattle.nat_page.specs.Used.{is_used}
+use Rattle.page_index.specs.Maps.{IsPool}
 use Rattle.nat_page.specs.Making.{HasNoEntry, HasNoFree}
+use Rattle.branch_bridge.specs.PageChanges.{PageAfter}
 use Rattle.mote_devices.specs.declared.line.Line.{Line}
 use Rattle.mem_guard.specs.FlatMachine.{Stops, tried}
 use Rattle.mem_guard.specs.FlatMachine as flat_ends
 use Rattle.kernel_entry.specs.declared.kernel.Stop.{Stop}
-use Rattle.kernel_entry.specs.Parts.{image_of}
+use Rattle.kernel_entry.specs.Parts.{image_held}
 use Rattle.kernel_entry.specs.Texts.{line_text}
 use Rattle.step_laws.specs.declared.moves.End.{End}
 use Rattle.step_laws.specs.declared.moves.End.TheVariants as ends
@@ -78,16 +78,11 @@ pub record HasStepped (old new : Machine) (line : Option Line) : Type 0 where
   pub flash : new.kernel.mote.flash ≡ old.kernel.mote.flash
   pub way : StepWay old new line
 
--- a page of the pool over an arrival at t: it stays, or it was free and its first address is t
-pub data PageWay (old new : List ℕ) (t page : ℕ) : Type 0 where
-  Same : is_used new page ≡ is_used old page → address_of new page 0 ≡ address_of old page 0 → PageWay old new t page
-  Made : is_used old page ≡ false → address_of new page 0 ≡ t → PageWay old new t page
-
 -- an arrival that is owed is made; or it is refused, outside the image or for want of a page
 pub data Entering (old new : Machine) : Option End → Type 0 where
-  In : IsGoing new → new.owed ≡ None → is_inside (image_of old.kernel) old.at ≡ true → Entering old new None
-  Out : IsEnded new → new.end ≡ Some (ends.Wild old.at) → is_inside (image_of old.kernel) old.at ≡ false → Entering old new (Some (ends.Wild old.at))
-  Full : IsEnded new → new.end ≡ Some (ends.CodeFull old.at) → is_inside (image_of old.kernel) old.at ≡ true → HasNoEntry new.kernel.layout new.kernel.mote.flash.words old.at → HasNoFree new.kernel.layout new.kernel.mote.flash.words → Entering old new (Some (ends.CodeFull old.at))
+  In : IsGoing new → new.owed ≡ None → is_inside (image_held old.kernel) old.at ≡ true → Entering old new None
+  Out : IsEnded new → new.end ≡ Some (ends.Wild old.at) → is_inside (image_held old.kernel) old.at ≡ false → Entering old new (Some (ends.Wild old.at))
+  Full : IsEnded new → new.end ≡ Some (ends.CodeFull old.at) → is_inside (image_held old.kernel) old.at ≡ true → HasNoEntry new.kernel.layout new.kernel.mote.flash.words old.at → HasNoFree new.kernel.layout new.kernel.mote.flash.words → Entering old new (Some (ends.CodeFull old.at))
 
 -- what that leaves: one move at most, and of what the program sees nothing has changed
 pub record HasEntered (old new : Machine) (result : Option End) : Type 0 where
@@ -97,10 +92,10 @@ pub record HasEntered (old new : Machine) (result : Option End) : Type 0 where
   pub broken : new.broken ≡ old.broken
   pub steps : new.steps ≡ old.steps
   pub flat : flat_of new ≡ flat_of old
-  pub pages : (page : ℕ) → IsPool old.kernel.layout page → PageWay old.kernel.mote.flash.words new.kernel.mote.flash.words old.at page
+  pub pages : (page : ℕ) → IsPool old.kernel.layout page → PageAfter old.kernel.mote.flash.words new.kernel.mote.flash.words page old.at
   pub way : Entering old new result
 
 -- at the bound only an arrival outside the image is made, and refused
 pub data HasBound (old new : Machine) : End → Type 0 where
-  Waits : new ≡ old → is_inside (image_of old.kernel) old.at ≡ true → HasBound old new ends.Spent
-  Leaves : HasEntered old new (Some (ends.Wild old.at)) → is_inside (image_of old.kernel) old.at ≡ false → HasBound old new (ends.Wild old.at)
+  Waits : new ≡ old → is_inside (image_held old.kernel) old.at ≡ true → HasBound old new ends.Spent
+  Leaves : HasEntered old new (Some (ends.Wild old.at)) → is_inside (image_held old.kernel) old.at ≡ false → HasBound old new (ends.Wild old.at)

@@ -1,4 +1,4 @@
--- The machine that runs, in parts: its kernel, and all else.
+-- Serves private functions: the machine that runs, in parts: its kernel, and all else.
 use Rattle.std.specs.Prelude.{max}
 use Rattle.kernel_entry.specs.declared.kernel.Kernel.{Kernel}
 use Rattle.tk_run.specs.declared.progress.Progress.{Progress}

@@ -1,7 +1,7 @@
 //! The machine, its boot, and its run loop.
 //!
 //! [`Machine::boot`] loads a program onto a mote, and [`Machine::advance`] runs it for some further steps of
-//! the program, with each device line put to a sink as it comes. The program's own words are never executed:
+//! the program, with the device lines put to a sink. The program's own words are never executed:
 //! the mote runs rewritten pages, which are made where control first arrives, and calls the kernel for what
 //! they can't do.
 //!
@@ -22,6 +22,7 @@
 #![tactic(auto)]
 
 mod arrival;
+mod lines;
 mod machine;
 mod moves;
 mod progress;
@@ -30,6 +31,3 @@ mod step;
 
 pub use machine::{Machine, Options};
 pub use step_laws::{End, Owed};
-
-#[cfg(test)]
-mod tests;

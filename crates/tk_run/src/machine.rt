@@ -104,9 +104,10 @@ impl Machine {
         })
     }
 
-    /// Does up to n further steps, and puts each device line to `out` as it comes.
+    /// Does up to n further steps, and puts their device lines to `out`: where 4,096 bytes were gathered,
+    /// each 65,536 steps, and before it answers.
     ///
-    /// An end is kept: a later call answers it again, writes nothing and changes nothing. Where a line
+    /// An end is kept: a later call answers it again, writes nothing and changes nothing. Where lines
     /// could not be put the machine is broken, and may not be run on.
     pub fn advance<K: Sink>(&mut self, n: u64, out: &mut K) -> Result<End, Failed>
         requires running { self.old.broken ≡ false }

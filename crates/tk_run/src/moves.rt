@@ -17,7 +17,7 @@ const ENTRIES: u16 = 0xF000;
 
 /// What one move told.
 #[derive(Clone, Copy)]
-pub struct Moved {
+pub(crate) struct Moved {
     /// The device line that it wrote.
     pub line: Option<Line>,
     /// Whether an arrival is owed now, or the program has stopped.
@@ -25,7 +25,8 @@ pub struct Moved {
 }
 
 /// A plain step where the pc is in the pool, else a service.
-pub fn one_move(k: &mut Kernel, p: &mut Progress) -> Moved
+#[inline(always)]
+pub(crate) fn one_move(k: &mut Kernel, p: &mut Progress) -> Moved
     requires right { IsRight k.old.layout }
     requires can { CanMove (state_of (whole k.old p.old)) }
     requires small { is_small (numbers_of (whole k.old p.old)) (2 ^ 62) }
@@ -43,7 +44,8 @@ pub fn one_move(k: &mut Kernel, p: &mut Progress) -> Moved
 }
 
 /// One plain step.
-pub fn plain(k: &mut Kernel, p: &mut Progress) -> Option<Line>
+#[inline(always)]
+pub(crate) fn plain(k: &mut Kernel, p: &mut Progress) -> Option<Line>
     requires can { CanPlain (state_of (whole k.old p.old)) }
     requires small { is_small (numbers_of (whole k.old p.old)) (2 ^ 62) }
     ensures stepped { HasPlain (whole k.old p.old) (whole k.new p.new) result }
@@ -61,6 +63,7 @@ pub fn plain(k: &mut Kernel, p: &mut Progress) -> Option<Line>
 }
 
 /// One service of the kernel.
+#[inline(never)]
 fn service(k: &mut Kernel, p: &mut Progress) -> Moved
     requires can { CanServeNow (state_of (whole k.old p.old)) }
     requires small { is_small (numbers_of (whole k.old p.old)) (2 ^ 62) }

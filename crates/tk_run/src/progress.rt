@@ -7,7 +7,7 @@ use crate::{End, Owed};
 ///
 /// [`Machine`]: crate::Machine
 #[derive(Clone, Copy)]
-pub struct Progress {
+pub(crate) struct Progress {
     pub at: u16,
     pub owed: Option<Owed>,
     pub end: Option<End>,

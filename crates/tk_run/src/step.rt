@@ -33,7 +33,7 @@ struct Passage {
 }
 
 /// One whole step of the program.
-pub fn step(k: &mut Kernel, p: &mut Progress, cursor: &mut Cursor) -> Option<Line>
+pub(crate) fn step(k: &mut Kernel, p: &mut Progress, cursor: &mut Cursor) -> Option<Line>
     requires ready { IsGoing (whole k.old p.old) }
     requires placed { p.old.owed ≡ None }
     requires steps { p.old.steps < 2 ^ 50 }
@@ -47,6 +47,7 @@ pub fn step(k: &mut Kernel, p: &mut Progress, cursor: &mut Cursor) -> Option<Lin
 }
 
 /// The moves of one step, from the entry where control stands.
+#[inline(never)]
 fn all_moves(k: &mut Kernel, p: &mut Progress, cursor: &mut Cursor) -> Passage
     requires right { IsRight k.old.layout }
     requires mapped { IsMapped k.old.layout k.old.mote.flash.words }
@@ -70,6 +71,7 @@ fn all_moves(k: &mut Kernel, p: &mut Progress, cursor: &mut Cursor) -> Passage
 }
 
 /// The moves behind the first, up to the next entry, an arrival that is owed, or a stop.
+#[inline(always)]
 fn pass(k: &mut Kernel, p: &mut Progress, cursor: &mut Cursor) -> Passage
     requires right { IsRight k.old.layout }
     requires mapped { IsMapped k.old.layout k.old.mote.flash.words }
@@ -104,6 +106,7 @@ fn pass(k: &mut Kernel, p: &mut Progress, cursor: &mut Cursor) -> Passage
 }
 
 /// The original address whose code control has reached, if it has.
+#[inline(always)]
 fn look(k: &Kernel, cursor: &mut Cursor) -> Option<u16>
     requires right { IsRight k.now.layout }
     requires mapped { IsMapped k.now.layout k.now.mote.flash.words }

@@ -5,7 +5,8 @@ use Rattle.std.proofs.lemmas.List.{get_or_past}
 use Rattle.hex_image.specs.Image.{IsImage}
 use Rattle.flash_model.specs.Pages.{page_count}
 use Rattle.flash_model.specs.Memory.{AreWords, IsWhole}
-use Rattle.flash_model.proofs.LoadedLaws.{length-loaded, length-many}
+use Rattle.flash_model.proofs.LoadedLaws.{length-loaded}
+use Rattle.list_parts.proofs.ManyLaws.{length-many}
 use Rattle.flash_model.proofs.WordLaws.{loaded_fits}
 use Rattle.tk_run.specs.Booted.{booted}
 use Rattle.tk_run.specs.Ready.{IsKept}

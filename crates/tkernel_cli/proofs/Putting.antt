@@ -1,16 +1,9 @@
 -- Texts that are put one after another.
-use Rattle.std.proofs.Common.{ℕ, ◌+◌, ◌≤◌, List, ◌++◌, length, take, sym, subst, arith, Option, Result, Ok, Err, length-append}
-use Rattle.std.proofs.Math.Seq.{take-append-add}
+use Rattle.std.proofs.Common.{ℕ, ◌+◌, ◌≤◌, List, ◌++◌, length, sym, subst, arith, Option, Result, Ok, Err, length-append}
 use Rattle.std.proofs.lemmas.List.{take-append-le}
 use Rattle.std.specs.Io.KnownBytes.{Appends}
 use Rattle.tk_io.specs.Streams.{CutShort, Puts}
-use Rattle.tk_io.proofs.KnownBytes.{appends-both}
-
--- a text that was cut short, behind one that went out, or with more behind it
-pub cut_behind : (old mid new : Option (List ℕ)) (a b : List ℕ) → Appends old mid a → CutShort mid new b → CutShort old new (a ++ b)
-cut_behind old mid new a b first cut =
-    let both = appends-both old mid new a (take cut.0 b) first cut.2 in
-    (length a + cut.0, omega (arith, length-append a b, cut.1), subst (λ z. Appends old new z) (sym (take-append-add a b cut.0)) both)
+use Rattle.tk_io.proofs.KnownBytes.{appends-both, cut_behind}
 
 pub cut_less : (old new : Option (List ℕ)) (a b : List ℕ) → CutShort old new a → CutShort old new (a ++ b)
 cut_less old new a b cut =

@@ -23,7 +23,7 @@ use Rattle.tkernel_cli.specs.declared.status.Status.TheVariants as status
 use Rattle.tkernel_cli.specs.Text.{end_line, how_text, full_text, count_text}
 use Rattle.tkernel_cli.specs.Runs.{Stream, Says, Runs, KeepsEnd, original_of, whole_run, checkpoints_of, run_text, status_of_end, status_of_stop}
 use Rattle.tkernel_cli.proofs.BootedFlash.{boot_kept}
-use Rattle.tkernel_cli.proofs.Putting.{cut_behind}
+use Rattle.tk_io.proofs.KnownBytes.{cut_behind}
 
 -- a text said behind one that went out before
 rose_on : (before mid now : ℕ) → before ≤ mid → Rose mid now → Rose before now

@@ -1,4 +1,4 @@
--- The options of `run` while they are read.
+-- Serves private functions: the options of `run` while they are read.
 use Rattle.std.specs.Prelude.{◌≡◌, ℕ, List, [], ◌∷◌, ◌++◌, codes, Option, Some}
 use Rattle.tkernel_cli.specs.declared.options.RunOption.{RunOption}
 use Rattle.tkernel_cli.specs.declared.options.RunOption.TheVariants.{Steps, Quantum, Swap}

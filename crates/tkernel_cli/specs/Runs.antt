@@ -26,6 +26,10 @@ pub record Stream : Type 0 where
   pub told : Option (List ℕ)
   pub faults : ℕ
 
+-- a source or a sink as a stream, by the two functions that tell its bytes and its faults
+abbrev pub stream : {X : Type 0} → (X → Option (List ℕ)) → (X → ℕ) → X → Stream
+stream told faults x = record { told = told x; faults = faults x }
+
 -- A text goes out whole, and the status is its own; or the sink fails, and the text is cut short.
 abbrev pub Says : Status → List ℕ → Stream → Stream → Status → Type 0
 Says own text before now told =

@@ -8,7 +8,7 @@ ghost use Rattle.tkernel_cli.specs.OptionReading.{BeginsWith, BeginsWithNone, Ha
 
 /// An option of `run`.
 #[derive(Clone, Copy, Debug, PartialEq, Eq)]
-pub enum RunOption {
+pub(crate) enum RunOption {
     /// How many steps may be done.
     Steps,
     /// How many crossings make a checkpoint.
@@ -59,7 +59,7 @@ fn named(word: &str) -> Option<(RunOption, &str)>
 }
 
 /// The number that 1 to 10 decimal digits write, and nothing else does.
-pub fn number_in(text: &str) -> Option<u64>
+pub(crate) fn number_in(text: &str) -> Option<u64>
     ensures cases { MatchOption result ((n : ℕ) → ¬ IsNumber text.now n) (IsNumber text.now) }
 {
     if text.len() > 10 || text.starts_with('+') {

@@ -1,6 +1,6 @@
 //! What is answered without a run.
 ghost use Rattle.std.specs.Prelude.{◌≡◌, ◌≤◌, length, codes, None};
-ghost use Rattle.tkernel_cli.specs.Runs.{Says};
+ghost use Rattle.tkernel_cli.specs.Runs.{stream, Says};
 ghost use Rattle.tkernel_cli.specs.Answer.{bad_line_text, hex_word, script_word, status_of, text_of};
 
 use crate::Status;
@@ -13,7 +13,7 @@ use tk_io::{Sink, put};
 
 /// What is answered without a run.
 #[derive(Clone, Copy, Debug, PartialEq, Eq)]
-pub enum Reply {
+pub(crate) enum Reply {
     /// The usage line was asked for.
     Help,
     /// The words are no command.
@@ -92,10 +92,9 @@ fn word_of_script(fault: ScriptFault) -> &'static [u8]
 }
 
 /// Puts the line of a reply.
-pub fn tell<K: Sink>(reply: Reply, out: &mut K) -> Exit
+pub(crate) fn tell<K: Sink>(reply: Reply, out: &mut K) -> Exit
     ensures said { Says (status_of reply) (text_of reply)
-        (record { told = K.taken out.old; faults = K.faults out.old })
-        (record { told = K.taken out.new; faults = K.faults out.new })
+        (stream K.taken K.faults out.old) (stream K.taken K.faults out.new)
         result.status }
     ensures kept { result.kept ≡ None }
 {

@@ -3,7 +3,7 @@ ghost use Rattle.std.specs.Prelude.{◌≡◌, ◌≤◌, ◌++◌, ◌/◌, ◌
 ghost use Rattle.tk_io.specs.Faults.{HasCause};
 ghost use Rattle.tk_io.specs.Streams.{Puts};
 ghost use Rattle.tkernel_cli.specs.Answer.{Ran};
-ghost use Rattle.tkernel_cli.specs.Runs.{Says, status_of_stop};
+ghost use Rattle.tkernel_cli.specs.Runs.{stream, Says, status_of_stop};
 ghost use Rattle.tkernel_cli.specs.Text.{count_text, end_line};
 
 use crate::reply::{Reply, tell};
@@ -16,14 +16,13 @@ use std::alloc::Global;
 use tk_io::{Failed, Sink, put};
 use tk_run::{End, Machine, Options};
 
-/// Runs a request to its end, and puts each line as it comes.
-pub fn run_request<K: Sink>(alloc: Global, request: Request, out: &mut K) -> Exit
+/// Runs a request to its end, and puts its lines.
+pub(crate) fn run_request<K: Sink>(alloc: Global, request: Request, out: &mut K) -> Exit
     requires quantum { 1 ≤ request.options.quantum }
     requires swap { request.options.swap ≤ 251 }
     requires steps { request.options.steps ≤ 10 ^ 9 }
     ensures ran { Ran request
-        (record { told = K.taken out.old; faults = K.faults out.old })
-        (record { told = K.taken out.new; faults = K.faults out.new })
+        (stream K.taken K.faults out.old) (stream K.taken K.faults out.new)
         result }
 {
     let Request {
@@ -55,8 +54,7 @@ fn tell_end<K: Sink>(machine: &Machine, end: End, out: &mut K) -> Status
     ensures said { Says (status_of_stop end)
         (end_line end machine.now.steps (machine.now.crossings / machine.now.kernel.quantum)
         ++ count_text machine.now.natural machine.now.entries machine.now.pages)
-        (record { told = K.taken out.old; faults = K.faults out.old })
-        (record { told = K.taken out.new; faults = K.faults out.new })
+        (stream K.taken K.faults out.old) (stream K.taken K.faults out.new)
         result }
     ensures later { K.faults out.old ≤ K.faults out.new }
 {

@@ -10,7 +10,7 @@ use line_text::{Text, push, push_address, push_number};
 use tk_run::End;
 
 /// A line that stands as it is.
-pub fn whole(line: &[u8]) -> Text
+pub(crate) fn whole(line: &[u8]) -> Text
     requires fits { length line.now ≤ 160 }
     ensures text { result.items ≡ line.now }
 {
@@ -21,7 +21,7 @@ pub fn whole(line: &[u8]) -> Text
 
 /// The line that names a faulty line of the input, and its fault.
 #[tactic(auto, unfolding(crate::specs::Answer::bad_line_text))]
-pub fn bad_line(part: &[u8], line: u32, word: &[u8]) -> Text
+pub(crate) fn bad_line(part: &[u8], line: u32, word: &[u8]) -> Text
     requires part { length part.now ≤ 40 }
     requires word { length word.now ≤ 40 }
     ensures text { result.items ≡ bad_line_text part.now line word.now }
@@ -37,7 +37,7 @@ pub fn bad_line(part: &[u8], line: u32, word: &[u8]) -> Text
 
 /// The stop line: how the run ended, and after how many steps and checkpoints.
 #[tactic(auto, unfolding(crate::specs::Text::end_line))]
-pub fn stop_line(end: End, steps: u64, checkpoints: u64) -> Text
+pub(crate) fn stop_line(end: End, steps: u64, checkpoints: u64) -> Text
     ensures text { result.items ≡ end_line end steps checkpoints }
 {
     let mut text = how(end);
@@ -94,7 +94,7 @@ fn with_address(word: &[u8], at: u16, address: u16) -> Text
 
 /// The count line: plain steps, kernel services, and pages made.
 #[tactic(auto, unfolding(crate::specs::Text::count_text))]
-pub fn counts(natural: u64, entries: u64, pages: u64) -> Text
+pub(crate) fn counts(natural: u64, entries: u64, pages: u64) -> Text
     ensures text { result.items ≡ count_text natural entries pages }
 {
     let mut text = Text::new();

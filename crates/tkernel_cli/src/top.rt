@@ -3,7 +3,7 @@ ghost use Rattle.std.specs.Prelude.{◌≡◌, ℕ, ◌≤◌, List, length, map
 ghost use Rattle.tkernel_cli.specs.declared.reply.Reply.TheVariants.{NoMemory};
 ghost use Rattle.tkernel_cli.specs.Answer.{IsAnswer, IsExact, IsOfSeed, Judges, JudgesText, most_input};
 ghost use Rattle.tkernel_cli.specs.Options.{IsRunWords};
-ghost use Rattle.tkernel_cli.specs.Runs.{Stream};
+ghost use Rattle.tkernel_cli.specs.Runs.{stream};
 
 use crate::command::{Command, command_of};
 use crate::options::RunOptions;
@@ -50,17 +50,13 @@ pub fn tkernel<S: Source, K: Sink>(
     out: &mut K,
 ) -> Exit
     ensures answer { IsAnswer (map string_bytes words.now)
-        (record { told = S.left input.old; faults = S.faults input.old })
-        (record { told = S.left input.new; faults = S.faults input.new })
-        (record { told = K.taken out.old; faults = K.faults out.old })
-        (record { told = K.taken out.new; faults = K.faults out.new })
+        (stream S.left S.faults input.old) (stream S.left S.faults input.new)
+        (stream K.taken K.faults out.old) (stream K.taken K.faults out.new)
         result }
     // Where the source tells its text, and neither stream fails, the words and the text alone decide.
     ensures exact { IsExact (map string_bytes words.now)
-        (record { told = S.left input.old; faults = S.faults input.old })
-        (record { told = S.left input.new; faults = S.faults input.new })
-        (record { told = K.taken out.old; faults = K.faults out.old })
-        (record { told = K.taken out.new; faults = K.faults out.new })
+        (stream S.left S.faults input.old) (stream S.left S.faults input.new)
+        (stream K.taken K.faults out.old) (stream K.taken K.faults out.new)
         result }
 {
     match judge(alloc, words, input) {
@@ -72,8 +68,7 @@ pub fn tkernel<S: Source, K: Sink>(
 /// Judges the words, and what `run` reads.
 fn judge<S: Source>(alloc: Global, words: &[String], input: &mut S) -> Result<Request, Reply>
     ensures judged { Judges (map string_bytes words.now)
-        (record { told = S.left input.old; faults = S.faults input.old })
-        (record { told = S.left input.new; faults = S.faults input.new })
+        (stream S.left S.faults input.old) (stream S.left S.faults input.new)
         result }
 {
     match command_of(words) {
@@ -91,8 +86,7 @@ fn request_read<S: Source>(
     input: &mut S,
 ) -> Result<Request, Reply>
     ensures judged { (words : List (List ℕ)) → IsRunWords words options → Judges words
-        (record { told = S.left input.old; faults = S.faults input.old })
-        (record { told = S.left input.new; faults = S.faults input.new })
+        (stream S.left S.faults input.old) (stream S.left S.faults input.new)
         result }
 {
     let text = match read_all(alloc, input, MOST_INPUT) {

@@ -1,5 +1,5 @@
 //! The words of a command line.
-use crate::support::words_of;
+use crate::support::{behind_run, words_of};
 use clap::{Arg, ArgAction};
 use std::alloc::Global;
 use std::test::Fail;
@@ -179,25 +179,37 @@ const REFUSED: [&[&str]; 41] = [
     &["run", "--steps", "--swap", "1"],
 ];
 
+fn options(alloc: Global, words: &[&str]) -> Result<Option<RunOptions>, Fail> {
+    Ok(options_of(&words_of(alloc, words)?))
+}
+
+fn command(alloc: Global, words: &[&str]) -> Result<Option<Command>, Fail> {
+    Ok(command_of(&words_of(alloc, words)?))
+}
+
 #[test]
 fn accepted_words_ask_for_their_options(rt: HostRuntime) -> Result<(), Fail> {
-    for (words, options) in &ACCEPTED {
-        assert_eq!(rt; options_of(&behind_run(rt.alloc(), words)?), Some(*options));
+    for (words, wanted) in &ACCEPTED {
+        assert_eq!(rt;
+            options(rt.alloc(), &behind_run(rt.alloc(), words)?)?,
+            Some(*wanted)
+        );
     }
     Ok(())
 }
 
 #[test]
 fn accepted_words_are_their_command(rt: HostRuntime) -> Result<(), Fail> {
-    for (words, options) in &ACCEPTED {
+    for (words, wanted) in &ACCEPTED {
+        let wanted = Some(Command::Run(*wanted));
         assert_eq!(rt;
-            command_of(&behind_run(rt.alloc(), words)?),
-            Some(Command::Run(*options))
+            command(rt.alloc(), &behind_run(rt.alloc(), words)?)?,
+            wanted
         );
     }
-    for (words, command) in &OTHER_COMMANDS {
-        assert_eq!(rt; command_of(&words_of(rt.alloc(), words)?), Some(*command));
-        assert_eq!(rt; options_of(&words_of(rt.alloc(), words)?), None);
+    for (words, wanted) in &OTHER_COMMANDS {
+        assert_eq!(rt; command(rt.alloc(), words)?, Some(*wanted));
+        assert_eq!(rt; options(rt.alloc(), words)?, None);
     }
     Ok(())
 }
@@ -205,8 +217,8 @@ fn accepted_words_are_their_command(rt: HostRuntime) -> Result<(), Fail> {
 #[test]
 fn other_words_are_refused(rt: HostRuntime) -> Result<(), Fail> {
     for words in &REFUSED {
-        assert_eq!(rt; options_of(&words_of(rt.alloc(), words)?), None);
-        assert_eq!(rt; command_of(&words_of(rt.alloc(), words)?), None);
+        assert_eq!(rt; options(rt.alloc(), words)?, None);
+        assert_eq!(rt; command(rt.alloc(), words)?, None);
     }
     Ok(())
 }
@@ -244,12 +256,4 @@ fn number(text: Option<&str>, default: u64) -> u64 {
         Some(text) => text.parse().unwrap_or(u64::MAX),
         None => default,
     }
-}
-
-fn behind_run(alloc: Global, words: &[&str]) -> Result<Vec<String>, Fail> {
-    let mut all = words_of(alloc, &["run"])?;
-    for word in words {
-        all.push(String::from_str(alloc, word)?)?;
-    }
-    Ok(all)
 }

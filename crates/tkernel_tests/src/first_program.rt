@@ -1,38 +1,34 @@
-//! The first program: `LDI r16, 0x0F`, `OUT PORTA, r16`, and a jump to itself.
-use crate::support::{HEX, LINES, ROOM, run, sink, words_of};
+//! The first program: `LDI r16, 0x0F`, `OUT PORTA, r16`, and an RJMP to its own address.
+use crate::support::{HEX, LINES, ROOM, answer, run, sink};
 use kernel_entry::Stop;
 use std::test::Fail;
 use tk_io::{FlakySink, FlakySource, MemSink, MemSource};
 use tk_run::End;
-use tkernel_cli::{Status, tkernel};
+use tkernel_cli::Status;
 
 const USAGE: &[u8] = b"usage: tkernel run [--steps N] [--quantum Q] [--swap S]\n";
 
 #[test]
 fn its_lines_are_printed(rt: HostRuntime) -> Result<(), Fail> {
-    let (exit, out) = run(rt.alloc(), HEX)?;
-    assert_eq!(rt; exit.status, Status::Done);
+    let (ended, out) = run(rt.alloc(), HEX)?;
+    assert_eq!(rt; ended.status, Status::Done);
     assert_eq!(rt; out.taken(), LINES);
     Ok(())
 }
 
 #[test]
 fn the_machine_is_kept(rt: HostRuntime) -> Result<(), Fail> {
-    let (exit, _) = run(rt.alloc(), HEX)?;
-    let machine = exit.kept.ok_or("a machine")?;
+    let (ended, _) = run(rt.alloc(), HEX)?;
+    let machine = ended.machine()?;
     assert_eq!(rt; machine.end, Some(End::Stopped(Stop::Halted(2))));
-    assert_eq!(rt; machine.kernel.mote.cpu.r[16], 0x0F);
-    assert_eq!(rt; machine.kernel.mote.cpu.sp, 0x011F);
-    let page = [
-        0, 3, 0x0005, 0x0106, 0x0207, 0xE00F, 0xBB0B, 0x940E, 0xF00C, 2, 0xFFFF,
-    ];
-    for (place, word) in page.iter().enumerate() {
-        assert_eq!(rt;
-            machine.kernel.mote.flash.word(0x4000 + place as u16),
-            *word,
-            "at {place}"
-        );
-    }
+    assert_eq!(rt; machine.r[16], 0x0F);
+    assert_eq!(rt; machine.sp, 0x011F);
+    assert_eq!(rt;
+        machine.pool,
+        [
+            0, 3, 0x0005, 0x0106, 0x0207, 0xE00F, 0xBB0B, 0x940E, 0xF00C, 2, 0xFFFF
+        ]
+    );
     Ok(())
 }
 
@@ -53,8 +49,8 @@ fn other_words_are_usage_and_read_nothing(rt: HostRuntime) -> Result<(), Fail> {
     for words in lists {
         let mut input = MemSource::new(HEX.to_vec(alloc)?);
         let mut out = sink(alloc)?;
-        let exit = tkernel(alloc, &words_of(alloc, words)?, &mut input, &mut out);
-        assert_eq!(rt; exit.status, Status::Usage);
+        let ended = answer(alloc, words, &mut input, &mut out)?;
+        assert_eq!(rt; ended.status, Status::Usage);
         assert_eq!(rt; out.taken(), USAGE);
         assert_eq!(rt; input.left(), HEX);
     }
@@ -67,10 +63,10 @@ fn help_is_the_usage_line_and_reads_nothing(rt: HostRuntime) -> Result<(), Fail>
     let alloc = rt.alloc();
     let mut input = FlakySource::new(HEX.to_vec(alloc)?, [1].to_vec(alloc)?);
     let mut out = sink(alloc)?;
-    let exit = tkernel(alloc, &words_of(alloc, &["help"])?, &mut input, &mut out);
-    assert_eq!(rt; exit.status, Status::Done);
+    let ended = answer(alloc, &["help"], &mut input, &mut out)?;
+    assert_eq!(rt; ended.status, Status::Done);
     assert_eq!(rt; out.taken(), USAGE);
-    assert_eq!(rt; exit.kept.is_none(), true);
+    assert_eq!(rt; ended.kept.is_none(), true);
     Ok(())
 }
 
@@ -79,10 +75,10 @@ fn a_failed_read_is_told(rt: HostRuntime) -> Result<(), Fail> {
     let alloc = rt.alloc();
     let mut input = FlakySource::new(HEX.to_vec(alloc)?, [2].to_vec(alloc)?);
     let mut out = sink(alloc)?;
-    let exit = tkernel(alloc, &words_of(alloc, &["run"])?, &mut input, &mut out);
-    assert_eq!(rt; exit.status, Status::ReadFault);
+    let ended = answer(alloc, &["run"], &mut input, &mut out)?;
+    assert_eq!(rt; ended.status, Status::ReadFault);
     assert_eq!(rt; out.taken(), b"read fault\n".as_slice());
-    assert_eq!(rt; exit.kept.is_none(), true);
+    assert_eq!(rt; ended.kept.is_none(), true);
     Ok(())
 }
 
@@ -93,11 +89,11 @@ fn a_failed_write_leaves_a_part_of_the_lines(rt: HostRuntime) -> Result<(), Fail
     for (call, went_out) in [(1, 0), (2, 11), (3, 47)] {
         let mut input = MemSource::new(HEX.to_vec(alloc)?);
         let failing = [call].to_vec(alloc)?;
-        let mut out = FlakySink::new(alloc, ROOM, failing).map_err(|_| "no memory")?;
-        let exit = tkernel(alloc, &words_of(alloc, &["run"])?, &mut input, &mut out);
-        assert_eq!(rt; exit.status, Status::WriteFault);
+        let mut out = FlakySink::new(alloc, ROOM, failing)?;
+        let ended = answer(alloc, &["run"], &mut input, &mut out)?;
+        assert_eq!(rt; ended.status, Status::WriteFault);
         assert_eq!(rt; out.taken(), &LINES[..went_out], "call {call}");
-        assert_eq!(rt; exit.kept.is_some(), true);
+        assert_eq!(rt; ended.kept.is_some(), true);
     }
     Ok(())
 }
@@ -109,17 +105,16 @@ fn a_sink_with_too_little_room_takes_what_fits(rt: HostRuntime) -> Result<(), Fa
     let alloc = rt.alloc();
     for room in 0..=LINES.len() {
         let mut input = MemSource::new(HEX.to_vec(alloc)?);
-        let mut out = MemSink::new(alloc, room).map_err(|_| "no memory")?;
-        let exit = tkernel(alloc, &words_of(alloc, &["run"])?, &mut input, &mut out);
+        let mut out = MemSink::new(alloc, room)?;
+        let ended = answer(alloc, &["run"], &mut input, &mut out)?;
         assert_eq!(rt; out.taken(), &LINES[..room]);
         let status = if room < LINES.len() {
             Status::WriteFault
         } else {
             Status::Done
         };
-        assert_eq!(rt; exit.status, status, "room {room}");
-        let machine = exit.kept.ok_or("a machine")?;
-        assert_eq!(rt; machine.broken, room < 11, "room {room}");
+        assert_eq!(rt; ended.status, status, "room {room}");
+        assert_eq!(rt; ended.machine()?.broken, room < 11, "room {room}");
     }
     Ok(())
 }

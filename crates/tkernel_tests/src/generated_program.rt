@@ -1,10 +1,10 @@
 //! The test program of a seed, as `generate` runs it.
-use crate::support::{sink, words_of};
+use crate::support::{answer, sink};
 use kernel_entry::Stop;
 use std::test::Fail;
 use tk_io::FlakySource;
 use tk_run::End;
-use tkernel_cli::{Status, tkernel};
+use tkernel_cli::Status;
 
 /// What seed 7 prints. The eight bytes are r16 to r23 after 200 turns of its 8,000 instructions, worked out
 /// apart from this project.
@@ -26,11 +26,12 @@ fn seed_7_runs_to_its_end_and_reads_nothing(rt: HostRuntime) -> Result<(), Fail>
     let alloc = rt.alloc();
     let mut input = FlakySource::new(Vec::new(alloc), [1].to_vec(alloc)?);
     let mut out = sink(alloc)?;
-    let words = words_of(alloc, &["generate", "7"])?;
-    let exit = tkernel(alloc, &words, &mut input, &mut out);
-    assert_eq!(rt; exit.status, Status::Done);
+    let ended = answer(alloc, &["generate", "7"], &mut input, &mut out)?;
+    assert_eq!(rt; ended.status, Status::Done);
     assert_eq!(rt; out.taken(), SEVEN);
-    let machine = exit.kept.ok_or("a machine")?;
-    assert_eq!(rt; machine.end, Some(End::Stopped(Stop::Halted(0x1F4D))));
+    assert_eq!(rt;
+        ended.machine()?.end,
+        Some(End::Stopped(Stop::Halted(0x1F4D)))
+    );
     Ok(())
 }

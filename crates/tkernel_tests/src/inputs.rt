@@ -50,10 +50,10 @@ const BROKEN: [(&[u8], &[u8]); 16] = [
 #[test]
 fn the_first_fault_is_named(rt: HostRuntime) -> Result<(), Fail> {
     for (text, line) in BROKEN {
-        let (exit, out) = run(rt.alloc(), text)?;
+        let (ended, out) = run(rt.alloc(), text)?;
         assert_eq!(rt; out.taken(), line);
-        assert_eq!(rt; exit.status, Status::BadInput);
-        assert_eq!(rt; exit.kept.is_none(), true);
+        assert_eq!(rt; ended.status, Status::BadInput);
+        assert_eq!(rt; ended.kept.is_none(), true);
     }
     Ok(())
 }
@@ -62,7 +62,7 @@ fn the_first_fault_is_named(rt: HostRuntime) -> Result<(), Fail> {
 #[test]
 fn a_text_cut_short_is_refused(rt: HostRuntime) -> Result<(), Fail> {
     for length in 0..=HEX.len() {
-        let (exit, out) = run(rt.alloc(), &HEX[..length])?;
+        let (ended, out) = run(rt.alloc(), &HEX[..length])?;
         let (line, status): (&[u8], Status) = match length {
             0 => (b"bad hex line 1 end\n", Status::BadInput),
             1..=22 => (b"bad hex line 1 length\n", Status::BadInput),
@@ -71,7 +71,7 @@ fn a_text_cut_short_is_refused(rt: HostRuntime) -> Result<(), Fail> {
             _ => (LINES, Status::Done),
         };
         assert_eq!(rt; out.taken(), line, "{length} bytes");
-        assert_eq!(rt; exit.status, status, "{length} bytes");
+        assert_eq!(rt; ended.status, status, "{length} bytes");
     }
     Ok(())
 }
@@ -81,12 +81,12 @@ fn a_text_cut_short_is_refused(rt: HostRuntime) -> Result<(), Fail> {
 fn a_text_without_bytes_has_no_word_to_run(rt: HostRuntime) -> Result<(), Fail> {
     let texts: [&[u8]; 2] = [b":00000001FF\n", b":00FFFF0002\n:00000001FF\n"];
     for text in texts {
-        let (exit, out) = run(rt.alloc(), text)?;
+        let (ended, out) = run(rt.alloc(), text)?;
         assert_eq!(rt;
             out.taken(),
             b"fault wild 0x0000 steps 0 checkpoints 0\nnatural 0 entries 0 pages 0\n".as_slice()
         );
-        assert_eq!(rt; exit.status, Status::Fault);
+        assert_eq!(rt; ended.status, Status::Fault);
     }
     Ok(())
 }
@@ -96,8 +96,8 @@ fn a_text_without_bytes_has_no_word_to_run(rt: HostRuntime) -> Result<(), Fail> 
 fn other_spellings_are_read(rt: HostRuntime) -> Result<(), Fail> {
     let text =
         b":020000040000FA\r\n:060000000fe00bbbffcf77\r\n:0400000300000000F9\r\n:00000001FF\r\n# a comment\r\nat 3 uart 0x41\r\n";
-    let (exit, out) = run(rt.alloc(), text)?;
-    assert_eq!(rt; exit.status, Status::Done);
+    let (ended, out) = run(rt.alloc(), text)?;
+    assert_eq!(rt; ended.status, Status::Done);
     assert_eq!(rt; out.taken(), LINES);
     Ok(())
 }
@@ -109,8 +109,8 @@ fn a_script_has_at_most_65536_events(rt: HostRuntime) -> Result<(), Fail> {
     for _ in 0..65_537u32 {
         text.extend_from_slice(b"at 0 uart 0x41\n")?;
     }
-    let (exit, out) = run(alloc, &text)?;
-    assert_eq!(rt; exit.status, Status::BadInput);
+    let (ended, out) = run(alloc, &text)?;
+    assert_eq!(rt; ended.status, Status::BadInput);
     assert_eq!(rt; out.taken(), b"bad script line 65537 events\n".as_slice());
     Ok(())
 }
@@ -119,13 +119,13 @@ fn a_script_has_at_most_65536_events(rt: HostRuntime) -> Result<(), Fail> {
 fn an_input_has_a_limit(rt: HostRuntime) -> Result<(), Fail> {
     let alloc = rt.alloc();
     let mut text = vec![in alloc; b'\n'; 2_097_153]?;
-    let (exit, out) = run(alloc, &text)?;
-    assert_eq!(rt; exit.status, Status::BadInput);
+    let (ended, out) = run(alloc, &text)?;
+    assert_eq!(rt; ended.status, Status::BadInput);
     assert_eq!(rt; out.taken(), b"input too long\n".as_slice());
 
     text.pop();
-    let (exit, out) = run(alloc, &text)?;
-    assert_eq!(rt; exit.status, Status::BadInput);
+    let (ended, out) = run(alloc, &text)?;
+    assert_eq!(rt; ended.status, Status::BadInput);
     assert_eq!(rt; out.taken(), b"bad hex line 2097153 end\n".as_slice());
     Ok(())
 }

@@ -1,8 +1,8 @@
 //! Programs and what they print, with the options as they are by themselves.
-use crate::support::{ROOM, Row, input_of, run_image, run_with};
+use crate::support::{ROOM, Row, answer, behind_run, input_of, run_image};
 use std::test::Fail;
 use tk_io::{SlowSink, SlowSource};
-use tkernel_cli::{Status, tkernel};
+use tkernel_cli::Status;
 
 const START_UP: [u16; 115] = [
     0x940C, 0x0046, 0x940C, 0x0065, 0x940C, 0x0065, 0x940C, 0x0065, 0x940C, 0x0065, 0x940C, 0x0065,
@@ -203,10 +203,10 @@ const ROWS: [Row; 21] = [
 #[test]
 fn each_prints_its_lines(rt: HostRuntime) -> Result<(), Fail> {
     for row in &ROWS {
-        let (exit, out) = run_image(rt.alloc(), row.image, row.options, row.script)?;
+        let (ended, out) = run_image(rt.alloc(), row.image, row.options, row.script)?;
         assert_eq!(rt; out.taken(), row.text);
-        assert_eq!(rt; exit.status, row.status);
-        assert_eq!(rt; exit.kept.is_some(), true);
+        assert_eq!(rt; ended.status, row.status);
+        assert_eq!(rt; ended.kept.is_some(), true);
     }
     Ok(())
 }
@@ -218,11 +218,11 @@ fn each_prints_its_lines_over_slow_streams(rt: HostRuntime) -> Result<(), Fail> 
     for row in &ROWS {
         for most in [1, 7, 4096] {
             let mut input = SlowSource::new(input_of(alloc, row.image, row.script)?, most);
-            let mut out = SlowSink::new(alloc, ROOM, most).map_err(|_| "no memory")?;
-            let words = run_with(alloc, row.options)?;
-            let exit = tkernel(alloc, &words, &mut input, &mut out);
+            let mut out = SlowSink::new(alloc, ROOM, most)?;
+            let words = behind_run(alloc, row.options)?;
+            let ended = answer(alloc, &words, &mut input, &mut out)?;
             assert_eq!(rt; out.taken(), row.text, "{most} bytes");
-            assert_eq!(rt; exit.status, row.status, "{most} bytes");
+            assert_eq!(rt; ended.status, row.status, "{most} bytes");
             assert_eq!(rt; input.left().len(), 0, "{most} bytes");
         }
     }

@@ -80,7 +80,7 @@ const ROWS: [Row; 12] = [
         text: b"spent steps 0 checkpoints 0\nnatural 0 entries 0 pages 0\n",
     },
     Row {
-        // a jump to itself with I set
+        // an RJMP to its own address with I set
         image: &[0x9478, 0xCFFF],
         options: &["--steps", "5"],
         script: b"",
@@ -114,10 +114,10 @@ const ROWS: [Row; 12] = [
 #[test]
 fn each_prints_its_lines(rt: HostRuntime) -> Result<(), Fail> {
     for row in &ROWS {
-        let (exit, out) = run_image(rt.alloc(), row.image, row.options, row.script)?;
+        let (ended, out) = run_image(rt.alloc(), row.image, row.options, row.script)?;
         assert_eq!(rt; out.taken(), row.text);
-        assert_eq!(rt; exit.status, row.status);
-        assert_eq!(rt; exit.kept.is_some(), true);
+        assert_eq!(rt; ended.status, row.status);
+        assert_eq!(rt; ended.kept.is_some(), true);
     }
     Ok(())
 }
@@ -127,14 +127,14 @@ fn each_prints_its_lines(rt: HostRuntime) -> Result<(), Fail> {
 fn a_pool_of_352_pages_is_used_up(rt: HostRuntime) -> Result<(), Fail> {
     let mut jumps = [0xC000; 401];
     jumps[400] = 0xCFFF;
-    let (exit, out) = run_image(rt.alloc(), &jumps, &[], b"")?;
-    assert_eq!(rt; exit.status, Status::CodeFull);
+    let (ended, out) = run_image(rt.alloc(), &jumps, &[], b"")?;
+    assert_eq!(rt; ended.status, Status::CodeFull);
     assert_eq!(rt;
         out.taken(),
         b"code full 0x0160 steps 352 checkpoints 0\nnatural 372 entries 352 pages 352\n".as_slice()
     );
-    let (exit, out) = run_image(rt.alloc(), &jumps, &["--steps", "352"], b"")?;
-    assert_eq!(rt; exit.status, Status::Spent);
+    let (ended, out) = run_image(rt.alloc(), &jumps, &["--steps", "352"], b"")?;
+    assert_eq!(rt; ended.status, Status::Spent);
     assert_eq!(rt;
         out.taken(),
         b"spent steps 352 checkpoints 0\nnatural 372 entries 352 pages 352\n".as_slice()

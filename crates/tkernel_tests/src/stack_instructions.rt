@@ -1,11 +1,10 @@
 //! PUSH, POP, and loads and stores by Y: of every register, with SREG full and empty, and at each edge of the
 //! stack window, 0x0D00 to 0x10FF.
-use crate::support::run_image;
+use crate::support::{Ended, Kept, run_image};
 use std::alloc::Global;
 use std::test::Fail;
 use tk_io::MemSink;
-use tk_run::Machine;
-use tkernel_cli::{Exit, Status};
+use tkernel_cli::Status;
 
 /// What the registers and bytes of these tests hold.
 const VALUE: u8 = 0xA5;
@@ -65,7 +64,7 @@ fn run_to(
     before: Before,
     last: u16,
     instruction: u16,
-) -> Result<(Exit, MemSink), Fail> {
+) -> Result<(Ended, MemSink), Fail> {
     let image = [
         ldi(16, before.sp >> 8),
         0xBF0E, // OUT SPH, r16
@@ -86,18 +85,9 @@ fn run_to(
 }
 
 /// The machine after the instruction.
-fn after(alloc: Global, before: Before, last: u16, instruction: u16) -> Result<Machine, Fail> {
-    let (exit, _) = run_to(alloc, before, last, instruction)?;
-    Ok(exit.kept.ok_or("a machine")?)
-}
-
-/// A byte of SRAM.
-fn byte_at(machine: &Machine, address: u16) -> Result<u8, &'static str> {
-    if 0x0100 <= address && address <= 0x10FF {
-        Ok(machine.kernel.mote.sram.byte(address))
-    } else {
-        Err("an address of SRAM")
-    }
+fn after(alloc: Global, before: Before, last: u16, instruction: u16) -> Result<Kept, Fail> {
+    let (ended, _) = run_to(alloc, before, last, instruction)?;
+    ended.machine()
 }
 
 /// The registers where `last` has set one to the value.
@@ -120,14 +110,10 @@ fn each_register_is_pushed(rt: HostRuntime) -> Result<(), Fail> {
         for sreg in [0x00, 0xFF] {
             let before = Before { sreg, ..MIDST };
             let machine = after(rt.alloc(), before, mov(register), push(register))?;
-            assert_eq!(rt; byte_at(&machine, 0x0E00)?, VALUE, "r{register}");
-            assert_eq!(rt; machine.kernel.mote.sram.vsp(), 0x0DFF, "r{register}");
-            assert_eq!(rt; machine.kernel.mote.cpu.sreg, sreg, "r{register}");
-            assert_eq!(rt;
-                machine.kernel.mote.cpu.r,
-                registers(sreg, register),
-                "r{register}"
-            );
+            assert_eq!(rt; machine.stack[0x00], VALUE, "r{register}");
+            assert_eq!(rt; machine.program_sp, 0x0DFF, "r{register}");
+            assert_eq!(rt; machine.sreg, sreg, "r{register}");
+            assert_eq!(rt; machine.r, registers(sreg, register), "r{register}");
             assert_eq!(rt;
                 (machine.natural, machine.entries),
                 counts(register),
@@ -144,13 +130,9 @@ fn each_register_is_popped(rt: HostRuntime) -> Result<(), Fail> {
         for sreg in [0x00, 0xFF] {
             let before = Before { sreg, ..MIDST };
             let machine = after(rt.alloc(), before, NOP, pop(register))?;
-            assert_eq!(rt; machine.kernel.mote.sram.vsp(), 0x0E01, "r{register}");
-            assert_eq!(rt; machine.kernel.mote.cpu.sreg, sreg, "r{register}");
-            assert_eq!(rt;
-                machine.kernel.mote.cpu.r,
-                registers(sreg, register),
-                "r{register}"
-            );
+            assert_eq!(rt; machine.program_sp, 0x0E01, "r{register}");
+            assert_eq!(rt; machine.sreg, sreg, "r{register}");
+            assert_eq!(rt; machine.r, registers(sreg, register), "r{register}");
             assert_eq!(rt;
                 (machine.natural, machine.entries),
                 counts(register),
@@ -207,9 +189,9 @@ fn the_window_has_two_edges(rt: HostRuntime) -> Result<(), Fail> {
             at: 0x0F00,
             ..MIDST
         };
-        let (exit, out) = run_to(rt.alloc(), before, NOP, instruction)?;
+        let (ended, out) = run_to(rt.alloc(), before, NOP, instruction)?;
         assert_eq!(rt; out.taken(), text);
-        assert_eq!(rt; exit.status, status);
+        assert_eq!(rt; ended.status, status);
     }
     Ok(())
 }
@@ -231,7 +213,7 @@ fn a_load_by_y_reaches_every_address(rt: HostRuntime) -> Result<(), Fail> {
     for (y, q, at, entries) in rows {
         let before = Before { y, at, ..MIDST };
         let machine = after(rt.alloc(), before, mov(0), ldd(5, q))?;
-        assert_eq!(rt; machine.kernel.mote.cpu.r[5], VALUE, "{y} {q}");
+        assert_eq!(rt; machine.r[5], VALUE, "{y} {q}");
         assert_eq!(rt; machine.entries, entries, "{y} {q}");
     }
     Ok(())
@@ -243,7 +225,7 @@ fn y_is_stored_and_loaded_by_itself(rt: HostRuntime) -> Result<(), Fail> {
     let before = Before { y: 0x0E17, ..MIDST };
     for (register, value) in [(28, 0x17), (29, 0x0E), (18, VALUE)] {
         let machine = after(rt.alloc(), before, NOP, std(2, register))?;
-        assert_eq!(rt; byte_at(&machine, 0x0E19)?, value, "r{register}");
+        assert_eq!(rt; machine.stack[0x19], value, "r{register}");
         assert_eq!(rt; machine.entries, 3, "r{register}");
     }
     let before = Before {
@@ -253,8 +235,7 @@ fn y_is_stored_and_loaded_by_itself(rt: HostRuntime) -> Result<(), Fail> {
     };
     for (register, y) in [(28, [VALUE, 0x0E]), (29, [0x17, VALUE])] {
         let machine = after(rt.alloc(), before, NOP, ldd(register, 2))?;
-        let r = machine.kernel.mote.cpu.r;
-        assert_eq!(rt; [r[28], r[29]], y, "r{register}");
+        assert_eq!(rt; [machine.r[28], machine.r[29]], y, "r{register}");
     }
     Ok(())
 }

@@ -3,7 +3,7 @@ use Rattle.addr_tables.specs.Changes.{noted, KeepsRest}
 use Rattle.addr_tables.proofs.TableLaws.{tables_kept}
 use Rattle.addr_tables.proofs.NoteLaws.{rest_noted}
 use Rattle.addr_tables.proofs.FindLaws.{found_noted, found_none}
-use Rattle.nat_page.specs.Making.{image_of}
+use Rattle.flash_model.specs.Layouts.{image_of}
 use Rattle.nat_page.proofs.FaithfulLaws.{faithful_mapped}
 use Rattle.branch_bridge.specs.Arrivals.{Searched}
 use Rattle.branch_bridge.proofs.ReachLaws.{reach_found, arrives_made}

@@ -4,7 +4,7 @@ use Rattle.flash_model.specs.Memory.{Memory}
 use Rattle.nat_page.specs.Standing.{jump_word}
 use Rattle.nat_page.specs.Links.{IsLinkIn, IsUnresolved, with_two_words}
 use Rattle.nat_page.specs.Faithful.{IsFaithful}
-use Rattle.nat_page.specs.Making.{image_of}
+use Rattle.flash_model.specs.Layouts.{image_of}
 use Rattle.nat_page.proofs.RelinkLaws.{link_placed, relinked_faithful}
 use Rattle.branch_bridge.specs.Resolving.{resolved}
 use Rattle.branch_bridge.proofs.ResolveLaws.{Relinked, relinked, jump_links}

@@ -1,6 +1,6 @@
 use Rattle.std.proofs.Common.{◌≡◌, ℕ, List, Ok, Err, arith, ap, sym, ◌∙◌, subst, inl, inr}
 use Rattle.input_script.specs.declared.fault.ScriptError.TheVariants.{NoMemory}
-use Rattle.input_script.specs.Lines.{lines_of}
+use Rattle.text_lines.specs.Lines.{lines_of}
 use Rattle.input_script.proofs.Done.{IsDone, done_take, done_numbered, done_all}
 use Rattle.std.proofs.lemmas.Grind.{common_steps}
 use Rattle.input_script.proofs.Judgement.{one_judgement}
@@ -12,7 +12,9 @@ loop-rest-preserved c =
     let lines = lines_of c.args.text.now in
     let P : List (List ℕ) → Type 0 = λ rest. IsDone lines c.loop-rest.line c.loop-rest.events.items rest in
     record {
-      done = done_numbered _ _ _ _ _ (done_take lines (lines_of c.first_line.result.1.now) c.first_line.result.0.now c.loop-rest.line c.loop-rest.events.items c.take_line.new.events.items (subst P c.first_line.ensures.cut c.loop-rest.invariant.done) c.in_ok-take_line.ensures.taken) (grind (arith, common_steps));
+      done = done_numbered _ _ _ _ _ (done_take lines
+          (lines_of c.first_line.result.1.now) c.first_line.result.0.now c.loop-rest.line c.loop-rest.events.items c.take_line.new.events.items
+          (subst P c.first_line.ensures.lines c.loop-rest.invariant.done) c.in_ok-take_line.ensures.taken) (grind (arith, common_steps));
       left = grind (arith, common_steps);
     }
 
@@ -21,7 +23,7 @@ returns-in_err-take_line-clause-accepted c = λ events script.
     let lines = lines_of c.args.text.now in
     let error = c.in_err-take_line.field-0.0 in
     let P : List (List ℕ) → Type 0 = λ rest. IsDone lines c.loop-rest.line c.loop-rest.events.items rest in
-    let done = subst P c.first_line.ensures.cut c.loop-rest.invariant.done in
+    let done = subst P c.first_line.ensures.lines c.loop-rest.invariant.done in
     let tells = refusal_tells c.args.text.now (lines_of c.first_line.result.1.now) c.first_line.result.0.now c.loop-rest.line c.loop-rest.events.items error done c.in_err-take_line.ensures.refused in
     inr (err_is c.from_residual.result error c.from_residual.ensures.1 ∙ ap (λ e. Err e) (refused_text c.args.text.now error tells events script))
 
@@ -30,7 +32,7 @@ returns-in_err-take_line-clause-refused c = λ line fault bad.
     let lines = lines_of c.args.text.now in
     let error = c.in_err-take_line.field-0.0 in
     let P : List (List ℕ) → Type 0 = λ rest. IsDone lines c.loop-rest.line c.loop-rest.events.items rest in
-    let done = subst P c.first_line.ensures.cut c.loop-rest.invariant.done in
+    let done = subst P c.first_line.ensures.lines c.loop-rest.invariant.done in
     let tells = refusal_tells c.args.text.now (lines_of c.first_line.result.1.now) c.first_line.result.0.now c.loop-rest.line c.loop-rest.events.items error done c.in_err-take_line.ensures.refused in
     let passed = err_is c.from_residual.result error c.from_residual.ensures.1 in
     elim (refused_as c.args.text.now error tells line fault bad) [
@@ -43,7 +45,7 @@ returns-in_err-take_line-clause-memory c = λ wanted.
     let lines = lines_of c.args.text.now in
     let error = c.in_err-take_line.field-0.0 in
     let P : List (List ℕ) → Type 0 = λ rest. IsDone lines c.loop-rest.line c.loop-rest.events.items rest in
-    let done = subst P c.first_line.ensures.cut c.loop-rest.invariant.done in
+    let done = subst P c.first_line.ensures.lines c.loop-rest.invariant.done in
     let tells = refusal_tells c.args.text.now (lines_of c.first_line.result.1.now) c.first_line.result.0.now c.loop-rest.line c.loop-rest.events.items error done c.in_err-take_line.ensures.refused in
     let same : Err error ≡ Err NoMemory = sym (err_is c.from_residual.result error c.from_residual.ensures.1) ∙ wanted in
     wanted_for c.args.text.now error tells (cc)

@@ -1,6 +1,6 @@
 use Rattle.std.proofs.Common.{ap, ◌∙◌}
 use Rattle.std.specs.Prelude.{Ok, Err}
-use Rattle.avr_exec.specs.Registers.{raised}
+use Rattle.avr_exec.specs.Registers.{wrapping_sum}
 use Rattle.kernel_entry.specs.declared.kernel.Served.TheVariants as answers
 use Rattle.kernel_entry.specs.Parts.{with_pc}
 use Rattle.kernel_entry.specs.Services.{stop_of}
@@ -13,7 +13,7 @@ returns-in-Ok c =
     let next = c.execute.new.k in
     record {
       served =
-          ap (λ b. (answers.Resume c.in-Ok.ran.line, with_pc next (raised b 1))) c.behind_call-behind.ensures.value
+          ap (λ b. (answers.Resume c.in-Ok.ran.line, with_pc next (wrapping_sum b 1))) c.behind_call-behind.ensures.value
           ∙ resumed_is k next c.called_instruction-instr.result c.execute.result (Ok c.in-Ok.ran) c.called_instruction-instr.ensures.value c.execute.ensures.executed c.in-Ok.is;
     }
 

@@ -1,5 +1,5 @@
 use Rattle.std.proofs.Common.{arith}
-use Rattle.nat_page.specs.Making.{image_of}
+use Rattle.flash_model.specs.Layouts.{image_of}
 use Rattle.nat_page.specs.Drafts.{starts}
 use Rattle.nat_page.proofs.GrowLaws.{begun_first, counts_of, drafting_more, stop_told, drafted}
 use Rattle.nat_page.proofs.draft.draft_of.Goals as goal

@@ -1,5 +1,5 @@
 use Rattle.std.proofs.Common.{◌-◌}
-use Rattle.nat_page.specs.Making.{image_of}
+use Rattle.flash_model.specs.Layouts.{image_of}
 use Rattle.nat_page.specs.Drafts.{IsDrafting}
 use Rattle.nat_page.proofs.draft.draft_of.Given as goal
 

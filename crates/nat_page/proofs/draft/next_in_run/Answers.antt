@@ -3,7 +3,8 @@ use Rattle.std.specs.Prelude.{is_some}
 use Rattle.page_index.specs.Entries.{IsEntry}
 use Rattle.nat_page.specs.Runs.{template_at, closing_at}
 use Rattle.nat_page.specs.Standing.{size}
-use Rattle.nat_page.specs.Making.{image_of, HasNoEntry}
+use Rattle.nat_page.specs.Making.{HasNoEntry}
+use Rattle.flash_model.specs.Layouts.{image_of}
 use Rattle.nat_page.specs.Drafts.{StopsBehind}
 use Rattle.nat_page.proofs.GrowLaws.{entry_found, entry_missing}
 use Rattle.nat_page.proofs.draft.next_in_run.Goals as goal

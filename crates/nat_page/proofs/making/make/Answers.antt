@@ -1,6 +1,7 @@
 use Rattle.std.proofs.Common.{◌≡◌, suc, length, ap, arith, ◌∙◌}
 use Rattle.flash_model.specs.Pages.{set_page}
-use Rattle.nat_page.specs.Making.{image_of, filled}
+use Rattle.nat_page.specs.Making.{filled}
+use Rattle.flash_model.specs.Layouts.{image_of}
 use Rattle.nat_page.proofs.FaithfulLaws.{faithful_mapped}
 use Rattle.nat_page.proofs.GrowLaws.{length-starts, stops_of}
 use Rattle.nat_page.proofs.PageWords.{draft_page, draft_room, draft_small}

@@ -2,7 +2,8 @@ use Rattle.std.proofs.Common.{sym, ap, subst, arith, List, ℕ}
 use Rattle.nat_page.specs.declared.making.NatStop.TheVariants as stops
 use Rattle.nat_page.specs.Faithful.{IsFaithful}
 use Rattle.nat_page.specs.Links.{IsUnresolved}
-use Rattle.nat_page.specs.Making.{image_of, IsLowestFree}
+use Rattle.nat_page.specs.Making.{IsLowestFree}
+use Rattle.flash_model.specs.Layouts.{image_of}
 use Rattle.nat_page.proofs.FaithfulLaws.{faithful_mapped}
 use Rattle.nat_page.proofs.MadeLaws.{makes_faithful, makes_entry, makes_entries, makes_unresolved, makes_image}
 use Rattle.nat_page.proofs.UsedLaws.{used_made, all_used}

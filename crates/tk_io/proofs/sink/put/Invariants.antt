@@ -1,5 +1,5 @@
 use Rattle.std.proofs.Common.{◌≤◌, length}
-use Rattle.tk_io.proofs.KnownBytes.{IsSent}
+use Rattle.tk_io.specs.Streams.{IsSent}
 use Rattle.tk_io.proofs.sink.put.Given as goal
 
 -- what went out is the front of the bytes, and the rest is what is left of them

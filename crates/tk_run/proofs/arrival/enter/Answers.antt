@@ -1,6 +1,7 @@
 use Rattle.tk_run.specs.Wholes.{whole}
 use Rattle.tk_run.proofs.Arriving.{owed_came}
 use Rattle.tk_run.proofs.Entered.{entered_none, entered_some, few_pages}
+use Rattle.tk_run.proofs.SameFlash.{cursor_kept}
 use Rattle.tk_run.proofs.arrival.enter.Goals as goal
 
 pub returns-in-None-clause-entered : goal.returns-in-None-clause-entered
@@ -14,3 +15,7 @@ arrive_owed-requires c =
 
 pub returns-in-Some-clause-entered : goal.returns-in-Some-clause-entered
 returns-in-Some-clause-entered c = entered_some (whole c.args.k.now c.args.p.now) (whole c.arrive_owed.new.k c.arrive_owed.new.p) c.arrive_owed.ensures.arrived c.is_whole.ensures.whole c.requires.ready
+
+pub returns-in-Some-clause-cursor : goal.returns-in-Some-clause-cursor
+returns-in-Some-clause-cursor c = cursor_kept (whole c.args.k.now c.args.p.now) (whole c.arrive_owed.new.k c.arrive_owed.new.p) c.in-Some.owed c.may_change_flash.result c.args.cursor.now c.forget_if.new.cursor c.in-Some.is c.may_change_flash.ensures.neither
+    c.arrive_owed.ensures.arrived c.forget_if.ensures.kept c.forget_if.ensures.forgotten c.requires.cursor

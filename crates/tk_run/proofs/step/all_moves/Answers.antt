@@ -15,4 +15,6 @@ pub pass-later-requires-clause-small : goal.pass-later-requires-clause-small
 pass-later-requires-clause-small c = small_first (whole c.args.k.now c.args.p.now) (whole c.plain-first.new.k c.plain-first.new.p) c.plain-first.result (whole c.args.k.now c.args.p.now).at _ c.requires.law c.plain-first.ensures.stepped c.requires.small
 
 pub returns-clause-taken : goal.returns-clause-taken
-returns-clause-taken c = λ law. subst (λ l. Took (whole c.args.k.now c.args.p.now) (whole c.pass-later.new.k c.pass-later.new.p) l law) (sym c.or.ensures) (taken_by (whole c.args.k.now c.args.p.now) (whole c.plain-first.new.k c.plain-first.new.p) (whole c.pass-later.new.k c.pass-later.new.p) c.plain-first.result c.pass-later.result.line c.plain-first.ensures.stepped c.pass-later.ensures.passed law)
+returns-clause-taken c = λ law. subst (λ l. Took (whole c.args.k.now c.args.p.now) (whole c.pass-later.new.k c.pass-later.new.p) l law)
+    (sym c.or.ensures) (taken_by (whole c.args.k.now c.args.p.now) (whole c.plain-first.new.k c.plain-first.new.p)
+    (whole c.pass-later.new.k c.pass-later.new.p) c.plain-first.result c.pass-later.result.line c.plain-first.ensures.stepped c.pass-later.ensures.passed law)

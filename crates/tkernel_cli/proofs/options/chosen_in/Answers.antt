@@ -22,7 +22,11 @@ returns-in_err-choice c =
 
 pub returns-in_err-chosen : goal.returns-in_err-chosen
 returns-in_err-chosen c =
-    rw c.from_residual-in_err-chosen.ensures (record { cases = says_twice (map string_bytes c.args.words.now) (map string_bytes c.loop-rest.rest.now) (map string_bytes c.in_ok-choice.behind.now) c.loop-rest.chosen c.in_ok-choice.choice c.loop-rest.invariant c.in_ok-choice.ensures.cases c.in_err-chosen.ensures.cases })
+    rw c.from_residual-in_err-chosen.ensures
+    (record {
+      cases = says_twice (map string_bytes c.args.words.now) (map string_bytes c.loop-rest.rest.now)
+          (map string_bytes c.in_ok-choice.behind.now) c.loop-rest.chosen c.in_ok-choice.choice c.loop-rest.invariant c.in_ok-choice.ensures.cases c.in_err-chosen.ensures.cases;
+    })
 
 pub loop-rest-smaller : goal.loop-rest-smaller
 loop-rest-smaller c = c.in_ok-choice.ensures.shorter

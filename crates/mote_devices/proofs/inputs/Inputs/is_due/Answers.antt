@@ -29,7 +29,9 @@ next_above n at events script taken e d same above is inside =
 pub returns-then-self-events-clause-none : goal.returns-then-self-events-clause-none
 returns-then-self-events-clause-none c = λ test.
     let i = c.self.inside in
-    settled c.args.poll c.args.self.now i.pins i.converter i.script i.taken i.serial c.self.view_is c.events-events.ensures.schedule (λ d inside. next_above c.args.poll c.from.result c.events-events.result.now i.script i.taken _ d c.events-events.ensures.value (above c.from.result c.args.poll test) c.from.ensures inside)
+    settled c.args.poll c.args.self.now i.pins i.converter i.script i.taken i.serial c.self.view_is c.events-events.ensures.schedule
+    (λ d inside. next_above c.args.poll c.from.result c.events-events.result.now i.script i.taken _ d c.events-events.ensures.value
+    (above c.from.result c.args.poll test) c.from.ensures inside)
 
 pub returns-else-self-events-clause-none : goal.returns-else-self-events-clause-none
 returns-else-self-events-clause-none c = λ test.

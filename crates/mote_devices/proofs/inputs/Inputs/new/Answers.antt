@@ -1,8 +1,9 @@
 use Rattle.std.proofs.Common.{rules}
-use Rattle.mote_devices.specs.Inputs.{unreceived, zeros}
+use Rattle.mote_devices.specs.Inputs.{unreceived}
+use Rattle.list_parts.specs.Lists.{many}
 use Rattle.mote_devices.specs.Places.{bytes_between}
 use Rattle.mote_devices.proofs.inputs.Inputs.new.Goals as goal
 
 pub returns : goal.returns
-unfolding unreceived zeros bytes_between
+unfolding unreceived many bytes_between
 returns c = search rules

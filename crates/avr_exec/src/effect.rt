@@ -1,0 +1,160 @@
+//! What an instruction does to the registers.
+
+ghost use Rattle.std.specs.Prelude.{ℕ, ◌≡◌, ◌≤◌};
+ghost use Rattle.avr_exec.specs.Registers.{wrapping_sum, relative as relative_of, with_counter};
+ghost use Rattle.avr_exec.specs.declared.answer.Answer.TheVariants.{Done};
+ghost use Rattle.avr_exec.specs.declared.ask.Ask.TheVariants.{Nothing};
+ghost use Rattle.avr_exec.specs.Asks.{ask_of};
+ghost use Rattle.avr_exec.specs.Effects.{with_pointer, with_z_raised_if, skip_if, branch_if, called, returned, finish_of};
+ghost use Rattle.avr_exec.specs.Kinds.{kind_of, Inner, Turn};
+
+use crate::arithmetic::{keep_word, product};
+use crate::bits::{has_bit, with_bit};
+use crate::cpu::Cpu;
+use avr_flags::muls;
+use avr_isa::{Form, Ptr};
+
+/// The bit of SREG that BST writes and BLD copies.
+const TRANSFER: u8 = 6;
+
+/// Gives a pointer that changes its new value.
+#[tactic(auto, unfolding(crate::specs::Effects::with_pointer))]
+pub(crate) fn move_pointer(cpu: &mut Cpu, pointer: &Ptr, value: u16)
+    ensures { cpu.new ≡ with_pointer cpu.old pointer.now value }
+{
+    match pointer {
+        Ptr::XInc => cpu.set_pair(26, value.wrapping_add(1)),
+        Ptr::YInc => cpu.set_pair(28, value.wrapping_add(1)),
+        Ptr::ZInc => cpu.set_pair(30, value.wrapping_add(1)),
+        Ptr::XDec => cpu.set_pair(26, value.wrapping_sub(1)),
+        Ptr::YDec => cpu.set_pair(28, value.wrapping_sub(1)),
+        Ptr::ZDec => cpu.set_pair(30, value.wrapping_sub(1)),
+        Ptr::X => {}
+    }
+}
+
+/// Raises Z where a load from the program asks for it.
+pub(crate) fn raise_z(cpu: &mut Cpu, increment: bool, z: u16)
+    ensures { cpu.new ≡ with_z_raised_if cpu.old increment z }
+{
+    if increment {
+        cpu.set_pair(30, z.wrapping_add(1));
+    }
+}
+
+/// Moves the pc on by some words.
+pub(crate) fn advance(cpu: &mut Cpu, words: u16)
+    ensures { cpu.new ≡ with_counter cpu.old (wrapping_sum cpu.old.pc words) }
+{
+    cpu.pc = cpu.pc.wrapping_add(words);
+}
+
+/// pc + 1 + k.
+#[tactic(auto, unfolding(crate::specs::Registers::relative))]
+pub(crate) fn relative(pc: u16, k: i16) -> u16
+    ensures { result ≡ relative_of pc k }
+{
+    pc.wrapping_add(1).wrapping_add(k.cast_unsigned())
+}
+
+/// Passes over the next instruction, of this many words, where `passed` is true.
+pub(crate) fn skip(cpu: &mut Cpu, passed: bool, next_size: u16)
+    requires { next_size ≤ 2 }
+    ensures { cpu.new ≡ skip_if passed next_size cpu.old }
+{
+    let words = if passed { 1 + next_size } else { 1 };
+    advance(cpu, words);
+}
+
+/// Branches by `k` where `taken` is true.
+fn branch(cpu: &mut Cpu, taken: bool, k: i16)
+    ensures { cpu.new ≡ branch_if taken k cpu.old }
+{
+    cpu.pc = if taken {
+        relative(cpu.pc, k)
+    } else {
+        cpu.pc.wrapping_add(1)
+    };
+}
+
+/// Goes to an address, with two bytes pushed.
+pub(crate) fn call(cpu: &mut Cpu, address: u16)
+    ensures { cpu.new ≡ called cpu.old address }
+{
+    cpu.sp = cpu.sp.wrapping_sub(2);
+    cpu.pc = address;
+}
+
+/// Goes to an address, with two bytes popped.
+pub(crate) fn return_to(cpu: &mut Cpu, address: u16)
+    ensures { cpu.new ≡ returned cpu.old address }
+{
+    cpu.sp = cpu.sp.wrapping_add(2);
+    cpu.pc = address;
+}
+
+/// One of the seldom instructions that work on the core's registers alone, and are followed by the next.
+#[tactic(auto, unfolding(crate::specs::Kinds::kind_of, crate::specs::Asks::ask_of, crate::specs::Effects::finish_of))]
+#[inline(always)]
+pub(crate) fn compute(form: &Form, cpu: &mut Cpu)
+    requires kind { kind_of form.now ≡ Inner }
+    ensures asks { ask_of form.now cpu.old ≡ Nothing }
+    ensures after { (n : ℕ) → finish_of form.now cpu.old n Done ≡ cpu.new }
+{
+    match form {
+        Form::Muls(d, r) => {
+            let outcome = muls(cpu.sreg, cpu.register(d.get()), cpu.register(r.get()));
+            keep_word(cpu, 0, outcome);
+        }
+        Form::Product(op, d, r) => product(op, cpu, d.get(), r.get()),
+        Form::Bld(d, b) => {
+            let value = with_bit(cpu.register(d.get()), b.get(), has_bit(cpu.sreg, TRANSFER));
+            cpu.set_register(d.get(), value);
+        }
+        Form::Bst(d, b) => {
+            cpu.sreg = with_bit(cpu.sreg, TRANSFER, has_bit(cpu.register(d.get()), b.get()));
+        }
+        Form::Bset(s) => cpu.sreg = with_bit(cpu.sreg, s.get(), true),
+        Form::Bclr(s) => cpu.sreg = with_bit(cpu.sreg, s.get(), false),
+        Form::Nop | Form::Break | Form::Wdr => {}
+        _ => unreachable!(),
+    }
+    advance(cpu, 1);
+}
+
+/// A skip, a branch or a jump by the core's registers alone.
+#[tactic(auto, unfolding(crate::specs::Kinds::kind_of, crate::specs::Asks::ask_of, crate::specs::Effects::finish_of))]
+#[inline(always)]
+pub(crate) fn turn(form: &Form, cpu: &mut Cpu, next_size: u16)
+    requires kind { kind_of form.now ≡ Turn }
+    requires next { next_size ≤ 2 }
+    ensures asks { ask_of form.now cpu.old ≡ Nothing }
+    ensures after { finish_of form.now cpu.old next_size Done ≡ cpu.new }
+{
+    match form {
+        Form::Cpse(d, r) => {
+            let equal = cpu.register(d.get()) == cpu.register(r.get());
+            skip(cpu, equal, next_size);
+        }
+        Form::Sbrc(r, b) => {
+            let set = has_bit(cpu.register(r.get()), b.get());
+            skip(cpu, !set, next_size);
+        }
+        Form::Sbrs(r, b) => {
+            let set = has_bit(cpu.register(r.get()), b.get());
+            skip(cpu, set, next_size);
+        }
+        Form::Brbs(s, k) => {
+            let set = has_bit(cpu.sreg, s.get());
+            branch(cpu, set, k.get());
+        }
+        Form::Brbc(s, k) => {
+            let set = has_bit(cpu.sreg, s.get());
+            branch(cpu, !set, k.get());
+        }
+        Form::Rjmp(k) => cpu.pc = relative(cpu.pc, k.get()),
+        Form::Jmp(a) => cpu.pc = *a,
+        Form::Ijmp => cpu.pc = cpu.pair(30),
+        _ => unreachable!(),
+    }
+}

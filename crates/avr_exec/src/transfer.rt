@@ -1,0 +1,194 @@
+//! Instructions that move a byte, or go elsewhere, by way of the bus.
+
+ghost use Rattle.std.specs.Prelude.{ℕ, ◌≡◌, ◌≤◌, OnErr};
+ghost use Rattle.avr_exec.specs.Execution.{exec_of, finished};
+ghost use Rattle.avr_exec.specs.Kinds.{kind_of, Fetch, Read, Deposit, Probe, Reach};
+ghost use Rattle.avr_exec.specs.Spaces.{Went};
+
+use crate::ask::{displaced, low_register, target};
+use crate::bits::{bit_weight, has_bit, with_bit};
+use crate::bus::Bus;
+use crate::cpu::Cpu;
+use crate::effect::{advance, call, move_pointer, raise_z, relative, return_to, skip};
+use crate::memory::{extended, extended_byte_raising, load, store};
+use crate::stop::BusStop;
+use avr_isa::Form;
+
+/// The bit of SREG that enables interrupts.
+const INTERRUPTS: u8 = 7;
+
+/// An instruction that brings a byte into a register.
+#[tactic(auto, unfolding(crate::specs::Kinds::kind_of, crate::specs::Execution::exec_of, crate::specs::Execution::answer_of, crate::specs::Asks::ask_of, crate::specs::Effects::finish_of))]
+#[inline(always)]
+pub(crate) fn fetch<B: Bus>(form: &Form, cpu: &mut Cpu, bus: &mut B) -> Result<(), BusStop>
+    requires kind { kind_of form.now ≡ Fetch }
+    requires ready { B.ready bus.old }
+    ensures outcome { (n : ℕ) → finished result cpu.new (B.space bus.new) ≡ exec_of B.calls form.now cpu.old (B.space bus.old) n }
+    ensures stop { OnErr result ((cpu.new ≡ cpu.old) × (B.space bus.new ≡ B.space bus.old)) }
+    ensures lent { B.lent bus.new ≡ B.lent bus.old }
+{
+    match form {
+        Form::LoadOff(d, base, q) => {
+            let value = load(cpu, bus, displaced(cpu, base, q.get()))?;
+            cpu.set_register(d.get(), value);
+        }
+        Form::LoadAt(d, pointer) => {
+            let before = cpu.pair(low_register(pointer));
+            let value = load(cpu, bus, target(cpu, pointer))?;
+            cpu.set_register(d.get(), value);
+            move_pointer(cpu, pointer, before);
+        }
+        Form::Lds(d, a) => {
+            let value = load(cpu, bus, *a)?;
+            cpu.set_register(d.get(), value);
+            advance(cpu, 1);
+        }
+        Form::InIo(d, a) => {
+            let value = load(cpu, bus, a.address())?;
+            cpu.set_register(d.get(), value);
+        }
+        Form::Pop(d) => {
+            let value = bus.pop(cpu.sp)?;
+            cpu.set_register(d.get(), value);
+            cpu.sp = cpu.sp.wrapping_add(1);
+        }
+        _ => unreachable!(),
+    }
+    advance(cpu, 1);
+    Ok(())
+}
+
+/// An instruction that brings a byte of the program into a register.
+#[tactic(auto, unfolding(crate::specs::Kinds::kind_of, crate::specs::Execution::exec_of, crate::specs::Execution::answer_of, crate::specs::Asks::ask_of, crate::specs::Effects::finish_of))]
+#[inline(always)]
+pub(crate) fn read<B: Bus>(form: &Form, cpu: &mut Cpu, bus: &mut B)
+    requires kind { kind_of form.now ≡ Read }
+    ensures outcome { (n : ℕ) → Went cpu.new (B.space bus.new) ≡ exec_of B.calls form.now cpu.old (B.space bus.old) n }
+    ensures lent { B.lent bus.new ≡ B.lent bus.old }
+{
+    match form {
+        Form::Lpm0 => cpu.set_register(0, bus.flash_byte(u32::from(cpu.pair(30)))),
+        Form::Elpm0 => {
+            let value = bus.flash_byte(extended(bus.rampz(), cpu.pair(30)));
+            cpu.set_register(0, value);
+        }
+        Form::Lpm(d, increment) => {
+            let z = cpu.pair(30);
+            cpu.set_register(d.get(), bus.flash_byte(u32::from(z)));
+            raise_z(cpu, *increment, z);
+        }
+        Form::Elpm(d, false) => {
+            let value = bus.flash_byte(extended(bus.rampz(), cpu.pair(30)));
+            cpu.set_register(d.get(), value);
+        }
+        Form::Elpm(d, true) => {
+            let z = cpu.pair(30);
+            cpu.set_register(d.get(), extended_byte_raising(bus, z));
+            raise_z(cpu, true, z);
+        }
+        _ => unreachable!(),
+    }
+    advance(cpu, 1);
+}
+
+/// An instruction that takes a byte elsewhere.
+#[tactic(auto, unfolding(crate::specs::Kinds::kind_of, crate::specs::Execution::exec_of, crate::specs::Execution::answer_of, crate::specs::Asks::ask_of, crate::specs::Effects::finish_of))]
+#[inline(always)]
+pub(crate) fn deposit<B: Bus>(form: &Form, cpu: &mut Cpu, bus: &mut B) -> Result<(), BusStop>
+    requires kind { kind_of form.now ≡ Deposit }
+    requires ready { B.ready bus.old }
+    ensures outcome { (n : ℕ) → finished result cpu.new (B.space bus.new) ≡ exec_of B.calls form.now cpu.old (B.space bus.old) n }
+    ensures stop { OnErr result ((cpu.new ≡ cpu.old) × (B.space bus.new ≡ B.space bus.old)) }
+    ensures lent { B.lent bus.new ≡ B.lent bus.old }
+{
+    match form {
+        Form::StoreOff(base, q, r) => {
+            let address = displaced(cpu, base, q.get());
+            store(cpu, bus, address, cpu.register(r.get()))?;
+        }
+        Form::StoreAt(pointer, r) => {
+            let before = cpu.pair(low_register(pointer));
+            let address = target(cpu, pointer);
+            store(cpu, bus, address, cpu.register(r.get()))?;
+            move_pointer(cpu, pointer, before);
+        }
+        Form::Sts(a, r) => {
+            store(cpu, bus, *a, cpu.register(r.get()))?;
+            advance(cpu, 1);
+        }
+        Form::OutIo(a, r) => store(cpu, bus, a.address(), cpu.register(r.get()))?,
+        Form::Push(r) => {
+            bus.push(cpu.sp, cpu.register(r.get()))?;
+            cpu.sp = cpu.sp.wrapping_sub(1);
+        }
+        Form::Cbi(a, b) => bus.modify(a.address(), bit_weight(b.get()), 0)?,
+        Form::Sbi(a, b) => bus.modify(a.address(), 0, bit_weight(b.get()))?,
+        _ => unreachable!(),
+    }
+    advance(cpu, 1);
+    Ok(())
+}
+
+/// A skip by a bit of an I/O register.
+#[tactic(auto, unfolding(crate::specs::Kinds::kind_of, crate::specs::Execution::exec_of, crate::specs::Execution::answer_of, crate::specs::Asks::ask_of, crate::specs::Effects::finish_of))]
+#[inline(always)]
+pub(crate) fn probe<B: Bus>(
+    form: &Form,
+    cpu: &mut Cpu,
+    bus: &mut B,
+    next_size: u16,
+) -> Result<(), BusStop>
+    requires kind { kind_of form.now ≡ Probe }
+    requires next { next_size ≤ 2 }
+    requires ready { B.ready bus.old }
+    ensures outcome { finished result cpu.new (B.space bus.new) ≡ exec_of B.calls form.now cpu.old (B.space bus.old) next_size }
+    ensures stop { OnErr result ((cpu.new ≡ cpu.old) × (B.space bus.new ≡ B.space bus.old)) }
+    ensures lent { B.lent bus.new ≡ B.lent bus.old }
+{
+    match form {
+        Form::Sbic(a, b) => {
+            let value = load(cpu, bus, a.address())?;
+            skip(cpu, !has_bit(value, b.get()), next_size);
+        }
+        Form::Sbis(a, b) => {
+            let value = load(cpu, bus, a.address())?;
+            skip(cpu, has_bit(value, b.get()), next_size);
+        }
+        _ => unreachable!(),
+    }
+    Ok(())
+}
+
+/// A call or a return.
+#[tactic(auto, unfolding(crate::specs::Kinds::kind_of, crate::specs::Execution::exec_of, crate::specs::Execution::answer_of, crate::specs::Asks::ask_of, crate::specs::Effects::finish_of))]
+#[inline(always)]
+pub(crate) fn reach<B: Bus>(form: &Form, cpu: &mut Cpu, bus: &mut B) -> Result<(), BusStop>
+    requires kind { kind_of form.now ≡ Reach }
+    requires ready { B.ready bus.old }
+    ensures outcome { (n : ℕ) → finished result cpu.new (B.space bus.new) ≡ exec_of B.calls form.now cpu.old (B.space bus.old) n }
+    ensures stop { OnErr result ((cpu.new ≡ cpu.old) × (B.space bus.new ≡ B.space bus.old)) }
+    ensures lent { B.lent bus.new ≡ B.lent bus.old }
+{
+    match form {
+        Form::Rcall(k) => {
+            let behind = cpu.pc.wrapping_add(1);
+            bus.push_ret(cpu.sp, behind)?;
+            call(cpu, relative(cpu.pc, k.get()));
+        }
+        Form::Call(a) => {
+            bus.push_ret(cpu.sp, cpu.pc.wrapping_add(2))?;
+            call(cpu, *a);
+        }
+        Form::Icall => {
+            bus.push_ret(cpu.sp, cpu.pc.wrapping_add(1))?;
+            call(cpu, cpu.pair(30));
+        }
+        Form::Ret => return_to(cpu, bus.pop_ret(cpu.sp)?),
+        Form::Reti => {
+            return_to(cpu, bus.pop_ret(cpu.sp)?);
+            cpu.sreg = with_bit(cpu.sreg, INTERRUPTS, true);
+        }
+        _ => unreachable!(),
+    }
+    Ok(())
+}

@@ -1,0 +1,28 @@
+//! What is decoded at a word address.
+
+ghost use Rattle.std.specs.Prelude.{◌≡◌};
+ghost use Rattle.flash_model.specs.Code.{decoded_of};
+
+use avr_decode::{decode, size_by_first_word};
+use avr_isa::Instr;
+
+/// What is decoded at a word address.
+#[derive(Clone, Copy, Debug)]
+pub struct Decoded {
+    /// The instruction that begins there; None where the words are none.
+    pub instr: Option<Instr>,
+    /// How many words an instruction has that begins one word on.
+    pub next_size: u16,
+}
+
+impl Decoded {
+    /// What these two words begin with.
+    pub(crate) fn new(first: u16, second: u16) -> Decoded
+        ensures value { result ≡ decoded_of first second }
+    {
+        Decoded {
+            instr: decode(first, second),
+            next_size: size_by_first_word(second),
+        }
+    }
+}

@@ -1,0 +1,4 @@
+-- Laws of what the tests set up.
+mod TestPage
+mod WorkedPage
+mod PagedLaws

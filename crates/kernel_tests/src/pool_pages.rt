@@ -1,0 +1,151 @@
+//! Pages made of small programs.
+
+ghost use Rattle.flash_model.specs.Layouts.{IsRight, image_of};
+ghost use Rattle.nat_page.specs.Faithful.{IsFaithful};
+
+use crate::support::{LOOP, has, loaded, loop_page};
+use flash_model::{Flash, Layout};
+use nat_page::{NatStop, naturalise};
+use page_index::entry;
+use std::test::Fail;
+
+/// What `naturalise` answers, where it may be called.
+#[tactic(auto, using(nat_page::proofs::FaithfulLaws::faithful_mapped))]
+fn made(flash: &mut Flash, layout: &Layout, t: u16) -> Option<Result<u16, NatStop>>
+    requires right { IsRight layout.now }
+    requires faithful { IsFaithful layout.now (image_of layout.now flash.old.words) flash.old.words }
+    ensures faithful { IsFaithful layout.now (image_of layout.now flash.new.words) flash.new.words }
+{
+    if t >= layout.image_words {
+        return None;
+    }
+    match entry(flash, layout, t) {
+        Some(_) => None,
+        None => Some(naturalise(flash, layout, t)),
+    }
+}
+
+/// A loop: the branch back passes over a crossing stub, and the jump to itself ends the run.
+#[test]
+fn the_worked_page(rt: HostRuntime) -> Result<(), Fail> {
+    let layout = Layout::usual(4);
+    let mut flash = loaded(&rt, &layout, &LOOP)?;
+    assert_eq!(rt; made(&mut flash, &layout, 0), Some(Ok(0x4006)));
+    has(&rt, &flash, &loop_page([0x940E, 0xF000]));
+    Ok(())
+}
+
+/// PUSH r16 has 39 words, behind which its run goes on.
+#[test]
+fn a_push_stands_inline(rt: HostRuntime) -> Result<(), Fail> {
+    let layout = Layout::usual(2);
+    let mut flash = loaded(&rt, &layout, &[0x930F, 0xCFFF])?;
+    assert_eq!(rt; made(&mut flash, &layout, 0), Some(Ok(0x4004)));
+    has(
+        &rt,
+        &flash,
+        &[
+            0x0000, 0x0002, 0x0004, 0x012B, 0x93E0, 0x0105, 0x93F0, 0x0106, 0xB7EF, 0x93E0, 0x0102,
+            0x91E0, 0x0103, 0x91F0, 0x0104, 0x30FD, 0xF080, 0x31F1, 0xF470, 0x8300, 0x9731, 0x93E0,
+            0x0103, 0x93F0, 0x0104, 0x91E0, 0x0102, 0xBFEF, 0x91E0, 0x0105, 0x91F0, 0x0106, 0xC00A,
+            0x91E0, 0x0102, 0xBFEF, 0x91E0, 0x0105, 0x91F0, 0x0106, 0x940E, 0xF004, 0x0000, 0x940E,
+            0xF00C, 0x0001,
+        ],
+    );
+    Ok(())
+}
+
+/// Behind the first of two instructions the second has its page.
+#[test]
+fn a_run_ends_before_an_entry(rt: HostRuntime) -> Result<(), Fail> {
+    let layout = Layout::usual(2);
+    let mut flash = loaded(&rt, &layout, &[0xE003, 0x950A])?;
+    assert_eq!(rt; made(&mut flash, &layout, 1), Some(Ok(0x4003)));
+    // The image ends behind it.
+    has(
+        &rt,
+        &flash,
+        &[0x0000, 0x0001, 0x0103, 0x950A, 0x940E, 0xF000, 0x0002],
+    );
+    assert_eq!(rt; made(&mut flash, &layout, 0), Some(Ok(0x4083)));
+    let page = [
+        flash.word(0x4081),
+        flash.word(0x4082),
+        flash.word(0x4083),
+        flash.word(0x4086),
+    ];
+    assert_eq!(rt; page, [0x0001, 0x0003, 0xE003, 0x0001]);
+    Ok(())
+}
+
+/// 61 instructions and a return fill the page to its last word; with one more in front the return doesn't fit.
+#[test]
+fn a_page_may_be_full(rt: HostRuntime) -> Result<(), Fail> {
+    let mut image = [0x0000; 64];
+    image[61] = 0x9508;
+    let layout = Layout::usual(64);
+    let mut flash = loaded(&rt, &layout, &image)?;
+    assert_eq!(rt; made(&mut flash, &layout, 0), Some(Ok(0x4040)));
+    let ends = [
+        flash.word(0x4001),
+        flash.word(0x407D),
+        flash.word(0x407E),
+        flash.word(0x407F),
+    ];
+    assert_eq!(rt; ends, [62, 0x940E, 0xF008, 61]);
+    image[61] = 0x0000;
+    image[62] = 0x9508;
+    let mut flash = loaded(&rt, &layout, &image)?;
+    assert_eq!(rt; made(&mut flash, &layout, 0), Some(Ok(0x403F)));
+    let ends = [
+        flash.word(0x4001),
+        flash.word(0x407D),
+        flash.word(0x407E),
+        flash.word(0x407F),
+    ];
+    assert_eq!(rt; ends, [61, 0xF000, 61, 0xFFFF]);
+    Ok(())
+}
+
+/// An instruction whose second word is in the next page; the step behind it is a crossing. A call, and a
+/// call through Z, are no ends.
+#[test]
+fn a_run_ends_at_its_page(rt: HostRuntime) -> Result<(), Fail> {
+    let mut image = [0x0000; 130];
+    image[124] = 0x940E; // CALL 0x0005
+    image[125] = 0x0005;
+    image[126] = 0x9509; // ICALL
+    image[127] = 0x9180; // LDS r24, 0x0500
+    image[128] = 0x0500;
+    let layout = Layout::usual(130);
+    let mut flash = loaded(&rt, &layout, &image)?;
+    assert_eq!(rt; made(&mut flash, &layout, 124), Some(Ok(0x4005)));
+    has(
+        &rt,
+        &flash,
+        &[
+            0x0000, 0x0003, 0x7C05, 0x7E1E, 0x7F21, 0x940E, 0xF006, 0x007C, 0x9380, 0x0101, 0xB78F,
+            0x9380, 0x0102, 0x9180, 0x0100, 0x958A, 0x9380, 0x0100, 0xF041, 0x9180, 0x0102, 0xBF8F,
+            0x9180, 0x0101, 0x940E, 0xF000, 0x0005, 0x940E, 0xF002, 0x0005, 0x940E, 0xF00A, 0x007E,
+            0x940E, 0xF004, 0x007F, 0x9380, 0x0101, 0xB78F, 0x9380, 0x0102, 0x9180, 0x0100, 0x958A,
+            0x9380, 0x0100, 0xF041, 0x9180, 0x0102, 0xBF8F, 0x9180, 0x0101, 0x940E, 0xF000, 0x0081,
+            0x940E, 0xF002, 0x0081,
+        ],
+    );
+    Ok(())
+}
+
+/// Each jump has a page of its own, until no page is free.
+#[test]
+fn the_pool_may_be_full(rt: HostRuntime) -> Result<(), Fail> {
+    let layout = Layout::usual(400);
+    let mut flash = loaded(&rt, &layout, &[0xC000; 400])?;
+    for t in 0..352u16 {
+        assert_eq!(rt; made(&mut flash, &layout, t), Some(Ok(0x4003 + 128 * t)));
+    }
+    assert_eq!(rt;
+        made(&mut flash, &layout, 352),
+        Some(Err(NatStop::CodeFull { used: 352 }))
+    );
+    Ok(())
+}

@@ -1,0 +1,86 @@
+//! Runs of small programs.
+
+ghost use Rattle.std.specs.Prelude.{◌≤◌, length};
+
+use crate::support::{LOOP, has, loop_page};
+use hex_image::Image;
+use input_script::read;
+use kernel_entry::Stop;
+use std::test::Fail;
+use tk_io::MemSink;
+use tk_run::{End, Machine, Options};
+
+/// Writes 0 to PORTA, and jumps to itself.
+const PORT: [u16; 2] = [0xBB0B, 0xCFFF];
+
+fn boot(rt: &HostRuntime, words: &[u16], quantum: u8) -> Result<Machine, Fail>
+    requires quantum { 1 ≤ quantum }
+    requires few { length words.now ≤ 16384 }
+{
+    let image = Image::from_words(rt.alloc(), words)?;
+    let script = read(rt.alloc(), b"")?;
+    let options = Options { quantum, swap: 128 };
+    Ok(Machine::boot(rt.alloc(), &image, script, options)?)
+}
+
+/// Runs a machine that can run on.
+fn run(m: &mut Machine, n: u64, out: &mut MemSink) -> Result<End, &'static str> {
+    if m.broken || m.steps > 1000 || n > 1000 {
+        return Err("the machine can't run on");
+    }
+    match m.advance(n, out) {
+        Ok(end) => Ok(end),
+        Err(_) => Err("the line could not be put"),
+    }
+}
+
+/// Steps, crossings, plain steps, services, pages.
+fn counts(m: &Machine) -> [u64; 5] {
+    [m.steps, m.crossings, m.natural, m.entries, m.pages]
+}
+
+#[test]
+fn a_loop_is_counted(rt: HostRuntime) -> Result<(), Fail> {
+    let mut out = MemSink::new(rt.alloc(), 100)?;
+    let mut m = boot(&rt, &LOOP, 255)?;
+    assert_eq!(rt; run(&mut m, 1000, &mut out)?, End::Stopped(Stop::Halted(3)));
+    assert_eq!(rt; m.at, 3);
+    assert_eq!(rt; counts(&m), [7, 2, 31, 2, 1]);
+    Ok(())
+}
+
+/// The branch back was taken twice, and leads to the entry of address 1.
+#[test]
+fn a_stub_is_patched_where_it_was_run(rt: HostRuntime) -> Result<(), Fail> {
+    let mut out = MemSink::new(rt.alloc(), 100)?;
+    let mut m = boot(&rt, &LOOP, 255)?;
+    assert_eq!(rt; run(&mut m, 1000, &mut out)?, End::Stopped(Stop::Halted(3)));
+    has(&rt, &m.kernel.mote.flash, &loop_page([0x940C, 0x4007]));
+    Ok(())
+}
+
+#[test]
+fn a_run_goes_on_and_its_end_is_kept(rt: HostRuntime) -> Result<(), Fail> {
+    let mut out = MemSink::new(rt.alloc(), 100)?;
+    let mut m = boot(&rt, &LOOP, 2)?;
+    assert_eq!(rt; run(&mut m, 4, &mut out)?, End::Spent);
+    assert_eq!(rt; m.steps, 4);
+    assert_eq!(rt; run(&mut m, 4, &mut out)?, End::Stopped(Stop::Halted(3)));
+    let before = counts(&m);
+    assert_eq!(rt; run(&mut m, 4, &mut out)?, End::Stopped(Stop::Halted(3)));
+    assert_eq!(rt; counts(&m), before);
+    assert_eq!(rt; m.natural, 28);
+    Ok(())
+}
+
+#[test]
+fn a_line_is_put_or_breaks_the_machine(rt: HostRuntime) -> Result<(), Fail> {
+    let mut out = MemSink::new(rt.alloc(), 11)?;
+    let mut m = boot(&rt, &PORT, 255)?;
+    assert_eq!(rt; run(&mut m, 10, &mut out)?, End::Stopped(Stop::Halted(1)));
+    assert_eq!(rt; out.taken(), b"PORTA 0x00\n".as_slice());
+    let mut m = boot(&rt, &PORT, 255)?;
+    assert!(rt; run(&mut m, 10, &mut out).is_err());
+    assert!(rt; m.broken);
+    Ok(())
+}

@@ -1,0 +1,296 @@
+//! Calls of the kernel's entries.
+
+ghost use Rattle.std.specs.Prelude.{◌≡◌, ◌≤◌, IfOk, true};
+ghost use Rattle.heap_frames.specs.Paged.{IsPaged};
+ghost use Rattle.kernel_entry.specs.Conditions.{CanServe, shape_behind};
+ghost use Rattle.kernel_entry.specs.Parts.{descriptor as called_address};
+
+use flash_model::Layout;
+use kernel_entry::{Kernel, Served, Stop, serve};
+use mem_guard::instruction_in_image;
+use mote_core::Mote;
+use nat_template::{TemplateShape, shape};
+use std::process::Abort;
+use std::test::Fail;
+
+const BRIDGE: u16 = 0xF000;
+
+const QUANTUM: u16 = 0xF002;
+
+const MEM: u16 = 0xF004;
+
+const PUSHRET: u16 = 0xF006;
+
+const RET: u16 = 0xF008;
+
+const IND: u16 = 0xF00A;
+
+const SELF: u16 = 0xF00C;
+
+const FAULT: u16 = 0xF00E;
+
+/// A program, and from word 32 on the words 0 to 31, which serve as descriptors.
+const IMAGE: [u16; 64] = [
+    0x930F, 0x910F, // 0 PUSH r16, 1 POP r16
+    0xD000, 0x9508, 0x9518, // 2 RCALL 3, 3 RET, 4 RETI
+    0x9409, 0x9509, 0xCFFF, // 5 IJMP, 6 ICALL, 7 RJMP 7
+    0x9588, 0x95E8, 0x0001, // 8 SLEEP, 9 SPM, 10 no instruction
+    0xBB0C, 0x9AC8, // 11 OUT to EECR, 12 SBI of PINA
+    0x9300, 0x0100, 0x9110, 0x0100, // 13 STS 0x0100, r16, 15 LDS r17, 0x0100
+    0x930D, 0x8119, 0x9124, 0x9146, // 17 ST X+, r16, 18 LDD r17, Y+1, 19 LPM r18, Z, 20 ELPM r20, Z
+    0xB71D, 0xBF0E, // 21 IN r17, SPL, 22 OUT SPH, r16
+    0x911E, 0x9309, 0x911A, 0x9301, 0x9112, // 23 LD r17, -X, 24 ST Y+, r16, 25 LD r17, -Y, 26 ST Z+, r16, 27 LD r17, -Z
+    0x940E, 0x0003, 0xC000, 0x0000, // 28 CALL 3, 30 RJMP 31, 31 NOP
+    0, 1, 2, 3, 4, 5, 6, 7, 8, 9, 10, 11, 12, 13, 14, 15, //
+    16, 17, 18, 19, 20, 21, 22, 23, 24, 25, 26, 27, 28, 29, 30, 31,
+];
+
+/// A kernel at boot, with this many swap slots.
+fn kernel_at_boot(rt: &HostRuntime, slots: u8) -> Result<Kernel, Fail>
+    requires { slots ≤ 251 }
+    ensures paged { IfOk result (λ k. IsPaged k.mote.sram k.mote.swap) }
+{
+    let script = input_script::read(rt.alloc(), b"")?;
+    let mote = Mote::new(rt.alloc(), &IMAGE, script, slots)?;
+    Ok(Kernel {
+        mote,
+        layout: Layout::usual(64),
+        quantum: 3,
+    })
+}
+
+/// The word behind the call.
+fn descriptor(k: &Kernel) -> u16
+    ensures value { result ≡ called_address k.now }
+{
+    let high = u16::from(k.mote.sram.byte(0x011E));
+    let low = u16::from(k.mote.sram.byte(0x011F));
+    k.mote.flash.word(high * 256 + low)
+}
+
+/// The form that the instruction at the descriptor's address takes.
+fn called_shape(k: &Kernel) -> TemplateShape
+    ensures value { result ≡ shape_behind k.now }
+{
+    let at = descriptor(k);
+    let instr = instruction_in_image(&k.mote.flash, &k.layout, at);
+    shape(at, instr.as_ref())
+}
+
+/// Whether the service may be asked; the layers above prove it instead. BRIDGE and QUANTUM are called with
+/// the address of a native instruction and of a jump here.
+fn may_serve(k: &Kernel) -> bool
+    requires paged { IsPaged k.now.mote.sram k.now.mote.swap }
+    ensures can { result ≡ true → CanServe k.now }
+{
+    let pc = k.mote.cpu.pc;
+    let count = k.mote.sram.count();
+    if k.mote.devices.polls() >= 1000 {
+        return false;
+    }
+    if count < 1 {
+        return false;
+    }
+    if k.quantum < count {
+        return false;
+    }
+    match called_shape(k) {
+        TemplateShape::Native => pc == BRIDGE,
+        TemplateShape::Jump => pc == QUANTUM,
+        TemplateShape::Mem => pc == MEM,
+        TemplateShape::Call => pc == PUSHRET,
+        TemplateShape::Ret => pc == RET,
+        TemplateShape::Ind => pc == IND,
+        TemplateShape::SelfJump => pc == SELF,
+        TemplateShape::Fault => pc == FAULT,
+        TemplateShape::Branch | TemplateShape::Skip => false,
+    }
+}
+
+/// A call of an entry: for which address, with the program's stack pointer and SREG.
+#[derive(Clone, Copy)]
+struct Call {
+    entry: u16,
+    at: u16,
+    sp: u16,
+    sreg: u8,
+}
+
+/// Makes the call with COUNT 3 and what a stub keeps in the cells of r24 and SREG, and serves.
+fn served(rt: &impl Abort, k: &mut Kernel, call: Call) -> Served
+    requires paged { IsPaged k.old.mote.sram k.old.mote.swap }
+    ensures paged { IsPaged k.new.mote.sram k.new.mote.swap }
+{
+    k.mote.cpu.pc = call.entry;
+    k.mote.cpu.sp = 0x011D;
+    k.mote.cpu.sreg = call.sreg;
+    k.mote.sram.set(0x011E, 0);
+    k.mote.sram.set(0x011F, 32 + (call.at % 32) as u8);
+    k.mote.sram.set_count(3);
+    k.mote.sram.set_r24(0x5A);
+    k.mote.sram.set_sreg(0x15);
+    k.mote.sram.set_vsp(call.sp);
+    assert!(rt; may_serve(k));
+    serve(k)
+}
+
+/// The program's stack pointer and SREG, and COUNT.
+fn left(k: &Kernel) -> (u16, u8, u8) {
+    (k.mote.sram.vsp(), k.mote.cpu.sreg, k.mote.sram.count())
+}
+
+/// The call with Z 0xFFFF is answered so, and leaves these.
+fn is_served(rt: &impl Abort, k: &mut Kernel, call: Call, want: Served, after: (u16, u8, u8))
+    requires paged { IsPaged k.old.mote.sram k.old.mote.swap }
+    ensures paged { IsPaged k.new.mote.sram k.new.mote.swap }
+{
+    k.mote.cpu.r[30] = 0xFF;
+    k.mote.cpu.r[31] = 0xFF;
+    assert_eq!(rt; served(rt, k, call), want, "{} {}", call.entry, call.at);
+    assert_eq!(rt; left(k), after, "{} {}", call.entry, call.at);
+    assert_eq!(rt; k.mote.cpu.sp, 0x011F);
+}
+
+/// The program would use a byte outside the stack window.
+fn outside(at: u16, address: u16) -> Served {
+    Served::Stopped(Stop::Stack(at, address))
+}
+
+/// Control goes on at an address of the program.
+fn to(target: u16) -> Served {
+    Served::Goto { target, stub: None }
+}
+
+/// Entry, address and SP; the answer, and what is left. A return finds what an earlier call pushed.
+#[test]
+fn calls_and_returns_use_the_stack_window(rt: HostRuntime) -> Result<(), Fail> {
+    let on = Served::Resume(None);
+    let rows = [
+        (PUSHRET, 2, 0x0CFF, outside(2, 0x0CFF), (0x0CFF, 0, 3)),
+        (PUSHRET, 2, 0x0D00, outside(2, 0x0CFF), (0x0D00, 0, 3)),
+        (PUSHRET, 2, 0x0D01, on, (0x0CFF, 0, 3)),
+        (PUSHRET, 2, 0x1100, outside(2, 0x1100), (0x1100, 0, 3)),
+        (PUSHRET, 28, 0x10FF, on, (0x10FD, 0, 3)),
+        (RET, 3, 0x10FD, to(30), (0x10FF, 0, 3)),
+        (RET, 4, 0x0CFF, to(3), (0x0D01, 0x80, 2)),
+        (RET, 3, 0x10FE, outside(3, 0x1100), (0x10FE, 0, 3)),
+        (IND, 5, 0, to(0xFFFF), (0, 0, 2)),
+        (IND, 6, 0x0D01, to(0xFFFF), (0x0CFF, 0, 2)),
+        (IND, 6, 0x0CFF, outside(6, 0x0CFF), (0x0CFF, 0, 3)),
+    ];
+    let mut k = kernel_at_boot(&rt, 0)?;
+    for (entry, at, sp, want, after) in rows {
+        let call = Call {
+            entry,
+            at,
+            sp,
+            sreg: 0,
+        };
+        is_served(&rt, &mut k, call, want, after);
+    }
+    Ok(())
+}
+
+/// Entry, address and SREG; the answer, and SREG and COUNT then. QUANTUM gives r24 and SREG back.
+#[test]
+fn ends_and_steps_of_the_kernel(rt: HostRuntime) -> Result<(), Fail> {
+    let stopped = Served::Stopped;
+    let bridge = Served::Goto {
+        target: 31,
+        stub: Some(61),
+    };
+    let rows = [
+        (SELF, 7, 0x7F, stopped(Stop::Halted(7)), 0x7F, 3),
+        (SELF, 7, 0x80, to(7), 0x80, 2),
+        (FAULT, 8, 0, stopped(Stop::Asleep(8)), 0, 3),
+        (FAULT, 9, 0, stopped(Stop::SelfProgram(9)), 0, 3),
+        (FAULT, 10, 0, stopped(Stop::Illegal(10)), 0, 3),
+        (FAULT, 11, 0, stopped(Stop::Io(11, 0x3C)), 0, 3),
+        (FAULT, 12, 0, stopped(Stop::Io(12, 0x39)), 0, 3),
+        (QUANTUM, 30, 0, to(30), 0x15, 3),
+        (BRIDGE, 31, 0, bridge, 0, 3),
+    ];
+    let mut k = kernel_at_boot(&rt, 0)?;
+    for (entry, at, sreg, want, sreg_after, count) in rows {
+        let call = Call {
+            entry,
+            at,
+            sp: 0,
+            sreg,
+        };
+        is_served(&rt, &mut k, call, want, (0, sreg_after, count));
+    }
+    assert_eq!(rt; k.mote.cpu.r[24], 0x5A);
+    Ok(())
+}
+
+/// Serves the instruction at an address, with X, Y and Z at the pointer, 0x77 in r16 and nothing in r17.
+fn accessed(rt: &impl Abort, k: &mut Kernel, at: u16, pointer: u16, sp: u16) -> Served
+    requires paged { IsPaged k.old.mote.sram k.old.mote.swap }
+    ensures paged { IsPaged k.new.mote.sram k.new.mote.swap }
+{
+    k.mote.cpu.r[16] = 0x77;
+    k.mote.cpu.r[17] = 0;
+    let low = (pointer % 256) as u8;
+    let high = (pointer / 256) as u8;
+    k.mote.cpu.r[26] = low;
+    k.mote.cpu.r[27] = high;
+    k.mote.cpu.r[28] = low;
+    k.mote.cpu.r[29] = high;
+    k.mote.cpu.r[30] = low;
+    k.mote.cpu.r[31] = high;
+    let call = Call {
+        entry: MEM,
+        at,
+        sp,
+        sreg: 0,
+    };
+    served(rt, k, call)
+}
+
+/// Address, pointer and SP; the answer, r17 and SP then. One page has a slot.
+#[test]
+fn loads_and_stores_reach_the_programs_memory(rt: HostRuntime) -> Result<(), Fail> {
+    let stopped = Served::Stopped;
+    let on = Served::Resume(None);
+    let rows = [
+        (13, 0, 0, on, 0, 0),
+        (15, 0, 0, on, 0x77, 0),
+        (17, 0x0200, 0, stopped(Stop::SwapFull(17, 0x0200)), 0, 0),
+        (17, 0x0D00, 0, on, 0, 0),
+        (18, 0x00FF, 0, on, 0x77, 0),
+        (23, 0x0D01, 0, on, 0x77, 0),
+        (24, 0x10FF, 0, on, 0, 0),
+        (25, 0x1100, 0, on, 0x77, 0),
+        (26, 0x00FF, 0, stopped(Stop::Io(26, 0x00FF)), 0, 0),
+        (26, 0x01FF, 0, on, 0, 0),
+        (27, 0x0200, 0, on, 0x77, 0),
+        (21, 0, 0x1234, on, 0x34, 0x1234),
+        (22, 0, 0x1234, on, 0, 0x7734),
+        (0, 0, 0x0CFF, outside(0, 0x0CFF), 0, 0x0CFF),
+        (0, 0, 0x10FF, on, 0, 0x10FE),
+        (1, 0, 0x10FE, on, 0, 0x10FF),
+        (19, 1, 0, on, 0, 0),
+        (20, 1, 0, on, 0, 0),
+    ];
+    let mut k = kernel_at_boot(&rt, 1)?;
+    for (at, pointer, sp, want, r17, sp_after) in rows {
+        assert_eq!(rt; accessed(&rt, &mut k, at, pointer, sp), want, "{at}");
+        assert_eq!(rt; left(&k), (sp_after, 0, 3), "{at}");
+        let pc = if want == on { at.wrapping_add(33) } else { MEM };
+        assert_eq!(rt; (k.mote.cpu.r[17], k.mote.cpu.pc), (r17, pc), "{at}");
+    }
+    assert_eq!(rt; (k.mote.cpu.r[18], k.mote.cpu.r[20]), (0x93, 0x93));
+    Ok(())
+}
+
+/// ELPM with RAMPZ set reads behind the image.
+#[test]
+fn no_program_byte_stands_behind_the_image(rt: HostRuntime) -> Result<(), Fail> {
+    let mut k = kernel_at_boot(&rt, 0)?;
+    k.mote.devices.set_rampz(1);
+    let answer = accessed(&rt, &mut k, 20, 1, 0);
+    assert_eq!(rt; answer, Served::Resume(None));
+    assert_eq!(rt; (k.mote.cpu.r[20], k.mote.sram.count()), (0xFF, 3));
+    Ok(())
+}

@@ -1,0 +1,88 @@
+//! What the tests share: flashes with and without pages in the pool, and a program that loops.
+
+ghost use Rattle.std.specs.Prelude.{◌≡◌, ◌≤◌, [], ◌∷◌, length, IfOk};
+ghost use Rattle.flash_model.specs.Pages.{many};
+ghost use Rattle.flash_model.specs.Layouts.{IsRight};
+ghost use Rattle.flash_model.specs.Memory.{loaded as loaded_words};
+ghost use Rattle.page_index.specs.Entries.{IsMapped};
+ghost use Rattle.nat_page.specs.Faithful.{IsFaithful};
+ghost use Rattle.flash_model.specs.Layouts.{image_of};
+
+use flash_model::{Flash, Layout};
+use std::process::Abort;
+
+/// LDI r16, 3; DEC r16; BRNE 1; RJMP to itself.
+pub(crate) const LOOP: [u16; 4] = [0xE003, 0x950A, 0xF7F1, 0xCFFF];
+
+/// The page of the loop. Its branch back leads through these two words.
+pub(crate) fn loop_page(way: [u16; 2]) -> [u16; 35] {
+    [
+        0x0000, 0x0004, 0x0006, 0x0107, 0x0208, 0x0320, 0xE003, 0x950A, 0xF409, 0xC016, 0x9380,
+        0x0101, 0xB78F, 0x9380, 0x0102, 0x9180, 0x0100, 0x958A, 0x9380, 0x0100, 0xF041, 0x9180,
+        0x0102, 0xBF8F, 0x9180, 0x0101, way[0], way[1], 0x0001, 0x940E, 0xF002, 0x0001, 0x940E,
+        0xF00C, 0x0003,
+    ]
+}
+
+/// The first page of the pool has these words, and erased words behind them.
+pub(crate) fn has(rt: &impl Abort, flash: &Flash, words: &[u16]) {
+    for i in 0..128u16 {
+        let expected = words.get(i as usize).copied().unwrap_or(0xFFFF);
+        assert_eq!(rt; flash.word(0x4000 + i), expected, "place {i}");
+    }
+}
+
+/// A flash that holds the image, and an empty pool.
+pub(crate) fn loaded(
+    rt: &HostRuntime,
+    layout: &Layout,
+    image: &[u16],
+) -> Result<Flash, &'static str>
+    requires right { IsRight layout.now }
+    requires short { length image.now ≤ 16384 }
+    requires long { length image.now ≡ layout.now.image_words }
+    ensures faithful { IfOk result (λ flash. IsFaithful layout.now (image_of layout.now flash.words) flash.words) }
+    ensures image { IfOk result (λ flash. image_of layout.now flash.words ≡ image.now) }
+{
+    match Flash::new(rt.alloc(), image) {
+        Ok(flash) => Ok(flash),
+        Err(_) => Err("memory is ample"),
+    }
+}
+
+/// A flash with an image of one word, and an empty pool.
+pub(crate) fn empty(rt: &HostRuntime, layout: &Layout) -> Result<Flash, &'static str>
+    requires right { IsRight layout.now }
+    requires image { 1 ≤ layout.now.image_words }
+    ensures words { IfOk result (λ flash. flash.words ≡ loaded_words (0xE003 ∷ [])) }
+    ensures mapped { IfOk result (λ flash. IsMapped layout.now flash.words) }
+{
+    match Flash::new(rt.alloc(), &[0xE003]) {
+        Ok(flash) => Ok(flash),
+        Err(_) => Err("memory is ample"),
+    }
+}
+
+/// The map of the original page 0, with entries of the addresses 0, 1, 2 and 3.
+const MAP: [u16; 6] = [0x0000, 0x0004, 0x0006, 0x0107, 0x0208, 0x0320];
+
+#[tactic(auto, unfolding(flash_model::specs::Pages::many))]
+fn page_with_the_map() -> [u16; 128]
+    ensures words { result ≡ 0 ∷ 4 ∷ 6 ∷ 0x0107 ∷ 0x0208 ∷ 0x0320 ∷ many 122 0xFFFF }
+{
+    let mut page = [0xFFFF; 128];
+    page[..6].copy_from_slice(&MAP);
+    page
+}
+
+/// A flash whose pool has one page, of the map alone.
+pub(crate) fn with_one_page(rt: &HostRuntime, layout: &Layout) -> Result<Flash, &'static str>
+    requires right { IsRight layout.now }
+    requires image { 1 ≤ layout.now.image_words }
+    requires pool { layout.now.pool_first ≡ 128 }
+    ensures mapped { IfOk result (λ flash. IsMapped layout.now flash.words) }
+{
+    let mut flash = empty(rt, layout)?;
+    flash.program(128, &page_with_the_map());
+    Ok(flash)
+}

@@ -1,0 +1,2 @@
+pub mod ManyLaws
+pub mod Pieces

@@ -1,5 +1,0 @@
-use Rattle.heap_frames.specs.Paged.{IsPaged}
-use Rattle.mem_guard.proofs.tests.edges_of_the_window.Given as goal
-
-abbrev pub invariant-loop-word : goal.invariant-loop-word
-invariant-loop-word g l = IsPaged l.parts.sram l.parts.swap

@@ -1,8 +1,0 @@
-use Rattle.heap_frames.specs.Paged.{IsPaged}
-use Rattle.mem_guard.proofs.tests.loads_and_stores.Given as goal
-
-abbrev pub invariant-loop-a : goal.invariant-loop-a
-invariant-loop-a g l = IsPaged l.parts.sram l.parts.swap
-
-abbrev pub invariant-loop-a-2 : goal.invariant-loop-a-2
-invariant-loop-a-2 g l = IsPaged l.parts.sram l.parts.swap

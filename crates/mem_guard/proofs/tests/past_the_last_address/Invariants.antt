@@ -1,5 +1,0 @@
-use Rattle.heap_frames.specs.Paged.{IsPaged}
-use Rattle.mem_guard.proofs.tests.past_the_last_address.Given as goal
-
-abbrev pub invariant-loop-z : goal.invariant-loop-z
-invariant-loop-z g l = IsPaged l.parts.sram l.parts.swap

@@ -1,0 +1,2 @@
+-- What the bus of the tests stands for.
+pub mod SmallSpace

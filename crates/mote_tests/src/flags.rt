@@ -1,0 +1,56 @@
+//! Values worked by hand from the flag equations of the AVR Instruction Set Manual.
+
+use avr_flags::{
+    adc, add, adiw, and_bits, asr, com, dec, eor, fmul, fmuls, fmulsu, inc, lsr, mul, muls, mulsu,
+    neg, or_bits, ror, sbc, sbiw, sub,
+};
+
+#[test]
+fn bytes_give_the_manuals_flags(rt: HostRuntime) {
+    let rows = [
+        (sbc(0x00, 5, 5), (0x00, 0x00)), // Z was clear and stays so
+        (sbc(0x02, 5, 5), (0x00, 0x02)), // Z was set and stays so
+        (neg(0x00, 0x80), (0x80, 0x0D)), // C N V
+        (dec(0x00, 0x80), (0x7F, 0x18)), // V S
+        (inc(0x01, 0xFF), (0x00, 0x03)), // C stays, Z
+        (com(0x00, 0xFF), (0x00, 0x03)), // C Z
+        (add(0x00, 0x80, 0x80), (0x00, 0x1B)), // C Z V S
+        (adc(0x01, 0x0F, 0x00), (0x10, 0x20)), // H
+        (sub(0x00, 0x10, 0x01), (0x0F, 0x20)), // H
+        (and_bits(0x08, 0xF0, 0x0F), (0x00, 0x02)), // V is cleared, Z
+        (or_bits(0x00, 0x80, 0x01), (0x81, 0x14)), // N S
+        (eor(0x00, 0xFF, 0x0F), (0xF0, 0x14)), // N S
+    ];
+    for (outcome, want) in rows {
+        assert_eq!(rt; outcome, want);
+    }
+}
+
+#[test]
+fn shifts_give_the_manuals_flags(rt: HostRuntime) {
+    let rows = [
+        (lsr(0x00, 0x01), (0x00, 0x1B)), // C Z V S
+        (ror(0x01, 0x02), (0x81, 0x0C)), // N V
+        (asr(0x00, 0x81), (0xC0, 0x15)), // C N S
+    ];
+    for (outcome, want) in rows {
+        assert_eq!(rt; outcome, want);
+    }
+}
+
+#[test]
+fn pairs_and_products_give_the_manuals_flags(rt: HostRuntime) {
+    let rows = [
+        (adiw(0x00, 0x7FFF, 1), (0x8000, 0x0C)), // N V
+        (sbiw(0x00, 0, 1), (0xFFFF, 0x15)), // C N S
+        (mul(0x00, 0xFF, 0xFF), (0xFE01, 0x01)), // C
+        (muls(0x00, 0xFF, 0x02), (0xFFFE, 0x01)), // C
+        (mulsu(0x00, 0xFF, 0xFF), (0xFF01, 0x01)), // C
+        (fmul(0x00, 0x80, 0x80), (0x8000, 0x00)),
+        (fmuls(0x00, 0x80, 0x80), (0x8000, 0x00)),
+        (fmulsu(0x00, 0x80, 0x01), (0xFF00, 0x01)), // C
+    ];
+    for (outcome, want) in rows {
+        assert_eq!(rt; outcome, want);
+    }
+}

@@ -1,4 +1,0 @@
-use Rattle.nat_page.proofs.tests.made.Goals as goal
-
-pub naturalise-requires-clause-unknown : goal.naturalise-requires-clause-unknown
-naturalise-requires-clause-unknown c = λ v entry. let found = c.in-None.ensures.only v entry in cc

@@ -1,0 +1,4 @@
+-- The lines of a text.
+pub mod Lines
+pub mod Cutting
+pub mod Written

@@ -1,0 +1,68 @@
+-- Lines that are gathered before they go out.
+use Rattle.std.proofs.Common.{◌≡◌, ℕ, ◌+◌, List, [], ◌++◌, refl, sym, ap, ◌∙◌, subst, append_assoc}
+use Rattle.std.specs.Prelude.{Option, Some, None}
+use Rattle.std.proofs.lemmas.List.{append-nil}
+use Rattle.std.specs.Io.KnownBytes.{Appends}
+use Rattle.tk_io.specs.Streams.{CutShort, IsSent}
+use Rattle.tk_io.proofs.KnownBytes.{appends-both, nothing_sent, cut_behind}
+use Rattle.mote_devices.specs.declared.line.Line.{Line}
+use Rattle.step_laws.specs.Moves.{line_before}
+use Rattle.tk_run.specs.Machines.{Machine}
+use Rattle.tk_run.specs.Ready.{IsGoing}
+use Rattle.tk_run.specs.Stepping.{lines_text, HasStepped}
+use Rattle.tk_run.proofs.RunSoFar.{IsBetween, between_start}
+use Rattle.tk_run.proofs.Advancing.{IsIn, between_on}
+
+-- some bytes went out, and then others
+pub sent_on : (text gathered more left : List ℕ) (before after later : Option (List ℕ)) → IsSent text gathered before after → IsSent (gathered ++ more) left after later → IsSent (text ++ more) left before later
+sent_on text gathered more left before after later first second = record {
+  sent = first.sent ++ second.sent;
+  parts = ap (λ z. z ++ more) first.parts ∙ append_assoc first.sent gathered more ∙ ap (λ z. first.sent ++ z) second.parts ∙ sym (append_assoc first.sent second.sent left);
+  appended = appends-both before after later first.sent second.sent first.appended second.appended;
+}
+
+-- some bytes went out, and then the sink failed
+pub cut_on : (text gathered more : List ℕ) (before after later : Option (List ℕ)) → IsSent text gathered before after → CutShort after later (gathered ++ more) → CutShort before later (text ++ more)
+cut_on text gathered more before after later first cut =
+    let parts : text ++ more ≡ first.sent ++ (gathered ++ more) = ap (λ z. z ++ more) first.parts ∙ append_assoc first.sent gathered more in
+    subst (CutShort before later) (sym parts) (cut_behind before after later first.sent (gathered ++ more) first.appended cut)
+
+-- the rest went out, or the sink failed
+pub all_on : (text gathered : List ℕ) (before after later : Option (List ℕ)) → IsSent text gathered before after → Appends after later gathered → Appends before later text
+all_on text gathered before after later first rest = subst (Appends before later) (sym first.parts) (appends-both before after later first.sent gathered first.appended rest)
+
+pub rest_cut : (text gathered : List ℕ) (before after later : Option (List ℕ)) → IsSent text gathered before after → CutShort after later gathered → CutShort before later text
+rest_cut text gathered before after later first cut = subst (CutShort before later) (sym first.parts) (cut_behind before after later first.sent gathered first.appended cut)
+
+-- between two steps, with some of the text gathered
+pub record IsUnderWay (old now : Machine) (i : ℕ) (gathered : List ℕ) (before after : Option (List ℕ)) : Type 0 where
+  pub text : List ℕ
+  pub between : IsBetween old now i (Some []) (Some text)
+  pub sent : IsSent text gathered before after
+
+pub under_way : (m : Machine) (gathered : List ℕ) (known : Option (List ℕ)) → IsGoing m → gathered ≡ [] → IsUnderWay m m 0 gathered known known
+under_way m gathered known ready empty = record {
+  text = [];
+  between = between_start m (Some []) ready;
+  sent = subst (λ z. IsSent [] z known known) (sym empty) (nothing_sent [] known);
+}
+
+-- behind what went out in turn
+pub turn_on : (old now : Machine) (i : ℕ) (gathered left : List ℕ) (before after later : Option (List ℕ)) → IsUnderWay old now i gathered before after → IsSent (gathered ++ []) left after later → IsUnderWay old now i left before later
+turn_on old now i gathered left before after later way sent = record {
+  text = way.text;
+  between = way.between;
+  sent = subst (λ z. IsSent z left before later) (append-nil way.text) (sent_on way.text gathered [] left before after later way.sent sent);
+}
+
+pub turn_cut : (old now : Machine) (i : ℕ) (gathered : List ℕ) (before after later : Option (List ℕ)) → (way : IsUnderWay old now i gathered before after) → CutShort after later (gathered ++ []) → CutShort before later way.text
+turn_cut old now i gathered before after later way cut = subst (CutShort before later) (append-nil way.text) (cut_on way.text gathered [] before after later way.sent cut)
+
+-- behind a step
+pub step_on : (old now new : Machine) (i : ℕ) (line : Option Line) (text gathered left : List ℕ) (before after later : Option (List ℕ)) → IsIn old now i (Some []) (Some text) → HasStepped now new line → new.end ≡ None → IsSent text gathered before after
+    → IsSent (gathered ++ lines_text (line_before line [])) left after later → IsUnderWay old new (i + 1) left before later
+step_on old now new i line text gathered left before after later now' step going first second = record {
+  text = text ++ lines_text (line_before line []);
+  between = between_on old now new i line (Some []) (Some text) (Some (text ++ lines_text (line_before line []))) now' step refl going;
+  sent = sent_on text gathered (lines_text (line_before line [])) left before after later first second;
+}

@@ -1,0 +1,34 @@
+-- Lines that are gathered before they go out. This serves private functions alone.
+use Rattle.std.specs.Prelude.{ℕ, ◌++◌, true, List, [], Option, Some, Result, Ok, Err}
+use Rattle.tk_io.specs.Streams.{CutShort, IsSent}
+use Rattle.tk_io.specs.declared.failure.Failed.{Failed}
+use Rattle.step_laws.specs.declared.moves.End.{End}
+use Rattle.tk_run.specs.Machines.{Machine}
+use Rattle.tk_run.specs.Running.{HasAdvanced}
+
+-- Bytes were gathered behind others. Of all of these some went out, from the front, and the rest is gathered;
+-- or the sink failed, and what went out is a shorter part of them.
+abbrev pub Gathers : {T : Type 0} → (old new : List ℕ) → (before after : Option (List ℕ)) → Result T Failed → List ℕ → Type 0
+Gathers old new before after (Ok x) bytes = IsSent (old ++ bytes) new before after
+Gathers old new before after (Err e) bytes = CutShort before after (old ++ bytes)
+
+-- what the run leaves once the machine is marked as broken
+abbrev pub IsCut : (old new : Machine) → ℕ → (before after : Option (List ℕ)) → Failed → Type 0
+IsCut old new n before after e = HasAdvanced old (record new { broken = true }) n before after (Err e)
+
+-- The run's text, as if it were put to a sink of its own: some of it, from the front, went out, and the
+-- rest is gathered.
+pub record HasText (old new : Machine) (n : ℕ) (gathered : List ℕ) (before after : Option (List ℕ)) (end : End) : Type 0 where
+  pub text : List ℕ
+  pub advanced : HasAdvanced old new n (Some []) (Some text) (Ok end)
+  pub sent : IsSent text gathered before after
+
+-- a run of up to n steps, with text that is still gathered
+abbrev pub HasGathered : (old new : Machine) → ℕ → List ℕ → (before after : Option (List ℕ)) → Result End Failed → Type 0
+HasGathered old new n gathered before after (Ok end) = HasText old new n gathered before after end
+HasGathered old new n gathered before after (Err e) = IsCut old new n before after e
+
+-- the same with all text put
+abbrev pub HasPut : (old new : Machine) → ℕ → (before after : Option (List ℕ)) → Result End Failed → Type 0
+HasPut old new n before after (Ok end) = HasAdvanced old new n before after (Ok end)
+HasPut old new n before after (Err e) = IsCut old new n before after e
