@@ -3,6 +3,9 @@
 ghost use Rattle.std.specs.Prelude.{◌≡◌};
 ghost use Rattle.avr_exec.specs.Registers.{is_own as is_own_test};
 
+/// The first data address above those that the core answers itself.
+pub(crate) const OWN_END: u16 = 0x60;
+
 /// The registers of an AVR core.
 #[derive(Clone, Copy, PartialEq, Eq, Debug)]
 pub struct Cpu {
@@ -86,5 +89,5 @@ impl Cpu {
 pub(crate) fn is_own_address(address: u16) -> bool
     ensures { result ≡ is_own_test address }
 {
-    address < 0x60 && (address < 0x20 || 0x5D <= address)
+    address < OWN_END && (address < 0x20 || 0x5D <= address)
 }

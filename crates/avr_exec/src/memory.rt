@@ -8,7 +8,7 @@ ghost use Rattle.avr_exec.specs.Kinds.{answered_byte, answered_done};
 ghost use Rattle.avr_exec.specs.Spaces.{outcome_of};
 
 use crate::bus::Bus;
-use crate::cpu::{Cpu, is_own_address};
+use crate::cpu::{Cpu, OWN_END, is_own_address};
 use crate::stop::BusStop;
 
 /// The byte at a data address: the core's own, or the bus's.
@@ -22,6 +22,11 @@ pub(crate) fn load<B: Bus>(cpu: &Cpu, bus: &mut B, address: u16) -> Result<u8, B
     ensures stop { OnErr result (B.space bus.new ≡ B.space bus.old) }
     ensures lent { B.lent bus.new ≡ B.lent bus.old }
 {
+    // Most addresses are above the core's own. A branch for them alone costs one comparison, where a
+    // condition joined with the next one costs all of them.
+    if address >= OWN_END {
+        return bus.load(address);
+    }
     if is_own_address(address) {
         Ok(cpu.own_byte(address))
     } else {
@@ -45,6 +50,11 @@ pub(crate) fn store<B: Bus>(
     ensures stop { OnErr result ((cpu.new ≡ cpu.old) × (B.space bus.new ≡ B.space bus.old)) }
     ensures lent { B.lent bus.new ≡ B.lent bus.old }
 {
+    // Most addresses are above the core's own. A branch for them alone costs one comparison, where a
+    // condition joined with the next one costs all of them.
+    if address >= OWN_END {
+        return bus.store(address, value);
+    }
     if is_own_address(address) {
         cpu.set_own_byte(address, value);
         Ok(())

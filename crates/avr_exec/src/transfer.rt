@@ -41,7 +41,8 @@ pub(crate) fn fetch<B: Bus>(form: &Form, cpu: &mut Cpu, bus: &mut B) -> Result<(
         Form::Lds(d, a) => {
             let value = load(cpu, bus, *a)?;
             cpu.set_register(d.get(), value);
-            advance(cpu, 1);
+            advance(cpu, 2);
+            return Ok(());
         }
         Form::InIo(d, a) => {
             let value = load(cpu, bus, a.address())?;
@@ -114,7 +115,8 @@ pub(crate) fn deposit<B: Bus>(form: &Form, cpu: &mut Cpu, bus: &mut B) -> Result
         }
         Form::Sts(a, r) => {
             store(cpu, bus, *a, cpu.register(r.get()))?;
-            advance(cpu, 1);
+            advance(cpu, 2);
+            return Ok(());
         }
         Form::OutIo(a, r) => store(cpu, bus, a.address(), cpu.register(r.get()))?,
         Form::Push(r) => {

@@ -1,6 +1,7 @@
 -- What is decoded at each word address.
-use Rattle.std.specs.Prelude.{ℕ, ◌≡◌, ◌≢◌, ◌+◌, ◌/◌, ◌%◌, ◌<◌, ◌≤◌, ◌⊎◌, List, length, slice_index_or, Option}
-use Rattle.avr_isa.specs.declared.form.Form.{Form}
+use Rattle.std.specs.Prelude.{ℕ, ◌≡◌, ◌≢◌, ◌+◌, ◌/◌, ◌%◌, ◌<◌, ◌≤◌, ◌⊎◌, List, length, slice_index_or}
+use Rattle.std.specs.Option.{unwrap_or}
+use Rattle.avr_isa.specs.declared.form.Form.TheVariants.{Nop}
 use Rattle.avr_decode.specs.Decoding.{the_form, size_by_first_word}
 use Rattle.flash_model.specs.declared.decoded.Decoded.{Decoded}
 use Rattle.flash_model.specs.Pages.{word_count, page_words, word_at}
@@ -9,14 +10,10 @@ use Rattle.flash_model.specs.Pages.{word_count, page_words, word_at}
 abbrev pub behind : ℕ → ℕ
 behind a = (a + 1) % word_count
 
--- the instruction that the words at word address a begin with, if there is one
-abbrev pub form_of : List ℕ → ℕ → Option Form
-form_of words a = the_form (word_at words a) (word_at words (behind a))
-
--- what two words are decoded to: the instruction that they begin with, and the size of one that begins
--- with the second
+-- what two words are decoded to: the instruction that they begin with, NOP also where they begin with
+-- none, and the size of one that begins with the second
 abbrev pub decoded_of : ℕ → ℕ → Decoded
-decoded_of first second = record { instr = the_form first second; next_size = size_by_first_word second }
+decoded_of first second = record { instr = unwrap_or (the_form first second) Nop; next_size = size_by_first_word second }
 
 -- what is decoded at word address a
 abbrev pub decoded_at : List ℕ → ℕ → Decoded

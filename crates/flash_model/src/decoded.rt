@@ -1,16 +1,17 @@
 //! What is decoded at a word address.
 
 ghost use Rattle.std.specs.Prelude.{◌≡◌};
+ghost use Rattle.avr_isa.specs.declared.form.Form.TheVariants.{Nop};
 ghost use Rattle.flash_model.specs.Code.{decoded_of};
 
 use avr_decode::{decode, size_by_first_word};
-use avr_isa::Instr;
+use avr_isa::{Form, Instr};
 
 /// What is decoded at a word address.
 #[derive(Clone, Copy, Debug)]
 pub struct Decoded {
-    /// The instruction that begins there; None where the words are none.
-    pub instr: Option<Instr>,
+    /// The instruction that begins there; NOP also where the words are none.
+    pub instr: Instr,
     /// How many words an instruction has that begins one word on.
     pub next_size: u16,
 }
@@ -21,8 +22,19 @@ impl Decoded {
         ensures value { result ≡ decoded_of first second }
     {
         Decoded {
-            instr: decode(first, second),
+            instr: decode(first, second).unwrap_or_else(no_operation),
             next_size: size_by_first_word(second),
         }
+    }
+}
+
+/// NOP.
+#[tactic(auto, unfolding(avr_isa::specs::Instruction::is_undefined))]
+fn no_operation() -> Instr
+    ensures value { result ≡ Nop }
+{
+    match Instr::new(Form::Nop) {
+        Some(instr) => instr,
+        None => unreachable!(),
     }
 }

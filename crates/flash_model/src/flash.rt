@@ -52,8 +52,8 @@ impl Flash {
         self.cells.word(a)
     }
 
-    /// What is decoded at a word address: the instruction that its word begins, with the word behind it;
-    /// behind the last word comes the first.
+    /// What is decoded at a word address: the instruction that its word begins, with the word behind it,
+    /// NOP also where they begin none; behind the last word comes the first.
     pub fn decoded(&self, a: u16) -> &Decoded
         ensures value { result.now ≡ decoded_at self.now.words a }
         ensures range { (1 ≤ result.now.next_size) × (result.now.next_size ≤ 2) }

@@ -1,8 +1,9 @@
 -- What a step that may be made does.
-use Rattle.std.proofs.Common.{◌≡◌, true, refl, ap}
-use Rattle.std.specs.Prelude.{Some, None, Option, IsSome}
-use Rattle.std.specs.Option.{option_map}
+use Rattle.std.proofs.Common.{◌≡◌, true, sym, ap}
+use Rattle.std.specs.Prelude.{Some, None, Option}
+use Rattle.std.specs.Option.{option_map, unwrap_or}
 use Rattle.avr_isa.specs.declared.form.Form.{Form}
+use Rattle.avr_isa.specs.declared.form.Form.TheVariants.{Nop}
 use Rattle.avr_exec.specs.declared.cpu.Cpu.{Cpu}
 use Rattle.avr_exec.specs.Asks.{ask_of}
 use Rattle.avr_exec.specs.Execution.{is_executed, exec_of}
@@ -12,10 +13,12 @@ use Rattle.mote_core.specs.Conditions.{is_mapped, can_step}
 use Rattle.mote_core.specs.Step.{form_at, next_size, space_of, stepped}
 use Rattle.mote_core.proofs.NeverStops.{both}
 
-pub step_some : (f : Option Form) (cpu : Cpu) → can_step f cpu ≡ true → IsSome f
+-- where a step may be made, what is decoded is the instruction that the words begin with, and no NOP that
+-- stands for none
+pub step_form : (f : Option Form) (form : Form) (cpu : Cpu) → can_step f cpu ≡ true → form ≡ unwrap_or f Nop → f ≡ Some form
 unfolding can_step
-step_some None cpu can = absurd (cc)
-step_some (Some form) cpu can = refl
+step_form None form cpu can is = absurd (cc)
+step_form (Some given) form cpu can is = ap Some (sym is)
 
 pub step_executed : (f : Option Form) (form : Form) (cpu : Cpu) → can_step f cpu ≡ true → f ≡ Some form → is_executed form ≡ true
 unfolding can_step

@@ -79,17 +79,14 @@ impl Mote {
         ensures whole { IsWhole self.new.flash }
     {
         let decoded = self.flash.decoded(self.cpu.pc);
-        match &decoded.instr {
-            Some(instr) => execute(
-                instr,
-                &mut self.cpu,
-                &mut self.sram,
-                &mut self.devices,
-                &self.flash,
-                decoded.next_size,
-            ),
-            None => unreachable!(),
-        }
+        execute(
+            &decoded.instr,
+            &mut self.cpu,
+            &mut self.sram,
+            &mut self.devices,
+            &self.flash,
+            decoded.next_size,
+        )
     }
 }
 

@@ -14,6 +14,7 @@ pub mod Leading
 mod RunSoFar
 mod Advancing
 mod Gathered
+mod Several
 pub mod Booting
 pub mod WholeRun
 pub mod Few

@@ -1,6 +1,6 @@
 -- Where a step led, from what its moves told.
-use Rattle.std.proofs.Common.{◌≡◌, ℕ, refl, sym, ap, ◌∙◌}
-use Rattle.std.specs.Prelude.{Option, Some, None}
+use Rattle.std.proofs.Common.{◌≡◌, ℕ, true, refl, sym, ap, ◌∙◌}
+use Rattle.std.specs.Prelude.{is_some, Option, Some, None}
 use Rattle.page_index.specs.Entries.{IsEntry, IsMapped}
 use Rattle.page_index.proofs.EntryLaws.{one_address}
 use Rattle.kernel_entry.specs.declared.kernel.Kernel.{Kernel}
@@ -32,3 +32,13 @@ settled_halted k p None owes (IsHalted.Ended free ended) = record { on = λ t en
 pub settled_as : (k : Kernel) (p : Progress) (reached : Option ℕ) → IsMapped k.layout k.mote.flash.words → HasReached (whole k p) reached → HasSettled (whole k p) (whole k (settled_at (target reached p.owed) p))
 settled_as k p (Some t) mapped at = settled_by (whole k p) t at.1 (told_entry (whole k p) t mapped at.0 at.2)
 settled_as k p None mapped halted = settled_halted k p p.owed refl halted
+
+-- settling leaves what is owed, and the end
+pub reached_free : (k : Kernel) (p : Progress) (reached : Option ℕ) → HasReached (whole k p) reached → is_some reached ≡ true → ((settled_at (target reached p.owed) p).owed ≡ None) × ((settled_at (target reached p.owed) p).end ≡ None)
+reached_free k p (Some t) at is = (at.0, at.1)
+reached_free k p None at is = absurd (cc)
+
+-- and so does the line
+pub line_settled : (to : Option ℕ) (p : Progress) → (settled_at to p).line ≡ p.line
+line_settled (Some t) p = refl
+line_settled None p = refl

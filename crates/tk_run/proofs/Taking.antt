@@ -1,20 +1,21 @@
 -- From the law of a step to what the loop needs, and back.
-use Rattle.std.proofs.Common.{◌≡◌, ℕ, ◌+◌, true, false, List, [], ◌∷◌, refl, sym, ap, ◌∙◌, arith, subst}
-use Rattle.std.specs.Prelude.{◌≢◌, ◌^◌, max, Option, Some, None}
+use Rattle.std.proofs.Common.{◌≡◌, ℕ, ◌+◌, ◌<◌, ◌≤◌, true, false, List, [], ◌∷◌, length, refl, sym, ap, ◌∙◌, arith, subst}
+use Rattle.std.specs.Prelude.{◌≢◌, max, Option, Some, None}
 use Rattle.std.specs.Option.{option_or}
+use Rattle.mote_core.proofs.NeverStops.{both as parts}
 use Rattle.mote_devices.specs.declared.line.Line.{Line}
-use Rattle.page_index.specs.Entries.{IsEntry}
-use Rattle.step_laws.specs.Links.{Links}
+use Rattle.page_index.specs.Entries.{IsEntry, IsMapped}
 use Rattle.flash_model.specs.Memory.{Memory}
+use Rattle.flash_model.specs.Layouts.{IsRight}
 use Rattle.flash_model.specs.declared.layout.Layout.{Layout}
-use Rattle.tk_run.specs.Machines.{Machine}
-use Rattle.step_laws.specs.Moves.{Move, Plain, lines_of, line_before}
+use Rattle.tk_run.specs.Machines.{Machine, state_of, numbers_of}
+use Rattle.step_laws.specs.Moves.{Move, Plain, Serve, Arrive, lines_of, line_before, is_inner, are_inner}
 use Rattle.step_laws.specs.Numbers.{Numbers, moved, numbered, one_if}
 use Rattle.step_laws.specs.States.{State, mote_of}
-use Rattle.tk_run.specs.Machines.{state_of, numbers_of}
-use Rattle.tk_run.specs.Loop.{IsOver, IsPass, CanPass, HasPlain, HasPassed, CanPlain, is_small}
-use Rattle.step_laws.specs.StepLaws.{Reaches, Outcome, StepLaw, Keeps, links_at}
-use Rattle.tk_run.specs.Loop.{Took}
+use Rattle.step_laws.specs.Walks.{Walk}
+use Rattle.step_laws.specs.StepLaws.{Reaches, Outcome, Keeps, links_at}
+use Rattle.tk_run.specs.Loop.{IsOver, CanMove, HasMoved, LawOf, moves_of, moves_made, Rest, IsMidway, Took, line_of_move}
+use Rattle.tk_run.proofs.Told.{inner_of_step, none_left, moved_made}
 
 some_none : {A : Type 0} (o : Option A) (a : A) → o ≡ Some a → o ≢ None
 some_none o a is = λ none. let e : Some a ≡ None = sym is ∙ none in cc
@@ -30,66 +31,114 @@ over_by : (x z : State) (a : ℕ) (line : Option Line) (rest : List Move) → Ke
 over_by x z a line rest keeps (Outcome.Went to goes) = over_reached x z to keeps goes.reaches
 over_by x z a line rest keeps (Outcome.Stopped stop stops) = IsOver.Ended (some_none z.end _ stops.ended)
 
--- of a line and those behind it one at most is written
-tail_single : (first line : Option Line) (rest : List Line) → line_before first rest ≡ line_before line [] → (one : Option Line) × (rest ≡ line_before one [])
-tail_single None line rest is = (line, is)
-tail_single (Some f) None rest is = absurd (cc)
-tail_single (Some f) (Some l) rest is = (None, cc)
+over_law : (old : Machine) (law : LawOf old) → IsOver law.end
+over_law old law = over_by (state_of old) law.end old.at law.line law.rest law.keeps law.outcome
 
-rest_single : (first line : Option Line) (rest : List Move) → lines_of (Plain true first ∷ rest) ≡ line_before line [] → (one : Option Line) × (lines_of rest ≡ line_before one [])
-unfolding lines_of
-rest_single first line rest is = tail_single first line (lines_of rest) is
-
+-- a line and a later one are not both written
 same_line : (a b : Option Line) → line_before a [] ≡ line_before b [] → a ≡ b
 same_line None None is = refl
 same_line (Some l) None is = absurd (cc)
 same_line None (Some k) is = absurd (cc)
 same_line (Some l) (Some k) is = cc
 
-first_or : (first later line : Option Line) → line_before first (line_before later []) ≡ line_before line [] → option_or first later ≡ line
-first_or None later line is = same_line later line is
-first_or (Some f) None line is = same_line (Some f) line is
-first_or (Some f) (Some l) None is = absurd (cc)
-first_or (Some f) (Some l) (Some o) is = absurd (cc)
+line_kept : (before line one : Option Line) (rest : List Line) → line_before before (line_before line rest) ≡ line_before one [] → line_before (option_or line before) rest ≡ line_before one []
+line_kept None None one rest is = is
+line_kept None (Some l) one rest is = is
+line_kept (Some b) None one rest is = is
+line_kept (Some b) (Some l) None rest is = absurd (cc)
+line_kept (Some b) (Some l) (Some o) rest is = absurd (cc)
 
-written_by : (first later line : Option Line) (rest : List Move) → lines_of (Plain true first ∷ rest) ≡ line_before line [] → line_before later [] ≡ lines_of rest → option_or first later ≡ line
+lines_moved : (m : Move) (ms : List Move) → lines_of (m ∷ ms) ≡ line_before (line_of_move m) (lines_of ms)
 unfolding lines_of
-written_by first later line rest is same = first_or first later line (ap (line_before first) same ∙ is)
+lines_moved (Plain b line) ms = refl
+lines_moved (Serve line stops) ms = refl
+lines_moved (Arrive made) ms = refl
 
-pub pass_by : (x : State) (a : ℕ) → (law : StepLaw (links_at x) x a) → IsPass law.walk.0 law.rest law.end
-pass_by x a law = record { walk = law.walk.2; inner = law.inner; over = over_by x law.end a law.line law.rest law.keeps law.outcome; short = law.short; one = (rest_single law.first law.line law.rest law.lines).0; single = (rest_single law.first law.line law.rest law.lines).1 }
+-- behind a move: what is left, from what was left before it
+lines_on : (before after one : Option Line) (m : Move) (ms : List Move) → after ≡ option_or (line_of_move m) before → line_before before (lines_of (m ∷ ms)) ≡ line_before one [] → line_before after (lines_of ms) ≡ line_before one []
+lines_on before after one m ms written lines =
+    ap (λ l. line_before l (lines_of ms)) written ∙ line_kept before (line_of_move m) one (lines_of ms) (sym (ap (line_before before) (lines_moved m ms)) ∙ lines)
 
--- the first move, by a machine that counted the step before
-pub first_can : (x : State) (a : ℕ) (leads : Links) → StepLaw leads x a → CanPlain x
-first_can x a leads law = record { begins = true; line = law.first; next = law.walk.0; makes = law.walk.1 }
-
+-- behind the first move, by a machine that counted the step before
 counted : (n : Numbers) (line : Option Line) → ◌≡◌ {A = Numbers} (moved (Plain false line) (record n { steps = n.steps + 1 })) (moved (Plain true line) n)
 unfolding moved
 counted n line = let same : n.steps + 1 + one_if false ≡ n.steps + one_if true = omega arith in ap (λ s. record n { steps = s; natural = n.natural + 1; since = n.since + 1; longest = max n.longest (n.since + 1) }) same
 
-pub can_pass : (old middle : Machine) (line : Option Line) (a : ℕ) → (law : StepLaw (links_at (state_of old)) (state_of old) a) → HasPlain (record old { steps = old.steps + 1 }) middle line → CanPass (state_of middle)
-can_pass old middle line a law told =
-    let t = told true law.first law.walk.0 law.walk.1 in
-    record { moves = law.rest; next = law.end; pass = subst (λ s. IsPass s law.rest law.end) (sym t.0) (pass_by (state_of old) a law) }
+first_can : (old : Machine) (law : LawOf old) → CanMove (state_of old)
+first_can old law = record { move = Plain true law.first; next = law.walk.0; makes = law.walk.1; of_step = refl }
 
-pub taken_by : (old middle new : Machine) (line later : Option Line) → HasPlain (record old { steps = old.steps + 1 }) middle line → HasPassed middle new later
-    → (law : StepLaw (links_at (state_of old)) (state_of old) old.at) → Took old new (option_or line later) law
-taken_by old middle new line later told passed law =
-    let t = told true law.first law.walk.0 law.walk.1 in
-    let p = passed law.rest law.end (subst (λ s. IsPass s law.rest law.end) (sym t.0) (pass_by (state_of old) old.at law)) in
+rest_first : (old new : Machine) (after : Option Line) (law : LawOf old) → HasMoved (record old { steps = old.steps + 1 }) new None after → Rest old new after law
+rest_first old new after law told =
+    let t = told (Plain true law.first) law.walk.0 law.walk.1 refl in
     record {
-      taken = record { state = p.state; numbers = p.numbers ∙ ap (numbered law.rest) (t.1 ∙ counted (numbers_of old) law.first) };
-      written = ap (λ l. option_or l later) t.2 ∙ written_by law.first later law.line law.rest law.lines p.lines;
-      at = p.at ∙ t.3;
-      broken = p.broken ∙ t.4;
-      crossings = p.crossings ∙ t.5;
+      rest = law.rest;
+      walk = subst (λ s. Walk s law.rest law.end) (sym t.state) law.walk.2;
+      inner = law.inner;
+      short = omega (arith, law.short, moved_made (record old { steps = old.steps + 1 }) new None after (first_can old law) told);
+      numbers = ap (numbered law.rest) (t.numbers ∙ counted (numbers_of old) law.first);
+      at = t.at;
+      broken = t.broken;
+      crossings = t.crossings;
+      lines = lines_on None after law.line (Plain true law.first) law.rest t.written law.lines;
     }
 
-pub small_first : (old middle : Machine) (line : Option Line) (a : ℕ) (leads : Links) → StepLaw leads (state_of old) a → HasPlain (record old { steps = old.steps + 1 }) middle line → is_small (numbers_of old) (2 ^ 60) → is_small (numbers_of middle) (2 ^ 61)
-unfolding moved
-small_first old middle line a leads law told small =
-    let t = told true law.first law.walk.0 law.walk.1 in
-    let n = small.natural in
-    let e = small.entries in
-    let s = small.since in
-    subst (λ k. is_small k (2 ^ 61)) (sym t.1) (record { natural = omega arith; entries = omega arith; since = omega arith })
+rest_by : (old now new : Machine) (before after : Option Line) (law : LawOf old) (ms : List Move) → Walk (state_of now) ms law.end → are_inner ms ≡ true → length ms + moves_made now ≤ moves_made old + 65
+    → numbered ms (numbers_of now) ≡ numbered (moves_of old law) (numbers_of old) → now.at ≡ old.at → now.broken ≡ old.broken → now.crossings ≡ old.crossings
+    → line_before before (lines_of ms) ≡ line_before law.line [] → ¬ IsOver (state_of now) → HasMoved now new before after → Rest old new after law
+rest_by old now new before after law [] walk inner short numbers at broken crossings lines on told = absurd (on (subst IsOver (sym walk) (over_law old law)))
+rest_by old now new before after law (m ∷ ms) walk inner short numbers at broken crossings lines on told =
+    let both = parts (is_inner m) (are_inner ms) inner in
+    let of_step = inner_of_step m both.0 in
+    let t = told m walk.0 walk.1 of_step.0 in
+    let made = moved_made now new before after (record { move = m; next = walk.0; makes = walk.1; of_step = of_step.0 }) told in
+    record {
+      rest = ms;
+      walk = subst (λ s. Walk s ms law.end) (sym t.state) walk.2;
+      inner = both.1;
+      short = omega (arith, short, made);
+      numbers = ap (numbered ms) (t.numbers ∙ ap (λ k. moved k (numbers_of now)) of_step.1) ∙ numbers;
+      at = t.at ∙ at;
+      broken = t.broken ∙ broken;
+      crossings = t.crossings ∙ crossings;
+      lines = lines_on before after law.line m ms t.written lines;
+    }
+
+-- behind any move of the step
+pub midway_on : (old now new : Machine) (before after : Option Line) → IsMidway old now before → HasMoved now new before after → (law : LawOf old) → Rest old new after law
+midway_on old now new before after (IsMidway.Begun same silent) told law =
+    rest_first old new after law (subst (λ m. HasMoved m new None after) same (subst (λ l. HasMoved now new l after) silent told))
+midway_on old now new before after (IsMidway.Going on left) told law =
+    let r = left law in
+    rest_by old now new before after law r.rest r.walk r.inner r.short r.numbers r.at r.broken r.crossings r.lines on told
+
+-- some move of the step may be made
+next_by : (x z : State) (ms : List Move) → Walk x ms z → are_inner ms ≡ true → IsOver z → ¬ IsOver x → CanMove x
+next_by x z [] walk inner over on = absurd (on (subst IsOver (sym walk) over))
+next_by x z (m ∷ ms) walk inner over on = record { move = m; next = walk.0; makes = walk.1; of_step = (inner_of_step m (parts (is_inner m) (are_inner ms) inner).0).0 }
+
+pub midway_can : (old now : Machine) (line : Option Line) → LawOf old → IsMidway old now line → CanMove (state_of now)
+midway_can old now line law (IsMidway.Begun same silent) = subst (λ (m : Machine). CanMove (state_of m)) (sym same) (first_can old law)
+midway_can old now line law (IsMidway.Going on left) =
+    let r = left law in
+    next_by (state_of now) law.end r.rest r.walk r.inner (over_law old law) on
+
+-- a step that isn't over has made fewer moves than it may
+few_by : (old now : Machine) (law : LawOf old) (ms : List Move) → Walk (state_of now) ms law.end → length ms + moves_made now ≤ moves_made old + 65 → ¬ IsOver (state_of now) → moves_made now < moves_made old + 65
+few_by old now law [] walk short on = absurd (on (subst IsOver (sym walk) (over_law old law)))
+few_by old now law (m ∷ ms) walk short on = omega arith
+
+pub midway_few : (old now : Machine) (line : Option Line) → LawOf old → IsMidway old now line → moves_made now < moves_made old + 65
+midway_few old now line law (IsMidway.Begun same silent) = omega (arith, ap moves_made same)
+midway_few old now line law (IsMidway.Going on left) = let r = left law in few_by old now law r.rest r.walk r.short on
+
+-- where it is over, all moves were made
+took_by : (old new : Machine) (line : Option Line) (law : LawOf old) (ms : List Move) → ms ≡ [] → Walk (state_of new) ms law.end → numbered ms (numbers_of new) ≡ numbered (moves_of old law) (numbers_of old)
+    → new.at ≡ old.at → new.broken ≡ old.broken → new.crossings ≡ old.crossings → line_before line (lines_of ms) ≡ line_before law.line [] → Took old new line law
+unfolding lines_of
+took_by old new line law [] none walk numbers at broken crossings lines =
+    record { taken = record { state = walk; numbers = numbers }; written = same_line line law.line lines; at = at; broken = broken; crossings = crossings }
+took_by old new line law (m ∷ ms) none walk numbers at broken crossings lines = absurd (cc)
+
+pub took_over : (old new : Machine) (line : Option Line) → IsRight new.kernel.layout → IsMapped new.kernel.layout new.kernel.mote.flash.words → IsOver (state_of new) → (law : LawOf old) → Rest old new line law → Took old new line law
+took_over old new line right mapped over law r =
+    took_by old new line law r.rest (none_left (state_of new) law.end r.rest right mapped r.walk r.inner over) r.walk r.numbers r.at r.broken r.crossings r.lines

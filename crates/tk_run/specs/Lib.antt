@@ -4,6 +4,7 @@ pub mod Wholes
 pub mod Ready
 pub mod Loop
 pub mod Stepping
+pub mod Several
 pub mod Running
 pub mod Booted
 pub mod WholeRuns

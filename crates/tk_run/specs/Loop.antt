@@ -1,7 +1,9 @@
 -- Serves private functions: what the calls of the loop ask of the machine, and what they leave. A call
--- asks that some move, or walk, may be made; and whichever may, it leaves what that one leads to. So it
--- is told nothing of the law of a step, and follows it all the same.
+-- asks that some move may be made; and whichever may, it leaves what that one leads to. So it is told
+-- nothing of the law of a step, and follows it all the same. The device line of a step stands where all its
+-- moves put it: a call tells which stood there before, and which stands there after.
 use Rattle.std.specs.Prelude.{◌≡◌, ◌≢◌, ℕ, ◌+◌, ◌<◌, ◌≤◌, Bool, true, false, List, [], ◌∷◌, length, Option, Some, None}
+use Rattle.std.specs.Option.{option_or}
 use Rattle.mote_devices.specs.declared.line.Line.{Line}
 use Rattle.page_index.specs.Entries.{IsEntry}
 use Rattle.step_laws.specs.declared.moves.Owed.{Owed}
@@ -13,7 +15,7 @@ use Rattle.step_laws.specs.Numbers.{Numbers, moved, numbered}
 use Rattle.step_laws.specs.States.{State, mote_of}
 use Rattle.step_laws.specs.Walks.{Makes, MakesPlain, MakesServe, MakesArrive, Walk}
 use Rattle.nat_page.specs.Entered.{IsPlace}
-use Rattle.step_laws.specs.Moves.{is_inner, are_inner}
+use Rattle.step_laws.specs.Moves.{are_inner}
 
 -- numbers that can be counted on
 pub record is_small (n : Numbers) (top : ℕ) : Type 0 where
@@ -28,9 +30,10 @@ pub record CanPlain (x : State) : Type 0 where
   pub next : State
   pub makes : MakesPlain x begins line next
 
-abbrev pub HasPlain : Machine → Machine → Option Line → Type 0
-HasPlain old new result = (begins : Bool) → (line : Option Line) → (y : State) → MakesPlain (state_of old) begins line y
-    → (state_of new ≡ y) × (numbers_of new ≡ moved (Plain false line) (numbers_of old)) × (result ≡ line) × (new.at ≡ old.at) ×
+-- the step of the program that it may begin isn't counted by it
+abbrev pub HasPlain : Machine → Machine → (before after : Option Line) → Type 0
+HasPlain old new before after = (begins : Bool) → (line : Option Line) → (y : State) → MakesPlain (state_of old) begins line y
+    → (state_of new ≡ y) × (numbers_of new ≡ moved (Plain false line) (numbers_of old)) × (after ≡ option_or line before) × (new.at ≡ old.at) ×
     (new.broken ≡ old.broken) × (new.crossings ≡ old.crossings)
 
 -- the same of a service
@@ -40,9 +43,9 @@ pub record CanServeNow (x : State) : Type 0 where
   pub next : State
   pub makes : MakesServe x line stops next
 
-abbrev pub HasServed : Machine → Machine → Option Line → Type 0
-HasServed old new result = (line : Option Line) → (stops : Bool) → (y : State) → MakesServe (state_of old) line stops y
-    → (state_of new ≡ y) × (numbers_of new ≡ moved (Serve line stops) (numbers_of old)) × (result ≡ line) × (new.at ≡ old.at) ×
+abbrev pub HasServed : Machine → Machine → (before after : Option Line) → Type 0
+HasServed old new before after = (line : Option Line) → (stops : Bool) → (y : State) → MakesServe (state_of old) line stops y
+    → (state_of new ≡ y) × (numbers_of new ≡ moved (Serve line stops) (numbers_of old)) × (after ≡ option_or line before) × (new.at ≡ old.at) ×
     (new.broken ≡ old.broken) × (new.crossings ≡ old.crossings)
 
 -- a step of the program is over
@@ -66,70 +69,40 @@ abbrev pub HasReached : Machine → Option ℕ → Type 0
 HasReached m (Some t) = (m.owed ≡ None) × (m.end ≡ None) × IsEntry m.kernel.layout m.kernel.mote.flash.words t m.kernel.mote.cpu.pc
 HasReached m None = IsHalted m
 
--- some move inside a step may be made, and whichever may, it was made
+-- a move of a step: no arrival
+abbrev pub is_of_step : Move → Bool
+is_of_step (Plain begins line) = true
+is_of_step (Serve line stops) = true
+is_of_step (Arrive made) = false
+
+-- some move of a step may be made, and whichever may, it was made
 pub record CanMove (x : State) : Type 0 where
   pub move : Move
   pub next : State
   pub makes : Makes x move next
-  pub inner : is_inner move ≡ true
+  pub of_step : is_of_step move ≡ true
 
 abbrev pub line_of_move : Move → Option Line
 line_of_move (Plain begins line) = line
 line_of_move (Serve line stops) = line
 line_of_move (Arrive made) = None
 
-pub record Moved (old new : Machine) (line : Option Line) (move : Move) (next : State) : Type 0 where
+-- the move, where the step that it may begin was counted before
+abbrev pub uncounted : Move → Move
+uncounted (Plain begins line) = Plain false line
+uncounted (Serve line stops) = Serve line stops
+uncounted (Arrive made) = Arrive made
+
+pub record Moved (old new : Machine) (before after : Option Line) (move : Move) (next : State) : Type 0 where
   pub state : state_of new ≡ next
-  pub numbers : numbers_of new ≡ moved move (numbers_of old)
-  pub written : line ≡ line_of_move move
+  pub numbers : numbers_of new ≡ moved (uncounted move) (numbers_of old)
+  pub written : after ≡ option_or (line_of_move move) before
   pub at : new.at ≡ old.at
   pub broken : new.broken ≡ old.broken
   pub crossings : new.crossings ≡ old.crossings
 
-abbrev pub HasMoved : Machine → Machine → Option Line → Type 0
-HasMoved old new line = (move : Move) → (next : State) → Makes (state_of old) move next → is_inner move ≡ true → Moved old new line move next
-
--- moves inside a step, that end it, and of which one at most writes a line
-pub record IsPass (x : State) (moves : List Move) (next : State) : Type 0 where
-  pub walk : Walk x moves next
-  pub inner : are_inner moves ≡ true
-  pub over : IsOver next
-  pub short : length moves ≤ 64
-  pub one : Option Line
-  pub single : lines_of moves ≡ line_before one []
-
--- some such moves may be made, and whichever may, they were made
-pub record CanPass (x : State) : Type 0 where
-  pub moves : List Move
-  pub next : State
-  pub pass : IsPass x moves next
-
--- they were made, and told their line
-pub record Passed (old new : Machine) (line : Option Line) (moves : List Move) (next : State) : Type 0 where
-  pub state : state_of new ≡ next
-  pub numbers : numbers_of new ≡ numbered moves (numbers_of old)
-  pub at : new.at ≡ old.at
-  pub broken : new.broken ≡ old.broken
-  pub crossings : new.crossings ≡ old.crossings
-  pub lines : line_before line [] ≡ lines_of moves
-
-abbrev pub HasPassed : Machine → Machine → Option Line → Type 0
-HasPassed old new line = (moves : List Move) → (next : State) → IsPass (state_of old) moves next → Passed old new line moves next
-
--- what is left of the moves of a step, after i of them
-pub record Rest (old now : Machine) (i : ℕ) (line : Option Line) (moves : List Move) (next : State) : Type 0 where
-  pub rest : List Move
-  pub walk : Walk (state_of now) rest next
-  pub inner : are_inner rest ≡ true
-  pub over : IsOver next
-  pub short : length rest + i ≤ 64
-  pub numbers : numbered rest (numbers_of now) ≡ numbered moves (numbers_of old)
-  pub at : now.at ≡ old.at
-  pub broken : now.broken ≡ old.broken
-  pub crossings : now.crossings ≡ old.crossings
-  pub one : Option Line
-  pub single : lines_of moves ≡ line_before one []
-  pub lines : line_before line (lines_of rest) ≡ lines_of moves
+abbrev pub HasMoved : Machine → Machine → (before after : Option Line) → Type 0
+HasMoved old new before after = (move : Move) → (next : State) → Makes (state_of old) move next → is_of_step move ≡ true → Moved old new before after move next
 
 -- an arrival was made, or refused
 pub record HasArrived (old new : Machine) : Type 0 where
@@ -140,12 +113,41 @@ pub record HasArrived (old new : Machine) : Type 0 where
   pub broken : new.broken ≡ old.broken
   pub crossings : new.crossings ≡ old.crossings
 
--- the walk of the law of a step was made
-pub record Taken (old new : Machine) (law : StepLaw (links_at (state_of old)) (state_of old) old.at) : Type 0 where
-  pub state : state_of new ≡ law.end
-  pub numbers : numbers_of new ≡ numbered (Plain true law.first ∷ law.rest) (numbers_of old)
+-- the law of the step that begins here, and its moves
+abbrev pub LawOf : Machine → Type 0
+LawOf m = StepLaw (links_at (state_of m)) (state_of m) m.at
 
-pub record Took (old new : Machine) (line : Option Line) (law : StepLaw (links_at (state_of old)) (state_of old) old.at) : Type 0 where
+abbrev pub moves_of : (m : Machine) → LawOf m → List Move
+moves_of m law = Plain true law.first ∷ law.rest
+
+-- how many moves of steps a machine has made
+abbrev pub moves_made : Machine → ℕ
+moves_made m = m.natural + m.entries
+
+-- what is left of the moves of a step
+pub record Rest (old now : Machine) (line : Option Line) (law : LawOf old) : Type 0 where
+  pub rest : List Move
+  pub walk : Walk (state_of now) rest law.end
+  pub inner : are_inner rest ≡ true
+  pub short : length rest + moves_made now ≤ moves_made old + 65
+  pub numbers : numbered rest (numbers_of now) ≡ numbered (moves_of old law) (numbers_of old)
+  pub at : now.at ≡ old.at
+  pub broken : now.broken ≡ old.broken
+  pub crossings : now.crossings ≡ old.crossings
+  pub lines : line_before line (lines_of rest) ≡ line_before law.line []
+
+-- A step was counted, and has not moved yet; or some of its moves were made, whichever the law gives, and it
+-- isn't over.
+pub data IsMidway (old now : Machine) (line : Option Line) : Type 0 where
+  Begun : now ≡ record old { steps = old.steps + 1 } → line ≡ None → IsMidway old now line
+  Going : ¬ IsOver (state_of now) → ((law : LawOf old) → Rest old now line law) → IsMidway old now line
+
+-- the walk of the law of a step was made
+pub record Taken (old new : Machine) (law : LawOf old) : Type 0 where
+  pub state : state_of new ≡ law.end
+  pub numbers : numbers_of new ≡ numbered (moves_of old law) (numbers_of old)
+
+pub record Took (old new : Machine) (line : Option Line) (law : LawOf old) : Type 0 where
   pub taken : Taken old new law
   pub written : line ≡ law.line
   pub at : new.at ≡ old.at
@@ -153,7 +155,7 @@ pub record Took (old new : Machine) (line : Option Line) (law : StepLaw (links_a
   pub crossings : new.crossings ≡ old.crossings
 
 abbrev pub HasTaken : Machine → Machine → Option Line → Type 0
-HasTaken old new line = (law : StepLaw (links_at (state_of old)) (state_of old) old.at) → Took old new line law
+HasTaken old new line = (law : LawOf old) → Took old new line law
 
 -- the address at which the next step begins, unless the program has ended
 abbrev pub target : Option ℕ → Option Owed → Option ℕ

@@ -1,9 +1,10 @@
 -- Serves private functions: the machine that runs, in parts: its kernel, and all else.
-use Rattle.std.specs.Prelude.{max}
+use Rattle.std.specs.Prelude.{◌+◌, max}
 use Rattle.kernel_entry.specs.declared.kernel.Kernel.{Kernel}
 use Rattle.tk_run.specs.declared.progress.Progress.{Progress}
 use Rattle.tk_run.specs.Machines.{Machine}
 
--- `longest` is raised at services alone, so it may be behind `since`
+-- Plain steps are counted up to the last service, and behind it. `longest` is raised at services alone, so it
+-- may be behind `since`. The line isn't part of the machine.
 abbrev pub whole : Kernel → Progress → Machine
-whole k p = record { kernel = k; at = p.at; owed = p.owed; end = p.end; broken = p.broken; steps = p.steps; crossings = p.crossings; natural = p.natural; entries = p.entries; pages = p.pages; since = p.since; longest = max p.longest p.since }
+whole k p = record { kernel = k; at = p.at; owed = p.owed; end = p.end; broken = p.broken; steps = p.steps; crossings = p.crossings; natural = p.before + p.since; entries = p.entries; pages = p.pages; since = p.since; longest = max p.longest p.since }

@@ -1,6 +1,6 @@
 //! Device lines, gathered so that many go out by one write.
 
-ghost use Rattle.std.specs.Prelude.{◌≡◌, ◌≢◌, ◌++◌, ◌≤◌, None, [], length, OnOk, OnErr};
+ghost use Rattle.std.specs.Prelude.{◌≡◌, ◌≢◌, ◌-◌, ◌%◌, ◌++◌, ◌≤◌, None, [], length, OnOk, OnErr};
 ghost use Rattle.tk_io.specs.Faults.{HasCause};
 ghost use Rattle.tk_io.specs.Streams.{Puts};
 ghost use Rattle.step_laws.specs.Moves.{line_before};
@@ -47,6 +47,14 @@ fn add<K: Sink>(text: &Text, gathered: &mut Gathered, out: &mut K) -> Result<(),
     }
     gathered.try_extend_from_slice(text).unwrap();
     Ok(())
+}
+
+/// How many steps there are behind so many, up to the next at whose number what was gathered goes out.
+pub(crate) fn up_to_turn(done: u64) -> u64
+    ensures value { result ≡ 65_536 - done % 65_536 }
+    ensures some { 1 ≤ result }
+{
+    TURN - done % TURN
 }
 
 /// What was gathered goes out where it is this step's turn.

@@ -122,11 +122,12 @@ impl Machine {
             broken: self.broken,
             steps: self.steps,
             crossings: self.crossings,
-            natural: self.natural,
+            before: self.natural - self.since,
             entries: self.entries,
             pages: self.pages,
             since: self.since,
             longest: self.longest,
+            line: None,
         };
         let result = run_on(&mut self.kernel, &mut p, n, out);
         self.at = p.at;
@@ -135,7 +136,7 @@ impl Machine {
         self.broken = p.broken;
         self.steps = p.steps;
         self.crossings = p.crossings;
-        self.natural = p.natural;
+        self.natural = p.before + p.since;
         self.entries = p.entries;
         self.pages = p.pages;
         self.since = p.since;

@@ -9,9 +9,9 @@ ghost use Rattle.tk_run.specs.Wholes.{whole};
 
 use crate::End;
 use crate::arrival::{at_bound, enter};
-use crate::lines::{Gathered, gather, send, send_in_turn};
+use crate::lines::{Gathered, gather, send, send_in_turn, up_to_turn};
 use crate::progress::Progress;
-use crate::step::step;
+use crate::step::steps;
 use kernel_entry::Kernel;
 use page_index::Cursor;
 use tk_io::{Failed, Sink};
@@ -73,13 +73,14 @@ fn all_steps<K: Sink>(
     ensures cause { HasCause (K.faults out.old) (K.faults out.new) result }
 {
     let mut cursor = Cursor::new();
-    'steps: for i in 0..n {
-        send_in_turn(i, gathered, out)?;
+    let mut done = 0;
+    'steps: while done < n {
+        send_in_turn(done, gathered, out)?;
         if let Some(end) = enter(k, p, &mut cursor) {
             return Ok(end);
         }
-        let line = step(k, p, &mut cursor);
-        gather(line, gathered, out)?;
+        done += steps(k, p, &mut cursor, up_to_turn(done).min(n - done));
+        gather(p.line, gathered, out)?;
         if let Some(end) = p.end {
             return Ok(end);
         }

@@ -1,107 +1,89 @@
-//! One step of the program: from one entry of its code to the next, or to the kernel.
+//! Steps of the program: each from one entry of its code to the next, or to the kernel.
 
-ghost use Rattle.std.specs.Prelude.{◌≡◌, ℕ, ◌<◌, ◌^◌, None, false, IfSome, IfNone};
+ghost use Rattle.std.specs.Prelude.{◌≡◌, ℕ, ◌+◌, ◌<◌, ◌≤◌, ◌^◌, true, None, IfSome, IfNone};
 ghost use Rattle.flash_model.specs.Layouts.{IsRight};
 ghost use Rattle.page_index.specs.Entries.{IsEntry, IsMapped};
 ghost use Rattle.page_index.specs.Cursors.{IsCursor};
 ghost use Rattle.tk_run.specs.Machines.{state_of, numbers_of};
 ghost use Rattle.step_laws.specs.Links.{links_of};
 ghost use Rattle.step_laws.specs.StepLaws.{StepLaw, crossings_over};
-ghost use Rattle.tk_run.specs.Loop.{CanPass, HasPassed, HasReached, HasTaken, Halts, is_small, target, settled_at};
+ghost use Rattle.tk_run.specs.Loop.{HasReached, HasTaken, is_small, target, settled_at};
 ghost use Rattle.tk_run.specs.Ready.{IsGoing};
 ghost use Rattle.tk_run.specs.Stepping.{HasStepped};
+ghost use Rattle.tk_run.specs.Several.{HasDone};
 ghost use Rattle.tk_run.specs.Wholes.{whole};
 
-use crate::moves::{one_move, plain};
+use crate::moves::one_move;
 use crate::progress::Progress;
 use kernel_entry::Kernel;
-use mote_devices::Line;
 use page_index::Cursor;
 use preempt_count::is_crossing;
 
-/// No step takes more moves behind its first, and one for the look behind the last.
-const MOST_MOVES: u64 = 65;
-
-/// What the moves of a step told.
-#[derive(Clone, Copy)]
-struct Passage {
-    /// The device line that they wrote.
-    line: Option<Line>,
-    /// The original address whose code control has reached; None where an arrival is owed or the
-    /// program has stopped.
-    reached: Option<u16>,
+/// Whole steps of the program, one behind the other: at most so many, and none behind one that writes a device
+/// line, or leads to the kernel, for an arrival or for good. Tells how many there were.
+#[inline(never)]
+pub(crate) fn steps(k: &mut Kernel, p: &mut Progress, cursor: &mut Cursor, most: u64) -> u64
+    requires ready { IsGoing (whole k.old p.old) }
+    requires placed { p.old.owed ≡ None }
+    requires some { 1 ≤ most }
+    requires few { p.old.steps + most ≤ 10 ^ 12 }
+    requires cursor { IsCursor k.old.layout k.old.mote.flash.words cursor.old }
+    ensures done { HasDone (whole k.old p.old) (whole k.new p.new) result p.new.line }
+    ensures most { result ≤ most }
+    ensures cursor { IsCursor k.new.layout k.new.mote.flash.words cursor.new }
+{
+    p.line = None;
+    'steps: for i in 0..most {
+        let goes_on = step(k, p, cursor);
+        if !goes_on || p.line.is_some() {
+            return i + 1;
+        }
+    }
+    most
 }
 
-/// One whole step of the program.
-pub(crate) fn step(k: &mut Kernel, p: &mut Progress, cursor: &mut Cursor) -> Option<Line>
+/// One whole step of the program. Tells whether it has led to an entry, so that the next may follow.
+#[inline(always)]
+fn step(k: &mut Kernel, p: &mut Progress, cursor: &mut Cursor) -> bool
     requires ready { IsGoing (whole k.old p.old) }
     requires placed { p.old.owed ≡ None }
     requires steps { p.old.steps < 2 ^ 50 }
+    requires silent { p.old.line ≡ None }
     requires cursor { IsCursor k.old.layout k.old.mote.flash.words cursor.old }
-    ensures stepped { HasStepped (whole k.old p.old) (whole k.new p.new) result }
+    ensures stepped { HasStepped (whole k.old p.old) (whole k.new p.new) p.new.line }
+    ensures reached { result ≡ true → (p.new.owed ≡ None) × (p.new.end ≡ None) }
     ensures cursor { IsCursor k.new.layout k.new.mote.flash.words cursor.new }
 {
-    let passage = all_moves(k, p, cursor);
-    settle(p, passage.reached);
-    passage.line
+    let reached = all_moves(k, p, cursor);
+    settle(p, reached);
+    reached.is_some()
 }
 
-/// The moves of one step, from the entry where control stands.
-#[inline(never)]
-fn all_moves(k: &mut Kernel, p: &mut Progress, cursor: &mut Cursor) -> Passage
+/// The moves of one step, from the entry where control stands. Tells the original address whose code control
+/// has reached; None where an arrival is owed or the program has stopped.
+#[inline(always)]
+fn all_moves(k: &mut Kernel, p: &mut Progress, cursor: &mut Cursor) -> Option<u16>
     requires right { IsRight k.old.layout }
     requires mapped { IsMapped k.old.layout k.old.mote.flash.words }
     requires law { StepLaw (links_of k.old.layout k.old.mote.flash.words) (state_of (whole k.old p.old)) p.old.at }
     requires small { is_small (numbers_of (whole k.old p.old)) (2 ^ 60) }
     requires steps { p.old.steps < 2 ^ 60 }
+    requires silent { p.old.line ≡ None }
     requires cursor { IsCursor k.old.layout k.old.mote.flash.words cursor.old }
-    ensures taken { HasTaken (whole k.old p.old) (whole k.new p.new) result.line }
-    ensures reached { HasReached (whole k.new p.new) result.reached }
+    ensures taken { HasTaken (whole k.old p.old) (whole k.new p.new) p.new.line }
+    ensures reached { HasReached (whole k.new p.new) result }
     ensures flash { k.new.mote.flash ≡ k.old.mote.flash }
     ensures layout { k.new.layout ≡ k.old.layout }
     ensures cursor { IsCursor k.new.layout k.new.mote.flash.words cursor.new }
 {
     p.steps += 1;
-    let first = plain(k, p);
-    let later = pass(k, p, cursor);
-    Passage {
-        line: first.or(later.line),
-        reached: later.reached,
-    }
-}
-
-/// The moves behind the first, up to the next entry, an arrival that is owed, or a stop.
-#[inline(always)]
-fn pass(k: &mut Kernel, p: &mut Progress, cursor: &mut Cursor) -> Passage
-    requires right { IsRight k.old.layout }
-    requires mapped { IsMapped k.old.layout k.old.mote.flash.words }
-    requires can { CanPass (state_of (whole k.old p.old)) }
-    requires small { is_small (numbers_of (whole k.old p.old)) (2 ^ 61) }
-    requires free { Halts (whole k.old p.old) false }
-    requires cursor { IsCursor k.old.layout k.old.mote.flash.words cursor.old }
-    ensures passed { HasPassed (whole k.old p.old) (whole k.new p.new) result.line }
-    ensures reached { HasReached (whole k.new p.new) result.reached }
-    ensures flash { k.new.mote.flash ≡ k.old.mote.flash }
-    ensures layout { k.new.layout ≡ k.old.layout }
-    ensures cursor { IsCursor k.new.layout k.new.mote.flash.words cursor.new }
-{
-    let mut line = None;
-    'moves: for i in 0..MOST_MOVES {
+    'moves: loop {
+        if one_move(k, p) {
+            return None;
+        }
         if let Some(t) = look(k, cursor) {
-            return Passage {
-                line,
-                reached: Some(t),
-            };
+            return Some(t);
         }
-        let moved = one_move(k, p);
-        line = moved.line.or(line);
-        if moved.over {
-            break;
-        }
-    }
-    Passage {
-        line,
-        reached: None,
     }
 }
 

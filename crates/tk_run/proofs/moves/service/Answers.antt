@@ -1,11 +1,12 @@
 use Rattle.std.proofs.Common.{true, false, refl, sym, ap, ap₂, ◌∙◌, arith}
 use Rattle.std.specs.Prelude.{Some}
+use Rattle.std.specs.Option.{option_or}
 use Rattle.tk_run.specs.Wholes.{whole}
 use Rattle.step_laws.specs.declared.moves.End.TheVariants as ends
 use Rattle.step_laws.specs.States.{after_service, line_served, is_stop}
 use Rattle.tk_run.specs.Machines.{state_of, numbers_of}
 use Rattle.tk_run.specs.Loop.{IsHalted}
-use Rattle.tk_run.proofs.Told.{serve_state, serve_numbers, raised}
+use Rattle.tk_run.proofs.Told.{serve_state, serve_numbers, none_behind, raised}
 use Rattle.tk_run.proofs.moves.service.Goals as goal
 
 pub returns-in-Resume-clause-served : goal.returns-in-Resume-clause-served
@@ -13,8 +14,8 @@ returns-in-Resume-clause-served c = λ line stops y makes.
     let m = whole c.args.k.now c.args.p.now in
     let told = serve_state (state_of m) y c.serve.result c.serve.new.k line stops c.serve.ensures.served makes in (
       ap₂ (λ o e. record { kernel = c.serve.new.k; owed = o; end = e }) makes.free makes.going ∙ ap (λ r. after_service (r, c.serve.new.k)) (sym c.in-Resume.is) ∙ told.0,
-      serve_numbers (numbers_of m) line stops false m.steps _ (ap is_stop (sym c.in-Resume.is) ∙ told.2) (omega arith) (raised c.args.p.now.longest c.args.p.now.since c.max-p.result c.max-p.ensures),
-      ap line_served (sym c.in-Resume.is) ∙ told.1,
+      serve_numbers (numbers_of m) line stops false m.steps _ _ (ap is_stop (sym c.in-Resume.is) ∙ told.2) (omega arith) (none_behind _) (raised c.args.p.now.longest c.args.p.now.since c.max-p.result c.max-p.ensures),
+      c.or-p.ensures ∙ ap (λ l. option_or l c.args.p.now.line) (ap line_served (sym c.in-Resume.is) ∙ told.1),
       refl,
       refl,
       refl,
@@ -25,8 +26,8 @@ returns-in-Goto-clause-served c = λ line stops y makes.
     let m = whole c.args.k.now c.args.p.now in
     let told = serve_state (state_of m) y c.serve.result c.serve.new.k line stops c.serve.ensures.served makes in (
       ap (λ e. record { kernel = c.serve.new.k; owed = Some (record { target = c.in-Goto.target; stub = c.in-Goto.stub }); end = e }) makes.going ∙ ap (λ r. after_service (r, c.serve.new.k)) (sym c.in-Goto.is) ∙ told.0,
-      serve_numbers (numbers_of m) line stops false m.steps _ (ap is_stop (sym c.in-Goto.is) ∙ told.2) (omega arith) (raised c.args.p.now.longest c.args.p.now.since c.max-p.result c.max-p.ensures),
-      ap line_served (sym c.in-Goto.is) ∙ told.1,
+      serve_numbers (numbers_of m) line stops false m.steps _ _ (ap is_stop (sym c.in-Goto.is) ∙ told.2) (omega arith) (none_behind _) (raised c.args.p.now.longest c.args.p.now.since c.max-p.result c.max-p.ensures),
+      ap (λ l. option_or l c.args.p.now.line) (ap line_served (sym c.in-Goto.is) ∙ told.1),
       refl,
       refl,
       refl,
@@ -37,8 +38,8 @@ returns-in-Stopped-clause-served c = λ line stops y makes.
     let m = whole c.args.k.now c.args.p.now in
     let told = serve_state (state_of m) y c.serve.result c.serve.new.k line stops c.serve.ensures.served makes in (
       ap (λ o. record { kernel = c.serve.new.k; owed = o; end = Some (ends.Stopped c.in-Stopped.stop) }) makes.free ∙ ap (λ r. after_service (r, c.serve.new.k)) (sym c.in-Stopped.is) ∙ told.0,
-      serve_numbers (numbers_of m) line stops true c.saturating_sub-p.result _ (ap is_stop (sym c.in-Stopped.is) ∙ told.2) c.saturating_sub-p.ensures (raised c.args.p.now.longest c.args.p.now.since c.max-p.result c.max-p.ensures),
-      ap line_served (sym c.in-Stopped.is) ∙ told.1,
+      serve_numbers (numbers_of m) line stops true c.saturating_sub-p.result _ _ (ap is_stop (sym c.in-Stopped.is) ∙ told.2) c.saturating_sub-p.ensures (none_behind _) (raised c.args.p.now.longest c.args.p.now.since c.max-p.result c.max-p.ensures),
+      ap (λ l. option_or l c.args.p.now.line) (ap line_served (sym c.in-Stopped.is) ∙ told.1),
       refl,
       refl,
       refl,

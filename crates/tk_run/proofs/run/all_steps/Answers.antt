@@ -1,4 +1,4 @@
-use Rattle.std.proofs.Common.{◌≡◌, ◌++◌, [], refl, subst, arith}
+use Rattle.std.proofs.Common.{◌≡◌, ◌+◌, ◌++◌, [], refl, subst, arith}
 use Rattle.std.proofs.lemmas.Result.{err_from_is_err_and}
 use Rattle.std.specs.Prelude.{Some}
 use Rattle.tk_run.specs.Stepping.{lines_text}
@@ -6,13 +6,15 @@ use Rattle.step_laws.specs.Moves.{line_before}
 use Rattle.tk_run.specs.Wholes.{whole}
 use Rattle.tk_run.proofs.RunSoFar.{IsBetween}
 use Rattle.tk_run.proofs.Advancing.{advanced_enter, is_in, advanced_stop, advanced_bound, advanced_cut, advanced_failed}
-use Rattle.tk_run.proofs.Gathered.{sent_on, cut_on, under_way, turn_on, turn_cut, step_on}
+use Rattle.tk_run.proofs.Gathered.{sent_on, cut_on, under_way, turn_on, turn_cut}
+use Rattle.tk_run.proofs.Several.{last_in, last_below, steps_on}
 use Rattle.tk_run.proofs.run.all_steps.Goals as goal
 
 pub steps-init : goal.steps-init
 steps-init g c = record {
   way = under_way (whole c.args.k.now c.args.p.now) c.args.gathered.now.items (g.K.Sink.taken c.args.out.now) c.requires.ready c.requires.empty;
   cursor = c.new-cursor.ensures.right c.args.k.now.layout c.args.k.now.mote.flash.words;
+  within = omega arith;
   faults = omega arith;
 }
 
@@ -22,61 +24,74 @@ returns-in_err-send_in_turn-clause-gathered g c =
     let now = whole c.steps.k c.steps.p in
     let way = c.steps.invariant.way in
     let failed = err_from_is_err_and c.from_residual.result c.from_residual.ensures.1 in
-    rw failed.1 (advanced_cut old now c.steps.i c.args.n failed.0 way.text _ _ c.requires.going c.requires.whole (omega (arith, c.steps-test.true)) way.between
-    (turn_cut old now c.steps.i c.steps.gathered.items _ _ _ way c.in_err-send_in_turn.ensures.text))
+    rw failed.1 (advanced_cut old now c.steps.done c.args.n failed.0 way.text _ _ c.requires.going c.requires.whole (omega (arith, c.steps-test.true)) way.between
+    (turn_cut old now c.steps.done c.steps.gathered.items _ _ _ way c.in_err-send_in_turn.ensures.text))
 
 pub returns-in-Some-clause-gathered : goal.returns-in-Some-clause-gathered
 returns-in-Some-clause-gathered g c =
     let old = whole c.args.k.now c.args.p.now in
-    let way = turn_on old (whole c.steps.k c.steps.p) c.steps.i c.steps.gathered.items c.send_in_turn.new.gathered.items _ _ _ c.steps.invariant.way c.in_ok-send_in_turn.ensures.text in
+    let way = turn_on old (whole c.steps.k c.steps.p) c.steps.done c.steps.gathered.items c.send_in_turn.new.gathered.items _ _ _ c.steps.invariant.way c.in_ok-send_in_turn.ensures.text in
     record {
       text = way.text;
-      advanced = advanced_enter old (whole c.steps.k c.steps.p) (whole c.enter.new.k c.enter.new.p) c.steps.i c.args.n (Some []) (Some way.text) c.enter.result c.in-Some.end c.requires.going c.requires.whole c.steps-test.true way.between c.enter.ensures.entered c.in-Some.is;
+      advanced = advanced_enter old (whole c.steps.k c.steps.p) (whole c.enter.new.k c.enter.new.p) c.steps.done c.args.n (Some []) (Some way.text) c.enter.result c.in-Some.end c.requires.going c.requires.whole c.steps-test.true way.between c.enter.ensures.entered c.in-Some.is;
       sent = way.sent;
     }
 
-pub step-line-requires-clause-ready : goal.step-line-requires-clause-ready
-step-line-requires-clause-ready g c =
+pub steps-done-requires-clause-ready : goal.steps-done-requires-clause-ready
+steps-done-requires-clause-ready g c =
     let way = c.steps.invariant.way in
-    (is_in (whole c.args.k.now c.args.p.now) (whole c.steps.k c.steps.p) (whole c.enter.new.k c.enter.new.p) c.steps.i (Some []) (Some way.text) c.enter.result way.between c.enter.ensures.entered c.in_default.is).ready
+    (is_in (whole c.args.k.now c.args.p.now) (whole c.steps.k c.steps.p) (whole c.enter.new.k c.enter.new.p) c.steps.done (Some []) (Some way.text) c.enter.result way.between c.enter.ensures.entered c.in_default.is).ready
 
-pub step-line-requires-clause-placed : goal.step-line-requires-clause-placed
-step-line-requires-clause-placed g c =
+pub steps-done-requires-clause-placed : goal.steps-done-requires-clause-placed
+steps-done-requires-clause-placed g c =
     let way = c.steps.invariant.way in
-    (is_in (whole c.args.k.now c.args.p.now) (whole c.steps.k c.steps.p) (whole c.enter.new.k c.enter.new.p) c.steps.i (Some []) (Some way.text) c.enter.result way.between c.enter.ensures.entered c.in_default.is).placed
+    (is_in (whole c.args.k.now c.args.p.now) (whole c.steps.k c.steps.p) (whole c.enter.new.k c.enter.new.p) c.steps.done (Some []) (Some way.text) c.enter.result way.between c.enter.ensures.entered c.in_default.is).placed
 
 pub returns-in_err-gather-clause-gathered : goal.returns-in_err-gather-clause-gathered
 returns-in_err-gather-clause-gathered g c =
     let old = whole c.args.k.now c.args.p.now in
     let mid = whole c.enter.new.k c.enter.new.p in
-    let way = turn_on old (whole c.steps.k c.steps.p) c.steps.i c.steps.gathered.items c.send_in_turn.new.gathered.items _ _ _ c.steps.invariant.way c.in_ok-send_in_turn.ensures.text in
-    let now = is_in old (whole c.steps.k c.steps.p) mid c.steps.i (Some []) (Some way.text) c.enter.result way.between c.enter.ensures.entered c.in_default.is in
+    let new = whole c.steps-done.new.k c.steps-done.new.p in
+    let line = c.steps-done.new.p.line in
+    let done = c.steps-done.ensures.done in
+    let way = turn_on old (whole c.steps.k c.steps.p) c.steps.done c.steps.gathered.items c.send_in_turn.new.gathered.items _ _ _ c.steps.invariant.way c.in_ok-send_in_turn.ensures.text in
+    let now = is_in old (whole c.steps.k c.steps.p) mid c.steps.done (Some []) (Some way.text) c.enter.result way.between c.enter.ensures.entered c.in_default.is in
+    let last = last_in old mid new c.steps.done c.steps-done.result line (Some []) (Some way.text) now done in
+    let below = last_below mid new c.steps.done c.steps-done.result c.args.n line done (omega (arith, c.steps-done.ensures.most, c.min.ensures, c.steps.invariant.within)) in
     let failed = err_from_is_err_and c.from_residual-in_err-gather.result c.from_residual-in_err-gather.ensures.1 in
-    rw failed.1 (advanced_failed old mid (whole c.step-line.new.k c.step-line.new.p) c.steps.i c.args.n c.step-line.result failed.0 way.text _ _ c.requires.going c.requires.whole c.steps-test.true now
-    c.step-line.ensures.stepped c.in_err-gather.ensures.line (cut_on way.text c.send_in_turn.new.gathered.items (lines_text (line_before c.step-line.result [])) _ _ _ way.sent c.in_err-gather.ensures.text))
+    rw failed.1 (advanced_failed old done.last new (c.steps.done + done.earlier) c.args.n line failed.0 way.text _ _ c.requires.going c.requires.whole below last
+    done.step c.in_err-gather.ensures.line (cut_on way.text c.send_in_turn.new.gathered.items (lines_text (line_before line [])) _ _ _ way.sent c.in_err-gather.ensures.text))
 
 pub returns-in-Some-end-clause-gathered : goal.returns-in-Some-end-clause-gathered
 returns-in-Some-end-clause-gathered g c =
     let old = whole c.args.k.now c.args.p.now in
     let mid = whole c.enter.new.k c.enter.new.p in
-    let way = turn_on old (whole c.steps.k c.steps.p) c.steps.i c.steps.gathered.items c.send_in_turn.new.gathered.items _ _ _ c.steps.invariant.way c.in_ok-send_in_turn.ensures.text in
-    let now = is_in old (whole c.steps.k c.steps.p) mid c.steps.i (Some []) (Some way.text) c.enter.result way.between c.enter.ensures.entered c.in_default.is in
-    let line = lines_text (line_before c.step-line.result []) in
+    let new = whole c.steps-done.new.k c.steps-done.new.p in
+    let line = c.steps-done.new.p.line in
+    let done = c.steps-done.ensures.done in
+    let way = turn_on old (whole c.steps.k c.steps.p) c.steps.done c.steps.gathered.items c.send_in_turn.new.gathered.items _ _ _ c.steps.invariant.way c.in_ok-send_in_turn.ensures.text in
+    let now = is_in old (whole c.steps.k c.steps.p) mid c.steps.done (Some []) (Some way.text) c.enter.result way.between c.enter.ensures.entered c.in_default.is in
+    let last = last_in old mid new c.steps.done c.steps-done.result line (Some []) (Some way.text) now done in
+    let below = last_below mid new c.steps.done c.steps-done.result c.args.n line done (omega (arith, c.steps-done.ensures.most, c.min.ensures, c.steps.invariant.within)) in
+    let text = lines_text (line_before line []) in
     record {
-      text = way.text ++ line;
-      advanced = advanced_stop old mid (whole c.step-line.new.k c.step-line.new.p) c.steps.i c.args.n c.step-line.result c.in-Some-end.end (Some []) (Some way.text) (Some (way.text ++ line)) c.requires.going c.requires.whole c.steps-test.true now c.step-line.ensures.stepped refl c.in-Some-end.is;
-      sent = sent_on way.text c.send_in_turn.new.gathered.items line c.gather.new.gathered.items _ _ _ way.sent c.in_ok-gather.ensures.text;
+      text = way.text ++ text;
+      advanced = advanced_stop old done.last new (c.steps.done + done.earlier) c.args.n line c.in-Some-end.end (Some []) (Some way.text) (Some (way.text ++ text)) c.requires.going c.requires.whole below last done.step refl c.in-Some-end.is;
+      sent = sent_on way.text c.send_in_turn.new.gathered.items text c.gather.new.gathered.items _ _ _ way.sent c.in_ok-gather.ensures.text;
     }
 
 pub steps-preserved : goal.steps-preserved
 steps-preserved g c =
     let old = whole c.args.k.now c.args.p.now in
     let mid = whole c.enter.new.k c.enter.new.p in
-    let way = turn_on old (whole c.steps.k c.steps.p) c.steps.i c.steps.gathered.items c.send_in_turn.new.gathered.items _ _ _ c.steps.invariant.way c.in_ok-send_in_turn.ensures.text in
-    let now = is_in old (whole c.steps.k c.steps.p) mid c.steps.i (Some []) (Some way.text) c.enter.result way.between c.enter.ensures.entered c.in_default.is in
+    let new = whole c.steps-done.new.k c.steps-done.new.p in
+    let line = c.steps-done.new.p.line in
+    let way = turn_on old (whole c.steps.k c.steps.p) c.steps.done c.steps.gathered.items c.send_in_turn.new.gathered.items _ _ _ c.steps.invariant.way c.in_ok-send_in_turn.ensures.text in
+    let now = is_in old (whole c.steps.k c.steps.p) mid c.steps.done (Some []) (Some way.text) c.enter.result way.between c.enter.ensures.entered c.in_default.is in
     record {
-      way = step_on old mid (whole c.step-line.new.k c.step-line.new.p) c.steps.i c.step-line.result way.text c.send_in_turn.new.gathered.items c.gather.new.gathered.items _ _ _ now c.step-line.ensures.stepped c.in_default-end.is way.sent c.in_ok-gather.ensures.text;
-      cursor = c.step-line.ensures.cursor;
+      way = steps_on old mid new c.steps.done c.steps-done.result line way.text c.send_in_turn.new.gathered.items c.gather.new.gathered.items _ _ _ now c.steps-done.ensures.done c.in_default-end.is way.sent c.in_ok-gather.ensures.text;
+      cursor = c.steps-done.ensures.cursor;
+      within = omega (arith, c.steps-done.ensures.most, c.min.ensures, c.steps.invariant.within);
       faults = omega (arith, c.steps.invariant.faults, c.in_ok-send_in_turn.ensures.cause.later, c.in_ok-gather.ensures.cause.later);
     }
 
@@ -85,7 +100,7 @@ returns-clause-gathered g c =
     let old = whole c.args.k.now c.args.p.now in
     let now = whole c.steps.k c.steps.p in
     let way = c.steps.invariant.way in
-    let done : c.steps.i ≡ c.args.n = omega (arith, c.steps-test.false, c.steps.auto.i-end) in
+    let done : c.steps.done ≡ c.args.n = omega (arith, c.steps-test.false, c.steps.invariant.within) in
     record {
       text = way.text;
       advanced = advanced_bound old now (whole c.at_bound.new.k c.at_bound.new.p) c.args.n (Some []) (Some way.text) c.at_bound.result c.requires.going c.requires.whole (subst (λ i. IsBetween old now i (Some []) (Some way.text)) done way.between) c.at_bound.ensures.bound;

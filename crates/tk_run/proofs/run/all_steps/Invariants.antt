@@ -1,4 +1,4 @@
-use Rattle.std.proofs.Common.{◌≤◌}
+use Rattle.std.proofs.Common.{◌-◌, ◌≤◌}
 use Rattle.page_index.specs.Cursors.{IsCursor}
 use Rattle.tk_run.specs.Wholes.{whole}
 use Rattle.tk_run.proofs.Gathered.{IsUnderWay}
@@ -6,7 +6,11 @@ use Rattle.tk_run.proofs.run.all_steps.Given as goal
 
 abbrev pub invariant-steps : goal.invariant-steps
 invariant-steps g l = record {
-  way : IsUnderWay (whole l.fn.k l.fn.p) (whole l.k l.p) l.i l.gathered.items (g.K.Sink.taken l.fn.out) (g.K.Sink.taken l.out);
+  way : IsUnderWay (whole l.fn.k l.fn.p) (whole l.k l.p) l.done l.gathered.items (g.K.Sink.taken l.fn.out) (g.K.Sink.taken l.out);
   cursor : IsCursor l.k.layout l.k.mote.flash.words l.cursor;
+  within : l.done ≤ l.n;
   faults : g.K.Sink.faults l.fn.out ≤ g.K.Sink.faults l.out;
 }
+
+abbrev pub decreases-steps : goal.decreases-steps
+decreases-steps g l = l.n - l.done

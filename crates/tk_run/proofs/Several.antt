@@ -1,0 +1,60 @@
+-- Several steps, one behind the other.
+use Rattle.std.proofs.Common.{◌≡◌, ℕ, zero, suc, ◌+◌, ◌<◌, ◌≤◌, List, [], ◌++◌, sym, ◌∙◌, arith, subst}
+use Rattle.std.specs.Prelude.{Option, Some, None}
+use Rattle.mote_devices.specs.declared.line.Line.{Line}
+use Rattle.step_laws.specs.Moves.{line_before}
+use Rattle.tk_io.specs.Streams.{IsSent}
+use Rattle.tk_io.proofs.KnownBytes.{appends-nothing}
+use Rattle.tk_run.specs.Machines.{Machine}
+use Rattle.tk_run.specs.Ready.{IsGoing}
+use Rattle.tk_run.specs.Stepping.{lines_text, HasStepped, StepWay}
+use Rattle.tk_run.specs.Several.{Silently, HasDone}
+use Rattle.tk_run.proofs.RunSoFar.{ran_step}
+use Rattle.tk_run.proofs.Advancing.{IsIn}
+use Rattle.tk_run.proofs.Entered.{place_inside}
+use Rattle.tk_run.proofs.Gathered.{IsUnderWay, step_on}
+
+-- a step behind which the program goes on
+going_by : (old new : Machine) (line : Option Line) → HasStepped old new line → StepWay old new line → new.end ≡ None → IsGoing new × (new.steps ≡ old.steps + 1)
+going_by old new line step (StepWay.On ready steps is) going = (ready, steps)
+going_by old new line step (StepWay.Stopped stop over kept none steps is left) going = absurd (let e : Some _ ≡ None = sym kept ∙ going in cc)
+
+pub going_on : (old new : Machine) (line : Option Line) → HasStepped old new line → new.end ≡ None → IsGoing new × (new.steps ≡ old.steps + 1)
+going_on old new line step going = going_by old new line step step.way going
+
+pub silently_on : (i : ℕ) (old now new : Machine) (line : Option Line) → Silently i old now → HasStepped now new line → line ≡ None → IsGoing new → new.owed ≡ None → Silently (i + 1) old new
+silently_on i old now new line before step silent ready placed =
+    let same : suc i ≡ i + 1 = omega arith in
+    subst (λ n. Silently n old new) same (now, before, subst (HasStepped now new) silent step, ready, placed)
+
+pub all_silently : (count : ℕ) (old new : Machine) (line : Option Line) → 1 ≤ count → Silently count old new → line ≡ None → HasDone old new count line
+all_silently zero old new line some all silent = absurd (omega arith)
+all_silently (suc n) old new line some all silent = record { earlier = n; last = all.0; counted = omega arith; silently = all.1; step = subst (HasStepped all.0 new) (sym silent) all.2 }
+
+-- behind them, with the last still to come, the run is in the middle of a turn
+in_by : (old now new : Machine) (i : ℕ) (before after : Option (List ℕ)) → IsIn old now i before after → HasStepped now new None → StepWay now new None → IsGoing new → new.owed ≡ None → IsIn old new (i + 1) before after
+in_by old now new i before after now' step (StepWay.On ready steps is) going placed =
+    record { ran = ran_step old now new i None before after after now'.ran now'.inside step steps is (appends-nothing after); ready = going; placed = placed; inside = place_inside new going placed }
+in_by old now new i before after now' step (StepWay.Stopped stop over kept none steps is left) going placed = absurd (let e : Some _ ≡ None = sym kept ∙ going.going in cc)
+
+silently_in : (n : ℕ) (old now last : Machine) (i : ℕ) (before after : Option (List ℕ)) → Silently n now last → IsIn old now i before after → IsIn old last (i + n) before after
+silently_in zero old now last i before after same now' =
+    let none : i ≡ i + 0 = omega arith in
+    subst (λ k. IsIn old last k before after) none (subst (λ m. IsIn old m i before after) same now')
+silently_in (suc n) old now last i before after all now' =
+    let more : i + n + 1 ≡ i + suc n = omega arith in
+    subst (λ k. IsIn old last k before after) more (in_by old all.0 last (i + n) before after (silently_in n old now all.0 i before after all.1 now') all.2 all.2.way all.3 all.4)
+
+pub last_in : (old now new : Machine) (i count : ℕ) (line : Option Line) (before after : Option (List ℕ)) → IsIn old now i before after → (done : HasDone now new count line) → IsIn old done.last (i + done.earlier) before after
+last_in old now new i count line before after now' done = silently_in done.earlier old now done.last i before after done.silently now'
+
+pub last_below : (old new : Machine) (i count n : ℕ) (line : Option Line) → (done : HasDone old new count line) → i + count ≤ n → i + done.earlier < n
+last_below old new i count n line done within = omega (arith, done.counted, within)
+
+-- behind them, where the program goes on
+pub steps_on : (old now new : Machine) (i count : ℕ) (line : Option Line) (text gathered left : List ℕ) (before after later : Option (List ℕ)) → IsIn old now i (Some []) (Some text) → HasDone now new count line → new.end ≡ None
+    → IsSent text gathered before after → IsSent (gathered ++ lines_text (line_before line [])) left after later → IsUnderWay old new (i + count) left before later
+steps_on old now new i count line text gathered left before after later now' done going first second =
+    let all : i + done.earlier + 1 ≡ i + count = omega (arith, done.counted) in
+    subst (λ k. IsUnderWay old new k left before later) all
+    (step_on old done.last new (i + done.earlier) line text gathered left before after later (last_in old now new i count line (Some []) (Some text) now' done) done.step going first second)
