@@ -6,6 +6,7 @@
 //     ./reference STEPS HEX-FILE [SCRIPT-FILE]
 //
 // The quantum is 255. It knows the ends halted, asleep, spent, wild, io and stack, and no bound of pages stored to.
+// It makes no pages, so lines of failing flash in the script say nothing to it.
 
 #include <simavr/sim_avr.h>
 #include <simavr/sim_core.h>

@@ -1,7 +1,11 @@
-pub mod EffectLaws
+pub mod PerformLaws
+pub mod UnresolveLaws
+pub mod UpToLaws
 pub mod ResolveLaws
+pub mod RecycleLaws
+pub mod MakeLaws
+pub mod ErasedLaws
+pub mod ThroughLaws
+pub mod TriedLaws
 pub mod ArrivalLaws
-pub mod KeptLaws
-pub mod AnswerLaws
-pub mod CountLaws
-pub mod ReachLaws
+pub mod RestLaws

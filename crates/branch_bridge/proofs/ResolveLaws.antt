@@ -1,5 +1,5 @@
 -- A stub that is resolved: what stays.
-use Rattle.std.proofs.Common.{◌≡◌, ◌≢◌, ℕ, ◌+◌, ◌*◌, ◌≤◌, List, length, arith, refl, sym, ap, ◌∙◌, inr}
+use Rattle.std.proofs.Common.{◌≡◌, ◌≢◌, ℕ, ◌+◌, ◌*◌, ◌/◌, ◌≤◌, List, length, arith, refl, sym, ap, ◌∙◌, inr, subst}
 use Rattle.std.specs.Prelude.{◌↔◌}
 use Rattle.flash_model.specs.Pages.{page_words, word_at, page_of, set_page, blank}
 use Rattle.flash_model.specs.Layouts.{IsRight, image_of}
@@ -10,10 +10,15 @@ use Rattle.nat_template.specs.Stubs.{call_word, bridge_entry}
 use Rattle.page_index.specs.Entries.{IsEntry}
 use Rattle.nat_page.specs.Standing.{IsLink, jump_word}
 use Rattle.nat_page.specs.Links.{IsLinkIn, IsUnresolved, with_two_words}
-use Rattle.nat_page.specs.Faithful.{HoldsCode}
+use Rattle.nat_page.specs.Faithful.{IsFaithful}
 use Rattle.nat_page.specs.Used.{used_pages}
+use Rattle.flash_model.specs.Memory.{Memory}
 use Rattle.nat_page.proofs.TwoWords.{word_beside_two}
-use Rattle.nat_page.proofs.RelinkLaws.{relinked_code, relinked_entries, relinked_entries_back, relinked_links, relinked_image}
+use Rattle.nat_page.proofs.UnlinkLaws.{page_of_two}
+use Rattle.branch_bridge.specs.Operating.{Performed, perform, mended}
+use Rattle.branch_bridge.specs.Resolving.{resolving}
+use Rattle.branch_bridge.proofs.PerformLaws.{mended_by, rewriting_ops}
+use Rattle.nat_page.proofs.RelinkLaws.{link_placed, relinked_faithful, relinked_entries, relinked_entries_back, relinked_links, relinked_image}
 use Rattle.nat_page.proofs.UsedLaws.{used_relinked}
 
 -- a page that is erased and then programmed has these words
@@ -34,7 +39,7 @@ stubs_apart words s b bridge call is =
     omega (arith, same)
 
 -- each other stub stays as it is
-pub unresolved_beside : (layout : Layout) (image words : List ℕ) (s t place b to : ℕ) → IsRight layout → HoldsCode layout image words
+pub unresolved_beside : (layout : Layout) (image words : List ℕ) (s t place b to : ℕ) → IsRight layout → IsFaithful layout image words
     → IsUnresolved layout image words s t → IsEntry layout words t place → b ≢ s → IsUnresolved layout image words b to
     → IsUnresolved layout image (with_two_words words s jump_word place) b to
 unresolved_beside layout image words s t place b to right code stub entry apart other =
@@ -48,21 +53,57 @@ unresolved_beside layout image words s t place b to right code stub entry apart 
 
 -- what stays where the stub at s is resolved
 pub record Relinked (layout : Layout) (image words words' : List ℕ) (s : ℕ) : Type 0 where
-  pub code : HoldsCode layout image words'
+  pub code : IsFaithful layout image words'
   pub same_image : image_of layout words' ≡ image_of layout words
   pub entries : (a v : ℕ) → IsEntry layout words a v ↔ IsEntry layout words' a v
   pub links : (b to : ℕ) → IsLinkIn layout image words b to → IsLinkIn layout image words' b to
   pub stubs : (b to : ℕ) → b ≢ s → IsUnresolved layout image words b to → IsUnresolved layout image words' b to
   pub used : used_pages layout words' ≡ used_pages layout words
 
-pub relinked : (layout : Layout) (image words : List ℕ) (s t place : ℕ) → IsRight layout → HoldsCode layout image words → IsUnresolved layout image words s t → IsEntry layout words t place → Relinked layout image words (with_two_words words s jump_word place) s
+pub relinked : (layout : Layout) (image words : List ℕ) (s t place : ℕ) → IsRight layout → IsFaithful layout image words → IsUnresolved layout image words s t → IsEntry layout words t place → Relinked layout image words (with_two_words words s jump_word place) s
 relinked layout image words s t place right code stub entry =
     let jump = jump_links layout words t place entry in
     record {
-      code = relinked_code layout image words s t jump_word place right code stub.link jump;
+      code = relinked_faithful layout image words s t jump_word place right code stub.link jump;
       same_image = relinked_image layout image words s t jump_word place right code stub.link jump;
       entries = λ a v. (relinked_entries layout image words s t jump_word place a v right code stub.link jump, relinked_entries_back layout image words s t jump_word place a v right code stub.link jump);
       links = λ b to. relinked_links layout image words s t jump_word place b to right code stub.link jump;
       stubs = λ b to. unresolved_beside layout image words s t place b to right code stub entry;
       used = used_relinked layout image words s t jump_word place right code stub.link jump;
+    }
+
+-- .. of flash's page that gets the words with the jump, whether or not all is done
+pub record ResolveTold (layout : Layout) (image : List ℕ) (old : Memory) (told : Performed) : Type 0 where
+  pub code : IsFaithful layout image (mended told.memory.words told.stop)
+  pub same_image : image_of layout (mended told.memory.words told.stop) ≡ image_of layout old.words
+  pub entries : (a v : ℕ) → IsEntry layout old.words a v → IsEntry layout (mended told.memory.words told.stop) a v
+  pub entries_back : (a v : ℕ) → IsEntry layout (mended told.memory.words told.stop) a v → IsEntry layout old.words a v
+  pub used : used_pages layout (mended told.memory.words told.stop) ≡ used_pages layout old.words
+  pub ops : told.memory.ops ≤ old.ops + 2
+
+-- the page with the jump in it
+pub is_resolved : (layout : Layout) (image words : List ℕ) (s t place : ℕ) → IsRight layout → IsFaithful layout image words → IsUnresolved layout image words s t → set_page words (s / page_words) (page_of (with_two_words words s jump_word place) (s / page_words)) ≡ with_two_words words s jump_word place
+is_resolved layout image words s t place right code stub =
+    let placed = link_placed layout image words s t jump_word place right code.whole stub.link in
+    let inside : page_words * (s / page_words) + page_words ≤ length words = omega (arith, code.whole, placed.low) in
+    ap (set_page words (s / page_words)) (page_of_two words (s / page_words) s jump_word place inside refl placed.room) ∙ placed.is
+
+pub told_resolving : (layout : Layout) (image : List ℕ) (old : Memory) (s t place : ℕ) → IsRight layout → IsFaithful layout image old.words → IsUnresolved layout image old.words s t → IsEntry layout old.words t place
+    → ResolveTold layout image old (perform old (resolving old.words s place))
+told_resolving layout image old s t place right code stub entry =
+    let words = old.words in
+    let page = s / page_words in
+    let words' = with_two_words words s jump_word place in
+    let new = page_of words' page in
+    let placed = link_placed layout image words s t jump_word place right code.whole stub.link in
+    let inside : page_words * page + page_words ≤ length words = omega (arith, code.whole, placed.low) in
+    let is = is_resolved layout image words s t place right code stub in
+    let stays = relinked layout image words s t place right code stub entry in
+    record {
+      code = mended_by (IsFaithful layout image) old page new inside code (subst (IsFaithful layout image) (sym is) stays.code);
+      same_image = mended_by (λ w. image_of layout w ≡ image_of layout words) old page new inside refl (ap (image_of layout) is ∙ stays.same_image);
+      entries = mended_by (λ w. (a v : ℕ) → IsEntry layout words a v → IsEntry layout w a v) old page new inside (λ a v e. e) (λ a v e. subst (λ w. IsEntry layout w a v) (sym is) ((stays.entries a v).0 e));
+      entries_back = mended_by (λ w. (a v : ℕ) → IsEntry layout w a v → IsEntry layout words a v) old page new inside (λ a v e. e) (λ a v e. (stays.entries a v).1 (subst (λ w. IsEntry layout w a v) is e));
+      used = mended_by (λ w. used_pages layout w ≡ used_pages layout words) old page new inside refl (ap (used_pages layout) is ∙ stays.used);
+      ops = rewriting_ops old page new;
     }

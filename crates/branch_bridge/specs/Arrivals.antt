@@ -1,108 +1,165 @@
--- Arrivals: what becomes of flash and SRAM, and what is answered, where control arrives at an original
--- address (docs/LOADER.md, "An arrival"). The store before decides the effects and the answer; the store
--- after is what the effects leave. t is the address, and `stub` the stub through which control came, if any.
-use Rattle.std.specs.Prelude.{◌≡◌, ℕ, ◌<◌, ◌≤◌, false, List, [], ◌∷◌, ◌++◌, Option, Some, None, IfSome, Result, Ok, Err}
-use Rattle.flash_model.specs.declared.layout.Layout.{Layout}
-use Rattle.page_index.specs.Entries.{IsEntry}
-use Rattle.nat_page.specs.Links.{IsUnresolved}
-use Rattle.nat_page.specs.Making.{HasNoEntry, HasNoFree, Naturalises, made_words}
+-- Arrivals: what becomes of flash and SRAM, and what is answered, where control arrives at an original address
+-- (docs/LOADER.md, "An arrival"). An operation on flash that is refused ends it: what comes before is done, it and
+-- what comes after is not.
+use Rattle.std.specs.Prelude.{◌≡◌, ◌≢◌, ℕ, ◌+◌, ◌*◌, ◌/◌, ◌%◌, ◌<◌, ◌≤◌, ◌==◌, ◌⊎◌, Bool, true, false, if◌then◌else◌, List, length, [], ◌∷◌, min, Option, Some, None, Result, Ok, Err, IfOk, IfSome, MatchOption, ⊤}
+use Rattle.sram_layout.specs.Bytes.{byte_at, data_word_at, with_word}
+use Rattle.flash_model.specs.Memory.{Memory}
+use Rattle.flash_model.specs.Operations.{next_op, fails, left_by_refusal, erased_page}
 use Rattle.flash_model.specs.Layouts.{image_of}
-use Rattle.addr_tables.specs.Hits.{hit}
+use Rattle.flash_model.specs.declared.layout.Layout.{Layout}
+use Rattle.nat_page.specs.Making.{HasNoFree, IsLowestFree, IsPrepared}
+use Rattle.flash_model.specs.Pages.{page_words, page_of, blank}
+use Rattle.nat_page.specs.Links.{IsUnresolved}
+use Rattle.nat_page.specs.Faithful.{IsFaithful}
+use Rattle.nat_page.specs.Used.{used_pages}
+use Rattle.page_index.specs.Entries.{IsEntry}
+use Rattle.addr_tables.specs.Tables.{IsTables}
+use Rattle.addr_tables.specs.Changes.{Finds, noted, forgotten}
+use Rattle.branch_bridge.specs.declared.rewriting.ResolveStop.{ResolveStop}
+use Rattle.branch_bridge.specs.declared.rewriting.Torn.{Torn}
 use Rattle.branch_bridge.specs.declared.arrival.ArriveStop.{ArriveStop}
-use Rattle.branch_bridge.specs.declared.arrival.ArriveStop.TheVariants.{Wild, CodeFull}
+use Rattle.branch_bridge.specs.declared.arrival.ArriveStop.TheVariants.{Wild, Flash}
+use Rattle.branch_bridge.specs.declared.arrival.Refused.{Refused}
 use Rattle.branch_bridge.specs.declared.arrival.Moved.{Moved}
-use Rattle.branch_bridge.specs.Effects.{Store, Effect, Make, Note, Resolve, all_done, makes_page}
+use Rattle.branch_bridge.specs.declared.through.Arrival.{Arrival}
+use Rattle.std.specs.Option.{option_map}
+use Rattle.branch_bridge.specs.Resolving.{resolving}
+use Rattle.branch_bridge.specs.Operating.{Program, perform, with_torn}
+use Rattle.branch_bridge.specs.Unresolving.{unresolved_in}
+use Rattle.branch_bridge.specs.Tried.{Tried}
 
 -- the stub through which control came to t, if any: it leads to t, and isn't resolved
 abbrev pub CameThrough : Layout → List ℕ → Option ℕ → ℕ → Type 0
 CameThrough layout words stub t = IfSome stub (λ s. IsUnresolved layout (image_of layout words) words s t)
 
--- t is outside the image: nothing is done
-pub record IsOutside (layout : Layout) (t : ℕ) (effects : List Effect) (result : Result Moved ArriveStop) : Type 0 where
-  pub outside : layout.image_words ≤ t
-  pub nothing : effects ≡ []
-  pub answer : result ≡ Err (Wild t)
+-- what an arrival may change
+pub record Store : Type 0 where
+  pub flash : Memory
+  pub sram : List ℕ
 
--- t has no entry, and no page is free to make one
-pub record HasNoRoom (layout : Layout) (words : List ℕ) (t : ℕ) : Type 0 where
-  pub inside : t < layout.image_words
-  pub unknown : HasNoEntry layout words t
-  pub full : HasNoFree layout words
+-- RING: the number within the pool of the page to recycle next
+abbrev pub ring_cell : ℕ
+ring_cell = 0x0142
 
--- then nothing is done either
-pub record IsFull (layout : Layout) (store : Store) (t : ℕ) (effects : List Effect) (result : Result Moved ArriveStop) : Type 0 where
-  pub room : HasNoRoom layout store.flash.words t
-  pub nothing : effects ≡ []
-  pub answer : result ≡ Err (CodeFull t)
+abbrev pub ring_of : List ℕ → ℕ
+ring_of sram = data_word_at sram ring_cell
 
--- t has an entry: that is its place, and nothing has to be made for it
-pub record IsKnown (layout : Layout) (store : Store) (t place : ℕ) (effects : List Effect) : Type 0 where
-  pub entry : IsEntry layout store.flash.words t place
-  pub nothing : effects ≡ []
+abbrev pub turned : Layout → List ℕ → List ℕ
+turned layout sram = with_word sram ring_cell ((ring_of sram + 1) % layout.pool_pages)
 
--- t has no entry: the lowest page that is free is made, with the run from t, and t's place is in it
-pub record IsMadeNow (layout : Layout) (store : Store) (t place : ℕ) (effects : List Effect) : Type 0 where
-  pub unknown : HasNoEntry layout store.flash.words t
-  pub made : Naturalises layout (image_of layout store.flash.words) store.flash.words (all_done store effects).flash.words t place
-  pub making : effects ≡ Make made.page (made_words (image_of layout store.flash.words) t made.makes.last) ∷ []
+-- of SRAM's bytes only those of RING and of the two tables change
+pub record KeepsOtherBytes (old new : List ℕ) : Type 0 where
+  pub size : length new ≡ length old
+  pub rest : (a : ℕ) → 0x0100 ≤ a → (a < 0x0142) ⊎ (0x0400 ≤ a) → byte_at new a ≡ byte_at old a
 
--- t's place, and what has to be made for it
-pub data Places (layout : Layout) (store : Store) (t place : ℕ) (effects : List Effect) : Type 0 where
-  Known : IsKnown layout store t place effects → Places layout store t place effects
-  Made : IsMadeNow layout store t place effects → Places layout store t place effects
+-- what is told of the page, where it was erased to be made again, and of an operation on flash that was refused
+abbrev pub recycled_page : Bool → ℕ → Option ℕ
+recycled_page again page = if again then Some page else None
 
--- the stub through which control came, if any, then leads to the place
-abbrev pub resolving : Option ℕ → ℕ → List Effect
-resolving None place = []
-resolving (Some stub) place = Resolve stub place ∷ []
+abbrev pub refused_by : ResolveStop → Refused
+refused_by stop = record { why = Flash stop.op; torn = stop.torn }
 
--- control goes on at t's place, which is noted
-pub record Goes (layout : Layout) (store : Store) (t : ℕ) (stub : Option ℕ) (effects : List Effect) (result : Result Moved ArriveStop) : Type 0 where
-  pub inside : t < layout.image_words
-  pub place : ℕ
-  pub making : List Effect
-  pub places : Places layout store t place making
-  pub all : effects ≡ making ++ (Note t place ∷ resolving stub place)
-  pub answer : result ≡ Ok (record { place = place; made = makes_page effects })
+-- the stub that is to be resolved, if any
+abbrev pub to_resolve : Option ℕ → Option ℕ → Option ℕ
+to_resolve recycled None = None
+to_resolve None (Some s) = Some s
+to_resolve (Some page) (Some s) = if page == s / page_words then None else Some s
 
--- what has to be done for an arrival at t, and what is answered
-pub data Plans (layout : Layout) (store : Store) (t : ℕ) (stub : Option ℕ) (effects : List Effect) (result : Result Moved ArriveStop) : Type 0 where
-  Outside : IsOutside layout t effects result → Plans layout store t stub effects result
-  Full : IsFull layout store t effects result → Plans layout store t stub effects result
-  Went : Goes layout store t stub effects result → Plans layout store t stub effects result
+-- The run from t is programmed into a free page, `again` where it was erased for that, and t's place is noted; or
+-- the operation is refused.
+pub data Makes (layout : Layout) (old new : Store) (page t : ℕ) (again : Bool) (result : Result Moved Refused) : Type 0 where
+  Made : (words : List ℕ) → (place : ℕ) → IsPrepared layout (image_of layout old.flash.words) old.flash.words page t words place
+      → perform old.flash (Program again page words ∷ []) ≡ record { memory = new.flash; stop = None } → new.sram ≡ noted old.sram t place
+      → result ≡ Ok (record { place = place; made = true; recycled = recycled_page again page }) → Makes layout old new page t again result
+  NotMade : (words : List ℕ) → (place : ℕ) → IsPrepared layout (image_of layout old.flash.words) old.flash.words page t words place
+      → (stop : ResolveStop) → perform old.flash (Program again page words ∷ []) ≡ record { memory = new.flash; stop = Some stop } → new.sram ≡ old.sram
+      → result ≡ Err (refused_by stop) → Makes layout old new page t again result
 
--- the arrival: that is done
-pub record Arrives (layout : Layout) (old new : Store) (t : ℕ) (stub : Option ℕ) (result : Result Moved ArriveStop) : Type 0 where
-  pub effects : List Effect
-  pub plan : Plans layout old t stub effects result
-  pub after : new ≡ all_done old effects
+-- A used page is recycled: the stubs of other pages into it are unresolved, the tables forget it, it is erased,
+-- RING goes on, and it is made again.
+pub data Recycles (layout : Layout) (old new : Store) (victim t : ℕ) (result : Result Moved Refused) : Type 0 where
+  NotUnlinked : (stop : ResolveStop) → unresolved_in layout victim old.flash ≡ record { memory = new.flash; stop = Some stop }
+      → new.sram ≡ old.sram → result ≡ Err (refused_by stop) → Recycles layout old new victim t result
+  NotErased : (unlinked : Memory) → unresolved_in layout victim old.flash ≡ record { memory = unlinked; stop = None }
+      → fails unlinked ≡ true → new.flash ≡ left_by_refusal unlinked victim → new.sram ≡ forgotten old.sram victim
+      → result ≡ Err (record { why = Flash (next_op unlinked); torn = None }) → Recycles layout old new victim t result
+  Erased : (unlinked : Memory) → unresolved_in layout victim old.flash ≡ record { memory = unlinked; stop = None } → fails unlinked ≡ false
+      → Makes layout (record { flash = erased_page unlinked victim; sram = turned layout (forgotten old.sram victim) }) new victim t true result → Recycles layout old new victim t result
 
--- The kernel's tables have a place for t, right or not: that one is given and noted, and flash stays.
-pub record IsHit (layout : Layout) (old new : Store) (t : ℕ) (result : Result Moved ArriveStop) : Type 0 where
-  pub inside : t < layout.image_words
-  pub place : ℕ
-  pub found : hit old.sram t ≡ Some place
-  pub after : new ≡ all_done old (Note t place ∷ [])
-  pub answer : result ≡ Ok (record { place = place; made = false })
+-- The first of these that applies: outside the image it is refused; the place that the tables have is taken, or the
+-- one of the pool's entry; the lowest free page is made; the page that RING names is recycled.
+pub data Arrives (layout : Layout) (old new : Store) (t : ℕ) (result : Result Moved Refused) : Type 0 where
+  Beyond : layout.image_words ≤ t → new ≡ old → result ≡ Err (record { why = Wild t; torn = None }) → Arrives layout old new t result
+  Found : (place : ℕ) → t < layout.image_words → Finds layout old.flash.words old.sram new.sram t (Some place) → new.flash ≡ old.flash
+      → result ≡ Ok (record { place = place; made = false; recycled = None }) → Arrives layout old new t result
+  Free : (page : ℕ) → t < layout.image_words → Finds layout old.flash.words old.sram old.sram t None → IsLowestFree layout old.flash.words page
+      → Makes layout old new page t false result → Arrives layout old new t result
+  Full : t < layout.image_words → Finds layout old.flash.words old.sram old.sram t None → HasNoFree layout old.flash.words
+      → Recycles layout old new (layout.pool_first + ring_of old.sram) t result → Arrives layout old new t result
 
--- An arrival without a stub that goes by the tables, whatever they hold: outside the image nothing is done;
--- else the tables' place is taken; else, where they have none, it is the arrival above.
-pub data Reaches (layout : Layout) (old new : Store) (t : ℕ) (result : Result Moved ArriveStop) : Type 0 where
-  Beyond : IsOutside layout t [] result → new ≡ old → Reaches layout old new t result
-  Hit : IsHit layout old new t result → Reaches layout old new t result
-  Searched : hit old.sram t ≡ None → Arrives layout old new t None result → Reaches layout old new t result
+-- what was refused, and the page that it left torn
+abbrev pub refusal_in : Result Moved Refused → Option Refused
+refusal_in (Ok moved) = None
+refusal_in (Err refused) = Some refused
 
--- the same two, where of the answer only the place is told
-abbrev pub place_of : Result Moved ArriveStop → Result ℕ ArriveStop
-place_of (Ok moved) = Ok moved.place
-place_of (Err stop) = Err stop
+abbrev pub torn_by : Option Refused → Option Torn
+torn_by None = None
+torn_by (Some refused) = refused.torn
 
-pub record ArrivesAt (layout : Layout) (old new : Store) (t : ℕ) (result : Result ℕ ArriveStop) : Type 0 where
-  pub told : Result Moved ArriveStop
-  pub arrives : Arrives layout old new t None told
-  pub answer : result ≡ place_of told
+abbrev pub torn_in : Result Moved Refused → Option Torn
+torn_in result = torn_by (refusal_in result)
 
-pub record ReachesAt (layout : Layout) (old new : Store) (t : ℕ) (result : Result ℕ ArriveStop) : Type 0 where
-  pub told : Result Moved ArriveStop
-  pub reaches : Reaches layout old new t told
-  pub answer : result ≡ place_of told
+-- the operation on flash that was refused
+abbrev pub stopped_at : ArriveStop → Option Torn → Option ResolveStop
+stopped_at (Wild address) torn = None
+stopped_at (Flash op) torn = Some (record { op = op; torn = torn })
+
+abbrev pub stopped_by : Option Refused → Option ResolveStop
+stopped_by None = None
+stopped_by (Some refused) = stopped_at refused.why refused.torn
+
+-- whether a page was made
+abbrev pub made_in : Result Moved Refused → Bool
+made_in (Ok moved) = moved.made
+made_in (Err refused) = false
+
+abbrev pub one_if : Bool → ℕ
+one_if test = if test then 1 else 0
+
+-- What an arrival leaves. With the words put in that a torn page lacks, the pool is faithful to the same image, and
+-- right tables are right; where control goes on, right tables give t's entry. RING stays in the pool, and
+-- stubs that call the bridge do so still, but for those of a page that was recycled.
+pub record Kept (layout : Layout) (old new : Store) (t : ℕ) (result : Result Moved Refused) : Type 0 where
+  pub code : IsFaithful layout (image_of layout old.flash.words) (with_torn new.flash.words (torn_in result))
+  pub same_image : image_of layout (with_torn new.flash.words (torn_in result)) ≡ image_of layout old.flash.words
+  pub tables : IsTables layout old.sram old.flash.words → IsTables layout new.sram (with_torn new.flash.words (torn_in result))
+  pub entered : IsTables layout old.sram old.flash.words → IfOk result (λ moved. IsEntry layout new.flash.words t moved.place)
+  pub ops : new.flash.ops ≤ old.flash.ops + (2 * layout.pool_pages + 2)
+  pub ring : ring_of old.sram < layout.pool_pages → ring_of new.sram < layout.pool_pages
+  pub stubs : IfOk result (λ moved. (s to : ℕ) → moved.recycled ≢ Some (s / page_words) → IsUnresolved layout (image_of layout old.flash.words) old.flash.words s to
+      → IsUnresolved layout (image_of layout old.flash.words) new.flash.words s to)
+
+-- An arrival through a stub, or through none: once t's place is known the stub is resolved, unless its page was
+-- recycled for it. `place` is where control goes on, `made` whether a page was made, also where it was refused then.
+pub data ArrivesFrom (layout : Layout) (old new : Store) (t : ℕ) (stub : Option ℕ) (arrival : Arrival) : Type 0 where
+  Stopped : (refused : Refused) → Arrives layout old new t (Err refused) → arrival ≡ record { place = None; made = false; refused = Some refused } → ArrivesFrom layout old new t stub arrival
+  Went : (moved : Moved) → Arrives layout old new t (Ok moved) → to_resolve moved.recycled stub ≡ None → arrival ≡ record { place = Some moved.place; made = moved.made; refused = None } → ArrivesFrom layout old new t stub arrival
+  Resolved : (mid : Store) → (moved : Moved) → (s : ℕ) → Arrives layout old mid t (Ok moved) → to_resolve moved.recycled stub ≡ Some s → (stop : Option ResolveStop)
+      → perform mid.flash (resolving mid.flash.words s moved.place) ≡ record { memory = new.flash; stop = stop } → new.sram ≡ mid.sram
+      → arrival ≡ record { place = Some moved.place; made = moved.made; refused = option_map refused_by stop } → ArrivesFrom layout old new t stub arrival
+
+-- What it leaves. With the words put in that a torn page lacks, the pool is faithful to the same image, the tables are
+-- right, t has its entry where control goes on, and one page more is used where one was made, as far as the pool
+-- goes. A torn page is blank. Flash has the same image, and SRAM the same bytes beside RING and the tables.
+pub record KeptThrough (layout : Layout) (old new : Store) (t : ℕ) (arrival : Arrival) : Type 0 where
+  pub code : IsFaithful layout (image_of layout old.flash.words) (with_torn new.flash.words (torn_by arrival.refused))
+  pub same_image : image_of layout (with_torn new.flash.words (torn_by arrival.refused)) ≡ image_of layout old.flash.words
+  pub tables : IsTables layout new.sram (with_torn new.flash.words (torn_by arrival.refused))
+  pub entered : IfSome arrival.place (λ place. IsEntry layout (with_torn new.flash.words (torn_by arrival.refused)) t place)
+  pub ops : new.flash.ops ≤ old.flash.ops + (2 * layout.pool_pages + 4)
+  pub ring : ring_of new.sram < layout.pool_pages
+  pub used : used_pages layout (with_torn new.flash.words (torn_by arrival.refused)) ≡ min (used_pages layout old.flash.words + one_if arrival.made) layout.pool_pages
+  pub tried : Tried layout old.flash new.flash (stopped_by arrival.refused)
+  pub image : image_of layout new.flash.words ≡ image_of layout old.flash.words
+  pub torn : MatchOption (torn_by arrival.refused) ⊤ (λ torn. page_of new.flash.words torn.page ≡ blank)
+  pub rest : KeepsOtherBytes old.sram new.sram

@@ -1,12 +1,12 @@
 -- Resolving a stub: its call of the kernel's bridge becomes a jump to the place of the address that the stub
 -- leads to (docs/LOADER.md, "What stands for an instruction").
-use Rattle.std.specs.Prelude.{ℕ, ◌/◌, List, slice_index, slice_set}
-use Rattle.flash_model.specs.Pages.{page_words, raised}
-use Rattle.flash_model.specs.Memory.{Memory}
+use Rattle.std.specs.Prelude.{ℕ, ◌/◌, List}
+use Rattle.flash_model.specs.Pages.{page_words, page_of}
 use Rattle.flash_model.specs.declared.layout.Layout.{Layout}
 use Rattle.page_index.specs.Entries.{IsEntry}
 use Rattle.nat_page.specs.Standing.{jump_word}
 use Rattle.nat_page.specs.Links.{IsUnresolved, with_two_words}
+use Rattle.branch_bridge.specs.Operating.{Operation, rewriting}
 
 -- at `stub` stands a stub's call of the bridge, and `place` is the place of the address that the stub leads to
 pub record CanResolve (layout : Layout) (image words : List ℕ) (stub place : ℕ) : Type 0 where
@@ -14,9 +14,6 @@ pub record CanResolve (layout : Layout) (image words : List ℕ) (stub place : �
   pub unresolved : IsUnresolved layout image words stub target
   pub entry : IsEntry layout words target place
 
--- flash after that: the two words of the call are the jump, and their page was erased once more
-abbrev pub resolved : Memory → (stub place : ℕ) → Memory
-resolved memory stub place = record {
-  words = with_two_words memory.words stub jump_word place;
-  erases = slice_set memory.erases (stub / page_words) (raised (slice_index memory.erases (stub / page_words)));
-}
+-- its page is erased, and programmed with the jump in the place of the call
+abbrev pub resolving : List ℕ → (stub place : ℕ) → List Operation
+resolving words stub place = rewriting (stub / page_words) (page_of (with_two_words words stub jump_word place) (stub / page_words))

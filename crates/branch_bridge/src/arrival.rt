@@ -1,23 +1,27 @@
 //! One arrival.
 
-ghost use Rattle.std.specs.Prelude.{◌≡◌, ◌≢◌, ◌+◌, ◌<◌, ◌≤◌, ◌↔◌, ℕ, if◌then◌else◌, Some as Just, None as Nothing, Ok as Gives, IfOk, OnErr, IsErrOf, IsTrue};
+ghost use Rattle.std.specs.Prelude.{◌≡◌, ◌+◌, ◌*◌, ◌<◌, ◌≤◌, ◌^◌, ◌↔◌, true, false, ◌||◌, min, IsErrOf, length, None as Nothing};
+ghost use Rattle.sram_layout.specs.Bytes.{byte_count};
 ghost use Rattle.flash_model.specs.Layouts.{IsRight, image_of};
-ghost use Rattle.page_index.specs.Entries.{IsEntry};
+ghost use Rattle.page_index.specs.Maps.{IsPool, IsFree};
 ghost use Rattle.nat_page.specs.Faithful.{IsFaithful};
-ghost use Rattle.nat_page.specs.Links.{IsUnresolved};
+ghost use Rattle.nat_page.specs.Making.{HasNoEntry, HasNoFree};
+ghost use Rattle.branch_bridge.specs.Operating.{Program, lacking as lacking_of, with_torn};
+ghost use Rattle.branch_bridge.specs.Tried.{Tried};
+ghost use Rattle.branch_bridge.specs.Arrivals.{KeepsOtherBytes, Makes, Recycles, Arrives, refusal_in, stopped_by, torn_in, ring_of, turned, recycled_page, Kept, made_in, one_if};
 ghost use Rattle.nat_page.specs.Used.{used_pages};
-ghost use Rattle.nat_page.specs.Making.{HasNoEntry};
-ghost use Rattle.addr_tables.specs.Tables.{IsTables};
-ghost use Rattle.addr_tables.specs.Hits.{hit};
-ghost use Rattle.addr_tables.specs.Changes.{noted, KeepsRest};
 ghost use Rattle.branch_bridge.specs.declared.arrival.ArriveStop.TheVariants as stops;
-ghost use Rattle.branch_bridge.specs.Arrivals.{Arrives, ArrivesAt, CameThrough, HasNoRoom, Reaches, ReachesAt};
 
-use crate::resolving::resolve;
-use addr_tables::{find, note};
+use crate::rewriting::Torn;
+use crate::unresolving::unresolve;
+use addr_tables::{find, forget_page, note};
 use flash_model::{Flash, Layout};
-use nat_page::{NatStop, naturalise};
+use nat_page::prepare;
+use page_index::free_page;
 use sram_layout::Sram;
+
+/// Where RING stands.
+const RING: u16 = 0x0142;
 
 /// Why control can't go on at an original address.
 #[derive(Clone, Copy, Debug, PartialEq, Eq)]
@@ -27,11 +31,20 @@ pub enum ArriveStop {
         /// The original address.
         address: u16,
     },
-    /// The address has no entry, and no page of the pool is free to make one.
-    CodeFull {
-        /// The original address.
-        address: u16,
+    /// An operation on flash was refused.
+    Flash {
+        /// Its number.
+        op: u64,
     },
+}
+
+/// An arrival that was refused.
+#[derive(Clone, Copy, Debug, PartialEq, Eq)]
+pub struct Refused {
+    /// Why.
+    pub why: ArriveStop,
+    /// The page that lacks its words, where one was erased for it.
+    pub torn: Option<Torn>,
 }
 
 /// Where control goes on.
@@ -41,119 +54,164 @@ pub struct Moved {
     pub place: u16,
     /// Whether a page was made for it.
     pub made: bool,
+    /// The page that was erased for it, if one was.
+    pub recycled: Option<u16>,
 }
 
-/// Gives the place, a word address of flash, where the rewritten code of the original address `t`
-/// begins, and makes the page of `t` where none has it. A place that the kernel's tables have for `t` is
-/// taken without a search of the pool, right or not. The place is noted there.
-pub fn arrive(
-    sram: &mut Sram,
-    flash: &mut Flash,
-    layout: &Layout,
-    t: u16,
-) -> Result<u16, ArriveStop>
+/// Gives the place, a word address of flash, where the rewritten code of the original address `t` begins, and makes
+/// the page of `t` where none has it: in the lowest free page, or else in the one that RING names, which is recycled.
+/// A place that the kernel's tables have for `t` is taken without a search of the pool, right or not.
+pub fn arrive(sram: &mut Sram, flash: &mut Flash, layout: &Layout, t: u16) -> Result<Moved, Refused>
     requires right { IsRight layout.now }
-    requires faithful { IsFaithful layout.now (image_of layout.now flash.old.words) flash.old.words }
+    requires code { IsFaithful layout.now (image_of layout.now flash.old.words) flash.old.words }
+    requires ring { ring_of sram.old < layout.now.pool_pages }
+    requires room { flash.old.ops < 2 ^ 61 }
     // The whole answer, the whole flash and the whole SRAM are told, whatever the tables hold.
-    ensures reaches { ReachesAt layout.now (record { flash = flash.old; sram = sram.old })
-        (record { flash = flash.new; sram = sram.new }) t result }
-    ensures hit { (place : ℕ) → t < layout.now.image_words → hit sram.old t ≡ Just place
-        → (result ≡ Gives place) × (flash.new ≡ flash.old) × (sram.new ≡ noted sram.old t place) }
-    ensures searched { hit sram.old t ≡ Nothing → ArrivesAt layout.now (record { flash = flash.old; sram = sram.old })
-        (record { flash = flash.new; sram = sram.new }) t result }
-    // Where the tables are right, it is the arrival that the pool alone decides.
-    ensures exact { IsTables layout.now sram.old flash.old.words → ArrivesAt layout.now (record { flash = flash.old; sram = sram.old })
-        (record { flash = flash.new; sram = sram.new }) t result }
-    ensures entered { IsTables layout.now sram.old flash.old.words → IfOk result (λ place. IsEntry layout.now flash.new.words t place) }
-    ensures tables { IsTables layout.now sram.old flash.old.words → IsTables layout.now sram.new flash.new.words }
-    ensures wild { IsErrOf result (stops.Wild t) ↔ (layout.now.image_words ≤ t) }
-    ensures full { IsErrOf result (stops.CodeFull t) ↔ ((hit sram.old t ≡ Nothing) × HasNoRoom layout.now flash.old.words t) }
-    ensures refused { OnErr result ((flash.new ≡ flash.old) × (sram.new ≡ sram.old)) }
-    ensures faithful { IsFaithful layout.now (image_of layout.now flash.new.words) flash.new.words }
-    ensures image { image_of layout.now flash.new.words ≡ image_of layout.now flash.old.words }
-    ensures entries { (a v : ℕ) → IsEntry layout.now flash.old.words a v → IsEntry layout.now flash.new.words a v }
-    ensures stubs { (s to : ℕ) → IsUnresolved layout.now (image_of layout.now flash.old.words) flash.old.words s to
-        → IsUnresolved layout.now (image_of layout.now flash.new.words) flash.new.words s to }
-    ensures rest { KeepsRest sram.old sram.new }
-    ensures erases { flash.new.erases ≡ flash.old.erases }
-{
-    match reach(sram, flash, layout, t) {
-        Ok(moved) => Ok(moved.place),
-        Err(stop) => Err(stop),
-    }
-}
-
-/// The same where the tables are right, and tells whether a page was made. `stub` is the word address of the
-/// call of the kernel's bridge through which control came, if it came so: that stub is resolved, and leads
-/// to the place from then on.
-pub fn arrive_from(
-    sram: &mut Sram,
-    flash: &mut Flash,
-    layout: &Layout,
-    t: u16,
-    stub: Option<u16>,
-) -> Result<Moved, ArriveStop>
-    requires right { IsRight layout.now }
-    requires faithful { IsFaithful layout.now (image_of layout.now flash.old.words) flash.old.words }
-    requires tables { IsTables layout.now sram.old flash.old.words }
-    requires stub { CameThrough layout.now flash.old.words stub t }
-    // The whole answer, the whole flash and the whole SRAM are told.
-    ensures arrives { Arrives layout.now (record { flash = flash.old; sram = sram.old })
-        (record { flash = flash.new; sram = sram.new }) t stub result }
-    ensures made { IfOk result (λ moved. IsTrue moved.made ↔ HasNoEntry layout.now flash.old.words t) }
-    ensures used { IfOk result (λ moved. used_pages layout.now flash.new.words ≡
-        used_pages layout.now flash.old.words + (if moved.made then 1 else 0)) }
-    ensures wild { IsErrOf result (stops.Wild t) ↔ (layout.now.image_words ≤ t) }
-    ensures full { IsErrOf result (stops.CodeFull t) ↔ HasNoRoom layout.now flash.old.words t }
-    ensures entered { IfOk result (λ moved. IsEntry layout.now flash.new.words t moved.place) }
-    ensures refused { OnErr result ((flash.new ≡ flash.old) × (sram.new ≡ sram.old)) }
-    ensures faithful { IsFaithful layout.now (image_of layout.now flash.new.words) flash.new.words }
-    ensures image { image_of layout.now flash.new.words ≡ image_of layout.now flash.old.words }
-    ensures entries { (a v : ℕ) → IsEntry layout.now flash.old.words a v → IsEntry layout.now flash.new.words a v }
-    // Each other stub stays as it is.
-    ensures stubs { (s to : ℕ) → stub ≢ Just s → IsUnresolved layout.now (image_of layout.now flash.old.words) flash.old.words s to
-        → IsUnresolved layout.now (image_of layout.now flash.new.words) flash.new.words s to }
-    ensures tables { IsTables layout.now sram.new flash.new.words }
-    ensures rest { KeepsRest sram.old sram.new }
-    ensures erases { stub ≡ Nothing → flash.new.erases ≡ flash.old.erases }
-{
-    let moved = match reach(sram, flash, layout, t) {
-        Ok(moved) => moved,
-        Err(stop) => return Err(stop),
-    };
-    if let Some(stub) = stub {
-        resolve(flash, layout, stub, moved.place);
-    }
-    Ok(moved)
-}
-
-/// An arrival without a stub that goes by the tables, right or not.
-fn reach(sram: &mut Sram, flash: &mut Flash, layout: &Layout, t: u16) -> Result<Moved, ArriveStop>
-    requires right { IsRight layout.now }
-    requires faithful { IsFaithful layout.now (image_of layout.now flash.old.words) flash.old.words }
-    ensures reaches { Reaches layout.now (record { flash = flash.old; sram = sram.old })
-        (record { flash = flash.new; sram = sram.new }) t result }
-    ensures tables { IsTables layout.now sram.old flash.old.words → IsTables layout.now sram.new flash.new.words }
-    ensures refused { OnErr result ((flash.new ≡ flash.old) × (sram.new ≡ sram.old)) }
-    ensures faithful { IsFaithful layout.now (image_of layout.now flash.new.words) flash.new.words }
-    ensures image { image_of layout.now flash.new.words ≡ image_of layout.now flash.old.words }
-    ensures entries { (a v : ℕ) → IsEntry layout.now flash.old.words a v → IsEntry layout.now flash.new.words a v }
-    ensures stubs { (s to : ℕ) → IsUnresolved layout.now (image_of layout.now flash.old.words) flash.old.words s to
-        → IsUnresolved layout.now (image_of layout.now flash.new.words) flash.new.words s to }
-    ensures rest { KeepsRest sram.old sram.new }
-    ensures erases { flash.new.erases ≡ flash.old.erases }
+    ensures arrives { Arrives layout.now (record { flash = flash.old; sram = sram.old }) (record { flash = flash.new; sram = sram.new }) t result }
+    // With the words put in that a torn page lacks, the pool is faithful to the same image, and right tables are right.
+    ensures kept { Kept layout.now (record { flash = flash.old; sram = sram.old }) (record { flash = flash.new; sram = sram.new }) t result }
+    // One page more is used where one was made, as far as the pool goes.
+    ensures used { used_pages layout.now (with_torn flash.new.words (torn_in result)) ≡ min (used_pages layout.now flash.old.words + one_if (made_in result)) layout.now.pool_pages }
+    // A refusal comes where flash refuses an operation, and is of that one.
+    ensures tried { Tried layout.now flash.old flash.new (stopped_by (refusal_in result)) }
+    ensures rest { KeepsOtherBytes sram.old sram.new }
+    ensures wild { IsErrOf result (record { why = stops.Wild t; torn = Nothing }) ↔ (layout.now.image_words ≤ t) }
 {
     if t >= layout.image_words {
-        return Err(ArriveStop::Wild { address: t });
+        return Err(Refused {
+            why: ArriveStop::Wild { address: t },
+            torn: None,
+        });
     }
     if let Some(place) = find(sram, flash, layout, t) {
-        return Ok(Moved { place, made: false });
+        return Ok(Moved {
+            place,
+            made: false,
+            recycled: None,
+        });
     }
-    match naturalise(flash, layout, t) {
-        Ok(place) => {
-            note(sram, t, place);
-            Ok(Moved { place, made: true })
+    match free_page(flash, layout) {
+        Some(page) => make_page(sram, flash, layout, page, t, false),
+        None => recycle(sram, flash, layout, t),
+    }
+}
+
+/// Recycles the page that RING names for the page of `t`.
+fn recycle(sram: &mut Sram, flash: &mut Flash, layout: &Layout, t: u16) -> Result<Moved, Refused>
+    requires right { IsRight layout.now }
+    requires code { IsFaithful layout.now (image_of layout.now flash.old.words) flash.old.words }
+    requires inside { t < layout.now.image_words }
+    requires unknown { HasNoEntry layout.now flash.old.words t }
+    requires full { HasNoFree layout.now flash.old.words }
+    requires ring { ring_of sram.old < layout.now.pool_pages }
+    requires room { flash.old.ops < 2 ^ 61 }
+    ensures recycles { Recycles layout.now (record { flash = flash.old; sram = sram.old }) (record { flash = flash.new; sram = sram.new }) (layout.now.pool_first + ring_of sram.old) t result }
+    ensures used { used_pages layout.now (with_torn flash.new.words (torn_in result)) ≡ layout.now.pool_pages }
+    ensures rest { KeepsOtherBytes sram.old sram.new }
+    ensures kept { Kept layout.now (record { flash = flash.old; sram = sram.old }) (record { flash = flash.new; sram = sram.new }) t result }
+{
+    let victim = layout.pool_first + ring(sram);
+    match unresolve(flash, layout, victim) {
+        Ok(()) => {}
+        Err(stop) => {
+            return Err(Refused {
+                why: ArriveStop::Flash { op: stop.op },
+                torn: stop.torn,
+            });
         }
-        Err(NatStop::CodeFull { .. }) => Err(ArriveStop::CodeFull { address: t }),
     }
+    forget_page(sram, victim);
+    match flash.erase(victim) {
+        Ok(()) => {}
+        Err(stop) => {
+            return Err(Refused {
+                why: ArriveStop::Flash { op: stop.op },
+                torn: None,
+            });
+        }
+    }
+    turn(sram, layout);
+    make_page(sram, flash, layout, victim, t, true)
+}
+
+/// Makes the page of `t` in this page, which is free, and notes its place. `again` says that it was erased for
+/// that.
+fn make_page(
+    sram: &mut Sram,
+    flash: &mut Flash,
+    layout: &Layout,
+    page: u16,
+    t: u16,
+    again: bool,
+) -> Result<Moved, Refused>
+    requires right { IsRight layout.now }
+    requires code { IsFaithful layout.now (image_of layout.now flash.old.words) flash.old.words }
+    requires pool { IsPool layout.now page }
+    requires free { IsFree flash.old.words page }
+    requires inside { t < layout.now.image_words }
+    requires unknown { HasNoEntry layout.now flash.old.words t }
+    requires room { flash.old.ops < 2 ^ 62 }
+    requires size { length sram.old ≡ byte_count }
+    ensures kept { Kept layout.now (record { flash = flash.old; sram = sram.old }) (record { flash = flash.new; sram = sram.new }) t result }
+    ensures makes { Makes layout.now (record { flash = flash.old; sram = sram.old }) (record { flash = flash.new; sram = sram.new }) page t again result }
+    ensures used { used_pages layout.now (with_torn flash.new.words (torn_in result)) ≡ used_pages layout.now flash.old.words + one_if (again || made_in result) }
+    ensures rest { KeepsOtherBytes sram.old sram.new }
+{
+    let prepared = prepare(flash, layout, page, t);
+    match flash.program(page, &prepared.words) {
+        Ok(()) => {
+            note(sram, t, prepared.place);
+            Ok(Moved {
+                place: prepared.place,
+                made: true,
+                recycled: recycled(again, page),
+            })
+        }
+        Err(stop) => Err(Refused {
+            why: ArriveStop::Flash { op: stop.op },
+            torn: lacking(again, page, &prepared.words),
+        }),
+    }
+}
+
+/// The page that was erased for an arrival, if it was.
+fn recycled(again: bool, page: u16) -> Option<u16>
+    ensures value { result ≡ recycled_page again page }
+{
+    if again { Some(page) } else { None }
+}
+
+/// The page that lacks these words, if it was erased for them.
+fn lacking(again: bool, page: u16, words: &[u16; 128]) -> Option<Torn>
+    ensures value { result ≡ lacking_of (Program again page words.now) }
+{
+    if again {
+        Some(Torn {
+            page,
+            words: *words,
+        })
+    } else {
+        None
+    }
+}
+
+/// The number within the pool of the page to recycle next.
+#[tactic(auto, unfolding(sram_layout::specs::Bytes::data_word_at))]
+fn ring(sram: &Sram) -> u16
+    ensures value { result ≡ ring_of sram.now }
+{
+    u16::from(sram.byte(RING)) + 256 * u16::from(sram.byte(RING + 1))
+}
+
+/// Goes on to the next.
+#[tactic(auto, unfolding(sram_layout::specs::Bytes::with_word))]
+fn turn(sram: &mut Sram, layout: &Layout)
+    requires right { IsRight layout.now }
+    requires ring { ring_of sram.old < layout.now.pool_pages }
+    ensures after { sram.new ≡ turned layout.now sram.old }
+    ensures size { (length sram.old ≡ byte_count) × (length sram.new ≡ byte_count) }
+{
+    let next = (ring(sram) + 1) % layout.pool_pages;
+    sram.set(RING, (next % 256) as u8);
+    sram.set(RING + 1, (next / 256) as u8);
 }

@@ -1,25 +1,35 @@
-//! Arrivals: control leaves the rewritten code for an original address, and goes on at its place.
+//! Arrivals: what happens where control comes to an original address.
 //!
-//! [`arrive`] finds the place of an original address in the code pool, by the kernel's tables where they
-//! have it, and makes the page first where no page has it. It is refused outside the image, and where no
-//! page is free. [`resolve`] makes a stub jump to the place, so that the kernel isn't called there again.
-//! [`arrive_from`] does both, and tells whether a page was made.
+//! [`arrive`] gives the place where the rewritten code of the address begins. Where no page has it, the page is
+//! made: in the lowest free page of the pool, or else in the one that RING names, which is recycled.
+//! [`arrive_from`] is the whole arrival, through a stub that is resolved then.
 //!
 //! ```rust
-//! let moved = arrive_from(&mut sram, &mut flash, &layout, t, Some(stub))?;
-//! pages += u64::from(moved.made);
+//! let arrival = arrive_from(&mut sram, &mut flash, &layout, t, Some(stub));
+//! if let Some(place) = arrival.place { /* control goes on there */ }
+//! if let Some(refused) = arrival.refused { /* outside the image, or flash refused an operation */ }
 //! ```
 //!
-//! `specs/Resolving.antt` says what resolving a stub changes, `specs/Effects.antt` what effects an arrival may
-//! have on flash and SRAM, and `specs/Arrivals.antt` which it has, what it answers, and how it goes by the
-//! tables. Public laws: `ResolveLaws` (what stays where a stub is resolved), `ArrivalLaws` (an arrival has one
-//! outcome), `AnswerLaws` (when each answer comes), `KeptLaws` (what an arrival leaves; right tables stay
-//! right), `CountLaws` (one more page is used exactly where one is made, and it begins with the arrival's
-//! address) and `ReachLaws` (where the tables are right, it is the arrival that the pool alone decides).
+//! [`resolve`] makes one stub jump to its place, and [`unresolve`] makes all stubs that jump into a page call the
+//! kernel's bridge again.
+//!
+//! `specs/Operating` says what operations on flash do, one after another, up to the first that is refused, and
+//! `specs/Tried` what stands then. `specs/Resolving`, `specs/Unresolving` and `specs/Arrivals` say which operations
+//! the calls try, what else they change, and what they answer. docs/LOADER.md has the same in prose.
+//!
+//! Public laws: `PerformLaws` and `TriedLaws` (operations in a row), `RecycleLaws` (a page that none leads into is
+//! erased), `ArrivalLaws` (which operations an arrival tries), `RestLaws` (bytes beside RING and the tables, and
+//! RING at boot).
 #![tactic(auto)]
 
 mod arrival;
 mod resolving;
+mod rewriting;
+mod through;
+mod unresolving;
 
-pub use arrival::{ArriveStop, Moved, arrive, arrive_from};
+pub use arrival::{ArriveStop, Moved, Refused, arrive};
 pub use resolving::resolve;
+pub use rewriting::{ResolveStop, Torn};
+pub use through::{Arrival, arrive_from};
+pub use unresolving::unresolve;

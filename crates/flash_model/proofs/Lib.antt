@@ -1,6 +1,10 @@
 mod Programming
 mod Renewing
+mod FailingLaws
+mod WorkedOperations
 pub mod PageLaws
 pub mod WordLaws
 pub mod LoadedLaws
 pub mod ImageLaws
+pub mod OperationLaws
+pub mod LayoutLaws

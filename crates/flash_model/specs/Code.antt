@@ -1,10 +1,10 @@
 -- What is decoded at each word address.
-use Rattle.std.specs.Prelude.{ℕ, ◌≡◌, ◌≢◌, ◌+◌, ◌/◌, ◌%◌, ◌<◌, ◌≤◌, ◌⊎◌, List, length, slice_index_or}
+use Rattle.std.specs.Prelude.{ℕ, ◌≡◌, ◌+◌, ◌%◌, ◌<◌, ◌≤◌, ◌⊎◌, List, length, slice_index_or}
 use Rattle.std.specs.Option.{unwrap_or}
 use Rattle.avr_isa.specs.declared.form.Form.TheVariants.{Nop}
 use Rattle.avr_decode.specs.Decoding.{the_form, size_by_first_word}
 use Rattle.flash_model.specs.declared.decoded.Decoded.{Decoded}
-use Rattle.flash_model.specs.Pages.{word_count, page_words, word_at}
+use Rattle.flash_model.specs.Pages.{word_count, word_at}
 
 -- the word address behind a; behind the last word comes the first
 abbrev pub behind : ℕ → ℕ
@@ -28,12 +28,16 @@ pub record IsDecoded (words : List ℕ) (code : List Decoded) : Type 0 where
   pub size : length code ≡ word_count
   pub each : (a : ℕ) → a < word_count → HasDecoded words code a
 
+-- a word address outside of a range
+abbrev pub IsOutside : (a from to : ℕ) → Type 0
+IsOutside a from to = (a < from) ⊎ (to ≤ a)
+
 -- .. at each outside of a range
 pub record IsDecodedOutside (words : List ℕ) (code : List Decoded) (from to : ℕ) : Type 0 where
   pub size : length code ≡ word_count
-  pub each : (a : ℕ) → a < word_count → (a < from) ⊎ (to ≤ a) → HasDecoded words code a
+  pub each : (a : ℕ) → a < word_count → IsOutside a from to → HasDecoded words code a
 
--- .. at each whose two words are not of this page
-pub record IsDecodedBeside (words : List ℕ) (code : List Decoded) (page : ℕ) : Type 0 where
+-- .. at each whose two words are outside of a range
+pub record IsDecodedBeside (words : List ℕ) (code : List Decoded) (from to : ℕ) : Type 0 where
   pub size : length code ≡ word_count
-  pub each : (a : ℕ) → a < word_count → a / page_words ≢ page → behind a / page_words ≢ page → HasDecoded words code a
+  pub each : (a : ℕ) → a < word_count → IsOutside a from to → IsOutside (behind a) from to → HasDecoded words code a

@@ -1,4 +1,6 @@
 pub mod Pages
 pub mod Memory
+pub mod Operations
+pub mod Failing
 pub mod Layouts
 pub mod Code

@@ -1,12 +1,16 @@
 -- The flash as contracts see it, and as it is first.
-use Rattle.std.specs.Prelude.{◌≡◌, ℕ, ◌-◌, ◌<◌, List, ◌++◌, length}
+use Rattle.std.specs.Prelude.{◌≡◌, ℕ, ◌-◌, ◌<◌, List, ◌++◌, length, Option, None}
 use Rattle.flash_model.specs.Pages.{word_count, page_count, word_at}
 use Rattle.list_parts.specs.Lists.{many}
 
--- the words from address 0 on, and how often each page was erased
+-- the words from address 0 on, how often each page was erased, the numbers of the operations that are to fail,
+-- how many operations were tried, and the page of the last one that was refused
 pub record Memory : Type 0 where
   pub words : List ℕ
   pub erases : List ℕ
+  pub failing : List ℕ
+  pub ops : ℕ
+  pub refused : Option ℕ
 
 -- each word has 16 bits
 abbrev pub AreWords : List ℕ → Type 0
@@ -25,3 +29,7 @@ kernel_first = 0xF000
 -- the image from word 0 on, erased words up to the kernel's pages, and RET in each word of these
 unfoldable pub loaded : List ℕ → List ℕ
 loaded image = image ++ many (kernel_first - length image) 0xFFFF ++ many (word_count - kernel_first) 0x9508
+
+-- a new flash: no page was erased, and no operation was tried
+abbrev pub new_flash : (image failing : List ℕ) → Memory
+new_flash image failing = record { words = loaded image; erases = many page_count 0; failing = failing; ops = 0; refused = None }

@@ -1,9 +1,11 @@
 //! The words of flash, and the operations on its pages.
 
-ghost use Rattle.std.specs.Prelude.{◌≡◌, ◌+◌, ◌-◌, ◌*◌, ◌≤◌, ◌<◌, ◌++◌, length, OnOk, OnErr, IfOk, slice_index, slice_set};
+ghost use Rattle.std.specs.Prelude.{◌≡◌, ◌+◌, ◌-◌, ◌*◌, ◌≤◌, ◌<◌, ◌++◌, ◌^◌, true, false, length, OnOk, OnErr, IfOk, IfErr, slice_index, slice_set};
+ghost use Rattle.flash_model.specs.Operations.{next_op, fails, left_by_refusal, erased_page, programmed_page, renewed};
 ghost use Rattle.flash_model.specs.Pages.{word_count, page_count, page_words, many, word_at, page_of, set_page, blank, programmed, raised};
-ghost use Rattle.flash_model.specs.Memory.{AreWords, IsWhole, loaded};
+ghost use Rattle.flash_model.specs.Memory.{AreWords, IsWhole, loaded, new_flash};
 
+use crate::failing::{FlashStop, next_listed};
 use std::alloc::Global;
 use std::marker::Model;
 use tk_io::NoMemory;
@@ -21,7 +23,7 @@ pub(crate) const PAGE_WORDS: usize = 128;
 const KERNEL_FIRST: usize = 0xF000;
 
 /// An erased word.
-const BLANK: u16 = 0xFFFF;
+pub(crate) const BLANK: u16 = 0xFFFF;
 
 /// RET, the word in each place of the kernel's pages.
 const RET: u16 = 0x9508;
@@ -30,30 +32,48 @@ const RET: u16 = 0x9508;
 #[derive(Debug, Drop)]
 pub(crate) struct Cells {
     words: Vec<u16>,
+    /// How often each page was erased.
     erases: Vec<u32>,
+    /// The numbers of the operations that are to fail.
+    failing: Vec<u32>,
+    /// The least of them that is still ahead.
+    next_failing: u64,
+    /// How many operations were tried.
+    ops: u64,
+    /// The page of the last one that was refused.
+    refused: Option<u16>,
 }
 
 impl Model for Cells {
     ghost use Rattle.flash_model.specs.Memory.{Memory, IsWhole};
+    ghost use Rattle.flash_model.specs.Failing.{IsNextListed};
 
     ghost Value = { Memory };
 
-    ghost view = { λ f. record { words = f.words.items; erases = f.erases.items } };
+    ghost view = { λ f. record { words = f.words.items; erases = f.erases.items; failing = f.failing.items; ops = f.ops; refused = f.refused } };
 
-    ghost invariant = { λ f. IsWhole (record { words = f.words.items; erases = f.erases.items }) };
+    ghost invariant = { λ f. IsWhole (record { words = f.words.items; erases = f.erases.items; failing = f.failing.items; ops = f.ops; refused = f.refused }) × IsNextListed f.failing.items f.ops f.next_failing };
 }
 
 impl Cells {
     /// A flash that holds the image from word 0 on, and the kernel; no page was erased yet.
-    pub(crate) fn new(alloc: Global, image: &[u16]) -> Result<Cells, NoMemory>
-        requires { length image.now ≤ 16384 }
-        ensures words { IfOk result (λ flash. flash.words ≡ loaded image.now) }
-        ensures erases { IfOk result (λ flash. flash.erases ≡ many page_count 0) }
+    pub(crate) fn new(alloc: Global, image: &[u16], failing: &[u32]) -> Result<Cells, NoMemory>
+        requires { length image.now ≤ 24576 }
+        ensures new { IfOk result (λ cells. cells ≡ new_flash image.now failing.now) }
         ensures whole { IfOk result IsWhole }
     {
         let words = loaded_words(alloc, image)?;
         let erases = no_erases(alloc)?;
-        Ok(Cells { words, erases })
+        let failing = failing.to_vec(alloc).map_err(|_| NoMemory)?;
+        let next_failing = next_listed(&failing, 0);
+        Ok(Cells {
+            words,
+            erases,
+            failing,
+            next_failing,
+            ops: 0,
+            refused: None,
+        })
     }
 
     /// The word at a word address.
@@ -64,34 +84,6 @@ impl Cells {
         self.words[a as usize]
     }
 
-    /// Makes each word of the page 0xFFFF.
-    #[tactic(auto, unfolding(crate::specs::Pages::set_page))]
-    pub(crate) fn erase(&mut self, page: u16)
-        requires { page < page_count }
-        ensures words { self.new.words ≡ set_page self.old.words page blank }
-        ensures erases { self.new.erases ≡ slice_set self.old.erases page (raised (slice_index self.old.erases page)) }
-        ensures whole { IsWhole self.old × IsWhole self.new }
-    {
-        let first = PAGE_WORDS * page as usize;
-        self.words[first..first + PAGE_WORDS].copy_from_slice(&erased());
-        let count = self.erases[page as usize];
-        self.erases[page as usize] = count.saturating_add(1);
-    }
-
-    /// Clears in each word of the page the bits that the word to be programmed has clear.
-    #[tactic(auto, unfolding(crate::specs::Pages::set_page, crate::specs::Pages::page_of))]
-    pub(crate) fn program(&mut self, page: u16, words: &[u16; 128])
-        requires { page < page_count }
-        ensures words { self.new.words ≡ set_page self.old.words page (programmed (page_of self.old.words page) words.now) }
-        // A page that is erased then holds the words.
-        ensures fresh { page_of self.old.words page ≡ blank → self.new.words ≡ set_page self.old.words page words.now }
-        ensures erases { self.new.erases ≡ self.old.erases }
-        ensures whole { IsWhole self.old × IsWhole self.new }
-    {
-        let first = PAGE_WORDS * page as usize;
-        clear_bits(&mut self.words[first..first + PAGE_WORDS], words);
-    }
-
     /// How often the page was erased, 4,294,967,295 for this many times or more.
     pub(crate) fn erases(&self, page: u16) -> u32
         requires { page < page_count }
@@ -100,12 +92,117 @@ impl Cells {
     {
         self.erases[page as usize]
     }
+
+    /// How many operations were tried.
+    pub(crate) fn ops(&self) -> u64
+        ensures value { result ≡ self.now.ops }
+        ensures whole { IsWhole self.now }
+    {
+        self.ops
+    }
+
+    /// The page of the last operation that was refused.
+    pub(crate) fn refused(&self) -> Option<u16>
+        ensures value { result ≡ self.now.refused }
+        ensures whole { IsWhole self.now }
+    {
+        self.refused
+    }
+
+    /// Counts operations from 1 again, none of which is to fail.
+    pub(crate) fn renew(&mut self)
+        ensures renewed { self.new ≡ renewed self.old }
+        ensures whole { IsWhole self.old × IsWhole self.new }
+    {
+        self.failing.clear();
+        self.next_failing = next_listed(&self.failing, 0);
+        self.ops = 0;
+        self.refused = None;
+    }
+
+    /// Makes each word of the page 0xFFFF.
+    pub(crate) fn erase(&mut self, page: u16) -> Result<(), FlashStop>
+        requires page { page < page_count }
+        requires room { self.old.ops < 2 ^ 63 }
+        ensures done { OnOk result (self.new ≡ erased_page self.old page) }
+        ensures free { OnOk result (fails self.old ≡ false) }
+        ensures refused { OnErr result (self.new ≡ left_by_refusal self.old page) }
+        ensures listed { OnErr result (fails self.old ≡ true) }
+        ensures stop { IfErr result (λ stop. stop ≡ record { op = next_op self.old; page = page }) }
+        ensures whole { IsWhole self.old × IsWhole self.new }
+    {
+        self.begin(page)?;
+        self.make_blank(page);
+        Ok(())
+    }
+
+    /// Clears in each word of the page the bits that the word to be programmed has clear.
+    pub(crate) fn program(&mut self, page: u16, words: &[u16; 128]) -> Result<(), FlashStop>
+        requires page { page < page_count }
+        requires room { self.old.ops < 2 ^ 63 }
+        ensures done { OnOk result (self.new ≡ programmed_page self.old page (programmed (page_of self.old.words page) words.now)) }
+        // A page that is erased then holds the words.
+        ensures fresh { page_of self.old.words page ≡ blank → OnOk result (self.new ≡ programmed_page self.old page words.now) }
+        ensures free { OnOk result (fails self.old ≡ false) }
+        ensures refused { OnErr result (self.new ≡ left_by_refusal self.old page) }
+        ensures listed { OnErr result (fails self.old ≡ true) }
+        ensures stop { IfErr result (λ stop. stop ≡ record { op = next_op self.old; page = page }) }
+        ensures whole { IsWhole self.old × IsWhole self.new }
+    {
+        self.begin(page)?;
+        self.clear(page, words);
+        Ok(())
+    }
+
+    /// Numbers the next operation, on this page. It is refused where its number is listed.
+    fn begin(&mut self, page: u16) -> Result<(), FlashStop>
+        requires room { self.old.ops < 2 ^ 63 }
+        ensures going { OnOk result (self.new ≡ record self.old { ops = next_op self.old }) }
+        ensures free { OnOk result (fails self.old ≡ false) }
+        ensures refused { OnErr result (self.new ≡ left_by_refusal self.old page) }
+        ensures listed { OnErr result (fails self.old ≡ true) }
+        ensures stop { IfErr result (λ stop. stop ≡ record { op = next_op self.old; page = page }) }
+        ensures whole { IsWhole self.old × IsWhole self.new }
+    {
+        self.ops += 1;
+        if self.ops == self.next_failing {
+            self.next_failing = next_listed(&self.failing, self.ops);
+            self.refused = Some(page);
+            return Err(FlashStop { op: self.ops, page });
+        }
+        Ok(())
+    }
+
+    /// The page's words become 0xFFFF, and its erases one more.
+    #[tactic(auto, unfolding(crate::specs::Pages::set_page))]
+    fn make_blank(&mut self, page: u16)
+        requires { page < page_count }
+        ensures done { self.new ≡ record self.old { words = set_page self.old.words page blank; erases = slice_set self.old.erases page (raised (slice_index self.old.erases page)) } }
+        ensures whole { IsWhole self.old × IsWhole self.new }
+    {
+        let first = PAGE_WORDS * page as usize;
+        self.words[first..first + PAGE_WORDS].copy_from_slice(&erased());
+        let count = self.erases[page as usize];
+        self.erases[page as usize] = count.saturating_add(1);
+    }
+
+    /// The page's words become the old AND these.
+    #[tactic(auto, unfolding(crate::specs::Pages::set_page, crate::specs::Pages::page_of))]
+    fn clear(&mut self, page: u16, words: &[u16; 128])
+        requires { page < page_count }
+        ensures done { self.new ≡ record self.old { words = set_page self.old.words page (programmed (page_of self.old.words page) words.now) } }
+        ensures fresh { page_of self.old.words page ≡ blank → self.new ≡ record self.old { words = set_page self.old.words page words.now } }
+        ensures whole { IsWhole self.old × IsWhole self.new }
+    {
+        let first = PAGE_WORDS * page as usize;
+        clear_bits(&mut self.words[first..first + PAGE_WORDS], words);
+    }
 }
 
 /// The words of a flash that holds the image and the kernel.
 #[tactic(auto, unfolding(crate::specs::Memory::loaded))]
 fn loaded_words(alloc: Global, image: &[u16]) -> Result<Vec<u16>, NoMemory>
-    requires { length image.now ≤ 16384 }
+    requires { length image.now ≤ 24576 }
     ensures value { IfOk result (λ words. words.items ≡ loaded image.now) }
     ensures size { IfOk result (λ words. length words.items ≡ word_count) }
     ensures fit { IfOk result (λ words. AreWords words.items) }

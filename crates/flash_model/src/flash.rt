@@ -1,12 +1,15 @@
 //! Flash: its words, and what is decoded of them.
 
-ghost use Rattle.std.specs.Prelude.{◌≡◌, ◌≤◌, ◌<◌, length, IfOk, slice_index, slice_set};
-ghost use Rattle.flash_model.specs.Pages.{word_count, page_count, many, word_at, page_of, set_page, blank, programmed, raised};
-ghost use Rattle.flash_model.specs.Memory.{IsWhole, loaded};
-ghost use Rattle.flash_model.specs.Code.{decoded_at, IsDecoded, IsDecodedOutside, IsDecodedBeside};
+ghost use Rattle.std.specs.Prelude.{◌≡◌, ◌≤◌, ◌<◌, ◌^◌, true, false, [], ◌∷◌, length, OnOk, OnErr, IfOk, IfErr, slice_index};
+ghost use Rattle.flash_model.specs.Pages.{page_count, word_at, page_of, blank, programmed};
+ghost use Rattle.flash_model.specs.Memory.{IsWhole, new_flash};
+ghost use Rattle.flash_model.specs.Operations.{next_op, fails, left_by_refusal, erased_page, programmed_page, renewed, Erase, Program, perform, refusal_of};
+ghost use Rattle.flash_model.specs.Code.{decoded_at};
 
 use crate::cells::{Cells, PAGE_WORDS, WORDS};
+use crate::code::{no_code, renew, renew_blank, renew_changed, words_to_program};
 use crate::decoded::Decoded;
+use crate::failing::FlashStop;
 use std::alloc::Global;
 use std::marker::Model;
 use tk_io::NoMemory;
@@ -31,14 +34,14 @@ impl Model for Flash {
 }
 
 impl Flash {
-    /// A flash that holds the image from word 0 on, and the kernel; no page was erased yet.
-    pub fn new(alloc: Global, image: &[u16]) -> Result<Flash, NoMemory>
-        requires { length image.now ≤ 16384 }
-        ensures words { IfOk result (λ flash. flash.words ≡ loaded image.now) }
-        ensures erases { IfOk result (λ flash. flash.erases ≡ many page_count 0) }
+    /// A flash that holds the image from word 0 on, and the kernel; no page was erased yet. The operations of
+    /// these numbers, which may have any order, are to fail.
+    pub fn new(alloc: Global, image: &[u16], failing: &[u32]) -> Result<Flash, NoMemory>
+        requires { length image.now ≤ 24576 }
+        ensures new { IfOk result (λ flash. flash ≡ new_flash image.now failing.now) }
         ensures whole { IfOk result IsWhole }
     {
-        let cells = Cells::new(alloc, image)?;
+        let cells = Cells::new(alloc, image, failing)?;
         let mut code = no_code(alloc)?;
         renew(&cells, &mut code, 0, WORDS);
         Ok(Flash { cells, code })
@@ -62,30 +65,6 @@ impl Flash {
         &self.code[a as usize]
     }
 
-    /// Makes each word of the page 0xFFFF.
-    pub fn erase(&mut self, page: u16)
-        requires { page < page_count }
-        ensures words { self.new.words ≡ set_page self.old.words page blank }
-        ensures erases { self.new.erases ≡ slice_set self.old.erases page (raised (slice_index self.old.erases page)) }
-        ensures whole { IsWhole self.old × IsWhole self.new }
-    {
-        self.cells.erase(page);
-        renew_page(&self.cells, &mut self.code, page);
-    }
-
-    /// Clears in each word of the page the bits that the word to be programmed has clear.
-    pub fn program(&mut self, page: u16, words: &[u16; 128])
-        requires { page < page_count }
-        ensures words { self.new.words ≡ set_page self.old.words page (programmed (page_of self.old.words page) words.now) }
-        // A page that is erased then holds the words.
-        ensures fresh { page_of self.old.words page ≡ blank → self.new.words ≡ set_page self.old.words page words.now }
-        ensures erases { self.new.erases ≡ self.old.erases }
-        ensures whole { IsWhole self.old × IsWhole self.new }
-    {
-        self.cells.program(page, words);
-        renew_page(&self.cells, &mut self.code, page);
-    }
-
     /// How often the page was erased, 4,294,967,295 for this many times or more.
     pub fn erases(&self, page: u16) -> u32
         requires { page < page_count }
@@ -94,45 +73,79 @@ impl Flash {
     {
         self.cells.erases(page)
     }
-}
 
-/// For each word address, what two words of 0 are decoded to.
-fn no_code(alloc: Global) -> Result<Vec<Decoded>, NoMemory>
-    ensures size { IfOk result (λ code. length code.items ≡ word_count) }
-{
-    let mut code = Vec::new(alloc);
-    code.resize(WORDS, Decoded::new(0, 0))
-        .map_err(|_| NoMemory)?;
-    Ok(code)
-}
-
-/// Decodes anew at one word address.
-fn renew_at(cells: &Cells, code: &mut Vec<Decoded>, a: u16)
-    requires size { length code.old.items ≡ word_count }
-    ensures code { code.new.items ≡ slice_set code.old.items a (decoded_at cells.now.words a) }
-{
-    code[a as usize] = Decoded::new(cells.word(a), cells.word(a.wrapping_add(1)));
-}
-
-/// Decodes anew at the word addresses from one on up to another.
-fn renew(cells: &Cells, code: &mut Vec<Decoded>, from: usize, to: usize)
-    requires order { from ≤ to }
-    requires end { to ≤ word_count }
-    requires outside { IsDecodedOutside cells.now.words code.old.items from to }
-    ensures decoded { IsDecoded cells.now.words code.new.items }
-{
-    'renew: for a in from..to {
-        renew_at(cells, code, a as u16);
+    /// How many operations were tried: erases and programs, refused ones too.
+    pub fn ops(&self) -> u64
+        ensures value { result ≡ self.now.ops }
+        ensures whole { IsWhole self.now }
+    {
+        self.cells.ops()
     }
-}
 
-/// Decodes anew wherever a word of the page is read for it: at its words, and at the one before.
-fn renew_page(cells: &Cells, code: &mut Vec<Decoded>, page: u16)
-    requires page { page < page_count }
-    requires beside { IsDecodedBeside cells.now.words code.old.items page }
-    ensures decoded { IsDecoded cells.now.words code.new.items }
-{
-    let first = PAGE_WORDS * page as usize;
-    renew_at(cells, code, (first as u16).wrapping_sub(1));
-    renew(cells, code, first, first + PAGE_WORDS);
+    /// The page of the last operation that was refused; None where none was.
+    pub fn refused(&self) -> Option<u16>
+        ensures value { result ≡ self.now.refused }
+        ensures whole { IsWhole self.now }
+    {
+        self.cells.refused()
+    }
+
+    /// Counts operations from 1 again, none of which is to fail. No word changes.
+    pub fn renew(&mut self)
+        ensures renewed { self.new ≡ renewed self.old }
+        ensures whole { IsWhole self.old × IsWhole self.new }
+    {
+        self.cells.renew();
+    }
+
+    /// Makes each word of the page 0xFFFF. An operation: refused where its number is listed.
+    pub fn erase(&mut self, page: u16) -> Result<(), FlashStop>
+        requires page { page < page_count }
+        requires room { self.old.ops < 2 ^ 63 }
+        ensures done { OnOk result (self.new ≡ erased_page self.old page) }
+        ensures free { OnOk result (fails self.old ≡ false) }
+
+        // No word changes then, nor a count of erases.
+        ensures refused { OnErr result (self.new ≡ left_by_refusal self.old page) }
+        ensures listed { OnErr result (fails self.old ≡ true) }
+        ensures stop { IfErr result (λ stop. stop ≡ record { op = next_op self.old; page = page }) }
+
+        // The same in one equation.
+        ensures performed { perform self.old (Erase page ∷ []) ≡ record { memory = self.new; refusal = refusal_of (Erase page) result } }
+        ensures whole { IsWhole self.old × IsWhole self.new }
+    {
+        self.cells.erase(page)?;
+        renew_blank(&self.cells, &mut self.code, page);
+        Ok(())
+    }
+
+    /// Clears in each word of the page the bits that the word to be programmed has clear. An operation: refused
+    /// where its number is listed.
+    pub fn program(&mut self, page: u16, words: &[u16; 128]) -> Result<(), FlashStop>
+        requires page { page < page_count }
+        requires room { self.old.ops < 2 ^ 63 }
+        ensures done { OnOk result (self.new ≡ programmed_page self.old page (programmed (page_of self.old.words page) words.now)) }
+        // A page that is erased then holds the words.
+        ensures fresh { page_of self.old.words page ≡ blank → OnOk result (self.new ≡ programmed_page self.old page words.now) }
+        ensures free { OnOk result (fails self.old ≡ false) }
+
+        // No word changes then.
+        ensures refused { OnErr result (self.new ≡ left_by_refusal self.old page) }
+        ensures listed { OnErr result (fails self.old ≡ true) }
+        ensures stop { IfErr result (λ stop. stop ≡ record { op = next_op self.old; page = page }) }
+
+        // The same in one equation, for a page that is erased.
+        ensures performed { page_of self.old.words page ≡ blank → perform self.old (Program page words.now ∷ []) ≡ record { memory = self.new; refusal = refusal_of (Program page words.now) result } }
+        ensures whole { IsWhole self.old × IsWhole self.new }
+    {
+        self.cells.program(page, words)?;
+        let first = PAGE_WORDS * page as usize;
+        renew_changed(
+            &self.cells,
+            &mut self.code,
+            first,
+            first + words_to_program(words),
+        );
+        Ok(())
+    }
 }

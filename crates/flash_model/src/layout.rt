@@ -14,18 +14,27 @@ pub struct Layout {
 
 impl Layout {
     ghost use Rattle.std.specs.Prelude.{◌≡◌, ◌≤◌};
-    ghost use Rattle.flash_model.specs.Layouts.{IsRight};
+    ghost use Rattle.flash_model.specs.Layouts.{IsRight, layout_of};
 
-    /// The usual layout: the pool is pages 128 to 479.
-    pub fn usual(image_words: u16) -> Layout
-        requires { image_words ≤ 16384 }
+    /// The layout for an image of this many words: the pool is pages 128 to 479, or 192 to 479 for an image
+    /// that goes beyond page 127.
+    pub fn of(image_words: u16) -> Layout
+        requires { image_words ≤ 24576 }
         ensures right { IsRight result }
-        ensures value { result ≡ record { image_words = image_words; pool_first = 128; pool_pages = 352 } }
+        ensures value { result ≡ layout_of image_words }
     {
-        Layout {
-            image_words,
-            pool_first: 128,
-            pool_pages: 352,
+        if image_words <= 16384 {
+            Layout {
+                image_words,
+                pool_first: 128,
+                pool_pages: 352,
+            }
+        } else {
+            Layout {
+                image_words,
+                pool_first: 192,
+                pool_pages: 288,
+            }
         }
     }
 }

@@ -2,30 +2,47 @@
 //!
 //! A page is erased as a whole, which makes each of its words 0xFFFF, and programming a page can
 //! only clear bits: each word becomes the old AND the new. [`Flash`] counts the erases of each
-//! page. Contracts see it as the list of its words and the list of these counts
-//! (`specs/Memory.antt`); `specs/Pages.antt` says what each operation leaves, and
-//! `proofs/PageLaws.antt` has the laws of one page set and then one word or page read, and
-//! `proofs/WordLaws.antt` that words of 16 bits stay so.
+//! page.
+//!
+//! Each erase and each program is an *operation*, numbered from 1. A flash is made with a list of numbers whose
+//! operations are to fail: such a one answers [`FlashStop`], is counted too, and changes no word.
+//!
+//! ```rust
+//! let mut flash = Flash::new(rt.alloc(), image.words(), &[2])?;
+//! flash.erase(130)?;
+//! flash.program(130, &words) // Err(FlashStop { op: 2, page: 130 })
+//! ```
+//!
+//! Contracts see the record of its words, these counts, the list, the number of operations that were tried, and
+//! the page of the last one that was refused (`specs/Memory.antt`). `specs/Pages.antt` has one page of words, and
+//! `specs/Operations.antt` says what an operation leaves, and a list of operations up to the first that is
+//! refused. `proofs/PageLaws.antt` has the laws of one page set and then one word or page read,
+//! `proofs/WordLaws.antt` that words of 16 bits stay so, and `proofs/OperationLaws.antt` those of operations in
+//! a row.
 //!
 //! [`Flash::decoded`] gives what is kept decoded at a word address (`decoded.rt`). The words themselves
-//! are in `cells.rt`; behind each operation on a page, `flash.rt` decodes anew what is read of its words.
-//! That what is kept is what the words mean (`specs/Code.antt`) is an invariant of [`Flash`], and contracts
-//! see the words alone.
+//! are in `cells.rt`; behind each operation on a page, `code.rt` decodes anew what is read of the words that
+//! changed. That what is kept is what the words mean (`specs/Code.antt`) is an invariant of [`Flash`], and
+//! contracts see the words alone. `failing.rt` finds the next number that is listed, so an operation compares
+//! its own with one (`specs/Failing.antt`).
 //!
 //! Each call ensures that the flash is whole: 65,536 words of 16 bits in 512 pages (`IsWhole`). So a
 //! caller has a word's range from any call, as `c.word.ensures.whole.words_fit a`.
 //!
-//! [`Layout`] says which pages are the code pool's, and `specs/Layouts.antt` when it is right, and what the
-//! image is. [`word_in_image`] reads that.
+//! [`Layout`] says which pages are the code pool's, and `specs/Layouts.antt` when it is right, which one an
+//! image has, and what the image is. [`word_in_image`] reads that.
 #![tactic(auto)]
 
 mod cells;
+mod code;
 mod decoded;
+mod failing;
 mod flash;
 mod image;
 mod layout;
 
 pub use decoded::Decoded;
+pub use failing::FlashStop;
 pub use flash::Flash;
 pub use image::word_in_image;
 pub use layout::Layout;

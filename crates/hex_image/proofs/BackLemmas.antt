@@ -245,7 +245,7 @@ image_written words image =
       ends = ends;
       lines = subst (λ z. All IsBeforeEnd z) (sym front) right;
       different = subst (λ z. AreDifferent (places_of z)) (sym cells) sound.different;
-      small = subst (λ z. All (λ place. place < 32768) (places_of z)) (sym cells) sound.small;
+      small = subst (λ z. All (λ place. place < 49152) (places_of z)) (sym cells) sound.small;
       image = image_back words ∙ ap image_of_cells (sym cells);
       cut = ap length (sym whole);
     }

@@ -107,7 +107,7 @@ different-apart xs start n all i k inside below same =
 -- ---- a record behind others
 
 abbrev IsSmall : ℕ → Type 0
-IsSmall place = place < 32768
+IsSmall place = place < 49152
 
 -- the cells of lines have different places, each below the limit
 pub record AreSound (cells : List Cell) : Type 0 where
@@ -117,7 +117,7 @@ pub record AreSound (cells : List Cell) : Type 0 where
 -- a record without a fault keeps the places different
 sound-record : (cells : List Cell) (start : ℕ) (content : List ℕ) → AreSound cells
     → list_any (λ place. is_some (byte_given cells place)) (range_with_len start (length content)) ≡ false
-    → list_any (λ place. nat_le 32768 place) (range_with_len start (length content)) ≡ false
+    → list_any (λ place. nat_le 49152 place) (range_with_len start (length content)) ≡ false
     → AreSound (cells ++ enumerate_from start content)
 sound-record cells start content sound free small =
     let whole = places_of-append cells start content in
@@ -129,9 +129,9 @@ sound-record cells start content sound free small =
     let row : All IsSmall (range_with_len start (length content)) =
     All-from_get_or IsSmall (range_with_len start (length content)) 0 (λ k inside.
     let below : k < length content = omega (arith, length-range_with_len start (length content)) in
-    let no : nat_le 32768 (start + k) ≡ false = none_at (λ place. nat_le 32768 place) start (length content) k below small in
-    let less : start + k < 32768 = grind (arith, nat_tests) in
-    subst (λ z. z < 32768) (sym (get_or-range_with_len start (length content) k 0 below)) less) in
+    let no : nat_le 49152 (start + k) ≡ false = none_at (λ place. nat_le 49152 place) start (length content) k below small in
+    let less : start + k < 49152 = grind (arith, nat_tests) in
+    subst (λ z. z < 49152) (sym (get_or-range_with_len start (length content) k 0 below)) less) in
     record {
       different = rw whole (different-row (places_of cells) start (length content) sound.different apart);
       small = rw whole (All-append IsSmall (places_of cells) (range_with_len start (length content)) sound.small row);
@@ -141,7 +141,7 @@ true_or_false : (b : Bool) → (b ≡ true) ⊎ (b ≡ false)
 true_or_false true = inl refl
 true_or_false false = inr refl
 
-large_or_small : (place : ℕ) → nat_le 32768 place ≡ true → place < 32768 → ⊥
+large_or_small : (place : ℕ) → nat_le 49152 place ≡ true → place < 49152 → ⊥
 large_or_small place large small = grind (arith, nat_tests)
 
 -- a record that keeps the places different has no fault
@@ -163,12 +163,12 @@ record-sound cells from address content sound fits =
           absurd (different-apart (places_of cells) start (length content) different given.0 found.0 given.1 found.1 given.2)
       | inr none ↦ none
     ] in
-    let below : list_any (λ place. nat_le 32768 place) row ≡ false =
-    elim (true_or_false (list_any (λ place. nat_le 32768 place) row)) [
+    let below : list_any (λ place. nat_le 49152 place) row ≡ false =
+    elim (true_or_false (list_any (λ place. nat_le 49152 place) row)) [
       | inl some ↦
-          let found = any_from (λ place. nat_le 32768 place) start (length content) some in
+          let found = any_from (λ place. nat_le 49152 place) start (length content) some in
           let here : get_or row found.0 0 ≡ start + found.0 = get_or-range_with_len start (length content) found.0 0 found.1 in
-          let less : get_or row found.0 0 < 32768 = All-get_or IsSmall row found.0 0 (omega (arith, found.1, length-range_with_len start (length content))) behind in
+          let less : get_or row found.0 0 < 49152 = All-get_or IsSmall row found.0 0 (omega (arith, found.1, length-range_with_len start (length content))) behind in
           absurd (large_or_small (start + found.0) found.2 (omega (arith, here, less)))
       | inr none ↦ none
     ] in
@@ -285,14 +285,14 @@ passed_lines lines n last is right sound m below =
     }
 
 -- an image's bytes
-pub extent-small : (cells : List Cell) → All IsSmall (places_of cells) → extent cells ≤ 32768
+pub extent-small : (cells : List Cell) → All IsSmall (places_of cells) → extent cells ≤ 49152
 extent-small [] small = omega arith
 extent-small (cell ∷ cells) small =
-    let here : cell.0 < 32768 = All-head IsSmall cell.0 (places_of cells) small in
+    let here : cell.0 < 49152 = All-head IsSmall cell.0 (places_of cells) small in
     omega (arith, here, extent-small cells (All-tail IsSmall cell.0 (places_of cells) small))
 
 -- bytes in a row have different places
-pub sound_row : (start : ℕ) (content : List ℕ) → start + length content ≤ 32768 → AreSound (enumerate_from start content)
+pub sound_row : (start : ℕ) (content : List ℕ) → start + length content ≤ 49152 → AreSound (enumerate_from start content)
 sound_row start content fits =
     let row = range_with_len start (length content) in
     let whole = places_of-row start content in
@@ -300,6 +300,6 @@ sound_row start content fits =
     let small : All IsSmall row =
     All-from_get_or IsSmall row 0 (λ k inside.
     let below : k < length content = omega (arith, length-range_with_len start (length content)) in
-    let less : start + k < 32768 = omega arith in
-    subst (λ z. z < 32768) (sym (get_or-range_with_len start (length content) k 0 below)) less) in
+    let less : start + k < 49152 = omega arith in
+    subst (λ z. z < 49152) (sym (get_or-range_with_len start (length content) k 0 below)) less) in
     record { different = rw whole different; small = rw whole small }

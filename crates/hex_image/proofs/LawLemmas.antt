@@ -91,7 +91,7 @@ words_of_slots cells slots are =
     ∙ ap (λ n. map (word_of_cells cells) (range_with_len 0 ((n + 1) / 2))) are.size
 
 -- an image's bytes are within the limit
-pub slots_few : (text : List ℕ) (slots : List (Option ℕ)) (position : ℕ) → IsEnded text slots position → length slots ≤ 32768
+pub slots_few : (text : List ℕ) (slots : List (Option ℕ)) (position : ℕ) → IsEnded text slots position → length slots ≤ 49152
 slots_few text slots position e =
     omega (arith, e.slots_are.size, extent-small (cells_of (take e.before (meanings_of text))) (sound_lines (meanings_of text) e.before e.passed).1.small)
 

@@ -55,16 +55,16 @@ pub any_given : (cells : List Cell) (slots : List (Option ℕ)) (xs : List ℕ) 
 any_given cells slots xs are = any_same (λ place. is_some (byte_given cells place)) (λ place. is_some (get_or slots place None)) (λ place. ap is_some (sym (are.bytes place))) xs
 
 -- places in a row reach the limit where the last of them does
-pub any_large : (a n : ℕ) → list_any (λ place. nat_le 32768 place) (range_with_len a n) ≡ nat_lt (max 32768 a) (a + n)
+pub any_large : (a n : ℕ) → list_any (λ place. nat_le 49152 place) (range_with_len a n) ≡ nat_lt (max 49152 a) (a + n)
 any_large a zero = grind (arith, nat_tests)
 any_large a (suc n) =
     let later = any_large (a + 1) n in
-    ap (λ z. nat_le 32768 a || z) later ∙ grind (arith, nat_tests)
+    ap (λ z. nat_le 49152 a || z) later ∙ grind (arith, nat_tests)
 
 -- the first fault, by the tests
 pub fault_by : (cells : List Cell) (from address : ℕ) (content : List ℕ) (w t l : Bool) → nat_lt 65536 (address + length content) ≡ w
     → list_any (λ place. is_some (byte_given cells place)) (range_with_len (from + address) (length content)) ≡ t
-    → list_any (λ place. nat_le 32768 place) (range_with_len (from + address) (length content)) ≡ l
+    → list_any (λ place. nat_le 49152 place) (range_with_len (from + address) (length content)) ≡ l
     → place_fault cells from address content ≡ cond w (Some Wrap) (cond t (Some Twice) (cond l (Some TooLarge) None))
 fault_by cells from address content w t l wraps given large = rw (wraps, given, large) refl
 
@@ -72,13 +72,13 @@ fault_by cells from address content w t l wraps given large = rw (wraps, given, 
 pub large_or_none : (cells : List Cell) (slots : List (Option ℕ)) (from start address : ℕ) (content : List ℕ) (l : Bool) → AreSlots cells slots
     → address + length content ≤ 65536 → start ≡ from + address
     → list_any (λ place. is_some (get_or slots place None)) (range_with_len start (length content)) ≡ false
-    → nat_lt (max 32768 start) (start + length content) ≡ l
+    → nat_lt (max 49152 start) (start + length content) ≡ l
     → place_fault cells from address content ≡ cond l (Some TooLarge) None
 large_or_none cells slots from start address content l are fits is free large =
     let wraps : nat_lt 65536 (address + length content) ≡ false = grind (arith, nat_tests) in
     let given : list_any (λ place. is_some (byte_given cells place)) (range_with_len (from + address) (length content)) ≡ false =
     rw (← is) (any_given cells slots (range_with_len start (length content)) are ∙ free) in
-    let beyond : list_any (λ place. nat_le 32768 place) (range_with_len (from + address) (length content)) ≡ l =
+    let beyond : list_any (λ place. nat_le 49152 place) (range_with_len (from + address) (length content)) ≡ l =
     rw (← is) (any_large start (length content) ∙ large) in
     fault_by cells from address content false false l wraps given beyond
 

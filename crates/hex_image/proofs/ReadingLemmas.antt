@@ -94,7 +94,7 @@ no_fault false false false none = (refl, refl, refl)
 pub no_place_fault : (cells : List Cell) (from address : ℕ) (content : List ℕ) → place_fault cells from address content ≡ None
     → (nat_lt 65536 (address + length content) ≡ false)
     × (list_any (λ place. is_some (byte_given cells place)) (range_with_len (from + address) (length content)) ≡ false)
-    × (list_any (λ place. nat_le 32768 place) (range_with_len (from + address) (length content)) ≡ false)
+    × (list_any (λ place. nat_le 49152 place) (range_with_len (from + address) (length content)) ≡ false)
 no_place_fault cells from address content none = no_fault _ _ _ (sym (fault_by cells from address content _ _ _ refl refl refl) ∙ none)
 
 -- a data record

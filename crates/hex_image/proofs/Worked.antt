@@ -44,10 +44,10 @@ kind = refl
 pub wrap : fault_behind [] (bytes_at 0xFFFF (0 ∷ 0 ∷ [])) ≡ Some Wrap
 wrap = refl
 
-pub twice : fault_behind (bytes_at 0x7FFF (0 ∷ []) ∷ []) (bytes_at 0x7FFF (0 ∷ 0 ∷ [])) ≡ Some Twice
+pub twice : fault_behind (bytes_at 0xBFFF (0 ∷ []) ∷ []) (bytes_at 0xBFFF (0 ∷ 0 ∷ [])) ≡ Some Twice
 twice = refl
 
-pub too_large : fault_behind (base 0x7FFE ∷ []) (bytes_at 1 (0 ∷ 0 ∷ [])) ≡ Some TooLarge
+pub too_large : fault_behind (base 0xBFFE ∷ []) (bytes_at 1 (0 ∷ 0 ∷ [])) ≡ Some TooLarge
 too_large = refl
 
 -- a record without bytes has no place

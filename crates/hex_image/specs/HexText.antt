@@ -24,13 +24,13 @@ AreDifferent xs = (i j : ℕ) → i < j → j < length xs → slice_index xs i �
 
 -- The text has this image, and the text behind its end record's line begins at this position: each line
 -- before the first end record is empty or a record, and the bytes of all these records have different
--- places within the image's limit of 32,768 bytes.
+-- places within the image's limit of 49,152 bytes.
 pub record HexText (text words : List ℕ) (position : ℕ) : Type 0 where
   pub before : ℕ
   pub ends : slice_get (meanings_of text) before ≡ Some end_of_file
   pub lines : All IsBeforeEnd (take before (meanings_of text))
   pub different : AreDifferent (places_of (cells_of (take before (meanings_of text))))
-  pub small : All (λ place. place < 32768) (places_of (cells_of (take before (meanings_of text))))
+  pub small : All (λ place. place < 49152) (places_of (cells_of (take before (meanings_of text))))
   pub image : words ≡ image_of_cells (cells_of (take before (meanings_of text)))
   pub cut : position ≡ length (concat (take (before + 1) (pieces_of text)))
 

@@ -67,7 +67,7 @@ has_place_fault cells from address content Wrap = nat_lt 65536 (address + length
 has_place_fault cells from address content Twice =
     list_any (λ place. is_some (byte_given cells place)) (range_with_len (from + address) (length content))
 has_place_fault cells from address content TooLarge =
-    list_any (λ place. nat_le 32768 place) (range_with_len (from + address) (length content))
+    list_any (λ place. nat_le 49152 place) (range_with_len (from + address) (length content))
 has_place_fault cells from address content _ = false
 
 -- the first of these faults

@@ -26,7 +26,7 @@ pub enum HexFault {
     /// A byte's place was given by an earlier record.
     #[error("twice")]
     Twice,
-    /// A byte's place is beyond the 32,768 bytes that an image can have.
+    /// A byte's place is beyond the 49,152 bytes that an image can have.
     #[error("size")]
     TooLarge,
     /// The text ends without an end record. The line is then the number of lines plus one.

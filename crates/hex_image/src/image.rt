@@ -6,7 +6,7 @@ use std::alloc::Global;
 use std::marker::Model;
 use tk_io::NoMemory;
 
-/// A program image: its words from word address 0 on, at most 16,384.
+/// A program image: its words from word address 0 on, at most 24,576.
 #[derive(Drop)]
 pub struct Image {
     words: Vec<u16>,
@@ -24,7 +24,7 @@ impl Model for Image {
 impl Image {
     /// The image of these words.
     pub fn from_words(alloc: Global, words: &[u16]) -> Result<Image, NoMemory>
-        requires { length words.now ≤ 16384 }
+        requires { length words.now ≤ 24576 }
         ensures words { IfOk result (λ image. image ≡ words.now) }
         ensures memory { OnErr result (0 < length words.now) }
     {
@@ -43,7 +43,7 @@ impl Image {
         Image { words }
     }
 
-    /// The number of words, from 0 to 16,384.
+    /// The number of words, from 0 to 24,576.
     pub fn len_words(&self) -> u16
         ensures words { result ≡ length self.now }
         ensures image { IsImage self.now }

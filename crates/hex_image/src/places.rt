@@ -8,7 +8,7 @@ use crate::fault::HexFault;
 use std::alloc::AllocError;
 
 /// The most bytes that an image has.
-pub(crate) const MOST_BYTES: usize = 32_768;
+pub(crate) const MOST_BYTES: usize = 49_152;
 
 /// The first fault that a data record has by its places, where these bytes were given before.
 pub(crate) fn place_fault(

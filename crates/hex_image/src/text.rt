@@ -81,7 +81,7 @@ fn read_lines(alloc: Global, text: &[u8]) -> Result<(Vec<Option<u8>>, usize), He
 
 /// The words of bytes at their places.
 fn words_of(alloc: Global, slots: &[Option<u8>]) -> Result<Vec<u16>, AllocError>
-    requires { length slots.now ≤ 32768 }
+    requires { length slots.now ≤ 49152 }
     ensures words { IfOk result (λ words. words.items ≡ map (word_of_slots slots.now) (range_with_len 0 ((length slots.now + 1) / 2))) }
     ensures small { IfOk result (λ words. All (λ word. word < 2 ^ 16) words.items) }
     ensures some { OnErr result (0 < length slots.now) }

@@ -31,7 +31,7 @@ pub fn write(alloc: Global, image: &Image) -> Result<Vec<u8>, NoMemory>
 
 /// The text of some words.
 fn text_of(alloc: Global, words: &[u16]) -> Result<Vec<u8>, AllocError>
-    requires { length words.now ≤ 16384 }
+    requires { length words.now ≤ 24576 }
     ensures text { IfOk result (λ text. text.items ≡ written words.now) }
 {
     let mut text = Vec::new(alloc);

@@ -1,25 +1,24 @@
 -- What each answer of `read` says of the text.
 use Rattle.std.specs.Prelude.{◌==◌, IsErrAnd}
-use Rattle.std.proofs.Common.{true, arith, ◌≡◌, ℕ, ◌+◌, ◌⊎◌, List, [], ◌∷◌, ◌++◌, length, Result, Ok, Err, ap, ap₂, sym, refl, subst, inl, inr}
+use Rattle.std.proofs.Common.{true, arith, ◌≡◌, ℕ, ◌+◌, ◌⊎◌, List, [], ◌∷◌, length, Result, Ok, Err, ap, ap₂, sym, refl, subst, inl, inr}
 use Rattle.std.proofs.lemmas.Bool.Decides.{nat_tests}
-use Rattle.input_script.specs.declared.input.Event.{Event}
 use Rattle.input_script.specs.declared.fault.ScriptFault.{ScriptFault}
 use Rattle.input_script.specs.declared.fault.ScriptError.{ScriptError}
 use Rattle.input_script.specs.declared.fault.ScriptError.TheVariants.{Bad, NoMemory}
 use Rattle.text_lines.specs.Lines.{lines_of}
-use Rattle.input_script.specs.Script.{IsScript, IsBad, NeedsMemory}
+use Rattle.input_script.specs.Script.{Schedule, IsScript, IsBad, NeedsMemory}
 use Rattle.input_script.specs.Judging.{IsRefusal}
-use Rattle.input_script.proofs.Done.{IsDone, done_event, done_fault, done_memory, event_some}
+use Rattle.input_script.proofs.Done.{IsDone, done_fault, done_memory}
 use Rattle.input_script.proofs.Judgement.{one_judgement}
 
--- the error names the text's fault, or an event for which memory was wanted
+-- the error names the text's fault, or there is a line for which memory was wanted
 abbrev pub Tells : List ℕ → ScriptError → Type 0
 Tells text NoMemory = NeedsMemory text
 Tells text (Bad line fault) = IsBad text line fault
 
-pub refusal_tells : (text : List ℕ) (rest : List (List ℕ)) (line : List ℕ) (number : ℕ) (before : List Event) (error : ScriptError) → IsDone (lines_of text) number before (line ∷ rest) → IsRefusal error (number + 1) line before → Tells text error
+pub refusal_tells : (text : List ℕ) (rest : List (List ℕ)) (line : List ℕ) (number : ℕ) (before : Schedule) (error : ScriptError) → IsDone (lines_of text) number before (line ∷ rest) → IsRefusal error (number + 1) line before → Tells text error
 refusal_tells text rest line number before NoMemory done refusal =
-    done_memory text rest (number + 1) (before ++ refusal.0 ∷ []) (event_some before refusal.0) (done_event (lines_of text) rest line number before refusal.0 done refusal.1 refusal.2)
+    done_memory text rest line number before refusal.0 done refusal.1 refusal.2 refusal.3
 refusal_tells text rest line number before (Bad at fault) done refusal =
     let P : ℕ → Type 0 = λ n. IsBad text n fault in
     subst P (sym refusal.0) (done_fault (lines_of text) rest line number before fault done refusal.1)
@@ -30,9 +29,9 @@ wanted_for text error tells is =
     let P : ScriptError → Type 0 = λ e. Tells text e in
     subst P is tells
 
-pub refused_text : (text : List ℕ) (error : ScriptError) → Tells text error → (events : List Event) → IsScript text events → error ≡ NoMemory
-refused_text text NoMemory tells events script = refl
-refused_text text (Bad line fault) tells events script = absurd ((one_judgement text).apart events line fault script tells)
+pub refused_text : (text : List ℕ) (error : ScriptError) → Tells text error → (schedule : Schedule) → IsScript text schedule → error ≡ NoMemory
+refused_text text NoMemory tells schedule script = refl
+refused_text text (Bad line fault) tells schedule script = absurd ((one_judgement text).apart schedule line fault script tells)
 
 pub refused_as : (text : List ℕ) (error : ScriptError) → Tells text error → (line : ℕ) (fault : ScriptFault) → IsBad text line fault → (error ≡ Bad line fault) ⊎ (error ≡ NoMemory)
 refused_as text NoMemory tells line fault bad = inr refl

@@ -1,8 +1,9 @@
--- A line writes at most one event, and a line that is skipped writes none.
-use Rattle.std.proofs.Common.{◌≡◌, ℕ, ◌+◌, ◌<◌, cond, eqb, List, [], ◌∷◌, ◌++◌, length, get_or, arith, ap, ap₂, ◌∙◌, sym, refl, subst, inl, inr}
+-- What stands in the line of an event, and that it writes no other.
+use Rattle.std.proofs.Common.{◌≡◌, ℕ, ◌<◌, cond, List, [], ◌∷◌, ◌++◌, arith, rules, ap, ap₂, ◌∙◌, sym, refl, subst}
 use Rattle.std.specs.Prelude.{codes}
 use Rattle.std.specs.Char.{digit_value}
 use Rattle.std.specs.Str.Parse.{digits_value, AllDigits}
+use Rattle.std.specs.Str.{bytes_eq}
 use Rattle.std.proofs.lemmas.List.{append_assoc, append_cancel_left}
 use Rattle.input_script.specs.declared.input.Kind.{Kind}
 use Rattle.input_script.specs.declared.input.Kind.TheVariants.{PinA, PinB, PinC, PinD, Serial, Analog}
@@ -11,7 +12,7 @@ use Rattle.input_script.specs.declared.input.Event.{Event}
 use Rattle.input_script.specs.Kinds.{word_of, input_of}
 use Rattle.text_lines.specs.Cutting.{Lacks}
 use Rattle.text_lines.proofs.CutLaws.{one_cut}
-use Rattle.input_script.specs.Grammar.{IsSkipped, IsNumber, IsInput, IsEvent}
+use Rattle.input_script.specs.Grammar.{IsNumber, IsValue, IsInput, IsEvent}
 
 -- a decimal digit is no space
 pub digits_lack_space : (xs : List ℕ) → AllDigits 10 xs → Lacks 32 xs
@@ -24,44 +25,66 @@ digits_lack_space (x ∷ xs) digits = (
   digits_lack_space xs digits.1,
 )
 
--- the first and the fourth byte of an input tell its kind
-kind_with : ℕ → Kind
-kind_with n = cond (eqb n 209) PinA (cond (eqb n 210) PinB (cond (eqb n 211) PinC (cond (eqb n 212) PinD (cond (eqb n 233) Serial Analog))))
+-- no word has a space
+pub word_lacks_space : (kind : Kind) → Lacks 32 (word_of kind)
+word_lacks_space PinA = search rules
+word_lacks_space PinB = search rules
+word_lacks_space PinC = search rules
+word_lacks_space PinD = search rules
+word_lacks_space Serial = search rules
+word_lacks_space Analog = search rules
 
-told : List ℕ → Kind
-told text = kind_with (get_or text 0 0 + get_or text 3 0)
+-- the kind that has a word
+kind_named : List ℕ → Kind
+kind_named word =
+    cond (bytes_eq word (word_of PinA)) PinA (cond (bytes_eq word (word_of PinB)) PinB (cond (bytes_eq word (word_of PinC)) PinC (cond (bytes_eq word (word_of PinD)) PinD (cond (bytes_eq word (word_of Serial)) Serial Analog))))
 
-kind_told : (kind : Kind) (value : List ℕ) → told (word_of kind ++ codes " 0x" ++ value) ≡ kind
-unfolding told kind_with
-kind_told PinA value = refl
-kind_told PinB value = refl
-kind_told PinC value = refl
-kind_told PinD value = refl
-kind_told Serial value = refl
-kind_told Analog value = refl
+named : (kind : Kind) → kind_named (word_of kind) ≡ kind
+unfolding kind_named
+named PinA = refl
+named PinB = refl
+named PinC = refl
+named PinD = refl
+named Serial = refl
+named Analog = refl
 
--- the kind and the value that a text writes
-pub input_parts : (text : List ℕ) (kind : Kind) (value : List ℕ) (input : Input) → text ≡ word_of kind ++ codes " 0x" ++ value → (i : IsInput text input) → (i.kind ≡ kind) × (i.value ≡ value)
-input_parts text kind value input written i =
-    let kinds : i.kind ≡ kind = sym (kind_told i.kind i.value) ∙ ap told (sym i.written ∙ written) ∙ kind_told kind value in
-    let fronts : word_of i.kind ++ codes " 0x" ≡ word_of kind ++ codes " 0x" = ap (λ k. word_of k ++ codes " 0x") kinds in
-    let values : i.value ≡ value =
-    append_cancel_left (word_of kind ++ codes " 0x") i.value value (ap (λ f. f ++ i.value) (sym fronts) ∙ sym i.written ∙ written) in
-    (kinds, values)
+-- a word is that of one kind
+pub one_kind : (a b : Kind) → word_of a ≡ word_of b → a ≡ b
+one_kind a b same = sym (named a) ∙ ap kind_named same ∙ named b
+
+-- an input's word and value are what stands before and after the first space
+pub input_parts : (text word rest : List ℕ) (input : Input) → Lacks 32 word → text ≡ word ++ 32 ∷ rest → (i : IsInput text input) → (word_of i.kind ≡ word) × (i.rest ≡ rest)
+input_parts text word rest input lacks cut i =
+    one_cut 32 (word_of i.kind) word i.rest rest (word_lacks_space i.kind) lacks (sym (append_assoc (word_of i.kind) (codes " ") i.rest) ∙ sym i.written ∙ cut)
+
+value_one : (kind : Kind) (text : List ℕ) (value other : ℕ) → IsValue kind text value → IsValue kind text other → value ≡ other
+value_one k text value other a b =
+    let same : a.number ≡ b.number = append_cancel_left (codes "0x") a.number b.number (sym a.written ∙ b.written) in
+    a.value_is ∙ ap (digits_value 16) same ∙ sym b.value_is
+
+-- the value of an input whose kind and whose text are known otherwise
+pub value_as : (text word rest : List ℕ) (kind : Kind) (input : Input) → Lacks 32 word → text ≡ word ++ 32 ∷ rest → word ≡ word_of kind → (i : IsInput text input) → IsValue kind rest i.value
+value_as text word rest kind input lacks cut is i =
+    let parts = input_parts text word rest input lacks cut i in
+    let K : Kind → Type 0 = λ k. IsValue k i.rest i.value in
+    let R : List ℕ → Type 0 = λ r. IsValue kind r i.value in
+    subst R parts.1 (subst K (one_kind i.kind kind (parts.0 ∙ is)) i.valued)
 
 pub input_one : (text : List ℕ) (input other : Input) → IsInput text input → IsInput text other → input ≡ other
 input_one text input other a b =
-    let parts = input_parts text b.kind b.value input b.written a in
-    a.meaning ∙ ap₂ (λ k v. input_of k (digits_value 16 v)) parts.0 parts.1 ∙ sym b.meaning
-
--- what follows `at ` in the line of an event
-pub event_tail : (line text : List ℕ) (event : Event) → line ≡ codes "at " ++ text → (e : IsEvent line event) → text ≡ e.number ++ 32 ∷ e.rest
-event_tail line text event front e =
-    append_cancel_left (codes "at ") text (e.number ++ 32 ∷ e.rest) (sym front ∙ e.written ∙ append_assoc (codes "at " ++ e.number) (codes " ") e.rest ∙ append_assoc (codes "at ") e.number (32 ∷ e.rest))
+    let cut : text ≡ word_of b.kind ++ 32 ∷ b.rest = b.written ∙ append_assoc (word_of b.kind) (codes " ") b.rest in
+    let lacks = word_lacks_space b.kind in
+    let kinds : a.kind ≡ b.kind = one_kind a.kind b.kind (input_parts text (word_of b.kind) b.rest input lacks cut a).0 in
+    let values : a.value ≡ b.value = value_one b.kind b.rest a.value b.value (value_as text (word_of b.kind) b.rest b.kind input lacks cut refl a) b.valued in
+    a.meaning ∙ ap₂ (λ k v. input_of k v) kinds values ∙ sym b.meaning
 
 -- the line of an event begins with `at `
 pub tail_front : (line : List ℕ) (event : Event) → (e : IsEvent line event) → line ≡ codes "at " ++ (e.number ++ 32 ∷ e.rest)
 tail_front line event e = e.written ∙ append_assoc (codes "at " ++ e.number) (codes " ") e.rest ∙ append_assoc (codes "at ") e.number (32 ∷ e.rest)
+
+-- what follows `at ` in the line of an event
+event_tail : (line text : List ℕ) (event : Event) → line ≡ codes "at " ++ text → (e : IsEvent line event) → text ≡ e.number ++ 32 ∷ e.rest
+event_tail line text event front e = append_cancel_left (codes "at ") text (e.number ++ 32 ∷ e.rest) (sym front ∙ tail_front line event e)
 
 -- an event's number and input are what stands before and after the first space
 pub event_parts : (line text number rest : List ℕ) (event : Event) → line ≡ codes "at " ++ text → Lacks 32 number → text ≡ number ++ 32 ∷ rest → IsEvent line event → IsNumber number event.at × IsInput rest event.input
@@ -78,14 +101,3 @@ event_one line event other a b =
     let ats : event.at ≡ other.at = parts.0.value ∙ sym b.at.value in
     let inputs : event.input ≡ other.input = input_one b.rest event.input other.input parts.1 b.input in
     ap₂ (λ n i. let e : Event = record { at = n; input = i } in e) ats inputs
-
-pub skipped_no_event : (line : List ℕ) (event : Event) → IsSkipped line → ¬ IsEvent line event
-skipped_no_event line event skipped written = elim skipped [
-  | inl empty ↦
-      let heads : length line ≡ 0 = ap length empty in
-      let long : length line ≡ length (codes "at " ++ written.number ++ codes " " ++ written.rest) = ap length written.written in
-      omega (arith, heads, long)
-  | inr comment ↦
-      let heads : 35 ≡ 97 = ap (λ l. get_or l 0 0) (sym comment.1 ∙ written.written) in
-      omega (arith, heads)
-]

@@ -1,82 +1,75 @@
--- A text has at most one list of events, or one fault, and not both.
+-- A text schedules one thing at most, or has one fault, and not both.
 use Rattle.std.proofs.Common.{◌≡◌, ℕ, ◌<◌, cond, eqb, List, [], ◌∷◌, ◌++◌, length, arith, ap, ap₂, ◌∙◌, sym, refl, subst, inl, inr}
 use Rattle.std.proofs.lemmas.Bool.{cases_lt}
-use Rattle.input_script.specs.declared.input.Event.{Event}
+use Rattle.input_script.specs.declared.line.Statement.{Statement}
 use Rattle.input_script.specs.declared.fault.ScriptFault.{ScriptFault}
 use Rattle.input_script.specs.declared.fault.ScriptFault.TheVariants.{Form, Order, Range, TooMany}
 use Rattle.text_lines.specs.Lines.{lines_of}
-use Rattle.input_script.specs.Grammar.{IsSkipped, IsEvent}
-use Rattle.input_script.specs.Script.{IsInRange, IsSchedule, Accepts, Has, number_of, IsFirstFault, IsFaulty, HasOneJudgement}
-use Rattle.input_script.specs.Judging.{IsLate, IsNext, IsWrong}
-use Rattle.input_script.proofs.Events.{event_one, skipped_no_event}
+use Rattle.input_script.specs.Grammar.{IsStatement}
+use Rattle.input_script.specs.Script.{Schedule, IsInRange, IsLate, IsSchedule, Accepts, Has, number_of, IsFirstFault, IsFaulty, HasOneJudgement, said, joined, size}
+use Rattle.input_script.specs.Judging.{IsNext, IsWrong}
+use Rattle.input_script.proofs.Statements.{statement_one}
 use Rattle.input_script.proofs.Spelling.{spells_split, spells_one}
-use Rattle.input_script.proofs.Schedules.{schedule_next}
+use Rattle.input_script.proofs.Schedules.{schedule_inside}
 
-skipped_no_fault : (line : List ℕ) (before : List Event) → IsSkipped line → (fault : ScriptFault) → ¬ Has fault before line
-skipped_no_fault line before skipped Form = λ has. has.0 skipped
-skipped_no_fault line before skipped Order = λ has. skipped_no_event line has.0 skipped has.1
-skipped_no_fault line before skipped Range = λ has. skipped_no_event line has.0 skipped has.1
-skipped_no_fault line before skipped TooMany = λ has. skipped_no_event line has.0 skipped has.1
+not_late : (line : List ℕ) (before : Schedule) (statement : Statement) → IsStatement line statement → ¬ IsLate before statement → ¬ Has Order before line
+not_late line before statement written fine = λ has.
+    let P : Statement → Type 0 = λ s. IsLate before s in
+    fine (subst P (statement_one line has.0 statement has.1 written) has.2)
 
-next_no_fault : (line : List ℕ) (before : List Event) (event : Event) → IsEvent line event → IsNext before event → (fault : ScriptFault) → ¬ Has fault before line
-next_no_fault line before event written next Form = λ has. has.1 event written
-next_no_fault line before event written next Order = λ has.
-    let P : Event → Type 0 = λ e. IsLate before e in
-    next.in_order (subst P (event_one line has.0 event has.1 written) has.2)
-next_no_fault line before event written next Range = λ has.
-    let P : Event → Type 0 = λ e. IsInRange e in
-    has.2 (subst P (event_one line event has.0 written has.1) next.in_range)
-next_no_fault line before event written next TooMany = λ has. omega (arith, next.room, has.2)
+-- a statement that comes next is no fault of its line
+next_no_fault : (line : List ℕ) (before : Schedule) (statement : Statement) → IsStatement line statement → IsNext before statement → (fault : ScriptFault) → ¬ Has fault before line
+next_no_fault line before statement written next Form = λ has. has statement written
+next_no_fault line before statement written next Order = not_late line before statement written next.in_order
+next_no_fault line before statement written next Range = λ has.
+    let P : Statement → Type 0 = λ s. IsInRange s in
+    has.2 (subst P (statement_one line statement has.0 written has.1) next.in_range)
+next_no_fault line before statement written next TooMany = λ has.
+    let same : size (joined before (said has.0)) ≡ size (joined before (said statement)) = ap (λ s. size (joined before (said s))) (statement_one line has.0 statement has.1 written) in
+    omega (arith, next.room, has.2, same)
 
--- a line whose event is wrong after those before it
-pub wrong_is_first : (line : List ℕ) (before : List Event) (event : Event) (fault : ScriptFault) → IsEvent line event → IsWrong fault before event → IsFirstFault fault before line
-wrong_is_first line before event Form written wrong = absurd wrong
-wrong_is_first line before event Order written wrong = record {
-  has = (event, written, wrong);
+-- a line whose statement is wrong after those before it
+pub wrong_is_first : (line : List ℕ) (before : Schedule) (statement : Statement) (fault : ScriptFault) → IsStatement line statement → IsWrong fault before statement → IsFirstFault fault before line
+wrong_is_first line before statement Form written wrong = absurd wrong
+wrong_is_first line before statement Order written wrong = record {
+  has = (statement, written, wrong);
   first = λ other less. elim other as (λ f. number_of f < 2 → ¬ Has f before line) [
-    | Form ↦ λ l h. h.1 event written
+    | Form ↦ λ l h. h statement written
     | Order ↦ λ l h. omega arith
     | Range ↦ λ l h. omega arith
     | TooMany ↦ λ l h. omega arith
   ] less;
 }
-wrong_is_first line before event Range written wrong = record {
-  has = (event, written, wrong.1);
+wrong_is_first line before statement Range written wrong = record {
+  has = (statement, written, wrong.1);
   first = λ other less. elim other as (λ f. number_of f < 3 → ¬ Has f before line) [
-    | Form ↦ λ l h. h.1 event written
-    | Order ↦ λ l h.
-        let P : Event → Type 0 = λ e. IsLate before e in
-        wrong.0 (subst P (event_one line h.0 event h.1 written) h.2)
+    | Form ↦ λ l h. h statement written
+    | Order ↦ λ l h. not_late line before statement written wrong.0 h
     | Range ↦ λ l h. omega arith
     | TooMany ↦ λ l h. omega arith
   ] less;
 }
-wrong_is_first line before event TooMany written wrong = record {
-  has = (event, written, wrong.2);
+wrong_is_first line before statement TooMany written wrong = record {
+  has = (statement, written, wrong.2);
   first = λ other less. elim other as (λ f. number_of f < 4 → ¬ Has f before line) [
-    | Form ↦ λ l h. h.1 event written
-    | Order ↦ λ l h.
-        let P : Event → Type 0 = λ e. IsLate before e in
-        wrong.0 (subst P (event_one line h.0 event h.1 written) h.2)
+    | Form ↦ λ l h. h statement written
+    | Order ↦ λ l h. not_late line before statement written wrong.0 h
     | Range ↦ λ l h.
-        let P : Event → Type 0 = λ e. IsInRange e in
-        h.2 (subst P (event_one line event h.0 written h.1) wrong.1)
+        let P : Statement → Type 0 = λ s. IsInRange s in
+        h.2 (subst P (statement_one line statement h.0 written h.1) wrong.1)
     | TooMany ↦ λ l h. omega arith
   ] less;
 }
 
--- a line of accepted lines has no fault after the events of those before it
-no_fault_inside : (front rest : List (List ℕ)) (line : List ℕ) (before events : List Event) → Accepts (front ++ line ∷ rest) events → Accepts front before → (fault : ScriptFault) → ¬ Has fault before line
-no_fault_inside front rest line before events whole accepted fault =
-    let parts = spells_split front (line ∷ rest) events whole.spelled in
-    let same : parts.a ≡ before = spells_one front parts.a before parts.first accepted.spelled in
-    elim parts.second [
-      | inl s ↦ skipped_no_fault line before s.0 fault
-      | inr s ↦
-          let joined : events ≡ before ++ s.0 ∷ s.1 = parts.joined ∙ ap₂ (λ a b. a ++ b) same s.2 in
-          let P : List Event → Type 0 = λ es. IsSchedule es in
-          next_no_fault line before s.0 s.3 (schedule_next before s.1 s.0 (subst P joined whole.schedule)) fault
-    ]
+-- a line of accepted lines has no fault after what those before it schedule
+no_fault_inside : (front rest : List (List ℕ)) (line : List ℕ) (before whole : Schedule) → Accepts (front ++ line ∷ rest) whole → Accepts front before → (fault : ScriptFault) → ¬ Has fault before line
+no_fault_inside front rest line before whole accepted front_accepted fault =
+    let parts = spells_split front (line ∷ rest) whole accepted.spelled in
+    let s = parts.second in
+    let same : parts.a ≡ before = spells_one front parts.a before parts.first front_accepted.spelled in
+    let all : whole ≡ joined before (joined (said s.0) s.1) = parts.is ∙ ap₂ (λ a b. joined a b) same s.4 in
+    let P : Schedule → Type 0 = λ w. IsSchedule w in
+    next_no_fault line before s.0 s.2 (schedule_inside before s.1 s.0 (subst P all accepted.in_order)) fault
 
 -- of two cuts of the same lines, the longer front has the shorter one, and the line after it
 longer_front : (xs ys r s : List (List ℕ)) (x : List ℕ) → xs ++ x ∷ r ≡ ys ++ s → length xs < length ys → (mid : List (List ℕ)) × (ys ≡ xs ++ x ∷ mid)
@@ -121,7 +114,7 @@ fault_numbered Order = refl
 fault_numbered Range = refl
 fault_numbered TooMany = refl
 
-first_one : (before : List Event) (line : List ℕ) (f g : ScriptFault) → IsFirstFault f before line → IsFirstFault g before line → f ≡ g
+first_one : (before : Schedule) (line : List ℕ) (f g : ScriptFault) → IsFirstFault f before line → IsFirstFault g before line → f ≡ g
 first_one before line f g a b = elim (cases_lt (number_of f) (number_of g)) [
   | inl less ↦ absurd (b.first f less a.has)
   | inr ge ↦ elim (cases_lt (number_of g) (number_of f)) [
@@ -137,20 +130,20 @@ one_fault lines n m f g a b =
     let numbers = one_line lines n m f g a b in
     let same = same_front a.front b.front a.rest b.rest a.line b.line (sym a.cut ∙ b.cut) (omega (arith, a.number_is, b.number_is)) in
     let P : List (List ℕ) → Type 0 = λ front. Accepts front b.before in
-    let events : b.before ≡ a.before = spells_one a.front b.before a.before (subst P (sym same.0) b.accepted).spelled a.accepted.spelled in
-    let Q : List Event → Type 0 = λ es. IsFirstFault g es b.line in
+    let befores : b.before ≡ a.before = spells_one a.front b.before a.before (subst P (sym same.0) b.accepted).spelled a.accepted.spelled in
+    let Q : Schedule → Type 0 = λ s. IsFirstFault g s b.line in
     let R : List ℕ → Type 0 = λ line. IsFirstFault g a.before line in
-    first_one a.before a.line f g a.fault_is (subst R (sym same.1) (subst Q events b.fault_is))
+    first_one a.before a.line f g a.fault_is (subst R (sym same.1) (subst Q befores b.fault_is))
 
-apart : (lines : List (List ℕ)) (events : List Event) (n : ℕ) (f : ScriptFault) → Accepts lines events → ¬ IsFaulty lines n f
-apart lines events n f accepted a =
-    let P : List (List ℕ) → Type 0 = λ all. Accepts all events in
-    no_fault_inside a.front a.rest a.line a.before events (subst P a.cut accepted) a.accepted f a.fault_is.has
+apart : (lines : List (List ℕ)) (schedule : Schedule) (n : ℕ) (f : ScriptFault) → Accepts lines schedule → ¬ IsFaulty lines n f
+apart lines schedule n f accepted a =
+    let P : List (List ℕ) → Type 0 = λ all. Accepts all schedule in
+    no_fault_inside a.front a.rest a.line a.before schedule (subst P a.cut accepted) a.accepted f a.fault_is.has
 
 pub one_judgement : (text : List ℕ) → HasOneJudgement text
 one_judgement text = record {
-  one_list = λ events others a b. spells_one (lines_of text) events others a.spelled b.spelled;
+  one_schedule = λ s r a b. spells_one (lines_of text) s r a.spelled b.spelled;
   one_line = λ n m f g a b. one_line (lines_of text) n m f g a b;
   one_fault = λ n m f g a b. one_fault (lines_of text) n m f g a b;
-  apart = λ events n f a b. apart (lines_of text) events n f a b;
+  apart = λ s n f a b. apart (lines_of text) s n f a b;
 }

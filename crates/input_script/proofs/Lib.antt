@@ -1,5 +1,5 @@
-mod Digits
 mod Events
+mod Statements
 mod Reading
 mod Spelling
 mod Schedules

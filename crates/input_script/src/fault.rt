@@ -5,16 +5,16 @@ use thiserror::Error;
 /// What is wrong with a line, in the order in which faults are looked for.
 #[derive(Debug, Clone, Copy, PartialEq, Eq, Error)]
 pub enum ScriptFault {
-    /// The line is no event, no comment and not empty.
+    /// The line is no event, no fail line, no comment and not empty.
     #[error("form")]
     Form,
-    /// An earlier event has a greater number.
+    /// An earlier event, or for a fail line an earlier fail line, has a greater number.
     #[error("order")]
     Order,
-    /// The number is above 4,294,967,295, or an adc value above 0x3FF.
+    /// The number is above 4,294,967,295, that of a fail line is 0, or an adc value is above 0x3FF.
     #[error("range")]
     Range,
-    /// 65,536 events came before.
+    /// 65,536 events and fail lines came before.
     #[error("events")]
     TooMany,
 }

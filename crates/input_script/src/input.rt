@@ -1,6 +1,7 @@
 //! The inputs of the mote's devices.
 
-ghost use Rattle.std.specs.Prelude.{◌≡◌, ◌<◌, ◌^◌};
+ghost use Rattle.std.specs.Prelude.{◌≡◌, ◌≢◌, ◌<◌, ◌^◌, ◌↔◌, IsTrue, MatchOption};
+ghost use Rattle.input_script.specs.declared.input.Kind.{Kind};
 ghost use Rattle.input_script.specs.Kinds.{word_of, width_of, input_of};
 
 /// What a device receives.
@@ -34,6 +35,27 @@ pub(crate) enum Kind {
 }
 
 impl Kind {
+    /// The kind that a word names.
+    pub(crate) fn named(word: &[u8]) -> Option<Kind>
+        ensures cases { MatchOption result ((kind : Kind) → word.now ≢ word_of kind) (λ kind. word.now ≡ word_of kind) }
+    {
+        if is_same(word, b"pina") {
+            Some(Kind::PinA)
+        } else if is_same(word, b"pinb") {
+            Some(Kind::PinB)
+        } else if is_same(word, b"pinc") {
+            Some(Kind::PinC)
+        } else if is_same(word, b"pind") {
+            Some(Kind::PinD)
+        } else if is_same(word, b"uart") {
+            Some(Kind::Serial)
+        } else if is_same(word, b"adc") {
+            Some(Kind::Analog)
+        } else {
+            None
+        }
+    }
+
     /// How many hexadecimal digits a value of this kind has.
     pub(crate) fn width(self) -> usize
         ensures value { result ≡ width_of self }
@@ -58,4 +80,11 @@ impl Kind {
             Kind::Analog => Input::Adc(value),
         }
     }
+}
+
+/// Whether two words have the same letters.
+fn is_same(word: &[u8], other: &[u8]) -> bool
+    ensures same { IsTrue result ↔ (word.now ≡ other.now) }
+{
+    word == other
 }

@@ -1,8 +1,9 @@
-//! Scripts of device inputs: which input comes at which poll.
+//! Scripts of device inputs, and of flash operations that fail.
 //!
-//! A script is lines such as `at 5 uart 0x41`: at poll 5 the serial port receives the byte 0x41.
-//! The other inputs are `pina 0xHH` to `pind 0xHH` and `adc 0xHHH`; a line is empty, begins with `#`,
-//! or is one event. [`read`] answers the events, or the first faulty line and its first fault.
+//! A script is lines such as `at 5 uart 0x41`: at poll 5 the serial port receives the byte 0x41. The other
+//! inputs are `pina 0xHH` to `pind 0xHH` and `adc 0xHHH`. A line `fail flash 3` makes the third erase or
+//! program of flash fail. A line is empty, begins with `#`, or is one of these. [`read`] answers what the
+//! lines schedule, or the first faulty line and its first fault.
 //!
 //! The lines of a text are those of `text_lines`; `specs/Grammar.antt` says which forms a line has, and
 //! `specs/Script.antt` what is accepted as a whole.

@@ -1,50 +1,156 @@
 //! A script as a whole.
 
-ghost use Rattle.std.specs.Prelude.{◌≡◌, ℕ, ◌≤◌, ◌<◌, ◌+◌, ◌++◌, ◌∷◌, [], ◌⊎◌, ◌↔◌, List, length, MatchResult, MatchOption, IfOk, IfErr, OnOk, IsTrue};
+ghost use Rattle.std.specs.Prelude.{◌≡◌, ℕ, ◌≤◌, ◌<◌, ◌⊎◌, ◌↔◌, List, length, MatchResult, MatchOption, IfOk, IfErr, OnOk, IsTrue};
 ghost use Rattle.input_script.specs.declared.input.Event.{Event};
 ghost use Rattle.input_script.specs.declared.fault.ScriptFault.{ScriptFault};
-ghost use Rattle.input_script.specs.Grammar.{IsSkipped, IsEvent};
-ghost use Rattle.input_script.specs.Script.{IsSchedule, IsInRange, IsScript, IsBad, IsFirstFault, NeedsMemory, HasOneJudgement};
-ghost use Rattle.input_script.specs.Judging.{event_of, IsLate, IsNext, IsWrong, Takes, IsRefusal};
+ghost use Rattle.input_script.specs.Grammar.{IsStatement};
+ghost use Rattle.input_script.specs.Script.{Schedule, said, joined, size, most_statements, IsSchedule, IsInRange, IsInputInRange, IsLate, IsScript, IsBad, IsFirstFault, NeedsMemory, HasOneJudgement};
+ghost use Rattle.input_script.specs.Judging.{IsNext, IsWrong, Takes, IsRefusal};
 
 use crate::fault::{ScriptError, ScriptFault};
 use crate::input::{Event, Input};
-use crate::line::{Written, event_in};
+use crate::line::{Statement, statement_in};
 use std::alloc::Global;
 use std::marker::Model;
 use text_lines::first_line;
 
-/// How many events a script may have.
-const MOST_EVENTS: usize = 65536;
+/// How many events and fail lines a script may have.
+const MOST_STATEMENTS: usize = 65536;
 
 /// The greatest value of the converter.
 const MOST_ADC: u16 = 0x3FF;
 
-/// The events of a script that was accepted, in order.
+/// What a script that was accepted schedules.
 #[derive(Debug, Drop)]
 pub struct Script {
     events: Vec<Event>,
+    failing: Vec<u32>,
 }
 
 impl Model for Script {
-    ghost use Rattle.std.specs.Prelude.{List};
-    ghost use Rattle.input_script.specs.declared.input.Event.{Event};
-    ghost use Rattle.input_script.specs.Script.{IsSchedule};
+    ghost use Rattle.input_script.specs.Script.{Schedule, IsSchedule};
 
-    ghost Value = { List Event };
+    ghost Value = { Schedule };
 
-    ghost view = { λ s. s.events.items };
+    ghost view = { λ s. record { events = s.events.items; failing = s.failing.items } };
 
-    ghost invariant = { λ s. IsSchedule s.events.items };
+    ghost invariant = { λ s. IsSchedule (record { events = s.events.items; failing = s.failing.items }) };
 }
 
 impl Script {
-    /// The events, each at its poll's number.
+    /// The events, each at its poll's number, in order.
     pub fn events(&self) -> &[Event]
-        ensures value { result.now ≡ self.now }
+        ensures value { result.now ≡ self.now.events }
         ensures schedule { IsSchedule self.now }
     {
         &self.events
+    }
+
+    /// The numbers of the flash operations that are to fail, counted from 1, in order.
+    pub fn failing(&self) -> &[u32]
+        ensures value { result.now ≡ self.now.failing }
+        ensures schedule { IsSchedule self.now }
+    {
+        &self.failing
+    }
+
+    /// Adds what the line with this number says.
+    fn take_line(&mut self, text: &[u8], line: u32) -> Result<(), ScriptError>
+        ensures taken { OnOk result (Takes text.now self.old self.new) }
+        ensures refused { IfErr result (λ error. IsRefusal error line text.now self.old) }
+    {
+        match self.judged(text) {
+            Ok(Statement::Nothing) => Ok(()),
+            Ok(Statement::At { number, input }) => {
+                let at = number as u32;
+                self.events
+                    .push(Event { at, input })
+                    .map_err(|_| ScriptError::NoMemory)
+            }
+            Ok(Statement::FailFlash { number }) => self
+                .failing
+                .push(number as u32)
+                .map_err(|_| ScriptError::NoMemory),
+            Err(fault) => Err(ScriptError::Bad { line, fault }),
+        }
+    }
+
+    /// What a line says after the lines before it.
+    fn judged(&self, line: &[u8]) -> Result<Statement, ScriptFault>
+        ensures cases { MatchResult result (λ statement. IsStatement line.now statement × IsNext self.now statement) (λ fault. IsFirstFault fault self.now line.now) }
+    {
+        match statement_in(line) {
+            None => Err(ScriptFault::Form),
+            Some(statement) => match self.fault_of(statement) {
+                Some(fault) => Err(fault),
+                None => Ok(statement),
+            },
+        }
+    }
+
+    /// The first thing that is wrong with a statement after those before it.
+    fn fault_of(&self, statement: Statement) -> Option<ScriptFault>
+        ensures cases { MatchOption result (IsNext self.now statement) (λ fault. IsWrong fault self.now statement) }
+    {
+        if self.is_late(statement) {
+            return Some(ScriptFault::Order);
+        }
+        if !is_in_range(statement) {
+            return Some(ScriptFault::Range);
+        }
+        if !self.has_room(statement) {
+            return Some(ScriptFault::TooMany);
+        }
+        None
+    }
+
+    /// Whether an earlier statement of the same sort has a greater number.
+    fn is_late(&self, statement: Statement) -> bool
+        ensures cases { IsTrue result ↔ IsLate self.now statement }
+    {
+        match statement {
+            Statement::Nothing => false,
+            Statement::At { number, .. } => match self.events.as_slice() {
+                [] => false,
+                [.., last] => number < u64::from(last.at),
+            },
+            Statement::FailFlash { number } => match self.failing.as_slice() {
+                [] => false,
+                [.., last] => number < u64::from(*last),
+            },
+        }
+    }
+
+    /// Whether there is room for one statement more.
+    fn has_room(&self, statement: Statement) -> bool
+        ensures cases { IsTrue result ↔ (size (joined self.now (said statement)) ≤ most_statements) }
+    {
+        match statement {
+            Statement::Nothing => true,
+            _ => self.events.len() + self.failing.len() < MOST_STATEMENTS,
+        }
+    }
+}
+
+/// Whether a statement's number and value are in range.
+fn is_in_range(statement: Statement) -> bool
+    ensures cases { IsTrue result ↔ IsInRange statement }
+{
+    match statement {
+        Statement::Nothing => true,
+        Statement::At { number, input } => number <= u64::from(u32::MAX)
+            && is_input_in_range(input),
+        Statement::FailFlash { number } => 1 <= number && number <= u64::from(u32::MAX),
+    }
+}
+
+/// Whether an input's value is in range.
+fn is_input_in_range(input: Input) -> bool
+    ensures cases { IsTrue result ↔ IsInputInRange input }
+{
+    match input {
+        Input::Adc(value) => value <= MOST_ADC,
+        _ => true,
     }
 }
 
@@ -57,94 +163,25 @@ pub fn read(alloc: Global, text: &[u8]) -> Result<Script, ScriptError>
     requires { length text.now ≤ 2097152 }
     ensures ok { IfOk result (IsScript text.now) }
     ensures bad { (line : ℕ) → (fault : ScriptFault) → result ≡ Err (ScriptError.Bad line fault) → IsBad text.now line fault }
-    // The text of a script is read as its events, unless memory runs out.
-    ensures accepted { (events : List Event) → IsScript text.now events → (result ≡ Ok events) ⊎ (result ≡ Err ScriptError.NoMemory) }
+    // The text of a script is read as what it schedules, unless memory runs out.
+    ensures accepted { (schedule : Schedule) → IsScript text.now schedule → (result ≡ Ok schedule) ⊎ (result ≡ Err ScriptError.NoMemory) }
     // A faulty text is refused with its fault, unless memory runs out.
     ensures refused { (line : ℕ) → (fault : ScriptFault) → IsBad text.now line fault → (result ≡ Err (ScriptError.Bad line fault)) ⊎ (result ≡ Err ScriptError.NoMemory) }
-    // Memory is wanted only for an event, of lines without a fault so far.
+    // Memory is wanted only for an event or a fail line, of lines without a fault so far.
     ensures memory { result ≡ Err ScriptError.NoMemory → NeedsMemory text.now }
     ensures one { HasOneJudgement text.now }
 {
-    let mut events = Vec::new(alloc);
+    let mut script = Script {
+        events: Vec::new(alloc),
+        failing: Vec::new(alloc),
+    };
     let mut rest = text;
     let mut line = 0;
     while !rest.is_empty() {
         let (front, after) = first_line(rest);
         line += 1;
-        take_line(&mut events, front, line)?;
+        script.take_line(front, line)?;
         rest = after;
     }
-    Ok(Script { events })
-}
-
-/// Adds the event of the line with this number, where it has one.
-fn take_line(events: &mut Vec<Event>, text: &[u8], line: u32) -> Result<(), ScriptError>
-    requires { IsSchedule events.old.items }
-    ensures taken { OnOk result (Takes text.now events.old.items events.new.items) }
-    ensures refused { IfErr result (λ error. IsRefusal error line text.now events.old.items) }
-{
-    match judged(text, events) {
-        Ok(None) => Ok(()),
-        Ok(Some(event)) => events.push(event).map_err(|_| ScriptError::NoMemory),
-        Err(fault) => Err(ScriptError::Bad { line, fault }),
-    }
-}
-
-/// The event of a line after the events before it, none for a line that is skipped.
-fn judged(line: &[u8], before: &[Event]) -> Result<Option<Event>, ScriptFault>
-    requires { IsSchedule before.now }
-    ensures cases { MatchResult result (λ found. MatchOption found (IsSkipped line.now) (λ event. IsEvent line.now event × IsNext before.now event)) (λ fault. IsFirstFault fault before.now line.now) }
-{
-    if line.is_empty() || line[0] == b'#' {
-        return Ok(None);
-    }
-    match event_in(line) {
-        None => Err(ScriptFault::Form),
-        Some(written) => match admitted(written, before) {
-            Ok(event) => Ok(Some(event)),
-            Err(fault) => Err(fault),
-        },
-    }
-}
-
-/// The event as it is kept, where it may come after these.
-fn admitted(written: Written, before: &[Event]) -> Result<Event, ScriptFault>
-    requires { IsSchedule before.now }
-    ensures cases { MatchResult result (λ event. (event ≡ event_of written) × IsNext before.now event) (λ fault. IsWrong fault before.now (event_of written)) }
-{
-    if is_late(&written, before) {
-        return Err(ScriptFault::Order);
-    }
-    if !is_in_range(&written) {
-        return Err(ScriptFault::Range);
-    }
-    if before.len() >= MOST_EVENTS {
-        return Err(ScriptFault::TooMany);
-    }
-    Ok(Event {
-        at: written.at as u32,
-        input: written.input,
-    })
-}
-
-/// Whether an earlier event has a greater number.
-fn is_late(written: &Written, before: &[Event]) -> bool
-    requires { IsSchedule before.now }
-    ensures cases { IsTrue result ↔ IsLate before.now (event_of written.now) }
-{
-    match before {
-        [] => false,
-        [.., last] => written.at < u64::from(last.at),
-    }
-}
-
-/// Whether the number and the value are in range.
-fn is_in_range(written: &Written) -> bool
-    ensures cases { IsTrue result ↔ IsInRange (event_of written.now) }
-{
-    written.at <= u64::from(u32::MAX)
-        && match written.input {
-            Input::Adc(value) => value <= MOST_ADC,
-            _ => true,
-        }
+    Ok(script)
 }

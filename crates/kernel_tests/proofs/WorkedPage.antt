@@ -1,4 +1,5 @@
--- The worked page of docs/LOADER.md: its branch back leads to address 1 by a stub 18 words behind its place.
+-- The worked page of docs/LOADER.md: its branch back leads to address 1 by a stub 18 words behind its place. And the
+-- page of a jump back to address 0: its stub calls the bridge 16 words behind its place.
 use Rattle.std.proofs.Common.{◌≡◌, ℕ, ◌+◌, List, [], ◌∷◌, arith, refl, subst}
 use Rattle.avr_decode.specs.Decoding.{the_form, if_defined, defined_form, one_word_form, form_1111, is_long}
 use Rattle.avr_isa.specs.Encoding.{first_word}
@@ -14,7 +15,7 @@ use Rattle.nat_template.specs.Templates.{template_by}
 use Rattle.page_index.specs.Entries.{IsEntry}
 use Rattle.nat_page.specs.Runs.{template_at}
 use Rattle.nat_page.specs.Links.{EachLink, IsLinkIn}
-use Rattle.nat_page.specs.Faithful.{HoldsCode}
+use Rattle.nat_page.specs.Faithful.{IsFaithful}
 use Rattle.nat_page.proofs.EnteredLaws.{entry_law}
 
 -- LDI r16, 3; DEC r16; BRNE 1; RJMP to itself
@@ -25,9 +26,24 @@ branch_template : template_at looped 2 ≡ Fixed 0xF409 ∷ Fixed 0xC016 ∷ cro
 unfolding the_form if_defined defined_form one_word_form form_1111 is_long is_undefined relative shape_of_form template_by stub first_word
 branch_template = refl
 
-pub branch_link : (layout : Layout) (words : List ℕ) (v : ℕ) → IsRight layout → HoldsCode layout looped words → IsEntry layout words 2 v → IsLinkIn layout looped words (v + 18) 1
+pub branch_link : (layout : Layout) (words : List ℕ) (v : ℕ) → IsRight layout → IsFaithful layout looped words → IsEntry layout words 2 v → IsLinkIn layout looped words (v + 18) 1
 branch_link layout words v right code entry =
     let Linked : List Piece → Type 0 = λ pieces. EachLink (λ s t. IsLinkIn layout looped words s t) v pieces in
     let linked = subst Linked branch_template (entry_law layout looped words 2 v right code entry).linked in
     let Here : ℕ → Type 0 = λ s. IsLinkIn layout looped words s 1 in
+    subst Here (omega arith) linked.0
+
+-- RJMP 2; NOP; RJMP 0; RJMP to itself
+abbrev pub round : List ℕ
+round = 0xC001 ∷ 0x0000 ∷ 0xCFFD ∷ 0xCFFF ∷ []
+
+back_template : template_at round 2 ≡ crossing_stub 0
+unfolding the_form if_defined defined_form one_word_form is_long is_undefined relative shape_of_form template_by stub first_word
+back_template = refl
+
+pub back_link : (layout : Layout) (words : List ℕ) (v : ℕ) → IsRight layout → IsFaithful layout round words → IsEntry layout words 2 v → IsLinkIn layout round words (v + 16) 0
+back_link layout words v right code entry =
+    let Linked : List Piece → Type 0 = λ pieces. EachLink (λ s t. IsLinkIn layout round words s t) v pieces in
+    let linked = subst Linked back_template (entry_law layout round words 2 v right code entry).linked in
+    let Here : ℕ → Type 0 = λ s. IsLinkIn layout round words s 0 in
     subst Here (omega arith) linked.0

@@ -30,14 +30,14 @@ fn parts_at_boot(rt: &HostRuntime, slots: u8) -> Result<Parts, Fail>
     ensures paged { IfOk result (λ p. IsPaged p.sram p.swap) }
 {
     let script = input_script::read(rt.alloc(), b"at 1 pina 0x77")?;
-    let flash = Flash::new(rt.alloc(), &[0x1234, 0x5678])?;
+    let flash = Flash::new(rt.alloc(), &[0x1234, 0x5678], &[])?;
     let swap = Swap::new(rt.alloc(), slots)?;
     Ok(Parts {
         sram: Sram::new(),
         swap,
         devices: Devices::new(script),
         flash,
-        layout: Layout::usual(2),
+        layout: Layout::of(2),
     })
 }
 

@@ -16,6 +16,8 @@ mod page_maps;
 #[cfg(test)]
 mod pool_pages;
 #[cfg(test)]
+mod recycling;
+#[cfg(test)]
 mod runs;
 #[cfg(test)]
 mod services;

@@ -7,7 +7,7 @@ use std::test::Fail;
 
 #[test]
 fn an_empty_pool_has_no_entry(rt: HostRuntime) -> Result<(), Fail> {
-    let layout = Layout::usual(1);
+    let layout = Layout::of(1);
     let flash = empty(&rt, &layout)?;
     assert_eq!(rt; entry(&flash, &layout, 0), None);
     assert_eq!(rt; free_page(&flash, &layout), Some(128));
@@ -16,7 +16,7 @@ fn an_empty_pool_has_no_entry(rt: HostRuntime) -> Result<(), Fail> {
 
 #[test]
 fn the_entries_of_a_page_are_found(rt: HostRuntime) -> Result<(), Fail> {
-    let layout = Layout::usual(1);
+    let layout = Layout::of(1);
     let flash = with_one_page(&rt, &layout)?;
     assert_eq!(rt; entry(&flash, &layout, 2), Some(0x4008));
     assert_eq!(rt; entry(&flash, &layout, 4), None);

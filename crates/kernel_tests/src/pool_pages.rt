@@ -1,34 +1,55 @@
 //! Pages made of small programs.
 
+ghost use Rattle.std.specs.Prelude.{◌+◌, ◌<◌, ◌≤◌, ◌^◌};
 ghost use Rattle.flash_model.specs.Layouts.{IsRight, image_of};
 ghost use Rattle.nat_page.specs.Faithful.{IsFaithful};
+ghost use Rattle.nat_page.specs.Making.{HasNoEntry};
 
-use crate::support::{LOOP, has, loaded, loop_page};
+use crate::support::{LOOP, has, loaded, loaded_to_fail, loop_page};
 use flash_model::{Flash, Layout};
 use nat_page::{NatStop, naturalise};
-use page_index::entry;
+use page_index::{entry, free_page};
 use std::test::Fail;
 
-/// What `naturalise` answers, where it may be called.
+/// What `naturalise` answers in the lowest free page, where it may be called.
 #[tactic(auto, using(nat_page::proofs::FaithfulLaws::faithful_mapped))]
 fn made(flash: &mut Flash, layout: &Layout, t: u16) -> Option<Result<u16, NatStop>>
     requires right { IsRight layout.now }
     requires faithful { IsFaithful layout.now (image_of layout.now flash.old.words) flash.old.words }
+    requires room { flash.old.ops < 2 ^ 61 }
     ensures faithful { IsFaithful layout.now (image_of layout.now flash.new.words) flash.new.words }
+    ensures ops { flash.new.ops ≤ flash.old.ops + 1 }
 {
     if t >= layout.image_words {
         return None;
     }
     match entry(flash, layout, t) {
         Some(_) => None,
-        None => Some(naturalise(flash, layout, t)),
+        None => made_anew(flash, layout, t),
+    }
+}
+
+/// The same, of an address without an entry.
+#[tactic(auto, using(nat_page::proofs::FaithfulLaws::faithful_mapped))]
+fn made_anew(flash: &mut Flash, layout: &Layout, t: u16) -> Option<Result<u16, NatStop>>
+    requires right { IsRight layout.now }
+    requires faithful { IsFaithful layout.now (image_of layout.now flash.old.words) flash.old.words }
+    requires inside { t < layout.now.image_words }
+    requires unknown { HasNoEntry layout.now flash.old.words t }
+    requires room { flash.old.ops < 2 ^ 61 }
+    ensures faithful { IsFaithful layout.now (image_of layout.now flash.new.words) flash.new.words }
+    ensures ops { flash.new.ops ≤ flash.old.ops + 1 }
+{
+    match free_page(flash, layout) {
+        Some(page) => Some(naturalise(flash, layout, page, t)),
+        None => None,
     }
 }
 
 /// A loop: the branch back passes over a crossing stub, and the jump to itself ends the run.
 #[test]
 fn the_worked_page(rt: HostRuntime) -> Result<(), Fail> {
-    let layout = Layout::usual(4);
+    let layout = Layout::of(4);
     let mut flash = loaded(&rt, &layout, &LOOP)?;
     assert_eq!(rt; made(&mut flash, &layout, 0), Some(Ok(0x4006)));
     has(&rt, &flash, &loop_page([0x940E, 0xF000]));
@@ -38,7 +59,7 @@ fn the_worked_page(rt: HostRuntime) -> Result<(), Fail> {
 /// PUSH r16 has 39 words, behind which its run goes on.
 #[test]
 fn a_push_stands_inline(rt: HostRuntime) -> Result<(), Fail> {
-    let layout = Layout::usual(2);
+    let layout = Layout::of(2);
     let mut flash = loaded(&rt, &layout, &[0x930F, 0xCFFF])?;
     assert_eq!(rt; made(&mut flash, &layout, 0), Some(Ok(0x4004)));
     has(
@@ -58,7 +79,7 @@ fn a_push_stands_inline(rt: HostRuntime) -> Result<(), Fail> {
 /// Behind the first of two instructions the second has its page.
 #[test]
 fn a_run_ends_before_an_entry(rt: HostRuntime) -> Result<(), Fail> {
-    let layout = Layout::usual(2);
+    let layout = Layout::of(2);
     let mut flash = loaded(&rt, &layout, &[0xE003, 0x950A])?;
     assert_eq!(rt; made(&mut flash, &layout, 1), Some(Ok(0x4003)));
     // The image ends behind it.
@@ -83,7 +104,7 @@ fn a_run_ends_before_an_entry(rt: HostRuntime) -> Result<(), Fail> {
 fn a_page_may_be_full(rt: HostRuntime) -> Result<(), Fail> {
     let mut image = [0x0000; 64];
     image[61] = 0x9508;
-    let layout = Layout::usual(64);
+    let layout = Layout::of(64);
     let mut flash = loaded(&rt, &layout, &image)?;
     assert_eq!(rt; made(&mut flash, &layout, 0), Some(Ok(0x4040)));
     let ends = [
@@ -117,7 +138,7 @@ fn a_run_ends_at_its_page(rt: HostRuntime) -> Result<(), Fail> {
     image[126] = 0x9509; // ICALL
     image[127] = 0x9180; // LDS r24, 0x0500
     image[128] = 0x0500;
-    let layout = Layout::usual(130);
+    let layout = Layout::of(130);
     let mut flash = loaded(&rt, &layout, &image)?;
     assert_eq!(rt; made(&mut flash, &layout, 124), Some(Ok(0x4005)));
     has(
@@ -138,14 +159,28 @@ fn a_run_ends_at_its_page(rt: HostRuntime) -> Result<(), Fail> {
 /// Each jump has a page of its own, until no page is free.
 #[test]
 fn the_pool_may_be_full(rt: HostRuntime) -> Result<(), Fail> {
-    let layout = Layout::usual(400);
+    let layout = Layout::of(400);
     let mut flash = loaded(&rt, &layout, &[0xC000; 400])?;
     for t in 0..352u16 {
         assert_eq!(rt; made(&mut flash, &layout, t), Some(Ok(0x4003 + 128 * t)));
     }
+    assert_eq!(rt; made(&mut flash, &layout, 352), None);
+    Ok(())
+}
+
+/// The page stays free, and the operation is told.
+#[test]
+fn a_page_may_be_refused(rt: HostRuntime) -> Result<(), Fail> {
+    let layout = Layout::of(4);
+    let mut flash = loaded_to_fail(&rt, &layout, &LOOP, &[1])?;
     assert_eq!(rt;
-        made(&mut flash, &layout, 352),
-        Some(Err(NatStop::CodeFull { used: 352 }))
+        made(&mut flash, &layout, 0),
+        Some(Err(NatStop::Flash { op: 1 }))
     );
+    assert_eq!(rt;
+        (flash.word(0x4000), flash.ops(), flash.refused()),
+        (0xFFFF, 1, Some(128))
+    );
+    assert_eq!(rt; made(&mut flash, &layout, 0), Some(Ok(0x4006)));
     Ok(())
 }

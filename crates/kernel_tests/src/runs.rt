@@ -15,7 +15,7 @@ const PORT: [u16; 2] = [0xBB0B, 0xCFFF];
 
 fn boot(rt: &HostRuntime, words: &[u16], quantum: u8) -> Result<Machine, Fail>
     requires quantum { 1 ≤ quantum }
-    requires few { length words.now ≤ 16384 }
+    requires few { length words.now ≤ 24576 }
 {
     let image = Image::from_words(rt.alloc(), words)?;
     let script = read(rt.alloc(), b"")?;

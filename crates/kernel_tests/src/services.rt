@@ -54,7 +54,7 @@ fn kernel_at_boot(rt: &HostRuntime, slots: u8) -> Result<Kernel, Fail>
     let mote = Mote::new(rt.alloc(), &IMAGE, script, slots)?;
     Ok(Kernel {
         mote,
-        layout: Layout::usual(64),
+        layout: Layout::of(64),
         quantum: 3,
     })
 }

@@ -1,14 +1,18 @@
 //! What the tests share: flashes with and without pages in the pool, and a program that loops.
 
-ghost use Rattle.std.specs.Prelude.{◌≡◌, ◌≤◌, [], ◌∷◌, length, IfOk};
+ghost use Rattle.std.specs.Prelude.{◌≡◌, ◌+◌, ◌<◌, ◌≤◌, ◌^◌, [], ◌∷◌, length, IfOk, OnOk};
 ghost use Rattle.flash_model.specs.Pages.{many};
 ghost use Rattle.flash_model.specs.Layouts.{IsRight};
 ghost use Rattle.flash_model.specs.Memory.{loaded as loaded_words};
 ghost use Rattle.page_index.specs.Entries.{IsMapped};
 ghost use Rattle.nat_page.specs.Faithful.{IsFaithful};
 ghost use Rattle.flash_model.specs.Layouts.{image_of};
+ghost use Rattle.sram_layout.specs.Boot.{at_boot};
+ghost use Rattle.branch_bridge.specs.Arrivals.{ring_of};
 
+use branch_bridge::{Moved, Refused, arrive};
 use flash_model::{Flash, Layout};
+use sram_layout::Sram;
 use std::process::Abort;
 
 /// LDI r16, 3; DEC r16; BRNE 1; RJMP to itself.
@@ -32,6 +36,34 @@ pub(crate) fn has(rt: &impl Abort, flash: &Flash, words: &[u16]) {
     }
 }
 
+/// SRAM at boot: RING names the first page of the pool.
+pub(crate) fn sram_at_boot(layout: &Layout) -> Sram
+    requires right { IsRight layout.now }
+    ensures boot { result ≡ at_boot }
+    ensures ring { ring_of result < layout.now.pool_pages }
+{
+    Sram::new()
+}
+
+/// An arrival, behind which another may come where it isn't refused.
+pub(crate) fn arrived(
+    sram: &mut Sram,
+    flash: &mut Flash,
+    layout: &Layout,
+    t: u16,
+) -> Result<Moved, Refused>
+    requires right { IsRight layout.now }
+    requires faithful { IsFaithful layout.now (image_of layout.now flash.old.words) flash.old.words }
+    requires ring { ring_of sram.old < layout.now.pool_pages }
+    requires room { flash.old.ops < 2 ^ 60 }
+    ensures faithful { OnOk result (IsFaithful layout.now (image_of layout.now flash.new.words) flash.new.words) }
+    ensures image { OnOk result (image_of layout.now flash.new.words ≡ image_of layout.now flash.old.words) }
+    ensures ring { OnOk result (ring_of sram.new < layout.now.pool_pages) }
+    ensures room { flash.new.ops ≤ flash.old.ops + 1000 }
+{
+    arrive(sram, flash, layout, t)
+}
+
 /// A flash that holds the image, and an empty pool.
 pub(crate) fn loaded(
     rt: &HostRuntime,
@@ -39,12 +71,30 @@ pub(crate) fn loaded(
     image: &[u16],
 ) -> Result<Flash, &'static str>
     requires right { IsRight layout.now }
-    requires short { length image.now ≤ 16384 }
+    requires short { length image.now ≤ 24576 }
     requires long { length image.now ≡ layout.now.image_words }
     ensures faithful { IfOk result (λ flash. IsFaithful layout.now (image_of layout.now flash.words) flash.words) }
     ensures image { IfOk result (λ flash. image_of layout.now flash.words ≡ image.now) }
+    ensures fresh { IfOk result (λ flash. flash.ops ≡ 0) }
 {
-    match Flash::new(rt.alloc(), image) {
+    loaded_to_fail(rt, layout, image, &[])
+}
+
+/// The same, where the operations of these numbers are to fail.
+pub(crate) fn loaded_to_fail(
+    rt: &HostRuntime,
+    layout: &Layout,
+    image: &[u16],
+    failing: &[u32],
+) -> Result<Flash, &'static str>
+    requires right { IsRight layout.now }
+    requires short { length image.now ≤ 24576 }
+    requires long { length image.now ≡ layout.now.image_words }
+    ensures faithful { IfOk result (λ flash. IsFaithful layout.now (image_of layout.now flash.words) flash.words) }
+    ensures image { IfOk result (λ flash. image_of layout.now flash.words ≡ image.now) }
+    ensures fresh { IfOk result (λ flash. flash.ops ≡ 0) }
+{
+    match Flash::new(rt.alloc(), image, failing) {
         Ok(flash) => Ok(flash),
         Err(_) => Err("memory is ample"),
     }
@@ -56,8 +106,9 @@ pub(crate) fn empty(rt: &HostRuntime, layout: &Layout) -> Result<Flash, &'static
     requires image { 1 ≤ layout.now.image_words }
     ensures words { IfOk result (λ flash. flash.words ≡ loaded_words (0xE003 ∷ [])) }
     ensures mapped { IfOk result (λ flash. IsMapped layout.now flash.words) }
+    ensures fresh { IfOk result (λ flash. flash.ops ≡ 0) }
 {
-    match Flash::new(rt.alloc(), &[0xE003]) {
+    match Flash::new(rt.alloc(), &[0xE003], &[]) {
         Ok(flash) => Ok(flash),
         Err(_) => Err("memory is ample"),
     }
@@ -83,6 +134,8 @@ pub(crate) fn with_one_page(rt: &HostRuntime, layout: &Layout) -> Result<Flash, 
     ensures mapped { IfOk result (λ flash. IsMapped layout.now flash.words) }
 {
     let mut flash = empty(rt, layout)?;
-    flash.program(128, &page_with_the_map());
-    Ok(flash)
+    match flash.program(128, &page_with_the_map()) {
+        Ok(()) => Ok(flash),
+        Err(_) => Err("no operation is to fail"),
+    }
 }

@@ -9,7 +9,7 @@ use std::test::Fail;
 
 #[test]
 fn the_tables_are_asked_before_the_pool(rt: HostRuntime) -> Result<(), Fail> {
-    let layout = Layout::usual(4);
+    let layout = Layout::of(4);
     let flash = with_one_page(&rt, &layout)?;
     let mut sram = Sram::new();
     note(&mut sram, 2, 0x4007);
@@ -22,7 +22,7 @@ fn the_tables_are_asked_before_the_pool(rt: HostRuntime) -> Result<(), Fail> {
 
 #[test]
 fn places_are_forgotten_with_their_page(rt: HostRuntime) -> Result<(), Fail> {
-    let layout = Layout::usual(4);
+    let layout = Layout::of(4);
     let flash = with_one_page(&rt, &layout)?;
     let mut sram = Sram::new();
     note(&mut sram, 1, 0x4007);

@@ -1,15 +1,15 @@
 -- One AVR step over the mote, and the mote at reset.
 use Rattle.std.specs.Prelude.{◌≡◌, ℕ, List, Option, Some, None}
 use Rattle.std.specs.Option.{option_map}
-use Rattle.input_script.specs.declared.input.Event.{Event}
+use Rattle.input_script.specs.Script.{Schedule}
 use Rattle.avr_isa.specs.declared.form.Form.{Form}
 use Rattle.avr_decode.specs.Decoding.{the_form, size_by_first_word}
 use Rattle.avr_exec.specs.declared.cpu.Cpu.{Cpu}
 use Rattle.avr_exec.specs.Registers.{wrapping_sum}
 use Rattle.avr_exec.specs.Spaces.{Outcome, Went}
 use Rattle.avr_exec.specs.Execution.{exec_of}
-use Rattle.flash_model.specs.Memory.{loaded}
-use Rattle.flash_model.specs.Pages.{word_at, page_count}
+use Rattle.flash_model.specs.Memory.{new_flash}
+use Rattle.flash_model.specs.Pages.{word_at}
 use Rattle.list_parts.specs.Lists.{many}
 use Rattle.sram_layout.specs.Boot.{at_boot}
 use Rattle.sram_layout.specs.Cells.{kernel_stack_top}
@@ -54,11 +54,11 @@ pub record IsPlainStep (m : Mote) (shown : Plain) (next : Mote) : Type 0 where
 abbrev pub cpu_at_reset : Cpu
 cpu_at_reset = record { r = many 32 0; sreg = 0; sp = kernel_stack_top; pc = 0 }
 
--- at reset flash holds the image and the kernel, no page was erased, and all slots of the swap are zero
-pub record IsAtReset (image : List ℕ) (events : List Event) (slots : ℕ) (m : Mote) : Type 0 where
+-- at reset flash is new, with the image in it and the script's list of operations that are to fail, and all slots of
+-- the swap are zero
+pub record IsAtReset (image : List ℕ) (script : Schedule) (slots : ℕ) (m : Mote) : Type 0 where
   pub cpu : m.cpu ≡ cpu_at_reset
   pub sram : m.sram ≡ at_boot
-  pub words : m.flash.words ≡ loaded image
-  pub erases : m.flash.erases ≡ many page_count 0
-  pub devices : m.devices ≡ at_reset events
+  pub flash : m.flash ≡ new_flash image script.failing
+  pub devices : m.devices ≡ at_reset script.events
   pub swap : m.swap ≡ zero_slots slots

@@ -47,11 +47,12 @@ impl Mote {
     ghost use Rattle.mote_core.specs.Step.{IsAtReset, form_at, IsPlainStep};
     ghost use Rattle.mote_core.specs.Conditions.{can_step};
 
-    /// A mote at reset, with the image in flash, the kernel's memory as at boot, and this many swap slots.
-    /// The stack pointer is at the top of the kernel's own stack.
+    /// A mote at reset, with the image in flash, the kernel's memory as at boot, and this many swap slots, at
+    /// most 251. The operations of flash that the script lists are to fail. The stack pointer is at the top of
+    /// the kernel's own stack.
     #[tactic(auto, unfolding(flash_model::specs::Pages::many))]
     pub fn new(alloc: Global, image: &[u16], script: Script, slots: u8) -> Result<Mote, NoMemory>
-        requires image { length image.now ≤ 16384 }
+        requires image { length image.now ≤ 24576 }
         requires slots { slots ≤ most_slots }
         ensures reset { IfOk result (IsAtReset image.now script slots) }
         ensures whole { IfOk result (λ mote. IsWhole mote.flash) }
@@ -64,7 +65,7 @@ impl Mote {
                 pc: 0,
             },
             sram: Sram::new(),
-            flash: Flash::new(alloc, image)?,
+            flash: Flash::new(alloc, image, script.failing())?,
             devices: Devices::new(script),
             swap: Swap::new(alloc, slots)?,
         })

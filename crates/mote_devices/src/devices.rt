@@ -54,7 +54,7 @@ impl Devices {
     /// The devices at reset.
     #[tactic(auto, unfolding(list_parts::specs::Lists::many))]
     pub fn new(script: Script) -> Devices
-        ensures value { result ≡ at_reset script }
+        ensures value { result ≡ at_reset script.events }
     {
         Devices {
             registers: [0; 256],

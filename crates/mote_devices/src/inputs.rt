@@ -26,9 +26,9 @@ impl Model for Inputs {
 
     ghost Value = { Received };
 
-    ghost view = { λ a. record { pins = a.pins; converter = a.converter; queue = bytes_between a.script a.serial a.taken; coming = drop a.taken a.script } };
+    ghost view = { λ a. record { pins = a.pins; converter = a.converter; queue = bytes_between a.script.events a.serial a.taken; coming = drop a.taken a.script.events } };
 
-    ghost invariant = { λ a. IsKept a.pins a.script a.taken a.serial };
+    ghost invariant = { λ a. IsKept a.pins a.script.events a.taken a.serial };
 }
 
 impl Inputs {
@@ -38,7 +38,7 @@ impl Inputs {
 
     /// Nothing was received, and all events are to come.
     pub(crate) fn new(script: Script) -> Inputs
-        ensures value { result ≡ unreceived script }
+        ensures value { result ≡ unreceived script.events }
     {
         Inputs {
             pins: [0; 4],

@@ -69,7 +69,7 @@ fn the_first_fault_of_the_first_faulty_line_is_told(rt: HostRuntime) {
     let texts: [(&[u8], u32, HexFault); 17] = [
         (b"", 1, HexFault::NoEnd),
         (b"\r", 2, HexFault::NoEnd),
-        (b":01800000007F", 1, HexFault::TooLarge),
+        (b":01C00000003F", 1, HexFault::TooLarge),
         (b";", 1, HexFault::Start),
         (b":0G", 1, HexFault::Digit),
         (b"\n\r\n:0", 3, HexFault::Length),
@@ -87,8 +87,8 @@ fn the_first_fault_of_the_first_faulty_line_is_told(rt: HostRuntime) {
             2,
             HexFault::Twice,
         ),
-        (b":017FFF000081\n:027FFF00000080", 2, HexFault::Twice),
-        (b":027FFF00000080", 1, HexFault::TooLarge),
+        (b":01BFFF000041\n:02BFFF00000040", 2, HexFault::Twice),
+        (b":02BFFF00000040", 1, HexFault::TooLarge),
         (b":02000002FFFFFE\n:0100000000FF", 2, HexFault::TooLarge),
         (b":020000040001F9\n:0100000000FF", 2, HexFault::TooLarge),
         (b":0100000000FF\n:0200000208\n", 2, HexFault::Length),
@@ -150,6 +150,30 @@ fn an_image_is_written(rt: HostRuntime) -> Result<(), Fail> {
         b":1000000000000000000000000000000000000000F0\n:020010000000EE\n:00000001FF\n";
     assert_eq!(rt; text.as_slice(), lines);
     Ok(())
+}
+
+/// The greatest place is 49,151, so the greatest image has 24,576 words.
+#[test]
+fn an_image_has_at_most_49152_bytes(rt: HostRuntime) -> Result<(), Fail> {
+    let alloc = rt.alloc();
+    let image = Image::from_words(alloc, &[0x1234; 24_576]).map_err(|_| "no memory")?;
+    let text = write(alloc, &image).map_err(|_| "no memory")?;
+    assert_eq!(rt; answer(&rt, alloc, &text), Ok((24_576, text.len())));
+    let texts: [(&[u8], Result<(u16, usize), HexError>); 4] = [
+        (b":01BFFF000041\n:00000001FF", Ok((24_576, 25))),
+        (b":01C00000003F\n:00000001FF", too_large(1)),
+        (b":02BFFF00000040\n:00000001FF", too_large(1)),
+        (b":01BFFF000041\n:01C00000003F\n:00000001FF", too_large(2)),
+    ];
+    for (text, expected) in texts {
+        assert_eq!(rt; answer(&rt, alloc, text), expected);
+    }
+    Ok(())
+}
+
+fn too_large(line: u32) -> Result<(u16, usize), HexError> {
+    let fault = HexFault::TooLarge;
+    Err(HexError::Bad { line, fault })
 }
 
 #[test]

@@ -13,6 +13,8 @@ mod encoding;
 #[cfg(test)]
 mod execution;
 #[cfg(test)]
+mod fault_words;
+#[cfg(test)]
 mod flags;
 #[cfg(test)]
 mod hex_texts;
@@ -30,6 +32,8 @@ mod registers;
 mod scripts;
 #[cfg(test)]
 mod slots;
+#[cfg(test)]
+mod sources;
 #[cfg(test)]
 mod streams;
 #[cfg(test)]

@@ -14,7 +14,7 @@ use Rattle.nat_page.specs.Runs.{template_at, closing_at, address, templates, nex
 use Rattle.nat_page.specs.CodePages.{page_pieces, place_in_page, HoldsRun}
 use Rattle.nat_page.specs.Links.{IsLinkOf, IsLinkIn, EachLink}
 use Rattle.nat_page.specs.Entered.{HasNoPlace, page_end, HasNext, IsLast, Behind, StandsIn}
-use Rattle.nat_page.specs.Faithful.{HoldsCode}
+use Rattle.nat_page.specs.Faithful.{IsFaithful}
 use Rattle.nat_page.proofs.RunLaws.{address-rises, size-templates, page_size-is}
 use Rattle.nat_page.proofs.HeldLaws.{parts_of, template_stands, place_range, place_held, count_held, lists_held, held_listed, map_held}
 use Rattle.nat_page.proofs.LinkLaws.{each_link_more, page_links}
@@ -121,7 +121,7 @@ entry_stands layout image words page t last i a v short mapped pool holds lists 
     subst (All a) (sym held.place) (subst (λ (pc : ℕ). All pc there) (sym held.address) at_i)
 
 -- at each entry of a pool that holds code
-pub entry_law : (layout : Layout) (image words : List ℕ) (a v : ℕ) → IsRight layout → HoldsCode layout image words → IsEntry layout words a v → StandsIn (IsEntry layout words) (IsLinkIn layout image words) layout image words a v
+pub entry_law : (layout : Layout) (image words : List ℕ) (a v : ℕ) → IsRight layout → IsFaithful layout image words → IsEntry layout words a v → StandsIn (IsEntry layout words) (IsLinkIn layout image words) layout image words a v
 entry_law layout image words a v right code entry = elim (code.pages entry.page entry.pool) [
   | inl free ↦ absurd (free_lists_nothing words entry.page entry.index a v free entry.lists)
   | inr run ↦

@@ -7,12 +7,11 @@ use Rattle.flash_model.proofs.LoadedLaws.{length-loaded, loaded_image, loaded_bl
 use Rattle.page_index.specs.Maps.{IsPool, IsFree}
 use Rattle.page_index.specs.Entries.{IsEntry, IsMapped}
 use Rattle.page_index.proofs.ChangeLaws.{new_flash_free, new_flash_mapped}
-use Rattle.nat_page.specs.Faithful.{HoldsCode, IsFaithful}
+use Rattle.nat_page.specs.Faithful.{IsFaithful}
 use Rattle.nat_page.proofs.HeldLaws.{map_held}
-use Rattle.nat_page.proofs.StayLaws.{held_used}
 
--- a pool that holds code is mapped
-pub faithful_mapped : (layout : Layout) (image words : List ℕ) → IsRight layout → HoldsCode layout image words → IsMapped layout words
+-- a faithful pool is mapped
+pub faithful_mapped : (layout : Layout) (image words : List ℕ) → IsRight layout → IsFaithful layout image words → IsMapped layout words
 faithful_mapped layout image words right code = record {
   pages = λ page pool. elim (code.pages page pool) [
     | inl free ↦ inl free
@@ -28,17 +27,13 @@ new_flash_faithful layout image right long =
     let free : (page : ℕ) → IsPool layout page → IsFree (loaded image) page = λ page pool. new_flash_free layout image page right (omega arith) pool in
     let mapped = new_flash_mapped layout image right (omega arith) in
     record {
-      code = record {
-        whole = length-loaded image short;
-        image_length = long;
-        held = ap (λ n. take n (loaded image)) (sym long) ∙ loaded_image image;
-        erased = λ a after before. loaded_blank image a (omega arith) (omega (arith, right.pool_below_kernel));
-        kernel = λ a from to. loaded_kernel image a short from to;
-        pages = λ page pool. inl (free page pool);
-        once = mapped.once;
-      };
-      stops = λ page first last pool holds. absurd (held_used (IsEntry layout (loaded image)) image (loaded image) page first last (omega (arith, right.image_fits)) holds (free page pool));
-      lowest = λ lower page pool pool' below blank. free page pool';
+      whole = length-loaded image short;
+      image_length = long;
+      held = ap (λ n. take n (loaded image)) (sym long) ∙ loaded_image image;
+      erased = λ a after before. loaded_blank image a (omega arith) (omega (arith, right.pool_below_kernel));
+      kernel = λ a from to. loaded_kernel image a short from to;
+      pages = λ page pool. inl (free page pool);
+      once = mapped.once;
     }
 
 -- the same said of its words

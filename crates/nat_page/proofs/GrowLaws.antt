@@ -1,33 +1,22 @@
 -- A run while it is read: it begins with one instruction, takes one more, or stops.
 use Rattle.std.specs.List.{range_with_len}
-use Rattle.std.proofs.Common.{◌≡◌, map, ℕ, suc, ◌+◌, ◌*◌, ◌/◌, ◌%◌, ◌<◌, ◌≤◌, true, false, List, [], ◌∷◌, ◌++◌, length, arith, refl, sym, ap, ap₂, ◌∙◌, inl, inr, subst}
-use Rattle.std.specs.Prelude.{Option, Some, None, IfSome, MatchOption, is_some}
+use Rattle.std.proofs.Common.{◌≡◌, map, ℕ, suc, ◌+◌, ◌*◌, ◌/◌, ◌%◌, ◌<◌, ◌≤◌, false, List, [], ◌∷◌, ◌++◌, length, arith, refl, sym, ap, ap₂, ◌∙◌, inl, inr, subst}
+use Rattle.std.specs.Prelude.{Option, Some, None, MatchOption}
 use Rattle.std.proofs.lemmas.Bool.{cases_lt}
 use Rattle.std.proofs.lemmas.List.FromFn.{map-range_with_len_more, length-map-range_with_len}
 use Rattle.flash_model.specs.Pages.{page_words}
 use Rattle.flash_model.specs.declared.layout.Layout.{Layout}
-use Rattle.nat_template.specs.Stubs.{words_of}
+use Rattle.arrayvec.specs.ArrayVec.{ArrayVec}
 use Rattle.page_index.specs.Maps.{IsFree}
-use Rattle.page_index.specs.Entries.{IsEntry}
 use Rattle.page_index.proofs.MapLaws.{free_lists_nothing}
 use Rattle.nat_page.specs.declared.instruction.Instruction.{Instruction}
 use Rattle.nat_page.specs.declared.draft.Draft.{Draft}
 use Rattle.nat_page.specs.Standing.{size}
 use Rattle.nat_page.specs.Runs.{template_at, closing_at, ends_at, address, templates}
 use Rattle.nat_page.specs.CodePages.{code}
-use Rattle.nat_page.specs.Faithful.{Stops}
-use Rattle.nat_page.specs.Making.{HasNoEntry}
-use Rattle.nat_page.specs.Drafts.{starts, size_with, StopsBehind, GoesOn, IsBegun, IsDrafting, IsDrafted}
-use Rattle.nat_page.proofs.PieceLaws.{words_of-append}
-use Rattle.nat_page.proofs.RunLaws.{template_at-range, closing_at-range, size-templates, page_size-is}
-
--- the search says whether an address has an entry
-pub entry_found : (layout : Layout) (words : List ℕ) (t : ℕ) (found : Option ℕ) → IfSome found (λ v. IsEntry layout words t v) → is_some found ≡ true → (v : ℕ) × IsEntry layout words t v
-entry_found layout words t None is known = absurd (cc)
-entry_found layout words t (Some v) is known = (v, is)
-
-pub entry_missing : (layout : Layout) (words : List ℕ) (t : ℕ) (found : Option ℕ) → ((v : ℕ) → IsEntry layout words t v → found ≡ Some v) → is_some found ≡ false → HasNoEntry layout words t
-entry_missing layout words t found only none v entry = let same = only v entry in absurd (cc (ap is_some same))
+use Rattle.nat_page.specs.Making.{HasNoEntry, Stops}
+use Rattle.nat_page.specs.Drafts.{starts, size_with, StopsBehind, GoesOn, IsRead, IsBegun, Adds, IsDrafting, IsDrafted}
+use Rattle.nat_page.proofs.RunLaws.{template_at-range, closing_at-range, size-templates, size-code, page_size-is}
 
 -- the first entries, and one more
 pub length-starts : (image : List ℕ) (t n : ℕ) → length (starts image t n) ≡ n
@@ -108,8 +97,11 @@ stops_of layout image words page t last free paged (StopsBehind.Full full) =
 -- how many words a draft has with the instruction behind it
 pub record Counts (image : List ℕ) (t last : ℕ) (draft : Draft) (here : Instruction) : Type 0 where
   pub entries : length draft.entries.items ≡ last
-  pub code : length draft.code.items + length here.code.items ≡ size (templates image t (suc last))
-  pub room : last + 3 + size (templates image t (suc last)) + length here.closing.items ≤ page_words
+  pub sized : draft.size ≡ size draft.code.items
+  pub here_sized : here.code_size ≡ size here.code.items
+  pub closing_sized : here.closing_size ≡ size here.closing.items
+  pub code : draft.size + here.code_size ≡ size (templates image t (suc last))
+  pub room : last + 3 + size (templates image t (suc last)) + here.closing_size ≤ page_words
 
 pub counts_of : (layout : Layout) (image words : List ℕ) (t : ℕ) (draft : Draft) (here : Instruction) → (drafting : IsDrafting layout image words t draft here) → Counts image t drafting.last draft here
 counts_of layout image words t draft here drafting =
@@ -117,43 +109,47 @@ counts_of layout image words t draft here drafting =
     let more = size-templates image t drafting.last in
     let whole = page_size-is image t drafting.last in
     let fits = drafting.begun.fits in
-    let old : length draft.code.items ≡ size (templates image t drafting.last) = ap length drafting.code in
-    let body : length here.code.items ≡ size (template_at image (address image t drafting.last)) = ap length drafting.read.code ∙ ap (λ pc. size (template_at image pc)) at_last in
-    let end : length here.closing.items ≡ size (closing_at image (address image t drafting.last)) = ap length drafting.read.closing ∙ ap (λ pc. size (closing_at image pc)) at_last in
+    let body : here.code_size ≡ size (template_at image (address image t drafting.last)) = drafting.read.code_size ∙ ap (λ pc. size (template_at image pc)) at_last in
+    let end : here.closing_size ≡ size (closing_at image (address image t drafting.last)) = drafting.read.closing_size ∙ ap (λ pc. size (closing_at image pc)) at_last in
     record {
       entries = ap length drafting.entries ∙ length-starts image t drafting.last;
-      code = omega arith;
+      sized = drafting.sized ∙ sym (ap size drafting.code);
+      here_sized = drafting.read.code_size ∙ sym (ap size drafting.read.code);
+      closing_sized = drafting.read.closing_size ∙ sym (ap size drafting.read.closing);
+      code = omega (arith, drafting.sized);
       room = omega arith;
     }
 
 -- the draft with that instruction
-entries_more : (layout : Layout) (image words : List ℕ) (t : ℕ) (draft draft' : Draft) (here : Instruction)
-    → (drafting : IsDrafting layout image words t draft here)
-    → draft'.entries.items ≡ draft.entries.items ++ (256 * (here.pc % 128) + length draft.code.items) ∷ []
-    → draft'.entries.items ≡ starts image t (suc drafting.last)
-entries_more layout image words t draft draft' here drafting added =
-    let start : 256 * (here.pc % 128) + length draft.code.items ≡ 256 * (address image t drafting.last % 128) + size (templates image t drafting.last) = ap₂ (λ pc n. 256 * (pc % 128) + n) drafting.reached (ap length drafting.code) in
-    added ∙ ap₂ (λ front x. front ++ x ∷ []) drafting.entries start ∙ sym (starts-more image t drafting.last)
+pub entries_more : (image : List ℕ) (t last : ℕ) (old new : Draft) (here : Instruction) → here.pc ≡ address image t last → old.entries.items ≡ starts image t last → old.size ≡ size (templates image t last) → Adds old new here
+    → new.entries.items ≡ starts image t (suc last)
+entries_more image t last old new here reached before sized adds =
+    let start : 256 * (here.pc % 128) + old.size ≡ 256 * (address image t last % 128) + size (templates image t last) = ap₂ (λ pc n. 256 * (pc % 128) + n) reached sized in
+    adds.entries ∙ ap₂ (λ front x. front ++ x ∷ []) before start ∙ sym (starts-more image t last)
 
-code_more : (layout : Layout) (image words : List ℕ) (t : ℕ) (draft draft' : Draft) (here : Instruction) → (drafting : IsDrafting layout image words t draft here) → draft'.code.items ≡ draft.code.items ++ here.code.items → draft'.code.items ≡ words_of (templates image t (suc drafting.last))
-code_more layout image words t draft draft' here drafting added =
-    let body : here.code.items ≡ words_of (template_at image (address image t drafting.last)) = drafting.read.code ∙ ap (λ pc. words_of (template_at image pc)) drafting.reached in
-    added ∙ ap₂ (λ front back. front ++ back) drafting.code body ∙ sym (words_of-append (templates image t drafting.last) (template_at image (address image t drafting.last)))
+pub code_more : (image : List ℕ) (t last : ℕ) (old new : Draft) (here : Instruction) → here.pc ≡ address image t last → old.code.items ≡ templates image t last → IsRead image here → Adds old new here
+    → new.code.items ≡ templates image t (suc last)
+code_more image t last old new here reached before read adds =
+    adds.code ∙ ap₂ (λ front back. front ++ back) before (read.code ∙ ap (λ pc. template_at image pc) reached)
 
--- what the search behind an instruction finds, said of the run
+pub size_more : (image : List ℕ) (t last : ℕ) (old new : Draft) (here : Instruction) → here.pc ≡ address image t last → old.size ≡ size (templates image t last) → IsRead image here → Adds old new here
+    → new.size ≡ size (templates image t (suc last))
+size_more image t last old new here reached before read adds =
+    adds.size ∙ ap₂ (λ front back. front + back) before (read.code_size ∙ ap (λ pc. size (template_at image pc)) reached) ∙ sym (size-templates image t last)
+
+-- what is known behind an instruction, said of the run
 behind : (layout : Layout) (image words : List ℕ) (t others : ℕ) (draft : Draft) (here : Instruction)
     → (drafting : IsDrafting layout image words t draft here)
-    → others ≡ length draft.entries.items + length draft.code.items + length here.code.items + 3
+    → others ≡ length draft.entries.items + draft.size + here.code_size + 3
     → others ≡ drafting.last + 3 + size (templates image t (suc drafting.last))
 behind layout image words t others draft here drafting told =
     let counts = counts_of layout image words t draft here drafting in
     omega (arith, counts.entries, counts.code)
 
 pub drafting_more : (layout : Layout) (image words : List ℕ) (t others : ℕ) (draft draft' : Draft) (here next : Instruction)
-    → IsDrafting layout image words t draft here → others ≡ length draft.entries.items + length draft.code.items + length here.code.items + 3
-    → GoesOn layout image words here.pc others next → draft'.entries.items ≡ draft.entries.items ++ (256 * (here.pc % 128) + length draft.code.items)
-    ∷ [] → draft'.code.items ≡ draft.code.items ++ here.code.items → IsDrafting layout image words t draft' next
-drafting_more layout image words t others draft draft' here next drafting told on entries code =
+    → IsDrafting layout image words t draft here → others ≡ length draft.entries.items + draft.size + here.code_size + 3
+    → GoesOn layout image words here.pc others next → Adds draft draft' here → IsDrafting layout image words t draft' next
+drafting_more layout image words t others draft draft' here next drafting told on adds =
     let P : ℕ → ℕ → Type 0 = λ pc n. GoesOn layout image words pc n next in
     let there : GoesOn layout image words (address image t drafting.last)
     (drafting.last + 3 + size (templates image t (suc drafting.last))) next = subst (P (address image t drafting.last))
@@ -163,8 +159,9 @@ drafting_more layout image words t others draft draft' here next drafting told o
       begun = begun_more layout image words t drafting.last next drafting.begun there;
       reached = there.follows;
       read = there.read;
-      entries = entries_more layout image words t draft draft' here drafting entries;
-      code = code_more layout image words t draft draft' here drafting code;
+      entries = entries_more image t drafting.last draft draft' here drafting.reached drafting.entries drafting.sized adds;
+      code = code_more image t drafting.last draft draft' here drafting.reached drafting.code drafting.read adds;
+      sized = size_more image t drafting.last draft draft' here drafting.reached drafting.sized drafting.read adds;
     }
 
 -- where no instruction is found, the run stops
@@ -175,19 +172,23 @@ stop_told layout image words pc others None told none = told
 stop_told layout image words pc others (Some next) told none = absurd (none next refl)
 
 -- the whole draft, where the run stops
-pub drafted : (layout : Layout) (image words : List ℕ) (t others : ℕ) (draft whole : Draft) (here : Instruction)
-    → IsDrafting layout image words t draft here → others ≡ length draft.entries.items + length draft.code.items + length here.code.items + 3
-    → StopsBehind layout image words here.pc others → whole.entries.items ≡ draft.entries.items ++ (256 * (here.pc % 128) + length draft.code.items)
-    ∷ [] → whole.code.items ≡ draft.code.items ++ here.code.items ++ here.closing.items → IsDrafted layout image words t whole
+pub drafted : (layout : Layout) (image words : List ℕ) (t others : ℕ) (draft more whole : Draft) (here : Instruction)
+    → IsDrafting layout image words t draft here → others ≡ length draft.entries.items + draft.size + here.code_size + 3
+    → StopsBehind layout image words here.pc others → Adds draft more here → whole.entries ≡ more.entries
+    → whole.code.items ≡ more.code.items ++ here.closing.items → whole.size ≡ more.size + here.closing_size → IsDrafted layout image words t whole
 unfolding code
-drafted layout image words t others draft whole here drafting told stops entries code =
+drafted layout image words t others draft more whole here drafting told stops adds entries closed sized =
     let P : ℕ → ℕ → Type 0 = λ pc n. StopsBehind layout image words pc n in
-    let end : here.closing.items ≡ words_of (closing_at image (address image t drafting.last)) = drafting.read.closing ∙ ap (λ pc. words_of (closing_at image pc)) drafting.reached in
-    let more : Draft = record { entries = draft.entries; code = record { items = draft.code.items ++ here.code.items } } in
+    let last = drafting.last in
+    let end : here.closing.items ≡ closing_at image (address image t last) = drafting.read.closing ∙ ap (λ pc. closing_at image pc) drafting.reached in
+    let end_size : here.closing_size ≡ size (closing_at image (address image t last)) = drafting.read.closing_size ∙ ap (λ pc. size (closing_at image pc)) drafting.reached in
+    let body = code_more image t last draft more here drafting.reached drafting.code drafting.read adds in
+    let body_size = size_more image t last draft more here drafting.reached drafting.sized drafting.read adds in
     record {
-      last = drafting.last;
+      last = last;
       begun = drafting.begun;
-      stops = subst (P (address image t drafting.last)) (behind layout image words t others draft here drafting told) (subst (λ (pc : ℕ). P pc others) drafting.reached stops);
-      entries = entries_more layout image words t draft whole here drafting entries;
-      code = code ∙ ap₂ (λ front back. front ++ back) (code_more layout image words t draft more here drafting refl) end ∙ sym (words_of-append (templates image t (suc drafting.last)) (closing_at image (address image t drafting.last)));
+      stops = subst (P (address image t last)) (behind layout image words t others draft here drafting told) (subst (λ (pc : ℕ). P pc others) drafting.reached stops);
+      entries = ap (λ (e : ArrayVec ℕ). e.items) entries ∙ entries_more image t last draft more here drafting.reached drafting.entries drafting.sized adds;
+      code = closed ∙ ap₂ (λ front back. front ++ back) body end;
+      sized = omega (arith, sized, body_size, end_size, size-code image t last);
     }

@@ -12,9 +12,9 @@ use Rattle.page_index.specs.Maps.{IsPool, IsFree}
 use Rattle.page_index.specs.Entries.{Lists, IsEntry}
 use Rattle.page_index.proofs.ChangeLaws as change
 use Rattle.nat_page.specs.CodePages.{place_in_page, HoldsRun}
-use Rattle.nat_page.specs.Faithful.{Stops, HoldsCode, IsFaithful}
+use Rattle.nat_page.specs.Faithful.{IsFaithful}
 use Rattle.nat_page.proofs.HeldLaws.{lists_held, held_listed}
-use Rattle.nat_page.proofs.StayLaws.{held_used, same_run, holds_alike, holds_more, stops_alike}
+use Rattle.nat_page.proofs.StayLaws.{held_used, same_run, holds_alike, holds_more}
 
 -- The page holds the same run in both, and each other page has the same words. Links of the new one may lead
 -- where they did.
@@ -120,9 +120,9 @@ kept_image layout image words words' page t last right pool keeps =
     let below : k < n = omega arith in
     get_or-take n words' k 0 below ∙ kept_word layout image words words' page t last k keeps (λ same. omega (arith, right.image_below_pool, pool.from)) ∙ sym (get_or-take n words k 0 below))
 
--- the pool holds code of the image still
-pub kept_code : (layout : Layout) (image words words' : List ℕ) (page t last : ℕ) → IsRight layout → HoldsCode layout image words → IsPool layout page → KeepsRun layout image words words' page t last → HoldsCode layout image words'
-kept_code layout image words words' page t last right code pool keeps = record {
+-- the pool stays faithful
+pub kept_faithful : (layout : Layout) (image words words' : List ℕ) (page t last : ℕ) → IsRight layout → IsFaithful layout image words → IsPool layout page → KeepsRun layout image words words' page t last → IsFaithful layout image words'
+kept_faithful layout image words words' page t last right code pool keeps = record {
   whole = keeps.whole';
   image_length = code.image_length;
   held = kept_image layout image words words' page t last right pool keeps ∙ code.held;
@@ -138,23 +138,3 @@ kept_code layout image words words' page t last right code pool keeps = record {
   ];
   once = λ p p' i i' b v v' q q' lists lists'. code.once p p' i i' b v v' q q' (kept_lists_back layout image words words' page t last p i b v keeps lists) (kept_lists_back layout image words words' page t last p' i' b v' keeps lists');
 }
-
--- and stays faithful
-pub kept_faithful : (layout : Layout) (image words words' : List ℕ) (page t last : ℕ) → IsRight layout → IsFaithful layout image words → IsPool layout page → KeepsRun layout image words words' page t last → IsFaithful layout image words'
-kept_faithful layout image words words' page t last right faithful pool keeps =
-    let leads' : ℕ → ℕ → Type 0 = λ a v. IsEntry layout words' a v in
-    let in_pool : (p : ℕ) → IsPool layout p → p < 480 = λ p q. omega (arith, q.to, right.pool_below_kernel) in
-    record {
-      code = kept_code layout image words words' page t last right faithful.code pool keeps;
-      stops = λ other first end pool' holds. elim (faithful.code.pages other pool') [
-        | inl free ↦ absurd (held_used leads' image words' other first end keeps.short holds (kept_free layout image words words' page t last other keeps (in_pool other pool') free))
-        | inr run ↦ (
-            let Run : ℕ → ℕ → Type 0 = λ b n. Stops layout image words' other b n in
-            let there = kept_holds layout image words words' page t last other run.first run.last keeps run.holds in
-            let same = same_run leads' leads' image words' other run.first run.last first end there holds in
-            let old = faithful.stops other run.first run.last pool' run.holds in
-            let stops = stops_alike layout image words words' other run.first run.last (λ p i a v lists. kept_lists layout image words words' page t last p i a v keeps lists) old in
-            subst (Run first) same.1 (subst (λ (b : ℕ). Run b run.last) same.0 stops))
-      ];
-      lowest = λ lower other pool' pool'' below free. kept_free layout image words words' page t last other keeps (in_pool other pool'') (faithful.lowest lower other pool' pool'' below (kept_free_back layout image words words' page t last lower keeps (in_pool lower pool') free));
-    }

@@ -7,6 +7,7 @@ pub mod StayLaws
 pub mod LinkLaws
 pub mod PlaceLaws
 mod DraftLaws
+mod WidthLaws
 pub mod FaithfulLaws
 pub mod EnteredLaws
 mod GrowLaws
@@ -16,4 +17,8 @@ pub mod KeptLaws
 pub mod RelinkLaws
 pub mod UsedLaws
 mod PageWords
-pub mod OnePage
+mod OnePage
+pub mod UnlinkLaws
+mod PatchLaws
+mod RemakeLaws
+pub mod WalkLaws

@@ -1,7 +1,7 @@
 -- The page that is made: it holds its run, all else stays, and the pool stays faithful.
 use Rattle.std.proofs.Common.{◌≡◌, ℕ, ◌+◌, ◌-◌, ◌*◌, ◌<◌, ◌≤◌, List, length, get_or, arith, refl, sym, ap, ◌∙◌, inl, inr, subst}
 use Rattle.std.specs.Prelude.{◌≢◌, slice_index}
-use Rattle.std.proofs.lemmas.Bool.{cases_lt, cases_eq}
+use Rattle.std.proofs.lemmas.Bool.{cases_eq}
 use Rattle.std.proofs.lemmas.List.{length-append, get_or_append_left, get_or-append_right}
 use Rattle.flash_model.specs.Pages.{word_count, page_words, word_at, set_page}
 use Rattle.list_parts.specs.Lists.{many}
@@ -17,12 +17,12 @@ use Rattle.page_index.proofs.ChangeLaws as change
 use Rattle.nat_page.specs.Runs.{address, IsRun}
 use Rattle.nat_page.specs.CodePages.{page_pieces, page_size, HoldsRun}
 use Rattle.nat_page.specs.Links.{IsLinkIn, IsUnresolved}
-use Rattle.nat_page.specs.Faithful.{Stops, IsRewritten, HoldsCode, IsFaithful}
-use Rattle.nat_page.specs.Making.{HasNoEntry, IsLowestFree, filled, MakesPage}
+use Rattle.nat_page.specs.Faithful.{IsRewritten, IsFaithful}
+use Rattle.nat_page.specs.Making.{HasNoEntry, filled, made_words, MakesPage}
 use Rattle.nat_page.proofs.PieceLaws.{stands_unresolved}
 use Rattle.nat_page.proofs.HeldLaws.{lists_held, held_listed, map_held, IsHeld}
 use Rattle.nat_page.proofs.LinkLaws.{link_room}
-use Rattle.nat_page.proofs.StayLaws.{held_used, same_run, holds_alike, stops_alike}
+use Rattle.nat_page.proofs.StayLaws.{held_used, holds_alike}
 use Rattle.nat_page.proofs.FaithfulLaws.{faithful_mapped}
 
 -- the words of a page and the erased words behind them
@@ -65,7 +65,7 @@ pub record Fits (image words : List ℕ) (page t last : ℕ) : Type 0 where
   pub fits : page_size image t last ≤ page_words
   pub long : length (filled (words_of (page_pieces image t last))) ≡ page_words
 
-fits_of : (layout : Layout) (image words : List ℕ) (page t last : ℕ) → IsRight layout → HoldsCode layout image words → IsPool layout page → IsRun image t last → page_size image t last ≤ page_words → Fits image words page t last
+fits_of : (layout : Layout) (image words : List ℕ) (page t last : ℕ) → IsRight layout → IsFaithful layout image words → IsPool layout page → IsRun image t last → page_size image t last ≤ page_words → Fits image words page t last
 fits_of layout image words page t last right code pool run fits =
     let low : page < 480 = omega (arith, right.pool_below_kernel, pool.to) in
     record {
@@ -99,10 +99,10 @@ unequal : (a b : ℕ) → a ≢ b → b ≤ a → b < a
 unequal a b apart above = omega arith
 
 -- the pool with the page that is made, where flash is told
-made_code : (layout : Layout) (image words : List ℕ) (page t last : ℕ) → IsRight layout → HoldsCode layout image words → IsPool layout page
+made_faithful : (layout : Layout) (image words : List ℕ) (page t last : ℕ) → IsRight layout → IsFaithful layout image words → IsPool layout page
     → IsFree words page → IsRun image t last → ((i : ℕ) → i ≤ last → HasNoEntry layout words (address image t i))
-    → page_size image t last ≤ page_words → HoldsCode layout image (set_page words page (filled (words_of (page_pieces image t last))))
-made_code layout image words page t last right code pool free run unknown fits =
+    → page_size image t last ≤ page_words → IsFaithful layout image (set_page words page (filled (words_of (page_pieces image t last))))
+made_faithful layout image words page t last right code pool free run unknown fits =
     let new = filled (words_of (page_pieces image t last)) in
     let words' = set_page words page new in
     let made = fits_of layout image words page t last right code pool run fits in
@@ -135,121 +135,57 @@ made_code layout image words page t last right code pool free run unknown fits =
       once = mapped.once;
     }
 
--- what the runs stop for, with the run that is made
-made_stops : (layout : Layout) (image words : List ℕ) (page t last other first' last' : ℕ) → IsRight layout → IsFaithful layout image words
-    → IsPool layout page → IsFree words page → Fits image words page t last → Stops layout image words page t last → IsPool layout other
-    → HoldsRun (IsEntry layout (set_page words page (filled (words_of (page_pieces image t last))))) image
-    (set_page words page (filled (words_of (page_pieces image t last)))) other first' last'
-    → Stops layout image (set_page words page (filled (words_of (page_pieces image t last)))) other first' last'
-made_stops layout image words page t last other first' last' right faithful pool free made stops pool' holds =
-    let new = filled (words_of (page_pieces image t last)) in
-    let words' = set_page words page new in
-    let leads : ℕ → ℕ → Type 0 = λ a v. IsEntry layout words' a v in
-    let stay : (p i a v : ℕ) → Lists words p i a v → Lists words' p i a v = λ p i a v lists. lists_stay words new page p i a v made.long made.inside free lists in
-    let Run : ℕ → ℕ → Type 0 = λ b n. Stops layout image words' other b n in
-    elim (cases_eq other page) [
-      | inl same ↦ (
-          let Held : ℕ → Type 0 = λ p. HoldsRun leads image words' p first' last' in
-          let At : ℕ → Type 0 = λ p. Stops layout image words' p t last in
-          let run = same_run leads leads image words' page t last first' last' (new_run leads image words page t last made) (subst Held same holds) in
-          subst (Run first') run.1 (subst (λ (b : ℕ). Run b last) run.0 (subst At (sym same) (stops_alike layout image words words' page t last stay stops))))
-      | inr apart ↦ elim (faithful.code.pages other pool') [
-        | inl blank ↦ (
-            let left = change.page_left words new page other made.long made.inside apart in
-            let length' = length-set_page words new page made.long made.inside in
-            absurd (held_used leads image words' other first' last' made.short holds (change.free_alike words words' other left (omega (arith, pool'.to, right.pool_below_kernel, faithful.code.whole)) (omega (arith, pool'.to, right.pool_below_kernel, faithful.code.whole, length')) blank)))
-        | inr run' ↦ (
-            let there = other_stays layout image words new page other run'.first run'.last made.long made.inside free apart run'.holds in
-            let run = same_run leads leads image words' other run'.first run'.last first' last' there holds in
-            let old = faithful.stops other run'.first run'.last pool' run'.holds in
-            subst (Run first') run.1 (subst (λ (b : ℕ). Run b run'.last) run.0 (stops_alike layout image words words' other run'.first run'.last stay old)))
-      ]
-    ]
+made_flash : (layout : Layout) (image old new : List ℕ) (page t place : ℕ) → (makes : MakesPage layout image old new page t place) → new ≡ set_page old page (made_words image t makes.prepared.last)
+made_flash layout image old new page t place makes = makes.changed ∙ ap (set_page old page) makes.prepared.is
 
-made_lowest : (layout : Layout) (image words : List ℕ) (page t last lower other : ℕ) → IsRight layout → IsFaithful layout image words
-    → IsLowestFree layout words page → Fits image words page t last → IsPool layout lower → IsPool layout other → lower < other
-    → IsFree (set_page words page (filled (words_of (page_pieces image t last)))) lower
-    → IsFree (set_page words page (filled (words_of (page_pieces image t last)))) other
-made_lowest layout image words page t last lower other right faithful free made pool pool' below blank =
-    let new = filled (words_of (page_pieces image t last)) in
-    let words' = set_page words page new in
-    let whole = faithful.code.whole in
-    let length' = length-set_page words new page made.long made.inside in
-    elim (cases_eq lower page) [
-      | inl same ↦ (
-          let P : ℕ → Type 0 = λ p. IsFree words' p in
-          absurd (held_used (IsEntry layout words') image words' page t last made.short (new_run (IsEntry layout words') image words page t last made) (subst P same blank)))
-      | inr apart ↦ (
-          let same = change.same_back words words' lower (change.page_left words new page lower made.long made.inside apart) in
-          let before : IsFree words lower = change.free_alike words' words lower same (omega (arith, pool.to, right.pool_below_kernel, whole, length')) (omega (arith, pool.to, right.pool_below_kernel, whole)) blank in
-          let above : page < lower = elim (cases_lt lower page) [
-            | inl under ↦ absurd (free.lowest lower pool under before)
-            | inr over ↦ unequal lower page apart over
-          ] in
-          let apart' : other ≢ page = λ same'. omega arith in
-          change.free_alike words words' other (change.page_left words new page other made.long made.inside apart') (omega (arith, pool'.to, right.pool_below_kernel, whole)) (omega (arith, pool'.to, right.pool_below_kernel, whole, length')) (faithful.lowest lower other pool pool' below before))
-    ]
-
--- making a page in any free page keeps that the pool holds code of the image
-pub makes_code : (layout : Layout) (image old new : List ℕ) (page t place : ℕ) → IsRight layout → HoldsCode layout image old → IsPool layout page → IsFree old page → MakesPage layout image old new page t place → HoldsCode layout image new
-makes_code layout image old new page t place right code pool free makes =
-    let P : List ℕ → Type 0 = λ words. HoldsCode layout image words in
-    subst P (sym makes.changed) (made_code layout image old page t makes.last right code pool free makes.run makes.unknown makes.fits)
-
--- making it in the lowest one keeps the pool faithful
-pub makes_faithful : (layout : Layout) (image old new : List ℕ) (page t place : ℕ) → IsRight layout → IsFaithful layout image old → IsLowestFree layout old page → MakesPage layout image old new page t place → IsFaithful layout image new
-makes_faithful layout image old new page t place right faithful free makes =
-    let last = makes.last in
-    let made = fits_of layout image old page t last right faithful.code free.pool makes.run makes.fits in
+-- making a page in a free page keeps the pool faithful
+pub makes_faithful : (layout : Layout) (image old new : List ℕ) (page t place : ℕ) → IsRight layout → IsFaithful layout image old → IsPool layout page → IsFree old page → MakesPage layout image old new page t place → IsFaithful layout image new
+makes_faithful layout image old new page t place right code pool free makes =
     let P : List ℕ → Type 0 = λ words. IsFaithful layout image words in
-    subst P (sym makes.changed) (record {
-      code = made_code layout image old page t last right faithful.code free.pool free.free makes.run makes.unknown makes.fits;
-      stops = λ other first' last' pool' holds. made_stops layout image old page t last other first' last' right faithful free.pool free.free made makes.stops pool' holds;
-      lowest = λ lower other pool pool' below blank. made_lowest layout image old page t last lower other right faithful free made pool pool' below blank;
-    })
+    subst P (sym (made_flash layout image old new page t place makes)) (made_faithful layout image old page t makes.prepared.last right code pool free makes.prepared.run makes.prepared.unknown makes.prepared.fits)
 
 -- the page that is made holds its run, with no link resolved
-pub makes_holds : (layout : Layout) (leads : ℕ → ℕ → Type 0) (image old new : List ℕ) (page t place : ℕ) → IsRight layout → HoldsCode layout image old → IsPool layout page → (makes : MakesPage layout image old new page t place) → HoldsRun leads image new page t makes.last
+pub makes_holds : (layout : Layout) (leads : ℕ → ℕ → Type 0) (image old new : List ℕ) (page t place : ℕ) → IsRight layout → IsFaithful layout image old → IsPool layout page → (makes : MakesPage layout image old new page t place) → HoldsRun leads image new page t makes.prepared.last
 makes_holds layout leads image old new page t place right code pool makes =
-    let P : List ℕ → Type 0 = λ words. HoldsRun leads image words page t makes.last in
-    subst P (sym makes.changed) (new_run leads image old page t makes.last (fits_of layout image old page t makes.last right code pool makes.run makes.fits))
+    let P : List ℕ → Type 0 = λ words. HoldsRun leads image words page t makes.prepared.last in
+    subst P (sym (made_flash layout image old new page t place makes)) (new_run leads image old page t makes.prepared.last (fits_of layout image old page t makes.prepared.last right code pool makes.prepared.run makes.prepared.fits))
 
 -- its first entry is of the address, at the place
-pub makes_first : (layout : Layout) (image old new : List ℕ) (page t place : ℕ) → IsRight layout → HoldsCode layout image old → IsPool layout page → MakesPage layout image old new page t place → Lists new page 0 t place
+pub makes_first : (layout : Layout) (image old new : List ℕ) (page t place : ℕ) → IsRight layout → IsFaithful layout image old → IsPool layout page → MakesPage layout image old new page t place → Lists new page 0 t place
 makes_first layout image old new page t place right code pool makes =
     let leads : ℕ → ℕ → Type 0 = λ a v. IsEntry layout new a v in
     let short : length image ≤ 24576 = omega (arith, code.image_length, right.image_fits) in
     let holds = makes_holds layout leads image old new page t place right code pool makes in
     let P : ℕ → Type 0 = λ v. Lists new page 0 t v in
-    subst P (sym makes.placed) (lists_held leads image new page t makes.last 0 short holds (omega arith))
+    subst P (sym makes.prepared.placed) (lists_held leads image new page t makes.prepared.last 0 short holds (omega arith))
 
-pub makes_entry : (layout : Layout) (image old new : List ℕ) (page t place : ℕ) → IsRight layout → HoldsCode layout image old → IsPool layout page → MakesPage layout image old new page t place → IsEntry layout new t place
+pub makes_entry : (layout : Layout) (image old new : List ℕ) (page t place : ℕ) → IsRight layout → IsFaithful layout image old → IsPool layout page → MakesPage layout image old new page t place → IsEntry layout new t place
 makes_entry layout image old new page t place right code pool makes =
     record { page = page; index = 0; pool = pool; lists = makes_first layout image old new page t place right code pool makes }
 
 -- every other page stays
-pub makes_other : (layout : Layout) (image old new : List ℕ) (page t place other : ℕ) → IsRight layout → HoldsCode layout image old → IsPool layout page → MakesPage layout image old new page t place → other ≢ page → change.SamePage old new other
+pub makes_other : (layout : Layout) (image old new : List ℕ) (page t place other : ℕ) → IsRight layout → IsFaithful layout image old → IsPool layout page → MakesPage layout image old new page t place → other ≢ page → change.SamePage old new other
 makes_other layout image old new page t place other right code pool makes apart =
-    let made = fits_of layout image old page t makes.last right code pool makes.run makes.fits in
+    let made = fits_of layout image old page t makes.prepared.last right code pool makes.prepared.run makes.prepared.fits in
     let P : List ℕ → Type 0 = λ words. change.SamePage old words other in
-    subst P (sym makes.changed) (change.page_left old (filled (words_of (page_pieces image t makes.last))) page other made.long made.inside apart)
+    subst P (sym (made_flash layout image old new page t place makes)) (change.page_left old (filled (words_of (page_pieces image t makes.prepared.last))) page other made.long made.inside apart)
 
 -- every entry stays
-pub makes_entries : (layout : Layout) (image old new : List ℕ) (page t place : ℕ) → IsRight layout → HoldsCode layout image old → IsPool layout page → IsFree old page → MakesPage layout image old new page t place → (a v : ℕ) → IsEntry layout old a v → IsEntry layout new a v
+pub makes_entries : (layout : Layout) (image old new : List ℕ) (page t place : ℕ) → IsRight layout → IsFaithful layout image old → IsPool layout page → IsFree old page → MakesPage layout image old new page t place → (a v : ℕ) → IsEntry layout old a v → IsEntry layout new a v
 makes_entries layout image old new page t place right code pool free makes a v entry =
-    let made = fits_of layout image old page t makes.last right code pool makes.run makes.fits in
+    let made = fits_of layout image old page t makes.prepared.last right code pool makes.prepared.run makes.prepared.fits in
     let P : List ℕ → Type 0 = λ words. IsEntry layout words a v in
-    subst P (sym makes.changed) (change.entry_stays layout old (filled (words_of (page_pieces image t makes.last))) page a v made.long made.inside free entry)
+    subst P (sym (made_flash layout image old new page t place makes)) (change.entry_stays layout old (filled (words_of (page_pieces image t makes.prepared.last))) page a v made.long made.inside free entry)
 
 -- the image stays
-pub makes_image : (layout : Layout) (image old new : List ℕ) (page t place : ℕ) → IsRight layout → HoldsCode layout image old → IsPool layout page → MakesPage layout image old new page t place → image_of layout new ≡ image_of layout old
+pub makes_image : (layout : Layout) (image old new : List ℕ) (page t place : ℕ) → IsRight layout → IsFaithful layout image old → IsPool layout page → MakesPage layout image old new page t place → image_of layout new ≡ image_of layout old
 makes_image layout image old new page t place right code pool makes =
     let whole = code.whole in
-    let front = filled (words_of (page_pieces image t makes.last)) in
-    ap (image_of layout) makes.changed ∙ take-set_page old front page layout.image_words (omega (arith, pool.to, right.pool_below_kernel)) (omega (arith, right.image_below_pool, pool.from))
+    let front = filled (words_of (page_pieces image t makes.prepared.last)) in
+    ap (image_of layout) (made_flash layout image old new page t place makes) ∙ take-set_page old front page layout.image_words (omega (arith, pool.to, right.pool_below_kernel)) (omega (arith, right.image_below_pool, pool.from))
 
 -- each page that holds a run holds it still
-pub makes_runs : (layout : Layout) (image old new : List ℕ) (page t place other first end : ℕ) → IsRight layout → HoldsCode layout image old
+pub makes_runs : (layout : Layout) (image old new : List ℕ) (page t place other first end : ℕ) → IsRight layout → IsFaithful layout image old
     → IsPool layout page → IsFree old page → MakesPage layout image old new page t place → HoldsRun (IsEntry layout old) image old other first end
     → HoldsRun (IsEntry layout new) image new other first end
 makes_runs layout image old new page t place other first end right code pool free makes holds =
@@ -259,7 +195,7 @@ makes_runs layout image old new page t place other first end right code pool fre
     holds_alike (IsEntry layout old) (IsEntry layout new) image old new other first end (λ a v entry. makes_entries layout image old new page t place right code pool free makes a v entry) (makes_other layout image old new page t place other right code pool makes apart) holds
 
 -- each link stays where it is, with its words
-pub makes_links : (layout : Layout) (image old new : List ℕ) (page t place s to : ℕ) → IsRight layout → HoldsCode layout image old → IsPool layout page → IsFree old page → MakesPage layout image old new page t place → IsLinkIn layout image old s to → IsLinkIn layout image new s to
+pub makes_links : (layout : Layout) (image old new : List ℕ) (page t place s to : ℕ) → IsRight layout → IsFaithful layout image old → IsPool layout page → IsFree old page → MakesPage layout image old new page t place → IsLinkIn layout image old s to → IsLinkIn layout image new s to
 makes_links layout image old new page t place s to right code pool free makes link = record {
   page = link.page;
   pool = link.pool;
@@ -269,7 +205,7 @@ makes_links layout image old new page t place s to right code pool free makes li
   link = link.link;
 }
 
-pub makes_link_words : (layout : Layout) (image old new : List ℕ) (page t place s to k : ℕ) → IsRight layout → HoldsCode layout image old
+pub makes_link_words : (layout : Layout) (image old new : List ℕ) (page t place s to k : ℕ) → IsRight layout → IsFaithful layout image old
     → IsPool layout page → IsFree old page → MakesPage layout image old new page t place → IsLinkIn layout image old s to → k < 3
     → word_at new (s + k) ≡ word_at old (s + k)
 makes_link_words layout image old new page t place s to k right code pool free makes link below =
@@ -281,7 +217,7 @@ makes_link_words layout image old new page t place s to k right code pool free m
     let here : page_words * link.page + (s + k - page_words * link.page) ≡ s + k = omega arith in
     sym (ap (word_at new) here) ∙ sym same ∙ ap (word_at old) here
 
-pub makes_unresolved : (layout : Layout) (image old new : List ℕ) (page t place s to : ℕ) → IsRight layout → HoldsCode layout image old → IsPool layout page → IsFree old page → MakesPage layout image old new page t place → IsUnresolved layout image old s to → IsUnresolved layout image new s to
+pub makes_unresolved : (layout : Layout) (image old new : List ℕ) (page t place s to : ℕ) → IsRight layout → IsFaithful layout image old → IsPool layout page → IsFree old page → MakesPage layout image old new page t place → IsUnresolved layout image old s to → IsUnresolved layout image new s to
 makes_unresolved layout image old new page t place s to right code pool free makes stub =
     let here : s ≡ s + 0 = omega arith in
     record {

@@ -1,4 +1,4 @@
--- The words of a draft are those of its run's page.
+-- The pieces of a draft are those of its run's page.
 use Rattle.std.proofs.Common.{◌≡◌, ℕ, suc, ◌+◌, ◌*◌, ◌-◌, ◌/◌, ◌%◌, ◌<◌, ◌≤◌, List, [], ◌∷◌, ◌++◌, length, get_or, map, arith, refl, sym, ap, ap₂, ◌∙◌, subst}
 use Rattle.std.specs.Prelude.{All}
 use Rattle.std.specs.List.{range_with_len}
@@ -7,13 +7,12 @@ use Rattle.std.proofs.lemmas.List.FromFn.{get_or-map-range_with_len}
 use Rattle.flash_model.specs.Pages.{page_words}
 use Rattle.flash_model.specs.declared.layout.Layout.{Layout}
 use Rattle.nat_template.specs.declared.piece.Piece.TheVariants.{Fixed}
-use Rattle.nat_template.specs.Stubs.{words_of}
+use Rattle.nat_template.specs.declared.piece.Piece.{Piece}
 use Rattle.nat_page.specs.declared.draft.Draft.{Draft}
 use Rattle.nat_page.specs.Standing.{size}
 use Rattle.nat_page.specs.Runs.{address, templates}
 use Rattle.nat_page.specs.CodePages.{map_word, map_words, code, page_pieces}
-use Rattle.nat_page.specs.Drafts.{starts, IsDrafted, draft_words}
-use Rattle.nat_page.proofs.PieceLaws.{words_of-append, words_of-fixed}
+use Rattle.nat_page.specs.Drafts.{starts, IsDrafted, draft_pieces}
 use Rattle.nat_page.proofs.RunLaws.{templates-rise, size-code, page_size-is}
 use Rattle.nat_page.proofs.GrowLaws.{length-starts}
 
@@ -27,29 +26,27 @@ unfolding starts map_words
 entries_raised image t n =
     map-map (λ entry. entry + (2 + n)) (λ i. 256 * (address image t i % page_words) + size (templates image t i)) (range_with_len 0 n) ∙ map_alike _ (λ i. map_word image t n i) (range_with_len 0 n) (λ i. omega arith)
 
-pub draft_page : (image entries body : List ℕ) (t last : ℕ) → entries ≡ starts image t (suc last) → body ≡ words_of (code image t last) → draft_words t entries body ≡ words_of (page_pieces image t last)
+pub draft_page : (image entries : List ℕ) (body : List Piece) (t last : ℕ) → entries ≡ starts image t (suc last) → body ≡ code image t last → draft_pieces t entries body ≡ page_pieces image t last
 unfolding page_pieces
 draft_page image entries body t last same same' =
     let n = suc last in
     let count : length entries ≡ n = ap length same ∙ length-starts image t n in
-    let raised : map (λ entry. entry + (2 + length entries)) entries ≡ map_words image t n = ap₂ (λ m xs. map (λ entry. entry + (2 + m)) xs) count same ∙ entries_raised image t n in
-    let fixed = map_words image t n in
-    let whole : words_of (map (λ word. Fixed word) fixed ++ code image t last) ≡ fixed ++ words_of (code image t last) = words_of-append (map (λ word. Fixed word) fixed) (code image t last) ∙ ap (λ front. front ++ words_of (code image t last)) (words_of-fixed fixed) in
-    let P : ℕ → List ℕ → List ℕ → List ℕ = λ m map_part back. t / page_words ∷ m ∷ map_part ++ back in
-    ap (λ m. P m (map (λ entry. entry + (2 + length entries)) entries) body) count ∙ ap₂ (P n) raised same' ∙ ap (λ rest. t / page_words ∷ n ∷ rest) (sym whole)
+    let row : (m : ℕ) (xs : List ℕ) → map (λ entry. Fixed (entry + (2 + m))) xs ≡ map (λ word. Fixed word) (map (λ entry. entry + (2 + m)) xs) = λ m xs. sym (map-map (λ word. Fixed word) (λ entry. entry + (2 + m)) xs) in
+    let raised : map (λ entry. Fixed (entry + (2 + length entries))) entries ≡ map (λ word. Fixed word) (map_words image t n) = ap₂ (λ m xs. map (λ entry. Fixed (entry + (2 + m))) xs) count same ∙ row n (starts image t n) ∙ ap (map (λ word. Fixed word)) (entries_raised image t n) in
+    let P : ℕ → List Piece → List Piece → List Piece = λ m map_part back. Fixed (t / page_words) ∷ Fixed m ∷ map_part ++ back in
+    ap (λ m. P m (map (λ entry. Fixed (entry + (2 + length entries))) entries) body) count ∙ ap₂ (P n) raised same'
 
 -- they fit
-pub draft_room : (layout : Layout) (image words : List ℕ) (t : ℕ) (draft : Draft) → IsDrafted layout image words t draft → 2 + length draft.entries.items + length draft.code.items ≤ page_words
+pub draft_room : (layout : Layout) (image words : List ℕ) (t : ℕ) (draft : Draft) → IsDrafted layout image words t draft → 2 + length draft.entries.items + draft.size ≤ page_words
 draft_room layout image words t draft drafted =
     let last = drafted.last in
     let count : length draft.entries.items ≡ suc last = ap length drafted.entries ∙ length-starts image t (suc last) in
-    let body : length draft.code.items ≡ size (code image t last) = ap length drafted.code in
     let whole = page_size-is image t last in
     let parts = size-code image t last in
     let fits = drafted.begun.fits in
-    omega arith
+    omega (arith, drafted.sized)
 
-small_starts : (image : List ℕ) (t last : ℕ) → size (templates image t (suc last)) ≤ page_words → All (λ entry. entry < 65536 - 128) (starts image t (suc last))
+pub small_starts : (image : List ℕ) (t last : ℕ) → size (templates image t (suc last)) ≤ page_words → All (λ entry. entry < 65536 - 128) (starts image t (suc last))
 unfolding starts
 small_starts image t last fits = λ k d below.
     let start : ℕ → ℕ = λ i. 256 * (address image t i % page_words) + size (templates image t i) in

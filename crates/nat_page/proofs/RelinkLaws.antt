@@ -10,11 +10,11 @@ use Rattle.page_index.specs.Entries.{IsEntry}
 use Rattle.nat_page.specs.Standing.{IsLink, Stands, size}
 use Rattle.nat_page.specs.CodePages.{page_pieces, page_size, HoldsRun}
 use Rattle.nat_page.specs.Links.{IsLinkOf, IsLinkIn, with_two_words}
-use Rattle.nat_page.specs.Faithful.{HoldsCode, IsFaithful}
+use Rattle.nat_page.specs.Faithful.{IsFaithful}
 use Rattle.nat_page.proofs.PieceLaws.{size-append, size-cons, stands_split, stands_join, stands_same}
 use Rattle.nat_page.proofs.LinkLaws.{link_room}
 use Rattle.nat_page.proofs.TwoWords.{length-with_two_words, first_of_two, second_of_two, word_beside_two, two_in_page}
-use Rattle.nat_page.proofs.KeptLaws.{KeepsRun, kept_entries, kept_entries_back, kept_holds, kept_image, kept_code, kept_faithful}
+use Rattle.nat_page.proofs.KeptLaws.{KeepsRun, kept_entries, kept_entries_back, kept_holds, kept_image, kept_faithful}
 
 -- the pieces stand as before, with the new words of one link among them
 stands_relinked : (leads : ℕ → ℕ → Type 0) (words : List ℕ) (a t first second : ℕ) (before behind : List Piece) → a + size before + 1 < length words
@@ -77,7 +77,7 @@ link_placed layout image words s t w w' right whole in_page =
     }
 
 -- all other pages stay, and this one keeps its run
-pub relinks : (layout : Layout) (image words : List ℕ) (s t w w' : ℕ) → IsRight layout → HoldsCode layout image words
+pub relinks : (layout : Layout) (image words : List ℕ) (s t w w' : ℕ) → IsRight layout → IsFaithful layout image words
     → (in_page : IsLinkIn layout image words s t) → IsLink (IsEntry layout words) w w' t
     → KeepsRun layout image words (with_two_words words s w w') in_page.page in_page.first in_page.last
 relinks layout image words s t w w' right code in_page link =
@@ -95,27 +95,22 @@ relinks layout image words s t w w' right code in_page link =
       new = holds_relinked (IsEntry layout words) image words page in_page.first in_page.last s t w w' inside in_page.link link in_page.holds;
     }
 
--- the pool holds code of the image still
-pub relinked_code : (layout : Layout) (image words : List ℕ) (s t w w' : ℕ) → IsRight layout → HoldsCode layout image words → IsLinkIn layout image words s t → IsLink (IsEntry layout words) w w' t → HoldsCode layout image (with_two_words words s w w')
-relinked_code layout image words s t w w' right code in_page link =
-    kept_code layout image words (with_two_words words s w w') in_page.page in_page.first in_page.last right code in_page.pool (relinks layout image words s t w w' right code in_page link)
-
--- and stays faithful
+-- the pool stays faithful
 pub relinked_faithful : (layout : Layout) (image words : List ℕ) (s t w w' : ℕ) → IsRight layout → IsFaithful layout image words → IsLinkIn layout image words s t → IsLink (IsEntry layout words) w w' t → IsFaithful layout image (with_two_words words s w w')
-relinked_faithful layout image words s t w w' right faithful in_page link =
-    kept_faithful layout image words (with_two_words words s w w') in_page.page in_page.first in_page.last right faithful in_page.pool (relinks layout image words s t w w' right faithful.code in_page link)
+relinked_faithful layout image words s t w w' right code in_page link =
+    kept_faithful layout image words (with_two_words words s w w') in_page.page in_page.first in_page.last right code in_page.pool (relinks layout image words s t w w' right code in_page link)
 
 -- each entry stays, and there is no other
-pub relinked_entries : (layout : Layout) (image words : List ℕ) (s t w w' a v : ℕ) → IsRight layout → HoldsCode layout image words → IsLinkIn layout image words s t → IsLink (IsEntry layout words) w w' t → IsEntry layout words a v → IsEntry layout (with_two_words words s w w') a v
+pub relinked_entries : (layout : Layout) (image words : List ℕ) (s t w w' a v : ℕ) → IsRight layout → IsFaithful layout image words → IsLinkIn layout image words s t → IsLink (IsEntry layout words) w w' t → IsEntry layout words a v → IsEntry layout (with_two_words words s w w') a v
 relinked_entries layout image words s t w w' a v right code in_page link entry =
     kept_entries layout image words (with_two_words words s w w') in_page.page in_page.first in_page.last a v (relinks layout image words s t w w' right code in_page link) entry
 
-pub relinked_entries_back : (layout : Layout) (image words : List ℕ) (s t w w' a v : ℕ) → IsRight layout → HoldsCode layout image words → IsLinkIn layout image words s t → IsLink (IsEntry layout words) w w' t → IsEntry layout (with_two_words words s w w') a v → IsEntry layout words a v
+pub relinked_entries_back : (layout : Layout) (image words : List ℕ) (s t w w' a v : ℕ) → IsRight layout → IsFaithful layout image words → IsLinkIn layout image words s t → IsLink (IsEntry layout words) w w' t → IsEntry layout (with_two_words words s w w') a v → IsEntry layout words a v
 relinked_entries_back layout image words s t w w' a v right code in_page link entry =
     kept_entries_back layout image words (with_two_words words s w w') in_page.page in_page.first in_page.last a v (relinks layout image words s t w w' right code in_page link) entry
 
 -- each link stays where it is
-pub relinked_links : (layout : Layout) (image words : List ℕ) (s t w w' s' t' : ℕ) → IsRight layout → HoldsCode layout image words → IsLinkIn layout image words s t → IsLink (IsEntry layout words) w w' t → IsLinkIn layout image words s' t' → IsLinkIn layout image (with_two_words words s w w') s' t'
+pub relinked_links : (layout : Layout) (image words : List ℕ) (s t w w' s' t' : ℕ) → IsRight layout → IsFaithful layout image words → IsLinkIn layout image words s t → IsLink (IsEntry layout words) w w' t → IsLinkIn layout image words s' t' → IsLinkIn layout image (with_two_words words s w w') s' t'
 relinked_links layout image words s t w w' s' t' right code in_page link other = record {
   page = other.page;
   pool = other.pool;
@@ -126,6 +121,6 @@ relinked_links layout image words s t w w' s' t' right code in_page link other =
 }
 
 -- the image stays
-pub relinked_image : (layout : Layout) (image words : List ℕ) (s t w w' : ℕ) → IsRight layout → HoldsCode layout image words → IsLinkIn layout image words s t → IsLink (IsEntry layout words) w w' t → image_of layout (with_two_words words s w w') ≡ image_of layout words
+pub relinked_image : (layout : Layout) (image words : List ℕ) (s t w w' : ℕ) → IsRight layout → IsFaithful layout image words → IsLinkIn layout image words s t → IsLink (IsEntry layout words) w w' t → image_of layout (with_two_words words s w w') ≡ image_of layout words
 relinked_image layout image words s t w w' right code in_page link =
     kept_image layout image words (with_two_words words s w w') in_page.page in_page.first in_page.last right in_page.pool (relinks layout image words s t w w' right code in_page link)

@@ -1,14 +1,10 @@
 -- A page that holds a run, where flash changes: its run is determined, and stays where its words stay.
-use Rattle.std.proofs.Common.{◌≡◌, ℕ, suc, ◌*◌, ◌/◌, ◌<◌, ◌≤◌, List, length, arith, refl, sym, ◌∙◌}
+use Rattle.std.proofs.Common.{◌≡◌, ℕ, ◌*◌, ◌/◌, ◌<◌, ◌≤◌, List, length, arith, refl, sym, ◌∙◌}
 use Rattle.flash_model.specs.Pages.{page_words}
-use Rattle.flash_model.specs.declared.layout.Layout.{Layout}
 use Rattle.page_index.specs.Maps.{IsFree, page_word}
-use Rattle.page_index.specs.Entries.{Lists}
 use Rattle.page_index.proofs.MapLaws.{free_word}
 use Rattle.page_index.proofs.ChangeLaws.{SamePage}
-use Rattle.nat_page.specs.Runs.{address}
 use Rattle.nat_page.specs.CodePages.{page_pieces, HoldsRun}
-use Rattle.nat_page.specs.Faithful.{Stops}
 use Rattle.nat_page.proofs.PieceLaws.{stands_same}
 use Rattle.nat_page.proofs.HeldLaws.{original_held, count_held, address_held}
 
@@ -38,12 +34,3 @@ holds_alike leads leads' image words words' page t last more same holds = record
 
 pub holds_more : (leads leads' : ℕ → ℕ → Type 0) (image words : List ℕ) (page t last : ℕ) → ((a v : ℕ) → leads a v → leads' a v) → HoldsRun leads image words page t last → HoldsRun leads' image words page t last
 holds_more leads leads' image words page t last more holds = holds_alike leads leads' image words words page t last more (record { word = λ k below. refl }) holds
-
--- a run stops for the same reason where no entry of the pool goes
-pub stops_alike : (layout : Layout) (image words words' : List ℕ) (page t last : ℕ) → ((other i a v : ℕ) → Lists words other i a v → Lists words' other i a v) → Stops layout image words page t last → Stops layout image words' page t last
-stops_alike layout image words words' page t last stay (Stops.Ends ends) = Stops.Ends ends
-stops_alike layout image words words' page t last stay (Stops.Leaves leaves) = Stops.Leaves leaves
-stops_alike layout image words words' page t last stay (Stops.Outside outside) = Stops.Outside outside
-stops_alike layout image words words' page t last stay (Stops.Known other i v pool apart lists) =
-    Stops.Known other i v pool apart (stay other i (address image t (suc last)) v lists)
-stops_alike layout image words words' page t last stay (Stops.Full full) = Stops.Full full

@@ -14,7 +14,7 @@ use Rattle.nat_page.specs.Standing.{IsLink}
 use Rattle.nat_page.specs.CodePages.{HoldsRun}
 use Rattle.nat_page.specs.Links.{IsLinkIn, with_two_words}
 use Rattle.nat_page.specs.Used.{is_used, used_among, used_pages}
-use Rattle.nat_page.specs.Faithful.{HoldsCode}
+use Rattle.nat_page.specs.Faithful.{IsFaithful}
 use Rattle.nat_page.specs.Making.{HasNoFree, MakesPage}
 use Rattle.nat_page.proofs.HeldLaws.{original_held}
 use Rattle.nat_page.proofs.MadeLaws.{makes_holds, makes_other}
@@ -74,7 +74,7 @@ carried used used' n m head tail = counted used used' n (m + 1) head tail ∙ om
 before_last : (first n page : ℕ) → page < first + suc n → first + n ≢ page → page < first + n
 before_last first n page below apart = omega arith
 
-used_among-more : (words words' : List ℕ) (first n page : ℕ) → first ≤ page → page < first + n → is_used words page ≡ false → is_used words' page ≡ true → ((other : ℕ) → other ≢ page → is_used words' other ≡ is_used words other) → used_among words' first n ≡ used_among words first n + 1
+pub used_among-more : (words words' : List ℕ) (first n page : ℕ) → first ≤ page → page < first + n → is_used words page ≡ false → is_used words' page ≡ true → ((other : ℕ) → other ≢ page → is_used words' other ≡ is_used words other) → used_among words' first n ≡ used_among words first n + 1
 unfolding used_among
 used_among-more words words' first zero page low high free used same = absurd (omega arith)
 used_among-more words words' first (suc n) page low high free used same = elim (cases_eq (first + n) page) [
@@ -115,12 +115,12 @@ all_used layout words mapped full =
     ])
 
 -- where a page is made one more is used
-pub used_made : (layout : Layout) (image old new : List ℕ) (page t place : ℕ) → IsRight layout → HoldsCode layout image old → IsPool layout page → IsFree old page → MakesPage layout image old new page t place → used_pages layout new ≡ used_pages layout old + 1
+pub used_made : (layout : Layout) (image old new : List ℕ) (page t place : ℕ) → IsRight layout → IsFaithful layout image old → IsPool layout page → IsFree old page → MakesPage layout image old new page t place → used_pages layout new ≡ used_pages layout old + 1
 used_made layout image old new page t place right code pool free makes =
     let leads : ℕ → ℕ → Type 0 = λ a v. IsEntry layout new a v in
     let short : length image ≤ 24576 = omega (arith, code.image_length, right.image_fits) in
     let holds = makes_holds layout leads image old new page t place right code pool makes in
-    used_among-more old new layout.pool_first layout.pool_pages page pool.from pool.to (free_unused old page free) (holds_run_used leads image new page t makes.last short holds) (λ other apart. same_used old new other (makes_other layout image old new page t place other right code pool makes apart))
+    used_among-more old new layout.pool_first layout.pool_pages page pool.from pool.to (free_unused old page free) (holds_run_used leads image new page t makes.prepared.last short holds) (λ other apart. same_used old new other (makes_other layout image old new page t place other right code pool makes apart))
 
 -- where each page keeps its run as many are used
 pub used_kept : (layout : Layout) (image words words' : List ℕ) (page t last : ℕ) → KeepsRun layout image words words' page t last → used_pages layout words' ≡ used_pages layout words
@@ -133,6 +133,6 @@ used_kept layout image words words' page t last keeps =
       | inr apart ↦ same_used words words' other (keeps.others other apart)
     ])
 
-pub used_relinked : (layout : Layout) (image words : List ℕ) (s t w w' : ℕ) → IsRight layout → HoldsCode layout image words → IsLinkIn layout image words s t → IsLink (IsEntry layout words) w w' t → used_pages layout (with_two_words words s w w') ≡ used_pages layout words
+pub used_relinked : (layout : Layout) (image words : List ℕ) (s t w w' : ℕ) → IsRight layout → IsFaithful layout image words → IsLinkIn layout image words s t → IsLink (IsEntry layout words) w w' t → used_pages layout (with_two_words words s w w') ≡ used_pages layout words
 used_relinked layout image words s t w w' right code in_page link =
     used_kept layout image words (with_two_words words s w w') in_page.page in_page.first in_page.last (relinks layout image words s t w w' right code in_page link)

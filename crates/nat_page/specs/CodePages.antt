@@ -32,9 +32,24 @@ page_pieces image t last =
 abbrev pub page_size : List ℕ → (t last : ℕ) → ℕ
 page_size image t last = size (page_pieces image t last)
 
+-- instructions 0 to last are a run from t that fits into a page
+pub record IsPage (image : List ℕ) (t last : ℕ) : Type 0 where
+  pub run : IsRun image t last
+  pub fits : page_size image t last ≤ page_words
+
 -- The page holds the run of instructions 0 to last from t. Links that are resolved lead where `leads` allows.
 pub record HoldsRun (leads : ℕ → ℕ → Type 0) (image words : List ℕ) (page t last : ℕ) : Type 0 where
   pub run : IsRun image t last
   pub fits : page_size image t last ≤ page_words
   pub stands : Stands leads words (page_words * page) (page_pieces image t last)
   pub rest : (k : ℕ) → page_size image t last ≤ k → k < page_words → word_at words (page_words * page + k) ≡ 0xFFFF
+
+-- links that are resolved may lead anywhere
+abbrev pub Anywhere : ℕ → ℕ → Type 0
+Anywhere t v = Unit {0}
+
+-- the page holds the run from some address, wherever its links lead
+pub record IsCodePage (image words : List ℕ) (page : ℕ) : Type 0 where
+  pub first : ℕ
+  pub last : ℕ
+  pub holds : HoldsRun Anywhere image words page first last

@@ -1,9 +1,10 @@
 -- Serves private functions: a page while it is made: its run's instructions one after another.
-use Rattle.std.specs.Prelude.{◌≡◌, ◌≢◌, ℕ, suc, ◌+◌, ◌*◌, ◌/◌, ◌%◌, ◌<◌, ◌≤◌, true, false, List, ◌∷◌, ◌++◌, length, map}
+use Rattle.std.specs.Prelude.{◌≡◌, ◌≢◌, ℕ, suc, ◌+◌, ◌*◌, ◌/◌, ◌%◌, ◌<◌, ◌≤◌, true, false, List, [], ◌∷◌, ◌++◌, length, map}
 use Rattle.std.specs.List.{range_with_len}
 use Rattle.flash_model.specs.Pages.{page_words}
 use Rattle.flash_model.specs.declared.layout.Layout.{Layout}
-use Rattle.nat_template.specs.Stubs.{words_of}
+use Rattle.nat_template.specs.declared.piece.Piece.{Piece}
+use Rattle.nat_template.specs.declared.piece.Piece.TheVariants.{Fixed}
 use Rattle.page_index.specs.Entries.{IsEntry}
 use Rattle.nat_page.specs.declared.instruction.Instruction.{Instruction}
 use Rattle.nat_page.specs.declared.draft.Draft.{Draft}
@@ -16,8 +17,10 @@ use Rattle.nat_page.specs.Making.{HasNoEntry}
 pub record IsRead (image : List ℕ) (read : Instruction) : Type 0 where
   pub next : read.next ≡ next_of image read.pc
   pub ends : read.ends ≡ ends_at image read.pc
-  pub code : read.code.items ≡ words_of (template_at image read.pc)
-  pub closing : read.closing.items ≡ words_of (closing_at image read.pc)
+  pub code : read.code.items ≡ template_at image read.pc
+  pub code_size : read.code_size ≡ size (template_at image read.pc)
+  pub closing : read.closing.items ≡ closing_at image read.pc
+  pub closing_size : read.closing_size ≡ size (closing_at image read.pc)
 
 -- for each of the first n instructions the offset in the original page times 256, and the words of the
 -- templates in front of its own
@@ -53,6 +56,12 @@ pub record IsBegun (layout : Layout) (image words : List ℕ) (t last : ℕ) : T
   pub unknown : (i : ℕ) → i ≤ last → HasNoEntry layout words (address image t i)
   pub fits : page_size image t last ≤ page_words
 
+-- a draft with one more instruction
+pub record Adds (old new : Draft) (here : Instruction) : Type 0 where
+  pub entries : new.entries.items ≡ old.entries.items ++ (256 * (here.pc % page_words) + old.size) ∷ []
+  pub code : new.code.items ≡ old.code.items ++ here.code.items
+  pub size : new.size ≡ old.size + here.code_size
+
 -- the draft has the instructions in front of `here`
 pub record IsDrafting (layout : Layout) (image words : List ℕ) (t : ℕ) (draft : Draft) (here : Instruction) : Type 0 where
   pub last : ℕ
@@ -60,7 +69,8 @@ pub record IsDrafting (layout : Layout) (image words : List ℕ) (t : ℕ) (draf
   pub reached : here.pc ≡ address image t last
   pub read : IsRead image here
   pub entries : draft.entries.items ≡ starts image t last
-  pub code : draft.code.items ≡ words_of (templates image t last)
+  pub code : draft.code.items ≡ templates image t last
+  pub sized : draft.size ≡ size (templates image t last)
 
 -- the draft has the whole run and its closing
 pub record IsDrafted (layout : Layout) (image words : List ℕ) (t : ℕ) (draft : Draft) : Type 0 where
@@ -68,9 +78,10 @@ pub record IsDrafted (layout : Layout) (image words : List ℕ) (t : ℕ) (draft
   pub begun : IsBegun layout image words t last
   pub stops : StopsBehind layout image words (address image t last) (last + 3 + size (templates image t (suc last)))
   pub entries : draft.entries.items ≡ starts image t (suc last)
-  pub code : draft.code.items ≡ words_of (code image t last)
+  pub sized : draft.size ≡ size (code image t last)
+  pub code : draft.code.items ≡ code image t last
 
--- the words of the page of a draft
-abbrev pub draft_words : (t : ℕ) (entries body : List ℕ) → List ℕ
-draft_words t entries body =
-    t / page_words ∷ length entries ∷ map (λ entry. entry + (2 + length entries)) entries ++ body
+-- the pieces of the page of a draft
+abbrev pub draft_pieces : (t : ℕ) → List ℕ → List Piece → List Piece
+draft_pieces t entries body =
+    Fixed (t / page_words) ∷ Fixed (length entries) ∷ map (λ entry. Fixed (entry + (2 + length entries))) entries ++ body

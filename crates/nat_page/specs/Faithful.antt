@@ -1,14 +1,12 @@
--- When a code pool is faithful to the image: all that it holds is rewritten code of the image, and it is as
--- full as making pages leaves it.
-use Rattle.std.specs.Prelude.{◌≡◌, ◌≢◌, ℕ, suc, ◌*◌, ◌/◌, ◌<◌, ◌≤◌, ◌⊎◌, true, List, length}
+-- When a code pool is faithful to the image: all that it holds is rewritten code of the image.
+use Rattle.std.specs.Prelude.{◌≡◌, ℕ, ◌*◌, ◌<◌, ◌≤◌, ◌⊎◌, List, length}
 use Rattle.flash_model.specs.Pages.{word_count, page_words, word_at}
 use Rattle.flash_model.specs.Memory.{kernel_first}
 use Rattle.flash_model.specs.declared.layout.Layout.{Layout}
 use Rattle.flash_model.specs.Layouts.{image_of}
 use Rattle.page_index.specs.Maps.{IsPool, IsFree}
 use Rattle.page_index.specs.Entries.{Lists, IsEntry}
-use Rattle.nat_page.specs.Runs.{address, ends_at}
-use Rattle.nat_page.specs.CodePages.{page_size, HoldsRun}
+use Rattle.nat_page.specs.CodePages.{HoldsRun}
 
 -- the page holds the run from some address, and its resolved links lead to entries
 pub record IsRewritten (layout : Layout) (image words : List ℕ) (page : ℕ) : Type 0 where
@@ -18,7 +16,7 @@ pub record IsRewritten (layout : Layout) (image words : List ℕ) (page : ℕ) :
 
 -- Flash holds the image from word 0 on, erased words from there to the pool, and RET in the kernel's
 -- pages. Each page of the pool is free or holds a run; and no address has two entries.
-pub record HoldsCode (layout : Layout) (image words : List ℕ) : Type 0 where
+pub record IsFaithful (layout : Layout) (image words : List ℕ) : Type 0 where
   pub whole : length words ≡ word_count
   pub image_length : length image ≡ layout.image_words
   pub held : image_of layout words ≡ image
@@ -26,20 +24,3 @@ pub record HoldsCode (layout : Layout) (image words : List ℕ) : Type 0 where
   pub kernel : (a : ℕ) → kernel_first ≤ a → a < word_count → word_at words a ≡ 0x9508
   pub pages : (page : ℕ) → IsPool layout page → IsFree words page ⊎ IsRewritten layout image words page
   pub once : (page page' i i' t v v' : ℕ) → IsPool layout page → IsPool layout page' → Lists words page i t v → Lists words page' i' t v' → (page ≡ page') × (i ≡ i')
-
--- Why the run from t in this page stops behind its last instruction: that is a transfer without return;
--- the next address is in another original page, or outside the image; another page of the pool has its
--- entry; or the page with the next instruction, and with the closing that it would then need, has more
--- words than a page.
-pub data Stops (layout : Layout) (image words : List ℕ) (page t last : ℕ) : Type 0 where
-  Ends : ends_at image (address image t last) ≡ true → Stops layout image words page t last
-  Leaves : address image t (suc last) / page_words ≢ t / page_words → Stops layout image words page t last
-  Outside : length image ≤ address image t (suc last) → Stops layout image words page t last
-  Known : (other i v : ℕ) → IsPool layout other → other ≢ page → Lists words other i (address image t (suc last)) v → Stops layout image words page t last
-  Full : page_words < page_size image t (suc last) → Stops layout image words page t last
-
--- Besides, each run stops for one of these reasons, and the used pages are the lowest.
-pub record IsFaithful (layout : Layout) (image words : List ℕ) : Type 0 where
-  pub code : HoldsCode layout image words
-  pub stops : (page first last : ℕ) → IsPool layout page → HoldsRun (IsEntry layout words) image words page first last → Stops layout image words page first last
-  pub lowest : (lower page : ℕ) → IsPool layout lower → IsPool layout page → lower < page → IsFree words lower → IsFree words page

@@ -8,3 +8,5 @@ pub mod Faithful
 pub mod Making
 pub mod Used
 pub mod Drafts
+pub mod Remaking
+pub mod Unlinking

@@ -1,19 +1,23 @@
 //! The page of a run, while the run is read.
 
-ghost use Rattle.std.specs.Prelude.{◌≡◌, ◌+◌, ◌-◌, ◌*◌, ◌%◌, ◌<◌, ◌≤◌, ◌∷◌, ◌++◌, [], All, MatchOption, length, map};
+ghost use Rattle.std.specs.Prelude.{◌≡◌, ◌+◌, ◌-◌, ◌/◌, ◌<◌, ◌≤◌, ◌∷◌, ◌++◌, [], All, MatchOption, length, map};
 ghost use Rattle.arrayvec.specs.ArrayVec.{array_vec_len};
 ghost use Rattle.flash_model.specs.Layouts.{IsRight, image_of};
-ghost use Rattle.page_index.specs.Entries.{IsMapped};
-ghost use Rattle.nat_page.specs.Making.{HasNoEntry, filled};
-ghost use Rattle.nat_page.specs.Drafts.{IsRead, StopsBehind, GoesOn, IsDrafted, draft_words};
+ghost use Rattle.nat_template.specs.declared.piece.Piece.TheVariants.{Fixed};
+ghost use Rattle.page_index.specs.Entries.{IsMapped, AreKnown};
+ghost use Rattle.nat_page.specs.Standing.{size as size_of};
+ghost use Rattle.nat_page.specs.Making.{HasNoEntry};
+ghost use Rattle.nat_page.specs.Drafts.{Adds, IsRead, StopsBehind, GoesOn, IsDrafted, draft_pieces};
 
 use crate::instruction::{Instruction, read};
+use crate::words::FlashImage;
 use arrayvec::ArrayVec;
 use flash_model::{Flash, Layout};
-use page_index::entry;
+use nat_template::Piece;
+use page_index::known_offsets;
 
 /// The words of a page.
-const PAGE_WORDS: u16 = 128;
+pub(crate) const PAGE_WORDS: u16 = 128;
 
 /// The entries and the code of a page.
 #[derive(Drop)]
@@ -22,64 +26,73 @@ pub(crate) struct Draft {
     /// its template.
     pub entries: ArrayVec<u16, 126>,
     /// The templates, and the closing.
-    pub code: ArrayVec<u16, 128>,
+    pub code: ArrayVec<Piece, 128>,
+    /// How many words these have.
+    pub size: u16,
 }
 
 impl Draft {
     /// A draft with no instruction.
-    fn new() -> Draft
+    pub(crate) fn new() -> Draft
         ensures entries { result.entries.items ≡ [] }
         ensures code { result.code.items ≡ [] }
+        ensures size { result.size ≡ 0 }
     {
         Draft {
             entries: ArrayVec::new(),
             code: ArrayVec::new(),
+            size: 0,
         }
     }
 
     /// The words of the page with this instruction as one more, without its closing.
     fn words_with(&self, here: &Instruction) -> usize
-        ensures value { result ≡ array_vec_len self.now.entries + array_vec_len self.now.code + array_vec_len here.now.code + 3 }
+        requires room { self.now.size + here.now.code_size ≤ 128 }
+        ensures value { result ≡ array_vec_len self.now.entries + self.now.size + here.now.code_size + 3 }
     {
-        2 + self.entries.len() + 1 + self.code.len() + here.code.len()
+        2 + self.entries.len() + 1 + usize::from(self.size) + usize::from(here.code_size)
     }
 
     /// Adds the instruction.
-    fn add(&mut self, here: &Instruction)
+    pub(crate) fn add(&mut self, here: &Instruction)
         requires entries { array_vec_len self.old.entries < 126 }
-        requires code { array_vec_len self.old.code + array_vec_len here.now.code ≤ 128 }
-        ensures entries { self.new.entries.items ≡ self.old.entries.items ++ (256 * (here.now.pc % 128) + array_vec_len self.old.code) ∷ [] }
-        ensures code { self.new.code.items ≡ self.old.code.items ++ here.now.code.items }
+        requires sized { self.old.size ≡ size_of self.old.code.items }
+        requires read { here.now.code_size ≡ size_of here.now.code.items }
+        requires room { self.old.size + here.now.code_size ≤ 128 }
+        ensures adds { Adds self.old self.new here.now }
     {
-        let in_front = self.code.len() as u16;
-        self.entries.push(256 * (here.pc % PAGE_WORDS) + in_front);
+        self.entries.push(256 * (here.pc % PAGE_WORDS) + self.size);
         self.code.try_extend_from_slice(&here.code).unwrap();
+        self.size += here.code_size;
     }
 
-    /// Adds the last instruction, and its closing.
-    fn finish(&mut self, here: &Instruction)
-        requires entries { array_vec_len self.old.entries < 126 }
-        requires code { array_vec_len self.old.code + array_vec_len here.now.code + array_vec_len here.now.closing ≤ 128 }
-        ensures entries { self.new.entries.items ≡ self.old.entries.items ++ (256 * (here.now.pc % 128) + array_vec_len self.old.code) ∷ [] }
-        ensures code { self.new.code.items ≡ self.old.code.items ++ here.now.code.items ++ here.now.closing.items }
+    /// Adds the closing of the last instruction.
+    pub(crate) fn close(&mut self, last: &Instruction)
+        requires sized { self.old.size ≡ size_of self.old.code.items }
+        requires read { last.now.closing_size ≡ size_of last.now.closing.items }
+        requires room { self.old.size + last.now.closing_size ≤ 128 }
+        ensures entries { self.new.entries ≡ self.old.entries }
+        ensures code { self.new.code.items ≡ self.old.code.items ++ last.now.closing.items }
+        ensures size { self.new.size ≡ self.old.size + last.now.closing_size }
     {
-        self.add(here);
-        self.code.try_extend_from_slice(&here.closing).unwrap();
+        self.code.try_extend_from_slice(&last.closing).unwrap();
+        self.size += last.closing_size;
     }
 
-    /// The 128 words of the page, for the run from `t`.
-    pub(crate) fn page(&self, t: u16) -> [u16; 128]
-        requires fits { 2 + array_vec_len self.now.entries + array_vec_len self.now.code ≤ 128 }
+    /// The pieces of the page, for the run from `t`.
+    pub(crate) fn pieces(&self, t: u16) -> ArrayVec<Piece, 128>
+        requires sized { self.now.size ≡ size_of self.now.code.items }
+        requires fits { 2 + array_vec_len self.now.entries + self.now.size ≤ 128 }
         requires small { All (λ entry. entry < 65536 - 128) self.now.entries.items }
-        ensures words { result ≡ filled (draft_words t self.now.entries.items self.now.code.items) }
+        ensures pieces { result.items ≡ draft_pieces t self.now.entries.items self.now.code.items }
     {
         let count = self.entries.len() as u16;
-        let mut words: ArrayVec<u16, 128> = ArrayVec::new();
-        words.push(t / PAGE_WORDS);
-        words.push(count);
-        push_map(&mut words, &self.entries, 2 + count);
-        words.try_extend_from_slice(&self.code).unwrap();
-        filled_up(&words)
+        let mut pieces = ArrayVec::new();
+        pieces.push(Piece::Fixed(t / PAGE_WORDS));
+        pieces.push(Piece::Fixed(count));
+        push_map(&mut pieces, &self.entries, 2 + count);
+        pieces.try_extend_from_slice(&self.code).unwrap();
+        pieces
     }
 }
 
@@ -92,26 +105,35 @@ pub(crate) fn draft_of(flash: &Flash, layout: &Layout, t: u16) -> Draft
     requires unknown { HasNoEntry layout.now flash.now.words t }
     ensures drafted { IsDrafted layout.now (image_of layout.now flash.now.words) flash.now.words t result }
 {
+    let known = known_offsets(flash, layout, t / PAGE_WORDS);
     let mut draft = Draft::new();
-    let mut here = read(flash, layout, t);
-    'run: while let Some(next) = next_in_run(flash, layout, draft.words_with(&here), &here) {
+    let mut here = read(&FlashImage { flash, layout }, t);
+    'run: while let Some(next) = next_in_run(
+        flash,
+        layout,
+        &known,
+        draft.words_with(&here),
+        &here,
+    ) {
         draft.add(&here);
         here = next;
     }
-    draft.finish(&here);
+    draft.add(&here);
+    draft.close(&here);
     draft
 }
 
 /// The instruction behind this one, where the run goes on to it. The others have `words` words with the
-/// page's first two and the map.
+/// page's first two and the map; `known` tells of each address of their original page whether it has an entry.
 fn next_in_run(
     flash: &Flash,
     layout: &Layout,
+    known: &[bool; 128],
     words: usize,
     here: &Instruction,
 ) -> Option<Instruction>
     requires right { IsRight layout.now }
-    requires mapped { IsMapped layout.now flash.now.words }
+    requires known { AreKnown layout.now flash.now.words (here.now.pc / 128) known.now }
     requires image { length (image_of layout.now flash.now.words) ≡ layout.now.image_words }
     requires inside { here.now.pc < layout.now.image_words }
     requires read { IsRead (image_of layout.now flash.now.words) here.now }
@@ -129,33 +151,23 @@ fn next_in_run(
     if here.next >= layout.image_words {
         return None;
     }
-    if entry(flash, layout, here.next).is_some() {
+    if known[(here.next % PAGE_WORDS) as usize] {
         return None;
     }
-    let next = read(flash, layout, here.next);
-    if words + 1 + next.code.len() + next.closing.len() > 128 {
+    let next = read(&FlashImage { flash, layout }, here.next);
+    if words + 1 + usize::from(next.code_size) + usize::from(next.closing_size) > 128 {
         return None;
     }
     Some(next)
 }
 
 /// Adds the map's words: in front of each template stand this many more words.
-fn push_map(words: &mut ArrayVec<u16, 128>, entries: &[u16], more: u16)
-    requires room { array_vec_len words.old + length entries.now ≤ 128 }
+fn push_map(pieces: &mut ArrayVec<Piece, 128>, entries: &[u16], more: u16)
+    requires room { array_vec_len pieces.old + length entries.now ≤ 128 }
     requires small { All (λ entry. entry + more < 65536) entries.now }
-    ensures words { words.new.items ≡ words.old.items ++ map (λ entry. entry + more) entries.now }
+    ensures pieces { pieces.new.items ≡ pieces.old.items ++ map (λ entry. Fixed (entry + more)) entries.now }
 {
     for entry in entries {
-        words.push(*entry + more);
+        pieces.push(Piece::Fixed(*entry + more));
     }
-}
-
-/// The words, and erased words to the page's end.
-#[tactic(auto, using(crate::proofs::DraftLaws::erased_rest))]
-fn filled_up(words: &ArrayVec<u16, 128>) -> [u16; 128]
-    ensures words { result ≡ filled words.now.items }
-{
-    let mut page = [0xFFFF; 128];
-    page[..words.len()].copy_from_slice(words);
-    page
 }

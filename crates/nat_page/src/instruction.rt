@@ -2,16 +2,16 @@
 
 ghost use Rattle.std.specs.Prelude.{◌≡◌, ◌<◌, ◌≤◌, [], length, if◌then◌else◌};
 ghost use Rattle.std.specs.Option.{option_map};
-ghost use Rattle.flash_model.specs.Layouts.{IsRight, image_of};
-ghost use Rattle.nat_template.specs.Stubs.{stub as stub_of, words_of};
+ghost use Rattle.nat_template.specs.Stubs.{stub as stub_of};
 ghost use Rattle.nat_page.specs.Runs.{is_closed as is_closed_test, is_jump_through_z as is_jump_through_z_test, never_returns as never_returns_test};
 ghost use Rattle.nat_page.specs.Drafts.{IsRead};
 
+use crate::pieces::size;
+use crate::words::ImageWords;
 use arrayvec::ArrayVec;
 use avr_decode::{decode, size_by_first_word};
 use avr_isa::{Form, Instr};
-use flash_model::{Flash, Layout, word_in_image};
-use nat_template::{TemplateShape, closing, shape, template};
+use nat_template::{Piece, TemplateShape, pieces, shape, stub};
 
 /// An instruction of the image.
 #[derive(Drop)]
@@ -23,32 +23,39 @@ pub(crate) struct Instruction {
     /// Whether it is a transfer without return.
     pub ends: bool,
     /// Its template.
-    pub code: ArrayVec<u16, 64>,
+    pub code: ArrayVec<Piece, 40>,
+    /// How many words that has.
+    pub code_size: u16,
     /// The stub to the next address, where it needs one if the run ends with it.
-    pub closing: ArrayVec<u16, 22>,
+    pub closing: ArrayVec<Piece, 20>,
+    /// How many words that has.
+    pub closing_size: u16,
 }
 
 /// Reads the instruction of the image at the pc.
 #[tactic(auto, using(crate::proofs::RunLaws::same_second))]
-pub(crate) fn read(flash: &Flash, layout: &Layout, pc: u16) -> Instruction
-    requires right { IsRight layout.now }
-    requires inside { pc < layout.now.image_words }
-    requires image { length (image_of layout.now flash.now.words) ≡ layout.now.image_words }
+pub(crate) fn read<I: ImageWords>(image: &I, pc: u16) -> Instruction
+    requires short { length (I.words image.now) ≤ 24576 }
+    requires inside { pc < length (I.words image.now) }
     ensures pc { result.pc ≡ pc }
-    ensures read { IsRead (image_of layout.now flash.now.words) result }
+    ensures read { IsRead (I.words image.now) result }
 {
-    let first = word_in_image(flash, layout, u32::from(pc));
-    let second = word_in_image(flash, layout, u32::from(pc + 1));
+    let first = image.word(pc);
+    let second = image.word(pc + 1);
     let instr = decode(first, second);
     let instr = instr.as_ref();
     let shape = shape(pc, instr);
     let next = pc + size_by_first_word(first);
+    let code = pieces(pc, first, second, size_by_first_word(second));
+    let closing = closing_by(shape, pc, next);
     Instruction {
         pc,
         next,
         ends: never_returns(shape, instr),
-        code: template(pc, first, second, size_by_first_word(second)),
-        closing: closing_by(shape, pc, next),
+        code_size: size(&code),
+        code,
+        closing_size: size(&closing),
+        closing,
     }
 }
 
@@ -75,12 +82,12 @@ fn is_jump_through_z(instr: Option<&Instr>) -> bool
 }
 
 /// The stub to the next address, for an instruction of a shape that may go on to it.
-fn closing_by(shape: TemplateShape, pc: u16, next: u16) -> ArrayVec<u16, 22>
-    ensures words { result.items ≡ words_of (if is_closed_test shape then stub_of pc next else []) }
+fn closing_by(shape: TemplateShape, pc: u16, next: u16) -> ArrayVec<Piece, 20>
+    ensures pieces { result.items ≡ (if is_closed_test shape then stub_of pc next else []) }
 {
     match shape {
         TemplateShape::Native | TemplateShape::Mem | TemplateShape::Branch | TemplateShape::Skip =>
-            closing(pc, next),
+            stub(pc, next),
         _ => ArrayVec::new(),
     }
 }

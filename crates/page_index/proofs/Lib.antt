@@ -2,3 +2,4 @@ pub mod MapLaws
 pub mod EntryLaws
 pub mod ChangeLaws
 mod CursorLaws
+mod KnownLaws

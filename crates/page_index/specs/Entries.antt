@@ -1,5 +1,6 @@
 -- Entries: where a pool page lists an original address.
-use Rattle.std.specs.Prelude.{◌≡◌, ℕ, ◌<◌, ◌⊎◌, List}
+use Rattle.std.specs.Prelude.{◌≡◌, ℕ, ◌+◌, ◌*◌, ◌<◌, ◌⊎◌, Bool, true, false, List, length, slice_index_or}
+use Rattle.flash_model.specs.Pages.{page_words}
 use Rattle.flash_model.specs.declared.layout.Layout.{Layout}
 use Rattle.page_index.specs.Maps.{IsPool, IsFree, IsMap, original_page, entry_count, address_of, place_of}
 
@@ -22,3 +23,9 @@ pub record IsEntry (layout : Layout) (words : List ℕ) (t v : ℕ) : Type 0 whe
 pub record IsMapped (layout : Layout) (words : List ℕ) : Type 0 where
   pub pages : (page : ℕ) → IsPool layout page → IsFree words page ⊎ IsMap words page
   pub once : (page page' i i' t v v' : ℕ) → IsPool layout page → IsPool layout page' → Lists words page i t v → Lists words page' i' t v' → (page ≡ page') × (i ≡ i')
+
+-- for each address of an original page, by its offset, whether some page of the pool has an entry of it
+pub record AreKnown (layout : Layout) (words : List ℕ) (original : ℕ) (known : List Bool) : Type 0 where
+  pub size : length known ≡ page_words
+  pub found : (k : ℕ) → k < page_words → slice_index_or known k false ≡ true → (v : ℕ) × IsEntry layout words (page_words * original + k) v
+  pub only : (k v : ℕ) → k < page_words → IsEntry layout words (page_words * original + k) v → slice_index_or known k false ≡ true

@@ -5,7 +5,9 @@
 //! page an address lies and where in this page its code begins, its *place*. [`entry`] finds the place
 //! of an original address, [`origin`] the original address of a place, and [`free_page`] the lowest
 //! page that is free. Nothing has to be kept beside flash: each search reads the maps themselves. A
-//! [`Cursor`] keeps what was found, for one state of flash.
+//! [`Cursor`] keeps what was found, for one state of flash, and [`known_offsets`] tells of all addresses
+//! of one original page at once whether they have entries. Of one page, which is free or has a map whatever
+//! the others hold, [`is_free`], [`entries`], [`address_at`] and [`place_in`] tell what its map says.
 //!
 //! `specs/Maps.antt` says what a map is, and `specs/Entries.antt` what an entry of the pool is and when
 //! a pool is mapped, which every search asks for. Laws for the layers above: what a map says of its
@@ -19,4 +21,5 @@ mod pool;
 mod stretch;
 
 pub use cursor::Cursor;
-pub use pool::{entry, free_page, origin};
+pub use page::{address_at, entries, is_free, place_in};
+pub use pool::{entry, free_page, known_offsets, origin};

@@ -1,6 +1,6 @@
 //! One page of the pool and its map.
 
-ghost use Rattle.std.specs.Prelude.{◌≡◌, ℕ, ◌+◌, ◌*◌, ◌/◌, ◌%◌, ◌<◌, ◌≤◌, ◌↔◌, ◌⊎◌, IsTrue, IfSome};
+ghost use Rattle.std.specs.Prelude.{◌≡◌, ℕ, ◌+◌, ◌*◌, ◌/◌, ◌%◌, ◌<◌, ◌≤◌, ◌↔◌, ◌⊎◌, true, false, length, slice_index_or, IsTrue, IfSome};
 ghost use Rattle.page_index.specs.Maps.{page_word, entry_count, address_of, place_of, IsFree, IsMap};
 ghost use Rattle.page_index.specs.Entries.{Lists};
 
@@ -25,7 +25,7 @@ struct MapEntry {
 }
 
 /// Whether the page is free: its first word tells, since no map begins with 0xFFFF.
-pub(crate) fn is_free(flash: &Flash, page: u16) -> bool
+pub fn is_free(flash: &Flash, page: u16) -> bool
     requires below_kernel { page < 480 }
     requires mapped { IsFree flash.now.words page ⊎ IsMap flash.now.words page }
     ensures value { IsTrue result ↔ IsFree flash.now.words page }
@@ -34,7 +34,7 @@ pub(crate) fn is_free(flash: &Flash, page: u16) -> bool
 }
 
 /// The place of the original address `t`, where this page has its entry.
-pub(crate) fn place_in(flash: &Flash, page: u16, t: u16) -> Option<u16>
+pub fn place_in(flash: &Flash, page: u16, t: u16) -> Option<u16>
     requires below_kernel { page < 480 }
     requires mapped { IsFree flash.now.words page ⊎ IsMap flash.now.words page }
     ensures found { IfSome result (λ v. (i : ℕ) × Lists flash.now.words page i t v) }
@@ -50,6 +50,25 @@ pub(crate) fn place_in(flash: &Flash, page: u16, t: u16) -> Option<u16>
         }
     }
     None
+}
+
+/// Marks the offsets of this page's entries, where it is of this original page.
+pub(crate) fn mark_offsets(flash: &Flash, page: u16, original: u16, known: &mut [bool; 128])
+    requires below_kernel { page < 480 }
+    requires mapped { IsFree flash.now.words page ⊎ IsMap flash.now.words page }
+    requires original { original < 512 }
+    ensures size { length known.new ≡ length known.old }
+    ensures kept { (k : ℕ) → slice_index_or known.old k false ≡ true → slice_index_or known.new k false ≡ true }
+    ensures marked { (k i v : ℕ) → k < 128 → Lists flash.now.words page i (128 * original + k) v → slice_index_or known.new k false ≡ true }
+    ensures only { (k : ℕ) → k < 128 → slice_index_or known.new k false ≡ true
+        → (slice_index_or known.old k false ≡ true) ⊎ ((i : ℕ) × (v : ℕ) × Lists flash.now.words page i (128 * original + k) v) }
+{
+    if word(flash, page, 0) != original {
+        return;
+    }
+    'entries: for i in 0..entries(flash, page) {
+        known[map_entry(flash, page, i).offset as usize] = true;
+    }
 }
 
 /// The original address whose place is this, where this page has such an entry.
@@ -72,7 +91,7 @@ pub(crate) fn address_in(flash: &Flash, page: u16, place: u16) -> Option<u16>
 }
 
 /// The number of the page's entries.
-pub(crate) fn entries(flash: &Flash, page: u16) -> u16
+pub fn entries(flash: &Flash, page: u16) -> u16
     requires below_kernel { page < 480 }
     requires map { IsMap flash.now.words page }
     ensures value { result ≡ entry_count flash.now.words page }
@@ -82,7 +101,7 @@ pub(crate) fn entries(flash: &Flash, page: u16) -> u16
 }
 
 /// The original address of entry `i` of the page.
-pub(crate) fn address_at(flash: &Flash, page: u16, i: u16) -> u16
+pub fn address_at(flash: &Flash, page: u16, i: u16) -> u16
     requires below_kernel { page < 480 }
     requires map { IsMap flash.now.words page }
     requires listed { i < entry_count flash.now.words page }

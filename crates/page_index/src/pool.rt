@@ -3,9 +3,9 @@
 ghost use Rattle.std.specs.Prelude.{◌≡◌, ℕ, ◌<◌, ◌↔◌, IsTrue, IfSome, IfNone};
 ghost use Rattle.flash_model.specs.Layouts.{IsRight};
 ghost use Rattle.page_index.specs.Maps.{IsPool, IsFree};
-ghost use Rattle.page_index.specs.Entries.{IsEntry, IsMapped};
+ghost use Rattle.page_index.specs.Entries.{IsEntry, IsMapped, AreKnown};
 
-use crate::page::{PAGE_WORDS, address_in, is_free, place_in};
+use crate::page::{PAGE_WORDS, address_in, is_free, mark_offsets, place_in};
 use flash_model::{Flash, Layout};
 
 /// The place, a word address of flash, where the code of the original address `t` begins; None where
@@ -22,6 +22,21 @@ pub fn entry(flash: &Flash, layout: &Layout, t: u16) -> Option<u16>
         }
     }
     None
+}
+
+/// For each address of this original page, by its offset there, whether some page of the pool has an entry of it.
+/// One pass along the pool, for one who asks for many of its addresses.
+pub fn known_offsets(flash: &Flash, layout: &Layout, original: u16) -> [bool; 128]
+    requires right { IsRight layout.now }
+    requires mapped { IsMapped layout.now flash.now.words }
+    requires original { original < 512 }
+    ensures known { AreKnown layout.now flash.now.words original result }
+{
+    let mut known = [false; 128];
+    for page in layout.pool_first..layout.pool_first + layout.pool_pages {
+        mark_offsets(flash, page, original, &mut known);
+    }
+    known
 }
 
 /// The original address whose code begins at this place, a word address of flash; None where that is

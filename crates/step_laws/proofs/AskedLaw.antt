@@ -81,7 +81,7 @@ stop_asked links x a v ram back entry more stop s c can is stops =
     let kc = asked x ram back entry in
     let y = asked_of x ram back entry in
     let ms = Serve None true ∷ [] in
-    let z : State = record { kernel = rested kc; owed = None; end = Some (ends.Stopped stop) } in
+    let z : State = record { kernel = rested kc; owed = None; end = Some (ends.Stopped stop); torn = None } in
     let served' : Makes y (Serve None true) z = serve_by y (answers.Stopped stop, rested kc) (record { free = s.ready.running.free; going = s.ready.running.going; room = s.ready.running.room }) can is in
     record {
       end = z;
@@ -121,7 +121,7 @@ bus_stops_asked x a ram back entry more form stop c is runs apart stopped n m =
 pub resume_asked : (links : Links) (x : State) (a v : ℕ) (ram : List ℕ) (back entry more to : ℕ) (form : Form) (cpu : Cpu) (g : Guarded) → IsSetting links x a v → Asked x a ram back entry more → CanServe (asked x ram back entry)
     → instruction_at (image_held x.kernel) a ≡ Some form → is_executed form ≡ true → RunsOn x.kernel a form → executed_at (asked x ram back entry) a form ≡ WentOn cpu g → cpu.pc ≡ to
     → served (asked x ram back entry) ≡ (answers.Resume g.line, returned (asked x ram back entry) cpu g (wrapping_sum back 1))
-    → (let z : State = record { kernel = returned (asked x ram back entry) cpu g (wrapping_sum back 1); owed = None; end = None } in IsRunning z → IsIdle z.kernel → Onward 0 links z to (count_over x.kernel.quantum a to (byte_at (mote_of z).sram 0x0100)) (is_crossing a to)) → StepLaw links x a
+    → (let z : State = record { kernel = returned (asked x ram back entry) cpu g (wrapping_sum back 1); owed = None; end = None; torn = None } in IsRunning z → IsIdle z.kernel → Onward 0 links z to (count_over x.kernel.quantum a to (byte_at (mote_of z).sram 0x0100)) (is_crossing a to)) → StepLaw links x a
 unfolding lines_of
 resume_asked links x a v ram back entry more to form cpu g s c can is runs apart went pc answer ahead =
     let k = x.kernel in
@@ -130,7 +130,7 @@ resume_asked links x a v ram back entry more to form cpu g s c can is runs apart
     let y = asked_of x ram back entry in
     let kept : IsKept (memory_of kc) g = kept_of kc a form cpu g c.state.can.paged went in
     let size' : length g.sram ≡ 4096 = kept.paged.sized.sram in
-    let z1 : State = record { kernel = returned kc cpu g (wrapping_sum back 1); owed = None; end = None } in
+    let z1 : State = record { kernel = returned kc cpu g (wrapping_sum back 1); owed = None; end = None; torn = None } in
     let served' : Makes y (Serve g.line false) z1 = serve_by y (answers.Resume g.line, returned kc cpu g (wrapping_sum back 1)) (record { free = s.ready.running.free; going = s.ready.running.going; room = s.ready.running.room }) can answer in
     let count' : byte_at (with_word g.sram vsp_cell cpu.sp) 0x0100 ≡ byte_at k.mote.sram 0x0100 = byte_out_of_word g.sram vsp_cell 0x0100 cpu.sp (omega arith) (omega arith) (λ e. omega arith) (λ e. omega arith) ∙ kept.cells 0x0100 (omega arith) (omega arith) ∙ c.state.count in
     let pointer' : byte_at (with_word g.sram vsp_cell cpu.sp) 0x0103 < 256 = omega (arith, word_low g.sram vsp_cell cpu.sp (omega arith) (omega arith)) in

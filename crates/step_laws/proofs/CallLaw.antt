@@ -67,7 +67,7 @@ call_by links x a v t form (WentOn cpu g) done s c can is shape target template 
     let words = (mote_of x).flash.words in
     let way = stub a t in
     let kc = called x v push_return_entry in
-    let z : State = record { kernel = returned kc cpu g (wrapping_sum (v + 2) 1); owed = None; end = None } in
+    let z : State = record { kernel = returned kc cpu g (wrapping_sum (v + 2) 1); owed = None; end = None; torn = None } in
     let bound = stub_bound a t in
     let three : size (template_at image a) ≡ 3 + size way = omega (arith, ap size template, size-cons (Fixed call_word) (Fixed push_return_entry ∷ Fixed a ∷ way), size-cons (Fixed push_return_entry) (Fixed a ∷ way), size-cons (Fixed a) way) in
     let row : IsStretch k.layout words v (3 + size way) = subst (IsStretch k.layout words v) three (stretch_of links k.layout image words a v s.ready.bounded.right s.code) in

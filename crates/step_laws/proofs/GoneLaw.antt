@@ -72,7 +72,7 @@ go_law links x a v entry form cpu g s c can is runs apart went quiet answer =
     let long : length m ≡ 4096 = length-with_word g.sram vsp_cell cpu.sp ∙ size' in
     let put = returned kc cpu g entry in
     let k2 = with_sram put (crossed k.quantum a cpu.pc m) in
-    let z : State = record { kernel = k2; owed = Some (record { target = cpu.pc; stub = None }); end = None } in
+    let z : State = record { kernel = k2; owed = Some (record { target = cpu.pc; stub = None }); end = None; torn = None } in
     let served' : Makes y (Serve None false) z = serve_by y (answers.Goto cpu.pc None, k2) (record { free = s.ready.running.free; going = s.ready.running.going; room = s.ready.running.room }) can answer in
     let count' : byte_at m 0x0100 ≡ byte_at ram 0x0100 = byte_out_of_word g.sram vsp_cell 0x0100 cpu.sp (omega arith) (omega arith) (λ e. omega arith)
     (λ e. omega arith) ∙ kept.cells 0x0100 (omega arith) (omega arith)

@@ -17,7 +17,7 @@ unfolding lines_of
 lines_of-append [] after = refl
 lines_of-append (Plain begins line ∷ before) after = ap (line_before line) (lines_of-append before after) ∙ line_on line (lines_of before) (lines_of after)
 lines_of-append (Serve line stops ∷ before) after = ap (line_before line) (lines_of-append before after) ∙ line_on line (lines_of before) (lines_of after)
-lines_of-append (Arrive made ∷ before) after = lines_of-append before after
+lines_of-append (Arrive target made ops ∷ before) after = lines_of-append before after
 
 -- and their numbers
 pub numbered-append : (before after : List Move) (n : Numbers) → numbered (before ++ after) n ≡ numbered after (numbered before n)

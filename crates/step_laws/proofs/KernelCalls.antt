@@ -66,7 +66,7 @@ call_move x p entry b free is pool low starts first second top =
 
 -- the service BRIDGE behind the address p
 abbrev pub owing : Kernel → (t : ℕ) → Option ℕ → State
-owing k t stub = record { kernel = k; owed = Some (record { target = t; stub = stub }); end = None }
+owing k t stub = record { kernel = k; owed = Some (record { target = t; stub = stub }); end = None; torn = None }
 
 pub bridge_move : (x : State) (p t : ℕ) → IsRunning x → (mote_of x).cpu.pc ≡ 0xF000 → p + 2 < 65536 → return_address x.kernel ≡ p + 2 → word_at (mote_of x).flash.words (p + 2) ≡ t
     → Makes x (Serve None false) (owing (rested x.kernel) t (Some p))

@@ -52,7 +52,7 @@ unfolding served
 served_by links x a v ram back more form (WentOn cpu g) done s c can f behind =
     let image = image_held x.kernel in
     let kc = asked x ram back mem_entry in
-    let z : State = record { kernel = returned kc cpu g (wrapping_sum back 1); owed = None; end = None } in
+    let z : State = record { kernel = returned kc cpu g (wrapping_sum back 1); owed = None; end = None; torn = None } in
     let low = c.state.low in
     let row = stretch_of links x.kernel.layout image (mote_of x).flash.words a v s.ready.bounded.right s.code in
     let there : wrapping_sum back 1 ≡ v + size (template_at image a) = omega arith in

@@ -59,7 +59,7 @@ one_service x y z stops stops' line line' one other =
 no_move : (x y : State) (move : Move) → x.end ≢ None → Makes x move y → ⊥
 no_move x y (Plain begins line) ended makes = ended makes.going
 no_move x y (Serve line stops) ended makes = ended makes.going
-no_move x y (Arrive made) ended makes = ended makes.going
+no_move x y (Arrive target made ops) ended makes = ended makes.going
 
 pub ended_stays : (x z : State) (moves : List Move) → x.end ≢ None → Walk x moves z → (moves ≡ []) × (x ≡ z)
 ended_stays x z [] ended walk = (refl, walk)

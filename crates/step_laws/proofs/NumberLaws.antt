@@ -8,28 +8,28 @@ unfolding moved
 natural_is [] n = omega arith
 natural_is (Plain begins line ∷ moves) n = natural_is moves (moved (Plain begins line) n) ∙ omega arith
 natural_is (Serve line stops ∷ moves) n = natural_is moves (moved (Serve line stops) n)
-natural_is (Arrive made ∷ moves) n = natural_is moves (moved (Arrive made) n)
+natural_is (Arrive target made ops ∷ moves) n = natural_is moves (moved (Arrive target made ops) n)
 
 pub entries_is : (moves : List Move) (n : Numbers) → (numbered moves n).entries ≡ n.entries + count_serve moves
 unfolding moved
 entries_is [] n = omega arith
 entries_is (Plain begins line ∷ moves) n = entries_is moves (moved (Plain begins line) n)
 entries_is (Serve line stops ∷ moves) n = entries_is moves (moved (Serve line stops) n) ∙ omega arith
-entries_is (Arrive made ∷ moves) n = entries_is moves (moved (Arrive made) n)
+entries_is (Arrive target made ops ∷ moves) n = entries_is moves (moved (Arrive target made ops) n)
 
 pub since_bound : (moves : List Move) (n : Numbers) → (numbered moves n).since ≤ n.since + count_plain moves
 unfolding moved
 since_bound [] n = omega arith
 since_bound (Plain begins line ∷ moves) n = let rest = since_bound moves (moved (Plain begins line) n) in omega arith
 since_bound (Serve line stops ∷ moves) n = let rest = since_bound moves (moved (Serve line stops) n) in omega arith
-since_bound (Arrive made ∷ moves) n = since_bound moves (moved (Arrive made) n)
+since_bound (Arrive target made ops ∷ moves) n = since_bound moves (moved (Arrive target made ops) n)
 
 pub longest_bound : (moves : List Move) (n : Numbers) (top : ℕ) → n.longest ≤ top → n.since + count_plain moves ≤ top → (numbered moves n).longest ≤ top
 unfolding moved
 longest_bound [] n top before reach = before
 longest_bound (Plain begins line ∷ moves) n top before reach = longest_bound moves (moved (Plain begins line) n) top (omega arith) (omega arith)
 longest_bound (Serve line stops ∷ moves) n top before reach = longest_bound moves (moved (Serve line stops) n) top before (omega arith)
-longest_bound (Arrive made ∷ moves) n top before reach = longest_bound moves (moved (Arrive made) n) top before reach
+longest_bound (Arrive target made ops ∷ moves) n top before reach = longest_bound moves (moved (Arrive target made ops) n) top before reach
 
 -- inside a step no page is made
 pub pages_inner : (moves : List Move) (n : Numbers) → are_inner moves ≡ true → (numbered moves n).pages ≡ n.pages
@@ -38,7 +38,7 @@ pages_inner [] n inner = refl
 pages_inner (Plain true line ∷ moves) n inner = absurd (cc)
 pages_inner (Plain false line ∷ moves) n inner = pages_inner moves (moved (Plain false line) n) inner
 pages_inner (Serve line stops ∷ moves) n inner = pages_inner moves (moved (Serve line stops) n) inner
-pages_inner (Arrive made ∷ moves) n inner = absurd (cc)
+pages_inner (Arrive target made ops ∷ moves) n inner = absurd (cc)
 
 -- and no step begins; a service that stops takes one back
 pub steps_inner : (moves : List Move) (n : Numbers) → are_inner moves ≡ true → (numbered moves n).steps ≡ n.steps - count_stop moves
@@ -48,4 +48,13 @@ steps_inner (Plain true line ∷ moves) n inner = absurd (cc)
 steps_inner (Plain false line ∷ moves) n inner = steps_inner moves (moved (Plain false line) n) inner ∙ omega arith
 steps_inner (Serve line true ∷ moves) n inner = steps_inner moves (moved (Serve line true) n) inner ∙ omega arith
 steps_inner (Serve line false ∷ moves) n inner = steps_inner moves (moved (Serve line false) n) inner ∙ omega arith
-steps_inner (Arrive made ∷ moves) n inner = absurd (cc)
+steps_inner (Arrive target made ops ∷ moves) n inner = absurd (cc)
+
+-- and no operation on flash is tried
+pub ops_inner : (moves : List Move) (n : Numbers) → are_inner moves ≡ true → (numbered moves n).ops ≡ n.ops
+unfolding moved
+ops_inner [] n inner = refl
+ops_inner (Plain true line ∷ moves) n inner = absurd (cc)
+ops_inner (Plain false line ∷ moves) n inner = ops_inner moves (moved (Plain false line) n) inner
+ops_inner (Serve line stops ∷ moves) n inner = ops_inner moves (moved (Serve line stops) n) inner
+ops_inner (Arrive target made ops ∷ moves) n inner = absurd (cc)

@@ -125,6 +125,6 @@ bus_stops links x a v entry form stop s c is runs apart stopped = bus_stops_aske
 pub resume_law : (links : Links) (x : State) (a v entry to : ℕ) (form : Form) (cpu : Cpu) (g : Guarded) → IsSetting links x a v → Called x a v entry → CanServe (called x v entry)
     → instruction_at (image_held x.kernel) a ≡ Some form → is_executed form ≡ true → RunsOn x.kernel a form → executed_at (called x v entry) a form ≡ WentOn cpu g → cpu.pc ≡ to
     → served (called x v entry) ≡ (answers.Resume g.line, returned (called x v entry) cpu g (wrapping_sum (v + 2) 1))
-    → (let z : State = record { kernel = returned (called x v entry) cpu g (wrapping_sum (v + 2) 1); owed = None; end = None } in IsRunning z → IsIdle z.kernel → Onward 0 links z to (count_over x.kernel.quantum a to (byte_at (mote_of z).sram 0x0100)) (is_crossing a to)) → StepLaw links x a
+    → (let z : State = record { kernel = returned (called x v entry) cpu g (wrapping_sum (v + 2) 1); owed = None; end = None; torn = None } in IsRunning z → IsIdle z.kernel → Onward 0 links z to (count_over x.kernel.quantum a to (byte_at (mote_of z).sram 0x0100)) (is_crossing a to)) → StepLaw links x a
 resume_law links x a v entry to form cpu g s c can is runs apart went pc answer ahead =
     resume_asked links x a v (mote_of x).sram (v + 2) entry 0 to form cpu g s (asked_by x a v entry s.ready.idle c) can is runs apart went pc answer ahead

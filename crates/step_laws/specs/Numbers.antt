@@ -3,7 +3,7 @@ use Rattle.std.specs.Prelude.{ℕ, ◌+◌, ◌-◌, max, Bool, if◌then◌else
 use Rattle.step_laws.specs.Moves.{Move, Plain, Serve, Arrive}
 
 -- steps of the original program; plain steps; services; pages made; plain steps since the last service;
--- and the most plain steps without a service between them
+-- the most plain steps without a service between them; and operations on flash that were tried
 pub record Numbers : Type 0 where
   pub steps : ℕ
   pub natural : ℕ
@@ -11,6 +11,7 @@ pub record Numbers : Type 0 where
   pub pages : ℕ
   pub since : ℕ
   pub longest : ℕ
+  pub ops : ℕ
 
 abbrev pub one_if : Bool → ℕ
 one_if test = if test then 1 else 0
@@ -28,7 +29,7 @@ moved (Serve line stops) n = record n {
   entries = n.entries + 1;
   since = 0;
 }
-moved (Arrive made) n = record n { pages = n.pages + one_if made }
+moved (Arrive target made ops) n = record n { pages = n.pages + one_if made; ops = n.ops + ops }
 
 -- the numbers after these moves
 abbrev pub numbered : List Move → Numbers → Numbers

@@ -7,7 +7,7 @@ use Rattle.flash_model.specs.Layouts.{IsRight}
 use Rattle.flash_model.specs.Memory.{IsWhole}
 use Rattle.page_index.specs.Entries.{IsEntry}
 use Rattle.nat_page.specs.Entered.{StandsIn}
-use Rattle.nat_page.specs.Faithful.{HoldsCode}
+use Rattle.nat_page.specs.Faithful.{IsFaithful}
 use Rattle.kernel_entry.specs.declared.kernel.Kernel.{Kernel}
 use Rattle.step_laws.specs.States.{State, mote_of}
 use Rattle.step_laws.specs.Links.{Links}
@@ -52,5 +52,5 @@ pub record IsSetting (links : Links) (x : State) (a v : ℕ) : Type 0 where
 -- The machine stands at an entry of a, and flash holds the image and rewritten code of it.
 pub record IsAtEntry (x : State) (a : ℕ) : Type 0 where
   pub ready : CanBegin x
-  pub code : HoldsCode x.kernel.layout (image_held x.kernel) (mote_of x).flash.words
+  pub code : IsFaithful x.kernel.layout (image_held x.kernel) (mote_of x).flash.words
   pub entry : IsEntry x.kernel.layout (mote_of x).flash.words a (mote_of x).cpu.pc

@@ -1,5 +1,5 @@
 -- Which moves may be made, and walks of them (docs/RUN.md, "Moves").
-use Rattle.std.specs.Prelude.{◌≡◌, ◌<◌, ◌^◌, Bool, true, List, [], ◌∷◌, Option, Some, None, Result}
+use Rattle.std.specs.Prelude.{◌≡◌, ℕ, ◌+◌, ◌<◌, ◌^◌, Bool, true, List, [], ◌∷◌, Option, Some, None}
 use Rattle.mote_devices.specs.declared.line.Line.{Line}
 use Rattle.mote_core.specs.declared.mote.Mote.{Mote}
 use Rattle.mote_core.specs.declared.mote.Plain.{Plain as Shown}
@@ -7,10 +7,8 @@ use Rattle.mote_core.specs.Conditions.{can_step}
 use Rattle.mote_core.specs.Shown.{line_shown}
 use Rattle.mote_core.specs.Step.{form_at, IsPlainStep}
 use Rattle.mote_core.specs.QuietSteps.{KeepsKernel}
-use Rattle.branch_bridge.specs.declared.arrival.Moved.{Moved}
-use Rattle.branch_bridge.specs.declared.arrival.ArriveStop.{ArriveStop}
-use Rattle.branch_bridge.specs.Effects.{Store, makes_page}
-use Rattle.branch_bridge.specs.Arrivals.{Arrives}
+use Rattle.branch_bridge.specs.declared.through.Arrival.{Arrival}
+use Rattle.branch_bridge.specs.Arrivals.{Store, ArrivesFrom}
 use Rattle.step_laws.specs.declared.moves.Owed.{Owed}
 use Rattle.step_laws.specs.Moves.{Move, Plain, Serve, Arrive}
 use Rattle.step_laws.specs.States.{State, mote_of, with_mote, Begins, InPool, line_served, is_stop, after_service, store_of, arrived}
@@ -43,23 +41,25 @@ pub record MakesServe (x : State) (line : Option Line) (stops : Bool) (y : State
   pub halts : is_stop (served x.kernel).0 ≡ stops
   pub result : y ≡ after_service (served x.kernel)
 
--- An arrival: it is the one that is owed, from the stub that asked for it, and makes a page exactly where one
--- of its effects does.
-pub record MakesArrive (x : State) (made : Bool) (y : State) : Type 0 where
+-- An arrival: it is the one that is owed, from the stub that asked for it, and makes a page and tries so many
+-- operations on flash as the move says, a refused one included.
+pub record MakesArrive (x : State) (target : ℕ) (made : Bool) (ops : ℕ) (y : State) : Type 0 where
   pub owed : Owed
   pub owes : x.owed ≡ Some owed
   pub going : x.end ≡ None
+  pub at : target ≡ owed.target
   pub store : Store
-  pub result : Result Moved ArriveStop
-  pub arrives : Arrives x.kernel.layout (store_of x) store owed.target owed.stub result
-  pub makes : makes_page arrives.effects ≡ made
-  pub after : y ≡ arrived x store result
+  pub arrival : Arrival
+  pub arrives : ArrivesFrom x.kernel.layout (store_of x) store target owed.stub arrival
+  pub makes : arrival.made ≡ made
+  pub tried : store.flash.ops ≡ (store_of x).flash.ops + ops
+  pub after : y ≡ arrived x store arrival
 
 -- the move leads from one state to the next
 abbrev pub Makes : State → Move → State → Type 0
 Makes x (Plain begins line) y = MakesPlain x begins line y
 Makes x (Serve line stops) y = MakesServe x line stops y
-Makes x (Arrive made) y = MakesArrive x made y
+Makes x (Arrive target made ops) y = MakesArrive x target made ops y
 
 -- moves one after another
 abbrev pub Walk : State → List Move → State → Type 0

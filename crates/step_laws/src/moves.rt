@@ -20,6 +20,6 @@ pub enum End {
     Stopped(Stop),
     /// The program left its image, for this address.
     Wild(u16),
-    /// The arrival at this address found no free page.
-    CodeFull(u16),
+    /// The operation on flash of this number was refused.
+    Flash(u64),
 }

@@ -1,3 +1,4 @@
 pub mod CutLaws
 pub mod TextLaws
+mod DigitLaws
 pub mod WorkedTexts

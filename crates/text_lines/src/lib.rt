@@ -8,12 +8,15 @@
 //!
 //! A line ends with a line feed, and one carriage return before it is dropped too; the text's end ends a
 //! last line. [`first_line`] gives a text's first line, so that a reader goes on over the rest while it
-//! isn't empty, and knows by the length of the rest where it is; [`split_once`] cuts a line further.
+//! isn't empty, and knows by the length of the rest where it is; [`split_once`] cuts a line further, and
+//! [`value_of`] reads a number's digits.
 //!
 //! `specs/Lines.antt` says which lines a text has. Laws for the layers above: what a text's first line
 //! leaves (`proofs/CutLaws.antt`), and that the lines of a text make up the text (`proofs/TextLaws.antt`).
 #![tactic(auto)]
 
 mod cut;
+mod digits;
 
 pub use cut::{first_line, split_once};
+pub use digits::value_of;

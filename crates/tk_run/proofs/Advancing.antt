@@ -7,9 +7,6 @@ use Rattle.tk_io.specs.Streams.{CutShort}
 use Rattle.tk_io.proofs.KnownBytes.{appends-both, appends-nothing}
 use Rattle.tk_io.specs.declared.failure.Failed.{Failed}
 use Rattle.avr_isa.specs.Image.{is_inside}
-use Rattle.flash_model.specs.declared.layout.Layout.{Layout}
-use Rattle.nat_page.specs.Making.{HasNoEntry, HasNoFree}
-use Rattle.nat_page.proofs.UsedLaws.{used_pages-most}
 use Rattle.mote_devices.specs.declared.line.Line.{Line}
 use Rattle.mem_guard.specs.FlatMachine.{Program, FlatState, Run, run, ended}
 use Rattle.mem_guard.specs.FlatMachine as flat_ends
@@ -18,16 +15,16 @@ use Rattle.step_laws.specs.declared.moves.End.{End}
 use Rattle.step_laws.specs.declared.moves.End.TheVariants as ends
 use Rattle.step_laws.specs.Moves.{Move, lines_of, line_before}
 use Rattle.kernel_entry.specs.Seen.{end_of, program as program_of}
-use Rattle.tk_run.specs.Machines.{Machine, numbers_of, flat_of}
-use Rattle.tk_run.specs.Ready.{count_in, IsGoing, IsInOrder, IsSound, IsEnded, IsKept, HasBounds}
-use Rattle.tk_run.specs.Stepping.{lines_text}
-use Rattle.tk_run.specs.Stepping.{Goes, Stays, ends_in_arrive, HasStepped, StepWay, HasEntered, Entering, HasBound}
+use Rattle.program_steps.specs.Machines.{Machine, numbers_of, flat_of}
+use Rattle.program_steps.specs.Ready.{count_in, AreTried, IsGoing, IsInOrder, IsSound, IsEnded, IsKept, HasBounds}
+use Rattle.program_steps.specs.Stepping.{lines_text}
+use Rattle.program_steps.specs.Stepping.{Goes, Stays, IsFault, ends_in_arrive, HasStepped, StepWay, HasEntered, Entering, HasBound}
 use Rattle.tk_run.specs.Running.{Leads, original_from, run_of, Answers, IsBroken, HasAdvanced}
-use Rattle.tk_run.proofs.Bounds.{bounded_counted}
+use Rattle.program_steps.proofs.Bounds.{bounded_counted}
 use Rattle.tk_run.proofs.Leading.{goes_on, last_on, stays_on, stays_self}
-use Rattle.tk_run.proofs.RunSoFar.{Ran, IsBetween, none_ran, nothing, visits_flash, lines_text_on, ran_enter, ran_step, spent_at, wild_at, stop_at}
+use Rattle.tk_run.proofs.RunSoFar.{Ran, IsBetween, none_ran, nothing, made_step, lines_text_on, ran_enter, ran_step, spent_at, wild_at, stop_at}
 
-pub leads_by : (old new : Machine) (moves : List Move) (lines : List Line) → Goes old new moves lines → (new.end ≡ None → ends_in_arrive moves ≡ false) → old.end ≡ None → old.broken ≡ false → Leads old lines new
+abbrev pub leads_by : (old new : Machine) (moves : List Move) (lines : List Line) → Goes old new moves lines → (new.end ≡ None → ends_in_arrive moves ≡ false) → old.end ≡ None → old.broken ≡ false → Leads old lines new
 leads_by old new moves lines goes last going whole = record {
   moves = moves;
   goes = goes;
@@ -37,29 +34,23 @@ leads_by old new moves lines goes last going whole = record {
 }
 
 -- the answers
-no_end : (m : Machine) (end : End) → m.end ≡ Some end → m.end ≡ None → ⊥
+pub no_end : (m : Machine) (end : End) → m.end ≡ Some end → m.end ≡ None → ⊥
 no_end m end is going = let e : Some end ≡ None = sym is ∙ going in absurd (cc)
 
 difference : (i n : ℕ) → i ≤ n → (k : ℕ) × (k + i ≡ n)
 difference i n below = (n - i, omega arith)
 
 bounds_ready : (m : Machine) → IsGoing m → HasBounds m
-bounds_ready m ready = bounded_counted (numbers_of m) m.crossings m.kernel.quantum (count_in m) m.at m.kernel.mote.devices.polls ready.counted ready.polls
-
-pages_few : (m : Machine) → IsInOrder m → m.pages ≤ m.steps + 1000
-pages_few m order =
-    let most = used_pages-most m.kernel.layout m.kernel.mote.flash.words in
-    let pool : m.kernel.layout.pool_pages ≡ 352 = ap (λ (l : Layout). l.pool_pages) order.layout in
-    omega (arith, order.pages, most, pool)
+bounds_ready m ready = bounded_counted (numbers_of m) m.crossings m.kernel.quantum (count_in m) m.at m.kernel.mote.devices.polls m.owed ready.counted ready.arrivals ready.polls
 
 kept_ended : (m : Machine) → m.steps ≤ 10 ^ 12 → IsEnded m → IsKept m
 kept_ended m few over =
-    let sound : IsSound m = record { order = over.order; bounded = over.bounded; steps = few; pages = pages_few m over.order } in
+    let sound : IsSound m = record { order = over.order; bounded = over.bounded; steps = few } in
     record { sound = sound; ready = λ e. record { sound = sound; exact = over.exact; going = λ going. absurd (over.ended going) } }
 
 pub kept_ready : (m : Machine) → m.steps ≤ 10 ^ 12 → IsGoing m → IsKept m
 kept_ready m few ready =
-    let sound : IsSound m = record { order = ready.order; bounded = bounds_ready m ready; steps = few; pages = pages_few m ready.order } in
+    let sound : IsSound m = record { order = ready.order; bounded = bounds_ready m ready; steps = few } in
     record { sound = sound; ready = λ e. record { sound = sound; exact = ready.exact; going = λ going. ready } }
 
 by_wild : (old now new : Machine) (i n t : ℕ) (before after : Option (List ℕ)) → old.end ≡ None → old.broken ≡ false → i ≤ n → t ≡ now.at
@@ -85,24 +76,23 @@ by_wild old now new i n t before after going whole below same ran outside entere
         steps = later.steps;
         written = ap (λ (r : Run). r.lines) part;
         left = ap (λ (r : Run). r.state) part ∙ sym entered.flat;
-        visits = later.visits;
+        made = later.made;
         answers = record { ran = all ∙ ap₂ (λ a s. run_of (flat_ends.Wild a) ran.lines s) (sym same) (sym entered.flat); kept = kept; ended = over };
       };
       keeps = λ few before'. kept_ended new (omega (arith, later.steps, below, few)) over;
       kept = λ end is. absurd (no_end old end is going);
     }
 
-by_full : (old now new : Machine) (i n t : ℕ) (before after : Option (List ℕ)) → old.end ≡ None → old.broken ≡ false → i < n → t ≡ now.at
-    → Ran old now i before after → is_inside (image_held now.kernel) now.at ≡ true → HasEntered now new (Some (ends.CodeFull t))
-    → new.end ≡ Some (ends.CodeFull t) → IsEnded new
-    → new.at ≡ now.at → HasNoEntry new.kernel.layout new.kernel.mote.flash.words t → HasNoFree new.kernel.layout new.kernel.mote.flash.words → HasAdvanced old new n before after (Ok (ends.CodeFull t))
+by_failed : (old now new : Machine) (i n op : ℕ) (before after : Option (List ℕ)) → old.end ≡ None → old.broken ≡ false → i < n
+    → Ran old now i before after → is_inside (image_held now.kernel) now.at ≡ true → HasEntered now new (Some (ends.Flash op))
+    → new.end ≡ Some (ends.Flash op) → IsEnded new → IsFault new op → HasAdvanced old new n before after (Ok (ends.Flash op))
 unfolding ran_enter
-by_full old now new i n t before after going whole below same ran inside entered kept over at unknown full =
-    let later = ran_enter old now new i before after (Some (ends.CodeFull t)) ran entered in
+by_failed old now new i n op before after going whole below ran inside entered kept over fault =
+    let later = ran_enter old now new i before after (Some (ends.Flash op)) ran entered in
     let part = spent_at old now i before after ran inside in
     record {
       lines = ran.lines;
-      leads = leads_by old new later.moves ran.lines later.goes (λ e. absurd (no_end new (ends.CodeFull t) kept e)) going whole;
+      leads = leads_by old new later.moves ran.lines later.goes (λ e. absurd (no_end new (ends.Flash op) kept e)) going whole;
       put = ran.put;
       stays = later.stays;
       broken = later.broken ∙ whole;
@@ -112,8 +102,8 @@ by_full old now new i n t before after going whole below same ran inside entered
         steps = later.steps;
         written = ap (λ (r : Run). r.lines) part;
         left = ap (λ (r : Run). r.state) part ∙ sym entered.flat;
-        visits = later.visits;
-        answers = record { fewer = below; ran = part ∙ ap (λ s. run_of flat_ends.Spent ran.lines s) (sym entered.flat); kept = kept; ended = over; at = at ∙ sym same; inside = ap₂ (λ (p : Program) a. is_inside p.image a) (sym ran.stays.program) same ∙ inside; unknown = unknown; full = full };
+        made = later.made;
+        answers = record { fewer = below; ran = part ∙ ap (λ s. run_of flat_ends.Spent ran.lines s) (sym entered.flat); kept = kept; ended = over; fault = fault };
       };
       keeps = λ few before'. kept_ended new (omega (arith, later.steps, below, few)) over;
       kept = λ end is. absurd (no_end old end is going);
@@ -126,9 +116,9 @@ entered_ends old now new i n before after result end going whole below ran enter
 entered_ends old now new i n before after result end going whole below ran entered (Entering.Out over kept outside) is =
     let e : ends.Wild now.at ≡ end = cc in
     subst (λ x. HasAdvanced old new n before after (Ok x)) e (by_wild old now new i n now.at before after going whole (omega arith) refl ran outside entered kept over)
-entered_ends old now new i n before after result end going whole below ran entered (Entering.Full over kept inside unknown full) is =
-    let e : ends.CodeFull now.at ≡ end = cc in
-    subst (λ x. HasAdvanced old new n before after (Ok x)) e (by_full old now new i n now.at before after going whole below refl ran inside entered kept over (ap (λ (s : FlatState). s.cpu.pc) entered.flat) unknown full)
+entered_ends old now new i n before after result end going whole below ran entered (Entering.Failed op over kept inside fault) is =
+    let e : ends.Flash op ≡ end = cc in
+    subst (λ x. HasAdvanced old new n before after (Ok x)) e (by_failed old now new i n op before after going whole below ran inside entered kept over fault)
 
 pub advanced_enter : (old now new : Machine) (i n : ℕ) (before after : Option (List ℕ)) (result : Option End) (end : End) → old.end ≡ None → old.broken ≡ false → i < n → IsBetween old now i before after → HasEntered now new result → result ≡ Some end → HasAdvanced old new n before after (Ok end)
 advanced_enter old now new i n before after result end going whole below between entered is = entered_ends old now new i n before after result end going whole below between.ran entered entered.way is
@@ -143,7 +133,7 @@ pub record IsIn (old now : Machine) (i : ℕ) (before after : Option (List ℕ))
 entered_in : (now new : Machine) (result : Option End) → Stays now new → flat_of new ≡ flat_of now → Entering now new result → result ≡ None → IsGoing new × (new.owed ≡ None) × (is_inside (image_held new.kernel) new.at ≡ true)
 entered_in now new result stays flat (Entering.In ready free inside) is = (ready, free, ap₂ (λ (p : Program) a. is_inside p.image a) stays.program (ap (λ (s : FlatState). s.cpu.pc) flat) ∙ inside)
 entered_in now new result stays flat (Entering.Out over kept outside) is = absurd (cc)
-entered_in now new result stays flat (Entering.Full over kept inside unknown full) is = absurd (cc)
+entered_in now new result stays flat (Entering.Failed op over kept inside fault) is = absurd (cc)
 
 pub is_in : (old now new : Machine) (i : ℕ) (before after : Option (List ℕ)) (result : Option End) → IsBetween old now i before after → HasEntered now new result → result ≡ None → IsIn old new i before after
 is_in old now new i before after result between entered is =
@@ -195,7 +185,7 @@ stopped_by old now new i n line end before after later going whole below now' st
         steps = steps ∙ ran.steps;
         written = ap (λ (r : Run). r.lines) part;
         left = ap (λ (r : Run). r.state) part ∙ sym left;
-        visits = visits_flash old now new i ran.visits step.flash;
+        made = made_step old i ran.moves step.moves ran.made step.none_made;
         answers = record { ran = all ∙ ap (λ s. run_of (end_of stop) ran.lines s) (sym left); kept = kept; ended = over };
       };
       keeps = λ few before'. kept_ended new (omega (arith, steps, ran.steps, below, few)) over;
@@ -212,7 +202,7 @@ bound_by : (old now new : Machine) (n : ℕ) (before after : Option (List ℕ)) 
     → result ≡ Some (ends.Wild now.at) → HasAdvanced old new n before after (Ok (ends.Wild now.at))
 bound_by old now new n before after result going whole between entered outside (Entering.In ready free inside) is = absurd (cc)
 bound_by old now new n before after result going whole between entered outside (Entering.Out over kept out) is = by_wild old now new n n now.at before after going whole (omega arith) refl between.ran outside entered kept over
-bound_by old now new n before after result going whole between entered outside (Entering.Full over kept inside unknown full) is = absurd (cc)
+bound_by old now new n before after result going whole between entered outside (Entering.Failed op over kept inside fault) is = absurd (cc)
 
 -- all steps are done
 pub advanced_bound : (old now new : Machine) (n : ℕ) (before after : Option (List ℕ)) (end : End) → old.end ≡ None → old.broken ≡ false → IsBetween old now n before after → HasBound now new end → HasAdvanced old new n before after (Ok end)
@@ -231,7 +221,7 @@ advanced_bound old now new n before after end going whole between (HasBound.Wait
         steps = ran.steps;
         written = ap (λ (r : Run). r.lines) part;
         left = ap (λ (r : Run). r.state) part;
-        visits = ran.visits;
+        made = ran.made;
         answers = record { all = refl; ran = part; ready = between.ready };
       };
       keeps = λ few before'. kept_ready now (omega (arith, ran.steps, few)) between.ready;
@@ -257,6 +247,9 @@ advanced_kept m n known end whole kept = record {
 bounds_broken : (m : Machine) → HasBounds m → HasBounds (record m { broken = true })
 bounds_broken m bounded = bounded
 
+tried_broken : (m : Machine) → AreTried m → AreTried (record m { broken = true })
+tried_broken m tried = record { listed = tried.listed; refused = tried.refused; torn = tried.torn }
+
 order_broken : (m : Machine) → IsInOrder m → IsInOrder (record m { broken = true })
 order_broken m order = record {
   layout = order.layout;
@@ -269,10 +262,12 @@ order_broken m order = record {
   pointer = order.pointer;
   quantum = order.quantum;
   pages = order.pages;
+  ring = order.ring;
+  tried = tried_broken m order.tried;
 }
 
 sound_broken : (m : Machine) → IsSound m → IsSound (record m { broken = true })
-sound_broken m sound = record { order = order_broken m sound.order; bounded = bounds_broken m sound.bounded; steps = sound.steps; pages = sound.pages }
+sound_broken m sound = record { order = order_broken m sound.order; bounded = bounds_broken m sound.bounded; steps = sound.steps }
 
 kept_broken : (m : Machine) → IsKept m → IsKept (record m { broken = true })
 kept_broken m kept = record { sound = sound_broken m kept.sound; ready = λ e. absurd (cc) }
@@ -288,7 +283,7 @@ advanced_cut old now i n e text before after going whole below between cut =
       lines = ran.lines;
       leads = leads_by old (record now { broken = true }) ran.moves ran.lines goes (λ f. between.last) going whole;
       put = subst (CutShort before after) ran.put cut;
-      stays = record { program = ran.stays.program; layout = ran.stays.layout; quantum = ran.stays.quantum };
+      stays = record { program = ran.stays.program; layout = ran.stays.layout; quantum = ran.stays.quantum; failing = ran.stays.failing };
       broken = refl;
       ran = λ f. record {
         done = i;
@@ -296,7 +291,7 @@ advanced_cut old now i n e text before after going whole below between cut =
         steps = ran.steps;
         written = ap (λ k. (original_from old k).lines) (sym (nothing i)) ∙ ap (λ (r : Run). r.lines) (ran.run 0) ∙ ap (λ l. ran.lines ++ l) none.0 ∙ append-nil ran.lines;
         left = ap (λ k. (original_from old k).state) (sym (nothing i)) ∙ ap (λ (r : Run). r.state) (ran.run 0) ∙ none.1;
-        visits = record { visited = ran.visits.visited; stay = ran.visits.stay };
+        made = ran.made;
         answers = record { broken = refl; order = order_broken now between.ready.order; bounded = bounds_broken now (bounds_ready now between.ready) };
       };
       keeps = λ few before'. kept_broken now (kept_ready now (omega (arith, ran.steps, few, below)) between.ready);
@@ -330,7 +325,7 @@ advanced_whole old new n end text before after advanced put = record {
 
 broken_by : (old new : Machine) (n done : ℕ) (lines : List Line) (end : End) → Answers old new n done lines (Ok end) → IsBroken (record new { broken = true })
 broken_by old new n done lines ends.Spent spent = record { broken = refl; order = order_broken new spent.ready.order; bounded = bounds_broken new (bounds_ready new spent.ready) }
-broken_by old new n done lines (ends.CodeFull t) full = record { broken = refl; order = order_broken new full.ended.order; bounded = bounds_broken new full.ended.bounded }
+broken_by old new n done lines (ends.Flash op) failed = record { broken = refl; order = order_broken new failed.ended.order; bounded = bounds_broken new failed.ended.bounded }
 broken_by old new n done lines (ends.Wild t) over = record { broken = refl; order = order_broken new over.ended.order; bounded = bounds_broken new over.ended.bounded }
 broken_by old new n done lines (ends.Stopped stop) over = record { broken = refl; order = order_broken new over.ended.order; bounded = bounds_broken new over.ended.bounded }
 
@@ -345,7 +340,7 @@ advanced_unput old new n end e text before after going whole advanced cut =
       lines = advanced.lines;
       leads = leads_by old (record new { broken = true }) leads.moves advanced.lines goes (λ f. leads.last f) going whole;
       put = subst (CutShort before after) advanced.put cut;
-      stays = record { program = advanced.stays.program; layout = advanced.stays.layout; quantum = advanced.stays.quantum };
+      stays = record { program = advanced.stays.program; layout = advanced.stays.layout; quantum = advanced.stays.quantum; failing = advanced.stays.failing };
       broken = refl;
       ran = λ f. record {
         done = ran.done;
@@ -353,7 +348,7 @@ advanced_unput old new n end e text before after going whole advanced cut =
         steps = ran.steps;
         written = ran.written;
         left = ran.left;
-        visits = record { visited = ran.visits.visited; stay = ran.visits.stay };
+        made = ran.made;
         answers = broken_by old new n ran.done advanced.lines end ran.answers;
       };
       keeps = λ few before'. kept_broken new (advanced.keeps few before');

@@ -8,16 +8,17 @@ use Rattle.sram_layout.specs.Bytes.{byte_at, with_byte, data_word_at}
 use Rattle.sram_layout.specs.Cells.{count_cell, vsp_cell}
 use Rattle.sram_layout.proofs.Laws.{byte_same, byte_other, length-with_byte}
 use Rattle.sram_layout.proofs.BootLaws.{length-at_boot, boot_zero}
-use Rattle.flash_model.specs.Pages.{page_count}
 use Rattle.list_parts.specs.Lists.{many}
-use Rattle.flash_model.specs.Memory.{loaded, Memory, IsWhole}
-use Rattle.flash_model.specs.Layouts.{IsRight}
+use Rattle.flash_model.specs.Memory.{loaded, new_flash, Memory, IsWhole}
+use Rattle.flash_model.specs.Layouts.{IsRight, layout_of}
+use Rattle.flash_model.proofs.LayoutLaws.{layout_right}
 use Rattle.flash_model.specs.declared.layout.Layout.{Layout}
 use Rattle.page_index.proofs.ChangeLaws.{new_flash_free}
 use Rattle.nat_page.proofs.FaithfulLaws.{new_flash_faithful, new_flash_held}
 use Rattle.addr_tables.proofs.TableLaws.{boot_tables}
 use Rattle.heap_frames.proofs.BootLaws.{boot_paged}
-use Rattle.input_script.specs.declared.input.Event.{Event}
+use Rattle.input_script.specs.Script.{Schedule}
+use Rattle.branch_bridge.specs.Arrivals.{ring_of}
 use Rattle.mote_devices.specs.State.{at_reset, State as Devices}
 use Rattle.mote_core.specs.declared.mote.Mote.{Mote}
 use Rattle.mote_core.specs.Step.{IsAtReset, cpu_at_reset}
@@ -32,8 +33,8 @@ use Rattle.kernel_entry.specs.Seen.{program as program_of}
 use Rattle.step_laws.proofs.SameProgram.{SameProgram, flat_same, paged_after, flat_parts}
 use Rattle.nat_page.proofs.UsedLaws.{none_used}
 use Rattle.addr_tables.proofs.TableLaws.{tables_kept}
-use Rattle.tk_run.specs.Machines.{Machine, flat_of}
-use Rattle.tk_run.specs.Ready.{usual, IsGoing, IsInOrder, IsKept}
+use Rattle.program_steps.specs.Machines.{Machine, flat_of}
+use Rattle.program_steps.specs.Ready.{IsGoing, IsInOrder, IsKept}
 use Rattle.tk_run.specs.Running.{original_from}
 use Rattle.tk_run.specs.Booted.{booted}
 use Rattle.tk_run.specs.WholeRuns.{program_at}
@@ -45,15 +46,15 @@ many_registers = length-many 32 0
 none_off : (q : ℕ) → q ≡ q - 0 % q
 none_off q = let z : 0 % q ≡ 0 = zero-mod q in omega arith
 
-pub right_at : (image : List ℕ) → length image ≤ 16384 → IsRight (usual (length image))
-right_at image few = record { image_fits = omega arith; image_below_pool = omega arith; pool_first = omega arith; pool_pages = omega arith; pool_below_kernel = omega arith }
+pub right_at : (image : List ℕ) → length image ≤ 24576 → IsRight (layout_of (length image))
+right_at image few = layout_right (length image) few
 
 -- COUNT is set in the memory of boot
-abbrev boot_mote : (image : List ℕ) (events : List Event) (slots : ℕ) → Mote
-boot_mote image events slots = record { cpu = cpu_at_reset; sram = at_boot; flash = record { words = loaded image; erases = many page_count 0 }; devices = at_reset events; swap = zero_slots slots }
+abbrev boot_mote : (image : List ℕ) (script : Schedule) (slots : ℕ) → Mote
+boot_mote image script slots = record { cpu = cpu_at_reset; sram = at_boot; flash = new_flash image script.failing; devices = at_reset script.events; swap = zero_slots slots }
 
-same_boot : (image : List ℕ) (events : List Event) (quantum slots : ℕ) → SameProgram (boot_mote image events slots) (booted image events quantum slots).kernel.mote
-same_boot image events quantum slots = record {
+same_boot : (image : List ℕ) (script : Schedule) (quantum slots : ℕ) → SameProgram (boot_mote image script slots) (booted image script quantum slots).kernel.mote
+same_boot image script quantum slots = record {
   registers = refl;
   status = refl;
   top = refl;
@@ -65,40 +66,50 @@ same_boot image events quantum slots = record {
 }
 
 -- the first address's part of boot
-count_boot : (image : List ℕ) (events : List Event) (quantum slots : ℕ) → byte_at (booted image events quantum slots).kernel.mote.sram 0x0100 ≡ quantum
-count_boot image events quantum slots = byte_same at_boot count_cell quantum (omega arith) (omega (arith, length-at_boot))
+count_boot : (image : List ℕ) (script : Schedule) (quantum slots : ℕ) → byte_at (booted image script quantum slots).kernel.mote.sram 0x0100 ≡ quantum
+count_boot image script quantum slots = byte_same at_boot count_cell quantum (omega arith) (omega (arith, length-at_boot))
 
 pointer_boot : (quantum : ℕ) → byte_at (with_byte at_boot count_cell quantum) vsp_cell ≡ 0
 pointer_boot quantum = byte_other at_boot count_cell vsp_cell quantum (omega arith) (omega arith) (λ e. omega arith) ∙ boot_zero vsp_cell (omega arith) (omega arith) (inl (omega arith))
 
-order_boot : (image : List ℕ) (events : List Event) (quantum slots : ℕ) → IsImage image → quantum < 256 → slots ≤ 251 → IsWhole (booted image events quantum slots).kernel.mote.flash → IsInOrder (booted image events quantum slots)
-order_boot image events quantum slots is low few whole =
-    let layout : Layout = usual (length image) in
+ring_boot : (quantum : ℕ) → ring_of (with_byte at_boot count_cell quantum) ≡ 0
+unfolding data_word_at
+ring_boot quantum = ap₂ (λ low high. low + 256 * high)
+    (byte_other at_boot count_cell 0x0142 quantum (omega arith) (omega arith) (λ e. omega arith) ∙ boot_zero 0x0142 (omega arith) (omega arith) (inl (omega arith)))
+    (byte_other at_boot count_cell 0x0143 quantum (omega arith) (omega arith) (λ e. omega arith) ∙ boot_zero 0x0143 (omega arith) (omega arith) (inl (omega arith)))
+
+order_boot : (image : List ℕ) (script : Schedule) (quantum slots : ℕ) → IsImage image → quantum < 256 → slots ≤ 251 → IsWhole (booted image script quantum slots).kernel.mote.flash → IsInOrder (booted image script quantum slots)
+order_boot image script quantum slots is low few whole =
+    let layout : Layout = layout_of (length image) in
     let right = right_at image is.few in
     record {
       layout = refl;
       right = right;
       faithful = new_flash_held layout image (loaded image) right refl refl;
       tables = tables_kept layout at_boot (with_byte at_boot count_cell quantum) (loaded image) (loaded image) (λ b from to. byte_other at_boot count_cell b quantum (omega arith) (omega arith) (λ e. omega arith)) (λ t v entry. entry) (boot_tables layout (loaded image));
-      paged = paged_after (boot_mote image events slots) (booted image events quantum slots).kernel.mote (same_boot image events quantum slots) (boot_paged slots few);
+      paged = paged_after (boot_mote image script slots) (booted image script quantum slots).kernel.mote (same_boot image script quantum slots) (boot_paged slots few);
       whole = whole;
       registers = omega (arith, many_registers);
       pointer = omega (arith, pointer_boot quantum);
       quantum = low;
-      pages = sym (none_used layout (loaded image) (λ p pool. new_flash_free layout image p right (omega arith) pool));
+      pages = none_used layout (loaded image) (λ p pool. new_flash_free layout image p right (omega arith) pool) ∙ omega arith;
+      ring = omega (arith, ring_boot quantum, right.pool_pages);
+      tried = record { listed = λ op from to there. absurd (omega arith); refused = λ some. absurd (some refl); torn = tt };
     }
 
-pub going_boot : (image : List ℕ) (events : List Event) (quantum slots : ℕ) → IsImage image → 1 ≤ quantum → quantum < 256 → slots ≤ 251 → IsWhole (booted image events quantum slots).kernel.mote.flash → IsGoing (booted image events quantum slots)
-going_boot image events quantum slots is some low few whole =
-    let count = count_boot image events quantum slots in
+pub going_boot : (image : List ℕ) (script : Schedule) (quantum slots : ℕ) → IsImage image → 1 ≤ quantum → quantum < 256 → slots ≤ 251 → IsWhole (booted image script quantum slots).kernel.mote.flash → IsGoing (booted image script quantum slots)
+going_boot image script quantum slots is some low few whole =
+    let count = count_boot image script quantum slots in
     record {
-      order = order_boot image events quantum slots is low few whole;
+      order = order_boot image script quantum slots is low few whole;
       going = refl;
+      untorn = refl;
       top = refl;
       some = omega (arith, count);
       most = omega (arith, count);
       stands = Reaches.Owing None refl tt;
       counted = record { natural = omega arith; entries = omega arith; since = omega arith; longest = omega arith; crossed = omega arith; within = omega arith; most = omega arith };
+      arrivals = record { pages = omega arith; ops = omega arith };
       polls = omega arith;
       exact = count ∙ none_off quantum;
     }
@@ -108,41 +119,40 @@ unfolding data_word_at
 stack_boot = ap₂ (λ low high. low + 256 * high) (boot_zero vsp_cell (omega arith) (omega arith) (inl (omega arith))) (boot_zero (vsp_cell + 1) (omega arith) (omega arith) (inl (omega arith)))
 
 -- the original's machine at reset
-flat_boot : (image : List ℕ) (events : List Event) (quantum slots : ℕ) → flat_of (booted image events quantum slots) ≡ flat_at_reset events
-flat_boot image events quantum slots =
-    flat_same (record { mote = boot_mote image events slots; layout = usual (length image); quantum = quantum }) (booted image events quantum slots).kernel 0 0 0 (same_boot image events quantum slots)
+flat_boot : (image : List ℕ) (script : Schedule) (quantum slots : ℕ) → flat_of (booted image script quantum slots) ≡ flat_at_reset script.events
+flat_boot image script quantum slots =
+    flat_same (record { mote = boot_mote image script slots; layout = layout_of (length image); quantum = quantum }) (booted image script quantum slots).kernel 0 0 0 (same_boot image script quantum slots)
     ∙ flat_parts _ _ _ _ _ _ 0 0 0 _ _ _ _ _ _ refl refl stack_boot (memory_at_reset (zero_slots slots)) refl pages_at_reset
 
 -- the program is the image's
 held_boot : (image : List ℕ) → IsImage image → take (length image) (loaded image) ≡ image
-held_boot image is = (new_flash_faithful (usual (length image)) image (right_at image is.few) refl).code.held
+held_boot image is = (new_flash_faithful (layout_of (length image)) image (right_at image is.few) refl).held
 
-pub program_boot : (image : List ℕ) (events : List Event) (quantum slots : ℕ) → IsImage image → program_of (booted image events quantum slots).kernel ≡ program_at image slots
-program_boot image events quantum slots is = ap₂ (λ i n. record { image = i; page_limit = n }) (held_boot image is) (length-zero_slots slots)
+pub program_boot : (image : List ℕ) (script : Schedule) (quantum slots : ℕ) → IsImage image → program_of (booted image script quantum slots).kernel ≡ program_at image slots
+program_boot image script quantum slots is = ap₂ (λ i n. record { image = i; page_limit = n }) (held_boot image is) (length-zero_slots slots)
 
 -- and its run the original program's
-pub run_boot : (image : List ℕ) (events : List Event) (quantum slots n : ℕ) → IsImage image → original_from (booted image events quantum slots) n ≡ original (program_at image slots) events n
-run_boot image events quantum slots n is = ap₂ (λ p s. run p s n) (program_boot image events quantum slots is) (flat_boot image events quantum slots)
+pub run_boot : (image : List ℕ) (script : Schedule) (quantum slots n : ℕ) → IsImage image → original_from (booted image script quantum slots) n ≡ original (program_at image slots) script.events n
+run_boot image script quantum slots n is = ap₂ (λ p s. run p s n) (program_boot image script quantum slots is) (flat_boot image script quantum slots)
 
-pub kept_boot : (image : List ℕ) (events : List Event) (quantum slots : ℕ) → IsGoing (booted image events quantum slots) → IsKept (booted image events quantum slots)
-kept_boot image events quantum slots going = kept_ready (booted image events quantum slots) (omega arith) going
+pub kept_boot : (image : List ℕ) (script : Schedule) (quantum slots : ℕ) → IsGoing (booted image script quantum slots) → IsKept (booted image script quantum slots)
+kept_boot image script quantum slots going = kept_ready (booted image script quantum slots) (omega arith) going
 
 -- what the call makes is the machine at boot
-booted_by : (image : List ℕ) (events : List Event) (quantum slots : ℕ) (mote : Mote) (sram : List ℕ) (layout : Layout) → IsAtReset image events slots mote → sram ≡ with_byte mote.sram count_cell quantum → layout ≡ usual (length image)
-    → ◌≡◌ {A = Machine} (record (booted image events quantum slots) { kernel = record { mote = record mote { sram = sram }; layout = layout; quantum = quantum } }) (booted image events quantum slots)
-booted_by image events quantum slots mote sram layout reset is same =
-    let m : Cpu → List ℕ → Memory → Devices → List (List ℕ) → Layout → Machine = λ c r f d w l. record (booted image events quantum slots) { kernel = record { mote = record { cpu = c; sram = r; flash = f; devices = d; swap = w }; layout = l; quantum = quantum } } in
+booted_by : (image : List ℕ) (script : Schedule) (quantum slots : ℕ) (mote : Mote) (sram : List ℕ) (layout : Layout) → IsAtReset image script slots mote → sram ≡ with_byte mote.sram count_cell quantum → layout ≡ layout_of (length image)
+    → ◌≡◌ {A = Machine} (record (booted image script quantum slots) { kernel = record { mote = record mote { sram = sram }; layout = layout; quantum = quantum } }) (booted image script quantum slots)
+booted_by image script quantum slots mote sram layout reset is same =
+    let m : Cpu → List ℕ → Memory → Devices → List (List ℕ) → Layout → Machine = λ c r f d w l. record (booted image script quantum slots) { kernel = record { mote = record { cpu = c; sram = r; flash = f; devices = d; swap = w }; layout = l; quantum = quantum } } in
     ap (λ c. m c sram mote.flash mote.devices mote.swap layout) reset.cpu
     ∙ ap (λ r. m cpu_at_reset r mote.flash mote.devices mote.swap layout) (is ∙ ap (λ b. with_byte b count_cell quantum) reset.sram)
-    ∙ ap (λ f. m cpu_at_reset (with_byte at_boot count_cell quantum) f mote.devices mote.swap layout) (ap₂ (λ w e. record { words = w; erases = e }) reset.words reset.erases)
-    ∙ ap (λ d. m cpu_at_reset (with_byte at_boot count_cell quantum) (record { words = loaded image; erases = many page_count 0 }) d mote.swap layout) reset.devices
-    ∙ ap (λ w. m cpu_at_reset (with_byte at_boot count_cell quantum) (record { words = loaded image; erases = many page_count 0 }) (at_reset events) w layout) reset.swap
-    ∙ ap (λ l. m cpu_at_reset (with_byte at_boot count_cell quantum) (record { words = loaded image; erases = many page_count 0 }) (at_reset events) (zero_slots slots) l) same
+    ∙ ap (λ f. m cpu_at_reset (with_byte at_boot count_cell quantum) f mote.devices mote.swap layout) reset.flash
+    ∙ ap (λ d. m cpu_at_reset (with_byte at_boot count_cell quantum) (new_flash image script.failing) d mote.swap layout) reset.devices
+    ∙ ap (λ w. m cpu_at_reset (with_byte at_boot count_cell quantum) (new_flash image script.failing) (at_reset script.events) w layout) reset.swap
+    ∙ ap (λ l. m cpu_at_reset (with_byte at_boot count_cell quantum) (new_flash image script.failing) (at_reset script.events) (zero_slots slots) l) same
 
-pub boot_is_kept : (image : List ℕ) (events : List Event) (quantum slots : ℕ) (mote : Mote) (sram : List ℕ) (layout : Layout) → IsImage image
-    → 1 ≤ quantum → quantum < 256 → slots ≤ 251 → IsAtReset image events slots mote → IsWhole mote.flash
-    → sram ≡ with_byte mote.sram count_cell quantum → layout ≡ usual (length image)
-    → IsKept (record (booted image events quantum slots) { kernel = record { mote = record mote { sram = sram }; layout = layout; quantum = quantum } })
-boot_is_kept image events quantum slots mote sram layout is some low few reset whole set same =
-    let flash : mote.flash ≡ record { words = loaded image; erases = many page_count 0 } = ap₂ (λ w e. record { words = w; erases = e }) reset.words reset.erases in
-    subst IsKept (sym (booted_by image events quantum slots mote sram layout reset set same)) (kept_boot image events quantum slots (going_boot image events quantum slots is some low few (subst IsWhole flash whole)))
+pub boot_is_kept : (image : List ℕ) (script : Schedule) (quantum slots : ℕ) (mote : Mote) (sram : List ℕ) (layout : Layout) → IsImage image
+    → 1 ≤ quantum → quantum < 256 → slots ≤ 251 → IsAtReset image script slots mote → IsWhole mote.flash
+    → sram ≡ with_byte mote.sram count_cell quantum → layout ≡ layout_of (length image)
+    → IsKept (record (booted image script quantum slots) { kernel = record { mote = record mote { sram = sram }; layout = layout; quantum = quantum } })
+boot_is_kept image script quantum slots mote sram layout is some low few reset whole set same =
+    subst IsKept (sym (booted_by image script quantum slots mote sram layout reset set same)) (kept_boot image script quantum slots (going_boot image script quantum slots is some low few (subst IsWhole reset.flash whole)))

@@ -7,9 +7,9 @@ use Rattle.tk_io.specs.Streams.{CutShort, IsSent}
 use Rattle.tk_io.proofs.KnownBytes.{appends-both, nothing_sent, cut_behind}
 use Rattle.mote_devices.specs.declared.line.Line.{Line}
 use Rattle.step_laws.specs.Moves.{line_before}
-use Rattle.tk_run.specs.Machines.{Machine}
-use Rattle.tk_run.specs.Ready.{IsGoing}
-use Rattle.tk_run.specs.Stepping.{lines_text, HasStepped}
+use Rattle.program_steps.specs.Machines.{Machine}
+use Rattle.program_steps.specs.Ready.{IsGoing}
+use Rattle.program_steps.specs.Stepping.{lines_text, HasStepped}
 use Rattle.tk_run.proofs.RunSoFar.{IsBetween, between_start}
 use Rattle.tk_run.proofs.Advancing.{IsIn, between_on}
 

@@ -9,8 +9,8 @@ use Rattle.step_laws.specs.States.{State}
 use Rattle.step_laws.specs.Walks.{Walk}
 use Rattle.step_laws.proofs.Ways.{walk_on}
 use Rattle.step_laws.proofs.Joining.{lines_of-append, numbered-append}
-use Rattle.tk_run.specs.Machines.{Machine, state_of, numbers_of}
-use Rattle.tk_run.specs.Stepping.{Goes, Stays, ends_in_arrive}
+use Rattle.program_steps.specs.Machines.{Machine, state_of, numbers_of}
+use Rattle.program_steps.specs.Stepping.{Goes, Stays, ends_in_arrive}
 use Rattle.tk_run.specs.Running.{Leads}
 
 pub goes_on : (x y z : Machine) (ms ns : List Move) (a b : List Line) → Goes x y ms a → Goes y z ns b → Goes x z (ms ++ ns) (a ++ b)
@@ -23,7 +23,7 @@ goes_on x y z ms ns a b first then = record {
 pub last_cons : (m : Move) (ns : List Move) (n : Move) → ends_in_arrive (m ∷ n ∷ ns) ≡ ends_in_arrive (n ∷ ns)
 last_cons (Plain b line) ns n = refl
 last_cons (Serve line stops) ns n = refl
-last_cons (Arrive made) ns n = refl
+last_cons (Arrive target made ops) ns n = refl
 
 -- the last of both is the last of the second, which isn't empty
 pub last_on : (ms ns : List Move) (n : Move) → ends_in_arrive (ms ++ n ∷ ns) ≡ ends_in_arrive (n ∷ ns)
@@ -53,7 +53,7 @@ leads_on x y z a b first then = record {
 }
 
 pub stays_on : (x y z : Machine) → Stays x y → Stays y z → Stays x z
-stays_on x y z first then = record { program = then.program ∙ first.program; layout = then.layout ∙ first.layout; quantum = then.quantum ∙ first.quantum }
+stays_on x y z first then = record { program = then.program ∙ first.program; layout = then.layout ∙ first.layout; quantum = then.quantum ∙ first.quantum; failing = then.failing ∙ first.failing }
 
 pub stays_self : (m : Machine) → Stays m m
-stays_self m = record { program = refl; layout = refl; quantum = refl }
+stays_self m = record { program = refl; layout = refl; quantum = refl; failing = refl }

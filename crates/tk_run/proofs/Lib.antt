@@ -1,15 +1,4 @@
--- What the calls of the run loop leave, from one move to a whole run.
-mod Bounds
-mod Told
-mod Taking
-mod Settling
-mod ReadyLaws
-mod Laws
-mod Stepped
-mod OutsideTables
-mod Arriving
-mod Entered
-mod SameFlash
+-- What the run loop leaves, from one step to a whole run.
 pub mod Leading
 mod RunSoFar
 mod Advancing
@@ -17,5 +6,4 @@ mod Gathered
 mod Several
 pub mod Booting
 pub mod WholeRun
-pub mod Few
 pub mod Longer

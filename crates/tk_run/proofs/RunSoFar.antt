@@ -6,9 +6,6 @@ use Rattle.std.proofs.lemmas.Grind.{flat_map-append}
 use Rattle.std.specs.Io.KnownBytes.{Appends}
 use Rattle.tk_io.proofs.KnownBytes.{appends-both, appends-nothing}
 use Rattle.avr_isa.specs.Image.{is_inside}
-use Rattle.flash_model.specs.Memory.{Memory}
-use Rattle.page_index.specs.Maps.{IsPool, address_of}
-use Rattle.nat_page.specs.Used.{is_used}
 use Rattle.mote_devices.specs.declared.line.Line.{Line}
 use Rattle.mem_guard.specs.FlatMachine.{Program, FlatState, End as FlatEnd, Run, run, with_line, ended, tried}
 use Rattle.mem_guard.specs.FlatMachine as flat_ends
@@ -18,12 +15,12 @@ use Rattle.kernel_entry.specs.Parts.{image_held}
 use Rattle.step_laws.specs.declared.moves.End.{End}
 use Rattle.step_laws.specs.Moves.{Move, lines_of, line_before}
 use Rattle.kernel_entry.specs.Seen.{program as program_of}
-use Rattle.tk_run.specs.Machines.{Machine, flat_of}
-use Rattle.tk_run.specs.Ready.{IsGoing}
+use Rattle.program_steps.specs.Machines.{Machine, flat_of}
+use Rattle.program_steps.specs.Ready.{IsGoing}
 use Rattle.kernel_entry.specs.Texts.{line_text}
-use Rattle.branch_bridge.specs.PageChanges.{PageAfter}
-use Rattle.tk_run.specs.Stepping.{lines_text}
-use Rattle.tk_run.specs.Stepping.{Goes, Stays, ends_in_arrive, HasStepped, HasEntered}
+use Rattle.program_steps.specs.Stepping.{lines_text}
+use Rattle.program_steps.specs.Stepping.{Goes, Stays, AreMadeAt, ends_in_arrive, HasStepped, HasEntered}
+use Rattle.program_steps.proofs.MadeAt.{made_map, made_both}
 use Rattle.tk_run.specs.Running.{original_from, run_of, Visits}
 use Rattle.tk_run.proofs.Leading.{goes_on, stays_on, stays_self}
 
@@ -36,7 +33,7 @@ pub record Ran (old now : Machine) (i : ℕ) (before after : Option (List ℕ)) 
   pub broken : now.broken ≡ old.broken
   pub steps : now.steps ≡ old.steps + i
   pub put : Appends before after (lines_text lines)
-  pub visits : Visits old now i
+  pub made : AreMadeAt (Visits old i) moves
   pub run : (k : ℕ) → original_from old (k + i) ≡ behind lines (run (program_of old.kernel) (flat_of now) k)
 
 -- between two steps
@@ -66,48 +63,21 @@ none_ran program s = none_by program s (is_inside program.image s.cpu.pc) refl
 pub nothing : (i : ℕ) → 0 + i ≡ i
 nothing i = omega arith
 
--- the pages
-pub visits_none : (m : Machine) → Visits m m 0
-visits_none m = record { visited = λ page pool free used. absurd (let e : false ≡ true = sym free ∙ used in cc); stay = λ page pool used. used }
+-- where pages were made
+pub made_on : (old : Machine) (i j : ℕ) (moves : List Move) → i ≤ j → AreMadeAt (Visits old i) moves → AreMadeAt (Visits old j) moves
+made_on old i j moves below made = made_map (Visits old i) (Visits old j) moves (λ t visit. (visit.0, omega (arith, visit.1), visit.2)) made
 
-pub visits_flash : (old now new : Machine) (i : ℕ) → Visits old now i → new.kernel.mote.flash ≡ now.kernel.mote.flash → Visits old new i
-visits_flash old now new i visits same = record {
-  visited = λ page pool free used.
-      let v = visits.visited page pool free (ap (λ (f : Memory). is_used f.words page) (sym same) ∙ used) in
-      (v.0, v.1, v.2 ∙ ap (λ (f : Memory). address_of f.words page 0) (sym same));
-  stay = λ page pool used. ap (λ (f : Memory). is_used f.words page) same ∙ visits.stay page pool used;
-}
-
-pub visits_step : (old now new : Machine) (i : ℕ) → Visits old now i → new.kernel.mote.flash ≡ now.kernel.mote.flash → Visits old new (i + 1)
-visits_step old now new i visits same =
-    let flash = visits_flash old now new i visits same in
-    record {
-      visited = λ page pool free used. let v = flash.visited page pool free used in (v.0, omega (arith, v.1), v.2);
-      stay = flash.stay;
-    }
+pub made_step : (old : Machine) (i : ℕ) (moves more : List Move) → AreMadeAt (Visits old i) moves → AreMadeAt (λ t. ⊥) more → AreMadeAt (Visits old i) (moves ++ more)
+made_step old i moves more made none = made_both (Visits old i) moves more made (made_map (λ t. ⊥) (Visits old i) more (λ t never. absurd never) none)
 
 stands_after : (old now : Machine) (i : ℕ) (before after : Option (List ℕ)) → Ran old now i before after → (original_from old i).state.cpu.pc ≡ now.at
 stands_after old now i before after ran =
     ap (λ k. (original_from old k).state.cpu.pc) (sym (nothing i)) ∙ ap (λ (r : Run). r.state.cpu.pc) (ran.run 0) ∙ ap (λ (s : FlatState). s.cpu.pc) (none_ran (program_of old.kernel) (flat_of now)).1
 
-visit_by : (old now new : Machine) (i page : ℕ) (before after : Option (List ℕ)) → Ran old now i before after
-    → PageAfter now.kernel.mote.flash.words new.kernel.mote.flash.words page now.at → IsPool old.kernel.layout page
-    → is_used old.kernel.mote.flash.words page ≡ false → is_used new.kernel.mote.flash.words page ≡ true
-    → (k : ℕ) × (k ≤ i) × ((original_from old k).state.cpu.pc ≡ address_of new.kernel.mote.flash.words page 0)
-visit_by old now new i page before after ran (PageAfter.Stays same address) pool free used =
-    let v = ran.visits.visited page pool free (sym same ∙ used) in
-    (v.0, v.1, v.2 ∙ sym address)
-visit_by old now new i page before after ran (PageAfter.Begins none made address) pool free used = (i, omega arith, stands_after old now i before after ran ∙ sym address)
-
-stay_by : (old now new : Machine) (i page : ℕ) (t : ℕ) → Visits old now i → PageAfter now.kernel.mote.flash.words new.kernel.mote.flash.words page t → IsPool old.kernel.layout page → is_used old.kernel.mote.flash.words page ≡ true → is_used new.kernel.mote.flash.words page ≡ true
-stay_by old now new i page t visits (PageAfter.Stays same address) pool used = same ∙ visits.stay page pool used
-stay_by old now new i page t visits (PageAfter.Begins none made address) pool used = absurd (let e : true ≡ false = sym (visits.stay page pool used) ∙ none in cc)
-
-pub visits_enter : (old now new : Machine) (i : ℕ) (before after : Option (List ℕ)) (result : Option End) → Ran old now i before after → HasEntered now new result → Visits old new i
-visits_enter old now new i before after result ran entered = record {
-  visited = λ page pool free used. visit_by old now new i page before after ran (entered.pages page (subst (λ l. IsPool l page) (sym ran.stays.layout) pool)) pool free used;
-  stay = λ page pool used. stay_by old now new i page now.at ran.visits (entered.pages page (subst (λ l. IsPool l page) (sym ran.stays.layout) pool)) pool used;
-}
+pub made_enter : (old now new : Machine) (i : ℕ) (before after : Option (List ℕ)) (result : Option End) → (ran : Ran old now i before after) → (entered : HasEntered now new result) → AreMadeAt (Visits old i) (ran.moves ++ entered.moves)
+made_enter old now new i before after result ran entered =
+    let here = stands_after old now i before after ran in
+    made_both (Visits old i) ran.moves entered.moves ran.made (made_map (λ t. t ≡ now.at) (Visits old i) entered.moves (λ t is. (i, omega arith, here ∙ sym is)) entered.made)
 
 -- the run so far
 unfoldable pub ran_start : (m : Machine) (known : Option (List ℕ)) → Ran m m 0 known known
@@ -120,7 +90,7 @@ ran_start m known = record {
   broken = refl;
   steps = omega arith;
   put = appends-nothing known;
-  visits = visits_none m;
+  made = tt;
   run = λ k. ap (original_from m) (add-zero k);
 }
 
@@ -137,7 +107,7 @@ ran_enter old now new i before after result ran entered = record {
   broken = entered.broken ∙ ran.broken;
   steps = entered.steps ∙ ran.steps;
   put = ran.put;
-  visits = visits_enter old now new i before after result ran entered;
+  made = made_enter old now new i before after result ran entered;
   run = λ k. ran.run k ∙ ap (λ s. behind ran.lines (run (program_of old.kernel) s k)) (sym entered.flat);
 }
 
@@ -163,7 +133,7 @@ ran_step old now new i line before after later ran inside step steps is put =
       broken = step.broken ∙ ran.broken;
       steps = omega (arith, steps, ran.steps);
       put = subst (Appends before later) (sym (lines_text_on ran.lines (line_before line []))) (appends-both before after later (lines_text ran.lines) (lines_text (line_before line [])) ran.put put);
-      visits = visits_step old now new i ran.visits step.flash;
+      made = made_on old i (i + 1) (ran.moves ++ step.moves) (omega arith) (made_step old i ran.moves step.moves ran.made step.none_made);
       run = λ k.
           let same : k + (i + 1) ≡ suc k + i = omega arith in
           ap (original_from old) same ∙ ran.run (suc k) ∙ ap (behind ran.lines) (on k) ∙ behind_line ran.lines line (run program (flat_of new) k);

@@ -5,31 +5,14 @@ use Rattle.mote_devices.specs.declared.line.Line.{Line}
 use Rattle.step_laws.specs.Moves.{line_before}
 use Rattle.tk_io.specs.Streams.{IsSent}
 use Rattle.tk_io.proofs.KnownBytes.{appends-nothing}
-use Rattle.tk_run.specs.Machines.{Machine}
-use Rattle.tk_run.specs.Ready.{IsGoing}
-use Rattle.tk_run.specs.Stepping.{lines_text, HasStepped, StepWay}
-use Rattle.tk_run.specs.Several.{Silently, HasDone}
+use Rattle.program_steps.specs.Machines.{Machine}
+use Rattle.program_steps.specs.Ready.{IsGoing}
+use Rattle.program_steps.specs.Stepping.{lines_text, HasStepped, StepWay}
+use Rattle.program_steps.specs.Several.{Silently, HasDone}
 use Rattle.tk_run.proofs.RunSoFar.{ran_step}
 use Rattle.tk_run.proofs.Advancing.{IsIn}
-use Rattle.tk_run.proofs.Entered.{place_inside}
+use Rattle.program_steps.proofs.Arrived.{place_inside}
 use Rattle.tk_run.proofs.Gathered.{IsUnderWay, step_on}
-
--- a step behind which the program goes on
-going_by : (old new : Machine) (line : Option Line) → HasStepped old new line → StepWay old new line → new.end ≡ None → IsGoing new × (new.steps ≡ old.steps + 1)
-going_by old new line step (StepWay.On ready steps is) going = (ready, steps)
-going_by old new line step (StepWay.Stopped stop over kept none steps is left) going = absurd (let e : Some _ ≡ None = sym kept ∙ going in cc)
-
-pub going_on : (old new : Machine) (line : Option Line) → HasStepped old new line → new.end ≡ None → IsGoing new × (new.steps ≡ old.steps + 1)
-going_on old new line step going = going_by old new line step step.way going
-
-pub silently_on : (i : ℕ) (old now new : Machine) (line : Option Line) → Silently i old now → HasStepped now new line → line ≡ None → IsGoing new → new.owed ≡ None → Silently (i + 1) old new
-silently_on i old now new line before step silent ready placed =
-    let same : suc i ≡ i + 1 = omega arith in
-    subst (λ n. Silently n old new) same (now, before, subst (HasStepped now new) silent step, ready, placed)
-
-pub all_silently : (count : ℕ) (old new : Machine) (line : Option Line) → 1 ≤ count → Silently count old new → line ≡ None → HasDone old new count line
-all_silently zero old new line some all silent = absurd (omega arith)
-all_silently (suc n) old new line some all silent = record { earlier = n; last = all.0; counted = omega arith; silently = all.1; step = subst (HasStepped all.0 new) (sym silent) all.2 }
 
 -- behind them, with the last still to come, the run is in the middle of a turn
 in_by : (old now new : Machine) (i : ℕ) (before after : Option (List ℕ)) → IsIn old now i before after → HasStepped now new None → StepWay now new None → IsGoing new → new.owed ≡ None → IsIn old new (i + 1) before after

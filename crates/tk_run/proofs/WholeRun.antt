@@ -1,108 +1,122 @@
 -- A whole run, from boot to its answer.
-use Rattle.std.proofs.Common.{◌≡◌, ℕ, ◌<◌, ◌≤◌, true, List, length, refl, sym, ap, ◌∙◌, arith, subst, inl, inr}
-use Rattle.std.specs.Prelude.{◌^◌, Option, Some, Result, Ok, Err}
+use Rattle.std.proofs.Common.{◌≡◌, ℕ, ◌≤◌, Bool, true, false, List, refl, sym, ap, ◌∙◌, arith, subst}
+use Rattle.std.specs.Prelude.{◌^◌, Option, Some, None, Result, Ok, Err}
 use Rattle.std.specs.Io.KnownBytes.{Appends}
 use Rattle.hex_image.specs.Image.{IsImage}
-use Rattle.avr_isa.specs.Image.{is_inside}
-use Rattle.flash_model.specs.Memory.{loaded}
-use Rattle.flash_model.specs.declared.layout.Layout.{Layout}
-use Rattle.page_index.specs.Maps.{IsPool, IsFree}
-use Rattle.page_index.proofs.ChangeLaws.{new_flash_free}
-use Rattle.input_script.specs.declared.input.Event.{Event}
-use Rattle.mem_guard.specs.FlatMachine.{Program, Run, original}
+use Rattle.flash_model.specs.Operations.{is_listed}
+use Rattle.input_script.specs.Script.{Schedule}
+use Rattle.mote_devices.specs.declared.line.Line.{Line}
+use Rattle.mem_guard.specs.FlatMachine.{Run, original}
 use Rattle.mem_guard.specs.FlatMachine as flat_ends
 use Rattle.kernel_entry.specs.declared.kernel.Stop.{Stop}
 use Rattle.kernel_entry.specs.declared.kernel.Stop.TheVariants as stops
-use Rattle.kernel_entry.specs.Parts.{image_held}
 use Rattle.step_laws.specs.declared.moves.End.{End}
 use Rattle.step_laws.specs.declared.moves.End.TheVariants as ends
+use Rattle.step_laws.specs.Moves.{Move}
 use Rattle.kernel_entry.specs.Seen.{end_of}
 use Rattle.tk_io.specs.declared.failure.Failed.{Failed}
 use Rattle.tk_io.specs.Streams.{CutShort}
-use Rattle.nat_page.specs.Used.{is_used}
-use Rattle.nat_page.proofs.UsedLaws.{free_unused, all_used, map_used}
-use Rattle.nat_page.proofs.FaithfulLaws.{faithful_mapped}
-use Rattle.tk_run.specs.Machines.{Machine, flat_of}
-use Rattle.tk_run.specs.Ready.{usual, IsKept}
-use Rattle.tk_run.specs.Stepping.{lines_text}
-use Rattle.tk_run.specs.Running.{Leads, HasAdvanced, HasRun, original_from, run_of, flat_end}
+use Rattle.program_steps.specs.Machines.{Machine, flat_of}
+use Rattle.program_steps.specs.Ready.{AreTried, IsKept}
+use Rattle.program_steps.specs.Stepping.{lines_text, Stays, AreMadeAt}
+use Rattle.program_steps.proofs.MadeAt.{made_map}
+use Rattle.tk_run.specs.Running.{Leads, Visits, HasAdvanced, HasRun, original_from, run_of, flat_end}
 use Rattle.tk_run.specs.Booted.{booted}
-use Rattle.tk_run.specs.WholeRuns.{program_at, IsExactRun, IsFullRun, IsCutRun, HasWhole, IsKeptEnd}
-use Rattle.page_index.specs.Entries.{IsMapped}
-use Rattle.std.proofs.lemmas.Bool.Decides.{nat_tests}
-use Rattle.tk_run.proofs.Booting.{right_at, program_boot, run_boot}
+use Rattle.tk_run.specs.WholeRuns.{program_at, StandsAt, IsExactRun, IsFailedRun, IsCutRun, HasWhole, IsKeptEnd}
+use Rattle.tk_run.proofs.Booting.{program_boot, run_boot}
+
+-- moves that lead, and write these lines
+leads_as : (x y : Machine) (lines lines' : List Line) → (leads : Leads x lines y) → lines ≡ lines' → (path : Leads x lines' y) × (path.moves ≡ leads.moves)
+leads_as x y lines lines' leads same =
+    (record { moves = leads.moves; goes = record { walk = leads.goes.walk; told = leads.goes.told ∙ same; numbers = leads.goes.numbers }; last = leads.last; ended = leads.ended; broken = leads.broken }, refl)
+
+-- where its pages were made
+made_as : (image : List ℕ) (script : Schedule) (quantum slots done steps : ℕ) (moves moves' : List Move) → IsImage image → done ≡ steps → moves' ≡ moves → AreMadeAt (Visits (booted image script quantum slots) done) moves → AreMadeAt (StandsAt image script slots steps) moves'
+made_as image script quantum slots done steps moves moves' is same all made =
+    subst (AreMadeAt (StandsAt image script slots steps)) (sym all) (made_map (Visits (booted image script quantum slots) done) (StandsAt image script slots steps) moves
+    (λ t visit. (visit.0, omega (arith, visit.1, same), sym (ap (λ (r : Run). r.state.cpu.pc) (run_boot image script quantum slots visit.0 is)) ∙ visit.2)) made)
+
+-- what the script lists, as flash does
+listed_as : (image : List ℕ) (script : Schedule) (quantum slots op : ℕ) (m : Machine) → Stays (booted image script quantum slots) m → is_listed script.failing op ≡ is_listed m.kernel.mote.flash.failing op
+listed_as image script quantum slots op m stays = ap (λ failing. is_listed failing op) (sym stays.failing)
+
+unless_listed : (b : Bool) → (b ≡ true → ⊥) → b ≡ false
+unless_listed true never = absurd (never refl)
+unless_listed false never = refl
+
+-- none is refused where the end isn't flash's
+none_refused : (m : Machine) → AreTried m → ((op : ℕ) → m.end ≡ Some (ends.Flash op) → ⊥) → (refused : Option ℕ) → m.kernel.mote.flash.refused ≡ refused → refused ≡ None
+none_refused m tried unfailed None is = refl
+none_refused m tried unfailed (Some page) is = absurd (let fault = tried.refused (λ none. let e : Some page ≡ None = sym is ∙ none in absurd (cc)) in unfailed fault.0 fault.1)
 
 -- a whole run
-exact_by : (image : List ℕ) (events : List Event) (quantum slots n : ℕ) (before after : Option (List ℕ)) (end : End) (m : Machine) → IsImage image → IsKept m → (advanced : HasAdvanced (booted image events quantum slots) m n before after (Ok end))
-    → original_from (booted image events quantum slots) n ≡ run_of (flat_end end) advanced.lines (flat_of m) → IsKeptEnd (flat_end end) end m.end → IsExactRun image events quantum slots n before after end m
-exact_by image events quantum slots n before after end m is kept advanced ran ends =
-    let same : original (program_at image slots) events n ≡ run_of (flat_end end) advanced.lines (flat_of m) = sym (run_boot image events quantum slots n is) ∙ ran in
-    let lines : advanced.lines ≡ (original (program_at image slots) events n).lines = sym (ap (λ (r : Run). r.lines) same) in
+exact_by : (image : List ℕ) (script : Schedule) (quantum slots n : ℕ) (before after : Option (List ℕ)) (end : End) (m : Machine) → IsImage image → IsKept m → (advanced : HasAdvanced (booted image script quantum slots) m n before after (Ok end))
+    → HasRun (booted image script quantum slots) m n advanced.leads.moves advanced.lines (Ok end)
+    → original_from (booted image script quantum slots) n ≡ run_of (flat_end end) advanced.lines (flat_of m) → IsKeptEnd (flat_end end) end m.end → ((op : ℕ) → m.end ≡ Some (ends.Flash op) → ⊥) → IsExactRun image script quantum slots n before after end m
+exact_by image script quantum slots n before after end m is kept advanced run ran ends unfailed =
+    let same : original (program_at image slots) script.events n ≡ run_of (flat_end end) advanced.lines (flat_of m) = sym (run_boot image script quantum slots n is) ∙ ran in
+    let lines : advanced.lines ≡ (original (program_at image slots) script.events n).lines = sym (ap (λ (r : Run). r.lines) same) in
+    let path = leads_as (booted image script quantum slots) m advanced.lines _ advanced.leads lines in
+    let done : run.done ≡ m.steps = omega (arith, run.steps) in
+    let tried = kept.sound.order.tried in
     record {
       put = subst (λ l. Appends before after (lines_text l)) lines advanced.put;
       same = sym (ap (λ (r : Run). r.end) same);
       state = sym (ap (λ (r : Run). r.state) same);
-      program = advanced.stays.program ∙ program_boot image events quantum slots is;
+      program = advanced.stays.program ∙ program_boot image script quantum slots is;
       quantum_is = advanced.stays.quantum;
       unbroken = advanced.broken;
       ready = kept.ready advanced.broken;
       kept = ends;
-      path = subst (λ l. Leads (booted image events quantum slots) l m) lines advanced.leads;
+      path = path.0;
+      made = made_as image script quantum slots run.done m.steps advanced.leads.moves path.0.moves is done path.1 run.made;
+      unlisted = λ op from to. unless_listed (is_listed script.failing op) (λ there. unfailed op (tried.listed op from to (sym (listed_as image script quantum slots op m advanced.stays) ∙ there)));
+      unrefused = none_refused m tried unfailed m.kernel.mote.flash.refused refl;
     }
 
-used_by : (layout : Layout) (words : List ℕ) (page : ℕ) → IsMapped layout words → IsPool layout page → ¬ IsFree words page → is_used words page ≡ true
-used_by layout words page mapped pool used = elim (mapped.pages page pool) [
-  | inl free ↦ absurd (used free)
-  | inr map ↦ map_used words page map
-]
-
-below_of : (image : List ℕ) (t : ℕ) → is_inside image t ≡ true → t < length image
-below_of image t inside = grind (arith, nat_tests)
-
-full_by : (image : List ℕ) (events : List Event) (quantum slots n : ℕ) (before after : Option (List ℕ)) (t : ℕ) (m : Machine) → IsImage image → IsKept m → (advanced : HasAdvanced (booted image events quantum slots) m n before after (Ok (ends.CodeFull t)))
-    → (ran : HasRun (booted image events quantum slots) m n advanced.lines (Ok (ends.CodeFull t))) → IsFullRun image events quantum slots n before after t m
-full_by image events quantum slots n before after t m is kept advanced ran =
-    let full = ran.answers in
+failed_by : (image : List ℕ) (script : Schedule) (quantum slots n : ℕ) (before after : Option (List ℕ)) (op : ℕ) (m : Machine) → IsImage image → IsKept m → (advanced : HasAdvanced (booted image script quantum slots) m n before after (Ok (ends.Flash op)))
+    → (ran : HasRun (booted image script quantum slots) m n advanced.leads.moves advanced.lines (Ok (ends.Flash op))) → IsFailedRun image script quantum slots n before after op m
+failed_by image script quantum slots n before after op m is kept advanced ran =
+    let failed = ran.answers in
     let done : ran.done ≡ m.steps = omega (arith, ran.steps) in
-    let same : original (program_at image slots) events m.steps ≡ run_of flat_ends.Spent advanced.lines (flat_of m) = ap (original (program_at image slots) events) (sym done) ∙ sym (run_boot image events quantum slots ran.done is) ∙ full.ran in
-    let lines : advanced.lines ≡ (original (program_at image slots) events m.steps).lines = sym (ap (λ (r : Run). r.lines) same) in
-    let pool : m.kernel.layout.pool_pages ≡ 352 = ap (λ (l : Layout). l.pool_pages) advanced.stays.layout in
-    let program = advanced.stays.program ∙ program_boot image events quantum slots is in
-    let order = kept.sound.order in
-    let mapped = faithful_mapped m.kernel.layout (image_held m.kernel) m.kernel.mote.flash.words order.right order.faithful.code in
+    let same : original (program_at image slots) script.events m.steps ≡ run_of flat_ends.Spent advanced.lines (flat_of m) = ap (original (program_at image slots) script.events) (sym done) ∙ sym (run_boot image script quantum slots ran.done is) ∙ failed.ran in
+    let lines : advanced.lines ≡ (original (program_at image slots) script.events m.steps).lines = sym (ap (λ (r : Run). r.lines) same) in
+    let path = leads_as (booted image script quantum slots) m advanced.lines _ advanced.leads lines in
+    let tried = kept.sound.order.tried in
     record {
-      fewer = omega (arith, full.fewer);
+      fewer = omega (arith, failed.fewer);
       put = subst (λ l. Appends before after (lines_text l)) lines advanced.put;
       same = ap (λ (r : Run). r.end) same;
       state = sym (ap (λ (r : Run). r.state) same);
-      at = full.at;
-      program = program;
+      program = advanced.stays.program ∙ program_boot image script quantum slots is;
       quantum_is = advanced.stays.quantum;
       unbroken = advanced.broken;
       ready = kept.ready advanced.broken;
-      kept = full.kept;
-      path = subst (λ l. Leads (booted image events quantum slots) l m) lines advanced.leads;
-      inside = below_of image t (ap (λ (p : Program). is_inside p.image t) (sym (program_boot image events quantum slots is)) ∙ full.inside);
-      unknown = full.unknown;
-      pages = order.pages ∙ all_used m.kernel.layout m.kernel.mote.flash.words mapped full.full ∙ pool;
-      visited = λ page pool.
-          let used = used_by m.kernel.layout m.kernel.mote.flash.words page mapped pool (full.full page pool) in
-          let own : IsPool (usual (length image)) page = subst (λ l. IsPool l page) advanced.stays.layout pool in
-          let v = ran.visits.visited page own (free_unused (loaded image) page (new_flash_free (usual (length image)) image page (right_at image is.few) (omega arith) own)) used in
-          (used, (v.0, omega (arith, v.1, done), sym (ap (λ (r : Run). r.state.cpu.pc) (run_boot image events quantum slots v.0 is)) ∙ v.2));
+      kept = failed.kept;
+      path = path.0;
+      made = made_as image script quantum slots ran.done m.steps advanced.leads.moves path.0.moves is done path.1 ran.made;
+      last = failed.fault.last;
+      listed = listed_as image script quantum slots op m advanced.stays ∙ failed.fault.listed;
+      first = λ earlier from below. unless_listed (is_listed script.failing earlier) (λ there.
+          let e : Some (ends.Flash earlier) ≡ Some (ends.Flash op) = sym (tried.listed earlier from (omega (arith, below, failed.fault.last)) (sym (listed_as image script quantum slots earlier m advanced.stays) ∙ there)) ∙ failed.kept in
+          let f : earlier ≡ op = cc in
+          absurd (omega (arith, below, f)));
+      refused = failed.fault.refused;
     }
 
-cut_by : (image : List ℕ) (events : List Event) (quantum slots n : ℕ) (before after : Option (List ℕ)) (e : Failed) (m : Machine) → IsImage image → IsKept m → (advanced : HasAdvanced (booted image events quantum slots) m n before after (Err e))
-    → (ran : HasRun (booted image events quantum slots) m n advanced.lines (Err e)) → IsCutRun image events quantum slots n before after m
-cut_by image events quantum slots n before after e m is kept advanced ran =
+cut_by : (image : List ℕ) (script : Schedule) (quantum slots n : ℕ) (before after : Option (List ℕ)) (e : Failed) (m : Machine) → IsImage image → IsKept m → (advanced : HasAdvanced (booted image script quantum slots) m n before after (Err e))
+    → (ran : HasRun (booted image script quantum slots) m n advanced.leads.moves advanced.lines (Err e)) → IsCutRun image script quantum slots n before after m
+cut_by image script quantum slots n before after e m is kept advanced ran =
     let done : ran.done ≡ m.steps = omega (arith, ran.steps) in
-    let lines : advanced.lines ≡ (original (program_at image slots) events m.steps).lines = sym ran.written ∙ ap (λ (r : Run). r.lines) (run_boot image events quantum slots ran.done is) ∙ ap (λ k. (original (program_at image slots) events k).lines) done in
+    let lines : advanced.lines ≡ (original (program_at image slots) script.events m.steps).lines = sym ran.written ∙ ap (λ (r : Run). r.lines) (run_boot image script quantum slots ran.done is) ∙ ap (λ k. (original (program_at image slots) script.events k).lines) done in
+    let path = leads_as (booted image script quantum slots) m advanced.lines _ advanced.leads lines in
     record {
       within = omega (arith, ran.within);
       broken = advanced.broken;
       put = subst (λ l. CutShort before after (lines_text l)) lines advanced.put;
       sound = kept.sound;
-      path = subst (λ l. Leads (booted image events quantum slots) l m) lines advanced.leads;
+      path = path.0;
+      made = made_as image script quantum slots ran.done m.steps advanced.leads.moves path.0.moves is done path.1 ran.made;
     }
 
 stop_kept : (stop : Stop) (m : Machine) → m.end ≡ Some (ends.Stopped stop) → IsKeptEnd (end_of stop) (ends.Stopped stop) m.end
@@ -114,18 +128,21 @@ stop_kept (stops.Io pc a) m is = is
 stop_kept (stops.Stack pc a) m is = is
 stop_kept (stops.SwapFull pc a) m is = is
 
-whole_by : (image : List ℕ) (events : List Event) (quantum slots n : ℕ) (before after : Option (List ℕ)) (result : Result End Failed) (m : Machine) → IsImage image → IsKept m → (advanced : HasAdvanced (booted image events quantum slots) m n before after result)
-    → HasRun (booted image events quantum slots) m n advanced.lines result → HasWhole image events quantum slots n before after result m
-whole_by image events quantum slots n before after (Ok ends.Spent) m is kept advanced ran = exact_by image events quantum slots n before after ends.Spent m is kept advanced ran.answers.ran ran.answers.ready.going
-whole_by image events quantum slots n before after (Ok (ends.Wild t)) m is kept advanced ran = exact_by image events quantum slots n before after (ends.Wild t) m is kept advanced ran.answers.ran ran.answers.kept
-whole_by image events quantum slots n before after (Ok (ends.CodeFull t)) m is kept advanced ran = full_by image events quantum slots n before after t m is kept advanced ran
-whole_by image events quantum slots n before after (Ok (ends.Stopped stop)) m is kept advanced ran = exact_by image events quantum slots n before after (ends.Stopped stop) m is kept advanced ran.answers.ran (stop_kept stop m ran.answers.kept)
-whole_by image events quantum slots n before after (Err e) m is kept advanced ran = cut_by image events quantum slots n before after e m is kept advanced ran
+whole_by : (image : List ℕ) (script : Schedule) (quantum slots n : ℕ) (before after : Option (List ℕ)) (result : Result End Failed) (m : Machine) → IsImage image → IsKept m → (advanced : HasAdvanced (booted image script quantum slots) m n before after result)
+    → HasRun (booted image script quantum slots) m n advanced.leads.moves advanced.lines result → HasWhole image script quantum slots n before after result m
+whole_by image script quantum slots n before after (Ok ends.Spent) m is kept advanced ran =
+    exact_by image script quantum slots n before after ends.Spent m is kept advanced ran ran.answers.ran ran.answers.ready.going (λ op failed. let e : Some (ends.Flash op) ≡ None = sym failed ∙ ran.answers.ready.going in absurd (cc))
+whole_by image script quantum slots n before after (Ok (ends.Wild t)) m is kept advanced ran =
+    exact_by image script quantum slots n before after (ends.Wild t) m is kept advanced ran ran.answers.ran ran.answers.kept (λ op failed. let e : Some (ends.Flash op) ≡ Some (ends.Wild t) = sym failed ∙ ran.answers.kept in absurd (cc))
+whole_by image script quantum slots n before after (Ok (ends.Flash op)) m is kept advanced ran = failed_by image script quantum slots n before after op m is kept advanced ran
+whole_by image script quantum slots n before after (Ok (ends.Stopped stop)) m is kept advanced ran =
+    exact_by image script quantum slots n before after (ends.Stopped stop) m is kept advanced ran ran.answers.ran (stop_kept stop m ran.answers.kept) (λ op failed. let e : Some (ends.Flash op) ≡ Some (ends.Stopped stop) = sym failed ∙ ran.answers.kept in absurd (cc))
+whole_by image script quantum slots n before after (Err e) m is kept advanced ran = cut_by image script quantum slots n before after e m is kept advanced ran
 
 -- what `advance` leaves of a machine that has just been booted
-pub whole_run : (image : List ℕ) (events : List Event) (quantum slots n : ℕ) (before after : Option (List ℕ)) (result : Result End Failed)
-    (m : Machine) → IsImage image → IsKept (booted image events quantum slots) → n ≤ 10 ^ 12
-    → HasAdvanced (booted image events quantum slots) m n before after result
-    → HasWhole image events quantum slots n before after result m
-whole_run image events quantum slots n before after result m is kept bound advanced =
-    whole_by image events quantum slots n before after result m is (advanced.keeps (omega arith) kept) advanced (advanced.ran refl)
+pub whole_run : (image : List ℕ) (script : Schedule) (quantum slots n : ℕ) (before after : Option (List ℕ)) (result : Result End Failed)
+    (m : Machine) → IsImage image → IsKept (booted image script quantum slots) → n ≤ 10 ^ 12
+    → HasAdvanced (booted image script quantum slots) m n before after result
+    → HasWhole image script quantum slots n before after result m
+whole_run image script quantum slots n before after result m is kept bound advanced =
+    whole_by image script quantum slots n before after result m is (advanced.keeps (omega arith) kept) advanced (advanced.ran refl)

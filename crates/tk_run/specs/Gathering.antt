@@ -3,7 +3,7 @@ use Rattle.std.specs.Prelude.{ℕ, ◌++◌, true, List, [], Option, Some, Resul
 use Rattle.tk_io.specs.Streams.{CutShort, IsSent}
 use Rattle.tk_io.specs.declared.failure.Failed.{Failed}
 use Rattle.step_laws.specs.declared.moves.End.{End}
-use Rattle.tk_run.specs.Machines.{Machine}
+use Rattle.program_steps.specs.Machines.{Machine}
 use Rattle.tk_run.specs.Running.{HasAdvanced}
 
 -- Bytes were gathered behind others. Of all of these some went out, from the front, and the rest is gathered;

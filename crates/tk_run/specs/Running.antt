@@ -1,24 +1,19 @@
 -- What `advance` says: the moves that it makes, and what they are of the original program
 -- (docs/MACHINE.md, "A run of n steps" and "The original program").
 use Rattle.std.specs.Prelude.{◌≡◌, ◌≢◌, ℕ, ◌+◌, ◌<◌, ◌≤◌, ◌^◌, Bool, true, false, List, [], Option, Some, None, Result, Ok, Err}
-use Rattle.avr_isa.specs.Image.{is_inside}
-use Rattle.page_index.specs.Maps.{IsPool, address_of}
-use Rattle.nat_page.specs.Making.{HasNoEntry, HasNoFree}
-use Rattle.nat_page.specs.Used.{is_used}
 use Rattle.mote_devices.specs.declared.line.Line.{Line}
 use Rattle.mem_guard.specs.FlatMachine.{FlatState, End as FlatEnd, Run, run}
 use Rattle.mem_guard.specs.FlatMachine as flat_ends
 use Rattle.tk_io.specs.declared.failure.Failed.{Failed}
 use Rattle.tk_io.specs.Streams.{Puts}
-use Rattle.kernel_entry.specs.Parts.{image_held}
 use Rattle.step_laws.specs.declared.moves.End.{End}
 use Rattle.step_laws.specs.declared.moves.End.TheVariants as ends
 use Rattle.step_laws.specs.Moves.{Move}
 use Rattle.kernel_entry.specs.Seen.{end_of, program as program_of}
-use Rattle.tk_run.specs.Machines.{Machine, flat_of}
-use Rattle.tk_run.specs.Ready.{IsGoing, IsInOrder, IsEnded, IsKept, HasBounds}
-use Rattle.tk_run.specs.Stepping.{lines_text}
-use Rattle.tk_run.specs.Stepping.{Goes, Stays, ends_in_arrive}
+use Rattle.program_steps.specs.Machines.{Machine, flat_of}
+use Rattle.program_steps.specs.Ready.{IsGoing, IsInOrder, IsEnded, IsKept, HasBounds}
+use Rattle.program_steps.specs.Stepping.{lines_text}
+use Rattle.program_steps.specs.Stepping.{Goes, Stays, IsFault, AreMadeAt, ends_in_arrive}
 
 -- Moves lead from x to y, and write these lines: they begin with the arrival that x owes, y's numbers are
 -- x's with those of the moves added, and y's end is that of the last move. A machine that goes on doesn't
@@ -34,12 +29,12 @@ pub record Leads (x : Machine) (lines : List Line) (y : Machine) : Type 0 where
 abbrev pub original_from : Machine → ℕ → Run
 original_from m n = run (program_of m.kernel) (flat_of m) n
 
--- an end of the machine as the original program's; at a full pool the original program goes on
+-- an end of the machine as the original program's; where flash refuses an operation the original program goes on
 abbrev pub flat_end : End → FlatEnd
 flat_end ends.Spent = flat_ends.Spent
 flat_end (ends.Stopped stop) = end_of stop
 flat_end (ends.Wild t) = flat_ends.Wild t
-flat_end (ends.CodeFull t) = flat_ends.Spent
+flat_end (ends.Flash op) = flat_ends.Spent
 
 abbrev pub run_of : FlatEnd → List Line → FlatState → Run
 run_of end lines state = record { end = end; lines = lines; state = state }
@@ -56,16 +51,13 @@ pub record IsOver (old new : Machine) (n : ℕ) (lines : List Line) (end : End) 
   pub kept : new.end ≡ Some end
   pub ended : IsEnded new
 
--- with steps left, the arrival at t, inside the image and without an entry, found no free page
-pub record IsFull (old new : Machine) (n done : ℕ) (lines : List Line) (t : ℕ) : Type 0 where
+-- with steps left, an operation on flash that an arrival tried was refused, since it is listed
+pub record IsFailed (old new : Machine) (n done : ℕ) (lines : List Line) (op : ℕ) : Type 0 where
   pub fewer : done < n
   pub ran : original_from old done ≡ run_of flat_ends.Spent lines (flat_of new)
-  pub kept : new.end ≡ Some (ends.CodeFull t)
+  pub kept : new.end ≡ Some (ends.Flash op)
   pub ended : IsEnded new
-  pub at : new.at ≡ t
-  pub inside : is_inside (image_held old.kernel) t ≡ true
-  pub unknown : HasNoEntry new.kernel.layout new.kernel.mote.flash.words t
-  pub full : HasNoFree new.kernel.layout new.kernel.mote.flash.words
+  pub fault : IsFault new op
 
 -- a line could not be put
 pub record IsBroken (new : Machine) : Type 0 where
@@ -75,27 +67,26 @@ pub record IsBroken (new : Machine) : Type 0 where
 
 abbrev pub Answers : (old new : Machine) (n done : ℕ) (lines : List Line) → Result End Failed → Type 0
 Answers old new n done lines (Ok ends.Spent) = IsSpent old new n done lines
-Answers old new n done lines (Ok (ends.CodeFull t)) = IsFull old new n done lines t
+Answers old new n done lines (Ok (ends.Flash op)) = IsFailed old new n done lines op
 Answers old new n done lines (Ok (ends.Wild t)) = IsOver old new n lines (ends.Wild t)
 Answers old new n done lines (Ok (ends.Stopped stop)) = IsOver old new n lines (ends.Stopped stop)
 Answers old new n done lines (Err e) = IsBroken new
 
--- each page that was made was made at an address where the original program stood; used pages stay used
-pub record Visits (old new : Machine) (done : ℕ) : Type 0 where
-  pub visited : (page : ℕ) → IsPool old.kernel.layout page → is_used old.kernel.mote.flash.words page ≡ false → is_used new.kernel.mote.flash.words page ≡ true
-      → (k : ℕ) × (k ≤ done) × ((original_from old k).state.cpu.pc ≡ address_of new.kernel.mote.flash.words page 0)
-  pub stay : (page : ℕ) → IsPool old.kernel.layout page → is_used old.kernel.mote.flash.words page ≡ true → is_used new.kernel.mote.flash.words page ≡ true
+-- within so many steps the original program stands at this address
+abbrev pub Visits : Machine → (done t : ℕ) → Type 0
+Visits old done t = (k : ℕ) × (k ≤ done) × ((original_from old k).state.cpu.pc ≡ t)
 
 -- What a run of up to n steps leaves of a machine without an end: with the number of steps that were done
 -- as its bound, the original program writes the same lines, and comes to the state that the new machine
 -- stands for.
-pub record HasRun (old new : Machine) (n : ℕ) (lines : List Line) (result : Result End Failed) : Type 0 where
+-- Each page that its moves make is made at an address where the original program stands in them.
+pub record HasRun (old new : Machine) (n : ℕ) (moves : List Move) (lines : List Line) (result : Result End Failed) : Type 0 where
   pub done : ℕ
   pub within : done ≤ n
   pub steps : new.steps ≡ old.steps + done
   pub written : (original_from old done).lines ≡ lines
   pub left : (original_from old done).state ≡ flat_of new
-  pub visits : Visits old new done
+  pub made : AreMadeAt (Visits old done) moves
   pub answers : Answers old new n done lines result
 
 abbrev pub is_failed : Result End Failed → Bool
@@ -110,6 +101,6 @@ pub record HasAdvanced (old new : Machine) (n : ℕ) (before after : Option (Lis
   pub put : Puts before after result (lines_text lines)
   pub stays : Stays old new
   pub broken : new.broken ≡ is_failed result
-  pub ran : old.end ≡ None → HasRun old new n lines result
+  pub ran : old.end ≡ None → HasRun old new n leads.moves lines result
   pub keeps : old.steps + n ≤ 10 ^ 12 → IsKept old → IsKept new
   pub kept : (end : End) → old.end ≡ Some end → (result ≡ Ok end) × (new ≡ old) × (lines ≡ [])

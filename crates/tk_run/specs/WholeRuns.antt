@@ -1,11 +1,9 @@
 -- A whole run, from boot to its answer, beside the original program (docs/MACHINE.md, "The original program").
-use Rattle.std.specs.Prelude.{◌≡◌, ℕ, ◌<◌, ◌≤◌, true, false, List, length, Option, Some, None, Result, Ok, Err}
+use Rattle.std.specs.Prelude.{◌≡◌, ◌≢◌, ℕ, ◌<◌, ◌≤◌, true, false, List, Option, Some, None, Result, Ok, Err}
 use Rattle.std.specs.Io.KnownBytes.{Appends}
-use Rattle.input_script.specs.declared.input.Event.{Event}
+use Rattle.input_script.specs.Script.{Schedule}
+use Rattle.flash_model.specs.Operations.{is_listed}
 use Rattle.mote_devices.specs.declared.line.Line.{Line}
-use Rattle.page_index.specs.Maps.{IsPool, address_of}
-use Rattle.nat_page.specs.Making.{HasNoEntry}
-use Rattle.nat_page.specs.Used.{is_used}
 use Rattle.mem_guard.specs.FlatMachine.{Program, End as FlatEnd, original}
 use Rattle.mem_guard.specs.FlatMachine as flat_ends
 use Rattle.tk_io.specs.declared.failure.Failed.{Failed}
@@ -13,9 +11,9 @@ use Rattle.tk_io.specs.Streams.{CutShort}
 use Rattle.step_laws.specs.declared.moves.End.{End}
 use Rattle.step_laws.specs.declared.moves.End.TheVariants as ends
 use Rattle.kernel_entry.specs.Seen.{program as program_of}
-use Rattle.tk_run.specs.Machines.{Machine, flat_of}
-use Rattle.tk_run.specs.Stepping.{lines_text}
-use Rattle.tk_run.specs.Ready.{IsReady, IsSound}
+use Rattle.program_steps.specs.Machines.{Machine, flat_of}
+use Rattle.program_steps.specs.Stepping.{lines_text, AreMadeAt}
+use Rattle.program_steps.specs.Ready.{IsReady, IsSound}
 use Rattle.tk_run.specs.Running.{Leads, flat_end}
 use Rattle.tk_run.specs.Booted.{booted}
 
@@ -24,55 +22,63 @@ abbrev pub program_at : (image : List ℕ) (slots : ℕ) → Program
 program_at image slots = record { image = image; page_limit = slots }
 
 -- moves lead from boot to the machine, and write these lines
-abbrev pub Path : (image : List ℕ) (events : List Event) (quantum slots : ℕ) → List Line → Machine → Type 0
-Path image events quantum slots lines m = Leads (booted image events quantum slots) lines m
+abbrev pub Path : (image : List ℕ) (script : Schedule) (quantum slots : ℕ) → List Line → Machine → Type 0
+Path image script quantum slots lines m = Leads (booted image script quantum slots) lines m
 
 -- an end is kept, unless the bound of steps was reached
 abbrev pub IsKeptEnd : FlatEnd → End → Option End → Type 0
 IsKeptEnd flat_ends.Spent end kept = kept ≡ None
 IsKeptEnd _ end kept = kept ≡ Some end
 
--- the run ended as the original program's n steps do, and all their lines were put
-pub record IsExactRun (image : List ℕ) (events : List Event) (quantum slots n : ℕ) (before after : Option (List ℕ)) (end : End) (m : Machine) : Type 0 where
-  pub put : Appends before after (lines_text (original (program_at image slots) events n).lines)
-  pub same : flat_end end ≡ (original (program_at image slots) events n).end
-  pub state : flat_of m ≡ (original (program_at image slots) events n).state
+-- within so many steps the original program stands at this address
+abbrev pub StandsAt : (image : List ℕ) (script : Schedule) (slots done t : ℕ) → Type 0
+StandsAt image script slots done t = (k : ℕ) × (k ≤ done) × ((original (program_at image slots) script.events k).state.cpu.pc ≡ t)
+
+-- The run ended as the original program's n steps do, and all their lines were put. No operation on flash that was
+-- tried was to fail, and each page was made at an address where the original program stands.
+pub record IsExactRun (image : List ℕ) (script : Schedule) (quantum slots n : ℕ) (before after : Option (List ℕ)) (end : End) (m : Machine) : Type 0 where
+  pub put : Appends before after (lines_text (original (program_at image slots) script.events n).lines)
+  pub same : flat_end end ≡ (original (program_at image slots) script.events n).end
+  pub state : flat_of m ≡ (original (program_at image slots) script.events n).state
   pub program : program_of m.kernel ≡ program_at image slots
   pub quantum_is : m.kernel.quantum ≡ quantum
   pub unbroken : m.broken ≡ false
   pub ready : IsReady m
   pub kept : IsKeptEnd (flat_end end) end m.end
-  pub path : Path image events quantum slots (original (program_at image slots) events n).lines m
+  pub path : Path image script quantum slots (original (program_at image slots) script.events n).lines m
+  pub made : AreMadeAt (StandsAt image script slots m.steps) path.moves
+  pub unlisted : (op : ℕ) → 1 ≤ op → op ≤ m.kernel.mote.flash.ops → is_listed script.failing op ≡ false
+  pub unrefused : m.kernel.mote.flash.refused ≡ None
 
--- The run came to an address that has no entry, with all 352 pages used. Up to there it is the original
--- program's, and the first address of each page is one where the original program stood.
-pub record IsFullRun (image : List ℕ) (events : List Event) (quantum slots n : ℕ) (before after : Option (List ℕ)) (t : ℕ) (m : Machine) : Type 0 where
+-- With steps left, an operation on flash was refused: the first of those that were tried that the script lists. Up to
+-- there the run is the original program's.
+pub record IsFailedRun (image : List ℕ) (script : Schedule) (quantum slots n : ℕ) (before after : Option (List ℕ)) (op : ℕ) (m : Machine) : Type 0 where
   pub fewer : m.steps < n
-  pub put : Appends before after (lines_text (original (program_at image slots) events m.steps).lines)
-  pub same : (original (program_at image slots) events m.steps).end ≡ flat_ends.Spent
-  pub state : flat_of m ≡ (original (program_at image slots) events m.steps).state
-  pub at : m.at ≡ t
+  pub put : Appends before after (lines_text (original (program_at image slots) script.events m.steps).lines)
+  pub same : (original (program_at image slots) script.events m.steps).end ≡ flat_ends.Spent
+  pub state : flat_of m ≡ (original (program_at image slots) script.events m.steps).state
   pub program : program_of m.kernel ≡ program_at image slots
   pub quantum_is : m.kernel.quantum ≡ quantum
   pub unbroken : m.broken ≡ false
   pub ready : IsReady m
-  pub kept : m.end ≡ Some (ends.CodeFull t)
-  pub path : Path image events quantum slots (original (program_at image slots) events m.steps).lines m
-  pub inside : t < length image
-  pub unknown : HasNoEntry m.kernel.layout m.kernel.mote.flash.words t
-  pub pages : m.pages ≡ 352
-  pub visited : (page : ℕ) → IsPool m.kernel.layout page → (is_used m.kernel.mote.flash.words page ≡ true)
-      × ((k : ℕ) × (k ≤ m.steps) × ((original (program_at image slots) events k).state.cpu.pc ≡ address_of m.kernel.mote.flash.words page 0))
+  pub kept : m.end ≡ Some (ends.Flash op)
+  pub path : Path image script quantum slots (original (program_at image slots) script.events m.steps).lines m
+  pub made : AreMadeAt (StandsAt image script slots m.steps) path.moves
+  pub last : op ≡ m.kernel.mote.flash.ops
+  pub listed : is_listed script.failing op ≡ true
+  pub first : (earlier : ℕ) → 1 ≤ earlier → earlier < op → is_listed script.failing earlier ≡ false
+  pub refused : m.kernel.mote.flash.refused ≢ None
 
 -- a line could not be put: what went out is cut short of the lines of the steps that were done
-pub record IsCutRun (image : List ℕ) (events : List Event) (quantum slots n : ℕ) (before after : Option (List ℕ)) (m : Machine) : Type 0 where
+pub record IsCutRun (image : List ℕ) (script : Schedule) (quantum slots n : ℕ) (before after : Option (List ℕ)) (m : Machine) : Type 0 where
   pub within : m.steps ≤ n
-  pub put : CutShort before after (lines_text (original (program_at image slots) events m.steps).lines)
+  pub put : CutShort before after (lines_text (original (program_at image slots) script.events m.steps).lines)
   pub broken : m.broken ≡ true
   pub sound : IsSound m
-  pub path : Path image events quantum slots (original (program_at image slots) events m.steps).lines m
+  pub path : Path image script quantum slots (original (program_at image slots) script.events m.steps).lines m
+  pub made : AreMadeAt (StandsAt image script slots m.steps) path.moves
 
-abbrev pub HasWhole : (image : List ℕ) (events : List Event) (quantum slots n : ℕ) (before after : Option (List ℕ)) → Result End Failed → Machine → Type 0
-HasWhole image events quantum slots n before after (Ok (ends.CodeFull t)) m = IsFullRun image events quantum slots n before after t m
-HasWhole image events quantum slots n before after (Ok end) m = IsExactRun image events quantum slots n before after end m
-HasWhole image events quantum slots n before after (Err e) m = IsCutRun image events quantum slots n before after m
+abbrev pub HasWhole : (image : List ℕ) (script : Schedule) (quantum slots n : ℕ) (before after : Option (List ℕ)) → Result End Failed → Machine → Type 0
+HasWhole image script quantum slots n before after (Ok (ends.Flash op)) m = IsFailedRun image script quantum slots n before after op m
+HasWhole image script quantum slots n before after (Ok end) m = IsExactRun image script quantum slots n before after end m
+HasWhole image script quantum slots n before after (Err e) m = IsCutRun image script quantum slots n before after m

@@ -12,7 +12,7 @@
 //!     End::Spent => ..,         // all steps were done, and the program goes on
 //!     End::Stopped(stop) => .., // the program stopped at `machine.at`
 //!     End::Wild(t) => ..,       // it left its image
-//!     End::CodeFull(t) => ..,   // no page was free for the code at `t`
+//!     End::Flash(op) => ..,     // an operation on flash was refused, as the script lists
 //! }
 //! ```
 //!
@@ -21,13 +21,9 @@
 //! `specs/WholeRuns` what follows of a whole run from boot.
 #![tactic(auto)]
 
-mod arrival;
 mod lines;
 mod machine;
-mod moves;
-mod progress;
 mod run;
-mod step;
 
 pub use machine::{Machine, Options};
 pub use step_laws::{End, Owed};

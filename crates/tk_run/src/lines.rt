@@ -1,11 +1,11 @@
 //! Device lines, gathered so that many go out by one write.
 
-ghost use Rattle.std.specs.Prelude.{◌≡◌, ◌≢◌, ◌-◌, ◌%◌, ◌++◌, ◌≤◌, None, [], length, OnOk, OnErr};
+ghost use Rattle.std.specs.Prelude.{◌≡◌, ◌≢◌, ◌-◌, ◌%◌, ◌≤◌, None, [], OnOk, OnErr};
 ghost use Rattle.tk_io.specs.Faults.{HasCause};
 ghost use Rattle.tk_io.specs.Streams.{Puts};
 ghost use Rattle.step_laws.specs.Moves.{line_before};
 ghost use Rattle.tk_run.specs.Gathering.{Gathers};
-ghost use Rattle.tk_run.specs.Stepping.{lines_text};
+ghost use Rattle.program_steps.specs.Stepping.{lines_text};
 
 use arrayvec::ArrayVec;
 use line_text::{Text, device_line};

@@ -5,14 +5,15 @@ ghost use Rattle.tk_io.specs.Faults.{HasCause};
 ghost use Rattle.tk_run.specs.Running.{HasAdvanced};
 ghost use Rattle.tk_run.specs.Booted.{booted};
 
-use crate::progress::Progress;
 use crate::run::run_on;
 use crate::{End, Owed};
+use branch_bridge::Torn;
 use flash_model::Layout;
 use hex_image::Image;
 use input_script::Script;
 use kernel_entry::Kernel;
 use mote_core::Mote;
+use program_steps::Progress;
 use std::alloc::Global;
 use std::marker::Model;
 use tk_io::{Failed, NoMemory, Sink};
@@ -38,6 +39,8 @@ pub struct Machine {
     pub owed: Option<Owed>,
     /// How the program ended, once it has.
     pub end: Option<End>,
+    /// The page that a refused operation on flash has left torn: it is blank, and lacks these words.
+    pub torn: Option<Torn>,
     /// Whether a device line could not be put: then the machine goes no further.
     pub broken: bool,
     /// Steps of the program.
@@ -57,14 +60,14 @@ pub struct Machine {
 }
 
 impl Model for Machine {
-    ghost use Rattle.tk_run.specs.Machines.{Machine as MachineValue};
-    ghost use Rattle.tk_run.specs.Ready.{IsKept};
+    ghost use Rattle.program_steps.specs.Machines.{Machine as MachineValue};
+    ghost use Rattle.program_steps.specs.Ready.{IsKept};
 
     ghost Value = { MachineValue };
 
-    ghost view = { λ m. record { kernel = m.kernel; at = m.at; owed = m.owed; end = m.end; broken = m.broken; steps = m.steps; crossings = m.crossings; natural = m.natural; entries = m.entries; pages = m.pages; since = m.since; longest = m.longest } };
+    ghost view = { λ m. record { kernel = m.kernel; at = m.at; owed = m.owed; end = m.end; torn = m.torn; broken = m.broken; steps = m.steps; crossings = m.crossings; natural = m.natural; entries = m.entries; pages = m.pages; since = m.since; longest = m.longest } };
 
-    ghost invariant = { λ m. IsKept (record { kernel = m.kernel; at = m.at; owed = m.owed; end = m.end; broken = m.broken; steps = m.steps; crossings = m.crossings; natural = m.natural; entries = m.entries; pages = m.pages; since = m.since; longest = m.longest }) };
+    ghost invariant = { λ m. IsKept (record { kernel = m.kernel; at = m.at; owed = m.owed; end = m.end; torn = m.torn; broken = m.broken; steps = m.steps; crossings = m.crossings; natural = m.natural; entries = m.entries; pages = m.pages; since = m.since; longest = m.longest }) };
 }
 
 impl Machine {
@@ -84,7 +87,7 @@ impl Machine {
         Ok(Machine {
             kernel: Kernel {
                 mote,
-                layout: Layout::usual(image.len_words()),
+                layout: Layout::of(image.len_words()),
                 quantum: options.quantum,
             },
             at: 0,
@@ -93,6 +96,7 @@ impl Machine {
                 stub: None,
             }),
             end: None,
+            torn: None,
             broken: false,
             steps: 0,
             crossings: 0,
@@ -119,6 +123,7 @@ impl Machine {
             at: self.at,
             owed: self.owed,
             end: self.end,
+            torn: self.torn,
             broken: self.broken,
             steps: self.steps,
             crossings: self.crossings,
@@ -133,6 +138,7 @@ impl Machine {
         self.at = p.at;
         self.owed = p.owed;
         self.end = p.end;
+        self.torn = p.torn;
         self.broken = p.broken;
         self.steps = p.steps;
         self.crossings = p.crossings;

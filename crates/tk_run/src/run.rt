@@ -3,17 +3,15 @@
 ghost use Rattle.std.specs.Prelude.{◌≡◌, ◌≤◌, ◌+◌, ◌^◌, false, None, []};
 ghost use Rattle.tk_io.specs.Faults.{HasCause};
 ghost use Rattle.tk_run.specs.Gathering.{HasGathered, HasPut};
-ghost use Rattle.tk_run.specs.Ready.{IsGoing};
+ghost use Rattle.program_steps.specs.Ready.{IsGoing};
 ghost use Rattle.tk_run.specs.Running.{HasAdvanced};
-ghost use Rattle.tk_run.specs.Wholes.{whole};
+ghost use Rattle.program_steps.specs.Wholes.{whole};
 
 use crate::End;
-use crate::arrival::{at_bound, enter};
 use crate::lines::{Gathered, gather, send, send_in_turn, up_to_turn};
-use crate::progress::Progress;
-use crate::step::steps;
 use kernel_entry::Kernel;
 use page_index::Cursor;
+use program_steps::{Progress, at_bound, enter, steps};
 use tk_io::{Failed, Sink};
 
 /// Does up to n further steps, and puts the lines of each.

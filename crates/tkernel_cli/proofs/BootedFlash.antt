@@ -9,7 +9,7 @@ use Rattle.flash_model.proofs.LoadedLaws.{length-loaded}
 use Rattle.list_parts.proofs.ManyLaws.{length-many}
 use Rattle.flash_model.proofs.WordLaws.{loaded_fits}
 use Rattle.tk_run.specs.Booted.{booted}
-use Rattle.tk_run.specs.Ready.{IsKept}
+use Rattle.program_steps.specs.Ready.{IsKept}
 use Rattle.tk_run.proofs.Booting.{going_boot, kept_boot}
 use Rattle.tkernel_cli.specs.declared.request.Request.{Request}
 

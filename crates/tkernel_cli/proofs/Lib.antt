@@ -1,12 +1,13 @@
--- Lemmas on the words of `run`, on texts that are put one after another, on a whole run, and on what is
--- judged.
-pub mod OptionPieces
-pub mod OptionChoices
+-- Lemmas on the words of a command line, on what its text asks for, on a whole run, and on texts that are
+-- put one after another.
 pub mod FirstWord
+pub mod NumberWords
+pub mod NumberChoices
 pub mod OneCommand
-pub mod OptionRanges
+pub mod OneJob
+pub mod Judging
 pub mod Putting
 pub mod BootedFlash
 pub mod RunEnds
-pub mod Judging
+pub mod WholeRuns
 pub mod Exactly

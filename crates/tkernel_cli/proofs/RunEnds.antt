@@ -10,17 +10,16 @@ use Rattle.mem_guard.specs.FlatMachine.{End, Spent, Wild, Illegal, SelfProgram, 
 use Rattle.kernel_entry.specs.Texts.{stop_text, end_text}
 use Rattle.step_laws.specs.declared.moves.End.{End as MachineEnd}
 use Rattle.step_laws.specs.declared.moves.End.TheVariants as ends
-use Rattle.tk_run.proofs.Few.{never_full}
-use Rattle.tk_run.specs.Machines.{Machine}
-use Rattle.tk_run.specs.Stepping.{lines_text}
+use Rattle.program_steps.specs.Machines.{Machine}
+use Rattle.program_steps.specs.Stepping.{lines_text}
 use Rattle.tk_run.specs.Running.{HasAdvanced, flat_end}
 use Rattle.tk_run.specs.Booted.{booted}
-use Rattle.tk_run.specs.WholeRuns.{IsExactRun, IsFullRun, HasWhole, IsKeptEnd}
+use Rattle.tk_run.specs.WholeRuns.{IsExactRun, IsFailedRun, HasWhole, IsKeptEnd}
 use Rattle.tk_run.proofs.WholeRun.{whole_run as whole_of}
 use Rattle.tkernel_cli.specs.declared.request.Request.{Request}
 use Rattle.tkernel_cli.specs.declared.status.Status.{Status}
 use Rattle.tkernel_cli.specs.declared.status.Status.TheVariants as status
-use Rattle.tkernel_cli.specs.Text.{end_line, how_text, full_text, count_text}
+use Rattle.tkernel_cli.specs.Text.{end_line, how_text, count_text}
 use Rattle.tkernel_cli.specs.Runs.{Stream, Says, Runs, KeepsEnd, original_of, whole_run, checkpoints_of, run_text, status_of_end, status_of_stop}
 use Rattle.tkernel_cli.proofs.BootedFlash.{boot_kept}
 use Rattle.tk_io.proofs.KnownBytes.{cut_behind}
@@ -65,14 +64,10 @@ keeps_end (Io pc a) end m same kept = (end, kept, same)
 keeps_end (Stack pc a) end m same kept = (end, kept, same)
 keeps_end (SwapFull pc a) end m same kept = (end, kept, same)
 
--- the stop line of an end that is the original's too, and that of a full pool
+-- the stop line of an end that is the original's too
 line_of : (end : MachineEnd) (steps checkpoints : ℕ) → how_text end ≡ end_text (flat_end end) → end_line end steps checkpoints ≡ stop_text (flat_end end) steps checkpoints
 unfolding end_line stop_text
 line_of end steps checkpoints how = ap (λ h. h ++ codes " steps " ++ decimal steps ++ codes " checkpoints " ++ decimal checkpoints ++ codes "\n") how
-
-full_line : (t steps checkpoints : ℕ) → end_line (ends.CodeFull t) steps checkpoints ≡ full_text t steps checkpoints
-unfolding end_line full_text
-full_line t steps checkpoints = refl
 
 -- a run to the original's end
 ended : (request : Request) (before mid now : Stream) (told : Status) (end : MachineEnd) (m : Machine) → status_of_stop end ≡ status_of_end (flat_end end) → how_text end ≡ end_text (flat_end end)
@@ -89,31 +84,32 @@ ended request before mid now told end m status how run later said =
     Runs.Ended (record {
       said = subst (λ s. Says s (run_text r (stop_text r.end r.state.steps (checkpoints_of request r)) m) before now told) own (subst (λ l. Says (status_of_stop end) (run_text r l m) before now told) stop whole);
       end = subst (λ e. KeepsEnd e m) run.same (keeps_end (flat_end end) end m refl run.kept);
-      follows = record { state = run.state; program = run.program; quantum = run.quantum_is; unbroken = run.unbroken; ready = run.ready; path = run.path; longest = run.ready.sound.bounded.most };
+      unlisted = run.unlisted;
+      unrefused = run.unrefused;
+      follows = record { state = run.state; program = run.program; quantum = run.quantum_is; unbroken = run.unbroken; ready = run.ready; path = run.path; made = run.made; longest = run.ready.sound.bounded.most };
     })
 
--- a run that used up the code pool
-out_of_pages : (request : Request) (before mid now : Stream) (told : Status) (t : ℕ) (m : Machine)
-    → IsFullRun request.image request.script request.options.quantum request.options.swap request.options.steps before.told mid.told t m → before.faults ≤ mid.faults
-    → Says status.CodeFull (end_line (ends.CodeFull t) m.steps (m.crossings / m.kernel.quantum) ++ count_text m.natural m.entries m.pages) mid now told
+-- a run that flash ended
+failed : (request : Request) (before mid now : Stream) (told : Status) (op : ℕ) (m : Machine)
+    → IsFailedRun request.image request.script request.options.quantum request.options.swap request.options.steps before.told mid.told op m → before.faults ≤ mid.faults
+    → Says status.FlashFault (end_line (ends.Flash op) m.steps (m.crossings / m.kernel.quantum) ++ count_text m.natural m.entries m.pages) mid now told
     → Runs request before now told m
-out_of_pages request before mid now told t m run later said =
+failed request before mid now told op m run later said =
     let r = original_of request m.steps in
     let steps : m.steps ≡ r.state.steps = ap (λ s. s.steps) run.state in
     let crossings : m.crossings ≡ r.state.crossings = ap (λ s. s.crossings) run.state in
-    let whole = said_run request (ends.CodeFull t) r status.CodeFull told before mid now m steps crossings run.quantum_is run.put later said in
-    Runs.Full (record {
-      t = t;
-      said = subst (λ line. Says status.CodeFull (run_text r line m) before now told) (full_line t r.state.steps (checkpoints_of request r) ∙ ap (λ n. full_text t n (checkpoints_of request r)) (sym steps)) whole;
+    let whole = said_run request (ends.Flash op) r status.FlashFault told before mid now m steps crossings run.quantum_is run.put later said in
+    Runs.Failed (record {
+      op = op;
+      said = subst (λ n. Says status.FlashFault (run_text r (end_line (ends.Flash op) n (checkpoints_of request r)) m) before now told) (sym steps) whole;
       fewer = run.fewer;
       spent = run.same;
-      at = sym (ap (λ s. s.cpu.pc) run.state) ∙ run.at;
       end = run.kept;
-      used = run.pages;
-      inside = run.inside;
-      unknown = run.unknown;
-      many = λ addresses few stays. never_full request.image request.script request.options.quantum request.options.swap request.options.steps before.told mid.told t m addresses run few stays;
-      follows = record { state = run.state; program = run.program; quantum = run.quantum_is; unbroken = run.unbroken; ready = run.ready; path = run.path; longest = run.ready.sound.bounded.most };
+      last = run.last;
+      listed = run.listed;
+      first = run.first;
+      refused = run.refused;
+      follows = record { state = run.state; program = run.program; quantum = run.quantum_is; unbroken = run.unbroken; ready = run.ready; path = run.path; made = run.made; longest = run.ready.sound.bounded.most };
     })
 
 -- a run whose last two lines were said, or not
@@ -124,14 +120,14 @@ ran_to : (request : Request) (before mid now : Stream) (told : Status) (end : Ma
 ran_to request before mid now told ends.Spent m run later said = ended request before mid now told ends.Spent m refl refl run later said
 ran_to request before mid now told (ends.Stopped stop) m run later said = ended request before mid now told (ends.Stopped stop) m refl refl run later said
 ran_to request before mid now told (ends.Wild t) m run later said = ended request before mid now told (ends.Wild t) m refl refl run later said
-ran_to request before mid now told (ends.CodeFull t) m run later said = out_of_pages request before mid now told t m run later said
+ran_to request before mid now told (ends.Flash op) m run later said = failed request before mid now told op m run later said
 
 -- a run whose line could not be put
 ran_until_cut : (request : Request) (before now : Stream) (failed : Failed) (m : Machine)
     → HasWhole request.image request.script request.options.quantum request.options.swap request.options.steps before.told now.told (Err failed) m → Rose before.faults now.faults
     → Runs request before now status.WriteFault m
 ran_until_cut request before now failed m run rose =
-    Runs.Cut (record { status_is = refl; rose = rose; put = run.put; broken = run.broken; within = run.within; sound = run.sound; path = run.path })
+    Runs.Cut (record { status_is = refl; rose = rose; put = run.put; broken = run.broken; within = run.within; sound = run.sound; path = run.path; made = run.made })
 
 -- the last two lines were said, or the sink failed
 pub answered : (request : Request) (before mid now : Stream) (told : Status) (result : Result MachineEnd Failed) (end : MachineEnd) (m : Machine) → IsImage request.image → 1 ≤ request.options.quantum → request.options.quantum < 256 → request.options.swap ≤ 251 → request.options.steps ≤ 10 ^ 9

@@ -4,5 +4,10 @@ pub mod OptionReading
 pub mod Commands
 pub mod Text
 pub mod Status
+pub mod Printed
 pub mod Runs
+pub mod Reading
+pub mod RunCommand
+pub mod GenerateCommand
+pub mod AsmCommand
 pub mod Answer

@@ -1,46 +1,40 @@
--- Serves private functions: the options of `run` while they are read.
-use Rattle.std.specs.Prelude.{◌≡◌, ℕ, List, [], ◌∷◌, ◌++◌, codes, Option, Some}
-use Rattle.tkernel_cli.specs.declared.options.RunOption.{RunOption}
-use Rattle.tkernel_cli.specs.declared.options.RunOption.TheVariants.{Steps, Quantum, Swap}
-use Rattle.tkernel_cli.specs.declared.options.Choice.{Choice}
-use Rattle.tkernel_cli.specs.declared.options.Chosen.{Chosen}
-use Rattle.tkernel_cli.specs.Options.{IsChoice, IsPiece, Says, IsOnce, chosen_value}
+-- Serves private functions: the numbers of a command while they are read.
+use Rattle.std.specs.Prelude.{ℕ, ◌==◌, if◌then◌else◌, List, [], ◌∷◌, Option, Some, None, unwrap_or, option_map}
+use Rattle.std.specs.Option.{option_map_or, option_or}
+use Rattle.tkernel_cli.specs.declared.table.Row.{Row}
+use Rattle.tkernel_cli.specs.declared.table.Parameter.{Parameter}
+use Rattle.tkernel_cli.specs.declared.table.Parameter.TheVariants.{Seed, Steps, Quantum, Swap}
+use Rattle.tkernel_cli.specs.Options.{Choose, name_of, nothing}
 
--- the first words say this choice, and these are left
-pub record BeginsWith (choice : Choice) (words rest : List (List ℕ)) : Type 0 where
-  pub front : List (List ℕ)
-  pub cut : words ≡ front ++ rest
-  pub piece : IsPiece choice front
+-- a parameter, the digits of its value, and the words behind them
+abbrev pub Found : Type 0
+Found = Parameter × List ℕ × List (List ℕ)
 
--- the first words say no choice
-abbrev pub BeginsWithNone : List (List ℕ) → Type 0
-BeginsWithNone words = (choice : Choice) (rest : List (List ℕ)) → ¬ BeginsWith choice words rest
+-- a text without the front that it begins with
+abbrev pub stripped : (front text : List ℕ) → Option (List ℕ)
+stripped [] text = Some text
+stripped (c ∷ front) [] = None
+stripped (c ∷ front) (b ∷ text) = if c == b then stripped front text else None
 
--- behind an option's name: its value is the next word, or stands behind `=`
-pub data SaysBehind (choice : Choice) (option : RunOption) (behind : List ℕ) (later rest : List (List ℕ)) : Type 0 where
-  Apart : (digits : List ℕ) → choice.option ≡ option → IsChoice choice digits → behind ≡ [] → later ≡ digits ∷ rest → SaysBehind choice option behind later rest
-  Joined : (digits : List ℕ) → choice.option ≡ option → IsChoice choice digits → behind ≡ codes "=" ++ digits → later ≡ rest → SaysBehind choice option behind later rest
+-- a parameter whose name a word begins with, and the text behind the name
+abbrev pub behind : Parameter → List ℕ → Option (Parameter × List ℕ)
+behind parameter word = option_map (λ text. (parameter, text)) (stripped (unwrap_or (name_of parameter) []) word)
 
--- the value that was chosen of an option
-abbrev pub value_of : Chosen → RunOption → Option ℕ
-value_of chosen Steps = chosen.steps
-value_of chosen Quantum = chosen.quantum
-value_of chosen Swap = chosen.swap
+abbrev pub named_in : List ℕ → Option (Parameter × List ℕ)
+named_in word = option_or (behind Steps word) (option_or (behind Quantum word) (behind Swap word))
 
--- with one more choice
-abbrev pub with_value : Chosen → RunOption → ℕ → Chosen
-with_value chosen Steps value = record chosen { steps = Some value }
-with_value chosen Quantum value = record chosen { quantum = Some value }
-with_value chosen Swap value = record chosen { swap = Some value }
+-- the digits behind a name, in the next word or behind `=` (61)
+abbrev pub value_at : Parameter → (behind : List ℕ) → (later : List (List ℕ)) → Option Found
+value_at parameter [] [] = None
+value_at parameter [] (digits ∷ rest) = Some (parameter, digits, rest)
+value_at parameter (c ∷ digits) later = if c == 61 then Some (parameter, digits, later) else None
 
--- the words in front of the rest were read as choices, and can't be read otherwise
-pub record HasRead (words rest : List (List ℕ)) (chosen : Chosen) : Type 0 where
-  pub choices : List Choice
-  pub once : IsOnce choices
-  pub values : (option : RunOption) → value_of chosen option ≡ chosen_value option choices
-  pub joined : (later : List Choice) → Says later rest → Says (choices ++ later) words
-  pub only : (all : List Choice) → Says all words → (later : List Choice) × (all ≡ choices ++ later) × Says later rest
+-- the parameter, the digits and the rest that words begin with: a word without a name is a number itself
+abbrev pub number_in : List (List ℕ) → Option Found
+number_in [] = None
+number_in (word ∷ later) = option_map_or (λ named. value_at named.0 named.1 later) (named_in word) (Some (Seed, word, later))
 
--- no choices are said by these words, each option once
-abbrev pub SaysNothing : List (List ℕ) → Type 0
-SaysNothing words = (choices : List Choice) → Says choices words → ¬ IsOnce choices
+-- the words in front of the rest were read: the rest chooses on just as all of them choose
+pub record HasRead (rows : List Row) (words rest : List (List ℕ)) (chosen : List (Option ℕ)) : Type 0 where
+  pub on : (after : List (Option ℕ)) → Choose rows words nothing after → Choose rows rest chosen after
+  pub back : (after : List (Option ℕ)) → Choose rows rest chosen after → Choose rows words nothing after

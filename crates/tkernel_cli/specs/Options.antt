@@ -1,79 +1,96 @@
--- The words of `run`, this project's own grammar (docs/FORMATS.md): options in any order, each at most once,
--- its value in the next word or behind `=` in the same one.
-use Rattle.std.specs.Prelude.{◌≡◌, ℕ, ◌≤◌, ◌⊎◌, ⊤, Bool, true, false, if◌then◌else◌, List, [], ◌∷◌, ◌++◌, codes, Option, Some, None, unwrap_or}
+-- The words of a command line, this project's own grammar (docs/FORMATS.md): a command, and behind it its
+-- numbers in any order, each at most once. A number with a name stands in the word behind the name, or
+-- behind `=` in the same one.
+use Rattle.std.specs.Prelude.{◌≡◌, ℕ, ◌≤◌, ◌⊎◌, ◌==◌, if◌then◌else◌, List, [], ◌∷◌, ◌++◌, codes, slice_get, slice_set, slice_index_or, Option, Some, None, IsSome}
+use Rattle.std.specs.Option.{option_or}
 use Rattle.input_script.specs.Grammar.{IsNumber}
-use Rattle.tkernel_cli.specs.declared.options.RunOption.{RunOption}
-use Rattle.tkernel_cli.specs.declared.options.RunOption.TheVariants.{Steps, Quantum, Swap}
-use Rattle.tkernel_cli.specs.declared.options.RunOptions.{RunOptions}
+use Rattle.tkernel_cli.specs.declared.table.CommandName.{CommandName}
+use Rattle.tkernel_cli.specs.declared.table.CommandName.TheVariants.{Help, Run, Generate, Asm}
+use Rattle.tkernel_cli.specs.declared.table.Parameter.{Parameter}
+use Rattle.tkernel_cli.specs.declared.table.Parameter.TheVariants.{Seed, Steps, Quantum, Swap}
+use Rattle.tkernel_cli.specs.declared.table.Row.{Row}
 use Rattle.tkernel_cli.specs.declared.options.Choice.{Choice}
 
--- the name of an option
-abbrev pub name_of : RunOption → List ℕ
-name_of Steps = codes "--steps"
-name_of Quantum = codes "--quantum"
-name_of Swap = codes "--swap"
+-- the word of a command
+abbrev pub word_of : CommandName → List ℕ
+word_of Help = codes "help"
+word_of Run = codes "run"
+word_of Generate = codes "generate"
+word_of Asm = codes "asm"
 
--- its least and its greatest value
-abbrev pub least_of : RunOption → ℕ
-least_of Quantum = 1
-least_of _ = 0
+-- the name of a parameter, where it has one
+abbrev pub name_of : Parameter → Option (List ℕ)
+name_of Seed = None
+name_of Steps = Some (codes "--steps")
+name_of Quantum = Some (codes "--quantum")
+name_of Swap = Some (codes "--swap")
 
-abbrev pub most_of : RunOption → ℕ
-most_of Steps = 1000000000
-most_of Quantum = 255
-most_of Swap = 251
+-- the number of a parameter, by which they are told apart
+abbrev pub place_of : Parameter → ℕ
+place_of Seed = 0
+place_of Steps = 1
+place_of Quantum = 2
+place_of Swap = 3
 
--- its value where the words don't name it
-abbrev pub default_of : RunOption → ℕ
-default_of Steps = 1000000
-default_of Quantum = 255
-default_of Swap = 128
+-- what a command takes: each parameter with its least and its greatest value, and the one that it has
+-- where the words give none
+abbrev pub rows_of : CommandName → List Row
+rows_of Help = []
+rows_of Run =
+    record { parameter = Steps; least = 0; most = 1000000000; default = Some 1000000 }
+    ∷ record { parameter = Quantum; least = 1; most = 255; default = Some 255 }
+    ∷ record { parameter = Swap; least = 0; most = 251; default = Some 128 }
+    ∷ []
+rows_of Generate = record { parameter = Seed; least = 0; most = 4294967295; default = None } ∷ []
+rows_of Asm = []
 
--- digits that say an option's value
-pub record IsChoice (choice : Choice) (digits : List ℕ) : Type 0 where
-  pub number : IsNumber digits choice.value
-  pub least : least_of choice.option ≤ choice.value
-  pub most : choice.value ≤ most_of choice.option
+-- the row of a parameter
+abbrev pub row_in : List Row → Parameter → Option Row
+row_in [] parameter = None
+row_in (row ∷ rows) parameter = if place_of row.parameter == place_of parameter then Some row else row_in rows parameter
 
--- the words, two or one, that say a choice
-pub record IsPiece (choice : Choice) (words : List (List ℕ)) : Type 0 where
+-- the first words write these digits, with the name that they have, and the rest stands behind them
+abbrev pub IsWritten : Option (List ℕ) → (digits : List ℕ) → (words rest : List (List ℕ)) → Type 0
+IsWritten None digits words rest = words ≡ digits ∷ rest
+IsWritten (Some name) digits words rest = (words ≡ name ∷ digits ∷ rest) ⊎ (words ≡ (name ++ (codes "=" ++ digits)) ∷ rest)
+
+-- the first words choose a value of one of these parameters
+pub record BeginsWith (rows : List Row) (choice : Choice) (words rest : List (List ℕ)) : Type 0 where
   pub digits : List ℕ
-  pub chosen : IsChoice choice digits
-  pub written : (words ≡ name_of choice.option ∷ digits ∷ []) ⊎ (words ≡ (name_of choice.option ++ (codes "=" ++ digits)) ∷ [])
+  pub written : IsWritten (name_of choice.parameter) digits words rest
+  pub number : IsNumber digits choice.value
+  pub has : IsSome (row_in rows choice.parameter)
 
--- words that say these choices, one after another
-abbrev pub Says : List Choice → List (List ℕ) → Type 0
-Says [] words = words ≡ []
-Says (choice ∷ choices) words = (front : List (List ℕ)) × (back : List (List ℕ)) × (words ≡ front ++ back) × IsPiece choice front × Says choices back
+-- words that make these choices, one after another, each of a parameter that had no value
+abbrev pub MakeChoices : List Row → List Choice → (words : List (List ℕ)) → (before after : List (Option ℕ)) → Type 0
+MakeChoices rows [] words before after = (words ≡ []) × (before ≡ after)
+MakeChoices rows (choice ∷ choices) words before after =
+    (rest : List (List ℕ)) × BeginsWith rows choice words rest × (slice_get before (place_of choice.parameter) ≡ Some None)
+    × MakeChoices rows choices rest (slice_set before (place_of choice.parameter) (Some choice.value)) after
 
--- the same option
-abbrev pub is_same : RunOption → RunOption → Bool
-is_same Steps Steps = true
-is_same Quantum Quantum = true
-is_same Swap Swap = true
-is_same _ _ = false
+abbrev pub Choose : List Row → (words : List (List ℕ)) → (before after : List (Option ℕ)) → Type 0
+Choose rows words before after = (choices : List Choice) × MakeChoices rows choices words before after
 
--- the value that choices give an option, where one does
-abbrev pub chosen_value : RunOption → List Choice → Option ℕ
-chosen_value option [] = None
-chosen_value option (choice ∷ choices) = if is_same option choice.option then Some choice.value else chosen_value option choices
+-- no parameter has a value yet
+abbrev pub nothing : List (Option ℕ)
+nothing = None ∷ None ∷ None ∷ None ∷ []
 
--- each option is chosen at most once
-abbrev pub IsOnce : List Choice → Type 0
-IsOnce [] = ⊤
-IsOnce (choice ∷ choices) = (chosen_value choice.option choices ≡ None) × IsOnce choices
+-- the value of a parameter: the chosen one, or else the default
+pub record IsValue (chosen : List (Option ℕ)) (row : Row) (value : ℕ) : Type 0 where
+  pub is : option_or (slice_index_or chosen (place_of row.parameter) None) row.default ≡ Some value
+  pub least : row.least ≤ value
+  pub most : value ≤ row.most
 
--- the value of an option under these choices: the chosen one, or else the default
-abbrev pub value_in : RunOption → List Choice → ℕ
-value_in option choices = unwrap_or (chosen_value option choices) (default_of option)
+-- the values of all parameters, in the order of the rows
+abbrev pub AreValues : List Row → (chosen : List (Option ℕ)) → List ℕ → Type 0
+AreValues [] chosen values = values ≡ []
+AreValues (row ∷ rows) chosen values =
+    (value : ℕ) × (others : List ℕ) × (values ≡ value ∷ others) × IsValue chosen row value × AreValues rows chosen others
 
--- `run` and its options
-pub record IsRunWords (words : List (List ℕ)) (options : RunOptions) : Type 0 where
-  pub choices : List Choice
+-- a command and its numbers
+pub record IsWords (command : CommandName) (words : List (List ℕ)) (values : List ℕ) : Type 0 where
   pub rest : List (List ℕ)
-  pub command : words ≡ codes "run" ∷ rest
-  pub said : Says choices rest
-  pub once : IsOnce choices
-  pub steps : options.steps ≡ value_in Steps choices
-  pub quantum : options.quantum ≡ value_in Quantum choices
-  pub swap : options.swap ≡ value_in Swap choices
+  pub first : words ≡ word_of command ∷ rest
+  pub chosen : List (Option ℕ)
+  pub said : Choose (rows_of command) rest nothing chosen
+  pub values_are : AreValues (rows_of command) chosen values

@@ -1,25 +1,24 @@
 -- A program that is run: what was printed, what is kept, and how both follow the original program.
-use Rattle.std.specs.Prelude.{◌≡◌, ◌⊎◌, ℕ, nat_eq, ◌*◌, ◌/◌, ◌<◌, ◌≤◌, ◌++◌, true, false, List, length, Option, Some, None}
-use Rattle.std.specs.Set.{is_member}
+use Rattle.std.specs.Prelude.{◌≡◌, ◌≢◌, ◌⊎◌, ℕ, ◌*◌, ◌/◌, ◌<◌, ◌≤◌, ◌++◌, true, false, List, Option, Some, None}
 use Rattle.std.specs.Io.KnownBytes.{Appends}
 use Rattle.tk_io.specs.Faults.{Rose}
 use Rattle.tk_io.specs.Streams.{CutShort}
-use Rattle.nat_page.specs.Making.{HasNoEntry}
+use Rattle.flash_model.specs.Operations.{is_listed}
 use Rattle.mem_guard.specs.FlatMachine.{End, Spent, Halted, Asleep, Run, original}
 use Rattle.kernel_entry.specs.Seen.{program}
 use Rattle.kernel_entry.specs.Texts.{stop_text}
 use Rattle.step_laws.specs.declared.moves.End.{End as MachineEnd}
 use Rattle.step_laws.specs.declared.moves.End.TheVariants as ends
-use Rattle.tk_run.specs.Machines.{Machine, flat_of}
-use Rattle.tk_run.specs.Ready.{IsReady, IsSound}
-use Rattle.tk_run.specs.Stepping.{lines_text}
+use Rattle.program_steps.specs.Machines.{Machine, flat_of}
+use Rattle.program_steps.specs.Ready.{IsReady, IsSound}
+use Rattle.program_steps.specs.Stepping.{lines_text, AreMadeAt}
 use Rattle.tk_run.specs.Running.{flat_end}
-use Rattle.tk_run.specs.WholeRuns.{Path, program_at}
+use Rattle.tk_run.specs.WholeRuns.{Path, program_at, StandsAt}
 use Rattle.tkernel_cli.specs.declared.request.Request.{Request}
 use Rattle.tkernel_cli.specs.declared.status.Status.{Status}
 use Rattle.tkernel_cli.specs.declared.status.Status.TheVariants as status
 use Rattle.tkernel_cli.specs.declared.top.Exit.{Exit}
-use Rattle.tkernel_cli.specs.Text.{full_text, count_text}
+use Rattle.tkernel_cli.specs.Text.{end_line, count_text}
 
 -- a stream at a moment: the bytes that it tells, and how often it failed
 pub record Stream : Type 0 where
@@ -36,10 +35,10 @@ Says own text before now told =
     ((told ≡ own) × Appends before.told now.told text)
     ⊎ ((told ≡ status.WriteFault) × Rose before.faults now.faults × CutShort before.told now.told text)
 
--- the original program's first n steps, with the request's events, where as many pages of the heap may be
+-- the original program's first n steps, with the script's events, where as many pages of the heap may be
 -- stored to as swap slots are asked for
 abbrev pub original_of : Request → ℕ → Run
-original_of request n = original (program_at request.image request.options.swap) request.script n
+original_of request n = original (program_at request.image request.options.swap) request.script.events n
 
 -- those up to the bound that was asked for
 abbrev pub whole_run : Request → Run
@@ -52,9 +51,9 @@ status_of_end (Halted pc) = status.Done
 status_of_end (Asleep pc) = status.Done
 status_of_end _ = status.Fault
 
--- the same of an end of the machine, which may also be that of the code pool
+-- the same of an end of the machine, which may also be a refused operation on flash
 abbrev pub status_of_stop : MachineEnd → Status
-status_of_stop (ends.CodeFull t) = status.CodeFull
+status_of_stop (ends.Flash op) = status.FlashFault
 status_of_stop end = status_of_end (flat_end end)
 
 -- the checkpoints of a run: every crossing that ends a quantum
@@ -65,17 +64,18 @@ checkpoints_of request r = r.state.crossings / request.options.quantum
 abbrev pub run_text : Run → (stop : List ℕ) → Machine → List ℕ
 run_text r stop m = lines_text r.lines ++ stop ++ count_text m.natural m.entries m.pages
 
--- the text of a run to the original's end, and of one that comes to a full pool at t after m's steps
+-- the text of a run to the original's end, and of one that flash ends after m's steps
 abbrev pub ended_text : Request → Machine → List ℕ
 ended_text request m = run_text (whole_run request) (stop_text (whole_run request).end (whole_run request).state.steps (checkpoints_of request (whole_run request))) m
 
-abbrev pub full_run_text : Request → ℕ → Machine → List ℕ
-full_run_text request t m = run_text (original_of request m.steps) (full_text t m.steps (checkpoints_of request (original_of request m.steps))) m
+abbrev pub failed_text : Request → (op : ℕ) → Machine → List ℕ
+failed_text request op m = run_text (original_of request m.steps) (end_line (ends.Flash op) m.steps (checkpoints_of request (original_of request m.steps))) m
 
 -- The machine stands where the original program stands after its first n steps: registers, memory,
 -- devices, and the counts of steps and crossings. It has the image, the slots and the quantum that were
--- asked for. Moves lead to it from boot, and write the original's lines; between two services there were at
--- most 5120 plain steps for each crossing of a quantum.
+-- asked for. Moves lead to it from boot, and write the original's lines; each page that they make is made at an
+-- address where the original program stands, and between two services there were at most 5120 plain steps for
+-- each crossing of a quantum.
 pub record Follows (request : Request) (n : ℕ) (m : Machine) : Type 0 where
   pub state : flat_of m ≡ (original_of request n).state
   pub program : program m.kernel ≡ program_at request.image request.options.swap
@@ -83,6 +83,7 @@ pub record Follows (request : Request) (n : ℕ) (m : Machine) : Type 0 where
   pub unbroken : m.broken ≡ false
   pub ready : IsReady m
   pub path : Path request.image request.script request.options.quantum request.options.swap (original_of request n).lines m
+  pub made : AreMadeAt (StandsAt request.image request.script request.options.swap m.steps) path.moves
   pub longest : m.longest ≤ 5120 * m.kernel.quantum
 
 -- the end that the machine keeps is the original's, and none where the bound of steps was reached
@@ -90,29 +91,27 @@ abbrev pub KeepsEnd : End → Machine → Type 0
 KeepsEnd Spent m = m.end ≡ None
 KeepsEnd end m = (kept : MachineEnd) × (m.end ≡ Some kept) × (flat_end kept ≡ end)
 
--- the run ended as the original program's first steps do
+-- The run ended as the original program's first steps do. No operation on flash that was tried is one that the
+-- script lists.
 pub record RunsToTheEnd (request : Request) (before now : Stream) (told : Status) (m : Machine) : Type 0 where
   pub said : Says (status_of_end (whole_run request).end) (ended_text request m) before now told
   pub end : KeepsEnd (whole_run request).end m
+  pub unlisted : (op : ℕ) → 1 ≤ op → op ≤ m.kernel.mote.flash.ops → is_listed request.script.failing op ≡ false
+  pub unrefused : m.kernel.mote.flash.refused ≡ None
   pub follows : Follows request request.options.steps m
 
--- up to the bound that was asked for, the original program stands at these addresses alone
-abbrev pub StaysIn : Request → List ℕ → Type 0
-StaysIn request addresses = (k : ℕ) → k ≤ request.options.steps → is_member nat_eq addresses (original_of request k).state.cpu.pc ≡ true
-
--- An arrival at t, an address of the image without an entry, found all pages of the pool used. This comes
--- only where the original program stands at more addresses than there are pages.
-pub record RunsOutOfPages (request : Request) (before now : Stream) (told : Status) (m : Machine) : Type 0 where
-  pub t : ℕ
-  pub said : Says status.CodeFull (full_run_text request t m) before now told
+-- With steps left, an operation on flash was refused: the first that was tried and that the script lists. Up to there
+-- the run is the original program's.
+pub record RunsIntoAFault (request : Request) (before now : Stream) (told : Status) (m : Machine) : Type 0 where
+  pub op : ℕ
+  pub said : Says status.FlashFault (failed_text request op m) before now told
   pub fewer : m.steps < request.options.steps
   pub spent : (original_of request m.steps).end ≡ Spent
-  pub at : (original_of request m.steps).state.cpu.pc ≡ t
-  pub end : m.end ≡ Some (ends.CodeFull t)
-  pub used : m.pages ≡ 352
-  pub inside : t < length request.image
-  pub unknown : HasNoEntry m.kernel.layout m.kernel.mote.flash.words t
-  pub many : (addresses : List ℕ) → length addresses ≤ 352 → ¬ StaysIn request addresses
+  pub end : m.end ≡ Some (ends.Flash op)
+  pub last : op ≡ m.kernel.mote.flash.ops
+  pub listed : is_listed request.script.failing op ≡ true
+  pub first : (earlier : ℕ) → 1 ≤ earlier → earlier < op → is_listed request.script.failing earlier ≡ false
+  pub refused : m.kernel.mote.flash.refused ≢ None
   pub follows : Follows request m.steps m
 
 -- the line of a step could not be put: what went out is cut short of the lines up to that step
@@ -124,10 +123,11 @@ pub record RunsUntilCut (request : Request) (before now : Stream) (told : Status
   pub within : m.steps ≤ request.options.steps
   pub sound : IsSound m
   pub path : Path request.image request.script request.options.quantum request.options.swap (original_of request m.steps).lines m
+  pub made : AreMadeAt (StandsAt request.image request.script request.options.swap m.steps) path.moves
 
 pub data Runs (request : Request) (before now : Stream) (told : Status) (m : Machine) : Type 0 where
   Ended : RunsToTheEnd request before now told m → Runs request before now told m
-  Full : RunsOutOfPages request before now told m → Runs request before now told m
+  Failed : RunsIntoAFault request before now told m → Runs request before now told m
   Cut : RunsUntilCut request before now told m → Runs request before now told m
 
 -- the machine of the run is kept

@@ -1,7 +1,7 @@
 -- The numbers of the exit statuses.
 use Rattle.std.specs.Prelude.{ℕ}
 use Rattle.tkernel_cli.specs.declared.status.Status.{Status}
-use Rattle.tkernel_cli.specs.declared.status.Status.TheVariants.{Done, Spent, Fault, BadInput, Usage, ReadFault, WriteFault, CodeFull, NoMemory, FlashFault}
+use Rattle.tkernel_cli.specs.declared.status.Status.TheVariants.{Done, Spent, Fault, BadInput, Usage, ReadFault, WriteFault, NoMemory, FlashFault}
 
 abbrev pub number_of : Status → ℕ
 number_of Done = 0
@@ -11,6 +11,5 @@ number_of BadInput = 3
 number_of Usage = 4
 number_of ReadFault = 5
 number_of WriteFault = 6
-number_of CodeFull = 7
 number_of NoMemory = 8
 number_of FlashFault = 9

@@ -1,18 +1,13 @@
 -- The last two lines of a run: the stop line and the count line (docs/FORMATS.md, "What is printed").
 use Rattle.std.specs.Prelude.{ℕ, List, ◌++◌, codes, decimal}
-use Rattle.kernel_entry.specs.Texts.{address_text, end_text}
+use Rattle.kernel_entry.specs.Texts.{end_text}
 use Rattle.step_laws.specs.declared.moves.End.{End}
 use Rattle.step_laws.specs.declared.moves.End.TheVariants as ends
 use Rattle.tk_run.specs.Running.{flat_end}
 
--- the stop line where the arrival at t found no page of the pool left
-unfoldable pub full_text : (t steps checkpoints : ℕ) → List ℕ
-full_text t steps checkpoints =
-    codes "code full " ++ address_text t ++ codes " steps " ++ decimal steps ++ codes " checkpoints " ++ decimal checkpoints ++ codes "\n"
-
 -- how the machine's run ended
 abbrev pub how_text : End → List ℕ
-how_text (ends.CodeFull t) = codes "code full " ++ address_text t
+how_text (ends.Flash op) = codes "flash fault " ++ decimal op
 how_text end = end_text (flat_end end)
 
 -- the stop line of an end of the machine

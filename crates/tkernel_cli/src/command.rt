@@ -1,8 +1,10 @@
-//! The commands.
-ghost use Rattle.std.specs.Prelude.{◌≡◌, ℕ, ◌∷◌, [], map, string_bytes, codes, MatchOption, IsTrue, ◌↔◌};
-ghost use Rattle.tkernel_cli.specs.Commands.{IsCommand, IsGenerate, IsNoCommand, IsSeed};
+//! What a command line asks for.
+ghost use Rattle.std.specs.Prelude.{◌≡◌, ℕ, List, map, string_bytes, MatchOption, IfSome};
+ghost use Rattle.tkernel_cli.specs.Commands.{IsCommand, IsNoCommand, IsPossible, command_name, numbers_of};
+ghost use Rattle.tkernel_cli.specs.Options.{AreValues, rows_of};
 
-use crate::options::{RunOptions, number_in, options_of};
+use crate::options::{Chosen, chosen_in};
+use crate::table::{CommandName, Parameter};
 
 /// What a command line asks for.
 #[derive(Clone, Copy, Debug, PartialEq, Eq)]
@@ -13,60 +15,52 @@ pub enum Command {
     Run(RunOptions),
     /// A run of the test program of this seed.
     Generate(u32),
+    /// The HEX text of the source that the input tells.
+    Asm,
+}
+
+/// How a program is run.
+#[derive(Clone, Copy, Debug, PartialEq, Eq)]
+pub struct RunOptions {
+    /// The bound of steps, 0 to 1,000,000,000.
+    pub steps: u64,
+    /// Crossings of a quantum, 1 to 255.
+    pub quantum: u8,
+    /// Slots of the swap area, 0 to 251.
+    pub swap: u8,
 }
 
 /// The command that the words of a command line are; None where they are none.
 pub fn command_of(words: &[String]) -> Option<Command>
     ensures cases { MatchOption result (IsNoCommand (map string_bytes words.now)) (IsCommand (map string_bytes words.now)) }
+    ensures possible { IfSome result IsPossible }
 {
-    if are_help(words) {
-        return Some(Command::Help);
+    let [word, rest @ ..] = words else {
+        return None;
+    };
+    let name = CommandName::of(word.as_str())?;
+    let chosen = chosen_in(name, rest)?;
+    command_with(name, chosen)
+}
+
+/// The command of this name with these numbers.
+fn command_with(name: CommandName, chosen: Chosen) -> Option<Command>
+    ensures cases { MatchOption result
+        ((values : List ℕ) → ¬ AreValues (rows_of name) chosen.values values)
+        (λ command. (command_name command ≡ name) × AreValues (rows_of name) chosen.values (numbers_of command)) }
+    ensures possible { IfSome result IsPossible }
+{
+    match name {
+        CommandName::Help => Some(Command::Help),
+        CommandName::Run => Some(Command::Run(RunOptions {
+            steps: chosen.value(CommandName::Run, Parameter::Steps)?,
+            quantum: chosen.value(CommandName::Run, Parameter::Quantum)? as u8,
+            swap: chosen.value(CommandName::Run, Parameter::Swap)? as u8,
+        })),
+        CommandName::Generate => {
+            let seed = chosen.value(CommandName::Generate, Parameter::Seed)?;
+            Some(Command::Generate(seed as u32))
+        }
+        CommandName::Asm => Some(Command::Asm),
     }
-    if let Some(seed) = seed_of(words) {
-        return Some(Command::Generate(seed));
-    }
-    let options = options_of(words)?;
-    Some(Command::Run(options))
-}
-
-/// Whether the words are `help` alone.
-fn are_help(words: &[String]) -> bool
-    ensures help { IsTrue result ↔ (map string_bytes words.now ≡ codes "help" ∷ []) }
-{
-    match words {
-        [word] if is_help(word.as_str()) => true,
-        _ => false,
-    }
-}
-
-/// Whether a word is the command `help`.
-fn is_help(word: &str) -> bool
-    ensures help { IsTrue result ↔ (word.now ≡ codes "help") }
-{
-    word == "help"
-}
-
-/// The seed that the words of `generate` name.
-fn seed_of(words: &[String]) -> Option<u32>
-    ensures cases { MatchOption result ((seed : ℕ) → ¬ IsGenerate (map string_bytes words.now) seed) (IsGenerate (map string_bytes words.now)) }
-{
-    match words {
-        [command, digits] if is_generate(command.as_str()) => seed_in(digits.as_str()),
-        _ => None,
-    }
-}
-
-/// Whether a word is the command `generate`.
-fn is_generate(word: &str) -> bool
-    ensures generate { IsTrue result ↔ (word.now ≡ codes "generate") }
-{
-    word == "generate"
-}
-
-/// The seed that digits write.
-fn seed_in(digits: &str) -> Option<u32>
-    ensures cases { MatchOption result ((seed : ℕ) → ¬ IsSeed digits.now seed) (IsSeed digits.now) }
-{
-    let number = number_in(digits)?;
-    u32::try_from(number).ok()
 }

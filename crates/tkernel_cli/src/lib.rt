@@ -1,9 +1,9 @@
 //! The command line of tkernel as a library: words and an input in, lines and a status out.
 //!
 //! [`tkernel`] is the whole program but for the process around it. It judges the words, which are one of
-//! three commands: `run` reads and judges a program, runs it, and prints its lines; `generate SEED` does so
-//! with the test program of crate `program_generator`, and reads nothing; `help` prints the usage line. The
-//! run is made by crate `tk_run`, in rewritten code; what is printed is what the original program would do.
+//! four commands: `run` reads and judges a program, runs it, and prints its lines; `generate SEED` does so
+//! with the test program of crate `program_generator`, and reads nothing; `asm` reads a source, and prints the HEX text
+//! of its image (crate `avr_asm`); `help` prints the usage line. The run is made by crate `tk_run`, in rewritten code; what is printed is what the original program would do.
 //!
 //! ```rust
 //! let mut input = MemSource::new(b":060000000FE00BBBFFCF77\n:00000001FF\n".to_vec(alloc)?);
@@ -15,16 +15,22 @@
 //! ```
 #![tactic(auto)]
 
+mod asm_command;
 mod command;
+mod generate_command;
+mod job;
 mod options;
-mod reply;
+mod output;
+mod printed;
+mod reading;
 mod request;
+mod run_command;
 mod running;
 mod status;
+mod table;
 mod text;
 mod top;
 
-pub use command::{Command, command_of};
-pub use options::{RunOptions, options_of};
+pub use command::{Command, RunOptions, command_of};
 pub use status::Status;
 pub use top::{Exit, tkernel};

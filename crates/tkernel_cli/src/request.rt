@@ -1,17 +1,10 @@
-//! What is asked for.
+//! What is run.
 
-use crate::options::RunOptions;
+use crate::command::RunOptions;
 use hex_image::Image;
 use input_script::Script;
 
-/// What an input gives: a program, and the inputs of its devices.
-#[derive(Drop)]
-pub(crate) struct Input {
-    pub image: Image,
-    pub script: Script,
-}
-
-/// A program that is to be run, with its inputs, and how.
+/// A program that is to be run, with the inputs of its devices, and how.
 #[derive(Drop)]
 pub(crate) struct Request {
     pub image: Image,

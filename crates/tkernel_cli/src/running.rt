@@ -1,15 +1,17 @@
 //! A whole run, and its printed lines.
-ghost use Rattle.std.specs.Prelude.{◌≡◌, ◌≤◌, ◌++◌, ◌/◌, ◌^◌};
+ghost use Rattle.std.specs.Prelude.{◌≡◌, ◌⊎◌, ◌≤◌, ◌++◌, ◌/◌, ◌^◌};
 ghost use Rattle.tk_io.specs.Faults.{HasCause};
 ghost use Rattle.tk_io.specs.Streams.{Puts};
-ghost use Rattle.tkernel_cli.specs.Answer.{Ran};
-ghost use Rattle.tkernel_cli.specs.Runs.{stream, Says, status_of_stop};
+ghost use Rattle.tkernel_cli.specs.Answer.{Does};
+ghost use Rattle.tkernel_cli.specs.Printed.{no_memory};
+ghost use Rattle.tkernel_cli.specs.Runs.{stream, HasRun, Says, status_of_stop};
 ghost use Rattle.tkernel_cli.specs.Text.{count_text, end_line};
 
-use crate::reply::{Reply, tell};
+use crate::job::tell;
+use crate::printed::NO_MEMORY;
 use crate::request::Request;
 use crate::status::Status;
-use crate::text::{counts, stop_line};
+use crate::text::{counts, stop_line, whole};
 use crate::top::Exit;
 use kernel_entry::Stop;
 use std::alloc::Global;
@@ -21,9 +23,8 @@ pub(crate) fn run_request<K: Sink>(alloc: Global, request: Request, out: &mut K)
     requires quantum { 1 ≤ request.options.quantum }
     requires swap { request.options.swap ≤ 251 }
     requires steps { request.options.steps ≤ 10 ^ 9 }
-    ensures ran { Ran request
-        (stream K.taken K.faults out.old) (stream K.taken K.faults out.new)
-        result }
+    ensures done { HasRun request (stream K.taken K.faults out.old) (stream K.taken K.faults out.new) result
+        ⊎ Does no_memory (stream K.taken K.faults out.old) (stream K.taken K.faults out.new) result }
 {
     let Request {
         image,
@@ -36,7 +37,7 @@ pub(crate) fn run_request<K: Sink>(alloc: Global, request: Request, out: &mut K)
     };
     let mut machine = match Machine::boot(alloc, &image, script, asked) {
         Ok(machine) => machine,
-        Err(_) => return tell(Reply::NoMemory, out),
+        Err(_) => return tell(Status::NoMemory, &whole(NO_MEMORY), out),
     };
     let status = match machine.advance(options.steps, out) {
         Ok(end) => tell_end(&machine, end, out),
@@ -88,6 +89,6 @@ fn status_of(end: End) -> Status
         End::Spent => Status::Spent,
         End::Stopped(Stop::Halted(_) | Stop::Asleep(_)) => Status::Done,
         End::Stopped(_) | End::Wild(_) => Status::Fault,
-        End::CodeFull(_) => Status::CodeFull,
+        End::Flash(_) => Status::FlashFault,
     }
 }

@@ -19,11 +19,9 @@ pub enum Status {
     ReadFault,
     /// The output could not be written.
     WriteFault,
-    /// The code pool is used up.
-    CodeFull,
     /// Memory was wanted and not found.
     NoMemory,
-    /// Flash failed.
+    /// An operation on flash was refused.
     FlashFault,
 }
 
@@ -40,7 +38,6 @@ impl Status {
             Status::Usage => 4,
             Status::ReadFault => 5,
             Status::WriteFault => 6,
-            Status::CodeFull => 7,
             Status::NoMemory => 8,
             Status::FlashFault => 9,
         }

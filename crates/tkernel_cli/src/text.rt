@@ -1,7 +1,7 @@
 //! The printed lines of a run.
 ghost use Rattle.std.specs.Prelude.{◌≡◌, ◌+◌, ◌≤◌, ◌++◌, codes, decimal, length};
 ghost use Rattle.arrayvec.specs.ArrayVec.{array_vec_len};
-ghost use Rattle.tkernel_cli.specs.Answer.{bad_line_text};
+ghost use Rattle.tkernel_cli.specs.Printed.{bad_line_text};
 ghost use Rattle.kernel_entry.specs.Texts.{address_text};
 ghost use Rattle.tkernel_cli.specs.Text.{end_line, how_text, count_text};
 
@@ -20,7 +20,7 @@ pub(crate) fn whole(line: &[u8]) -> Text
 }
 
 /// The line that names a faulty line of the input, and its fault.
-#[tactic(auto, unfolding(crate::specs::Answer::bad_line_text))]
+#[tactic(auto, unfolding(crate::specs::Printed::bad_line_text))]
 pub(crate) fn bad_line(part: &[u8], line: u32, word: &[u8]) -> Text
     requires part { length part.now ≤ 40 }
     requires word { length word.now ≤ 40 }
@@ -52,12 +52,12 @@ pub(crate) fn stop_line(end: End, steps: u64, checkpoints: u64) -> Text
 /// How the run ended.
 fn how(end: End) -> Text
     ensures text { result.items ≡ how_text end }
-    ensures short { array_vec_len result ≤ 50 }
+    ensures short { array_vec_len result ≤ 52 }
 {
     match end {
         End::Spent => whole(b"spent"),
         End::Wild(at) => at_address(b"fault wild ", at),
-        End::CodeFull(at) => at_address(b"code full ", at),
+        End::Flash(op) => with_number(b"flash fault ", op),
         End::Stopped(Stop::Halted(at)) => at_address(b"halted ", at),
         End::Stopped(Stop::Asleep(at)) => at_address(b"asleep ", at),
         End::Stopped(Stop::Illegal(at)) => at_address(b"fault illegal ", at),
@@ -66,6 +66,18 @@ fn how(end: End) -> Text
         End::Stopped(Stop::Stack(at, address)) => with_address(b"fault stack ", at, address),
         End::Stopped(Stop::SwapFull(at, address)) => with_address(b"fault swap ", at, address),
     }
+}
+
+/// A word for an end, and the number of it.
+fn with_number(word: &[u8], number: u64) -> Text
+    requires word { length word.now ≤ 20 }
+    ensures text { result.items ≡ word.now ++ decimal number }
+    ensures short { array_vec_len result ≤ length word.now + 40 }
+{
+    let mut text = Text::new();
+    push(&mut text, word);
+    push_number(&mut text, number);
+    text
 }
 
 /// A word for an end, and the original address of it.

@@ -3,7 +3,7 @@ use crate::support::{behind_run, words_of};
 use clap::{Arg, ArgAction};
 use std::alloc::Global;
 use std::test::Fail;
-use tkernel_cli::{Command, RunOptions, command_of, options_of};
+use tkernel_cli::{Command, RunOptions, command_of};
 
 /// What `run` is told by itself.
 const DEFAULTS: RunOptions = RunOptions {
@@ -179,23 +179,8 @@ const REFUSED: [&[&str]; 41] = [
     &["run", "--steps", "--swap", "1"],
 ];
 
-fn options(alloc: Global, words: &[&str]) -> Result<Option<RunOptions>, Fail> {
-    Ok(options_of(&words_of(alloc, words)?))
-}
-
 fn command(alloc: Global, words: &[&str]) -> Result<Option<Command>, Fail> {
     Ok(command_of(&words_of(alloc, words)?))
-}
-
-#[test]
-fn accepted_words_ask_for_their_options(rt: HostRuntime) -> Result<(), Fail> {
-    for (words, wanted) in &ACCEPTED {
-        assert_eq!(rt;
-            options(rt.alloc(), &behind_run(rt.alloc(), words)?)?,
-            Some(*wanted)
-        );
-    }
-    Ok(())
 }
 
 #[test]
@@ -209,7 +194,6 @@ fn accepted_words_are_their_command(rt: HostRuntime) -> Result<(), Fail> {
     }
     for (words, wanted) in &OTHER_COMMANDS {
         assert_eq!(rt; command(rt.alloc(), words)?, Some(*wanted));
-        assert_eq!(rt; options(rt.alloc(), words)?, None);
     }
     Ok(())
 }
@@ -217,7 +201,6 @@ fn accepted_words_are_their_command(rt: HostRuntime) -> Result<(), Fail> {
 #[test]
 fn other_words_are_refused(rt: HostRuntime) -> Result<(), Fail> {
     for words in &REFUSED {
-        assert_eq!(rt; options(rt.alloc(), words)?, None);
         assert_eq!(rt; command(rt.alloc(), words)?, None);
     }
     Ok(())

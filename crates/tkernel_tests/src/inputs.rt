@@ -4,7 +4,7 @@ use std::test::Fail;
 use tkernel_cli::Status;
 
 /// The HEX text and the script lines, if any, and the line that is printed.
-const BROKEN: [(&[u8], &[u8]); 16] = [
+const BROKEN: [(&[u8], &[u8]); 18] = [
     (b"", b"bad hex line 1 end\n"),
     (b"\r", b"bad hex line 2 end\n"),
     (b";", b"bad hex line 1 start\n"),
@@ -17,7 +17,8 @@ const BROKEN: [(&[u8], &[u8]); 16] = [
         b":060000000FE00BBBFFCF77\n:060000000FE00BBBFFCF77\n",
         b"bad hex line 2 twice\n",
     ),
-    (b":01800000007F\n", b"bad hex line 1 size\n"),
+    (b":01800000007F", b"bad hex line 2 end\n"),
+    (b":01C00000003F\n", b"bad hex line 1 size\n"),
     (b":02FFFF00000000\n", b"bad hex line 1 wrap\n"),
     (b":00000006FA\n", b"bad hex line 1 kind\n"),
     (b":0100000100FE\n", b"bad hex line 1 kind\n"),
@@ -44,6 +45,10 @@ const BROKEN: [(&[u8], &[u8]); 16] = [
     (
         b":060000000FE00BBBFFCF77\n:00000001FF\nat 1 pine 0x00\n",
         b"bad script line 1 form\n",
+    ),
+    (
+        b":060000000FE00BBBFFCF77\n:00000001FF\nfail flash 0\n",
+        b"bad script line 1 range\n",
     ),
 ];
 

@@ -4,11 +4,15 @@
 #[cfg(test)]
 mod command_line;
 #[cfg(test)]
+mod failing_flash;
+#[cfg(test)]
 mod first_program;
 #[cfg(test)]
 mod generated_program;
 #[cfg(test)]
 mod inputs;
+#[cfg(test)]
+mod pages_used_again;
 #[cfg(test)]
 mod programs;
 #[cfg(test)]

@@ -121,23 +121,3 @@ fn each_prints_its_lines(rt: HostRuntime) -> Result<(), Fail> {
     }
     Ok(())
 }
-
-/// 400 jumps to the next word, and one to itself: each address has a page of its own.
-#[test]
-fn a_pool_of_352_pages_is_used_up(rt: HostRuntime) -> Result<(), Fail> {
-    let mut jumps = [0xC000; 401];
-    jumps[400] = 0xCFFF;
-    let (ended, out) = run_image(rt.alloc(), &jumps, &[], b"")?;
-    assert_eq!(rt; ended.status, Status::CodeFull);
-    assert_eq!(rt;
-        out.taken(),
-        b"code full 0x0160 steps 352 checkpoints 0\nnatural 372 entries 352 pages 352\n".as_slice()
-    );
-    let (ended, out) = run_image(rt.alloc(), &jumps, &["--steps", "352"], b"")?;
-    assert_eq!(rt; ended.status, Status::Spent);
-    assert_eq!(rt;
-        out.taken(),
-        b"spent steps 352 checkpoints 0\nnatural 372 entries 352 pages 352\n".as_slice()
-    );
-    Ok(())
-}

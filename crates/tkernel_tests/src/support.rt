@@ -34,6 +34,8 @@ pub(crate) struct Kept {
     pub pool: [u16; 11],
     pub natural: u64,
     pub entries: u64,
+    /// The page that a refused operation on flash left torn.
+    pub torn: Option<u16>,
 }
 
 /// How a call ended.
@@ -69,6 +71,10 @@ fn looked_at(machine: &Machine) -> Kept {
         pool,
         natural: machine.natural,
         entries: machine.entries,
+        torn: match &machine.torn {
+            Some(torn) => Some(torn.page),
+            None => None,
+        },
     }
 }
 
@@ -144,7 +150,7 @@ pub(crate) fn behind_run<'a>(alloc: Global, words: &[&'a str]) -> Result<Vec<&'a
 
 /// The HEX text of an image's words, and a script behind it.
 pub(crate) fn input_of(alloc: Global, image: &[u16], script: &[u8]) -> Result<Vec<u8>, Fail> {
-    if image.len() > 16_384 {
+    if image.len() > 24_576 {
         return Err("too many words".into());
     }
     let image = Image::from_words(alloc, image)?;

@@ -1,25 +1,178 @@
-use Rattle.std.proofs.Common.{None, Ok, refl}
-use Rattle.branch_bridge.specs.Effects.{Store}
-use Rattle.branch_bridge.proofs.AnswerLaws.{arrival_entered}
-use Rattle.branch_bridge.proofs.ReachLaws.{reach_exact, reach_full}
+use Rattle.std.proofs.Common.{◌≡◌, ℕ, ◌+◌, ◌≤◌, min, List, None, false, arith, refl, sym, ap, ◌∙◌, subst}
+use Rattle.flash_model.specs.Layouts.{image_of}
+use Rattle.nat_page.specs.Making.{IsLowestFree}
+use Rattle.nat_page.proofs.FaithfulLaws.{faithful_mapped}
+use Rattle.nat_page.specs.Used.{used_pages}
+use Rattle.nat_page.proofs.UsedLaws.{used_pages-most, all_used}
+use Rattle.branch_bridge.specs.Operating.{with_torn}
+use Rattle.addr_tables.specs.Changes.{Finds}
+use Rattle.addr_tables.proofs.FindLaws.{HasNone, found_none, found_right, found_noted}
+use Rattle.addr_tables.specs.Changes.{noted}
+use Rattle.addr_tables.proofs.NoteLaws.{rest_noted}
+use Rattle.branch_bridge.proofs.MakeLaws.{ring_kept}
+use Rattle.branch_bridge.specs.Arrivals.{Store, Makes, Recycles, Found, Free, Full, ring_of, torn_in, made_in, one_if}
+use Rattle.branch_bridge.proofs.ArrivalLaws.{tried_made, tried_recycled}
+use Rattle.branch_bridge.specs.Arrivals.{KeepsOtherBytes}
+use Rattle.branch_bridge.proofs.RestLaws.{others_same, others_rest}
 use Rattle.branch_bridge.proofs.arrival.arrive.Goals as goal
 
-pub returns-in-Ok-clause-exact : goal.returns-in-Ok-clause-exact
-returns-in-Ok-clause-exact c = λ tables.
-    let old : Store = record { flash = c.args.flash.now; sram = c.args.sram.now } in
-    let new : Store = record { flash = c.reach.new.flash; sram = c.reach.new.sram } in
-    record { told = _; arrives = reach_exact c.args.layout.now old new c.args.t _ tables c.in-Ok.ensures.reaches; answer = refl }
+fits : (a n : ℕ) → a ≤ n → a ≡ min a n
+fits a n below = omega arith
 
-pub returns-in-Ok-clause-entered : goal.returns-in-Ok-clause-entered
-returns-in-Ok-clause-entered c = λ tables.
+at_most : (a n : ℕ) → a ≤ n → a ≡ min (a + 0) n
+at_most a n below = omega arith
+
+at_least : (a b n : ℕ) → a ≡ n → n ≡ min (a + b) n
+at_least a b n is = omega arith
+
+pub find-requires-clause-mapped : goal.find-requires-clause-mapped
+find-requires-clause-mapped c =
     let layout = c.args.layout.now in
+    let words = c.args.flash.now.words in
     let old : Store = record { flash = c.args.flash.now; sram = c.args.sram.now } in
-    let new : Store = record { flash = c.reach.new.flash; sram = c.reach.new.sram } in
-    arrival_entered layout old new c.args.t None (Ok c.in-Ok.moved) c.requires.right c.requires.faithful.code tt (reach_exact layout old new c.args.t (Ok c.in-Ok.moved) tables c.in-Ok.ensures.reaches)
+    λ missed. faithful_mapped layout (image_of layout words) words c.requires.right c.requires.code
 
-pub returns-in-Ok-clause-full : goal.returns-in-Ok-clause-full
-returns-in-Ok-clause-full c =
+pub returns-in-Some-clause-arrives : goal.returns-in-Some-clause-arrives
+returns-in-Some-clause-arrives c =
+    let layout = c.args.layout.now in
+    let words = c.args.flash.now.words in
     let old : Store = record { flash = c.args.flash.now; sram = c.args.sram.now } in
-    let new : Store = record { flash = c.reach.new.flash; sram = c.reach.new.sram } in
-    let full = reach_full c.args.layout.now old new c.args.t (Ok c.in-Ok.moved) c.in-Ok.ensures.reaches in
-    (λ told. absurd (cc), λ room. absurd (let is = full.1 room in cc))
+    Found c.in-Some.place (omega arith) c.in-Some.ensures.finds refl refl
+
+pub returns-in-Some-clause-kept : goal.returns-in-Some-clause-kept
+returns-in-Some-clause-kept c =
+    let layout = c.args.layout.now in
+    let words = c.args.flash.now.words in
+    let old : Store = record { flash = c.args.flash.now; sram = c.args.sram.now } in
+    record {
+      code = c.requires.code;
+      same_image = refl;
+      tables = λ tables. c.find.ensures.tables tables;
+      entered = λ tables. (found_right layout words c.args.sram.now c.find.new.sram c.args.t c.in-Some.place c.in-Some.ensures.finds tables).0;
+      ops = omega arith;
+      ring = λ below. (let same = ap ring_of (found_noted layout words c.args.sram.now c.find.new.sram c.args.t c.in-Some.place c.in-Some.ensures.finds) in let kept = ring_kept c.args.sram.now (noted c.args.sram.now c.args.t c.in-Some.place) (rest_noted c.args.sram.now c.args.t c.in-Some.place) in omega (arith, same, kept));
+      stubs = λ s to apart stub. stub;
+    }
+
+pub free_page-requires-clause-mapped : goal.free_page-requires-clause-mapped
+free_page-requires-clause-mapped c =
+    let layout = c.args.layout.now in
+    let words = c.args.flash.now.words in
+    let old : Store = record { flash = c.args.flash.now; sram = c.args.sram.now } in
+    faithful_mapped layout (image_of layout words) words c.requires.right c.requires.code
+
+pub make_page-requires-clause-unknown : goal.make_page-requires-clause-unknown
+make_page-requires-clause-unknown c =
+    let layout = c.args.layout.now in
+    let words = c.args.flash.now.words in
+    let old : Store = record { flash = c.args.flash.now; sram = c.args.sram.now } in
+    let none : HasNone layout words c.args.sram.now c.find.new.sram c.args.t = found_none layout words c.args.sram.now c.find.new.sram c.args.t c.find.result c.in_default.is c.find.ensures.finds in
+    none.unknown
+
+pub recycle-requires-clause-unknown : goal.recycle-requires-clause-unknown
+recycle-requires-clause-unknown c =
+    let layout = c.args.layout.now in
+    let words = c.args.flash.now.words in
+    let old : Store = record { flash = c.args.flash.now; sram = c.args.sram.now } in
+    let none : HasNone layout words c.args.sram.now c.find.new.sram c.args.t = found_none layout words c.args.sram.now c.find.new.sram c.args.t c.find.result c.in_default.is c.find.ensures.finds in
+    none.unknown
+
+pub returns-in-Some-free_page-clause-arrives : goal.returns-in-Some-free_page-clause-arrives
+returns-in-Some-free_page-clause-arrives c =
+    let layout = c.args.layout.now in
+    let words = c.args.flash.now.words in
+    let old : Store = record { flash = c.args.flash.now; sram = c.args.sram.now } in
+    let none : HasNone layout words c.args.sram.now c.find.new.sram c.args.t = found_none layout words c.args.sram.now c.find.new.sram c.args.t c.find.result c.in_default.is c.find.ensures.finds in
+    let store : List ℕ → Store = λ m. record { flash = c.args.flash.now; sram = m } in
+    let finds : Finds layout words c.args.sram.now c.args.sram.now c.args.t None = subst (λ r. Finds layout words c.args.sram.now c.args.sram.now c.args.t r) c.in_default.is (subst (λ m. Finds layout words c.args.sram.now m c.args.t c.find.result) none.left c.find.ensures.finds) in
+    let new : Store = record { flash = c.make_page.new.flash; sram = c.make_page.new.sram } in
+    let page = c.in-Some-free_page.page in
+    let lowest : IsLowestFree layout words page = record { pool = c.in-Some-free_page.ensures.free.0; free = c.in-Some-free_page.ensures.free.1; lowest = c.in-Some-free_page.ensures.lowest } in
+    Free page (omega arith) finds lowest (subst (λ m. Makes layout (store m) new page c.args.t false c.make_page.result) none.left c.make_page.ensures.makes)
+
+pub returns-in-None-clause-arrives : goal.returns-in-None-clause-arrives
+returns-in-None-clause-arrives c =
+    let layout = c.args.layout.now in
+    let words = c.args.flash.now.words in
+    let old : Store = record { flash = c.args.flash.now; sram = c.args.sram.now } in
+    let none : HasNone layout words c.args.sram.now c.find.new.sram c.args.t = found_none layout words c.args.sram.now c.find.new.sram c.args.t c.find.result c.in_default.is c.find.ensures.finds in
+    let store : List ℕ → Store = λ m. record { flash = c.args.flash.now; sram = m } in
+    let finds : Finds layout words c.args.sram.now c.args.sram.now c.args.t None = subst (λ r. Finds layout words c.args.sram.now c.args.sram.now c.args.t r) c.in_default.is (subst (λ m. Finds layout words c.args.sram.now m c.args.t c.find.result) none.left c.find.ensures.finds) in
+    let new : Store = record { flash = c.recycle.new.flash; sram = c.recycle.new.sram } in
+    Full (omega arith) finds c.in-None.ensures.none (subst (λ m. Recycles layout (store m) new (layout.pool_first + ring_of m) c.args.t c.recycle.result) none.left c.recycle.ensures.recycles)
+
+pub returns-then-t-layout-clause-used : goal.returns-then-t-layout-clause-used
+returns-then-t-layout-clause-used c =
+    let layout = c.args.layout.now in
+    let words = c.args.flash.now.words in
+    let old : Store = record { flash = c.args.flash.now; sram = c.args.sram.now } in
+    let most = used_pages-most layout words in
+    at_most (used_pages layout words) layout.pool_pages most
+
+pub returns-in-Some-clause-used : goal.returns-in-Some-clause-used
+returns-in-Some-clause-used c =
+    let layout = c.args.layout.now in
+    let words = c.args.flash.now.words in
+    let old : Store = record { flash = c.args.flash.now; sram = c.args.sram.now } in
+    let most = used_pages-most layout words in
+    at_most (used_pages layout words) layout.pool_pages most
+
+pub returns-in-Some-free_page-clause-used : goal.returns-in-Some-free_page-clause-used
+returns-in-Some-free_page-clause-used c =
+    let layout = c.args.layout.now in
+    let words = c.args.flash.now.words in
+    let old : Store = record { flash = c.args.flash.now; sram = c.args.sram.now } in
+    let new = with_torn c.make_page.new.flash.words (torn_in c.make_page.result) in
+    let one = one_if (made_in c.make_page.result) in
+    let is : used_pages layout new ≡ used_pages layout words + one = c.make_page.ensures.used in
+    let most = used_pages-most layout new in
+    is ∙ fits (used_pages layout words + one) layout.pool_pages (omega (arith, is, most))
+
+pub returns-in-None-clause-used : goal.returns-in-None-clause-used
+returns-in-None-clause-used c =
+    let layout = c.args.layout.now in
+    let words = c.args.flash.now.words in
+    let old : Store = record { flash = c.args.flash.now; sram = c.args.sram.now } in
+    let all : used_pages layout words ≡ layout.pool_pages = all_used layout words (faithful_mapped layout (image_of layout words) words c.requires.right c.requires.code) c.in-None.ensures.none in
+    c.recycle.ensures.used ∙ at_least (used_pages layout words) (one_if (made_in c.recycle.result)) layout.pool_pages all
+
+pub returns-in-Some-free_page-clause-tried : goal.returns-in-Some-free_page-clause-tried
+returns-in-Some-free_page-clause-tried c =
+    let layout = c.args.layout.now in
+    let old : Store = record { flash = c.args.flash.now; sram = c.find.new.sram } in
+    let new : Store = record { flash = c.make_page.new.flash; sram = c.make_page.new.sram } in
+    let free = c.in-Some-free_page.ensures.free in
+    tried_made layout old new c.in-Some-free_page.page c.args.t false c.make_page.result c.requires.right c.requires.code.whole free.0 free.1 c.make_page.ensures.makes
+
+pub returns-in-None-clause-tried : goal.returns-in-None-clause-tried
+returns-in-None-clause-tried c =
+    let layout = c.args.layout.now in
+    let words = c.args.flash.now.words in
+    let none : HasNone layout words c.args.sram.now c.find.new.sram c.args.t = found_none layout words c.args.sram.now c.find.new.sram c.args.t c.find.result c.in_default.is c.find.ensures.finds in
+    let old : Store = record { flash = c.args.flash.now; sram = c.find.new.sram } in
+    let new : Store = record { flash = c.recycle.new.flash; sram = c.recycle.new.sram } in
+    let same = ap ring_of none.left in
+    tried_recycled layout old new (layout.pool_first + ring_of c.find.new.sram) c.args.t c.recycle.result c.requires.right c.requires.code.whole (record { from = omega arith; to = omega (arith, c.requires.ring, same) }) c.recycle.ensures.recycles
+
+pub returns-then-t-layout-clause-rest : goal.returns-then-t-layout-clause-rest
+returns-then-t-layout-clause-rest c = others_same c.args.sram.now
+
+pub returns-in-Some-clause-rest : goal.returns-in-Some-clause-rest
+returns-in-Some-clause-rest c =
+    let sram = c.args.sram.now in
+    let place = c.in-Some.place in
+    subst (λ m. KeepsOtherBytes sram m) (sym (found_noted c.args.layout.now c.args.flash.now.words sram c.find.new.sram c.args.t place c.in-Some.ensures.finds)) (others_rest sram (noted sram c.args.t place) (rest_noted sram c.args.t place))
+
+pub returns-in-Some-free_page-clause-rest : goal.returns-in-Some-free_page-clause-rest
+returns-in-Some-free_page-clause-rest c =
+    let layout = c.args.layout.now in
+    let words = c.args.flash.now.words in
+    let none : HasNone layout words c.args.sram.now c.find.new.sram c.args.t = found_none layout words c.args.sram.now c.find.new.sram c.args.t c.find.result c.in_default.is c.find.ensures.finds in
+    subst (λ m. KeepsOtherBytes m c.make_page.new.sram) none.left c.make_page.ensures.rest
+
+pub returns-in-None-clause-rest : goal.returns-in-None-clause-rest
+returns-in-None-clause-rest c =
+    let layout = c.args.layout.now in
+    let words = c.args.flash.now.words in
+    let none : HasNone layout words c.args.sram.now c.find.new.sram c.args.t = found_none layout words c.args.sram.now c.find.new.sram c.args.t c.find.result c.in_default.is c.find.ensures.finds in
+    subst (λ m. KeepsOtherBytes m c.recycle.new.sram) none.left c.recycle.ensures.rest

@@ -10,7 +10,7 @@ words_of-requires c = rw c.as_slice.ensures.value (slots_few _ _ _ c.in_ok-slots
 pub new-requires : goal.new-requires
 new-requires c =
     let slots = c.as_slice.result.now in
-    let few : length slots ≤ 32768 = rw c.as_slice.ensures.value (slots_few _ _ _ c.in_ok-slots.ensures.answer) in
+    let few : length slots ≤ 49152 = rw c.as_slice.ensures.value (slots_few _ _ _ c.in_ok-slots.ensures.answer) in
     record {
       few = omega (arith, ap length c.in-Ok.ensures.words, length-map-range_with_len (word_of_slots slots) 0 ((length slots + 1) / 2));
       small = c.in-Ok.ensures.small;

@@ -1,14 +1,19 @@
-use Rattle.std.proofs.Common.{arith, ◌∙◌}
-use Rattle.input_script.proofs.Reading.{value_bound, width_bound}
+use Rattle.input_script.proofs.Reading.{no_kind, no_value, value_bound}
 use Rattle.input_script.proofs.line.input_in.Goals as goal
 
-pub overflow_cast-value : goal.overflow_cast-value
-overflow_cast-value c =
-    let value = c.in_ok-value.ensures.cases in
-    let bound = value_bound c.in_ok-kind.kind c.in_ok-kind.value.now value.0 (c.if-value-width.false ∙ c.width.ensures.value) in
-    omega (arith, bound, width_bound c.in_ok-kind.kind, value.1)
+pub returns-in_err-kind : goal.returns-in_err-kind
+returns-in_err-kind c =
+    let parts = c.in_ok-word.ensures.cases in
+    rw c.from_residual-in_err-kind.ensures (record {
+      cases = no_kind c.args.text.now c.in_ok-word.word.now c.in_ok-word.rest.now parts.0 parts.1 c.in_err-kind.ensures.cases;
+    })
+
+pub returns-in_err-value : goal.returns-in_err-value
+returns-in_err-value c =
+    let parts = c.in_ok-word.ensures.cases in
+    rw c.from_residual-in_err-value.ensures (record {
+      cases = no_value c.args.text.now c.in_ok-word.word.now c.in_ok-word.rest.now c.in_ok-kind.kind parts.0 parts.1 c.in_ok-kind.ensures.cases c.in_err-value.ensures.cases;
+    })
 
 pub input-requires : goal.input-requires
-input-requires c =
-    let value = c.in_ok-value.ensures.cases in
-    rw value.1 (value_bound c.in_ok-kind.kind c.in_ok-kind.value.now value.0 (c.if-value-width.false ∙ c.width.ensures.value))
+input-requires c = value_bound c.in_ok-kind.kind c.in_ok-word.rest.now c.in_ok-value.value c.in_ok-value.ensures.cases

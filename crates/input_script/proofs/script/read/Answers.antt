@@ -10,30 +10,30 @@ use Rattle.input_script.proofs.script.read.Goals as goal
 pub loop-rest-preserved : goal.loop-rest-preserved
 loop-rest-preserved c =
     let lines = lines_of c.args.text.now in
-    let P : List (List ℕ) → Type 0 = λ rest. IsDone lines c.loop-rest.line c.loop-rest.events.items rest in
+    let P : List (List ℕ) → Type 0 = λ rest. IsDone lines c.loop-rest.line c.loop-rest.script rest in
     record {
       done = done_numbered _ _ _ _ _ (done_take lines
-          (lines_of c.first_line.result.1.now) c.first_line.result.0.now c.loop-rest.line c.loop-rest.events.items c.take_line.new.events.items
+          (lines_of c.first_line.result.1.now) c.first_line.result.0.now c.loop-rest.line c.loop-rest.script c.take_line.new.self
           (subst P c.first_line.ensures.lines c.loop-rest.invariant.done) c.in_ok-take_line.ensures.taken) (grind (arith, common_steps));
       left = grind (arith, common_steps);
     }
 
 pub returns-in_err-take_line-clause-accepted : goal.returns-in_err-take_line-clause-accepted
-returns-in_err-take_line-clause-accepted c = λ events script.
+returns-in_err-take_line-clause-accepted c = λ schedule script.
     let lines = lines_of c.args.text.now in
     let error = c.in_err-take_line.field-0.0 in
-    let P : List (List ℕ) → Type 0 = λ rest. IsDone lines c.loop-rest.line c.loop-rest.events.items rest in
+    let P : List (List ℕ) → Type 0 = λ rest. IsDone lines c.loop-rest.line c.loop-rest.script rest in
     let done = subst P c.first_line.ensures.lines c.loop-rest.invariant.done in
-    let tells = refusal_tells c.args.text.now (lines_of c.first_line.result.1.now) c.first_line.result.0.now c.loop-rest.line c.loop-rest.events.items error done c.in_err-take_line.ensures.refused in
-    inr (err_is c.from_residual.result error c.from_residual.ensures.1 ∙ ap (λ e. Err e) (refused_text c.args.text.now error tells events script))
+    let tells = refusal_tells c.args.text.now (lines_of c.first_line.result.1.now) c.first_line.result.0.now c.loop-rest.line c.loop-rest.script error done c.in_err-take_line.ensures.refused in
+    inr (err_is c.from_residual.result error c.from_residual.ensures.1 ∙ ap (λ e. Err e) (refused_text c.args.text.now error tells schedule script))
 
 pub returns-in_err-take_line-clause-refused : goal.returns-in_err-take_line-clause-refused
 returns-in_err-take_line-clause-refused c = λ line fault bad.
     let lines = lines_of c.args.text.now in
     let error = c.in_err-take_line.field-0.0 in
-    let P : List (List ℕ) → Type 0 = λ rest. IsDone lines c.loop-rest.line c.loop-rest.events.items rest in
+    let P : List (List ℕ) → Type 0 = λ rest. IsDone lines c.loop-rest.line c.loop-rest.script rest in
     let done = subst P c.first_line.ensures.lines c.loop-rest.invariant.done in
-    let tells = refusal_tells c.args.text.now (lines_of c.first_line.result.1.now) c.first_line.result.0.now c.loop-rest.line c.loop-rest.events.items error done c.in_err-take_line.ensures.refused in
+    let tells = refusal_tells c.args.text.now (lines_of c.first_line.result.1.now) c.first_line.result.0.now c.loop-rest.line c.loop-rest.script error done c.in_err-take_line.ensures.refused in
     let passed = err_is c.from_residual.result error c.from_residual.ensures.1 in
     elim (refused_as c.args.text.now error tells line fault bad) [
       | inl same ↦ inl (passed ∙ ap (λ e. Err e) same)
@@ -44,9 +44,9 @@ pub returns-in_err-take_line-clause-memory : goal.returns-in_err-take_line-claus
 returns-in_err-take_line-clause-memory c = λ wanted.
     let lines = lines_of c.args.text.now in
     let error = c.in_err-take_line.field-0.0 in
-    let P : List (List ℕ) → Type 0 = λ rest. IsDone lines c.loop-rest.line c.loop-rest.events.items rest in
+    let P : List (List ℕ) → Type 0 = λ rest. IsDone lines c.loop-rest.line c.loop-rest.script rest in
     let done = subst P c.first_line.ensures.lines c.loop-rest.invariant.done in
-    let tells = refusal_tells c.args.text.now (lines_of c.first_line.result.1.now) c.first_line.result.0.now c.loop-rest.line c.loop-rest.events.items error done c.in_err-take_line.ensures.refused in
+    let tells = refusal_tells c.args.text.now (lines_of c.first_line.result.1.now) c.first_line.result.0.now c.loop-rest.line c.loop-rest.script error done c.in_err-take_line.ensures.refused in
     let same : Err error ≡ Err NoMemory = sym (err_is c.from_residual.result error c.from_residual.ensures.1) ∙ wanted in
     wanted_for c.args.text.now error tells (cc)
 
@@ -54,18 +54,18 @@ pub returns-in_err-take_line-clause-one : goal.returns-in_err-take_line-clause-o
 returns-in_err-take_line-clause-one c = one_judgement c.args.text.now
 
 pub returns-clause-accepted : goal.returns-clause-accepted
-returns-clause-accepted c = λ events script.
+returns-clause-accepted c = λ schedule script.
     let lines = lines_of c.args.text.now in
-    let P : List (List ℕ) → Type 0 = λ rest. IsDone lines c.loop-rest.line c.loop-rest.events.items rest in
-    let mine = done_all lines c.loop-rest.line c.loop-rest.events.items (subst P (no_lines c.loop-rest.rest.now c.loop-rest-test.ensures) c.loop-rest.invariant.done) in
-    inl (ap (λ es. Ok es) ((one_judgement c.args.text.now).one_list c.loop-rest.events.items events mine script))
+    let P : List (List ℕ) → Type 0 = λ rest. IsDone lines c.loop-rest.line c.loop-rest.script rest in
+    let mine = done_all lines c.loop-rest.line c.loop-rest.script (subst P (no_lines c.loop-rest.rest.now c.loop-rest-test.ensures) c.loop-rest.invariant.done) in
+    inl (ap (λ s. Ok s) ((one_judgement c.args.text.now).one_schedule c.loop-rest.script schedule mine script))
 
 pub returns-clause-refused : goal.returns-clause-refused
 returns-clause-refused c = λ line fault bad.
     let lines = lines_of c.args.text.now in
-    let P : List (List ℕ) → Type 0 = λ rest. IsDone lines c.loop-rest.line c.loop-rest.events.items rest in
-    let mine = done_all lines c.loop-rest.line c.loop-rest.events.items (subst P (no_lines c.loop-rest.rest.now c.loop-rest-test.ensures) c.loop-rest.invariant.done) in
-    absurd ((one_judgement c.args.text.now).apart c.loop-rest.events.items line fault mine bad)
+    let P : List (List ℕ) → Type 0 = λ rest. IsDone lines c.loop-rest.line c.loop-rest.script rest in
+    let mine = done_all lines c.loop-rest.line c.loop-rest.script (subst P (no_lines c.loop-rest.rest.now c.loop-rest-test.ensures) c.loop-rest.invariant.done) in
+    absurd ((one_judgement c.args.text.now).apart c.loop-rest.script line fault mine bad)
 
 pub returns-clause-one : goal.returns-clause-one
 returns-clause-one c = one_judgement c.args.text.now

@@ -3,10 +3,10 @@ use Rattle.text_lines.specs.Lines.{lines_of}
 use Rattle.input_script.proofs.Done.{IsDone}
 use Rattle.input_script.proofs.script.read.Given as goal
 
--- the lines before `rest` are accepted with the events so far
+-- the lines before `rest` are accepted with what is scheduled so far
 abbrev pub invariant-loop-rest : goal.invariant-loop-rest
 invariant-loop-rest l = record {
-  done : IsDone (lines_of l.text) l.line l.events.items (lines_of l.rest);
+  done : IsDone (lines_of l.text) l.line l.script (lines_of l.rest);
   left : l.line + length l.rest ≤ length l.text;
 }
 

@@ -1,9 +1,9 @@
 use Rattle.std.proofs.Common.{◌≡◌, ◌+◌, ◌++◌, [], refl, subst, arith}
 use Rattle.std.proofs.lemmas.Result.{err_from_is_err_and}
 use Rattle.std.specs.Prelude.{Some}
-use Rattle.tk_run.specs.Stepping.{lines_text}
+use Rattle.program_steps.specs.Stepping.{lines_text}
 use Rattle.step_laws.specs.Moves.{line_before}
-use Rattle.tk_run.specs.Wholes.{whole}
+use Rattle.program_steps.specs.Wholes.{whole}
 use Rattle.tk_run.proofs.RunSoFar.{IsBetween}
 use Rattle.tk_run.proofs.Advancing.{advanced_enter, is_in, advanced_stop, advanced_bound, advanced_cut, advanced_failed}
 use Rattle.tk_run.proofs.Gathered.{sent_on, cut_on, under_way, turn_on, turn_cut}
@@ -106,3 +106,9 @@ returns-clause-gathered g c =
       advanced = advanced_bound old now (whole c.at_bound.new.k c.at_bound.new.p) c.args.n (Some []) (Some way.text) c.at_bound.result c.requires.going c.requires.whole (subst (λ i. IsBetween old now i (Some []) (Some way.text)) done way.between) c.at_bound.ensures.bound;
       sent = way.sent;
     }
+
+pub enter-requires-clause-steps : goal.enter-requires-clause-steps
+enter-requires-clause-steps g c = omega (arith, c.steps.invariant.way.between.ran.steps, c.steps.invariant.within, c.requires.steps)
+
+pub at_bound-requires-clause-steps : goal.at_bound-requires-clause-steps
+at_bound-requires-clause-steps g c = omega (arith, c.steps.invariant.way.between.ran.steps, c.steps.invariant.within, c.requires.steps)

@@ -1,6 +1,6 @@
 use Rattle.std.proofs.Common.{◌-◌, ◌≤◌}
 use Rattle.page_index.specs.Cursors.{IsCursor}
-use Rattle.tk_run.specs.Wholes.{whole}
+use Rattle.program_steps.specs.Wholes.{whole}
 use Rattle.tk_run.proofs.Gathered.{IsUnderWay}
 use Rattle.tk_run.proofs.run.all_steps.Given as goal
 

@@ -1,4 +1,4 @@
-use Rattle.tk_run.specs.Wholes.{whole}
+use Rattle.program_steps.specs.Wholes.{whole}
 use Rattle.tk_run.proofs.Advancing.{advanced_kept}
 use Rattle.tk_run.proofs.run.run_on.Goals as goal
 

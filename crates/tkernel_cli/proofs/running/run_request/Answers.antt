@@ -14,7 +14,7 @@ returns g c =
     let mid : Stream = record { told = g.K.Sink.taken c.advance.new.out; faults = g.K.Sink.faults c.advance.new.out } in
     let image : IsImage request.image = subst IsImage (c.image.view_is) c.image.invariant in
     record {
-      ran = inl (record {
+      done = inl (record {
         machine = c.advance.new.self;
         kept = refl;
         runs = elim c.match-advance.branch [

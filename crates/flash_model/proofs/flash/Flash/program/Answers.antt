@@ -1,16 +1,18 @@
-use Rattle.std.proofs.Common.{◌≡◌, ◌≤◌, ◌+◌, ◌*◌, length, sym, subst, arith}
-use Rattle.flash_model.specs.Pages.{page_words, page_of, programmed}
+use Rattle.std.proofs.Common.{◌≡◌, ◌+◌, ◌*◌, sym, ap, subst}
+use Rattle.flash_model.specs.Pages.{page_words, page_of, set_page, programmed}
+use Rattle.flash_model.specs.Memory.{Memory}
 use Rattle.flash_model.specs.Code.{IsDecodedBeside}
-use Rattle.flash_model.proofs.PageLaws.{length-page_of}
-use Rattle.flash_model.proofs.Renewing.{decoded_beside, length-programmed}
+use Rattle.flash_model.proofs.Renewing.{programmed_beside}
 use Rattle.flash_model.proofs.flash.Flash.program.Goals as goal
 
-pub renew_page-requires-clause-beside : goal.renew_page-requires-clause-beside
-renew_page-requires-clause-beside c =
-    let words = c.self.inside.cells.words in
+pub renew_changed-requires-clause-beside : goal.renew_changed-requires-clause-beside
+renew_changed-requires-clause-beside c =
+    let old = c.self.inside.cells in
+    let whole = c.program.ensures.whole.0 in
     let code = c.self.inside.code.items in
     let page = c.args.page in
-    let new = programmed (page_of words page) c.args.words.now in
-    let inside : page_words * page + page_words ≤ length words = omega (arith, c.program.ensures.whole.0.words, c.requires) in
-    let fits : length new ≡ page_words = length-programmed (page_of words page) c.args.words.now page_words (length-page_of words page inside) c.told-words in
-    subst (λ w. IsDecodedBeside w code page) (sym c.program.ensures.words) (decoded_beside words new code page c.self.invariant.1 c.program.ensures.whole.0.words c.requires fits)
+    let new = c.args.words.now in
+    let n = c.words_to_program.result in
+    let words : c.program.new.self.words ≡ set_page old.words page (programmed (page_of old.words page) new) = ap (λ (m : Memory). m.words) c.in_ok-program.ensures.done in
+    subst (λ words. IsDecodedBeside words code (page_words * page) (page_words * page + n)) (sym words)
+    (programmed_beside old.words new code page n c.self.invariant.1 whole.words whole.words_fit c.requires.page c.told-words c.words_to_program.ensures.rest)

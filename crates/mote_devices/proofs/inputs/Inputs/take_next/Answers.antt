@@ -14,32 +14,32 @@ next_within now pins converter script taken serial is some =
 pub returns-then-port-lt4 : goal.returns-then-port-lt4
 returns-then-port-lt4 c =
     let i = c.self.inside in
-    let within = next_within c.args.self.now i.pins i.converter i.script i.taken i.serial c.self.view_is c.requires.some in
+    let within = next_within c.args.self.now i.pins i.converter i.script.events i.taken i.serial c.self.view_is c.requires.some in
     record {
-      value = pin_taken i.pins i.converter i.script i.taken i.serial _ c.in-Pin.port c.in-Pin.value c.self.invariant.queued within (rw c.events.ensures.value at c.in-Pin.is) ∙ ap with_first c.self.view_is;
+      value = pin_taken i.pins i.converter i.script.events i.taken i.serial _ c.in-Pin.port c.in-Pin.value c.self.invariant.queued within (rw c.events.ensures.value at c.in-Pin.is) ∙ ap with_first c.self.view_is;
     }
 
 pub returns-else-port-lt4 : goal.returns-else-port-lt4
 returns-else-port-lt4 c =
     let i = c.self.inside in
-    let within = next_within c.args.self.now i.pins i.converter i.script i.taken i.serial c.self.view_is c.requires.some in
+    let within = next_within c.args.self.now i.pins i.converter i.script.events i.taken i.serial c.self.view_is c.requires.some in
     let past : length i.pins ≤ c.in-Pin.port = omega arith in
     record {
-      value = other_pin_taken i.pins i.converter i.script i.taken i.serial _ c.in-Pin.port c.in-Pin.value c.self.invariant.queued within (rw c.events.ensures.value at c.in-Pin.is) past ∙ ap with_first c.self.view_is;
+      value = other_pin_taken i.pins i.converter i.script.events i.taken i.serial _ c.in-Pin.port c.in-Pin.value c.self.invariant.queued within (rw c.events.ensures.value at c.in-Pin.is) past ∙ ap with_first c.self.view_is;
     }
 
 pub returns-in-Uart : goal.returns-in-Uart
 returns-in-Uart c =
     let i = c.self.inside in
-    let within = next_within c.args.self.now i.pins i.converter i.script i.taken i.serial c.self.view_is c.requires.some in
+    let within = next_within c.args.self.now i.pins i.converter i.script.events i.taken i.serial c.self.view_is c.requires.some in
     record {
-      value = uart_taken i.pins i.converter i.script i.taken i.serial _ c.in-Uart.field-0 c.self.invariant.queued within (rw c.events.ensures.value at c.in-Uart.is) ∙ ap with_first c.self.view_is;
+      value = uart_taken i.pins i.converter i.script.events i.taken i.serial _ c.in-Uart.field-0 c.self.invariant.queued within (rw c.events.ensures.value at c.in-Uart.is) ∙ ap with_first c.self.view_is;
     }
 
 pub returns-in-Adc : goal.returns-in-Adc
 returns-in-Adc c =
     let i = c.self.inside in
-    let within = next_within c.args.self.now i.pins i.converter i.script i.taken i.serial c.self.view_is c.requires.some in
+    let within = next_within c.args.self.now i.pins i.converter i.script.events i.taken i.serial c.self.view_is c.requires.some in
     record {
-      value = adc_taken i.pins i.converter i.script i.taken i.serial _ c.in-Adc.value c.self.invariant.queued within (rw c.events.ensures.value at c.in-Adc.is) ∙ ap with_first c.self.view_is;
+      value = adc_taken i.pins i.converter i.script.events i.taken i.serial _ c.in-Adc.value c.self.invariant.queued within (rw c.events.ensures.value at c.in-Adc.is) ∙ ap with_first c.self.view_is;
     }

@@ -1,4 +1,5 @@
 use Rattle.std.proofs.Common.{ap, ◌∙◌, subst, arith}
+use Rattle.flash_model.specs.Layouts.{layout_of}
 use Rattle.mote_core.specs.Step.{IsAtReset}
 use Rattle.tk_run.proofs.Booting.{boot_is_kept}
 use Rattle.tk_run.proofs.machine.Machine.boot.Goals as goal
@@ -6,6 +7,6 @@ use Rattle.tk_run.proofs.machine.Machine.boot.Goals as goal
 pub invariant_of-result : goal.invariant_of-result
 invariant_of-result c =
     let image = c.args.image.now in
-    boot_is_kept image c.args.script c.args.options.quantum c.args.options.swap c.in_ok-mote.mote c.set_count.new.self c.usual.result c.words.ensures.image c.requires.quantum (omega arith) c.requires.swap
+    boot_is_kept image c.args.script c.args.options.quantum c.args.options.swap c.in_ok-mote.mote c.set_count.new.self c.of.result c.words.ensures.image c.requires.quantum (omega arith) c.requires.swap
     (subst (λ i. IsAtReset i c.args.script c.args.options.swap c.in_ok-mote.mote) c.words.ensures.words c.in_ok-mote.ensures.reset) c.in_ok-mote.ensures.whole c.set_count.ensures.after
-    (c.usual.ensures.value ∙ ap (λ n. record { image_words = n; pool_first = 128; pool_pages = 352 }) c.len_words.ensures.words)
+    (c.of.ensures.value ∙ ap layout_of c.len_words.ensures.words)

@@ -1,0 +1,105 @@
+-- Parts of a line.
+use Rattle.std.proofs.Common.{◌≡◌, ℕ, ◌+◌, ◌-◌, ◌≤◌, get_or, drop, Bool, true, false, cond, eqb, List, [], ◌∷◌, ◌++◌, length, take, arith, ap, refl, sym, ◌∙◌}
+use Rattle.std.specs.Prelude.{◌≢◌, ◌&&◌, not, map, position, bytes_eq}
+use Rattle.std.specs.List.{list_all, list_any, position_or_len}
+use Rattle.std.specs.Borrow.{Bor}
+use Rattle.std.proofs.lemmas.List.{length-map, take-append-drop, drop_more, drop_all}
+use Rattle.std.proofs.lemmas.Bool.Decides.{nat_tests}
+use Rattle.text_lines.specs.Cutting.{Lacks}
+use Rattle.avr_asm.specs.Cuts.{is_blank, before, behind, skip_end, place_of, front_word, behind_word}
+
+unlike : (b byte : ℕ) → b ≢ byte → eqb b byte ≡ false
+unlike b byte apart = grind (arith, nat_tests)
+
+like : (byte : ℕ) → eqb byte byte ≡ true
+like byte = grind (arith, nat_tests)
+
+-- a text in which a byte doesn't stand
+pub before_lacking : (byte : ℕ) (text : List ℕ) → Lacks byte text → before byte text ≡ text
+before_lacking byte [] lacks = refl
+before_lacking byte (b ∷ text) lacks = rw (unlike b byte lacks.0) (ap (λ rest. b ∷ rest) (before_lacking byte text lacks.1))
+
+-- a text that is cut at a byte's first place
+pub before_cut : (byte : ℕ) (front rest : List ℕ) → Lacks byte front → before byte (front ++ byte ∷ rest) ≡ front
+before_cut byte [] rest lacks = rw (like byte) refl
+before_cut byte (b ∷ front) rest lacks = rw (unlike b byte lacks.0) (ap (λ back. b ∷ back) (before_cut byte front rest lacks.1))
+
+-- a text with one more byte at its end: it is all blank where both are
+and_both : (x y z : Bool) → (x && (y && z)) ≡ ((x && y) && z)
+and_both true y z = refl
+and_both false y z = refl
+
+and_true : (x : Bool) → (x && true) ≡ x
+and_true true = refl
+and_true false = refl
+
+and_false : (x : Bool) → (x && false) ≡ false
+and_false true = refl
+and_false false = refl
+
+all_more : (text : List ℕ) (b : ℕ) → list_all is_blank (text ++ b ∷ []) ≡ (list_all is_blank text && is_blank b)
+all_more [] b = and_true (is_blank b)
+all_more (first ∷ text) b = ap (λ (rest : Bool). is_blank first && rest) (all_more text b) ∙ and_both (is_blank first) (list_all is_blank text) (is_blank b)
+
+pub skip_blank_end : (text : List ℕ) (b : ℕ) → is_blank b ≡ true → skip_end (text ++ b ∷ []) ≡ skip_end text
+skip_blank_end [] b blank = rw blank refl
+skip_blank_end (first ∷ text) b blank =
+    let all : list_all is_blank (text ++ b ∷ []) ≡ list_all is_blank text = all_more text b ∙ ap (λ (last : Bool). list_all is_blank text && last) blank ∙ and_true (list_all is_blank text) in
+    ap (λ (all' : Bool). cond (is_blank first && all') [] (first ∷ skip_end (text ++ b ∷ []))) all ∙ ap (λ rest. cond (is_blank first && list_all is_blank text) [] (first ∷ rest)) (skip_blank_end text b blank)
+
+pub keep_end : (text : List ℕ) (b : ℕ) → is_blank b ≡ false → skip_end (text ++ b ∷ []) ≡ text ++ b ∷ []
+keep_end [] b shown = rw shown refl
+keep_end (first ∷ text) b shown =
+    let all : list_all is_blank (text ++ b ∷ []) ≡ false = all_more text b ∙ ap (λ (last : Bool). list_all is_blank text && last) shown ∙ and_false (list_all is_blank text) in
+    ap (λ (all' : Bool). cond (is_blank first && all') [] (first ∷ skip_end (text ++ b ∷ []))) all ∙ ap (λ (blank : Bool). cond blank [] (first ∷ skip_end (text ++ b ∷ []))) (and_false (is_blank first)) ∙ ap (λ rest. first ∷ rest) (keep_end text b shown)
+
+-- a text and its last byte
+last_off : (text : List ℕ) → 1 ≤ length text → text ≡ take (length text - 1) text ++ get_or text (length text - 1) 0 ∷ []
+last_off text some =
+    let n = length text - 1 in
+    let end : drop (n + 1) text ≡ [] = drop_all (n + 1) text (omega arith) in
+    sym (take-append-drop n text) ∙ ap (λ back. take n text ++ back) (drop_more text n 0 (omega arith) ∙ ap (λ back. get_or text n 0 ∷ back) end)
+
+pub skip_blank_last : (text : List ℕ) → 1 ≤ length text → is_blank (get_or text (length text - 1) 0) ≡ true → skip_end (take (length text - 1) text) ≡ skip_end text
+skip_blank_last text some blank = sym (ap skip_end (last_off text some) ∙ skip_blank_end (take (length text - 1) text) _ blank)
+
+pub keep_last : (text : List ℕ) → 1 ≤ length text → is_blank (get_or text (length text - 1) 0) ≡ false → text ≡ skip_end text
+keep_last text some shown = sym (ap skip_end (last_off text some) ∙ keep_end (take (length text - 1) text) _ shown ∙ sym (last_off text some))
+
+-- a name's place among names that are borrowed
+prefix_len-now : (names : List (Bor (List ℕ))) (text : List ℕ) → position_or_len (λ name. bytes_eq name text) (map (λ name. name.now) names) ≡ position_or_len (λ (name : Bor (List ℕ)). bytes_eq name.now text) names
+prefix_len-now [] text = refl
+prefix_len-now (name ∷ names) text = ap (λ n. cond (not (bytes_eq name.now text)) (1 + n) 0) (prefix_len-now names text)
+
+pub place_of-now : (names : List (Bor (List ℕ))) (text : List ℕ) → position (λ (name : Bor (List ℕ)). bytes_eq name.now text) names ≡ place_of (map (λ name. name.now) names) text
+place_of-now names text = rw (prefix_len-now names text, length-map names (λ (name : Bor (List ℕ)). name.now)) refl
+
+-- the first word of a text
+word_take : (blank : Bool) (b : ℕ) (text : List ℕ) → take (length (front_word text)) text ≡ front_word text → take (length (cond blank [] (b ∷ front_word text))) (b ∷ text) ≡ cond blank [] (b ∷ front_word text)
+word_take true b text rest = refl
+word_take false b text rest = ap (λ t. b ∷ t) rest
+
+pub taken_word : (text : List ℕ) → take (length (front_word text)) text ≡ front_word text
+taken_word [] = refl
+taken_word (b ∷ text) = word_take (is_blank b) b text (taken_word text)
+
+word_drop : (blank : Bool) (b : ℕ) (text : List ℕ) → drop (length (front_word text)) text ≡ behind_word text → drop (length (cond blank [] (b ∷ front_word text))) (b ∷ text) ≡ cond blank (b ∷ text) (behind_word text)
+word_drop true b text rest = refl
+word_drop false b text rest = rest
+
+pub dropped_word : (text : List ℕ) → drop (length (front_word text)) text ≡ behind_word text
+dropped_word [] = refl
+dropped_word (b ∷ text) = word_drop (is_blank b) b text (dropped_word text)
+
+-- a byte's first place cuts a text
+pub behind_cut : (byte : ℕ) (front rest : List ℕ) → Lacks byte front → behind byte (front ++ byte ∷ rest) ≡ rest
+behind_cut byte [] rest lacks = rw (like byte) refl
+behind_cut byte (b ∷ front) rest lacks = rw (unlike b byte lacks.0) (behind_cut byte front rest lacks.1)
+
+pub some_cut : (byte : ℕ) (front rest : List ℕ) → Lacks byte front → list_any (λ b. eqb b byte) (front ++ byte ∷ rest) ≡ true
+some_cut byte [] rest lacks = rw (like byte) refl
+some_cut byte (b ∷ front) rest lacks = rw (unlike b byte lacks.0) (some_cut byte front rest lacks.1)
+
+pub none_lacking : (byte : ℕ) (text : List ℕ) → Lacks byte text → list_any (λ b. eqb b byte) text ≡ false
+none_lacking byte [] lacks = refl
+none_lacking byte (b ∷ text) lacks = rw (unlike b byte lacks.0) (none_lacking byte text lacks.1)

@@ -1,0 +1,55 @@
+-- The first pass: one line more, a line that is refused, and the end.
+use Rattle.std.proofs.Common.{◌≡◌, ℕ, ◌+◌, List, [], ◌∷◌, length, ap, refl, sym, ◌∙◌, arith}
+use Rattle.text_lines.specs.Lines.{lines_of}
+use Rattle.avr_asm.specs.declared.fault.AsmFault.{AsmFault}
+use Rattle.avr_asm.specs.declared.fault.AsmError.TheVariants.{Bad}
+use Rattle.avr_asm.specs.declared.first_pass.Pass.{Pass}
+use Rattle.avr_asm.specs.declared.first_pass.Refusal.TheVariants as refusals
+use Rattle.avr_asm.specs.Addresses.{start, after, after_all, faults_from}
+use Rattle.avr_asm.specs.AsmText.{first_fault}
+use Rattle.avr_asm.specs.declared.labels.Labels.{Labels}
+use Rattle.avr_asm.specs.Labels.{HasLabels}
+use Rattle.avr_asm.specs.Passes.{IsFirstPart, IsFirstRefusal, IsPassed, IsRefused, IsTaken}
+
+pub first_part_start : (text : List ℕ) (labels : Labels) → HasLabels labels [] → IsFirstPart text text 0 (record { labels = labels; at = 0 })
+first_part_start text labels none = record {
+  place = start;
+  is = record { at_is = refl; labels_are = none };
+  few = omega arith;
+  faults = refl;
+  ends = refl;
+}
+
+pub first_part_more : (text line rest behind : List ℕ) (number : ℕ) (old new : Pass) → IsFirstPart text rest number old → lines_of rest ≡ line ∷ lines_of behind → IsTaken line old new → IsFirstPart text behind (number + 1) new
+first_part_more text line rest behind number old new part cut taken =
+    let step = taken part.place part.is in
+    record {
+      place = after part.place line;
+      is = step.1;
+      few = step.2;
+      faults =
+          sym (ap (λ fault. first_fault (number + 1) (fault ∷ faults_from (after part.place line) (lines_of behind))) step.0)
+          ∙ sym (ap (λ lines. first_fault (number + 1) (faults_from part.place lines)) cut)
+          ∙ part.faults;
+      ends = sym (ap (after_all part.place) cut) ∙ part.ends;
+    }
+
+-- the line that is refused is the first
+pub first_part_refused : (text line rest behind : List ℕ) (number : ℕ) (pass : Pass) (fault : AsmFault) → IsFirstPart text rest number pass → lines_of rest ≡ line ∷ lines_of behind → IsRefused line pass (refusals.Fault fault) → IsFirstRefusal text (Bad (number + 1) fault)
+first_part_refused text line rest behind number pass fault part cut refused =
+    sym part.faults
+    ∙ ap (λ lines. first_fault (number + 1) (faults_from part.place lines)) cut
+    ∙ ap (λ fault. first_fault (number + 1) (fault ∷ faults_from (after part.place line) (lines_of behind))) (refused part.place part.is)
+
+pub no_rest : (rest : List ℕ) → length rest ≡ 0 → rest ≡ []
+no_rest [] none = refl
+no_rest (b ∷ rest) none = absurd (omega arith)
+
+-- the text has no line more
+pub first_part_whole : (text rest : List ℕ) (number : ℕ) (pass : Pass) → length rest ≡ 0 → IsFirstPart text rest number pass → IsPassed text pass
+first_part_whole text [] number pass none part = record {
+  sound = sym part.faults;
+  is = rw (← part.ends) part.is;
+  few = part.few;
+}
+first_part_whole text (b ∷ rest) number pass none part = absurd (omega arith)

@@ -1,0 +1,11 @@
+mod CutLaws
+mod DigitTests
+mod OperandLaws
+mod LineLaws
+mod FirstPassLaws
+mod SecondPassLaws
+mod SizeLaws
+mod WordLaws
+pub mod OneImage
+mod WorkedRows
+mod WorkedTexts

@@ -1,0 +1,89 @@
+-- The second pass: one line more, a line that is refused, and the end.
+use Rattle.std.proofs.Common.{◌≡◌, ℕ, ◌+◌, ◌≤◌, List, [], ◌∷◌, ◌++◌, length, ap, refl, subst, sym, ◌∙◌, arith}
+use Rattle.std.specs.Prelude.{None, Some, Option, Result, Ok}
+use Rattle.std.proofs.lemmas.List.{append_assoc, append-nil}
+use Rattle.text_lines.specs.Lines.{lines_of}
+use Rattle.avr_asm.specs.declared.fault.AsmFault.{AsmFault}
+use Rattle.avr_asm.specs.declared.fault.AsmError.TheVariants.{Bad}
+use Rattle.avr_asm.specs.declared.line.Line.{Line}
+use Rattle.avr_asm.specs.declared.mnemonic.Jump.TheVariants.{If, Rjmp, Rcall, Jmp, Call}
+use Rattle.avr_asm.specs.declared.statement.Statement.{Statement}
+use Rattle.avr_asm.specs.declared.statement.Statement.TheVariants.{Ready, To, Word}
+use Rattle.avr_isa.proofs.Laws.{size_of-range}
+use Rattle.avr_asm.specs.SourceLines.{line_of}
+use Rattle.avr_asm.specs.Addresses.{Label, Place, start, after, after_all, behind_line, words_of_statement}
+use Rattle.avr_asm.specs.Targets.{fault_of_line, target_faults}
+use Rattle.avr_asm.specs.AsmText.{AreLines, IsLine, first_fault, labels_of}
+use Rattle.avr_asm.specs.Passes.{IsAssembled, IsLineAdded, IsSecondPart, IsSecondRefusal}
+
+-- the place behind a line that was added
+after_at : (place : Place) (text : List ℕ) (line : Line) → line_of text ≡ Ok line → (after place text).at ≡ place.at + words_of_statement line.statement
+after_at place text line is = ap (λ (r : Result Line AsmFault). (behind_line place r).at) is
+
+pub second_part_start : (text : List ℕ) → IsSecondPart text text 0 []
+second_part_start text = record {
+  place = start;
+  at_is = refl;
+  faults = refl;
+  ends = refl;
+  onward = λ more lines. lines;
+}
+
+pub second_part_more : (text line rest behind : List ℕ) (number : ℕ) (old new : List ℕ) → IsSecondPart text rest number old → lines_of rest ≡ line ∷ lines_of behind → IsLineAdded (labels_of text) line old new → IsSecondPart text behind (number + 1) new
+second_part_more text line rest behind number old new part cut has =
+    let labels : List Label = labels_of text in
+    let place = part.place in
+    let here : fault_of_line labels place.at (line_of line) ≡ None =
+    ap (λ at. fault_of_line labels at (line_of line)) (sym part.at_is) ∙ ap (fault_of_line labels (length old)) has.line_is ∙ has.added.sound in
+    record {
+      place = after place line;
+      at_is = has.added.size ∙ ap (λ n. n + words_of_statement has.line.statement) part.at_is ∙ sym (after_at place line has.line has.line_is);
+      faults =
+          sym (ap (λ fault. first_fault (number + 1) (fault ∷ target_faults labels (after place line) (lines_of behind))) here)
+          ∙ sym (ap (λ lines. first_fault (number + 1) (target_faults labels place lines)) cut)
+          ∙ part.faults;
+      ends = sym (ap (after_all place) cut) ∙ part.ends;
+      onward = λ more others.
+          let joined : old ++ (has.added.code ++ more) ≡ new ++ more = sym (append_assoc old has.added.code more) ∙ ap (λ w. w ++ more) (sym has.added.joined) in
+          let stands : IsLine labels (new ++ more) place.at (line_of line) =
+          subst (λ (r : Result Line AsmFault). IsLine labels (new ++ more) place.at r) (sym has.line_is)
+          (subst (λ at. IsLine labels (new ++ more) at (Ok has.line)) part.at_is (has.added.stands more)) in
+          let from_here : AreLines labels (new ++ more) place (lines_of rest) = subst (AreLines labels (new ++ more) place) (sym cut) (stands, others) in
+          subst (λ w. AreLines labels w start (lines_of text)) joined
+          (part.onward (has.added.code ++ more) (subst (λ w. AreLines labels w place (lines_of rest)) (sym joined) from_here));
+    }
+
+-- the line that is refused is the first
+pub second_part_refused : (text line rest behind : List ℕ) (number : ℕ) (words : List ℕ) (fault : AsmFault) → IsSecondPart text rest number words → lines_of rest ≡ line ∷ lines_of behind → fault_of_line (labels_of text) (length words) (line_of line) ≡ Some fault → IsSecondRefusal text (Bad (number + 1) fault)
+second_part_refused text line rest behind number words fault part cut refused =
+    let labels : List Label = labels_of text in
+    let place = part.place in
+    sym part.faults
+    ∙ ap (λ lines. first_fault (number + 1) (target_faults labels place lines)) cut
+    ∙ ap (λ fault. first_fault (number + 1) (fault ∷ target_faults labels (after place line) (lines_of behind)))
+    (ap (λ at. fault_of_line labels at (line_of line)) (sym part.at_is) ∙ refused)
+
+-- the text has no line more
+pub second_part_whole : (text rest : List ℕ) (number : ℕ) (words : List ℕ) → length rest ≡ 0 → IsSecondPart text rest number words → IsAssembled text words
+second_part_whole text [] number words none part = record {
+  sound = sym part.faults;
+  words_are =
+      let whole : words ++ [] ≡ words = append-nil words in
+      subst (λ w. AreLines (labels_of text) w start (lines_of text)) whole (part.onward [] (ap length whole ∙ part.at_is));
+  size = part.at_is ∙ ap (λ place. place.at) part.ends;
+}
+second_part_whole text (b ∷ rest) number words none part = absurd (omega arith)
+
+-- a statement has at most two words
+two_at_most : (statement : Option Statement) → words_of_statement statement ≤ 2
+two_at_most None = omega arith
+two_at_most (Some (Word n)) = omega arith
+two_at_most (Some (Ready form)) = (size_of-range form).1
+two_at_most (Some (To (If set s) target)) = omega arith
+two_at_most (Some (To Rjmp target)) = omega arith
+two_at_most (Some (To Rcall target)) = omega arith
+two_at_most (Some (To Jmp target)) = omega arith
+two_at_most (Some (To Call target)) = omega arith
+
+pub few_more : (labels : List Label) (line old new : List ℕ) → IsLineAdded labels line old new → length new ≤ length old + 2
+few_more labels line old new has = omega (arith, has.added.size, two_at_most has.line.statement)

@@ -1,0 +1,68 @@
+-- What is wrong with a text, and which words a text without a fault has.
+use Rattle.std.specs.Prelude.{◌≡◌, ℕ, ◌+◌, ◌≤◌, List, [], ◌∷◌, length, slice_get, Option, Some, None, Result, Ok, Err}
+use Rattle.std.specs.Option.{option_or}
+use Rattle.text_lines.specs.Lines.{lines_of}
+use Rattle.avr_isa.specs.declared.form.Form.{Form}
+use Rattle.avr_isa.specs.Encoding.{IsDecoded}
+use Rattle.avr_isa.specs.Image.{word}
+use Rattle.avr_isa.specs.Instruction.{size_of}
+use Rattle.avr_asm.specs.declared.fault.AsmFault.{AsmFault}
+use Rattle.avr_asm.specs.declared.fault.AsmError.{AsmError}
+use Rattle.avr_asm.specs.declared.fault.AsmError.TheVariants.{Bad, NoMemory}
+use Rattle.avr_asm.specs.declared.line.Line.{Line}
+use Rattle.avr_asm.specs.declared.statement.Statement.{Statement}
+use Rattle.avr_asm.specs.declared.statement.Statement.TheVariants.{Ready, To, Word}
+use Rattle.avr_asm.specs.SourceLines.{line_of}
+use Rattle.avr_asm.specs.Addresses.{Label, Place, start, after, after_all, faults_from}
+use Rattle.avr_asm.specs.Targets.{jump_of, target_faults}
+
+-- the labels of a text
+abbrev pub labels_of : List ℕ → List Label
+labels_of text = (after_all start (lines_of text)).labels
+
+-- the first line that has a fault, and its fault, where these are the faults of lines from a number on
+abbrev pub first_fault : ℕ → List (Option AsmFault) → Option (ℕ × AsmFault)
+first_fault number [] = None
+first_fault number (None ∷ rest) = first_fault (number + 1) rest
+first_fault number (Some fault ∷ rest) = Some (number, fault)
+
+-- the first of the first five faults; only where there is none, the first of the other two. Lines are counted from 1.
+abbrev pub fault_of : List ℕ → Option (ℕ × AsmFault)
+fault_of text =
+    option_or (first_fault 1 (faults_from start (lines_of text)))
+    (first_fault 1 (target_faults (labels_of text) start (lines_of text)))
+
+-- the words at an address mean this instruction
+pub record IsInstruction (words : List ℕ) (at : ℕ) (form : Form) : Type 0 where
+  pub inside : at + size_of form ≤ length words
+  pub decoded : IsDecoded (word words at) (word words (at + 1)) (Some form)
+
+abbrev pub IsJump : (words : List ℕ) → ℕ → Result Form AsmFault → Type 0
+IsJump words at (Ok form) = IsInstruction words at form
+IsJump words at (Err fault) = ⊥
+
+-- a statement stands at an address
+abbrev pub IsStatement : List Label → (words : List ℕ) → ℕ → Option Statement → Type 0
+IsStatement labels words at None = Unit {0}
+IsStatement labels words at (Some (Ready form)) = IsInstruction words at form
+IsStatement labels words at (Some (To jump target)) = IsJump words at (jump_of labels at jump target)
+IsStatement labels words at (Some (Word n)) = slice_get words at ≡ Some n
+
+abbrev pub IsLine : List Label → (words : List ℕ) → ℕ → Result Line AsmFault → Type 0
+IsLine labels words at (Ok line) = IsStatement labels words at line.statement
+IsLine labels words at (Err fault) = ⊥
+
+-- each statement of the lines from a place on stands behind the one before, and there are no other words
+abbrev pub AreLines : List Label → (words : List ℕ) → Place → List (List ℕ) → Type 0
+AreLines labels words place [] = length words ≡ place.at
+AreLines labels words place (line ∷ lines) = IsLine labels words place.at (line_of line) × AreLines labels words (after place line) lines
+
+-- The words of a text: each instruction's words decode to the instruction that the table gives for its line, where
+-- names stand for the addresses of labels; statements stand one behind another from word 0 on.
+abbrev pub AsmText : (text words : List ℕ) → Type 0
+AsmText text words = AreLines (labels_of text) words start (lines_of text)
+
+-- the text was refused for its first fault; for want of memory always
+abbrev pub IsRefusal : (text : List ℕ) → AsmError → Type 0
+IsRefusal text (Bad line fault) = fault_of text ≡ Some (line, fault)
+IsRefusal text NoMemory = Unit {0}

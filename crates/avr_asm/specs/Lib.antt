@@ -1,0 +1,12 @@
+pub mod Cuts
+pub mod Numbers
+pub mod Operands
+pub mod Mnemonics
+pub mod Statements
+pub mod SourceLines
+pub mod Addresses
+pub mod Targets
+pub mod AsmText
+pub mod Laws
+pub mod Labels
+pub mod Passes

@@ -1,0 +1,41 @@
+//! What can be wrong with a source.
+
+use thiserror::Error;
+
+/// A fault of a line. A line's faults are tried in this order, and the first is reported.
+#[derive(Clone, Copy, Debug, PartialEq, Eq, Error)]
+pub enum AsmFault {
+    /// The line hasn't the shape of a line, or a known mnemonic has operands of other kinds.
+    #[error("form")]
+    Form,
+    /// The mnemonic isn't in the table.
+    #[error("mnemonic")]
+    Mnemonic,
+    /// An operand is outside its field or limit, or the instruction is undefined with these registers.
+    #[error("range")]
+    Range,
+    /// The line's name was a label before.
+    #[error("twice")]
+    Twice,
+    /// The statement would end above word 24,576.
+    #[error("size")]
+    TooLarge,
+    /// A named target is no label.
+    #[error("label")]
+    Label,
+    /// The target is too far for a relative instruction.
+    #[error("reach")]
+    Reach,
+}
+
+/// Why a source was not assembled.
+#[derive(Clone, Copy, Debug, PartialEq, Eq, Error)]
+pub enum AsmError {
+    /// The first faulty line, counted from 1, and the first of its faults. Labels and reach are looked at only where
+    /// no line has another fault.
+    #[error("bad asm line {line} {fault}")]
+    Bad { line: u32, fault: AsmFault },
+    /// Memory was wanted and not found.
+    #[error("no memory")]
+    NoMemory,
+}

@@ -1,0 +1,97 @@
+-- The page that RING names, erased: what the next page is made in.
+use Rattle.std.proofs.Common.{◌≡◌, ℕ, ◌+◌, ◌*◌, ◌/◌, ◌%◌, ◌<◌, ◌≤◌, ◌⊎◌, List, length, Some, Result, Ok, Err, arith, refl, sym, ap, ◌∙◌, subst}
+use Rattle.std.specs.Prelude.{◌≢◌, IfOk}
+use Rattle.flash_model.specs.Pages.{page_words, set_page, blank}
+use Rattle.flash_model.specs.Memory.{Memory}
+use Rattle.flash_model.specs.Operations.{erased_page}
+use Rattle.flash_model.specs.Layouts.{IsRight, image_of}
+use Rattle.flash_model.specs.declared.layout.Layout.{Layout}
+use Rattle.sram_layout.specs.Bytes.{byte_count}
+use Rattle.sram_layout.proofs.Laws.{byte_out_of_word}
+use Rattle.page_index.specs.Maps.{IsPool, IsFree}
+use Rattle.page_index.specs.Entries.{IsEntry}
+use Rattle.nat_page.specs.Faithful.{IsFaithful}
+use Rattle.nat_page.specs.Making.{HasNoEntry}
+use Rattle.addr_tables.specs.Tables.{IsTables}
+use Rattle.addr_tables.specs.Changes.{StaysOutside}
+use Rattle.addr_tables.proofs.TableLaws.{tables_kept}
+use Rattle.branch_bridge.specs.declared.arrival.Refused.{Refused}
+use Rattle.branch_bridge.specs.declared.arrival.Moved.{Moved}
+use Rattle.branch_bridge.specs.Operating.{with_torn}
+use Rattle.branch_bridge.specs.Unresolving.{IsApart}
+use Rattle.branch_bridge.specs.Arrivals.{Store, Kept, ring_cell, ring_of, turned, torn_in}
+use Rattle.nat_page.specs.Links.{IsUnresolved}
+use Rattle.sram_layout.proofs.Laws.{word_same}
+use Rattle.std.proofs.lemmas.Nat.{mod_below}
+use Rattle.branch_bridge.proofs.RecycleLaws.{erased_unresolved, IsAlone, erased_faithful, erased_image, victim_free, entry_left, entry_before}
+
+pub record IsEmptied (layout : Layout) (old unlinked erased : Memory) (victim t : ℕ) : Type 0 where
+  pub code : IsFaithful layout (image_of layout erased.words) erased.words
+  pub same_image : image_of layout erased.words ≡ image_of layout old.words
+  pub free : IsFree erased.words victim
+  pub unknown : HasNoEntry layout erased.words t
+  pub stays : StaysOutside layout unlinked.words erased.words victim
+  pub stubs : (s to : ℕ) → s / page_words ≢ victim → IsUnresolved layout (image_of layout old.words) unlinked.words s to → IsUnresolved layout (image_of layout erased.words) erased.words s to
+
+pub emptied : (layout : Layout) (old unlinked erased : Memory) (victim t : ℕ) → IsRight layout → IsFaithful layout (image_of layout old.words) unlinked.words → image_of layout unlinked.words ≡ image_of layout old.words → IsPool layout victim
+    → ((page : ℕ) → IsPool layout page → page ≢ victim → IsFree unlinked.words page ⊎ IsApart layout (image_of layout old.words) unlinked.words victim page)
+    → ((a v : ℕ) → IsEntry layout unlinked.words a v → IsEntry layout old.words a v) → HasNoEntry layout old.words t → erased ≡ erased_page unlinked victim → IsEmptied layout old unlinked erased victim t
+emptied layout old unlinked erased victim t right code same pool apart back unknown is =
+    let image = image_of layout old.words in
+    let words = set_page unlinked.words victim blank in
+    let there : words ≡ erased.words = sym (ap (λ (m : Memory). m.words) is) in
+    let alone : IsAlone layout image unlinked.words victim = record { pool = pool; apart = apart } in
+    let image_there : image_of layout erased.words ≡ image = sym (ap (image_of layout) there) ∙ erased_image layout image unlinked.words victim right code pool ∙ same in
+    let held : IsFaithful layout image erased.words = subst (IsFaithful layout image) there (erased_faithful layout image unlinked.words victim right code alone) in
+    record {
+      code = subst (λ i. IsFaithful layout i erased.words) (sym image_there) held;
+      same_image = image_there;
+      free = subst (λ w. IsFree w victim) there (victim_free layout image unlinked.words victim right code pool);
+      unknown = λ v entry. unknown v (back t v (entry_before layout image unlinked.words victim t v right code pool (subst (λ w. IsEntry layout w t v) (sym there) entry)));
+      stubs = λ s to away stub. subst (λ i. IsUnresolved layout i erased.words s to) (sym image_there) (subst (λ w. IsUnresolved layout image w s to) there (erased_unresolved layout image unlinked.words victim s to right code alone away stub));
+      stays = λ a v entry away. subst (λ w. IsEntry layout w a v) there (entry_left layout image unlinked.words victim a v right code pool entry away);
+    }
+
+turned_stays : (layout : Layout) (sram words : List ℕ) → IsTables layout sram words → IsTables layout (turned layout sram) words
+turned_stays layout sram words tables =
+    tables_kept layout sram (turned layout sram) words words (λ a from to. byte_out_of_word sram ring_cell a ((ring_of sram + 1) % layout.pool_pages) (omega arith) (omega arith) (λ is. omega arith) (λ is. omega arith)) (λ t v entry. entry) tables
+
+-- what holds of each answer that goes on
+ok_more : (P Q : Moved → Type 0) (result : Result Moved Refused) → ((moved : Moved) → P moved → Q moved) → IfOk result P → IfOk result Q
+ok_more P Q (Ok moved) more holds = more moved holds
+ok_more P Q (Err refused) more holds = tt
+
+ok_both : (P Q : Moved → Type 0) (result : Result Moved Refused) → IfOk result P → IfOk result Q → IfOk result (λ moved. P moved × Q moved)
+ok_both P Q (Ok moved) one other = (one, other)
+ok_both P Q (Err refused) one other = tt
+
+turned_ring : (layout : Layout) (sram : List ℕ) → IsRight layout → length sram ≡ byte_count → ring_of (turned layout sram) < layout.pool_pages
+turned_ring layout sram right long =
+    let is = word_same sram ring_cell ((ring_of sram + 1) % layout.pool_pages) (omega arith) (omega (arith, long)) in
+    let below : (ring_of sram + 1) % layout.pool_pages < layout.pool_pages = mod_below (ring_of sram + 1) layout.pool_pages right.pool_pages in
+    omega (arith, is, below)
+
+-- what is made in it leaves the whole as it should be
+pub emptied_kept : (layout : Layout) (old unlinked erased : Memory) (victim t : ℕ) (sram forgot turned_sram : List ℕ) (new : Store) (result : Result Moved Refused) → IsEmptied layout old unlinked erased victim t
+    → ((a v : ℕ) → IsEntry layout old.words a v → IsEntry layout unlinked.words a v)
+    → (StaysOutside layout unlinked.words erased.words victim → IsTables layout sram unlinked.words → IsTables layout forgot erased.words) → turned_sram ≡ turned layout forgot
+    → IsRight layout → length forgot ≡ byte_count → ((s to : ℕ) → IsUnresolved layout (image_of layout old.words) old.words s to → IsUnresolved layout (image_of layout old.words) unlinked.words s to)
+    → IfOk result (λ moved. moved.recycled ≡ Some victim) → new.flash.ops ≤ old.ops + (2 * layout.pool_pages + 2)
+    → Kept layout (record { flash = erased; sram = turned_sram }) new t result → Kept layout (record { flash = old; sram = sram }) new t result
+emptied_kept layout old unlinked erased victim t sram forgot turned_sram new result is on forgets turns right_layout long stubs told tried kept =
+    let tables : IsTables layout sram old.words → IsTables layout turned_sram erased.words = λ right.
+    subst (λ m. IsTables layout m erased.words) (sym turns) (turned_stays layout forgot erased.words (forgets is.stays (tables_kept layout sram sram old.words unlinked.words (λ a from to. refl) on right))) in
+    record {
+      code = subst (λ i. IsFaithful layout i (with_torn new.flash.words (torn_in result))) is.same_image kept.code;
+      same_image = kept.same_image ∙ is.same_image;
+      tables = λ right. kept.tables (tables right);
+      entered = λ right. kept.entered (tables right);
+      ops = tried;
+      ring = λ below. kept.ring (let there = ap ring_of turns in omega (arith, there, turned_ring layout forgot right_layout long));
+      stubs = (
+          let Told : Moved → Type 0 = λ moved. moved.recycled ≡ Some victim in
+          let Here : Moved → Type 0 = λ moved. (s to : ℕ) → moved.recycled ≢ Some (s / page_words) → IsUnresolved layout (image_of layout erased.words) erased.words s to → IsUnresolved layout (image_of layout erased.words) new.flash.words s to in
+          let There : Moved → Type 0 = λ moved. (s to : ℕ) → moved.recycled ≢ Some (s / page_words) → IsUnresolved layout (image_of layout old.words) old.words s to → IsUnresolved layout (image_of layout old.words) new.flash.words s to in
+          ok_more (λ moved. Told moved × Here moved) There result (λ moved both s to apart stub.
+          subst (λ i. IsUnresolved layout i new.flash.words s to) is.same_image (both.1 s to apart (is.stubs s to (λ own. apart (both.0 ∙ ap Some (sym own))) (stubs s to stub)))) (ok_both Told Here result told kept.stubs));
+    }

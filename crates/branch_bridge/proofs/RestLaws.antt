@@ -1,0 +1,51 @@
+-- Bytes beside RING and the tables.
+use Rattle.std.proofs.Common.{◌≡◌, ℕ, ◌+◌, ◌%◌, ◌<◌, ◌≤◌, ◌⊎◌, List, arith, refl, ◌∙◌, inl, inr, ap₂, ◌*◌}
+use Rattle.sram_layout.specs.Bytes.{data_word_at}
+use Rattle.sram_layout.specs.Boot.{at_boot}
+use Rattle.sram_layout.proofs.BootLaws.{boot_zero}
+use Rattle.sram_layout.proofs.Laws.{length-with_word, byte_out_of_word}
+use Rattle.flash_model.specs.declared.layout.Layout.{Layout}
+use Rattle.addr_tables.specs.Changes.{KeepsRest}
+use Rattle.branch_bridge.specs.Arrivals.{ring_cell, ring_of, turned, KeepsOtherBytes}
+
+pub others_same : (m : List ℕ) → KeepsOtherBytes m m
+others_same m = record { size = refl; rest = λ a from apart. refl }
+
+pub others_then : (m m' m'' : List ℕ) → KeepsOtherBytes m m' → KeepsOtherBytes m' m'' → KeepsOtherBytes m m''
+others_then m m' m'' first second = record {
+  size = second.size ∙ first.size;
+  rest = λ a from apart. second.rest a from apart ∙ first.rest a from apart;
+}
+
+-- where the tables alone change, and where RING does
+beside_tables : (a : ℕ) → (a < 0x0142) ⊎ (0x0400 ≤ a) → (a < 0x0180) ⊎ (0x0400 ≤ a)
+beside_tables a apart = elim apart [
+  | inl below ↦ inl (omega arith)
+  | inr above ↦ inr above
+]
+
+pub others_rest : (m m' : List ℕ) → KeepsRest m m' → KeepsOtherBytes m m'
+others_rest m m' keeps = record {
+  size = keeps.size;
+  rest = λ a from apart. keeps.rest a from (beside_tables a apart);
+}
+
+pub others_turned : (layout : Layout) (m : List ℕ) → KeepsOtherBytes m (turned layout m)
+others_turned layout m = record {
+  size = length-with_word m ring_cell ((ring_of m + 1) % layout.pool_pages);
+  rest = λ a from apart. byte_out_of_word m ring_cell a ((ring_of m + 1) % layout.pool_pages) (omega arith) from (λ is. elim apart [
+    | inl below ↦ omega arith
+    | inr above ↦ omega arith
+  ]) (λ is. elim apart [
+    | inl below ↦ omega arith
+    | inr above ↦ omega arith
+  ]);
+}
+
+-- RING is 0 at boot
+pub boot_ring : ring_of at_boot ≡ 0
+unfolding data_word_at
+boot_ring = ap₂ (λ low high. low + 256 * high) (boot_zero ring_cell (omega arith) (omega arith) (inl (omega arith))) (boot_zero (ring_cell + 1) (omega arith) (omega arith) (inl (omega arith)))
+
+pub boot_ring_below : (pool_pages : ℕ) → 1 ≤ pool_pages → ring_of at_boot < pool_pages
+boot_ring_below pool_pages some = omega (arith, boot_ring)

@@ -1,0 +1,127 @@
+-- The pages of the pool one after another, up to some of them.
+use Rattle.std.proofs.Common.{◌≡◌, ℕ, zero, suc, ◌+◌, ◌*◌, ◌<◌, ◌≤◌, ◌⊎◌, List, Some, None, arith, refl, sym, ap, ◌∙◌, inl, inr, subst}
+use Rattle.std.specs.Prelude.{◌≢◌}
+use Rattle.std.proofs.lemmas.Bool.{cases_eq}
+use Rattle.flash_model.specs.Layouts.{IsRight, image_of}
+use Rattle.flash_model.specs.declared.layout.Layout.{Layout}
+use Rattle.flash_model.specs.Memory.{Memory}
+use Rattle.page_index.specs.Maps.{IsPool, IsFree}
+use Rattle.page_index.specs.Entries.{IsEntry}
+use Rattle.page_index.proofs.ChangeLaws.{free_alike}
+use Rattle.nat_page.specs.Faithful.{IsFaithful}
+use Rattle.nat_page.specs.Used.{is_used}
+use Rattle.nat_page.specs.Links.{IsUnresolved}
+use Rattle.nat_page.specs.Unlinking.{Outside}
+use Rattle.nat_page.proofs.StayLaws.{holds_alike}
+use Rattle.branch_bridge.specs.declared.rewriting.ResolveStop.{ResolveStop}
+use Rattle.branch_bridge.specs.Operating.{Performed, perform, then_on, mended}
+use Rattle.branch_bridge.specs.Unresolving.{unlinking, unresolved, IsApart}
+use Rattle.branch_bridge.proofs.UnresolveLaws.{PageDone, OneTold, one_told}
+
+-- the first k pages are done
+pub record UpTo (layout : Layout) (old now : Memory) (victim k : ℕ) : Type 0 where
+  pub performed : unresolved (image_of layout old.words) victim layout.pool_first k old ≡ record { memory = now; stop = None }
+  pub code : IsFaithful layout (image_of layout old.words) now.words
+  pub same_image : image_of layout now.words ≡ image_of layout old.words
+  pub apart : (page : ℕ) → IsPool layout page → page < layout.pool_first + k → page ≢ victim → IsFree now.words page ⊎ IsApart layout (image_of layout old.words) now.words victim page
+  pub entries : (a v : ℕ) → IsEntry layout old.words a v → IsEntry layout now.words a v
+  pub entries_back : (a v : ℕ) → IsEntry layout now.words a v → IsEntry layout old.words a v
+  pub stubs : (s t : ℕ) → IsUnresolved layout (image_of layout old.words) old.words s t → IsUnresolved layout (image_of layout old.words) now.words s t
+  pub ops : now.ops ≤ old.ops + 2 * k
+  pub uses : (page : ℕ) → is_used now.words page ≡ is_used old.words page
+
+pub up_to_none : (layout : Layout) (old : Memory) (victim : ℕ) → IsFaithful layout (image_of layout old.words) old.words → UpTo layout old old victim 0
+up_to_none layout old victim code = record {
+  performed = refl;
+  code = code;
+  same_image = refl;
+  apart = λ page pool below away. absurd (omega (arith, pool.from));
+  entries = λ a v entry. entry;
+  entries_back = λ a v entry. entry;
+  stubs = λ s t stub. stub;
+  ops = omega arith;
+  uses = λ page. refl;
+}
+
+-- a page that is apart stays so where another one is done
+apart_stays : (layout : Layout) (image words words' : List ℕ) (victim page other : ℕ) → IsRight layout → IsFaithful layout image words → PageDone layout image words words' victim page → IsPool layout other → other ≢ page
+    → IsFree words other ⊎ IsApart layout image words victim other → IsFree words' other ⊎ IsApart layout image words' victim other
+apart_stays layout image words words' victim page other right code done pool away before = elim before [
+  | inl free ↦ inl (free_alike words words' other (done.others other away) (omega (arith, pool.to, right.pool_below_kernel, code.whole)) (omega (arith, pool.to, right.pool_below_kernel, done.code.whole)) free)
+  | inr apart ↦ inr (record {
+    first = apart.first;
+    last = apart.last;
+    holds = holds_alike (Outside (IsEntry layout words) victim) (Outside (IsEntry layout words') victim) image words words' other apart.first apart.last (λ a v leads. (done.entries a v leads.0, leads.1)) (done.others other away) apart.holds;
+  })
+]
+
+-- the next page, done
+pub up_to_next : (layout : Layout) (old now next : Memory) (victim k : ℕ) → IsRight layout → UpTo layout old now victim k → k < layout.pool_pages
+    → perform now (unlinking (image_of layout now.words) now.words victim (layout.pool_first + k)) ≡ record { memory = next; stop = None } → UpTo layout old next victim (suc k)
+up_to_next layout old now next victim k right up below performed =
+    let image = image_of layout old.words in
+    let page = layout.pool_first + k in
+    let pool : IsPool layout page = record { from = omega arith; to = omega arith } in
+    let told = one_told layout image now victim page right up.code pool in
+    let same : perform now (unlinking image now.words victim page) ≡ record { memory = next; stop = None } = ap (λ i. perform now (unlinking i now.words victim page)) (sym up.same_image) ∙ performed in
+    let P : Performed → Type 0 = λ t. OneTold layout image now victim page t in
+    let here : OneTold layout image now victim page (record { memory = next; stop = None }) = subst P same told in
+    let done : PageDone layout image now.words next.words victim page = here.done refl in
+    let more : Performed → Performed = λ p. then_on p (λ m. perform m (unlinking image m.words victim page)) in
+    let ops = here.ops in
+    let before = up.ops in
+    record {
+      performed = ap more up.performed ∙ same;
+      code = done.code;
+      same_image = done.same_image ∙ up.same_image;
+      apart = λ other pool' below' away. elim (cases_eq other page) [
+        | inl is ↦ (
+            let Q : ℕ → Type 0 = λ p. p ≢ victim → IsFree next.words p ⊎ IsApart layout image next.words victim p in
+            (subst Q (sym is) done.apart) away)
+        | inr apart ↦ apart_stays layout image now.words next.words victim page other right up.code done pool' apart (up.apart other pool' (omega arith) away)
+      ];
+      entries = λ a v entry. done.entries a v (up.entries a v entry);
+      entries_back = λ a v entry. up.entries_back a v (done.entries_back a v entry);
+      stubs = λ s t stub. done.stubs s t (up.stubs s t stub);
+      uses = λ p. done.uses p ∙ up.uses p;
+      ops = omega arith;
+    }
+
+-- the next page, refused: no further page is done
+stopped_stays : (image : List ℕ) (victim first k n : ℕ) (old new : Memory) (stop : ResolveStop) → unresolved image victim first k old ≡ record { memory = new; stop = Some stop } → k ≤ n → unresolved image victim first n old ≡ record { memory = new; stop = Some stop }
+stopped_stays image victim first k zero old new stop is near = let same : 0 ≡ k = omega arith in ap (λ j. unresolved image victim first j old) same ∙ is
+stopped_stays image victim first k (suc n) old new stop is near = elim (cases_eq k (suc n)) [
+  | inl same ↦ ap (λ j. unresolved image victim first j old) (sym same) ∙ is
+  | inr apart ↦ (
+      let earlier = stopped_stays image victim first k n old new stop is (omega arith) in
+      let more : Performed → Performed = λ p. then_on p (λ m. perform m (unlinking image m.words victim (first + n))) in
+      ap more earlier)
+]
+
+pub record IsStopped (layout : Layout) (old new : Memory) (victim : ℕ) (stop : ResolveStop) : Type 0 where
+  pub performed : unresolved (image_of layout old.words) victim layout.pool_first layout.pool_pages old ≡ record { memory = new; stop = Some stop }
+  pub code : IsFaithful layout (image_of layout old.words) (mended new.words (Some stop))
+  pub same_image : image_of layout (mended new.words (Some stop)) ≡ image_of layout old.words
+  pub entries : (a v : ℕ) → IsEntry layout old.words a v → IsEntry layout (mended new.words (Some stop)) a v
+  pub ops : new.ops ≤ old.ops + 2 * layout.pool_pages
+  pub uses : (page : ℕ) → is_used (mended new.words (Some stop)) page ≡ is_used old.words page
+
+pub up_to_stop : (layout : Layout) (old now new : Memory) (victim k : ℕ) (stop : ResolveStop) → IsRight layout → UpTo layout old now victim k → k < layout.pool_pages
+    → perform now (unlinking (image_of layout now.words) now.words victim (layout.pool_first + k)) ≡ record { memory = new; stop = Some stop } → IsStopped layout old new victim stop
+up_to_stop layout old now new victim k stop right up below performed =
+    let image = image_of layout old.words in
+    let page = layout.pool_first + k in
+    let pool : IsPool layout page = record { from = omega arith; to = omega arith } in
+    let told = one_told layout image now victim page right up.code pool in
+    let same : perform now (unlinking image now.words victim page) ≡ record { memory = new; stop = Some stop } = ap (λ i. perform now (unlinking i now.words victim page)) (sym up.same_image) ∙ performed in
+    let P : Performed → Type 0 = λ t. OneTold layout image now victim page t in
+    let here : OneTold layout image now victim page (record { memory = new; stop = Some stop }) = subst P same told in
+    let more : Performed → Performed = λ p. then_on p (λ m. perform m (unlinking image m.words victim page)) in
+    record {
+      performed = stopped_stays image victim layout.pool_first (suc k) layout.pool_pages old new stop (ap more up.performed ∙ same) (omega arith);
+      code = here.code;
+      same_image = here.same_image ∙ up.same_image;
+      entries = λ a v entry. here.entries a v (up.entries a v entry);
+      uses = λ p. here.uses p ∙ up.uses p;
+      ops = (let more_ops = here.ops in let before = up.ops in omega arith);
+    }

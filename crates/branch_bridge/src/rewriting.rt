@@ -1,0 +1,50 @@
+//! One page of flash that gets other words.
+
+ghost use Rattle.std.specs.Prelude.{◌≡◌, ◌+◌, ◌<◌, ◌^◌};
+ghost use Rattle.flash_model.specs.Memory.{IsWhole};
+ghost use Rattle.branch_bridge.specs.Operating.{perform, rewriting, stop_of};
+
+use flash_model::Flash;
+
+/// The words that a page was to get, where its programming was refused after it was erased.
+#[derive(Clone, Copy, Debug, PartialEq, Eq)]
+pub struct Torn {
+    /// The page, which is erased.
+    pub page: u16,
+    /// What it was to hold.
+    pub words: [u16; 128],
+}
+
+/// Why stubs were not rewritten.
+#[derive(Clone, Copy, Debug, PartialEq, Eq)]
+pub struct ResolveStop {
+    /// The number of the operation on flash that was refused.
+    pub op: u64,
+    /// The page that lacks its words, where one was erased for it.
+    pub torn: Option<Torn>,
+}
+
+/// Erases a page, and programs it with these words.
+pub(crate) fn rewrite(flash: &mut Flash, page: u16, words: &[u16; 128]) -> Result<(), ResolveStop>
+    requires page { page < 512 }
+    requires room { flash.old.ops + 1 < 2 ^ 63 }
+    ensures performed { perform flash.old (rewriting page words.now) ≡ record { memory = flash.new; stop = stop_of result } }
+    ensures whole { IsWhole flash.old × IsWhole flash.new }
+{
+    match flash.erase(page) {
+        Ok(()) => match flash.program(page, words) {
+            Ok(()) => Ok(()),
+            Err(stop) => Err(ResolveStop {
+                op: stop.op,
+                torn: Some(Torn {
+                    page,
+                    words: *words,
+                }),
+            }),
+        },
+        Err(stop) => Err(ResolveStop {
+            op: stop.op,
+            torn: None,
+        }),
+    }
+}

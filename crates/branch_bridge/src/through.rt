@@ -1,0 +1,89 @@
+//! An arrival through a stub.
+
+ghost use Rattle.std.specs.Prelude.{◌≡◌, ◌<◌, ◌^◌, Option};
+ghost use Rattle.std.specs.Option.{option_map};
+ghost use Rattle.flash_model.specs.Layouts.{IsRight, image_of};
+ghost use Rattle.nat_page.specs.Faithful.{IsFaithful};
+ghost use Rattle.addr_tables.specs.Tables.{IsTables};
+ghost use Rattle.branch_bridge.specs.Arrivals.{ArrivesFrom, CameThrough, KeptThrough, ring_of, to_resolve as to_resolve_of, refused_by};
+ghost use Rattle.branch_bridge.specs.Operating.{stop_of};
+
+use crate::arrival::{ArriveStop, Refused, arrive};
+use crate::resolving::resolve;
+use crate::rewriting::ResolveStop;
+use flash_model::{Flash, Layout};
+use sram_layout::Sram;
+
+/// How an arrival went.
+#[derive(Clone, Copy, Debug, PartialEq, Eq)]
+pub struct Arrival {
+    /// Where control goes on, a word address of flash, once that is known.
+    pub place: Option<u16>,
+    /// Whether a page was made, also where the arrival was refused then.
+    pub made: bool,
+    /// Why it was refused, if it was.
+    pub refused: Option<Refused>,
+}
+
+/// An arrival where the tables are right. `stub` is the word address of the call of the kernel's bridge through
+/// which control came, if it came so: that stub is resolved, unless its page was recycled for the arrival.
+pub fn arrive_from(
+    sram: &mut Sram,
+    flash: &mut Flash,
+    layout: &Layout,
+    t: u16,
+    stub: Option<u16>,
+) -> Arrival
+    requires right { IsRight layout.now }
+    requires code { IsFaithful layout.now (image_of layout.now flash.old.words) flash.old.words }
+    requires tables { IsTables layout.now sram.old flash.old.words }
+    requires stub { CameThrough layout.now flash.old.words stub t }
+    requires ring { ring_of sram.old < layout.now.pool_pages }
+    requires room { flash.old.ops < 2 ^ 61 }
+    ensures arrives { ArrivesFrom layout.now (record { flash = flash.old; sram = sram.old }) (record { flash = flash.new; sram = sram.new }) t stub result }
+    ensures kept { KeptThrough layout.now (record { flash = flash.old; sram = sram.old }) (record { flash = flash.new; sram = sram.new }) t result }
+{
+    let moved = match arrive(sram, flash, layout, t) {
+        Ok(moved) => moved,
+        Err(refused) => {
+            return Arrival {
+                place: None,
+                made: false,
+                refused: Some(refused),
+            };
+        }
+    };
+    let refused = match to_resolve(moved.recycled, stub) {
+        Some(stub) => refusal(resolve(flash, layout, stub, moved.place)),
+        None => None,
+    };
+    Arrival {
+        place: Some(moved.place),
+        made: moved.made,
+        refused,
+    }
+}
+
+/// The stub that is to be resolved, if any.
+fn to_resolve(recycled: Option<u16>, stub: Option<u16>) -> Option<u16>
+    ensures value { result ≡ to_resolve_of recycled stub }
+{
+    match (recycled, stub) {
+        (_, None) => None,
+        (None, Some(stub)) => Some(stub),
+        (Some(page), Some(stub)) => { if page == stub / 128 { None } else { Some(stub) } }
+    }
+}
+
+/// A refusal to resolve, as one of the arrival.
+fn refusal(resolved: Result<(), ResolveStop>) -> Option<Refused>
+    ensures value { result ≡ option_map refused_by (stop_of resolved) }
+{
+    match resolved {
+        Ok(()) => None,
+        Err(stop) => Some(Refused {
+            why: ArriveStop::Flash { op: stop.op },
+            torn: stop.torn,
+        }),
+    }
+}

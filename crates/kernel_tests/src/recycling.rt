@@ -1,0 +1,254 @@
+//! Pages that are used again, in small pools, and what a refused operation on flash leaves.
+
+ghost use Rattle.std.specs.Prelude.{◌≡◌, ◌+◌, ◌<◌, ◌≤◌, ◌^◌, [], ◌∷◌, IfSome, OnOk};
+ghost use Rattle.flash_model.specs.Layouts.{IsRight, image_of};
+ghost use Rattle.nat_page.specs.Faithful.{IsFaithful};
+ghost use Rattle.nat_page.specs.Links.{IsUnresolved};
+ghost use Rattle.branch_bridge.specs.Arrivals.{ring_of};
+
+use crate::support::{arrived, loaded, loaded_to_fail, sram_at_boot};
+use branch_bridge::{ArriveStop, Moved, Refused, ResolveStop, arrive, resolve};
+use flash_model::{Flash, Layout};
+use page_index::entry;
+use sram_layout::Sram;
+use std::test::Fail;
+
+/// RJMP 2; NOP; RJMP 0; RJMP to itself.
+const ROUND: [u16; 4] = [0xC001, 0x0000, 0xCFFD, 0xCFFF];
+
+/// Where the jump back to 0 calls the bridge, if it does.
+fn jump_back(flash: &Flash, layout: &Layout) -> Option<u16>
+    requires right { IsRight layout.now }
+    requires faithful { IsFaithful layout.now (image_of layout.now flash.now.words) flash.now.words }
+    requires image { image_of layout.now flash.now.words ≡ 0xC001 ∷ 0x0000 ∷ 0xCFFD ∷ 0xCFFF ∷ [] }
+    ensures stub { IfSome result (λ s. IsUnresolved layout.now (image_of layout.now flash.now.words) flash.now.words s 0) }
+{
+    let Some(0x4083) = entry(flash, layout, 2) else {
+        return None;
+    };
+    if flash.word(0x4093) != 0x940E {
+        return None;
+    }
+    if flash.word(0x4094) != 0xF000 {
+        return None;
+    }
+    Some(0x4093)
+}
+
+/// The jump back is resolved, where it may be.
+#[tactic(auto, using(nat_page::proofs::FaithfulLaws::faithful_mapped))]
+fn resolve_back(flash: &mut Flash, layout: &Layout) -> Result<(), ResolveStop>
+    requires right { IsRight layout.now }
+    requires faithful { IsFaithful layout.now (image_of layout.now flash.old.words) flash.old.words }
+    requires image { image_of layout.now flash.old.words ≡ 0xC001 ∷ 0x0000 ∷ 0xCFFD ∷ 0xCFFF ∷ [] }
+    requires room { flash.old.ops < 2 ^ 60 }
+    ensures faithful { OnOk result (IsFaithful layout.now (image_of layout.now flash.new.words) flash.new.words) }
+    ensures room { flash.new.ops ≤ flash.old.ops + 1000 }
+{
+    let Some(place) = entry(flash, layout, 0) else {
+        return Ok(());
+    };
+    let Some(stub) = jump_back(flash, layout) else {
+        return Ok(());
+    };
+    resolve(flash, layout, stub, place)
+}
+
+/// Arrivals at 0 and at 2, the jump back to 0 resolved, and an arrival at 3, up to the first that is refused.
+fn go_round(sram: &mut Sram, flash: &mut Flash, layout: &Layout) -> Result<Moved, Refused>
+    requires right { IsRight layout.now }
+    requires faithful { IsFaithful layout.now (image_of layout.now flash.old.words) flash.old.words }
+    requires image { image_of layout.now flash.old.words ≡ 0xC001 ∷ 0x0000 ∷ 0xCFFD ∷ 0xCFFF ∷ [] }
+    requires ring { ring_of sram.old < layout.now.pool_pages }
+    requires room { flash.old.ops ≡ 0 }
+{
+    arrived(sram, flash, layout, 0)?;
+    arrived(sram, flash, layout, 2)?;
+    if let Err(stop) = resolve_back(flash, layout) {
+        return Err(Refused {
+            why: ArriveStop::Flash { op: stop.op },
+            torn: stop.torn,
+        });
+    }
+    arrive(sram, flash, layout, 3)
+}
+
+/// A pool of so many pages.
+fn small(image_words: u16, pool_pages: u16) -> Layout
+    requires image { image_words ≤ 16384 }
+    requires some { 1 ≤ pool_pages }
+    requires fits { pool_pages ≤ 352 }
+    ensures right { IsRight result }
+    ensures image { result.image_words ≡ image_words }
+    ensures pool { result.pool_pages ≡ pool_pages }
+{
+    Layout {
+        image_words,
+        pool_first: 128,
+        pool_pages,
+    }
+}
+
+#[test]
+fn a_page_is_recycled(rt: HostRuntime) -> Result<(), Fail> {
+    let layout = small(4, 2);
+    let mut flash = loaded(&rt, &layout, &ROUND)?;
+    let mut sram = sram_at_boot(&layout);
+    let Ok(first) = arrived(&mut sram, &mut flash, &layout, 0) else {
+        return Err("an arrival is refused".into());
+    };
+    let Ok(second) = arrived(&mut sram, &mut flash, &layout, 2) else {
+        return Err("an arrival is refused".into());
+    };
+    assert_eq!(rt; [first.place, second.place], [0x4003, 0x4083]);
+    let Ok(()) = resolve_back(&mut flash, &layout) else {
+        return Err("the jump is refused".into());
+    };
+    assert_eq!(rt; [flash.word(0x4093), flash.word(0x4094)], [0x940C, 0x4003]);
+    let Ok(third) = arrived(&mut sram, &mut flash, &layout, 3) else {
+        return Err("an arrival is refused".into());
+    };
+    assert_eq!(rt;
+        (third.place, third.made, third.recycled),
+        (0x4003, true, Some(128))
+    );
+    assert_eq!(rt; [flash.word(0x4093), flash.word(0x4094)], [0x940E, 0xF000]);
+    assert_eq!(rt; (place_of(&flash, &layout, 0), flash.ops()), (None, 8));
+    Ok(())
+}
+
+/// A stub's third word is no jump, whatever stands behind it: the image is CALL 0x940C; SBCI, and three jumps to
+/// themselves.
+#[test]
+fn third_words_are_no_jumps(rt: HostRuntime) -> Result<(), Fail> {
+    let layout = small(6, 2);
+    let image = [0x940E, 0x940C, 0x4007, 0xCFFF, 0xCFFF, 0xCFFF];
+    let mut flash = loaded(&rt, &layout, &image)?;
+    let mut sram = sram_at_boot(&layout);
+    let Ok(_) = arrived(&mut sram, &mut flash, &layout, 4) else {
+        return Err("an arrival is refused".into());
+    };
+    let Ok(_) = arrived(&mut sram, &mut flash, &layout, 0) else {
+        return Err("an arrival is refused".into());
+    };
+    assert_eq!(rt; pairs(&flash, 129, [0x940C, 0x4007]), 1);
+    let Ok(third) = arrived(&mut sram, &mut flash, &layout, 5) else {
+        return Err("an arrival is refused".into());
+    };
+    assert_eq!(rt; (third.place, third.recycled), (0x4003, Some(128)));
+    assert_eq!(rt; pairs(&flash, 129, [0x940C, 0x4007]), 1);
+    assert_eq!(rt;
+        (flash.erases(128), flash.erases(129), flash.ops()),
+        (1, 0, 4)
+    );
+    Ok(())
+}
+
+/// The page that each refused operation leaves torn, and RING.
+const LEFT: [(Option<u16>, u8); 8] = [
+    (None, 0),
+    (None, 0),
+    (None, 0),
+    (Some(129), 0),
+    (None, 0),
+    (Some(129), 0),
+    (None, 0),
+    (Some(128), 1),
+];
+
+#[test]
+fn each_operation_may_be_refused(rt: HostRuntime) -> Result<(), Fail> {
+    let layout = small(4, 2);
+    for op in 1..9u32 {
+        let mut flash = loaded_to_fail(&rt, &layout, &ROUND, &[op])?;
+        let mut sram = sram_at_boot(&layout);
+        let refused = match go_round(&mut sram, &mut flash, &layout) {
+            Ok(_) => return Err("no operation is refused".into()),
+            Err(refused) => refused,
+        };
+        let (torn, ring) = LEFT[op as usize - 1];
+        assert_eq!(rt; refused.why, ArriveStop::Flash { op: u64::from(op) });
+        assert_eq!(rt; (torn_page(&refused), sram.byte(0x0142)), (torn, ring));
+        assert_eq!(rt;
+            (flash.ops(), flash.refused().is_some()),
+            (u64::from(op), true)
+        );
+        if let Some(page) = torn {
+            assert_eq!(rt; flash.word(page.wrapping_mul(128)), 0xFFFF);
+        }
+    }
+    Ok(())
+}
+
+/// The page of a torn page's words, if there is one.
+fn torn_page(refused: &Refused) -> Option<u16> {
+    match refused.torn {
+        Some(torn) => Some(torn.page),
+        None => None,
+    }
+}
+
+/// The words that a torn page lacks, of the page where the jump back is unresolved.
+#[test]
+fn a_torn_page_lacks_its_new_words(rt: HostRuntime) -> Result<(), Fail> {
+    let layout = small(4, 2);
+    let mut flash = loaded_to_fail(&rt, &layout, &ROUND, &[6])?;
+    let mut sram = sram_at_boot(&layout);
+    let Err(refused) = go_round(&mut sram, &mut flash, &layout) else {
+        return Err("no operation is refused".into());
+    };
+    let Some(torn) = refused.torn else {
+        return Err("no page is torn".into());
+    };
+    assert_eq!(rt;
+        [torn.words[0], torn.words[1], torn.words[2]],
+        [0, 1, 0x0203]
+    );
+    assert_eq!(rt;
+        [torn.words[0x13], torn.words[0x14], torn.words[0x15]],
+        [0x940E, 0xF000, 0]
+    );
+    Ok(())
+}
+
+/// Jumps to the next address have a page each: the pages are used in turn.
+#[test]
+fn small_pools_go_round(rt: HostRuntime) -> Result<(), Fail> {
+    for pages in 1..6u16 {
+        let layout = small(12, pages);
+        let mut flash = loaded(&rt, &layout, &[0xC000; 12])?;
+        let mut sram = sram_at_boot(&layout);
+        for t in 0..12u16 {
+            let Ok(moved) = arrived(&mut sram, &mut flash, &layout, t) else {
+                return Err("an arrival is refused".into());
+            };
+            let page = 128 + t % pages;
+            let recycled = if t < pages { None } else { Some(page) };
+            assert_eq!(rt; (moved.place, moved.recycled), (128 * page + 3, recycled));
+        }
+        assert_eq!(rt; flash.ops(), u64::from(24 - pages));
+    }
+    Ok(())
+}
+
+/// The place of an address in the pool, if it has one.
+#[tactic(auto, using(nat_page::proofs::FaithfulLaws::faithful_mapped))]
+fn place_of(flash: &Flash, layout: &Layout, t: u16) -> Option<u16>
+    requires right { IsRight layout.now }
+    requires faithful { IsFaithful layout.now (image_of layout.now flash.now.words) flash.now.words }
+{
+    entry(flash, layout, t)
+}
+
+/// How often two words stand behind one another in a page.
+fn pairs(flash: &Flash, page: u16, words: [u16; 2]) -> u16
+    requires page { page < 480 }
+{
+    let mut count = 0;
+    'words: for k in 0..127u16 {
+        if flash.word(128 * page + k) == words[0] && flash.word(128 * page + k + 1) == words[1] {
+            count += 1;
+        }
+    }
+    count
+}

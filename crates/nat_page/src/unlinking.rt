@@ -1,0 +1,162 @@
+//! The links of one page that call the kernel's bridge again.
+
+ghost use Rattle.std.specs.Prelude.{◌≡◌, ◌+◌, ◌*◌, ◌/◌, ◌%◌, ◌<◌, ◌≤◌, [], true, false, length};
+ghost use Rattle.flash_model.specs.Pages.{page_of};
+ghost use Rattle.flash_model.specs.Layouts.{IsRight, image_of};
+ghost use Rattle.nat_template.specs.Stubs.{call_word, bridge_entry};
+ghost use Rattle.page_index.specs.Maps.{IsPool};
+ghost use Rattle.nat_page.specs.Standing.{size};
+ghost use Rattle.nat_page.specs.CodePages.{IsCodePage};
+ghost use Rattle.nat_page.specs.Links.{with_two_words};
+ghost use Rattle.nat_page.specs.Unlinking.{leads_into, is_picked, links_where, with_calls, stubs_where, stubs_into, are_some, IsPatched};
+
+use crate::draft::PAGE_WORDS;
+use crate::pieces::CALL_BRIDGE;
+use crate::remaking::remade;
+use crate::words::FlashImage;
+use flash_model::{Flash, Layout};
+use nat_template::Piece;
+
+/// JMP, the first of its two words.
+const JMP: u16 = 0x940C;
+
+/// Which links that are resolved are to call the kernel's bridge again.
+pub trait LinkTest {
+    ghost use Rattle.std.specs.Prelude.{ℕ, Bool};
+
+    // Of a link to an address, with a place.
+    ghost test: { Self → ℕ → ℕ → Bool };
+
+    /// Whether a link to `t` that jumps to `place` is one.
+    fn picks(&self, t: u16, place: u16) -> bool
+        ensures value { result ≡ test self.now t place };
+}
+
+/// Those that lead into a page.
+#[derive(Clone, Copy, Debug)]
+pub struct LeadsInto {
+    /// The page.
+    pub page: u16,
+}
+
+impl LinkTest for LeadsInto {
+    ghost use Rattle.nat_page.specs.Unlinking.{leads_into};
+
+    ghost test = { λ links. leads_into links.page };
+
+    fn picks(&self, _t: u16, place: u16) -> bool {
+        place / PAGE_WORDS == self.page
+    }
+}
+
+/// The words of a page whose links call the kernel's bridge again.
+#[derive(Clone, Copy, Debug, PartialEq, Eq)]
+pub struct Unlinked {
+    /// The words.
+    pub words: [u16; 128],
+    /// Whether there is any such link.
+    pub any: bool,
+}
+
+/// The words of this used page, with a call of the kernel's bridge in each stub that jumps where the test picks it.
+pub fn without_links<L: LinkTest>(flash: &Flash, layout: &Layout, page: u16, links: &L) -> Unlinked
+    requires right { IsRight layout.now }
+    requires image { length (image_of layout.now flash.now.words) ≡ layout.now.image_words }
+    requires pool { IsPool layout.now page }
+    requires run { IsCodePage (image_of layout.now flash.now.words) flash.now.words page }
+    ensures words { result.words ≡ page_of (with_calls flash.now.words (stubs_where (L.test links.now) (image_of layout.now flash.now.words) flash.now.words page)) page }
+    ensures any { result.any ≡ are_some (stubs_where (L.test links.now) (image_of layout.now flash.now.words) flash.now.words page) }
+{
+    let first = PAGE_WORDS * page;
+    let t = PAGE_WORDS * flash.word(first) + flash.word(first + 2) / 256;
+    let mut patch = Unlinked {
+        words: page_words(flash, page),
+        any: false,
+    };
+    if let Some(pieces) = remade(&FlashImage { flash, layout }, t, flash.word(first + 1)) {
+        unlink(flash, links, page, &pieces, &mut patch);
+    }
+    patch
+}
+
+/// Whether the page may have a stub that jumps into the victim: some two of its words are such a jump. A page
+/// of which this isn't so need not be walked along.
+pub fn may_have_stubs_into(flash: &Flash, layout: &Layout, victim: u16, page: u16) -> bool
+    requires right { IsRight layout.now }
+    requires image { length (image_of layout.now flash.now.words) ≡ layout.now.image_words }
+    requires pool { IsPool layout.now page }
+    requires run { IsCodePage (image_of layout.now flash.now.words) flash.now.words page }
+    ensures none { result ≡ false → are_some (stubs_into (image_of layout.now flash.now.words) flash.now.words victim page) ≡ false }
+{
+    'words: for k in 0..PAGE_WORDS - 1 {
+        if jumps(flash, victim, PAGE_WORDS * page + k) {
+            return true;
+        }
+    }
+    false
+}
+
+/// Whether a jump into the victim stands at this word address.
+#[inline(always)]
+fn jumps(flash: &Flash, victim: u16, at: u16) -> bool
+    requires low { at < 65535 }
+    ensures value { result ≡ is_picked flash.now.words (leads_into victim) at 0 }
+{
+    flash.word(at + 1) / PAGE_WORDS == victim && flash.word(at) == JMP
+}
+
+/// Puts a call into each link of the page's pieces that the test picks.
+fn unlink<L: LinkTest>(flash: &Flash, links: &L, page: u16, pieces: &[Piece], patch: &mut Unlinked)
+    requires low { page < 480 }
+    requires fits { size pieces.now ≤ 128 }
+    requires patch { IsPatched flash.now.words page patch.old [] }
+    ensures patched { IsPatched flash.now.words page patch.new (links_where flash.now.words (L.test links.now) (128 * page) pieces.now) }
+{
+    let mut at = PAGE_WORDS * page;
+    'pieces: for piece in pieces {
+        match *piece {
+            Piece::Fixed(_) => at += 1,
+            Piece::Link(t) => {
+                unlink_one(flash, links, page, at, t, patch);
+                at += 3;
+            }
+        }
+    }
+}
+
+/// The same of one link.
+#[tactic(auto, unfolding(crate::specs::Links::with_two_words))]
+fn unlink_one<L: LinkTest>(
+    flash: &Flash,
+    links: &L,
+    page: u16,
+    at: u16,
+    t: u16,
+    patch: &mut Unlinked,
+)
+    requires own { at / 128 ≡ page }
+    requires room { at % 128 + 2 < 128 }
+    ensures stays { is_picked flash.now.words (L.test links.now) at t ≡ false → patch.new ≡ patch.old }
+    ensures calls { is_picked flash.now.words (L.test links.now) at t ≡ true
+        → (patch.new.words ≡ with_two_words patch.old.words (at % 128) call_word bridge_entry) × (patch.new.any ≡ true) }
+    ensures whole { length flash.now.words ≡ 65536 }
+{
+    if flash.word(at) == JMP && links.picks(t, flash.word(at + 1)) {
+        let k = (at % PAGE_WORDS) as usize;
+        patch.words[k] = CALL_BRIDGE[0];
+        patch.words[k + 1] = CALL_BRIDGE[1];
+        patch.any = true;
+    }
+}
+
+/// The words of a page.
+pub fn page_words(flash: &Flash, page: u16) -> [u16; 128]
+    requires page { page < 512 }
+    ensures words { result ≡ page_of flash.now.words page }
+{
+    let mut words = [0; 128];
+    'words: for k in 0..PAGE_WORDS {
+        words[k as usize] = flash.word(PAGE_WORDS * page + k);
+    }
+    words
+}

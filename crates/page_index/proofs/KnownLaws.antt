@@ -1,0 +1,23 @@
+-- A set of offsets with one more in it.
+use Rattle.std.proofs.Common.{◌≡◌, ℕ, zero, suc, ◌<◌, ◌⊎◌, Bool, true, false, List, length, ap, sym, ◌∙◌, inl, inr}
+use Rattle.std.specs.Prelude.{slice_index_or, slice_set, replicate}
+use Rattle.std.proofs.lemmas.Bool.{cases_eq}
+use Rattle.std.proofs.lemmas.List.{get_or-set_same, get_or-set_other}
+
+pub set_kept : (known : List Bool) (n k : ℕ) → n < length known → slice_index_or known k false ≡ true → slice_index_or (slice_set known n true) k false ≡ true
+set_kept known n k below is = elim (cases_eq k n) [
+  | inl same ↦ ap (λ b. slice_index_or (slice_set known n true) b false) same ∙ get_or-set_same known n true false below
+  | inr apart ↦ get_or-set_other known n k true false apart ∙ is
+]
+
+pub set_only : (known : List Bool) (n k : ℕ) → slice_index_or (slice_set known n true) k false ≡ true → (slice_index_or known k false ≡ true) ⊎ (k ≡ n)
+set_only known n k is = elim (cases_eq k n) [
+  | inl same ↦ inr same
+  | inr apart ↦ inl (sym (get_or-set_other known n k true false apart) ∙ is)
+]
+
+-- none at first
+pub none_known : (n k : ℕ) → slice_index_or (replicate n false) k false ≡ true → ⊥
+none_known zero k is = absurd (let never : false ≡ true = is in cc)
+none_known (suc n) zero is = absurd (let never : false ≡ true = is in cc)
+none_known (suc n) (suc k) is = none_known n k is

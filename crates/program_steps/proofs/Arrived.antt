@@ -1,0 +1,282 @@
+-- What an arrival leaves, whatever it answers.
+use Rattle.std.proofs.Common.{◌≡◌, ℕ, ◌+◌, ◌<◌, ◌≤◌, Bool, true, false, List, length, refl, sym, ap, ◌∙◌, arith, subst, inl, inr}
+use Rattle.std.specs.Prelude.{min, Option, Some, None, IfSome}
+use Rattle.std.proofs.lemmas.Bool.{cases_lt}
+use Rattle.std.proofs.lemmas.Bool.Decides.{nat_tests}
+use Rattle.avr_isa.specs.Image.{is_inside}
+use Rattle.sram_layout.specs.Bytes.{data_word_at}
+use Rattle.sram_layout.specs.Cells.{vsp_cell}
+use Rattle.flash_model.specs.Memory.{Memory, IsWhole}
+use Rattle.flash_model.specs.Layouts.{IsRight, image_of, layout_of}
+use Rattle.flash_model.specs.declared.layout.Layout.{Layout}
+use Rattle.heap_frames.specs.Paged.{IsPaged}
+use Rattle.heap_frames.specs.Memory.{vmem}
+use Rattle.heap_frames.specs.Frames.{pages}
+use Rattle.nat_page.specs.Faithful.{IsFaithful}
+use Rattle.nat_page.specs.Used.{used_pages}
+use Rattle.nat_page.proofs.EnteredLaws.{entry_law}
+use Rattle.addr_tables.specs.Tables.{IsTables}
+use Rattle.mote_devices.specs.State.{State as Devices}
+use Rattle.mem_guard.specs.FlatMachine.{FlatState}
+use Rattle.branch_bridge.specs.declared.arrival.Refused.{Refused}
+use Rattle.branch_bridge.specs.declared.arrival.ArriveStop.TheVariants as refusals
+use Rattle.branch_bridge.specs.declared.rewriting.ResolveStop.{ResolveStop}
+use Rattle.branch_bridge.specs.declared.rewriting.Torn.{Torn}
+use Rattle.branch_bridge.specs.declared.through.Arrival.{Arrival}
+use Rattle.branch_bridge.specs.Operating.{with_torn}
+use Rattle.flash_model.specs.Operations.{is_listed}
+use Rattle.branch_bridge.specs.Tried.{IsTorn, Tried}
+use Rattle.branch_bridge.specs.Arrivals.{Store, KeptThrough, KeepsOtherBytes, refused_by, stopped_by, torn_by, ring_of}
+use Rattle.kernel_entry.specs.Parts.{image_held}
+use Rattle.step_laws.specs.declared.moves.Owed.{Owed}
+use Rattle.step_laws.specs.declared.moves.End.TheVariants as ends
+use Rattle.step_laws.specs.Moves.{Arrive}
+use Rattle.step_laws.specs.Numbers.{Numbers, moved, one_if}
+use Rattle.step_laws.specs.States.{State, mote_of, store_of, with_store, placed, settled_by, arrived, end_by}
+use Rattle.step_laws.specs.StepLaws.{Reaches}
+use Rattle.program_steps.specs.Machines.{Machine, state_of, numbers_of, flat_of}
+use Rattle.program_steps.specs.Ready.{HasFault, AreTried, IsGoing, IsInOrder, most_arrivals}
+use Rattle.program_steps.specs.Stepping.{links_in}
+use Rattle.program_steps.specs.Loop.{HasArrived}
+use Rattle.program_steps.proofs.Arriving.{Answered, answered}
+use Rattle.program_steps.proofs.OutsideTables.{outside_paged, outside_memory, outside_pages, outside_pointer, outside_stack}
+use Rattle.program_steps.proofs.Laws.{faithful_going, used_going}
+
+-- where the machine stands
+pub inside_of : (image : List ℕ) (a : ℕ) → a < length image → is_inside image a ≡ true
+inside_of image a below = grind (arith, nat_tests)
+
+pub outside_of : (image : List ℕ) (a : ℕ) → length image ≤ a → is_inside image a ≡ false
+outside_of image a beyond = grind (arith, nat_tests)
+
+stands_inside : (m : Machine) → IsGoing m → m.owed ≡ None → Reaches (links_in m) m.at (state_of m) → m.at < length (image_held m.kernel)
+stands_inside m ready placed (Reaches.Placed free entry) = (entry_law m.kernel.layout (image_held m.kernel) m.kernel.mote.flash.words m.at m.kernel.mote.cpu.pc ready.order.right (faithful_going m ready) entry).inside
+stands_inside m ready placed (Reaches.Owing stub owes of) = absurd (let e : Some (record { target = m.at; stub = stub }) ≡ None = sym owes ∙ placed in cc)
+
+pub place_inside : (m : Machine) → IsGoing m → m.owed ≡ None → is_inside (image_held m.kernel) m.at ≡ true
+place_inside m ready placed = inside_of (image_held m.kernel) m.at (stands_inside m ready placed ready.stands)
+
+owed_by : (m : Machine) (owed : Owed) → m.owed ≡ Some owed → Reaches (links_in m) m.at (state_of m) → owed.target ≡ m.at
+owed_by m owed owes (Reaches.Placed free entry) = absurd (let e : Some owed ≡ None = sym owes ∙ free in cc)
+owed_by m owed owes (Reaches.Owing stub owes' of) = let e : Some owed ≡ Some (record { target = m.at; stub = stub }) = sym owes ∙ owes' in cc
+
+pub owed_at : (m : Machine) (owed : Owed) → IsGoing m → m.owed ≡ Some owed → owed.target ≡ m.at
+owed_at m owed ready owes = owed_by m owed owes ready.stands
+
+-- an arrival leaves all but the store and the pc
+pub record After (x y : State) (store : Store) : Type 0 where
+  pub layout : y.kernel.layout ≡ x.kernel.layout
+  pub quantum : y.kernel.quantum ≡ x.kernel.quantum
+  pub swap : (mote_of y).swap ≡ (mote_of x).swap
+  pub devices : (mote_of y).devices ≡ (mote_of x).devices
+  pub r : (mote_of y).cpu.r ≡ (mote_of x).cpu.r
+  pub sreg : (mote_of y).cpu.sreg ≡ (mote_of x).cpu.sreg
+  pub sp : (mote_of y).cpu.sp ≡ (mote_of x).cpu.sp
+  pub store_is : store_of y ≡ store
+
+after_same : (x y : State) (store : Store) (z : State) → y ≡ z → After x z store → After x y store
+after_same x y store z is after = subst (λ s. After x s store) (sym is) after
+
+after_by : (x y : State) (store : Store) (place : Option ℕ) (refused : Option Refused) → y ≡ settled_by (placed (with_store x store) place) refused → After x y store
+after_by x y store None None is = after_same x y store _ is (record { layout = refl; quantum = refl; swap = refl; devices = refl; r = refl; sreg = refl; sp = refl; store_is = refl })
+after_by x y store (Some place) None is = after_same x y store _ is (record { layout = refl; quantum = refl; swap = refl; devices = refl; r = refl; sreg = refl; sp = refl; store_is = refl })
+after_by x y store None (Some refused) is = after_same x y store _ is (record { layout = refl; quantum = refl; swap = refl; devices = refl; r = refl; sreg = refl; sp = refl; store_is = refl })
+after_by x y store (Some place) (Some refused) is = after_same x y store _ is (record { layout = refl; quantum = refl; swap = refl; devices = refl; r = refl; sreg = refl; sp = refl; store_is = refl })
+
+pub after_arrived : (x y : State) (store : Store) (arrival : Arrival) → y ≡ arrived x store arrival → After x y store
+after_arrived x y store arrival is = after_by x y store arrival.place arrival.refused is
+
+after_self : (x y : State) (store : Store) → After x y store → After x y (store_of y)
+after_self x y store after = record { layout = after.layout; quantum = after.quantum; swap = after.swap; devices = after.devices; r = after.r; sreg = after.sreg; sp = after.sp; store_is = refl }
+
+-- the flat state, from its parts
+put_together : (r : List ℕ) (sreg sp : ℕ) (memory : List ℕ) (devices : Devices) (stored : List Bool) (a s c : ℕ) → FlatState
+put_together r sreg sp memory devices stored a s c = record { cpu = record { r = r; sreg = sreg; sp = sp; pc = a }; memory = memory; devices = devices; pages = stored; steps = s; crossings = c }
+
+pub flat_parts : (old new : Machine) (store : Store) → After (state_of old) (state_of new) store → KeepsOtherBytes old.kernel.mote.sram new.kernel.mote.sram → new.at ≡ old.at → new.steps ≡ old.steps → new.crossings ≡ old.crossings → flat_of new ≡ flat_of old
+unfolding put_together
+flat_parts old new store same rest at steps crossings =
+    let n = new.kernel.mote in
+    let o = old.kernel.mote in
+    let nsp = data_word_at n.sram vsp_cell in
+    let osp = data_word_at o.sram vsp_cell in
+    let heap : vmem n.sram n.swap ≡ vmem o.sram o.swap = ap (vmem n.sram) same.swap ∙ outside_memory o.sram n.sram o.swap rest in
+    ap (λ x. put_together x n.cpu.sreg nsp (vmem n.sram n.swap) n.devices (pages n.sram) new.at new.steps new.crossings) same.r
+    ∙ ap (λ x. put_together o.cpu.r x nsp (vmem n.sram n.swap) n.devices (pages n.sram) new.at new.steps new.crossings) same.sreg
+    ∙ ap (λ x. put_together o.cpu.r o.cpu.sreg x (vmem n.sram n.swap) n.devices (pages n.sram) new.at new.steps new.crossings) (outside_stack o.sram n.sram rest)
+    ∙ ap (λ x. put_together o.cpu.r o.cpu.sreg osp x n.devices (pages n.sram) new.at new.steps new.crossings) heap
+    ∙ ap (λ x. put_together o.cpu.r o.cpu.sreg osp (vmem o.sram o.swap) x (pages n.sram) new.at new.steps new.crossings) same.devices
+    ∙ ap (λ x. put_together o.cpu.r o.cpu.sreg osp (vmem o.sram o.swap) o.devices x new.at new.steps new.crossings) (outside_pages o.sram n.sram rest)
+    ∙ ap (λ x. put_together o.cpu.r o.cpu.sreg osp (vmem o.sram o.swap) o.devices (pages o.sram) x new.steps new.crossings) at
+    ∙ ap (λ x. put_together o.cpu.r o.cpu.sreg osp (vmem o.sram o.swap) o.devices (pages o.sram) old.at x new.crossings) steps
+    ∙ ap (λ x. put_together o.cpu.r o.cpu.sreg osp (vmem o.sram o.swap) o.devices (pages o.sram) old.at old.steps x) crossings
+
+-- how it ended, and what is torn
+torn_settled : (x : State) (refused : Option Refused) → x.torn ≡ None → (settled_by x refused).torn ≡ torn_by refused
+torn_settled x None none = refl
+torn_settled x (Some refused) none = refl
+
+placed_torn : (x : State) (place : Option ℕ) → (placed x place).torn ≡ x.torn
+placed_torn x None = refl
+placed_torn x (Some place) = refl
+
+end_refused : (x : State) (refused : Option Refused) (r : Refused) → refused ≡ Some r → (settled_by x refused).end ≡ Some (end_by r.why)
+end_refused x None r is = absurd (cc)
+end_refused x (Some refused) r is = (let e : refused ≡ r = cc in ap (λ (f : Refused). Some (end_by f.why)) e)
+
+end_in : (x : State) (refused : Option Refused) → refused ≡ None → ((settled_by x refused).end ≡ None) × ((settled_by x refused).owed ≡ None)
+end_in x None is = (refl, refl)
+end_in x (Some refused) is = absurd (cc)
+
+pc_in : (x : State) (place : Option ℕ) (refused : Option Refused) (v : ℕ) → place ≡ Some v → (mote_of (settled_by (placed x place) refused)).cpu.pc ≡ v
+pc_in x None refused v is = absurd (cc)
+pc_in x (Some place) None v is = (let e : place ≡ v = cc in e)
+pc_in x (Some place) (Some refused) v is = (let e : place ≡ v = cc in e)
+
+-- what the numbers become
+pub record IsMoved (n n' : Numbers) (made : Bool) : Type 0 where
+  pub steps : n'.steps ≡ n.steps
+  pub natural : n'.natural ≡ n.natural
+  pub entries : n'.entries ≡ n.entries
+  pub pages : n'.pages ≡ n.pages + one_if made
+  pub since : n'.since ≡ n.since
+  pub longest : n'.longest ≡ n.longest
+
+moved_numbers : (n n' : Numbers) (t ops : ℕ) (made made' : Bool) → n' ≡ moved (Arrive t made ops) n → made' ≡ made → IsMoved n n' made'
+unfolding moved
+moved_numbers n n' t ops made made' is same = record {
+  steps = ap (λ (k : Numbers). k.steps) is;
+  natural = ap (λ (k : Numbers). k.natural) is;
+  entries = ap (λ (k : Numbers). k.entries) is;
+  pages = ap (λ (k : Numbers). k.pages) is ∙ ap (λ b. n.pages + one_if b) (sym same);
+  since = ap (λ (k : Numbers). k.since) is;
+  longest = ap (λ (k : Numbers). k.longest) is;
+}
+
+-- what holds of the machine after an arrival, whatever its answer
+pub record Arrived (old new : Machine) (arrival : Arrival) : Type 0 where
+  pub after : After (state_of old) (state_of new) (store_of (state_of new))
+  pub kept : KeptThrough old.kernel.layout (store_of (state_of old)) (store_of (state_of new)) old.at arrival
+  pub rest : KeepsOtherBytes old.kernel.mote.sram new.kernel.mote.sram
+  pub image : image_held new.kernel ≡ image_held old.kernel
+  pub torn : new.torn ≡ torn_by arrival.refused
+  pub whole : IsWhole new.kernel.mote.flash
+  pub answer : Answered old.kernel.layout (store_of (state_of old)) (store_of (state_of new)) old.at arrival
+  pub refused : (r : Refused) → arrival.refused ≡ Some r → new.end ≡ Some (end_by r.why)
+  pub goes_on : arrival.refused ≡ None → (new.end ≡ None) × (new.owed ≡ None)
+  pub pc : (v : ℕ) → arrival.place ≡ Some v → new.kernel.mote.cpu.pc ≡ v
+  pub owed : most_arrivals old.owed old.steps ≡ old.steps
+  pub numbers : IsMoved (numbers_of old) (numbers_of new) arrival.made
+  pub at : new.at ≡ old.at
+  pub crossings : new.crossings ≡ old.crossings
+
+owing : (owed : Option Owed) (o : Owed) (steps : ℕ) → owed ≡ Some o → most_arrivals owed steps ≡ steps
+owing (Some a) o steps is = refl
+owing None o steps is = absurd (cc)
+
+pub arrived_by : (old new : Machine) → (arrived : HasArrived old new) → IsWhole new.kernel.mote.flash → IsGoing old → Arrived old new arrived.makes.arrival
+arrived_by old new arrived whole ready =
+    let makes = arrived.makes in
+    let arrival = makes.arrival in
+    let l = old.kernel.layout in
+    let x = state_of old in
+    let before = store_of x in
+    let store = store_of (state_of new) in
+    let at : arrived.target ≡ old.at = makes.at ∙ owed_at old makes.owed ready makes.owes in
+    let after = after_arrived x (state_of new) makes.store arrival makes.after in
+    let same : store ≡ makes.store = after.store_is in
+    let kept : KeptThrough l before store old.at arrival = subst (λ t. KeptThrough l before store t arrival) at (subst (λ s. KeptThrough l before s arrived.target arrival) (sym same) arrived.kept) in
+    let answer : Answered l before store old.at arrival = subst (λ t. Answered l before store t arrival) at (subst (λ s. Answered l before s arrived.target arrival) (sym same) (answered l before makes.store arrived.target makes.owed.stub arrival makes.arrives)) in
+    let y = placed (with_store x makes.store) arrival.place in
+    record {
+      after = after_self x (state_of new) makes.store after;
+      kept = kept;
+      rest = kept.rest;
+      image = ap (λ (k : Layout). image_of k new.kernel.mote.flash.words) after.layout ∙ kept.image;
+      torn = ap (λ (s : State). s.torn) makes.after ∙ torn_settled y arrival.refused (placed_torn (with_store x makes.store) arrival.place ∙ ready.untorn);
+      whole = whole;
+      answer = answer;
+      refused = λ r is. ap (λ (s : State). s.end) makes.after ∙ end_refused y arrival.refused r is;
+      goes_on = λ none. (let e = end_in y arrival.refused none in (ap (λ (s : State). s.end) makes.after ∙ e.0, ap (λ (s : State). s.owed) makes.after ∙ e.1));
+      pc = λ v is. ap (λ (s : State). (mote_of s).cpu.pc) makes.after ∙ pc_in (with_store x makes.store) arrival.place arrival.refused v is;
+      owed = owing old.owed makes.owed old.steps makes.owes;
+      numbers = moved_numbers (numbers_of old) (numbers_of new) arrived.target arrived.ops arrived.made arrival.made arrived.numbers makes.makes;
+      at = arrived.at;
+      crossings = arrived.crossings;
+    }
+
+-- the operations that were tried
+listed_before : (m n : Memory) (op : ℕ) → n.failing ≡ m.failing → is_listed n.failing op ≡ true → is_listed m.failing op ≡ true
+listed_before m n op same there = ap (λ failing. is_listed failing op) (sym same) ∙ there
+
+never_before : (old : Machine) (op : ℕ) → IsGoing old → 1 ≤ op → op ≤ old.kernel.mote.flash.ops → is_listed old.kernel.mote.flash.failing op ≡ true → ⊥
+never_before old op ready from to there = let e : Some (ends.Flash op) ≡ None = sym (ready.order.tried.listed op from to there) ∙ ready.going in absurd (cc)
+
+tried_quiet : (old new : Machine) → Tried old.kernel.layout old.kernel.mote.flash new.kernel.mote.flash None → new.torn ≡ None → IsGoing old → AreTried new
+tried_quiet old new tried torn ready = record {
+  listed = λ op from to there.
+      let listed = listed_before old.kernel.mote.flash new.kernel.mote.flash op tried.failing there in
+      (elim (cases_lt old.kernel.mote.flash.ops op) [
+        | inl above ↦ absurd (let e : None ≡ Some op = tried.only op above to listed in cc)
+        | inr below ↦ absurd (never_before old op ready from below listed)
+      ]);
+  refused = λ some.
+      let fault = ready.order.tried.refused (λ none. some (tried.unrefused refl ∙ none)) in
+      absurd (let e : Some (ends.Flash fault.0) ≡ None = sym fault.1 ∙ ready.going in cc);
+  torn = subst (λ t. IfSome t (λ torn. IsTorn new.kernel.layout new.kernel.mote.flash.words torn × HasFault new)) (sym torn) tt;
+}
+
+some_both : (torn : Option Torn) (layout : Layout) (words : List ℕ) (m : Machine) → IfSome torn (IsTorn layout words) → HasFault m → IfSome torn (λ t. IsTorn layout words t × HasFault m)
+some_both None layout words m each fault = tt
+some_both (Some torn) layout words m each fault = (each, fault)
+
+tried_failed : (old new : Machine) (stop : ResolveStop) → new.kernel.layout ≡ old.kernel.layout → Tried old.kernel.layout old.kernel.mote.flash new.kernel.mote.flash (Some stop) → new.end ≡ Some (ends.Flash stop.op) → new.torn ≡ stop.torn → IsGoing old → AreTried new
+tried_failed old new stop layout tried end torn ready = record {
+  listed = λ op from to there.
+      let listed = listed_before old.kernel.mote.flash new.kernel.mote.flash op tried.failing there in
+      (elim (cases_lt old.kernel.mote.flash.ops op) [
+        | inl above ↦ (let e : Some stop.op ≡ Some op = tried.only op above to listed in let same : stop.op ≡ op = cc in end ∙ ap (λ n. Some (ends.Flash n)) same)
+        | inr below ↦ absurd (never_before old op ready from below listed)
+      ]);
+  refused = λ some. (stop.op, end);
+  torn = subst (λ t. IfSome t (λ torn. IsTorn new.kernel.layout new.kernel.mote.flash.words torn × HasFault new)) (sym torn)
+      (some_both stop.torn new.kernel.layout new.kernel.mote.flash.words new
+      (subst (λ k. IfSome stop.torn (IsTorn k new.kernel.mote.flash.words)) (sym layout) tried.refused.torn) (stop.op, end));
+}
+
+tried_as : (old new : Machine) (arrival : Arrival) (refused : Option Refused) → arrival.refused ≡ refused → Arrived old new arrival → Tried old.kernel.layout old.kernel.mote.flash new.kernel.mote.flash (stopped_by refused)
+tried_as old new arrival refused is told = subst (λ r. Tried old.kernel.layout old.kernel.mote.flash new.kernel.mote.flash (stopped_by r)) is told.kept.tried
+
+tried_arrived : (old new : Machine) (arrival : Arrival) → Arrived old new arrival → IsGoing old → Answered old.kernel.layout (store_of (state_of old)) (store_of (state_of new)) old.at arrival → AreTried new
+tried_arrived old new arrival told ready (Answered.Wild is outside) = tried_quiet old new (tried_as old new arrival _ is told) (told.torn ∙ ap torn_by is) ready
+tried_arrived old new arrival told ready (Answered.In place there is inside) = tried_quiet old new (tried_as old new arrival _ is told) (told.torn ∙ ap torn_by is) ready
+tried_arrived old new arrival told ready (Answered.Failed stop is inside) =
+    tried_failed old new stop told.after.layout (tried_as old new arrival _ is told) (told.refused (refused_by stop) is) (told.torn ∙ ap torn_by is) ready
+
+-- what is in order stays so
+pub order_arrived : (old new : Machine) (arrival : Arrival) → Arrived old new arrival → IsGoing old → IsInOrder new
+order_arrived old new arrival told ready =
+    let order = ready.order in
+    let same = told.after in
+    let l = old.kernel.layout in
+    let words = new.kernel.mote.flash.words in
+    let F : Layout → List ℕ → Option Torn → Type 0 = λ k i t. IsFaithful k i (with_torn words t) in
+    let T : Layout → Option Torn → Type 0 = λ k t. IsTables k new.kernel.mote.sram (with_torn words t) in
+    let U : Layout → Option Torn → Type 0 = λ k t. used_pages k (with_torn words t) ≡ min new.pages k.pool_pages in
+    let used = used_going old ready in
+    let count = told.numbers.pages in
+    let pages : min (used_pages l old.kernel.mote.flash.words + one_if arrival.made) l.pool_pages ≡ min new.pages l.pool_pages = omega (arith, used, count) in
+    record {
+      layout = subst (λ (k : Layout). k ≡ layout_of k.image_words) (sym same.layout) order.layout;
+      right = subst IsRight (sym same.layout) order.right;
+      faithful = subst (λ k. F k (image_held new.kernel) new.torn) (sym same.layout) (subst (λ i. F l i new.torn) (sym told.image) (subst (F l (image_held old.kernel)) (sym told.torn) told.kept.code));
+      tables = subst (λ k. T k new.torn) (sym same.layout) (subst (T l) (sym told.torn) told.kept.tables);
+      paged = subst (λ w. IsPaged new.kernel.mote.sram w) (sym same.swap) (outside_paged old.kernel.mote.sram new.kernel.mote.sram old.kernel.mote.swap told.rest order.paged);
+      whole = told.whole;
+      registers = subst (λ (r : List ℕ). 31 < length r) (sym same.r) order.registers;
+      pointer = subst (λ b. b < 256) (sym (outside_pointer old.kernel.mote.sram new.kernel.mote.sram told.rest)) order.pointer;
+      quantum = subst (λ q. q < 256) (sym same.quantum) order.quantum;
+      pages = subst (λ k. U k new.torn) (sym same.layout) (subst (U l) (sym told.torn) (told.kept.used ∙ pages));
+      ring = subst (λ (k : Layout). ring_of new.kernel.mote.sram < k.pool_pages) (sym same.layout) told.kept.ring;
+      tried = tried_arrived old new arrival told ready told.answer;
+    }

@@ -1,0 +1,215 @@
+-- What the arrival that is owed leaves of the machine.
+use Rattle.std.proofs.Common.{◌≡◌, ℕ, ◌+◌, ◌-◌, ◌*◌, ◌%◌, ◌<◌, ◌≤◌, Bool, true, false, List, [], ◌∷◌, length, refl, sym, ap, ap₂, ◌∙◌, arith, subst}
+use Rattle.std.specs.Prelude.{◌^◌, Option, Some, None, IfSome}
+use Rattle.avr_isa.specs.Image.{is_inside}
+use Rattle.flash_model.specs.Memory.{IsWhole}
+use Rattle.flash_model.specs.declared.layout.Layout.{Layout}
+use Rattle.heap_frames.specs.Frames.{pages}
+use Rattle.page_index.specs.Entries.{IsEntry}
+use Rattle.mote_devices.specs.State.{State as Devices}
+use Rattle.branch_bridge.specs.declared.arrival.Refused.{Refused}
+use Rattle.branch_bridge.specs.declared.arrival.ArriveStop.TheVariants as refusals
+use Rattle.branch_bridge.specs.declared.rewriting.ResolveStop.{ResolveStop}
+use Rattle.branch_bridge.specs.declared.through.Arrival.{Arrival}
+use Rattle.branch_bridge.specs.Operating.{with_torn}
+use Rattle.flash_model.specs.Operations.{is_listed}
+use Rattle.branch_bridge.specs.Tried.{Tried}
+use Rattle.branch_bridge.specs.Arrivals.{KeepsOtherBytes, refused_by, stopped_by, torn_by}
+use Rattle.kernel_entry.specs.Parts.{image_held}
+use Rattle.step_laws.specs.declared.moves.Owed.{Owed}
+use Rattle.step_laws.specs.declared.moves.End.{End}
+use Rattle.step_laws.specs.declared.moves.End.TheVariants as ends
+use Rattle.step_laws.specs.Moves.{Arrive, lines_of}
+use Rattle.step_laws.specs.Numbers.{Numbers, moved, one_if}
+use Rattle.step_laws.specs.States.{store_of, placed, arrived}
+use Rattle.step_laws.specs.Walks.{MakesArrive}
+use Rattle.step_laws.specs.StepLaws.{Reaches}
+use Rattle.program_steps.specs.Machines.{Machine, state_of, numbers_of}
+use Rattle.program_steps.specs.Ready.{count_in, IsGoing, IsEnded, IsCounted, AreArrivals, most_arrivals, IsExact}
+use Rattle.program_steps.specs.Stepping.{AreMadeAt, Goes, Stays, IsFault, Entering, HasEntered, HasBound}
+use Rattle.program_steps.specs.Loop.{HasArrived}
+use Rattle.program_steps.proofs.Arriving.{Answered}
+use Rattle.program_steps.proofs.Arrived.{inside_of, outside_of, place_inside, owed_at, flat_parts, IsMoved, Arrived, arrived_by, order_arrived}
+use Rattle.program_steps.proofs.OutsideTables.{outside_count}
+use Rattle.program_steps.proofs.ReadyLaws.{counted_same}
+use Rattle.program_steps.proofs.Bounds.{bounded_counted}
+
+stays_self : (m : Machine) → Stays m m
+stays_self m = record { program = refl; layout = refl; quantum = refl; failing = refl }
+
+pub entered_none : (m : Machine) → IsGoing m → m.owed ≡ None → HasEntered m m None
+unfolding lines_of
+entered_none m ready placed = record { moves = []; goes = record { walk = refl; told = refl; numbers = refl }; stays = stays_self m; broken = refl; steps = refl; flat = refl; made = tt; way = Entering.In ready placed (place_inside m ready placed) }
+
+exact_same : (old new : Machine) → KeepsOtherBytes old.kernel.mote.sram new.kernel.mote.sram → new.kernel.quantum ≡ old.kernel.quantum → new.crossings ≡ old.crossings → IsExact old → IsExact new
+exact_same old new rest quantum crossings is = outside_count old.kernel.mote.sram new.kernel.mote.sram rest ∙ is ∙ ap₂ (λ q c. q - c % q) (sym quantum) (sym crossings)
+
+-- the numbers
+counted_by : (n n' : Numbers) (made : Bool) (c q k a : ℕ) → IsMoved n n' made → IsCounted n c q k a → IsCounted n' c q k a
+counted_by n n' made c q k a same counted =
+    let natural = counted.natural in
+    let entries = counted.entries in
+    let since = counted.since in
+    let longest = counted.longest in
+    let crossed = counted.crossed in
+    let within = counted.within in
+    let most = counted.most in
+    record {
+      natural = omega (arith, same.natural, same.steps);
+      entries = omega (arith, same.entries, same.steps);
+      since = omega (arith, same.since, same.longest);
+      longest = omega (arith, same.longest, same.natural);
+      crossed = omega (arith, same.steps);
+      within = subst (λ s. s ≤ 40 * (128 * (q - k) + a % 128)) (sym same.since) within;
+      most = omega (arith, same.longest);
+    }
+
+counted_arrived : (old new : Machine) (arrival : Arrival) → Arrived old new arrival → IsGoing old → IsCounted (numbers_of new) new.crossings new.kernel.quantum (count_in new) new.at
+counted_arrived old new arrival told ready =
+    let count : count_in new ≡ count_in old = outside_count old.kernel.mote.sram new.kernel.mote.sram told.rest in
+    counted_same (numbers_of new) (numbers_of new) new.crossings old.crossings new.kernel.quantum old.kernel.quantum (count_in new) (count_in old) new.at old.at refl told.crossings told.after.quantum count told.at
+    (counted_by (numbers_of old) (numbers_of new) arrival.made old.crossings old.kernel.quantum (count_in old) old.at told.numbers ready.counted)
+
+one_most : (made : Bool) → one_if made ≤ 1
+one_most true = omega arith
+one_most false = omega arith
+
+-- the arrival was one more
+arrivals_arrived : (old new : Machine) (arrival : Arrival) → Arrived old new arrival → IsGoing old → AreArrivals (numbers_of new) (new.steps + 1)
+arrivals_arrived old new arrival told ready =
+    let before : AreArrivals (numbers_of old) old.steps = subst (AreArrivals (numbers_of old)) told.owed ready.arrivals in
+    let pages = before.pages in
+    let ops = before.ops in
+    let right = ready.order.right in
+    let first = right.pool_first in
+    let last = right.pool_below_kernel in
+    let more = told.kept.ops in
+    record { pages = omega (arith, told.numbers.pages, told.numbers.steps, one_most arrival.made); ops = omega (arith, told.numbers.steps) }
+
+polls_arrived : (old new : Machine) (arrival : Arrival) → Arrived old new arrival → IsGoing old → new.kernel.mote.devices.polls ≤ new.steps + 2 ^ 32
+polls_arrived old new arrival told ready =
+    let polls = ready.polls in
+    subst (λ (d : Devices). d.polls ≤ new.steps + 2 ^ 32) (sym told.after.devices) (subst (λ s. old.kernel.mote.devices.polls ≤ s + 2 ^ 32) (sym told.numbers.steps) polls)
+
+-- the program has ended
+ended_arrived : (old new : Machine) (arrival : Arrival) (end : End) → Arrived old new arrival → IsGoing old → new.end ≡ Some end → IsEnded new
+ended_arrived old new arrival end told ready is = record {
+  order = order_arrived old new arrival told ready;
+  bounded = bounded_counted (numbers_of new) new.crossings new.kernel.quantum (count_in new) new.at new.kernel.mote.devices.polls None (counted_arrived old new arrival told ready) (arrivals_arrived old new arrival told ready) (polls_arrived old new arrival told ready);
+  ended = λ going. let f : Some end ≡ None = sym is ∙ going in cc;
+  exact = exact_same old new told.rest told.after.quantum told.crossings ready.exact;
+}
+
+-- or goes on
+entered_at : (layout : Layout) (words : List ℕ) (t : ℕ) (place : Option ℕ) (refused : Option Refused) (v : ℕ) → place ≡ Some v → refused ≡ None → IfSome place (λ p. IsEntry layout (with_torn words (torn_by refused)) t p) → IsEntry layout words t v
+entered_at layout words t place refused v there none entered =
+    let P : Option ℕ → Option Refused → Type 0 = λ o r. IfSome o (λ p. IsEntry layout (with_torn words (torn_by r)) t p) in
+    subst (P (Some v)) none (subst (λ o. P o refused) there entered)
+
+going_arrived : (old new : Machine) (arrival : Arrival) (place : ℕ) → Arrived old new arrival → IsGoing old → arrival.place ≡ Some place → arrival.refused ≡ None → IsGoing new
+going_arrived old new arrival place told ready there none =
+    let same = told.after in
+    let on = told.goes_on none in
+    let count : count_in new ≡ count_in old = outside_count old.kernel.mote.sram new.kernel.mote.sram told.rest in
+    let words = new.kernel.mote.flash.words in
+    let entry = entered_at old.kernel.layout words old.at arrival.place arrival.refused place there none told.kept.entered in
+    let E : Layout → ℕ → ℕ → Type 0 = λ k a v. IsEntry k words a v in
+    record {
+      order = order_arrived old new arrival told ready;
+      going = on.0;
+      untorn = told.torn ∙ ap torn_by none;
+      top = same.sp ∙ ready.top;
+      some = omega (arith, count, ready.some);
+      most = omega (arith, count, ready.most, same.quantum);
+      stands = Reaches.Placed on.1 (subst (λ k. E k new.at new.kernel.mote.cpu.pc) (sym same.layout) (subst (λ a. E old.kernel.layout a new.kernel.mote.cpu.pc) (sym told.at) (subst (E old.kernel.layout old.at) (sym (told.pc place there)) entry)));
+      counted = counted_arrived old new arrival told ready;
+      arrivals = subst (λ o. AreArrivals (numbers_of new) (most_arrivals o new.steps)) (sym on.1) (arrivals_arrived old new arrival told ready);
+      polls = polls_arrived old new arrival told ready;
+      exact = exact_same old new told.rest same.quantum told.crossings ready.exact;
+    }
+
+-- by what the arrival answered
+fault_by : (old new : Machine) (arrival : Arrival) (stop : ResolveStop) → Arrived old new arrival → arrival.refused ≡ Some (refused_by stop) → IsFault new stop.op
+fault_by old new arrival stop told is =
+    let before = old.kernel.mote.flash in
+    let after = new.kernel.mote.flash in
+    let tried : Tried old.kernel.layout before after (Some stop) = subst (λ r. Tried old.kernel.layout before after (stopped_by r)) is told.kept.tried in
+    record {
+      last = tried.refused.last;
+      listed = ap (λ failing. is_listed failing stop.op) tried.failing ∙ tried.refused.listed;
+      refused = λ none. let e : Some tried.refused.page ≡ None = sym tried.refused.told ∙ none in cc;
+    }
+
+way_by : (old new : Machine) (arrival : Arrival) → (told : Arrived old new arrival) → IsGoing old → Answered old.kernel.layout (store_of (state_of old)) (store_of (state_of new)) old.at arrival → Entering old new new.end
+way_by old new arrival told ready (Answered.Wild is outside) =
+    let e : new.end ≡ Some (ends.Wild old.at) = told.refused _ is in
+    subst (Entering old new) (sym e) (Entering.Out (ended_arrived old new arrival (ends.Wild old.at) told ready e) e (outside_of (image_held old.kernel) old.at (omega (arith, outside, ready.order.faithful.image_length))))
+way_by old new arrival told ready (Answered.Failed stop is inside) =
+    let e : new.end ≡ Some (ends.Flash stop.op) = told.refused (refused_by stop) is in
+    subst (Entering old new) (sym e) (Entering.Failed stop.op (ended_arrived old new arrival (ends.Flash stop.op) told ready e) e
+    (inside_of (image_held old.kernel) old.at (omega (arith, inside, ready.order.faithful.image_length))) (fault_by old new arrival stop told is))
+way_by old new arrival told ready (Answered.In place there none inside) =
+    let on = told.goes_on none in
+    subst (Entering old new) (sym on.0) (Entering.In (going_arrived old new arrival place told ready there none) on.1 (inside_of (image_held old.kernel) old.at (omega (arith, inside, ready.order.faithful.image_length))))
+
+-- one move
+made_at : (t at ops : ℕ) (made : Bool) → t ≡ at → AreMadeAt (λ a. a ≡ at) (Arrive t made ops ∷ [])
+made_at t at ops true is = (is, tt)
+made_at t at ops false is = tt
+
+goes_arrived : (old new : Machine) (t ops : ℕ) (made : Bool) → MakesArrive (state_of old) t made ops (state_of new) → numbers_of new ≡ moved (Arrive t made ops) (numbers_of old) → Goes old new (Arrive t made ops ∷ []) []
+unfolding lines_of
+goes_arrived old new t ops made makes numbers = record { walk = (state_of new, makes, refl); told = refl; numbers = numbers }
+
+pub entered_some : (old new : Machine) → HasArrived old new → IsWhole new.kernel.mote.flash → IsGoing old → HasEntered old new new.end
+entered_some old new arrived whole ready =
+    let makes = arrived.makes in
+    let told = arrived_by old new arrived whole ready in
+    let steps : new.steps ≡ old.steps = told.numbers.steps in
+    record {
+      moves = Arrive arrived.target arrived.made arrived.ops ∷ [];
+      goes = goes_arrived old new arrived.target arrived.ops arrived.made makes arrived.numbers;
+      stays = record { program = ap₂ (λ i n. record { image = i; page_limit = n }) told.image (ap length told.after.swap); layout = told.after.layout; quantum = told.after.quantum; failing = told.kept.tried.failing };
+      broken = arrived.broken;
+      steps = steps;
+      flat = flat_parts old new (store_of (state_of new)) told.after told.rest arrived.at steps arrived.crossings;
+      made = made_at arrived.target old.at arrived.ops arrived.made (makes.at ∙ owed_at old makes.owed ready makes.owes);
+      way = way_by old new makes.arrival told ready told.answer;
+    }
+
+-- at the bound
+pub bound_inside : (m : Machine) (owed : Owed) → IsGoing m → m.owed ≡ Some owed → owed.target < m.kernel.layout.image_words → is_inside (image_held m.kernel) m.at ≡ true
+bound_inside m owed ready owes below = inside_of (image_held m.kernel) m.at (omega (arith, owed_at m owed ready owes, below, ready.order.faithful.image_length))
+
+bound_outside : (m : Machine) (owed : Owed) → IsGoing m → m.owed ≡ Some owed → m.kernel.layout.image_words ≤ owed.target → is_inside (image_held m.kernel) m.at ≡ false
+bound_outside m owed ready owes beyond = outside_of (image_held m.kernel) m.at (omega (arith, owed_at m owed ready owes, beyond, ready.order.faithful.image_length))
+
+bound_by : (m new : Machine) (result : Option End) (end : End) → is_inside (image_held m.kernel) m.at ≡ false → HasEntered m new result → Entering m new result → result ≡ Some end → HasBound m new end
+bound_by m new result end outside entered (Entering.In ready free inside) is = absurd (cc)
+bound_by m new result end outside entered (Entering.Out over kept out) is =
+    let e : ends.Wild m.at ≡ end = cc in
+    subst (HasBound m new) e (HasBound.Leaves entered outside)
+bound_by m new result end outside entered (Entering.Failed op over kept inside fault) is = absurd (let e : true ≡ false = sym inside ∙ outside in cc)
+
+pub bound_wild : (m new : Machine) (owed : Owed) (result : Option End) (end : End) → IsGoing m → m.owed ≡ Some owed → m.kernel.layout.image_words ≤ owed.target → HasEntered m new result → result ≡ Some end → HasBound m new end
+bound_wild m new owed result end ready owes beyond entered is = bound_by m new result end (bound_outside m owed ready owes beyond) entered entered.way is
+
+none_by : (m new : Machine) (result : Option End) → is_inside (image_held m.kernel) m.at ≡ false → Entering m new result → result ≡ None → ⊥
+none_by m new result outside (Entering.In ready free inside) is = let e : true ≡ false = sym inside ∙ outside in absurd (cc)
+none_by m new result outside (Entering.Out over kept out) is = absurd (cc)
+none_by m new result outside (Entering.Failed op over kept inside fault) is = absurd (cc)
+
+pub bound_none : (m new : Machine) (owed : Owed) (result : Option End) → IsGoing m → m.owed ≡ Some owed → m.kernel.layout.image_words ≤ owed.target → HasEntered m new result → result ≡ None → ⊥
+bound_none m new owed result ready owes beyond entered is = none_by m new result (bound_outside m owed ready owes beyond) entered.way is
+
+most_steps : (owed : Option Owed) (steps : ℕ) → most_arrivals owed steps ≤ steps + 1
+most_steps (Some a) steps = omega arith
+most_steps None steps = omega arith
+
+-- room for one page more, and for its operations
+pub few_pages : (m : Machine) → IsGoing m → m.steps ≤ 10 ^ 12 → (m.pages < 2 ^ 62) × (m.kernel.mote.flash.ops < 2 ^ 61)
+few_pages m ready steps =
+    let most = most_steps m.owed m.steps in
+    let pages = ready.arrivals.pages in
+    let ops = ready.arrivals.ops in
+    (omega arith, omega arith)

@@ -1,0 +1,58 @@
+-- A machine that is going stands at an entry, so its step has its law.
+use Rattle.std.proofs.Common.{◌≡◌, ◌<◌, sym, ◌∙◌, arith, subst}
+use Rattle.std.specs.Prelude.{◌^◌, min, Option, Some, None}
+use Rattle.page_index.specs.Entries.{IsMapped}
+use Rattle.nat_page.specs.Faithful.{IsFaithful}
+use Rattle.nat_page.specs.Used.{used_pages}
+use Rattle.nat_page.proofs.FaithfulLaws.{faithful_mapped}
+use Rattle.addr_tables.specs.Tables.{IsTables}
+use Rattle.branch_bridge.specs.declared.rewriting.Torn.{Torn}
+use Rattle.branch_bridge.specs.Operating.{with_torn}
+use Rattle.kernel_entry.specs.Parts.{image_held}
+use Rattle.step_laws.specs.StepLaws.{StepLaw, Reaches, links_at}
+use Rattle.step_laws.proofs.EveryShape.{entry_laws}
+use Rattle.program_steps.specs.Machines.{Machine, state_of}
+use Rattle.program_steps.specs.Ready.{IsGoing}
+use Rattle.program_steps.specs.Stepping.{links_in}
+
+by_stands : (m : Machine) → m.owed ≡ None → Reaches (links_in m) m.at (state_of m) → (links_in m).enters m.at m.kernel.mote.cpu.pc
+by_stands m placed (Reaches.Placed free entry) = entry
+by_stands m placed (Reaches.Owing stub owes of) = absurd (let e : Some (record { target = m.at; stub = stub }) ≡ None = sym owes ∙ placed in cc)
+
+-- flash holds faithful code as it is, since no page is torn
+pub faithful_going : (m : Machine) → IsGoing m → IsFaithful m.kernel.layout (image_held m.kernel) m.kernel.mote.flash.words
+faithful_going m ready =
+    let P : Option Torn → Type 0 = λ torn. IsFaithful m.kernel.layout (image_held m.kernel) (with_torn m.kernel.mote.flash.words torn) in
+    subst P ready.untorn ready.order.faithful
+
+-- .. and so do the tables
+pub tables_going : (m : Machine) → IsGoing m → IsTables m.kernel.layout m.kernel.mote.sram m.kernel.mote.flash.words
+tables_going m ready =
+    let P : Option Torn → Type 0 = λ torn. IsTables m.kernel.layout m.kernel.mote.sram (with_torn m.kernel.mote.flash.words torn) in
+    subst P ready.untorn ready.order.tables
+
+-- .. and as many pages are used
+pub used_going : (m : Machine) → IsGoing m → used_pages m.kernel.layout m.kernel.mote.flash.words ≡ min m.pages m.kernel.layout.pool_pages
+used_going m ready =
+    let P : Option Torn → Type 0 = λ torn. used_pages m.kernel.layout (with_torn m.kernel.mote.flash.words torn) ≡ min m.pages m.kernel.layout.pool_pages in
+    subst P ready.untorn ready.order.pages
+
+pub mapped_going : (m : Machine) → IsGoing m → IsMapped m.kernel.layout m.kernel.mote.flash.words
+mapped_going m ready = faithful_mapped m.kernel.layout (image_held m.kernel) m.kernel.mote.flash.words ready.order.right (faithful_going m ready)
+
+pub law_of : (m : Machine) → IsGoing m → m.steps < 2 ^ 50 → m.owed ≡ None → StepLaw (links_at (state_of m)) (state_of m) m.at
+law_of m ready few placed =
+    let order = ready.order in
+    let quantum = order.quantum in
+    let most = ready.most in
+    let polls = ready.polls in
+    entry_laws (state_of m) m.at (record {
+      ready = record {
+        running = record { free = placed; going = ready.going; room = omega arith };
+        idle = record { registers = order.registers; size = order.paged.sized.sram; pointer = order.pointer; top = ready.top; some = ready.some; most = omega arith };
+        bounded = record { right = order.right; whole = order.whole; most = ready.most; polls = omega arith };
+        paged = order.paged;
+      };
+      code = faithful_going m ready;
+      entry = by_stands m placed ready.stands;
+    })

@@ -1,0 +1,15 @@
+-- What the calls leave.
+pub mod Bounds
+pub mod Told
+pub mod Taking
+pub mod Settling
+pub mod ReadyLaws
+pub mod Laws
+pub mod Stepped
+pub mod OutsideTables
+pub mod Arriving
+pub mod Arrived
+pub mod Entered
+pub mod SameFlash
+pub mod MadeAt
+pub mod OneBehindOther

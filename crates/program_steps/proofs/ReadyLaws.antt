@@ -1,0 +1,179 @@
+-- A step keeps the machine ready.
+use Rattle.std.proofs.Common.{suc, ◌≡◌, ℕ, ◌+◌, ◌-◌, ◌*◌, ◌%◌, ◌<◌, ◌≤◌, ◌==◌, Bool, true, false, List, ◌∷◌, refl, sym, ap, ap₂, ◌∙◌, arith, subst}
+use Rattle.std.proofs.Math.Nat.{mod-lt, mod-eq_of_lt, mod_self, suc-mod}
+use Rattle.std.proofs.Math.Numerals.{suc-eq-add-one}
+use Rattle.std.specs.Prelude.{◌≢◌, min, Option, Some, None, IfSome, if◌then◌else◌}
+use Rattle.std.proofs.lemmas.Bool.Decides.{nat_tests}
+use Rattle.avr_isa.specs.Crossing.{is_crossing}
+use Rattle.flash_model.specs.Memory.{Memory, IsWhole}
+use Rattle.flash_model.specs.Layouts.{IsRight, image_of}
+use Rattle.flash_model.specs.declared.layout.Layout.{Layout}
+use Rattle.flash_model.specs.Layouts.{layout_of}
+use Rattle.sram_layout.specs.Bytes.{byte_at, data_word_at}
+use Rattle.nat_page.specs.Faithful.{IsFaithful}
+use Rattle.branch_bridge.specs.declared.rewriting.Torn.{Torn}
+use Rattle.branch_bridge.specs.Operating.{with_torn}
+use Rattle.branch_bridge.specs.Arrivals.{ring_of}
+use Rattle.flash_model.specs.Operations.{is_listed}
+use Rattle.branch_bridge.specs.Tried.{IsTorn}
+use Rattle.step_laws.specs.declared.moves.Owed.{Owed}
+use Rattle.step_laws.specs.declared.moves.End.TheVariants as ends
+use Rattle.nat_page.specs.Used.{used_pages}
+use Rattle.addr_tables.specs.Tables.{IsTables}
+use Rattle.addr_tables.proofs.TableLaws.{tables_kept}
+use Rattle.preempt_count.specs.Counting.{count_over}
+use Rattle.kernel_entry.specs.Seen.{count_of}
+use Rattle.step_laws.specs.Moves.{Plain, count_stop}
+use Rattle.step_laws.specs.Numbers.{Numbers, moved, numbered}
+use Rattle.step_laws.specs.States.{State}
+use Rattle.step_laws.specs.Links.{links_of}
+use Rattle.step_laws.specs.StepLaws.{StepLaw, Reaches, Keeps, IsReset, crossings_over, links_at}
+use Rattle.program_steps.specs.Machines.{Machine, state_of, numbers_of}
+use Rattle.program_steps.specs.Ready.{count_in, HasFault, AreTried, IsInOrder, IsGoing, IsCounted, AreArrivals, most_arrivals}
+use Rattle.program_steps.specs.Loop.{Taken}
+use Rattle.program_steps.proofs.Bounds.{counted_on, steps_goes, pages_first}
+use Rattle.program_steps.proofs.Laws.{tables_going}
+
+ring_kept : (m n : List ℕ) → ((b : ℕ) → 0x0142 ≤ b → b < 0x0400 → byte_at n b ≡ byte_at m b) → ring_of n ≡ ring_of m
+unfolding data_word_at
+ring_kept m n same = ap₂ (λ low high. low + 256 * high) (same 0x0142 (omega arith) (omega arith)) (same 0x0143 (omega arith) (omega arith))
+
+-- no operation on flash is tried in a step
+tried_on : (old new : Machine) → new.kernel.mote.flash ≡ old.kernel.mote.flash → new.torn ≡ None → IsGoing old → AreTried new
+tried_on old new flash torn ready =
+    let before = ready.order.tried in
+    let never : HasFault old → ⊥ = λ fault. (let e : Some (ends.Flash fault.0) ≡ None = sym fault.1 ∙ ready.going in absurd (cc)) in
+    record {
+      listed = λ op from to there.
+          let L : Memory → Type 0 = λ f. op ≤ f.ops → is_listed f.failing op ≡ true → old.end ≡ Some (ends.Flash op) in
+          absurd (never (op, subst L (sym flash) (before.listed op from) to there));
+      refused = λ some. absurd (never (before.refused (subst (λ (f : Memory). f.refused ≢ None) flash some)));
+      torn = subst (λ t. IfSome t (λ torn. IsTorn new.kernel.layout new.kernel.mote.flash.words torn × HasFault new)) (sym torn) tt;
+    }
+
+-- what is in order stays so
+pub order_on : (old new : Machine) → Keeps (state_of old) (state_of new) → new.torn ≡ old.torn → new.pages ≡ old.pages → IsGoing old → IsInOrder new
+order_on old new keeps torn same ready =
+    let order = ready.order in
+    let untorn : new.torn ≡ None = torn ∙ ready.untorn in
+    let F : Layout → Memory → Option Torn → Type 0 = λ l f t. IsFaithful l (image_of l f.words) (with_torn f.words t) in
+    let T : Layout → List ℕ → Memory → Option Torn → Type 0 = λ l m f t. IsTables l m (with_torn f.words t) in
+    let U : Layout → Memory → Option Torn → Type 0 = λ l f t. used_pages l (with_torn f.words t) ≡ min new.pages l.pool_pages in
+    let l = old.kernel.layout in
+    let f = old.kernel.mote.flash in
+    let m = old.kernel.mote.sram in
+    let words = f.words in
+    let registers = order.registers in
+    let quantum = order.quantum in
+    record {
+      layout = subst (λ (l : Layout). l ≡ layout_of l.image_words) (sym keeps.layout) order.layout;
+      right = subst IsRight (sym keeps.layout) order.right;
+      faithful = subst (λ k. F k new.kernel.mote.flash new.torn) (sym keeps.layout) (subst (λ g. F l g new.torn) (sym keeps.flash) (subst (F l f) (sym torn) order.faithful));
+      tables = subst (λ k. T k new.kernel.mote.sram new.kernel.mote.flash new.torn) (sym keeps.layout) (subst (λ g. T l new.kernel.mote.sram g new.torn) (sym keeps.flash) (subst (T l new.kernel.mote.sram f) (sym untorn)
+          (tables_kept l m new.kernel.mote.sram words words (λ a from to. keeps.tables a (omega arith) to) (λ t v entry. entry) (tables_going old ready))));
+      paged = keeps.paged;
+      whole = subst IsWhole (sym keeps.flash) order.whole;
+      registers = omega (arith, keeps.registers);
+      pointer = keeps.pointer;
+      quantum = omega (arith, keeps.quantum);
+      pages = subst (λ k. U k new.kernel.mote.flash new.torn) (sym keeps.layout) (subst (λ g. U l g new.torn) (sym keeps.flash) (subst (U l f) (sym torn) (order.pages ∙ ap (λ n. min n l.pool_pages) (sym same))));
+      ring = omega (arith, ring_kept m new.kernel.mote.sram keeps.tables, order.ring, ap (λ (k : Layout). k.pool_pages) keeps.layout);
+      tried = tried_on old new keeps.flash untorn ready;
+    }
+
+by : (b c : Bool) (q count : ℕ) → 1 ≤ count → count ≤ q → (count == 1) ≡ c → (1 ≤ (if b then (if c then q else count - 1) else count)) × ((if b then (if c then q else count - 1) else count) ≤ q)
+by false c q count some most one = (some, most)
+by true true q count some most one = (omega arith, omega arith)
+by true false q count some most more = let apart : count ≢ 1 = grind (arith, nat_tests) in (omega arith, omega arith)
+
+count_range : (q from to count : ℕ) → 1 ≤ count → count ≤ q → (1 ≤ count_over q from to count) × (count_over q from to count ≤ q)
+count_range q from to count some most = by (is_crossing from to) (count == 1) q count some most refl
+
+pub counted_same : (n n' : Numbers) (c c' q q' k k' a a' : ℕ) → n ≡ n' → c ≡ c' → q ≡ q' → k ≡ k' → a ≡ a' → IsCounted n' c' q' k' a' → IsCounted n c q k a
+counted_same n n' c c' q q' k k' a a' en ec eq ek ea counted =
+    subst (λ x. IsCounted x c q k a) (sym en) (subst (λ x. IsCounted n' x q k a) (sym ec) (subst (λ x. IsCounted n' c' x k a) (sym eq) (subst (λ x. IsCounted n' c' q' x a) (sym ek) (subst (λ x. IsCounted n' c' q' k' x) (sym ea) counted))))
+
+-- COUNT follows from the crossings
+mod_on : (q c : ℕ) → c % q + 1 < q → (c + 1) % q ≡ c % q + 1
+mod_on q c less = (let h : suc (c % q) < q = omega arith in ap (λ k. k % q) (sym (suc-eq-add-one c)) ∙ suc-mod c q ∙ mod-eq_of_lt h ∙ suc-eq-add-one (c % q))
+
+mod_round : (q c : ℕ) → c % q + 1 ≡ q → (c + 1) % q ≡ 0
+mod_round q c is = ap (λ k. k % q) (sym (suc-eq-add-one c)) ∙ suc-mod c q ∙ ap (λ k. k % q) (suc-eq-add-one (c % q) ∙ is) ∙ mod_self q
+
+exact_by : (b k : Bool) (q c count : ℕ) → 1 ≤ q → count ≡ q - c % q → (count == 1) ≡ k → (if b then (if k then q else count - 1) else count) ≡ q - (if b then c + 1 else c) % q
+exact_by false k q c count some is one = is
+exact_by true true q c count some is one =
+    let less : c % q < q = mod-lt c some in
+    let is_one : count ≡ 1 = grind (arith, nat_tests) in
+    let last : c % q + 1 ≡ q = omega arith in
+    let round = mod_round q c last in
+    omega arith
+exact_by true false q c count some is one =
+    let less : c % q < q = mod-lt c some in
+    let apart : count ≢ 1 = grind (arith, nat_tests) in
+    let next : c % q + 1 < q = omega arith in
+    let on = mod_on q c next in
+    omega arith
+
+pub exact_on : (q from to c count : ℕ) → 1 ≤ q → count ≡ q - c % q → count_over q from to count ≡ q - crossings_over from to c % q
+exact_on q from to c count some is = exact_by (is_crossing from to) (count == 1) q c count some is refl
+
+is_one : (count : ℕ) → (count == 1) ≡ true → count ≡ 1
+is_one count is = grind (arith, nat_tests)
+
+-- a step makes room for one arrival
+most_owed : (owed owed' : Option Owed) (n : ℕ) → most_arrivals owed n ≤ most_arrivals owed' (n + 1)
+most_owed (Some a) (Some b) n = omega arith
+most_owed (Some a) None n = omega arith
+most_owed None (Some b) n = omega arith
+most_owed None None n = omega arith
+
+arrivals_on : (n n' : Numbers) (owed owed' : Option Owed) → n'.pages ≡ n.pages → n'.ops ≡ n.ops → n'.steps ≡ n.steps + 1 → AreArrivals n (most_arrivals owed n.steps) → AreArrivals n' (most_arrivals owed' n'.steps)
+arrivals_on n n' owed owed' pages ops steps before =
+    let more : most_arrivals owed n.steps ≤ most_arrivals owed' n'.steps = subst (λ k. most_arrivals owed n.steps ≤ most_arrivals owed' k) (sym steps) (most_owed owed owed' n.steps) in
+    let few = before.pages in
+    let tried = before.ops in
+    record { pages = omega arith; ops = omega arith }
+
+-- the step that goes on
+pub ready_on : (old new : Machine) (law : StepLaw (links_at (state_of old)) (state_of old) old.at) (to : ℕ) → IsGoing old → Taken old new law
+    → new.at ≡ to → new.crossings ≡ crossings_over old.at to old.crossings → law.end.end ≡ None → Reaches (links_at (state_of old)) to law.end
+    → count_of law.end.kernel ≡ count_over old.kernel.quantum old.at to (count_in old)
+    → IsCounted (numbered (Plain true law.first ∷ law.rest) (numbers_of old)) (crossings_over old.at to old.crossings) old.kernel.quantum (count_over old.kernel.quantum old.at to (count_in old)) to
+    → (numbers_of new).steps ≡ old.steps + 1 → new.torn ≡ old.torn
+    → IsGoing new
+ready_on old new law to ready taken at crossings going where' count counted steps torn =
+    let keeps : Keeps (state_of old) (state_of new) = subst (Keeps (state_of old)) (sym taken.state) law.keeps in
+    let same : count_in new ≡ count_over old.kernel.quantum old.at to (count_in old) = ap (λ (s : State). count_of s.kernel) taken.state ∙ count in
+    let range = count_range old.kernel.quantum old.at to (count_in old) ready.some ready.most in
+    let W : Layout → Memory → ℕ → State → Type 0 = λ l f t s. Reaches (links_of l f.words) t s in
+    let polls = ready.polls in
+    let polls' = keeps.polls in
+    let pages = ap (λ (k : Numbers). k.pages) taken.numbers ∙ pages_first law.first law.rest (numbers_of old) law.inner in
+    record {
+      order = order_on old new keeps torn pages ready;
+      going = ap (λ (s : State). s.end) taken.state ∙ going;
+      untorn = torn ∙ ready.untorn;
+      top = keeps.top;
+      some = omega (arith, same, range.0);
+      most = omega (arith, same, range.1, keeps.quantum);
+      stands = subst (λ l. W l new.kernel.mote.flash new.at (state_of new)) (sym keeps.layout)
+          (subst (λ f. W old.kernel.layout f new.at (state_of new)) (sym keeps.flash)
+          (subst (λ t. W old.kernel.layout old.kernel.mote.flash t (state_of new)) (sym at)
+          (subst (W old.kernel.layout old.kernel.mote.flash to) (sym taken.state) where')));
+      counted = counted_same (numbers_of new) _ new.crossings _ new.kernel.quantum _ (count_in new) _ new.at to taken.numbers crossings keeps.quantum same at counted;
+      arrivals = arrivals_on (numbers_of old) (numbers_of new) old.owed new.owed pages (ap (λ (f : Memory). f.ops) keeps.flash) steps ready.arrivals;
+      polls = omega arith;
+      exact = same ∙ exact_on old.kernel.quantum old.at to old.crossings (count_in old) (omega (arith, ready.some, ready.most)) ready.exact ∙ ap₂ (λ q c. q - c % q) (sym keeps.quantum) (sym crossings);
+    }
+
+-- by the law itself
+pub ready_went : (old new : Machine) (law : StepLaw (links_at (state_of old)) (state_of old) old.at) (to : ℕ) → IsGoing old → Taken old new law → new.at ≡ to → new.crossings ≡ crossings_over old.at to old.crossings
+    → law.end.end ≡ None → Reaches (links_at (state_of old)) to law.end → count_of law.end.kernel ≡ count_over old.kernel.quantum old.at to (count_in old)
+    → count_stop law.rest ≡ 0 → IsReset (state_of old) (is_crossing old.at to) law.rest → new.torn ≡ old.torn → IsGoing new
+unfolding moved
+ready_went old new law to ready taken at crossings going where' count goes reset torn =
+    let n = numbers_of old in
+    ready_on old new law to ready taken at crossings going where' count
+    (counted_on n old.crossings old.kernel.quantum (count_in old) old.at to law.first law.rest ready.counted ready.some ready.most law.inner law.few law.serves goes (λ crosses one. reset crosses (is_one (count_in old) one)))
+    (ap (λ (k : Numbers). k.steps) taken.numbers ∙ steps_goes law.rest (moved (Plain true law.first) n) law.inner goes) torn

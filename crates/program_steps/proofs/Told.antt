@@ -1,0 +1,204 @@
+-- What one call tells of a move.
+use Rattle.std.proofs.Common.{◌≡◌, ℕ, ◌+◌, ◌-◌, ◌<◌, ◌≤◌, Bool, true, false, List, [], ◌∷◌, refl, sym, ap, ap₂, ◌∙◌, arith, subst, inl, inr}
+use Rattle.std.specs.Prelude.{◌⊎◌, ◌^◌, max, is_some, IfNone, Option, Some, None}
+use Rattle.mote_devices.specs.declared.line.Line.{Line}
+use Rattle.mote_core.specs.declared.mote.Mote.{Mote}
+use Rattle.mote_core.specs.declared.mote.Plain.{Plain}
+use Rattle.mote_core.specs.Shown.{line_shown}
+use Rattle.mote_core.specs.Step.{IsPlainStep}
+use Rattle.mote_core.proofs.KnownSteps.{one_step}
+use Rattle.kernel_entry.specs.declared.kernel.Kernel.{Kernel}
+use Rattle.kernel_entry.specs.declared.kernel.Served.{Served}
+use Rattle.kernel_entry.specs.Services.{served}
+use Rattle.branch_bridge.specs.declared.rewriting.Torn.{Torn}
+use Rattle.step_laws.specs.declared.moves.Owed.{Owed}
+use Rattle.step_laws.specs.declared.moves.End.{End}
+use Rattle.step_laws.specs.Moves.{Move, Plain as PlainMove, Serve, Arrive}
+use Rattle.step_laws.specs.Numbers.{Numbers, moved, one_if}
+use Rattle.page_index.specs.Entries.{IsEntry, IsMapped}
+use Rattle.page_index.specs.Cursors.{IsCursor}
+use Rattle.page_index.specs.declared.cursor.Cursor.{Cursor}
+use Rattle.page_index.specs.Maps.{IsFree, IsMap}
+use Rattle.page_index.proofs.MapLaws.{free_lists_nothing}
+use Rattle.flash_model.specs.Layouts.{IsRight}
+use Rattle.flash_model.specs.declared.layout.Layout.{Layout}
+use Rattle.program_steps.specs.Machines.{Machine}
+use Rattle.program_steps.specs.Machines.{state_of, numbers_of}
+use Rattle.step_laws.specs.Moves.{is_inner, are_inner}
+use Rattle.program_steps.specs.Loop.{IsHalted, is_small, IsOver, CanPlain, CanServeNow, HasPlain, HasServed, CanMove, HasMoved, is_of_step, uncounted, moves_made}
+use Rattle.step_laws.specs.States.{State, mote_of, with_mote, after_service, line_served, is_stop}
+use Rattle.step_laws.specs.Walks.{Makes, MakesPlain, MakesServe, Walk}
+use Rattle.step_laws.proofs.MoveLaws.{entry_high, pool_low}
+use Rattle.nat_page.specs.Entered.{IsPlace}
+
+pub plain_state : (x y : State) (next : Mote) (shown : Plain) (b : Bool) (line : Option Line) → IsPlainStep (mote_of x) shown next → MakesPlain x b line y → (with_mote x next ≡ y) × (line_shown shown ≡ line)
+plain_state x y next shown b line step makes =
+    let same = one_step (mote_of x) next makes.next shown makes.shown step makes.step in
+    (ap (with_mote x) same.0 ∙ sym makes.result, ap line_shown same.1 ∙ makes.written)
+
+-- where `longest` lags behind `since`, a plain step raises what it stands for
+pub plain_numbers : (n : Numbers) (line : Option Line) (before longest ops : ℕ) → n.natural ≡ before + n.since → n.longest ≡ max longest n.since → ops ≡ n.ops
+    → ◌≡◌ {A = Numbers} (record n { natural = before + (n.since + 1); since = n.since + 1; longest = max longest (n.since + 1); ops = ops }) (moved (PlainMove false line) n)
+unfolding moved
+plain_numbers n line before longest ops counted is stays =
+    let same : n.steps ≡ n.steps + one_if false = omega arith in
+    let one : before + (n.since + 1) ≡ n.natural + 1 = omega (arith, counted) in
+    let reach : max longest (n.since + 1) ≡ max n.longest (n.since + 1) = omega (arith, is) in
+    ap (λ o. record n { natural = before + (n.since + 1); since = n.since + 1; longest = max longest (n.since + 1); ops = o }) stays
+    ∙ ap (λ k. record n { natural = k; since = n.since + 1; longest = max longest (n.since + 1) }) one
+    ∙ ap₂ (λ s l. record n { steps = s; natural = n.natural + 1; since = n.since + 1; longest = l }) same reach
+
+-- a service, from what it answered
+pub serve_state : (x y : State) (answer : Served) (k : Kernel) (line : Option Line) (stops : Bool) → (answer, k) ≡ served x.kernel → MakesServe x line stops y → (after_service (answer, k) ≡ y) × (line_served answer ≡ line) × (is_stop answer ≡ stops)
+serve_state x y answer k line stops is makes =
+    (ap after_service is ∙ sym makes.result, ap (λ (o : Served × Kernel). line_served o.0) is ∙ makes.written, ap (λ (o : Served × Kernel). is_stop o.0) is ∙ makes.halts)
+
+pub serve_numbers : (n : Numbers) (line : Option Line) (stops b : Bool) (steps natural longest ops : ℕ) → b ≡ stops → steps ≡ n.steps - one_if b → natural ≡ n.natural → longest ≡ n.longest → ops ≡ n.ops
+    → ◌≡◌ {A = Numbers} (record n { steps = steps; natural = natural; entries = n.entries + 1; since = 0; longest = longest; ops = ops }) (moved (Serve line stops) n)
+unfolding moved
+serve_numbers n line stops b steps natural longest ops same is counted raised stays =
+    ap (λ o. record n { steps = steps; natural = natural; entries = n.entries + 1; since = 0; longest = longest; ops = o }) stays
+    ∙ ap (λ k. record n { steps = steps; natural = k; entries = n.entries + 1; since = 0; longest = longest }) counted
+    ∙ ap₂ (λ s l. record n { steps = s; entries = n.entries + 1; since = 0; longest = l }) (is ∙ ap (λ c. n.steps - one_if c) same) raised
+
+-- states that differ in what they are made of
+pub same_state : (k : Kernel) (o o' : Option Owed) (e e' : Option End) (t t' : Option Torn) → o ≡ o' → e ≡ e' → t ≡ t'
+    → ◌≡◌ {A = State} (record { kernel = k; owed = o; end = e; torn = t }) (record { kernel = k; owed = o'; end = e'; torn = t' })
+same_state k o o' e e' t t' eo ee et =
+    let S : Option Owed → Option End → Option Torn → State = λ x y z. record { kernel = k; owed = x; end = y; torn = z } in
+    ap (λ x. S x e t) eo ∙ ap (λ y. S o' y t) ee ∙ ap (λ z. S o' e' z) et
+
+pub none_behind : (n : ℕ) → n + 0 ≡ n
+none_behind n = omega arith
+
+-- at a service `longest` is raised to what it stood for, and nothing is behind it
+pub raised : (longest since reach : ℕ) → reach ≡ max longest since → max reach 0 ≡ max longest since
+raised longest since reach is = omega (arith, is)
+
+-- nothing is owed and there is no end
+pub not_owed : (x : State) (line : Option Line) (stops : Bool) (y : State) → MakesServe x line stops y → (x.owed ≡ None) × (x.end ≡ None)
+not_owed x line stops y makes = (makes.free, makes.going)
+
+pub not_over : (x : State) → x.owed ≡ None → x.end ≡ None → ((t : ℕ) → ¬ IsEntry x.kernel.layout (mote_of x).flash.words t (mote_of x).cpu.pc) → ¬ IsOver x
+not_over x free going none (IsOver.Owes owes) = owes free
+not_over x free going none (IsOver.Ended ended) = ended going
+not_over x free going none (IsOver.Reached place) = none place.0 place.1
+
+pub is_none_of : {A : Type 0} (o : Option A) → is_some o ≡ false → o ≡ None
+is_none_of None is = refl
+is_none_of (Some a) is = absurd (cc)
+
+-- a move of a step is a plain one or a service, by the pc
+plain_by : (x y : State) (move : Move) → Makes x move y → is_of_step move ≡ true → (mote_of x).cpu.pc < 0xF000 → CanPlain x
+plain_by x y (PlainMove b line) makes of_step low = record { begins = b; line = line; next = y; makes = makes }
+plain_by x y (Serve line stops) makes of_step low = absurd (let e = entry_high x.kernel makes.can in omega arith)
+plain_by x y (Arrive target made ops) makes of_step low = absurd (cc)
+
+pub can_plain : (x : State) → CanMove x → (mote_of x).cpu.pc < 0xF000 → CanPlain x
+can_plain x can low = plain_by x can.next can.move can.makes can.of_step low
+
+serve_by : (x y : State) (move : Move) → IsRight x.kernel.layout → Makes x move y → is_of_step move ≡ true → 0xF000 ≤ (mote_of x).cpu.pc → CanServeNow x
+serve_by x y (PlainMove b line) right makes of_step high = absurd (let e = pool_low x.kernel.layout (mote_of x).cpu.pc right makes.pool in omega arith)
+serve_by x y (Serve line stops) right makes of_step high = record { line = line; stops = stops; next = y; makes = makes }
+serve_by x y (Arrive target made ops) right makes of_step high = absurd (cc)
+
+pub can_serve : (x : State) → IsRight x.kernel.layout → CanMove x → 0xF000 ≤ (mote_of x).cpu.pc → CanServeNow x
+can_serve x right can high = serve_by x can.next can.move right can.makes can.of_step high
+
+pub moved_plain : (old new : Machine) (before after : Option Line) → HasPlain old new before after → old.kernel.mote.cpu.pc < 0xF000 → HasMoved old new before after
+moved_plain old new before after told low (PlainMove b written) next makes of_step =
+    let t = told b written next makes in
+    record { state = t.0; numbers = t.1; written = t.2; at = t.3; broken = t.4; crossings = t.5 }
+moved_plain old new before after told low (Serve written stops) next makes of_step = absurd (let e = entry_high old.kernel makes.can in omega arith)
+moved_plain old new before after told low (Arrive target made ops) next makes of_step = absurd (cc)
+
+pub moved_serve : (old new : Machine) (before after : Option Line) → IsRight old.kernel.layout → HasServed old new before after → 0xF000 ≤ old.kernel.mote.cpu.pc → HasMoved old new before after
+moved_serve old new before after right told high (Serve written stops) next makes of_step =
+    let t = told written stops next makes in
+    record { state = t.0; numbers = t.1; written = t.2; at = t.3; broken = t.4; crossings = t.5 }
+moved_serve old new before after right told high (PlainMove b written) next makes of_step = absurd (let e = pool_low old.kernel.layout old.kernel.mote.cpu.pc right makes.pool in omega arith)
+moved_serve old new before after right told high (Arrive target made ops) next makes of_step = absurd (cc)
+
+-- a move in the midst of a step is one of a step, and counts as it is
+pub inner_of_step : (m : Move) → is_inner m ≡ true → (is_of_step m ≡ true) × (uncounted m ≡ m)
+inner_of_step (PlainMove true line) inner = absurd (cc)
+inner_of_step (PlainMove false line) inner = (refl, refl)
+inner_of_step (Serve line stops) inner = (refl, refl)
+inner_of_step (Arrive target made ops) inner = absurd (cc)
+
+-- an entry's place is in the pool
+low_by : (layout : Layout) (words : List ℕ) (t a : ℕ) → IsRight layout → (entry : IsEntry layout words t a) → IsFree words entry.page ⊎ IsMap words entry.page → a < 0xF000
+low_by layout words t a right entry (inl free) = absurd (free_lists_nothing words entry.page entry.index t a free entry.lists)
+low_by layout words t a right entry (inr map) =
+    let inside = map.inside entry.index entry.lists.listed in
+    let place = entry.lists.place in
+    let to = entry.pool.to in
+    let below = right.pool_below_kernel in
+    omega arith
+
+place_low : (layout : Layout) (words : List ℕ) (a : ℕ) → IsRight layout → IsMapped layout words → IsPlace layout words a → a < 0xF000
+place_low layout words a right mapped place = low_by layout words place.0 a right place.1 (mapped.pages place.1.page place.1.pool)
+
+-- where the step is over nothing is left
+pub none_left : (x z : State) (ms : List Move) → IsRight x.kernel.layout → IsMapped x.kernel.layout (mote_of x).flash.words → Walk x ms z → are_inner ms ≡ true → IsOver x → ms ≡ []
+none_left x z [] right mapped walk inner over = refl
+none_left x z (PlainMove true line ∷ ms) right mapped walk inner over = absurd (cc)
+none_left x z (PlainMove false line ∷ ms) right mapped walk inner (IsOver.Owes owes) = absurd (owes walk.1.free)
+none_left x z (PlainMove false line ∷ ms) right mapped walk inner (IsOver.Ended ended) = absurd (ended walk.1.going)
+none_left x z (PlainMove false line ∷ ms) right mapped walk inner (IsOver.Reached place) = absurd (walk.1.starts place)
+none_left x z (Serve line stops ∷ ms) right mapped walk inner (IsOver.Owes owes) = absurd (owes walk.1.free)
+none_left x z (Serve line stops ∷ ms) right mapped walk inner (IsOver.Ended ended) = absurd (ended walk.1.going)
+none_left x z (Serve line stops ∷ ms) right mapped walk inner (IsOver.Reached place) = absurd (let e = place_low x.kernel.layout (mote_of x).flash.words (mote_of x).cpu.pc right mapped place in let f = entry_high x.kernel walk.1.can in omega arith)
+none_left x z (Arrive target made ops ∷ ms) right mapped walk inner over = absurd (cc)
+
+-- numbers grow by one a move
+pub small_moved : (n : Numbers) (m : Move) (top : ℕ) → is_small n top → is_small (moved m n) (top + 1)
+unfolding moved
+small_moved n (PlainMove b line) top small = let a = small.natural in let b = small.entries in let c = small.since in record { natural = omega arith; entries = omega arith; since = omega arith }
+small_moved n (Serve line stops) top small = let a = small.natural in let b = small.entries in let c = small.since in record { natural = omega arith; entries = omega arith; since = omega arith }
+small_moved n (Arrive target made ops) top small = let a = small.natural in let b = small.entries in let c = small.since in record { natural = omega arith; entries = omega arith; since = omega arith }
+
+-- each move of a step is one more
+made_by : (m : Move) (n k : Numbers) → is_of_step m ≡ true → k ≡ moved (uncounted m) n → k.natural + k.entries ≡ n.natural + n.entries + 1
+unfolding moved
+made_by (PlainMove b line) n k of_step is = ap (λ (x : Numbers). x.natural + x.entries) is ∙ omega arith
+made_by (Serve line stops) n k of_step is = ap (λ (x : Numbers). x.natural + x.entries) is ∙ omega arith
+made_by (Arrive target made ops) n k of_step is = absurd (cc)
+
+pub moved_made : (now new : Machine) (before after : Option Line) → CanMove (state_of now) → HasMoved now new before after → moves_made new ≡ moves_made now + 1
+moved_made now new before after can told = made_by can.move (numbers_of now) (numbers_of new) can.of_step (told can.move can.next can.makes can.of_step).numbers
+
+pub small_on : (now new : Machine) (before after : Option Line) (top : ℕ) → CanMove (state_of now) → HasMoved now new before after → is_small (numbers_of now) top → is_small (numbers_of new) (top + 1)
+small_on now new before after top can told small = subst (λ n. is_small n (top + 1)) (sym (told can.move can.next can.makes can.of_step).numbers) (small_moved (numbers_of now) (uncounted can.move) top small)
+
+pub small_moves : (now new : Machine) (before after : Option Line) → CanMove (state_of now) → HasMoved now new before after → is_small (numbers_of now) (2 ^ 60 + moves_made now) → is_small (numbers_of new) (2 ^ 60 + moves_made new)
+small_moves now new before after can told small =
+    let same : 2 ^ 60 + moves_made now + 1 ≡ 2 ^ 60 + moves_made new = omega (arith, moved_made now new before after can told) in
+    subst (is_small (numbers_of new)) same (small_on now new before after (2 ^ 60 + moves_made now) can told small)
+
+pub small_enough : (old now : Machine) → is_small (numbers_of old) (2 ^ 60) → moves_made now < moves_made old + 65 → is_small (numbers_of now) (2 ^ 60 + moves_made now) → is_small (numbers_of now) (2 ^ 62)
+small_enough old now few made small =
+    let a = few.natural in
+    let b = few.entries in
+    let x = small.natural in
+    let y = small.entries in
+    let z = small.since in
+    record { natural = omega arith; entries = omega arith; since = omega arith }
+
+pub mapped_same : (old now : Machine) → now.kernel.layout ≡ old.kernel.layout → now.kernel.mote.flash ≡ old.kernel.mote.flash → IsMapped old.kernel.layout old.kernel.mote.flash.words → IsMapped now.kernel.layout now.kernel.mote.flash.words
+mapped_same old now layout flash mapped =
+    subst (λ l. IsMapped l now.kernel.mote.flash.words) (sym layout) (subst (λ f. IsMapped old.kernel.layout f.words) (sym flash) mapped)
+
+-- the step is over
+pub over_halted : (m : Machine) → IsHalted m → IsOver (state_of m)
+over_halted m (IsHalted.Owes owes going) = IsOver.Owes owes
+over_halted m (IsHalted.Ended free ended) = IsOver.Ended ended
+
+pub none_there : (layout : Layout) (words : List ℕ) (v : ℕ) (found : Option ℕ) → ((t : ℕ) → IsEntry layout words t v → found ≡ Some t) → IfNone found ((t : ℕ) → ¬ IsEntry layout words t v)
+none_there layout words v None only = λ t entry. absurd (let e : None ≡ Some t = only t entry in cc)
+none_there layout words v (Some u) only = tt
+
+-- a cursor is right where layout and flash stay
+pub cursor_same : (old now : Machine) (c : Cursor) → now.kernel.layout ≡ old.kernel.layout → now.kernel.mote.flash ≡ old.kernel.mote.flash → IsCursor old.kernel.layout old.kernel.mote.flash.words c → IsCursor now.kernel.layout now.kernel.mote.flash.words c
+cursor_same old now c layout flash cursor =
+    subst (λ l. IsCursor l now.kernel.mote.flash.words c) (sym layout) (subst (λ f. IsCursor old.kernel.layout f.words c) (sym flash) cursor)

@@ -1,0 +1,21 @@
+use Rattle.std.proofs.Common.{refl}
+use Rattle.program_steps.specs.Wholes.{whole}
+use Rattle.program_steps.specs.Stepping.{HasBound}
+use Rattle.program_steps.proofs.Arrived.{place_inside}
+use Rattle.program_steps.proofs.Entered.{bound_inside, bound_wild, bound_none}
+use Rattle.program_steps.proofs.arrival.at_bound.Goals as goal
+
+pub returns-in-None : goal.returns-in-None
+returns-in-None c = record { bound = HasBound.Waits refl (place_inside (whole c.args.k.now c.args.p.now) c.requires.ready c.in-None.is) }
+
+pub returns-then-owed-k : goal.returns-then-owed-k
+returns-then-owed-k c = record { bound = HasBound.Waits refl (bound_inside (whole c.args.k.now c.args.p.now) c.in-Some.owed c.requires.ready c.in-Some.is c.if-owed-k.true) }
+
+pub returns-in-None-enter : goal.returns-in-None-enter
+returns-in-None-enter c = absurd (bound_none (whole c.args.k.now c.args.p.now) (whole c.enter.new.k c.enter.new.p) c.in-Some.owed c.enter.result c.requires.ready c.in-Some.is c.if-owed-k.false c.enter.ensures.entered c.in-None-enter.is)
+
+pub returns-in-Some-enter : goal.returns-in-Some-enter
+returns-in-Some-enter c = record { bound = bound_wild (whole c.args.k.now c.args.p.now) (whole c.enter.new.k c.enter.new.p) c.in-Some.owed c.enter.result c.in-Some-enter.end c.requires.ready c.in-Some.is c.if-owed-k.false c.enter.ensures.entered c.in-Some-enter.is }
+
+pub enter-requires-clause-cursor : goal.enter-requires-clause-cursor
+enter-requires-clause-cursor c = c.new.ensures.right c.args.k.now.layout c.args.k.now.mote.flash.words

@@ -1,0 +1,7 @@
+-- Steps of the program, and what they leave of a machine.
+pub mod Machines
+pub mod Wholes
+pub mod Ready
+pub mod Loop
+pub mod Stepping
+pub mod Several

@@ -1,0 +1,183 @@
+-- Serves private functions: what the calls of the loop ask of the machine, and what they leave. A call
+-- asks that some move may be made; and whichever may, it leaves what that one leads to. So it is told
+-- nothing of the law of a step, and follows it all the same. The device line of a step stands where all its
+-- moves put it: a call tells which stood there before, and which stands there after.
+use Rattle.std.specs.Prelude.{◌≡◌, ◌≢◌, ℕ, ◌+◌, ◌<◌, ◌≤◌, Bool, true, false, List, [], ◌∷◌, length, Option, Some, None}
+use Rattle.std.specs.Option.{option_or}
+use Rattle.mote_devices.specs.declared.line.Line.{Line}
+use Rattle.page_index.specs.Entries.{IsEntry}
+use Rattle.branch_bridge.specs.declared.arrival.Refused.{Refused}
+use Rattle.branch_bridge.specs.declared.through.Arrival.{Arrival}
+use Rattle.branch_bridge.specs.Arrivals.{KeptThrough}
+use Rattle.step_laws.specs.declared.moves.Owed.{Owed}
+use Rattle.program_steps.specs.declared.progress.Progress.{Progress}
+use Rattle.program_steps.specs.Machines.{Machine, state_of, numbers_of}
+use Rattle.step_laws.specs.StepLaws.{StepLaw, crossings_over, links_at}
+use Rattle.step_laws.specs.Moves.{Move, Plain, Serve, Arrive, lines_of, line_before}
+use Rattle.step_laws.specs.Numbers.{Numbers, moved, numbered, one_if}
+use Rattle.step_laws.specs.States.{State, mote_of, store_of, end_by}
+use Rattle.step_laws.specs.Walks.{Makes, MakesPlain, MakesServe, MakesArrive, Walk}
+use Rattle.nat_page.specs.Entered.{IsPlace}
+use Rattle.step_laws.specs.Moves.{are_inner}
+
+-- numbers that can be counted on
+pub record is_small (n : Numbers) (top : ℕ) : Type 0 where
+  pub natural : n.natural < top
+  pub entries : n.entries < top
+  pub since : n.since < top
+
+-- some plain step may be made, and whichever may, it was made
+pub record CanPlain (x : State) : Type 0 where
+  pub begins : Bool
+  pub line : Option Line
+  pub next : State
+  pub makes : MakesPlain x begins line next
+
+-- the step of the program that it may begin isn't counted by it
+abbrev pub HasPlain : Machine → Machine → (before after : Option Line) → Type 0
+HasPlain old new before after = (begins : Bool) → (line : Option Line) → (y : State) → MakesPlain (state_of old) begins line y
+    → (state_of new ≡ y) × (numbers_of new ≡ moved (Plain false line) (numbers_of old)) × (after ≡ option_or line before) × (new.at ≡ old.at) ×
+    (new.broken ≡ old.broken) × (new.crossings ≡ old.crossings)
+
+-- the same of a service
+pub record CanServeNow (x : State) : Type 0 where
+  pub line : Option Line
+  pub stops : Bool
+  pub next : State
+  pub makes : MakesServe x line stops next
+
+abbrev pub HasServed : Machine → Machine → (before after : Option Line) → Type 0
+HasServed old new before after = (line : Option Line) → (stops : Bool) → (y : State) → MakesServe (state_of old) line stops y
+    → (state_of new ≡ y) × (numbers_of new ≡ moved (Serve line stops) (numbers_of old)) × (after ≡ option_or line before) × (new.at ≡ old.at) ×
+    (new.broken ≡ old.broken) × (new.crossings ≡ old.crossings)
+
+-- a step of the program is over
+pub data IsOver (x : State) : Type 0 where
+  Owes : x.owed ≢ None → IsOver x
+  Ended : x.end ≢ None → IsOver x
+  Reached : IsPlace x.kernel.layout (mote_of x).flash.words (mote_of x).cpu.pc → IsOver x
+
+-- an arrival is owed, or the program has ended
+pub data IsHalted (m : Machine) : Type 0 where
+  Owes : m.owed ≢ None → m.end ≡ None → IsHalted m
+  Ended : m.owed ≡ None → m.end ≢ None → IsHalted m
+
+-- whether a move has brought control to the kernel, for an arrival or for good
+abbrev pub Halts : Machine → Bool → Type 0
+Halts m true = IsHalted m
+Halts m false = (m.owed ≡ None) × (m.end ≡ None)
+
+-- where control stands at the end of a step: at the code of this address, or with the kernel
+abbrev pub HasReached : Machine → Option ℕ → Type 0
+HasReached m (Some t) = (m.owed ≡ None) × (m.end ≡ None) × IsEntry m.kernel.layout m.kernel.mote.flash.words t m.kernel.mote.cpu.pc
+HasReached m None = IsHalted m
+
+-- a move of a step: no arrival
+abbrev pub is_of_step : Move → Bool
+is_of_step (Plain begins line) = true
+is_of_step (Serve line stops) = true
+is_of_step (Arrive target made ops) = false
+
+-- some move of a step may be made, and whichever may, it was made
+pub record CanMove (x : State) : Type 0 where
+  pub move : Move
+  pub next : State
+  pub makes : Makes x move next
+  pub of_step : is_of_step move ≡ true
+
+abbrev pub line_of_move : Move → Option Line
+line_of_move (Plain begins line) = line
+line_of_move (Serve line stops) = line
+line_of_move (Arrive target made ops) = None
+
+-- the move, where the step that it may begin was counted before
+abbrev pub uncounted : Move → Move
+uncounted (Plain begins line) = Plain false line
+uncounted (Serve line stops) = Serve line stops
+uncounted (Arrive target made ops) = Arrive target made ops
+
+pub record Moved (old new : Machine) (before after : Option Line) (move : Move) (next : State) : Type 0 where
+  pub state : state_of new ≡ next
+  pub numbers : numbers_of new ≡ moved (uncounted move) (numbers_of old)
+  pub written : after ≡ option_or (line_of_move move) before
+  pub at : new.at ≡ old.at
+  pub broken : new.broken ≡ old.broken
+  pub crossings : new.crossings ≡ old.crossings
+
+abbrev pub HasMoved : Machine → Machine → (before after : Option Line) → Type 0
+HasMoved old new before after = (move : Move) → (next : State) → Makes (state_of old) move next → is_of_step move ≡ true → Moved old new before after move next
+
+-- an arrival was made, or refused, and left what arrivals leave
+pub record HasArrived (old new : Machine) : Type 0 where
+  pub target : ℕ
+  pub made : Bool
+  pub ops : ℕ
+  pub makes : MakesArrive (state_of old) target made ops (state_of new)
+  pub kept : KeptThrough old.kernel.layout (store_of (state_of old)) makes.store target makes.arrival
+  pub numbers : numbers_of new ≡ moved (Arrive target made ops) (numbers_of old)
+  pub at : new.at ≡ old.at
+  pub broken : new.broken ≡ old.broken
+  pub crossings : new.crossings ≡ old.crossings
+
+-- what is counted of an arrival, and how a refused one ends the program
+abbrev pub noted_refusal : Option Refused → Progress → Progress
+noted_refusal None p = record p { owed = None }
+noted_refusal (Some refused) p = record p { end = Some (end_by refused.why); torn = refused.torn }
+
+abbrev pub after_arrival : Arrival → Progress → Progress
+after_arrival arrival p = noted_refusal arrival.refused (record p { pages = p.pages + one_if arrival.made })
+
+-- the law of the step that begins here, and its moves
+abbrev pub LawOf : Machine → Type 0
+LawOf m = StepLaw (links_at (state_of m)) (state_of m) m.at
+
+abbrev pub moves_of : (m : Machine) → LawOf m → List Move
+moves_of m law = Plain true law.first ∷ law.rest
+
+-- how many moves of steps a machine has made
+abbrev pub moves_made : Machine → ℕ
+moves_made m = m.natural + m.entries
+
+-- what is left of the moves of a step
+pub record Rest (old now : Machine) (line : Option Line) (law : LawOf old) : Type 0 where
+  pub rest : List Move
+  pub walk : Walk (state_of now) rest law.end
+  pub inner : are_inner rest ≡ true
+  pub short : length rest + moves_made now ≤ moves_made old + 65
+  pub numbers : numbered rest (numbers_of now) ≡ numbered (moves_of old law) (numbers_of old)
+  pub at : now.at ≡ old.at
+  pub broken : now.broken ≡ old.broken
+  pub crossings : now.crossings ≡ old.crossings
+  pub lines : line_before line (lines_of rest) ≡ line_before law.line []
+
+-- A step was counted, and has not moved yet; or some of its moves were made, whichever the law gives, and it
+-- isn't over.
+pub data IsMidway (old now : Machine) (line : Option Line) : Type 0 where
+  Begun : now ≡ record old { steps = old.steps + 1 } → line ≡ None → IsMidway old now line
+  Going : ¬ IsOver (state_of now) → ((law : LawOf old) → Rest old now line law) → IsMidway old now line
+
+-- the walk of the law of a step was made
+pub record Taken (old new : Machine) (law : LawOf old) : Type 0 where
+  pub state : state_of new ≡ law.end
+  pub numbers : numbers_of new ≡ numbered (moves_of old law) (numbers_of old)
+
+pub record Took (old new : Machine) (line : Option Line) (law : LawOf old) : Type 0 where
+  pub taken : Taken old new law
+  pub written : line ≡ law.line
+  pub at : new.at ≡ old.at
+  pub broken : new.broken ≡ old.broken
+  pub crossings : new.crossings ≡ old.crossings
+
+abbrev pub HasTaken : Machine → Machine → Option Line → Type 0
+HasTaken old new line = (law : LawOf old) → Took old new line law
+
+-- the address at which the next step begins, unless the program has ended
+abbrev pub target : Option ℕ → Option Owed → Option ℕ
+target (Some t) owed = Some t
+target None (Some owed) = Some owed.target
+target None None = None
+
+-- that address is taken down, and the step to it counted if it is a crossing
+abbrev pub settled_at : Option ℕ → Progress → Progress
+settled_at None p = p
+settled_at (Some to) p = record p { at = to; crossings = crossings_over p.at to p.crossings }

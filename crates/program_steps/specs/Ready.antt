@@ -1,0 +1,139 @@
+-- When a machine is sound, and when it is ready to go on (docs/MACHINE.md, "What always holds").
+use Rattle.std.specs.Prelude.{◌≡◌, ◌≢◌, ℕ, ◌+◌, ◌-◌, ◌*◌, ◌%◌, ◌<◌, ◌≤◌, ◌^◌, true, false, min, List, length, Option, Some, None, IfSome}
+use Rattle.sram_layout.specs.Bytes.{byte_at}
+use Rattle.sram_layout.specs.Cells.{vsp_cell, kernel_stack_top}
+use Rattle.heap_frames.specs.Paged.{IsPaged}
+use Rattle.flash_model.specs.Layouts.{IsRight, layout_of}
+use Rattle.flash_model.specs.Memory.{IsWhole}
+use Rattle.nat_page.specs.Faithful.{IsFaithful}
+use Rattle.nat_page.specs.Used.{used_pages}
+use Rattle.addr_tables.specs.Tables.{IsTables}
+use Rattle.branch_bridge.specs.Operating.{with_torn}
+use Rattle.flash_model.specs.Operations.{is_listed}
+use Rattle.branch_bridge.specs.Tried.{IsTorn}
+use Rattle.branch_bridge.specs.Arrivals.{ring_of}
+use Rattle.kernel_entry.specs.Parts.{image_held}
+use Rattle.kernel_entry.specs.Seen.{count_of}
+use Rattle.step_laws.specs.declared.moves.Owed.{Owed}
+use Rattle.step_laws.specs.declared.moves.End.TheVariants as ends
+use Rattle.step_laws.specs.Numbers.{Numbers}
+use Rattle.step_laws.specs.StepLaws.{Reaches, links_at}
+use Rattle.program_steps.specs.Machines.{Machine, state_of, numbers_of}
+
+-- COUNT, the crossings that are left in the quantum
+abbrev pub count_in : Machine → ℕ
+count_in m = count_of m.kernel
+
+-- the words of flash, with those put in that a torn page lacks
+abbrev pub mended_words : Machine → List ℕ
+mended_words m = with_torn m.kernel.mote.flash.words m.torn
+
+-- the operation on flash of some number was refused, and ended the run
+abbrev pub HasFault : Machine → Type 0
+HasFault m = (op : ℕ) × (m.end ≡ Some (ends.Flash op))
+
+-- Of the operations on flash that were tried, none is listed to fail and none was refused, but for the last of a
+-- run that this ended. Only then a page may be torn.
+pub record AreTried (m : Machine) : Type 0 where
+  pub listed : (op : ℕ) → 1 ≤ op → op ≤ m.kernel.mote.flash.ops → is_listed m.kernel.mote.flash.failing op ≡ true → m.end ≡ Some (ends.Flash op)
+  pub refused : m.kernel.mote.flash.refused ≢ None → HasFault m
+  pub torn : IfSome m.torn (λ torn. IsTorn m.kernel.layout m.kernel.mote.flash.words torn × HasFault m)
+
+-- The layout is that of the image's length; flash, with the words that a torn page lacks, holds the image and its
+-- faithful rewritten code; the tables and the heap are in order; as many pages are used as were made, up to the whole
+-- pool; r0 to r31 are there, and the low half of the program's stack pointer is a byte.
+pub record IsInOrder (m : Machine) : Type 0 where
+  pub layout : m.kernel.layout ≡ layout_of m.kernel.layout.image_words
+  pub right : IsRight m.kernel.layout
+  pub faithful : IsFaithful m.kernel.layout (image_held m.kernel) (mended_words m)
+  pub tables : IsTables m.kernel.layout m.kernel.mote.sram (mended_words m)
+  pub paged : IsPaged m.kernel.mote.sram m.kernel.mote.swap
+  pub whole : IsWhole m.kernel.mote.flash
+  pub registers : 31 < length m.kernel.mote.cpu.r
+  pub pointer : byte_at m.kernel.mote.sram vsp_cell < 256
+  pub quantum : m.kernel.quantum < 256
+  pub pages : used_pages m.kernel.layout (mended_words m) ≡ min m.pages m.kernel.layout.pool_pages
+  pub ring : ring_of m.kernel.mote.sram < m.kernel.layout.pool_pages
+  pub tried : AreTried m
+
+-- How far the numbers go, also in a machine that stopped in the midst of a step. No more than 5120 plain
+-- steps for each crossing of a quantum run without a service, and no arrival tries more than 1,000 operations.
+pub record IsBounded (n : Numbers) (crossings quantum polled : ℕ) : Type 0 where
+  pub natural : n.natural ≤ 40 * (n.steps + 1)
+  pub entries : n.entries ≤ 2 * (n.steps + 1)
+  pub since : n.since ≤ n.longest
+  pub longest : n.longest ≤ n.natural
+  pub crossed : crossings ≤ n.steps
+  pub most : n.longest ≤ 5120 * quantum
+  pub polls : polled ≤ n.steps + (2 ^ 32 + 1)
+  pub pages : n.pages ≤ n.steps + 1
+  pub ops : n.ops ≤ 1000 * (n.steps + 1)
+
+abbrev pub HasBounds : Machine → Type 0
+HasBounds m = IsBounded (numbers_of m) m.crossings m.kernel.quantum m.kernel.mote.devices.polls
+
+pub record IsSound (m : Machine) : Type 0 where
+  pub order : IsInOrder m
+  pub bounded : HasBounds m
+  pub steps : m.steps ≤ 10 ^ 12
+
+-- Plain steps since the last service, where a step begins at this address with this COUNT: each step takes
+-- at most 40, each crossing lowers COUNT, and between two crossings addresses rise within one page.
+abbrev pub IsWithin : (quantum count at since : ℕ) → Type 0
+IsWithin quantum count at since = since ≤ 40 * (128 * (quantum - count) + at % 128)
+
+-- how far the numbers go where a step begins
+pub record IsCounted (n : Numbers) (crossings quantum count at : ℕ) : Type 0 where
+  pub natural : n.natural ≤ 40 * n.steps
+  pub entries : n.entries ≤ 2 * n.steps
+  pub since : n.since ≤ n.longest
+  pub longest : n.longest ≤ n.natural
+  pub crossed : crossings ≤ n.steps
+  pub within : IsWithin quantum count at n.since
+  pub most : n.longest ≤ 5120 * quantum
+
+-- how many arrivals there may have been: one for each step, and one more where none is owed
+abbrev pub most_arrivals : Option Owed → ℕ → ℕ
+most_arrivals (Some owed) steps = steps
+most_arrivals None steps = steps + 1
+
+-- each makes one page at most, and tries at most 1,000 operations on flash
+pub record AreArrivals (n : Numbers) (most : ℕ) : Type 0 where
+  pub pages : n.pages ≤ most
+  pub ops : n.ops ≤ 1000 * most
+
+-- COUNT is what the crossings leave of the quantum
+abbrev pub IsExact : Machine → Type 0
+IsExact m = count_in m ≡ m.kernel.quantum - m.crossings % m.kernel.quantum
+
+-- The next step may begin: no page is torn, the kernel's stack is empty, and control stands at the place of `at`, or
+-- an arrival at `at` is owed, of a stub to it or of none.
+pub record IsGoing (m : Machine) : Type 0 where
+  pub order : IsInOrder m
+  pub going : m.end ≡ None
+  pub untorn : m.torn ≡ None
+  pub top : m.kernel.mote.cpu.sp ≡ kernel_stack_top
+  pub some : 1 ≤ count_in m
+  pub most : count_in m ≤ m.kernel.quantum
+  pub stands : Reaches (links_at (state_of m)) m.at (state_of m)
+  pub counted : IsCounted (numbers_of m) m.crossings m.kernel.quantum (count_in m) m.at
+  pub arrivals : AreArrivals (numbers_of m) (most_arrivals m.owed m.steps)
+  pub polls : m.kernel.mote.devices.polls ≤ m.steps + 2 ^ 32
+  pub exact : IsExact m
+
+pub record IsReady (m : Machine) : Type 0 where
+  pub sound : IsSound m
+  pub exact : IsExact m
+  pub going : m.end ≡ None → IsGoing m
+
+-- what the type `Machine` keeps
+pub record IsKept (m : Machine) : Type 0 where
+  pub sound : IsSound m
+  pub ready : m.broken ≡ false → IsReady m
+
+-- the program has ended
+pub record IsEnded (m : Machine) : Type 0 where
+  pub order : IsInOrder m
+  pub bounded : HasBounds m
+  pub ended : m.end ≢ None
+  pub exact : IsExact m

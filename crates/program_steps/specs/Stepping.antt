@@ -1,0 +1,115 @@
+-- What one step of the program, and one arrival, leave of the machine.
+use Rattle.std.specs.Prelude.{◌≡◌, ◌≢◌, ℕ, ◌+◌, Bool, true, false, List, [], ◌∷◌, Option, Some, None, flat_map}
+use Rattle.avr_isa.specs.Image.{is_inside}
+use Rattle.flash_model.specs.Operations.{is_listed}
+use Rattle.mote_devices.specs.declared.line.Line.{Line}
+use Rattle.mem_guard.specs.FlatMachine.{Stops, tried}
+use Rattle.mem_guard.specs.FlatMachine as flat_ends
+use Rattle.kernel_entry.specs.declared.kernel.Stop.{Stop}
+use Rattle.kernel_entry.specs.Parts.{image_held}
+use Rattle.kernel_entry.specs.Texts.{line_text}
+use Rattle.step_laws.specs.declared.moves.End.{End}
+use Rattle.step_laws.specs.declared.moves.End.TheVariants as ends
+use Rattle.step_laws.specs.Moves.{Move, Plain, Serve, Arrive, lines_of, line_before}
+use Rattle.step_laws.specs.Numbers.{numbered}
+use Rattle.step_laws.specs.Walks.{Walk}
+use Rattle.step_laws.specs.Links.{Links}
+use Rattle.step_laws.specs.StepLaws.{Reaches, links_at, crossings_over}
+use Rattle.kernel_entry.specs.Seen.{program as program_of, end_of}
+use Rattle.program_steps.specs.Machines.{Machine, state_of, numbers_of, flat_of}
+use Rattle.program_steps.specs.Ready.{IsGoing, IsEnded}
+
+-- the text of device lines, one after another
+abbrev pub lines_text : List Line → List ℕ
+lines_text lines = flat_map line_text lines
+
+-- the links of the pool that the machine runs in
+abbrev pub links_in : Machine → Links
+links_in m = links_at (state_of m)
+
+-- where the machine stands is told
+abbrev pub IsTold : Machine → ℕ → Type 0
+IsTold m result = (t : ℕ) → Reaches (links_in m) t (state_of m) → result ≡ t
+
+-- a step led to this address
+abbrev pub settled : Machine → ℕ → Machine
+settled m to = record m { at = to; crossings = crossings_over m.at to m.crossings }
+
+pub record HasSettled (old new : Machine) : Type 0 where
+  pub on : (to : ℕ) → old.end ≡ None → Reaches (links_in old) to (state_of old) → new ≡ settled old to
+  pub over : old.end ≢ None → new ≡ old
+
+-- whether the last move is an arrival
+abbrev pub ends_in_arrive : List Move → Bool
+ends_in_arrive [] = false
+ends_in_arrive (Arrive target made ops ∷ []) = true
+ends_in_arrive (m ∷ ms) = ends_in_arrive ms
+
+-- these moves lead from one machine to the other
+pub record Goes (old new : Machine) (moves : List Move) (lines : List Line) : Type 0 where
+  pub walk : Walk (state_of old) moves (state_of new)
+  pub told : lines_of moves ≡ lines
+  pub numbers : numbers_of new ≡ numbered moves (numbers_of old)
+
+-- each page that was made was made at an address of which this holds
+abbrev pub AreMadeAt : (ℕ → Type 0) → List Move → Type 0
+AreMadeAt holds [] = Unit {0}
+AreMadeAt holds (Arrive target true ops ∷ moves) = holds target × AreMadeAt holds moves
+AreMadeAt holds (Arrive target false ops ∷ moves) = AreMadeAt holds moves
+AreMadeAt holds (Plain begins line ∷ moves) = AreMadeAt holds moves
+AreMadeAt holds (Serve line stops ∷ moves) = AreMadeAt holds moves
+
+-- the program, the layout, the quantum and the list of operations that are to fail stay
+pub record Stays (old new : Machine) : Type 0 where
+  pub program : program_of new.kernel ≡ program_of old.kernel
+  pub layout : new.kernel.layout ≡ old.kernel.layout
+  pub quantum : new.kernel.quantum ≡ old.kernel.quantum
+  pub failing : new.kernel.mote.flash.failing ≡ old.kernel.mote.flash.failing
+
+-- The step goes on as the original program's does; or it stops the program where the original stops, and
+-- then nothing that the program sees has changed.
+pub data StepWay (old new : Machine) (line : Option Line) : Type 0 where
+  On : IsGoing new → new.steps ≡ old.steps + 1
+      → tried (program_of old.kernel) (flat_of old) ≡ flat_ends.Goes line (flat_of new) → StepWay old new line
+  Stopped : (stop : Stop) → IsEnded new → new.end ≡ Some (ends.Stopped stop) → line ≡ None → new.steps ≡ old.steps
+      → tried (program_of old.kernel) (flat_of old) ≡ Stops (end_of stop) → flat_of new ≡ flat_of old → StepWay old new line
+
+-- what one step leaves: moves, none of which is an arrival, and where they lead
+pub record HasStepped (old new : Machine) (line : Option Line) : Type 0 where
+  pub moves : List Move
+  pub goes : Goes old new moves (line_before line [])
+  pub last : ends_in_arrive moves ≡ false
+  pub some : moves ≢ []
+  pub none_made : AreMadeAt (λ t. ⊥) moves
+  pub stays : Stays old new
+  pub broken : new.broken ≡ old.broken
+  pub flash : new.kernel.mote.flash ≡ old.kernel.mote.flash
+  pub way : StepWay old new line
+
+-- the operation of this number is the last that was tried; it was to fail, and was refused
+pub record IsFault (m : Machine) (op : ℕ) : Type 0 where
+  pub last : op ≡ m.kernel.mote.flash.ops
+  pub listed : is_listed m.kernel.mote.flash.failing op ≡ true
+  pub refused : m.kernel.mote.flash.refused ≢ None
+
+-- an arrival that is owed is made; or it is refused, outside the image or by flash
+pub data Entering (old new : Machine) : Option End → Type 0 where
+  In : IsGoing new → new.owed ≡ None → is_inside (image_held old.kernel) old.at ≡ true → Entering old new None
+  Out : IsEnded new → new.end ≡ Some (ends.Wild old.at) → is_inside (image_held old.kernel) old.at ≡ false → Entering old new (Some (ends.Wild old.at))
+  Failed : (op : ℕ) → IsEnded new → new.end ≡ Some (ends.Flash op) → is_inside (image_held old.kernel) old.at ≡ true → IsFault new op → Entering old new (Some (ends.Flash op))
+
+-- what that leaves: one move at most, and of what the program sees nothing has changed
+pub record HasEntered (old new : Machine) (result : Option End) : Type 0 where
+  pub moves : List Move
+  pub goes : Goes old new moves []
+  pub stays : Stays old new
+  pub broken : new.broken ≡ old.broken
+  pub steps : new.steps ≡ old.steps
+  pub flat : flat_of new ≡ flat_of old
+  pub made : AreMadeAt (λ t. t ≡ old.at) moves
+  pub way : Entering old new result
+
+-- at the bound only an arrival outside the image is made, and refused
+pub data HasBound (old new : Machine) : End → Type 0 where
+  Waits : new ≡ old → is_inside (image_held old.kernel) old.at ≡ true → HasBound old new ends.Spent
+  Leaves : HasEntered old new (Some (ends.Wild old.at)) → is_inside (image_held old.kernel) old.at ≡ false → HasBound old new (ends.Wild old.at)

@@ -1,0 +1,141 @@
+//! The arrival that is owed: made before the next step, or refused.
+
+ghost use Rattle.std.specs.Prelude.{◌≡◌, ◌+◌, ◌<◌, ◌≤◌, ◌^◌, true, false, Some, None};
+ghost use Rattle.flash_model.specs.Layouts.{IsRight};
+ghost use Rattle.flash_model.specs.Memory.{IsWhole};
+ghost use Rattle.page_index.specs.Cursors.{IsCursor, IsCursorAnywhere};
+ghost use Rattle.nat_page.specs.Faithful.{IsFaithful};
+ghost use Rattle.addr_tables.specs.Tables.{IsTables};
+ghost use Rattle.branch_bridge.specs.Arrivals.{CameThrough, ring_of};
+ghost use Rattle.kernel_entry.specs.Parts.{image_held};
+ghost use Rattle.step_laws.specs.States.{end_by as end_by_of};
+ghost use Rattle.program_steps.specs.Loop.{HasArrived, after_arrival};
+ghost use Rattle.program_steps.specs.Ready.{IsGoing};
+ghost use Rattle.program_steps.specs.Stepping.{HasEntered, HasBound};
+ghost use Rattle.program_steps.specs.Wholes.{whole};
+
+use crate::progress::Progress;
+use branch_bridge::{Arrival, ArriveStop, arrive_from};
+use flash_model::Flash;
+use kernel_entry::Kernel;
+use page_index::Cursor;
+use step_laws::{End, Owed};
+
+/// Makes the arrival that is owed, if any. Where it is refused the program has ended.
+#[inline(always)]
+pub fn enter(k: &mut Kernel, p: &mut Progress, cursor: &mut Cursor) -> Option<End>
+    requires ready { IsGoing (whole k.old p.old) }
+    requires steps { p.old.steps ≤ 10 ^ 12 }
+    requires cursor { IsCursor k.old.layout k.old.mote.flash.words cursor.old }
+    ensures entered { HasEntered (whole k.old p.old) (whole k.new p.new) result }
+    ensures cursor { IsCursor k.new.layout k.new.mote.flash.words cursor.new }
+{
+    match p.owed {
+        None => None,
+        Some(owed) => {
+            let changed = arrive_owed(k, p, owed);
+            is_whole(&k.mote.flash);
+            forget_if(changed, cursor);
+            p.end
+        }
+    }
+}
+
+/// A new cursor where flash may have changed. Most arrivals find their place in the kernel's tables, and change
+/// nothing.
+fn forget_if(changed: bool, cursor: &mut Cursor)
+    ensures kept { changed ≡ false → cursor.new ≡ cursor.old }
+    ensures forgotten { changed ≡ true → IsCursorAnywhere cursor.new }
+{
+    if changed {
+        *cursor = Cursor::new();
+    }
+}
+
+/// The answer where all steps are done: an arrival outside the image is refused at once.
+pub fn at_bound(k: &mut Kernel, p: &mut Progress) -> End
+    requires ready { IsGoing (whole k.old p.old) }
+    requires steps { p.old.steps ≤ 10 ^ 12 }
+    ensures bound { HasBound (whole k.old p.old) (whole k.new p.new) result }
+{
+    let owed = match p.owed {
+        None => return End::Spent,
+        Some(owed) => owed,
+    };
+    if owed.target < k.layout.image_words {
+        return End::Spent;
+    }
+    match enter(k, p, &mut Cursor::new()) {
+        None => End::Spent,
+        Some(end) => end,
+    }
+}
+
+/// Makes the arrival that is owed. The stub that asked for it leads to its place from then on. Tells whether flash
+/// may have changed.
+fn arrive_owed(k: &mut Kernel, p: &mut Progress, owed: Owed) -> bool
+    requires owed { p.old.owed ≡ Some owed }
+    requires going { p.old.end ≡ None }
+    requires untorn { p.old.torn ≡ None }
+    requires right { IsRight k.old.layout }
+    requires faithful { IsFaithful k.old.layout (image_held k.old) k.old.mote.flash.words }
+    requires tables { IsTables k.old.layout k.old.mote.sram k.old.mote.flash.words }
+    requires stub { CameThrough k.old.layout k.old.mote.flash.words owed.stub owed.target }
+    requires ring { ring_of k.old.mote.sram < k.old.layout.pool_pages }
+    requires room { k.old.mote.flash.ops < 2 ^ 61 }
+    requires few { p.old.pages < 2 ^ 62 }
+    ensures arrived { HasArrived (whole k.old p.old) (whole k.new p.new) }
+    ensures unchanged { result ≡ false → k.new.mote.flash ≡ k.old.mote.flash }
+{
+    let arrival = arrive_from(
+        &mut k.mote.sram,
+        &mut k.mote.flash,
+        &k.layout,
+        owed.target,
+        owed.stub,
+    );
+    k.mote.cpu.pc = arrival.place.unwrap_or(k.mote.cpu.pc);
+    note_arrival(p, &arrival);
+    may_have_changed(owed.stub, &arrival)
+}
+
+/// Whether an arrival through this stub may have changed flash.
+fn may_have_changed(stub: Option<u16>, arrival: &Arrival) -> bool
+    ensures neither { result ≡ false → (stub ≡ None) × (arrival.now.made ≡ false) × (arrival.now.refused ≡ None) }
+{
+    stub.is_some() || arrival.made || arrival.refused.is_some()
+}
+
+/// Takes down what an arrival made, and how it was refused.
+fn note_arrival(p: &mut Progress, arrival: &Arrival)
+    requires few { p.old.pages < 2 ^ 62 }
+    ensures noted { p.new ≡ after_arrival arrival.now p.old }
+{
+    if arrival.made {
+        p.pages += 1;
+    }
+    match arrival.refused {
+        None => p.owed = None,
+        Some(refused) => {
+            p.end = Some(end_by(refused.why));
+            p.torn = refused.torn;
+        }
+    }
+}
+
+/// How a refused arrival ends the program.
+fn end_by(why: ArriveStop) -> End
+    ensures value { result ≡ end_by_of why }
+{
+    match why {
+        ArriveStop::Wild { address } => End::Wild(address),
+        ArriveStop::Flash { op } => End::Flash(op),
+    }
+}
+
+/// Flash is whole, as its type keeps it; a read of any word tells so to the proof.
+fn is_whole(flash: &Flash)
+    ensures whole { IsWhole flash.now }
+{
+    let _ = flash.word(0);
+}

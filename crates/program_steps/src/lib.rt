@@ -1,0 +1,11 @@
+//! Steps of the program, and the arrival before one: what a machine does between two looks at its sink.
+#![tactic(auto)]
+
+mod arrival;
+mod moves;
+mod progress;
+mod step;
+
+pub use arrival::{at_bound, enter};
+pub use progress::Progress;
+pub use step::steps;

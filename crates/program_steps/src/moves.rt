@@ -1,0 +1,89 @@
+//! One move inside a step: a plain step of the mote, or a service of the kernel.
+
+ghost use Rattle.std.specs.Prelude.{◌≡◌, ◌<◌, ◌^◌, false, None};
+ghost use Rattle.flash_model.specs.Layouts.{IsRight};
+ghost use Rattle.program_steps.specs.Machines.{state_of, numbers_of};
+ghost use Rattle.program_steps.specs.Loop.{CanPlain, HasPlain, CanServeNow, HasServed, CanMove, HasMoved, Halts, is_small};
+ghost use Rattle.program_steps.specs.Wholes.{whole};
+
+use crate::progress::Progress;
+use kernel_entry::{Kernel, Served, serve};
+use mote_core::Plain;
+use step_laws::{End, Owed};
+
+/// Where the kernel's entries begin.
+const ENTRIES: u16 = 0xF000;
+
+/// A plain step where the pc is in the pool, else a service. Tells whether an arrival is owed now, or the
+/// program has stopped.
+#[inline(always)]
+pub fn one_move(k: &mut Kernel, p: &mut Progress) -> bool
+    requires untorn { p.old.torn ≡ None }
+    requires right { IsRight k.old.layout }
+    requires can { CanMove (state_of (whole k.old p.old)) }
+    requires small { is_small (numbers_of (whole k.old p.old)) (2 ^ 62) }
+    ensures moved { HasMoved (whole k.old p.old) (whole k.new p.new) p.old.line p.new.line }
+    ensures over { Halts (whole k.new p.new) result }
+    ensures flash { k.new.mote.flash ≡ k.old.mote.flash }
+    ensures layout { k.new.layout ≡ k.old.layout }
+    ensures torn { p.new.torn ≡ p.old.torn }
+{
+    if k.mote.cpu.pc < ENTRIES {
+        plain(k, p);
+        false
+    } else {
+        service(k, p)
+    }
+}
+
+/// One plain step.
+#[inline(always)]
+fn plain(k: &mut Kernel, p: &mut Progress)
+    requires can { CanPlain (state_of (whole k.old p.old)) }
+    requires small { is_small (numbers_of (whole k.old p.old)) (2 ^ 62) }
+    ensures stepped { HasPlain (whole k.old p.old) (whole k.new p.new) p.old.line p.new.line }
+    ensures free { Halts (whole k.new p.new) false }
+    ensures flash { k.new.mote.flash ≡ k.old.mote.flash }
+    ensures layout { k.new.layout ≡ k.old.layout }
+    ensures torn { p.new.torn ≡ p.old.torn }
+{
+    let shown = k.mote.plain_step();
+    p.since += 1;
+    match shown {
+        Plain::Went => {}
+        Plain::Wrote(line) => p.line = Some(line),
+    }
+}
+
+/// One service of the kernel. Tells whether an arrival is owed now, or the program has stopped.
+#[inline(never)]
+fn service(k: &mut Kernel, p: &mut Progress) -> bool
+    requires untorn { p.old.torn ≡ None }
+    requires can { CanServeNow (state_of (whole k.old p.old)) }
+    requires small { is_small (numbers_of (whole k.old p.old)) (2 ^ 62) }
+    ensures served { HasServed (whole k.old p.old) (whole k.new p.new) p.old.line p.new.line }
+    ensures over { Halts (whole k.new p.new) result }
+    ensures flash { k.new.mote.flash ≡ k.old.mote.flash }
+    ensures layout { k.new.layout ≡ k.old.layout }
+    ensures torn { p.new.torn ≡ p.old.torn }
+{
+    p.entries += 1;
+    p.before += p.since;
+    p.longest = p.longest.max(p.since);
+    p.since = 0;
+    match serve(k) {
+        Served::Resume(line) => {
+            p.line = line.or(p.line);
+            false
+        }
+        Served::Goto { target, stub } => {
+            p.owed = Some(Owed { target, stub });
+            true
+        }
+        Served::Stopped(stop) => {
+            p.end = Some(End::Stopped(stop));
+            p.steps = p.steps.saturating_sub(1);
+            true
+        }
+    }
+}

@@ -1,0 +1,27 @@
+//! What a run counts, apart from the kernel.
+
+use branch_bridge::Torn;
+use mote_devices::Line;
+use step_laws::{End, Owed};
+
+/// All of a machine but its kernel, and the device line of a step. While it runs, `longest` is raised at
+/// services alone, so it may be behind `since`; and a plain step raises one counter alone, `since`.
+#[derive(Clone, Copy)]
+pub struct Progress {
+    pub at: u16,
+    pub owed: Option<Owed>,
+    pub end: Option<End>,
+    /// The page that a refused operation on flash has left torn.
+    pub torn: Option<Torn>,
+    pub broken: bool,
+    pub steps: u64,
+    pub crossings: u64,
+    /// Plain steps up to the last service: all but those that `since` counts.
+    pub before: u64,
+    pub entries: u64,
+    pub pages: u64,
+    pub since: u64,
+    pub longest: u64,
+    /// The device line of the step, once one was written.
+    pub line: Option<Line>,
+}

@@ -1,0 +1,129 @@
+//! Steps of the program: each from one entry of its code to the next, or to the kernel.
+
+ghost use Rattle.std.specs.Prelude.{◌≡◌, ℕ, ◌+◌, ◌<◌, ◌≤◌, ◌^◌, true, None, IfSome, IfNone};
+ghost use Rattle.flash_model.specs.Layouts.{IsRight};
+ghost use Rattle.page_index.specs.Entries.{IsEntry, IsMapped};
+ghost use Rattle.page_index.specs.Cursors.{IsCursor};
+ghost use Rattle.program_steps.specs.Machines.{state_of, numbers_of};
+ghost use Rattle.step_laws.specs.Links.{links_of};
+ghost use Rattle.step_laws.specs.StepLaws.{StepLaw, crossings_over};
+ghost use Rattle.program_steps.specs.Loop.{HasReached, HasTaken, is_small, target, settled_at};
+ghost use Rattle.program_steps.specs.Ready.{IsGoing};
+ghost use Rattle.program_steps.specs.Stepping.{HasStepped};
+ghost use Rattle.program_steps.specs.Several.{HasDone};
+ghost use Rattle.program_steps.specs.Wholes.{whole};
+
+use crate::moves::one_move;
+use crate::progress::Progress;
+use kernel_entry::Kernel;
+use page_index::Cursor;
+use preempt_count::is_crossing;
+
+/// Whole steps of the program, one behind the other: at most so many, and none behind one that writes a device
+/// line, or leads to the kernel, for an arrival or for good. Tells how many there were.
+#[inline(never)]
+pub fn steps(k: &mut Kernel, p: &mut Progress, cursor: &mut Cursor, most: u64) -> u64
+    requires ready { IsGoing (whole k.old p.old) }
+    requires placed { p.old.owed ≡ None }
+    requires some { 1 ≤ most }
+    requires few { p.old.steps + most ≤ 10 ^ 12 }
+    requires cursor { IsCursor k.old.layout k.old.mote.flash.words cursor.old }
+    ensures done { HasDone (whole k.old p.old) (whole k.new p.new) result p.new.line }
+    ensures most { result ≤ most }
+    ensures cursor { IsCursor k.new.layout k.new.mote.flash.words cursor.new }
+{
+    p.line = None;
+    'steps: for i in 0..most {
+        let goes_on = step(k, p, cursor);
+        if !goes_on || p.line.is_some() {
+            return i + 1;
+        }
+    }
+    most
+}
+
+/// One whole step of the program. Tells whether it has led to an entry, so that the next may follow.
+#[inline(always)]
+fn step(k: &mut Kernel, p: &mut Progress, cursor: &mut Cursor) -> bool
+    requires ready { IsGoing (whole k.old p.old) }
+    requires placed { p.old.owed ≡ None }
+    requires steps { p.old.steps < 2 ^ 50 }
+    requires silent { p.old.line ≡ None }
+    requires cursor { IsCursor k.old.layout k.old.mote.flash.words cursor.old }
+    ensures stepped { HasStepped (whole k.old p.old) (whole k.new p.new) p.new.line }
+    ensures reached { result ≡ true → (p.new.owed ≡ None) × (p.new.end ≡ None) }
+    ensures cursor { IsCursor k.new.layout k.new.mote.flash.words cursor.new }
+{
+    let reached = all_moves(k, p, cursor);
+    settle(p, reached);
+    reached.is_some()
+}
+
+/// The moves of one step, from the entry where control stands. Tells the original address whose code control
+/// has reached; None where an arrival is owed or the program has stopped.
+#[inline(always)]
+fn all_moves(k: &mut Kernel, p: &mut Progress, cursor: &mut Cursor) -> Option<u16>
+    requires untorn { p.old.torn ≡ None }
+    requires right { IsRight k.old.layout }
+    requires mapped { IsMapped k.old.layout k.old.mote.flash.words }
+    requires law { StepLaw (links_of k.old.layout k.old.mote.flash.words) (state_of (whole k.old p.old)) p.old.at }
+    requires small { is_small (numbers_of (whole k.old p.old)) (2 ^ 60) }
+    requires steps { p.old.steps < 2 ^ 60 }
+    requires silent { p.old.line ≡ None }
+    requires cursor { IsCursor k.old.layout k.old.mote.flash.words cursor.old }
+    ensures taken { HasTaken (whole k.old p.old) (whole k.new p.new) p.new.line }
+    ensures reached { HasReached (whole k.new p.new) result }
+    ensures flash { k.new.mote.flash ≡ k.old.mote.flash }
+    ensures layout { k.new.layout ≡ k.old.layout }
+    ensures torn { p.new.torn ≡ p.old.torn }
+    ensures cursor { IsCursor k.new.layout k.new.mote.flash.words cursor.new }
+{
+    p.steps += 1;
+    'moves: loop {
+        if one_move(k, p) {
+            return None;
+        }
+        if let Some(t) = look(k, cursor) {
+            return Some(t);
+        }
+    }
+}
+
+/// The original address whose code control has reached, if it has.
+#[inline(always)]
+fn look(k: &Kernel, cursor: &mut Cursor) -> Option<u16>
+    requires right { IsRight k.now.layout }
+    requires mapped { IsMapped k.now.layout k.now.mote.flash.words }
+    requires cursor { IsCursor k.now.layout k.now.mote.flash.words cursor.old }
+    ensures found { IfSome result (λ t. IsEntry k.now.layout k.now.mote.flash.words t k.now.mote.cpu.pc) }
+    ensures none { IfNone result ((t : ℕ) → ¬ IsEntry k.now.layout k.now.mote.flash.words t k.now.mote.cpu.pc) }
+    ensures cursor { IsCursor k.now.layout k.now.mote.flash.words cursor.new }
+{
+    cursor.origin(&k.mote.flash, &k.layout, k.mote.cpu.pc)
+}
+
+/// Takes down where the step led, and whether it was a crossing.
+fn settle(p: &mut Progress, reached: Option<u16>)
+    requires few { p.old.crossings < 2 ^ 62 }
+    ensures settled { p.new ≡ settled_at (target reached p.old.owed) p.old }
+{
+    let to = match (reached, p.owed) {
+        (Some(t), _) => t,
+        (None, Some(owed)) => owed.target,
+        (None, None) => return,
+    };
+    p.crossings = crossings_after(p.crossings, p.at, to);
+    p.at = to;
+}
+
+/// How many crossings there are after a step.
+fn crossings_after(crossings: u64, from: u16, to: u16) -> u64
+    requires few { crossings < 2 ^ 62 }
+    ensures after { result ≡ crossings_over from to crossings }
+{
+    if is_crossing(from, to) {
+        crossings + 1
+    } else {
+        crossings
+    }
+}

@@ -1,0 +1,56 @@
+//! The command `run`.
+ghost use Rattle.std.specs.Prelude.{◌≡◌, ◌⊎◌, ◌≤◌, length};
+ghost use Rattle.tkernel_cli.specs.declared.command.Command.TheVariants.{Run};
+ghost use Rattle.tkernel_cli.specs.Commands.{IsPossible, IsPossibleJob};
+ghost use Rattle.tkernel_cli.specs.Printed.{no_memory};
+ghost use Rattle.tkernel_cli.specs.Reading.{AsksByText, most_input};
+ghost use Rattle.tkernel_cli.specs.RunCommand.{RunAsks};
+ghost use Rattle.tkernel_cli.specs.Runs.{stream};
+
+use crate::command::RunOptions;
+use crate::job::Job;
+use crate::printed::{bad_hex, bad_script, no_memory};
+use crate::reading::read_input;
+use crate::request::Request;
+use hex_image::HexError;
+use input_script::ScriptError;
+use std::alloc::Global;
+use tk_io::Source;
+
+/// Reads the input of `run`, and judges it.
+pub(crate) fn run_job<S: Source>(alloc: Global, options: RunOptions, input: &mut S) -> Job
+    requires possible { IsPossible (Run options) }
+    ensures asks { AsksByText (RunAsks options)
+        (stream S.left S.faults input.old) (stream S.left S.faults input.new)
+        result }
+    ensures possible { IsPossibleJob result }
+{
+    match read_input(alloc, input) {
+        Ok(text) => text_job(alloc, options, &text),
+        Err(job) => job,
+    }
+}
+
+/// What a text asks for, which is a HEX text and a script behind it.
+fn text_job(alloc: Global, options: RunOptions, text: &[u8]) -> Job
+    requires possible { IsPossible (Run options) }
+    requires short { length text.now ≤ most_input }
+    ensures asks { RunAsks options text.now result ⊎ (result ≡ no_memory) }
+    ensures possible { IsPossibleJob result }
+{
+    let (image, position) = match hex_image::read(alloc, text) {
+        Ok(read) => read,
+        Err(HexError::Bad { line, fault }) => return bad_hex(line, fault),
+        Err(HexError::NoMemory) => return no_memory(),
+    };
+    let script = match input_script::read(alloc, &text[position..]) {
+        Ok(script) => script,
+        Err(ScriptError::Bad { line, fault }) => return bad_script(line, fault),
+        Err(ScriptError::NoMemory) => return no_memory(),
+    };
+    Job::Run(Request {
+        image,
+        script,
+        options,
+    })
+}

@@ -1,0 +1,2 @@
+// No interrupts come on a PC.
+#define cli()
