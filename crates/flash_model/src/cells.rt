@@ -84,6 +84,17 @@ impl Cells {
         self.words[a as usize]
     }
 
+    /// The words of a page.
+    #[tactic(auto, unfolding(crate::specs::Pages::page_of))]
+    pub(crate) fn page(&self, page: u16) -> &[u16]
+        requires { page < page_count }
+        ensures value { result.now ≡ page_of self.now.words page }
+        ensures whole { IsWhole self.now }
+    {
+        let from = PAGE_WORDS * page as usize;
+        &self.words[from..from + PAGE_WORDS]
+    }
+
     /// How often the page was erased, 4,294,967,295 for this many times or more.
     pub(crate) fn erases(&self, page: u16) -> u32
         requires { page < page_count }

@@ -55,6 +55,15 @@ impl Flash {
         self.cells.word(a)
     }
 
+    /// The 128 words of a page.
+    pub fn page(&self, page: u16) -> &[u16]
+        requires { page < page_count }
+        ensures value { result.now ≡ page_of self.now.words page }
+        ensures whole { IsWhole self.now }
+    {
+        self.cells.page(page)
+    }
+
     /// What is decoded at a word address: the instruction that its word begins, with the word behind it,
     /// NOP also where they begin none; behind the last word comes the first.
     pub fn decoded(&self, a: u16) -> &Decoded
