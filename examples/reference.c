@@ -3,9 +3,9 @@
 // that has no part in common with tkernel, neither code nor authors of the instructions.
 //
 //     cc -O2 -o reference reference.c -lsimavr -lelf
-//     ./reference STEPS HEX-FILE [SCRIPT-FILE]
+//     ./reference STEPS QUANTUM HEX-FILE [SCRIPT-FILE]
 //
-// The quantum is 255. It knows the ends halted, asleep, spent, wild, io and stack, and no bound of pages stored to.
+// It knows the ends halted, asleep, spent, wild, io and stack, and no bound of pages stored to.
 // It makes no pages, so lines of failing flash in the script say nothing to it.
 
 #include <simavr/sim_avr.h>
@@ -16,7 +16,7 @@
 #include <stdlib.h>
 #include <string.h>
 
-enum { QUANTUM = 255, EVENTS = 65536, WINDOW_FIRST = 0x0D00, WINDOW_LAST = 0x10FF };
+enum { EVENTS = 65536, WINDOW_FIRST = 0x0D00, WINDOW_LAST = 0x10FF, EIMSK_ADDRESS = 0x59, SLEEP = 0x9588 };
 
 struct event {
     unsigned long poll;
@@ -31,6 +31,7 @@ static unsigned long polls;
 static uint8_t received[EVENTS], pins[4];
 static int received_count, received_taken;
 static unsigned converted;
+static unsigned pending; // bit k: an int k that came and was not taken
 
 static int refused = -1; // the device register that the last step would have touched and may not
 
@@ -61,18 +62,38 @@ static const struct device *device_at(unsigned address) {
     return NULL;
 }
 
-static void poll(void) {
-    polls++;
+static void take_events(void) {
     for (; next_event < event_count && events[next_event].poll <= polls; next_event++) {
         const struct event *event = &events[next_event];
         if (strcmp(event->kind, "uart") == 0) {
             received[received_count++] = event->value;
         } else if (strcmp(event->kind, "adc") == 0) {
             converted = event->value;
+        } else if (strcmp(event->kind, "int") == 0) {
+            pending |= 1u << event->value;
         } else {
             pins[event->kind[3] - 'a'] = event->value;
         }
     }
+}
+
+static void poll(void) {
+    polls++;
+    take_events();
+}
+
+static unsigned enabled(const avr_t *avr) {
+    return pending & avr->data[EIMSK_ADDRESS];
+}
+
+// Whether the part goes on behind a SLEEP: the count of polls rises to the next event that wakes it.
+static bool wakes(const avr_t *avr) {
+    while (!enabled(avr) && next_event < event_count) {
+        unsigned long at = events[next_event].poll;
+        polls = at > polls ? at : polls;
+        take_events();
+    }
+    return avr->sreg[S_I] && enabled(avr);
 }
 
 static uint8_t on_read(avr_t *avr, avr_io_addr_t address, void *unused) {
@@ -111,14 +132,14 @@ static void on_write(avr_t *avr, avr_io_addr_t address, uint8_t value, void *unu
     avr->data[address] = value;
 }
 
-// The byte outside the stack window that this instruction would touch first, or -1.
-static int outside_window(unsigned word, unsigned sp) {
+// The byte outside the stack window that this instruction, or an interrupt before it, would touch first, or -1.
+static int outside_window(unsigned word, bool interrupts, unsigned sp) {
     bool push = (word & 0xFE0F) == 0x920F, pop = (word & 0xFE0F) == 0x900F;
     bool call = (word & 0xFE0E) == 0x940E || (word & 0xF000) == 0xD000 || word == 0x9509;
     bool back = word == 0x9508 || word == 0x9518;
-    unsigned bytes = push || pop ? 1 : call || back ? 2 : 0;
+    unsigned bytes = interrupts ? 2 : push || pop ? 1 : call || back ? 2 : 0;
     for (unsigned i = 0; i < bytes; i++) {
-        unsigned address = (pop || back ? sp + 1 + i : sp - i) & 0xFFFF;
+        unsigned address = (!interrupts && (pop || back) ? sp + 1 + i : sp - i) & 0xFFFF;
         if (address < WINDOW_FIRST || address > WINDOW_LAST) {
             return address;
         }
@@ -134,32 +155,65 @@ static bool is_jump_to_itself(const avr_t *avr, unsigned pc) {
     return word_at(avr, pc) == 0xCFFF || (word_at(avr, pc) == 0x940C && word_at(avr, pc + 1) == pc);
 }
 
-static void run(avr_t *avr, unsigned image_words, unsigned long bound) {
+static unsigned stack_pointer(const avr_t *avr) {
+    return avr->data[R_SPL] | avr->data[R_SPH] << 8;
+}
+
+static void push(avr_t *avr, uint8_t byte) {
+    unsigned sp = stack_pointer(avr);
+    avr->data[sp] = byte;
+    avr->data[R_SPL] = (sp - 1) & 0xFF;
+    avr->data[R_SPH] = (sp - 1) >> 8 & 0xFF;
+}
+
+// The interrupt of the lowest number: its vector is at the word address 2 * (number + 1).
+static void interrupt(avr_t *avr) {
+    unsigned pc = avr->pc / 2, number = 0;
+    while (!(enabled(avr) >> number & 1)) {
+        number++;
+    }
+    push(avr, pc & 0xFF);
+    push(avr, pc >> 8);
+    avr->sreg[S_I] = 0;
+    pending &= ~(1u << number);
+    avr->pc = 4 * (number + 1);
+}
+
+static void run(avr_t *avr, unsigned image_words, unsigned long bound, unsigned long quantum) {
     unsigned long steps = 0, crossings = 0;
+    bool due = false; // a checkpoint, or the end of a sleep, was the last step
     for (;;) {
-        unsigned pc = avr->pc / 2, next;
-        int outside = outside_window(word_at(avr, pc), avr->data[R_SPL] | avr->data[R_SPH] << 8);
+        unsigned pc = avr->pc / 2, word = word_at(avr, pc), next;
+        bool interrupts = due && avr->sreg[S_I] && enabled(avr);
+        int outside = outside_window(word, interrupts, stack_pointer(avr));
         if (pc >= image_words) {
             printf("fault wild 0x%04X", pc);
         } else if (steps == bound) {
             printf("spent");
-        } else if (word_at(avr, pc) == 0x9588) {
+        } else if (interrupts && outside < 0) {
+            interrupt(avr);
+            due = false;
+            steps++;
+            continue;
+        } else if (!interrupts && word == SLEEP && !wakes(avr)) {
             printf("asleep 0x%04X", pc);
-        } else if (is_jump_to_itself(avr, pc) && !avr->sreg[S_I]) {
+        } else if (!interrupts && is_jump_to_itself(avr, pc) && !avr->sreg[S_I]) {
             printf("halted 0x%04X", pc);
         } else if (outside >= 0) {
             printf("fault stack 0x%04X address 0x%04X", pc, outside);
         } else {
-            avr->pc = avr_run_one(avr);
+            avr->pc = word == SLEEP ? avr->pc + 2 : avr_run_one(avr);
             next = avr->pc / 2;
             if (refused < 0) {
+                bool crosses = next <= pc || next / 128 != pc / 128;
                 steps++;
-                crossings += next <= pc || next / 128 != pc / 128;
+                crossings += crosses;
+                due = word == SLEEP || (crosses && crossings % quantum == 0);
                 continue;
             }
             printf("fault io 0x%04X address 0x%04X", pc, refused);
         }
-        printf(" steps %lu checkpoints %lu\n", steps, crossings / QUANTUM);
+        printf(" steps %lu checkpoints %lu\n", steps, crossings / quantum);
         return;
     }
 }
@@ -194,7 +248,7 @@ int main(int count, char **words) {
     ihex_chunk_p chunks;
     avr_t *avr = mote();
     unsigned bytes = 0;
-    int chunk_count = count < 3 ? 0 : read_ihex_chunks(words[2], &chunks);
+    int chunk_count = count < 4 ? 0 : read_ihex_chunks(words[3], &chunks);
     if (chunk_count <= 0) {
         return 1;
     }
@@ -203,8 +257,8 @@ int main(int count, char **words) {
         unsigned end = chunks[i].baseaddr + chunks[i].size;
         bytes = end > bytes ? end : bytes;
     }
-    if (count > 3) {
-        read_script(words[3]);
+    if (count > 4) {
+        read_script(words[4]);
     }
-    run(avr, (bytes + 1) / 2, strtoul(words[1], NULL, 10));
+    run(avr, (bytes + 1) / 2, strtoul(words[1], NULL, 10), strtoul(words[2], NULL, 10));
 }

@@ -6,10 +6,10 @@ use Rattle.std.specs.Str.Parse.{digits_value, AllDigits}
 use Rattle.std.specs.Str.{bytes_eq}
 use Rattle.std.proofs.lemmas.List.{append_assoc, append_cancel_left}
 use Rattle.input_script.specs.declared.input.Kind.{Kind}
-use Rattle.input_script.specs.declared.input.Kind.TheVariants.{PinA, PinB, PinC, PinD, Serial, Analog}
+use Rattle.input_script.specs.declared.input.Kind.TheVariants.{PinA, PinB, PinC, PinD, Serial, Analog, Interrupt}
 use Rattle.input_script.specs.declared.input.Input.{Input}
 use Rattle.input_script.specs.declared.input.Event.{Event}
-use Rattle.input_script.specs.Kinds.{word_of, input_of}
+use Rattle.input_script.specs.Kinds.{word_of, mark_of, radix_of, input_of}
 use Rattle.text_lines.specs.Cutting.{Lacks}
 use Rattle.text_lines.proofs.CutLaws.{one_cut}
 use Rattle.input_script.specs.Grammar.{IsNumber, IsValue, IsInput, IsEvent}
@@ -33,11 +33,12 @@ word_lacks_space PinC = search rules
 word_lacks_space PinD = search rules
 word_lacks_space Serial = search rules
 word_lacks_space Analog = search rules
+word_lacks_space Interrupt = search rules
 
 -- the kind that has a word
 kind_named : List ℕ → Kind
 kind_named word =
-    cond (bytes_eq word (word_of PinA)) PinA (cond (bytes_eq word (word_of PinB)) PinB (cond (bytes_eq word (word_of PinC)) PinC (cond (bytes_eq word (word_of PinD)) PinD (cond (bytes_eq word (word_of Serial)) Serial Analog))))
+    cond (bytes_eq word (word_of PinA)) PinA (cond (bytes_eq word (word_of PinB)) PinB (cond (bytes_eq word (word_of PinC)) PinC (cond (bytes_eq word (word_of PinD)) PinD (cond (bytes_eq word (word_of Serial)) Serial (cond (bytes_eq word (word_of Analog)) Analog Interrupt)))))
 
 named : (kind : Kind) → kind_named (word_of kind) ≡ kind
 unfolding kind_named
@@ -47,6 +48,7 @@ named PinC = refl
 named PinD = refl
 named Serial = refl
 named Analog = refl
+named Interrupt = refl
 
 -- a word is that of one kind
 pub one_kind : (a b : Kind) → word_of a ≡ word_of b → a ≡ b
@@ -59,8 +61,8 @@ input_parts text word rest input lacks cut i =
 
 value_one : (kind : Kind) (text : List ℕ) (value other : ℕ) → IsValue kind text value → IsValue kind text other → value ≡ other
 value_one k text value other a b =
-    let same : a.number ≡ b.number = append_cancel_left (codes "0x") a.number b.number (sym a.written ∙ b.written) in
-    a.value_is ∙ ap (digits_value 16) same ∙ sym b.value_is
+    let same : a.number ≡ b.number = append_cancel_left (mark_of k) a.number b.number (sym a.written ∙ b.written) in
+    a.value_is ∙ ap (digits_value (radix_of k)) same ∙ sym b.value_is
 
 -- the value of an input whose kind and whose text are known otherwise
 pub value_as : (text word rest : List ℕ) (kind : Kind) (input : Input) → Lacks 32 word → text ≡ word ++ 32 ∷ rest → word ≡ word_of kind → (i : IsInput text input) → IsValue kind rest i.value

@@ -1,4 +1,4 @@
--- One line of a script, in this project's own forms: `at N KIND 0xVALUE`, `fail flash N`, a comment, or nothing.
+-- One line of a script, in this project's own forms: `at N KIND 0xVALUE`, `at N int K`, `fail flash N`, a comment, or nothing.
 use Rattle.std.specs.Prelude.{◌≡◌, ℕ, ◌≤◌, ◌⊎◌, List, [], ◌++◌, length, codes}
 use Rattle.std.specs.Str.Parse.{digits_value, AllDigits}
 use Rattle.input_script.specs.declared.input.Kind.{Kind}
@@ -6,7 +6,7 @@ use Rattle.input_script.specs.declared.input.Input.{Input}
 use Rattle.input_script.specs.declared.input.Event.{Event}
 use Rattle.input_script.specs.declared.line.Statement.{Statement}
 use Rattle.input_script.specs.declared.line.Statement.TheVariants.{Nothing, At, FailFlash}
-use Rattle.input_script.specs.Kinds.{word_of, width_of, input_of}
+use Rattle.input_script.specs.Kinds.{word_of, mark_of, radix_of, width_of, input_of}
 
 -- a line that is empty or begins with `#`
 abbrev pub IsSkipped : List ℕ → Type 0
@@ -19,13 +19,13 @@ pub record IsNumber (text : List ℕ) (n : ℕ) : Type 0 where
   pub most : length text ≤ 10
   pub value : n ≡ digits_value 10 text
 
--- `0x`, and exactly as many hexadecimal digits, of either case, as the kind has
+-- `0x`, and exactly as many hexadecimal digits, of either case, as the kind has; of an interrupt one digit, 0 to 7
 pub record IsValue (kind : Kind) (text : List ℕ) (value : ℕ) : Type 0 where
   pub number : List ℕ
-  pub written : text ≡ codes "0x" ++ number
-  pub digits : AllDigits 16 number
+  pub written : text ≡ mark_of kind ++ number
+  pub digits : AllDigits (radix_of kind) number
   pub width : length number ≡ width_of kind
-  pub value_is : value ≡ digits_value 16 number
+  pub value_is : value ≡ digits_value (radix_of kind) number
 
 -- a kind's word and a value of the kind, with one space between
 pub record IsInput (text : List ℕ) (input : Input) : Type 0 where

@@ -2,7 +2,7 @@
 
 ghost use Rattle.std.specs.Prelude.{◌≡◌, ◌≢◌, ◌<◌, ◌^◌, ◌↔◌, IsTrue, MatchOption};
 ghost use Rattle.input_script.specs.declared.input.Kind.{Kind};
-ghost use Rattle.input_script.specs.Kinds.{word_of, width_of, input_of};
+ghost use Rattle.input_script.specs.Kinds.{word_of, mark_of, radix_of, width_of, input_of};
 
 /// What a device receives.
 #[derive(Debug, Clone, Copy, PartialEq, Eq)]
@@ -13,6 +13,8 @@ pub enum Input {
     Uart(u8),
     /// The converter's result, 0 to 0x3FF.
     Adc(u16),
+    /// The interrupt INTk of this k, 0 to 7, is requested.
+    Int(u8),
 }
 
 /// An input, and the number of the poll at which it takes effect: the first poll is number 1, and an
@@ -32,6 +34,7 @@ pub(crate) enum Kind {
     PinD,
     Serial,
     Analog,
+    Interrupt,
 }
 
 impl Kind {
@@ -51,24 +54,47 @@ impl Kind {
             Some(Kind::Serial)
         } else if is_same(word, b"adc") {
             Some(Kind::Analog)
+        } else if is_same(word, b"int") {
+            Some(Kind::Interrupt)
         } else {
             None
         }
     }
 
-    /// How many hexadecimal digits a value of this kind has.
+    /// What stands before the digits of a value of this kind.
+    pub(crate) fn mark(self) -> &'static [u8]
+        ensures value { result.now ≡ mark_of self }
+    {
+        match self {
+            Kind::Interrupt => b"",
+            _ => b"0x",
+        }
+    }
+
+    /// The base of these digits.
+    pub(crate) fn radix(self) -> u32
+        ensures value { result ≡ radix_of self }
+    {
+        match self {
+            Kind::Interrupt => 8,
+            _ => 16,
+        }
+    }
+
+    /// How many digits there are.
     pub(crate) fn width(self) -> usize
         ensures value { result ≡ width_of self }
     {
         match self {
             Kind::Analog => 3,
+            Kind::Interrupt => 1,
             _ => 2,
         }
     }
 
     /// The input of this kind with a value of as many digits as it has.
     pub(crate) fn input(self, value: u16) -> Input
-        requires { value < 16 ^ width_of self }
+        requires { value < radix_of self ^ width_of self }
         ensures value { result ≡ input_of self value }
     {
         match self {
@@ -78,6 +104,7 @@ impl Kind {
             Kind::PinD => Input::Pin(3, value as u8),
             Kind::Serial => Input::Uart(value as u8),
             Kind::Analog => Input::Adc(value),
+            Kind::Interrupt => Input::Int(value as u8),
         }
     }
 }

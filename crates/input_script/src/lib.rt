@@ -1,7 +1,7 @@
 //! Scripts of device inputs, and of flash operations that fail.
 //!
 //! A script is lines such as `at 5 uart 0x41`: at poll 5 the serial port receives the byte 0x41. The other
-//! inputs are `pina 0xHH` to `pind 0xHH` and `adc 0xHHH`. A line `fail flash 3` makes the third erase or
+//! inputs are `pina 0xHH` to `pind 0xHH`, `adc 0xHHH` and `int K`. A line `fail flash 3` makes the third erase or
 //! program of flash fail. A line is empty, begins with `#`, or is one of these. [`read`] answers what the
 //! lines schedule, or the first faulty line and its first fault.
 //!

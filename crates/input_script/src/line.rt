@@ -73,15 +73,15 @@ fn input_in(text: &[u8]) -> Option<Input>
     Some(kind.input(value))
 }
 
-/// The value of a kind that `0x` and hexadecimal digits write.
+/// The value of a kind that a text writes.
 fn value_in(text: &[u8], kind: Kind) -> Option<u16>
     ensures cases { MatchOption result ((value : ℕ) → ¬ IsValue kind text.now value) (IsValue kind text.now) }
 {
-    let digits = after(text, b"0x")?;
+    let digits = after(text, kind.mark())?;
     if digits.len() != kind.width() {
         return None;
     }
-    let value = value_of(digits, 16)?;
+    let value = value_of(digits, kind.radix())?;
     Some(value as u16)
 }
 

@@ -2,7 +2,6 @@
 use Rattle.std.proofs.Common.{◌≡◌, ℕ, Bool, true, false, ◌≤◌, arith, refl, sym, ap, ◌∙◌}
 use Rattle.std.specs.Prelude.{◌≢◌, Option, Some, None, Result}
 use Rattle.avr_isa.specs.declared.form.Form.{Form}
-use Rattle.avr_isa.specs.declared.form.Form.TheVariants as forms
 use Rattle.avr_exec.specs.declared.cpu.Cpu.{Cpu}
 use Rattle.avr_exec.specs.declared.stop.BusStop.{BusStop}
 use Rattle.avr_exec.specs.Asks.{ask_of}
@@ -87,7 +86,7 @@ called k (CanServe.AtPushReturn is shape can) at = called_by k (λ e. cc) can
 called k (CanServe.AtReturn is shape can count) at = called_by k (λ e. cc) can
 called k (CanServe.AtIndirect is shape can count) at = called_by k (λ e. cc) can
 called k (CanServe.AtSelf is shape can count) at = called_by k (λ e. cc) can
-called k (CanServe.AtFault is shape) at = absurd (elsewhere executes k.mote.cpu.pc 0xF00E is at refl)
+called k (CanServe.AtFault is shape can) at = absurd (elsewhere executes k.mote.cpu.pc 0xF00E is at refl)
 
 pub counted : (k : Kernel) → CanServe k → counts k.mote.cpu.pc ≡ true → CanCount k
 counted k (CanServe.AtBridge is) at = absurd (elsewhere counts k.mote.cpu.pc 0xF000 is at refl)
@@ -97,4 +96,4 @@ counted k (CanServe.AtPushReturn is shape can) at = absurd (elsewhere counts k.m
 counted k (CanServe.AtReturn is shape can count) at = count
 counted k (CanServe.AtIndirect is shape can count) at = count
 counted k (CanServe.AtSelf is shape can count) at = count
-counted k (CanServe.AtFault is shape) at = absurd (elsewhere counts k.mote.cpu.pc 0xF00E is at refl)
+counted k (CanServe.AtFault is shape can) at = absurd (elsewhere counts k.mote.cpu.pc 0xF00E is at refl)

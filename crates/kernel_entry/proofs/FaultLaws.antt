@@ -27,11 +27,12 @@ use Rattle.nat_template.specs.Shapes.{shape_of, shape_of_form, is_stack_pointer,
 use Rattle.mem_guard.specs.declared.address.AddrClass.TheVariants.{Io}
 use Rattle.mem_guard.specs.Classes.{class_of}
 use Rattle.mem_guard.specs.FlatSpace.{FlatSpace, flat_calls, load, store, modify, load_in, store_in, from_device, to_device}
+use Rattle.mem_guard.specs.FlatMachine.{slept as slept_at}
 use Rattle.mem_guard.specs.FlatMachine.{Stops, Io as IoEnd, tried, stepped, next_size, jumps_to_itself}
 use Rattle.mem_guard.proofs.MachineLaws.{tried_illegal, tried_spm, tried_sleep, tried_step}
 use Rattle.kernel_entry.specs.declared.kernel.Kernel.{Kernel}
 use Rattle.kernel_entry.specs.Parts.{descriptor, instruction, core_of, image_held}
-use Rattle.kernel_entry.specs.Services.{fault_of}
+use Rattle.kernel_entry.specs.Services.{is_sleep, fault_of}
 use Rattle.kernel_entry.specs.Seen.{space_of, program, state_at, end_of}
 use Rattle.kernel_entry.specs.Conditions.{shape_behind}
 
@@ -109,7 +110,7 @@ fault_self true is = cc
 fault_self false is = cc
 
 abbrev TriedSo : Kernel → Option Form → Type 0
-TriedSo k form = (s c : ℕ) → tried (program k) (state_at k (descriptor k) s c) ≡ Stops (end_of (fault_of (descriptor k) form))
+TriedSo k form = is_sleep form ≡ false → (s c : ℕ) → tried (program k) (state_at k (descriptor k) s c) ≡ Stops (end_of (fault_of (descriptor k) form))
 
 io_stops : (k : Kernel) (b : ℕ) (form : Form) → instruction k ≡ Some form → is_executed form ≡ true → jumps_to_itself (descriptor k) form ≡ false
     → answer_of flat_calls (space_of k) (ask_of form (core_of k (descriptor k))) ≡ Stopped (IoStop b) → (s c : ℕ) → tried (program k) (state_at k (descriptor k) s c) ≡ Stops (IoEnd (descriptor k) b)
@@ -119,33 +120,42 @@ io_stops k b form is runs apart stopped s c =
 
 some_tries : (k : Kernel) (form : Form) → instruction k ≡ Some form → IsTrue (is_valid form) → shape_of_form (descriptor k) form ≡ Fault → TriedSo k (Some form)
 unfolding shape_of_form is_executed ask_of is_valid fields_in_range is_undefined
-some_tries k forms.Sleep is valid shape = λ s c. tried_sleep (program k) (state_at k (descriptor k) s c) is
-some_tries k forms.Spm is valid shape = λ s c. tried_spm (program k) (state_at k (descriptor k) s c) is
+some_tries k forms.Sleep is valid shape = λ none. absurd (cc)
+some_tries k forms.Spm is valid shape = λ none s c. tried_spm (program k) (state_at k (descriptor k) s c) is
 some_tries k (forms.InIo d q) is valid shape =
     let t = fault_io (is_stack_pointer q) (can_read (io_address q)) shape in
     let low = six_right d q valid in
-    io_stops k (q + 0x20) (forms.InIo d q) is refl refl (refused_load (space_of k) (q + 0x20) (omega arith) (own_read q (is_own (q + 0x20)) refl low t.0 t.1) t.1)
+    λ none. io_stops k (q + 0x20) (forms.InIo d q) is refl refl (refused_load (space_of k) (q + 0x20) (omega arith) (own_read q (is_own (q + 0x20)) refl low t.0 t.1) t.1)
 some_tries k (forms.OutIo q r) is valid shape =
     let t = fault_io (is_stack_pointer q) (can_write (io_address q)) shape in
     let low = six_left q r valid in
-    io_stops k (q + 0x20) (forms.OutIo q r) is refl refl (refused_store (space_of k) (q + 0x20) (register (core_of k (descriptor k)) r) (omega arith) (own_write q (is_own (q + 0x20)) refl low t.0 t.1) t.1)
+    λ none. io_stops k (q + 0x20) (forms.OutIo q r) is refl refl (refused_store (space_of k) (q + 0x20) (register (core_of k (descriptor k)) r) (omega arith) (own_write q (is_own (q + 0x20)) refl low t.0 t.1) t.1)
 some_tries k (forms.Cbi q b) is valid shape =
-    io_stops k (q + 0x20) (forms.Cbi q b) is refl refl (refused_modify (space_of k) (q + 0x20) (2 ^ b) 0 (fault_one (can_modify (io_address q)) Native (λ e. cc) shape))
+    λ none. io_stops k (q + 0x20) (forms.Cbi q b) is refl refl (refused_modify (space_of k) (q + 0x20) (2 ^ b) 0 (fault_one (can_modify (io_address q)) Native (λ e. cc) shape))
 some_tries k (forms.Sbi q b) is valid shape =
-    io_stops k (q + 0x20) (forms.Sbi q b) is refl refl (refused_modify (space_of k) (q + 0x20) 0 (2 ^ b) (fault_one (can_modify (io_address q)) Native (λ e. cc) shape))
+    λ none. io_stops k (q + 0x20) (forms.Sbi q b) is refl refl (refused_modify (space_of k) (q + 0x20) 0 (2 ^ b) (fault_one (can_modify (io_address q)) Native (λ e. cc) shape))
 some_tries k (forms.Sbic q b) is valid shape =
     let low = low_left q b valid in
-    io_stops k (q + 0x20) (forms.Sbic q b) is refl refl (refused_load (space_of k) (q + 0x20) (omega arith) (low_own q low) (fault_one (can_read (io_address q)) Skip (λ e. cc) shape))
+    λ none. io_stops k (q + 0x20) (forms.Sbic q b) is refl refl (refused_load (space_of k) (q + 0x20) (omega arith) (low_own q low) (fault_one (can_read (io_address q)) Skip (λ e. cc) shape))
 some_tries k (forms.Sbis q b) is valid shape =
     let low = low_left q b valid in
-    io_stops k (q + 0x20) (forms.Sbis q b) is refl refl (refused_load (space_of k) (q + 0x20) (omega arith) (low_own q low) (fault_one (can_read (io_address q)) Skip (λ e. cc) shape))
+    λ none. io_stops k (q + 0x20) (forms.Sbis q b) is refl refl (refused_load (space_of k) (q + 0x20) (omega arith) (low_own q low) (fault_one (can_read (io_address q)) Skip (λ e. cc) shape))
 some_tries k (forms.Rjmp d) is valid shape = absurd (fault_self (relative (descriptor k) d == descriptor k) shape)
 some_tries k (forms.Jmp t) is valid shape = absurd (fault_self (t == descriptor k) shape)
 some_tries k _ is valid shape = absurd (cc)
 
 any_tries : (k : Kernel) (form : Option Form) → instruction k ≡ form → AreWords k.mote.flash.words → shape_of (descriptor k) form ≡ Fault → TriedSo k form
-any_tries k None is fit shape = λ s c. tried_illegal (program k) (state_at k (descriptor k) s c) is
+any_tries k None is fit shape = λ none s c. tried_illegal (program k) (state_at k (descriptor k) s c) is
 any_tries k (Some form) is fit shape = some_tries k form is (valid_at (image_held k) (descriptor k) form (λ a. front_fits k.mote.flash.words k.layout.image_words a fit) is) shape
 
 pub fault_tried : (k : Kernel) → AreWords k.mote.flash.words → shape_behind k ≡ Fault → TriedSo k (instruction k)
 fault_tried k fit shape = any_tries k (instruction k) refl fit shape
+
+-- a SLEEP
+sleep_form : (form : Option Form) → is_sleep form ≡ true → form ≡ Some forms.Sleep
+sleep_form None is = absurd (cc)
+sleep_form (Some forms.Sleep) is = refl
+sleep_form (Some _) is = absurd (cc)
+
+pub sleep_tried : (k : Kernel) → is_sleep (instruction k) ≡ true → (s c : ℕ) → tried (program k) (state_at k (descriptor k) s c) ≡ slept_at (state_at k (descriptor k) s c)
+sleep_tried k is s c = tried_sleep (program k) (state_at k (descriptor k) s c) (sleep_form (instruction k) is)

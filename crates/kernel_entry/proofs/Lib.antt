@@ -8,4 +8,6 @@ pub mod RowLaws
 pub mod FaultLaws
 pub mod TriedLaws
 pub mod ServedLaws
+pub mod InterruptLaws
+pub mod TakingRows
 mod WorkedTexts

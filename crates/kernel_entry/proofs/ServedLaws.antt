@@ -19,28 +19,35 @@ use Rattle.nat_template.specs.Shapes.{shape_of, shape_of_form}
 use Rattle.nat_template.specs.Stubs.{bridge_entry, quantum_entry, mem_entry, push_return_entry, return_entry, indirect_entry, self_entry, fault_entry}
 use Rattle.mem_guard.specs.Guarded.{Guarded}
 use Rattle.mem_guard.specs.Left.{HeapAfter, KeepsHeap}
-use Rattle.mem_guard.specs.FlatMachine.{jumps_to_itself}
+use Rattle.mem_guard.specs.FlatMachine.{jumps_to_itself, tried, Stops, Wakes, slept as slept_at, slept_by as slept_by_at, Asleep as AsleepEnd}
+use Rattle.std.specs.Prelude.{max, Option, None, ◌≤◌, ◌+◌}
+use Rattle.avr_isa.specs.Crossing.{is_crossing}
+use Rattle.mote_devices.specs.State.{State}
+use Rattle.mote_devices.specs.Waking.{wake, Timely}
+use Rattle.mote_devices.proofs.WakeLaws.{wake_polls}
+use Rattle.preempt_count.proofs.CountLaws.{count_crossed, byte_crossed}
+use Rattle.heap_frames.proofs.SamePagingLaws.{paged_same}
 use Rattle.mem_guard.proofs.MachineLaws.{tried_halt}
 use Rattle.preempt_count.specs.Counting.{crossed}
 use Rattle.kernel_entry.specs.declared.kernel.Kernel.{Kernel}
 use Rattle.kernel_entry.specs.declared.kernel.Served.{Served}
-use Rattle.kernel_entry.specs.declared.kernel.Stop.TheVariants.{Halted}
+use Rattle.kernel_entry.specs.declared.kernel.Stop.TheVariants.{Halted, Asleep}
 use Rattle.kernel_entry.specs.Parts.{return_address, descriptor, instruction, memory_of, core_of, virtual_sp, rested, with_sram}
 use Rattle.avr_isa.specs.Instruction.{size_of}
 use Rattle.avr_exec.specs.Registers.{wrapping_sum}
 use Rattle.heap_frames.specs.SamePaging.{SamePaging}
 use Rattle.mem_guard.specs.FlatSpace.{push_return, pop_return}
-use Rattle.kernel_entry.specs.Services.{bridged, faulted, executed, execution, execution_by, if_instruction, resumed_by, resumed, gone_by, gone, halted_or_gone, quantum_ended, fault_of, served, served_at}
+use Rattle.kernel_entry.specs.Services.{bridged, faulted, executed, execution, execution_by, if_instruction, resumed_by, resumed, gone_by, gone, halted_or_gone, quantum_ended, fault_of, is_sleep, slept, slept_by, woken, served, served_at}
 use Rattle.kernel_entry.specs.Conditions.{CanServe, CanExecute, IsCalled, shape_behind, executes}
-use Rattle.kernel_entry.specs.Seen.{view_of, space_of, program, state_at}
+use Rattle.kernel_entry.specs.Seen.{View, view_of, space_of, program, state_at}
 use Rattle.kernel_entry.specs.Left.{Leaves, LeavesHeap}
-use Rattle.kernel_entry.specs.Rows.{HasStopped, Goes, Bridges, EndsQuantum, Executes, PushesReturn, PushedBy, Returns, PoppedBy, GoesThrough, GoneThrough, LoopsOrHalts, Faults, AsTried, ExecutedBy}
+use Rattle.kernel_entry.specs.Rows.{SleptBy, HasStopped, Goes, Bridges, EndsQuantum, Executes, PushesReturn, PushedBy, Returns, PoppedBy, GoesThrough, GoneThrough, LoopsOrHalts, Faults, AsTried, ExecutedBy}
 use Rattle.kernel_entry.proofs.Answering.{called, called_by}
 use Rattle.kernel_entry.proofs.LeftLaws.{Kept, kept, leaves_rested, leaves_pc, leaves_sram, leaves_crossed, leaves_execution, leaves_heap, same_stored, same_crossed}
 use Rattle.kernel_entry.proofs.ShapeLaws.{is_service_jump, by_service_jump, by_self_form, jumps_on, self_jumps}
-use Rattle.kernel_entry.proofs.ViewLaws.{view_sram}
+use Rattle.kernel_entry.proofs.ViewLaws.{view_sram, view_crossed}
 use Rattle.kernel_entry.proofs.RowLaws.{flatly, resumes_row, goes_row, executed_row, pushed_row, popped_row, through_row, self_row}
-use Rattle.kernel_entry.proofs.FaultLaws.{fault_tried}
+use Rattle.kernel_entry.proofs.FaultLaws.{fault_tried, sleep_tried}
 use Rattle.kernel_entry.proofs.TriedLaws.{resumes_tried, goes_tried, transfers, self_transfers}
 
 -- the service by the entry
@@ -69,7 +76,7 @@ shape_at k (CanServe.AtPushReturn is shape can) at = shape ∙ sym (ap shape_for
 shape_at k (CanServe.AtReturn is shape can count) at = shape ∙ sym (ap shape_for is)
 shape_at k (CanServe.AtIndirect is shape can count) at = shape ∙ sym (ap shape_for is)
 shape_at k (CanServe.AtSelf is shape can count) at = shape ∙ sym (ap shape_for is)
-shape_at k (CanServe.AtFault is shape) at = absurd (elsewhere executes k.mote.cpu.pc 0xF00E is at refl)
+shape_at k (CanServe.AtFault is shape can) at = absurd (elsewhere executes k.mote.cpu.pc 0xF00E is at refl)
 
 -- an entry that executes: its instruction, with its shape
 pub record Serving (k : Kernel) (shape : TemplateShape) : Type 0 where
@@ -181,8 +188,30 @@ self_entry_row k can here =
 pub bridge_row : (k : Kernel) → k.mote.cpu.pc ≡ bridge_entry → Bridges k (served k).0 (served k).1
 bridge_row k here = along (λ result new. Bridges k result new) (served k) (bridged k) (at_entry k bridge_entry here) (record { answer = refl; stays = refl })
 
-pub fault_row : (k : Kernel) → k.mote.cpu.pc ≡ fault_entry → Faults k (served k).0 (served k).1
-fault_row k here = along (λ result new. Faults k result new) (served k) (faulted k) (at_entry k fault_entry here) (record { answer = refl; stays = refl })
+slept_by_row : (k : Kernel) (o : Option State) → length k.mote.sram ≡ byte_count → SleptBy k (slept_by k o).0 (slept_by k o).1 o
+slept_by_row k None size = record { answer = refl; stays = refl }
+slept_by_row k (Some devices) size = record {
+  answer = refl;
+  pc = refl;
+  view = ap (λ (v : View). record v { devices = devices }) (view_crossed (rested k) k.quantum (descriptor k) (wrapping_sum (descriptor k) 1));
+  count = count_crossed k.quantum (descriptor k) (wrapping_sum (descriptor k) 1) k.mote.sram (omega (arith, size));
+}
+
+pub slept_is : (k : Kernel) (b : Bool) → has_bit k.mote.cpu.sreg interrupts ≡ b → slept k ≡ cond b (slept_by k (wake k.mote.devices)) (Served.Stopped (Asleep (descriptor k)), rested k)
+slept_is k b is = ap (λ (c : Bool). cond c (slept_by k (wake k.mote.devices)) (Served.Stopped (Asleep (descriptor k)), rested k)) is
+
+pub faulted_is : (k : Kernel) (b : Bool) → is_sleep (instruction k) ≡ b → faulted k ≡ cond b (slept k) (Served.Stopped (fault_of (descriptor k) (instruction k)), rested k)
+faulted_is k b is = ap (λ (c : Bool). cond c (slept k) (Served.Stopped (fault_of (descriptor k) (instruction k)), rested k)) is
+
+faulted_row : (k : Kernel) → length k.mote.sram ≡ byte_count → Faults k (faulted k).0 (faulted k).1
+faulted_row k size = record {
+  sleeps = λ is on. along (λ result new. SleptBy k result new (wake k.mote.devices)) (faulted k) (slept_by k (wake k.mote.devices)) (faulted_is k true is ∙ slept_is k true on) (slept_by_row k (wake k.mote.devices) size);
+  off = λ is out. along (λ result new. HasStopped k result new (Asleep (descriptor k))) (faulted k) (Served.Stopped (Asleep (descriptor k)), rested k) (faulted_is k true is ∙ slept_is k false out) (record { answer = refl; stays = refl });
+  other = λ is. along (λ result new. HasStopped k result new (fault_of (descriptor k) (instruction k))) (faulted k) (Served.Stopped (fault_of (descriptor k) (instruction k)), rested k) (faulted_is k false is) (record { answer = refl; stays = refl });
+}
+
+pub fault_row : (k : Kernel) → length k.mote.sram ≡ byte_count → k.mote.cpu.pc ≡ fault_entry → Faults k (served k).0 (served k).1
+fault_row k size here = along (λ result new. Faults k result new) (served k) (faulted k) (at_entry k fault_entry here) (faulted_row k size)
 
 count_written : (m : List ℕ) (q : ℕ) → data_word_at (with_byte m count_cell q) vsp_cell ≡ data_word_at m vsp_cell
 count_written m q = word_out_of_byte m count_cell vsp_cell q (omega arith) (omega arith) (λ e. omega arith) (λ e. omega arith)
@@ -238,8 +267,37 @@ quantum_left : (k : Kernel) → Leaves k (quantum_ended k).1
 quantum_left k =
     let m = k.mote.sram in
     let before = with_sram (quantum_ended k).1 m in
-    leaves_sram k before (with_byte m count_cell k.quantum) (record { stack = refl; flash = refl; layout = refl; quantum = refl; slots = refl; size = refl; tables = λ b from to. refl; polls = omega arith; paged = λ paged. paged })
+    leaves_sram k before (with_byte m count_cell k.quantum) (record { stack = refl; flash = refl; layout = refl; quantum = refl; slots = refl; size = refl; tables = λ b from to. refl; polls = omega arith; polled = λ apart. omega arith; paged = λ paged. paged })
     (same_count m k.quantum) (λ b from to. byte_other m count_cell b k.quantum (omega arith) (omega arith) (λ e. omega arith))
+
+-- FAULT
+leaves_woken : (k : Kernel) (to : ℕ) (devices : State) → k.mote.cpu.pc ≡ fault_entry → devices.polls ≤ max k.mote.devices.polls 4294967295 → Leaves k (woken k to devices)
+leaves_woken k to devices here polls =
+    let same = same_crossed k.quantum (descriptor k) to k.mote.sram in
+    record {
+      stack = refl;
+      flash = refl;
+      layout = refl;
+      quantum = refl;
+      slots = refl;
+      size = same.size;
+      tables = λ b from to'. byte_crossed k.quantum (descriptor k) to b k.mote.sram (omega arith) (λ e. omega arith);
+      polls = omega arith;
+      polled = λ apart. absurd (apart here);
+      paged = λ paged. paged_same k.mote.sram (crossed k.quantum (descriptor k) to k.mote.sram) k.mote.swap same paged;
+    }
+
+leaves_slept_by : (k : Kernel) (o : Option State) → k.mote.cpu.pc ≡ fault_entry → wake k.mote.devices ≡ o → Timely k.mote.devices → Leaves k (slept_by k o).1
+leaves_slept_by k None here is timely = leaves_rested k
+leaves_slept_by k (Some devices) here is timely = leaves_woken k (wrapping_sum (descriptor k) 1) devices here (wake_polls k.mote.devices devices timely is)
+
+leaves_slept : (k : Kernel) (b : Bool) → k.mote.cpu.pc ≡ fault_entry → has_bit k.mote.cpu.sreg interrupts ≡ b → Timely k.mote.devices → Leaves k (slept k).1
+leaves_slept k true here on timely = subst (λ (c : Bool). Leaves k (cond c (slept_by k (wake k.mote.devices)) (Served.Stopped (Asleep (descriptor k)), rested k)).1) (sym on) (leaves_slept_by k (wake k.mote.devices) here refl timely)
+leaves_slept k false here off timely = subst (λ (c : Bool). Leaves k (cond c (slept_by k (wake k.mote.devices)) (Served.Stopped (Asleep (descriptor k)), rested k)).1) (sym off) (leaves_rested k)
+
+leaves_faulted : (k : Kernel) → k.mote.cpu.pc ≡ fault_entry → Timely k.mote.devices → (b : Bool) → is_sleep (instruction k) ≡ b → Leaves k (faulted k).1
+leaves_faulted k here timely true is = subst (λ (c : Bool). Leaves k (cond c (slept k) (Served.Stopped (fault_of (descriptor k) (instruction k)), rested k)).1) (sym is) (leaves_slept k (has_bit k.mote.cpu.sreg interrupts) here refl timely)
+leaves_faulted k here timely false is = subst (λ (c : Bool). Leaves k (cond c (slept k) (Served.Stopped (fault_of (descriptor k) (instruction k)), rested k)).1) (sym is) (leaves_rested k)
 
 pub served_leaves : (k : Kernel) → CanServe k → Leaves k (served k).1
 served_leaves k (CanServe.AtBridge is) = along (λ result new. Leaves k new) (served k) (bridged k) (at_entry k bridge_entry is) (leaves_rested k)
@@ -249,7 +307,7 @@ served_leaves k (CanServe.AtPushReturn is shape can) = resume_left k push_return
 served_leaves k (CanServe.AtReturn is shape can count) = go_left k return_entry (called_by k (λ e. cc) can) is refl
 served_leaves k (CanServe.AtIndirect is shape can count) = go_left k indirect_entry (called_by k (λ e. cc) can) is refl
 served_leaves k (CanServe.AtSelf is shape can count) = loop_left k (has_bit k.mote.cpu.sreg interrupts) refl (called_by k (λ e. cc) can) is
-served_leaves k (CanServe.AtFault is shape) = along (λ result new. Leaves k new) (served k) (faulted k) (at_entry k fault_entry is) (leaves_rested k)
+served_leaves k (CanServe.AtFault is shape can) = along (λ result new. Leaves k new) (served k) (faulted k) (at_entry k fault_entry is) (leaves_faulted k is can.timely (is_sleep (instruction k)) refl)
 
 -- every service but MEM leaves the heap
 abbrev KeepsAsked : Kernel → Ask → Type 0
@@ -292,6 +350,18 @@ loop_heap : (k : Kernel) (b : Bool) → has_bit k.mote.cpu.sreg interrupts ≡ b
 loop_heap k true on s here = going_heap k s.called (self_keeps k (descriptor k) s.called.form s.shaped) (loops_at k s.called.form here s.called.is on)
 loop_heap k false off s here = along (λ result new. SameHeap k new) (served k) (Served.Stopped (Halted (descriptor k)), rested k) (halts_at k here off) (same_paging_refl k.mote.sram, refl)
 
+same_slept_by : (k : Kernel) (o : Option State) → SameHeap k (slept_by k o).1
+same_slept_by k None = (same_paging_refl k.mote.sram, refl)
+same_slept_by k (Some devices) = (same_crossed k.quantum (descriptor k) (wrapping_sum (descriptor k) 1) k.mote.sram, refl)
+
+same_slept : (k : Kernel) (b : Bool) → has_bit k.mote.cpu.sreg interrupts ≡ b → SameHeap k (slept k).1
+same_slept k true on = subst (λ (c : Bool). SameHeap k (cond c (slept_by k (wake k.mote.devices)) (Served.Stopped (Asleep (descriptor k)), rested k)).1) (sym on) (same_slept_by k (wake k.mote.devices))
+same_slept k false off = subst (λ (c : Bool). SameHeap k (cond c (slept_by k (wake k.mote.devices)) (Served.Stopped (Asleep (descriptor k)), rested k)).1) (sym off) (same_paging_refl k.mote.sram, refl)
+
+same_faulted : (k : Kernel) (b : Bool) → is_sleep (instruction k) ≡ b → SameHeap k (faulted k).1
+same_faulted k true is = subst (λ (c : Bool). SameHeap k (cond c (slept k) (Served.Stopped (fault_of (descriptor k) (instruction k)), rested k)).1) (sym is) (same_slept k (has_bit k.mote.cpu.sreg interrupts) refl)
+same_faulted k false is = subst (λ (c : Bool). SameHeap k (cond c (slept k) (Served.Stopped (fault_of (descriptor k) (instruction k)), rested k)).1) (sym is) (same_paging_refl k.mote.sram, refl)
+
 same_heap : (k : Kernel) → CanServe k → k.mote.cpu.pc ≢ mem_entry → SameHeap k (served k).1
 same_heap k (CanServe.AtBridge is) apart = along (λ result new. SameHeap k new) (served k) (bridged k) (at_entry k bridge_entry is) (same_paging_refl k.mote.sram, refl)
 same_heap k (CanServe.AtQuantum is) apart = along (λ result new. SameHeap k new) (served k) (quantum_ended k) (at_entry k quantum_entry is) (same_count k.mote.sram k.quantum, refl)
@@ -309,7 +379,7 @@ same_heap k (CanServe.AtIndirect is shape can count) apart =
     let s = serving k Ind shape (λ e. cc) can in
     going_heap k s.called (jump_keeps k (descriptor k) s.called.form (ap is_service_jump s.shaped)) (goes_at k s.called.form indirect_entry is refl s.called.is)
 same_heap k (CanServe.AtSelf is shape can count) apart = loop_heap k (has_bit k.mote.cpu.sreg interrupts) refl (serving k SelfJump shape (λ e. cc) can) is
-same_heap k (CanServe.AtFault is shape) apart = along (λ result new. SameHeap k new) (served k) (faulted k) (at_entry k fault_entry is) (same_paging_refl k.mote.sram, refl)
+same_heap k (CanServe.AtFault is shape can) apart = along (λ result new. SameHeap k new) (served k) (faulted k) (at_entry k fault_entry is) (same_faulted k (is_sleep (instruction k)) refl)
 
 pub served_leaves_heap : (k : Kernel) → CanServe k → k.mote.cpu.pc ≢ mem_entry → LeavesHeap k (served k).1
 served_leaves_heap k can apart =
@@ -349,6 +419,56 @@ loop_tried k false off s here =
     along (λ result new. AsTried k result new) (served k) (Served.Stopped (Halted (descriptor k)), rested k) (halts_at k here off)
     (AsTried.StopsToo (Halted (descriptor k)) (record { answer = refl; stays = refl }) (λ s' c. tried_halt (program k) (state_at k (descriptor k) s' c) form s.called.is s.called.runs (self_jumps (descriptor k) form s.shaped) off))
 
+-- FAULT
+woken_tried : (k : Kernel) (devices : State) → wake k.mote.devices ≡ Some devices → (s c : ℕ)
+    → slept_by_at (state_at k (descriptor k) s c) (Some devices) ≡ Wakes (state_at (woken k (wrapping_sum (descriptor k) 1) devices) (wrapping_sum (descriptor k) 1) (s + 1) (if is_crossing (descriptor k) (wrapping_sum (descriptor k) 1) then c + 1 else c))
+woken_tried k devices is s c =
+    let to = wrapping_sum (descriptor k) 1 in
+    ap (λ (v : View). Wakes (record {
+      cpu = record { r = v.registers; sreg = v.status; sp = v.stack_pointer; pc = to };
+      memory = v.memory;
+      devices = devices;
+      pages = v.pages;
+      steps = s + 1;
+      crossings = if is_crossing (descriptor k) to then c + 1 else c;
+    })) (sym (view_crossed (rested k) k.quantum (descriptor k) to))
+
+-- a SLEEP that an interrupt ends
+pub sleep_woken : (k : Kernel) (devices : State) → is_sleep (instruction k) ≡ true → has_bit k.mote.cpu.sreg interrupts ≡ true → wake k.mote.devices ≡ Some devices → (s c : ℕ)
+    → tried (program k) (state_at k (descriptor k) s c) ≡ Wakes (state_at (woken k (wrapping_sum (descriptor k) 1) devices) (wrapping_sum (descriptor k) 1) (s + 1) (if is_crossing (descriptor k) (wrapping_sum (descriptor k) 1) then c + 1 else c))
+sleep_woken k devices is on wakes s c =
+    sleep_tried k is s c ∙ ap (λ (b : Bool). cond b (slept_by_at (state_at k (descriptor k) s c) (wake k.mote.devices)) (Stops (AsleepEnd (descriptor k)))) on
+    ∙ ap (slept_by_at (state_at k (descriptor k) s c)) wakes ∙ woken_tried k devices wakes s c
+
+-- and one that none ends
+pub sleep_never : (k : Kernel) (at : ℕ) → descriptor k ≡ at → is_sleep (instruction k) ≡ true → has_bit k.mote.cpu.sreg interrupts ≡ true → wake k.mote.devices ≡ None → (s c : ℕ) → tried (program k) (state_at k at s c) ≡ Stops (AsleepEnd at)
+sleep_never k at here is on never s c =
+    subst (λ w. tried (program k) (state_at k w s c) ≡ Stops (AsleepEnd w)) here
+    (sleep_tried k is s c ∙ ap (λ (b : Bool). cond b (slept_by_at (state_at k (descriptor k) s c) (wake k.mote.devices)) (Stops (AsleepEnd (descriptor k)))) on ∙ ap (slept_by_at (state_at k (descriptor k) s c)) never)
+
+pub sleep_off : (k : Kernel) (at : ℕ) → descriptor k ≡ at → is_sleep (instruction k) ≡ true → has_bit k.mote.cpu.sreg interrupts ≡ false → (s c : ℕ) → tried (program k) (state_at k at s c) ≡ Stops (AsleepEnd at)
+sleep_off k at here is off s c =
+    subst (λ w. tried (program k) (state_at k w s c) ≡ Stops (AsleepEnd w)) here
+    (sleep_tried k is s c ∙ ap (λ (b : Bool). cond b (slept_by_at (state_at k (descriptor k) s c) (wake k.mote.devices)) (Stops (AsleepEnd (descriptor k)))) off)
+
+slept_by_tried : (k : Kernel) (o : Option State) → wake k.mote.devices ≡ o → ((s c : ℕ) → tried (program k) (state_at k (descriptor k) s c) ≡ slept_by_at (state_at k (descriptor k) s c) o) → AsTried k (slept_by k o).0 (slept_by k o).1
+slept_by_tried k None is tries = AsTried.StopsToo (Asleep (descriptor k)) (record { answer = refl; stays = refl }) tries
+slept_by_tried k (Some devices) is tries = AsTried.WakesToo (wrapping_sum (descriptor k) 1) refl (λ s c. tries s c ∙ woken_tried k devices is s c)
+
+slept_tried : (k : Kernel) (b : Bool) → has_bit k.mote.cpu.sreg interrupts ≡ b → ((s c : ℕ) → tried (program k) (state_at k (descriptor k) s c) ≡ slept_at (state_at k (descriptor k) s c)) → AsTried k (slept k).0 (slept k).1
+slept_tried k true on tries = along (λ result new. AsTried k result new) (slept k) (slept_by k (wake k.mote.devices)) (ap (λ (c : Bool). cond c (slept_by k (wake k.mote.devices)) (Served.Stopped (Asleep (descriptor k)), rested k)) on)
+    (slept_by_tried k (wake k.mote.devices) refl (λ s c. tries s c ∙ ap (λ (b : Bool). cond b (slept_by_at (state_at k (descriptor k) s c) (wake k.mote.devices)) (Stops (AsleepEnd (descriptor k)))) on))
+slept_tried k false off tries = along (λ result new. AsTried k result new) (slept k) (Served.Stopped (Asleep (descriptor k)), rested k) (ap (λ (c : Bool). cond c (slept_by k (wake k.mote.devices)) (Served.Stopped (Asleep (descriptor k)), rested k)) off)
+    (AsTried.StopsToo (Asleep (descriptor k)) (record { answer = refl; stays = refl }) (λ s c. tries s c ∙ ap (λ (b : Bool). cond b (slept_by_at (state_at k (descriptor k) s c) (wake k.mote.devices)) (Stops (AsleepEnd (descriptor k)))) off))
+
+faulted_tried : (k : Kernel) → AreWords k.mote.flash.words → shape_behind k ≡ Fault → (b : Bool) → is_sleep (instruction k) ≡ b → AsTried k (faulted k).0 (faulted k).1
+faulted_tried k fit shape true is =
+    along (λ result new. AsTried k result new) (faulted k) (slept k) (ap (λ (c : Bool). cond c (slept k) (Served.Stopped (fault_of (descriptor k) (instruction k)), rested k)) is)
+    (slept_tried k (has_bit k.mote.cpu.sreg interrupts) refl (sleep_tried k is))
+faulted_tried k fit shape false is =
+    along (λ result new. AsTried k result new) (faulted k) (Served.Stopped (fault_of (descriptor k) (instruction k)), rested k) (ap (λ (c : Bool). cond c (slept k) (Served.Stopped (fault_of (descriptor k) (instruction k)), rested k)) is)
+    (AsTried.StopsToo (fault_of (descriptor k) (instruction k)) (record { answer = refl; stays = refl }) (fault_tried k fit shape is))
+
 pub served_tried : (k : Kernel) → AreWords k.mote.flash.words → CanServe k → k.mote.cpu.pc ≢ bridge_entry → k.mote.cpu.pc ≢ quantum_entry → AsTried k (served k).0 (served k).1
 served_tried k fit (CanServe.AtBridge is) one two = absurd (one is)
 served_tried k fit (CanServe.AtQuantum is) one two = absurd (two is)
@@ -357,6 +477,5 @@ served_tried k fit (CanServe.AtPushReturn is shape can) one two = resuming_tried
 served_tried k fit (CanServe.AtReturn is shape can count) one two = going_tried k Ret return_entry (serving k Ret shape (λ e. cc) can) (λ e. cc) refl is refl
 served_tried k fit (CanServe.AtIndirect is shape can count) one two = going_tried k Ind indirect_entry (serving k Ind shape (λ e. cc) can) (λ e. cc) refl is refl
 served_tried k fit (CanServe.AtSelf is shape can count) one two = loop_tried k (has_bit k.mote.cpu.sreg interrupts) refl (serving k SelfJump shape (λ e. cc) can) is
-served_tried k fit (CanServe.AtFault is shape) one two =
-    along (λ result new. AsTried k result new) (served k) (faulted k) (at_entry k fault_entry is)
-    (AsTried.StopsToo (fault_of (descriptor k) (instruction k)) (record { answer = refl; stays = refl }) (fault_tried k fit shape))
+served_tried k fit (CanServe.AtFault is shape can) one two =
+    along (λ result new. AsTried k result new) (served k) (faulted k) (at_entry k fault_entry is) (faulted_tried k fit shape (is_sleep (instruction k)) refl)

@@ -55,25 +55,25 @@ pub resumes_tried : (k : Kernel) (form : Form) (ask : Ask) (o : Outcome Guarded 
 unfolding executed
 resumes_tried k form ask (Went core memory) paged is runs goes left went =
     AsTried.ResumesToo memory.line core.pc refl (λ s c.
-    guarded_goes (memory_of k) memory (core_of k (descriptor k)) core s c form paged refl is runs goes went
+    guarded_goes _ (memory_of k) memory (core_of k (descriptor k)) core s c form paged refl is runs goes went
     ∙ sym (ap (λ v. GoesOn memory.line (state_by v core.pc (s + 1) (counted k core.pc c))) (view_put k core memory left.0.paged.sized.sram)))
 resumes_tried k form ask (Stopped stop) paged is runs goes left went =
     AsTried.StopsToo (stop_of (descriptor k) stop) (record { answer = refl; stays = refl }) (λ s c.
-    guarded_stops (memory_of k) (core_of k (descriptor k)) s c form stop paged refl is runs goes went ∙ ap Stops (end_stop (descriptor k) stop))
+    guarded_stops _ (memory_of k) (core_of k (descriptor k)) s c form stop paged refl is runs goes went ∙ ap Stops (end_stop (descriptor k) stop))
 
 pub goes_tried : (k : Kernel) (form : Form) (ask : Ask) (o : Outcome Guarded Cpu) → IsPaged k.mote.sram k.mote.swap → instruction k ≡ Some form → is_executed form ≡ true → GoesOnward k form → is_transfer form ≡ true
     → LeavesSpace (Kept k ask) o → executed k form ≡ o → (let e = gone_by k (execution_by k o).0 (execution_by k o).1 in AsTried k e.0 e.1)
 unfolding executed
 goes_tried k form ask (Went core memory) paged is runs goes moves left went =
     AsTried.GoesToo core.pc refl (λ s c.
-    guarded_goes (memory_of k) memory (core_of k (descriptor k)) core s c form paged refl is runs goes went
+    guarded_goes _ (memory_of k) memory (core_of k (descriptor k)) core s c form paged refl is runs goes went
     ∙ ap (λ line. GoesOn line (state_by (view_by core (flat_of memory)) core.pc (s + 1) (counted k core.pc c)))
     (transfer_line form (core_of k (descriptor k)) core (memory_of k) memory (next_size (image_held k) (descriptor k)) moves went)
     ∙ sym (ap (λ v. GoesOn None (state_by v core.pc (s + 1) (counted k core.pc c)))
     (view_crossed (put_back k core memory) k.quantum (descriptor k) core.pc ∙ view_put k core memory left.0.paged.sized.sram)))
 goes_tried k form ask (Stopped stop) paged is runs goes moves left went =
     AsTried.StopsToo (stop_of (descriptor k) stop) (record { answer = refl; stays = refl }) (λ s c.
-    guarded_stops (memory_of k) (core_of k (descriptor k)) s c form stop paged refl is runs goes went ∙ ap Stops (end_stop (descriptor k) stop))
+    guarded_stops _ (memory_of k) (core_of k (descriptor k)) s c form stop paged refl is runs goes went ∙ ap Stops (end_stop (descriptor k) stop))
 
 -- which of them transfer control, and go on
 pub transfers : (pc : ℕ) (form : Form) → is_service_jump (shape_of_form pc form) ≡ true → is_transfer form ≡ true

@@ -5,6 +5,7 @@ use Rattle.avr_exec.specs.Execution.{is_executed}
 use Rattle.sram_layout.specs.Bytes.{byte_at}
 use Rattle.sram_layout.specs.Cells.{count_cell}
 use Rattle.heap_frames.specs.Paged.{IsPaged}
+use Rattle.mote_devices.specs.Waking.{Timely}
 use Rattle.nat_template.specs.declared.shapes.TemplateShape.{TemplateShape}
 use Rattle.nat_template.specs.declared.shapes.TemplateShape.TheVariants.{Mem, Call, Ret, Ind, SelfJump, Fault}
 use Rattle.nat_template.specs.Shapes.{shape_of}
@@ -26,6 +27,11 @@ pub record CanCount (k : Kernel) : Type 0 where
   pub some : 1 ≤ byte_at k.mote.sram count_cell
   pub most : byte_at k.mote.sram count_cell ≤ k.quantum
 
+-- a SLEEP can be ended: its step can be counted, and the numbers of the events to come fit 32 bits
+pub record CanWake (k : Kernel) : Type 0 where
+  pub count : CanCount k
+  pub timely : Timely k.mote.devices
+
 -- the pc is at the entry that the template of the instruction calls
 pub data CanServe (k : Kernel) : Type 0 where
   AtBridge : k.mote.cpu.pc ≡ bridge_entry → CanServe k
@@ -35,7 +41,7 @@ pub data CanServe (k : Kernel) : Type 0 where
   AtReturn : k.mote.cpu.pc ≡ return_entry → shape_behind k ≡ Ret → CanExecute k → CanCount k → CanServe k
   AtIndirect : k.mote.cpu.pc ≡ indirect_entry → shape_behind k ≡ Ind → CanExecute k → CanCount k → CanServe k
   AtSelf : k.mote.cpu.pc ≡ self_entry → shape_behind k ≡ SelfJump → CanExecute k → CanCount k → CanServe k
-  AtFault : k.mote.cpu.pc ≡ fault_entry → shape_behind k ≡ Fault → CanServe k
+  AtFault : k.mote.cpu.pc ≡ fault_entry → shape_behind k ≡ Fault → CanWake k → CanServe k
 
 -- the entries at which an instruction of the program is executed, and those of them that count the step
 abbrev pub counts : ℕ → Bool

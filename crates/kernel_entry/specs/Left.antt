@@ -1,17 +1,18 @@
 -- What a service leaves of the kernel and of the mote's own parts.
-use Rattle.std.specs.Prelude.{◌≡◌, ℕ, ◌+◌, ◌≤◌, length}
+use Rattle.std.specs.Prelude.{◌≡◌, ◌≢◌, ℕ, ◌+◌, ◌≤◌, max, length}
 use Rattle.avr_exec.specs.declared.ask.Ask.{Ask}
 use Rattle.sram_layout.specs.Bytes.{byte_at, with_word}
 use Rattle.sram_layout.specs.Cells.{vsp_cell, kernel_stack_top}
 use Rattle.heap_frames.specs.Paged.{IsPaged}
 use Rattle.mem_guard.specs.Guarded.{Guarded}
+use Rattle.nat_template.specs.Stubs.{fault_entry}
 use Rattle.mem_guard.specs.Left.{HeapAfter}
 use Rattle.kernel_entry.specs.declared.kernel.Kernel.{Kernel}
 use Rattle.kernel_entry.specs.Parts.{virtual_sp, memory_of}
 
 -- every service: the kernel's stack is empty; flash, the layout, the quantum, the number of slots and the
--- kernel's tables of places, in 0x0142 to 0x03FF, stay; the devices are polled once at most; and the heap
--- stays in order
+-- kernel's tables of places, in 0x0142 to 0x03FF, stay; the devices are polled once at most, or by FAULT, at a SLEEP, as
+-- often as an event asks for; and the heap stays in order
 pub record Leaves (old new : Kernel) : Type 0 where
   pub stack : new.mote.cpu.sp ≡ kernel_stack_top
   pub flash : new.mote.flash ≡ old.mote.flash
@@ -20,7 +21,8 @@ pub record Leaves (old new : Kernel) : Type 0 where
   pub slots : length new.mote.swap ≡ length old.mote.swap
   pub size : length new.mote.sram ≡ length old.mote.sram
   pub tables : (b : ℕ) → 0x0142 ≤ b → b ≤ 0x03FF → byte_at new.mote.sram b ≡ byte_at old.mote.sram b
-  pub polls : new.mote.devices.polls ≤ old.mote.devices.polls + 1
+  pub polls : new.mote.devices.polls ≤ max (old.mote.devices.polls + 1) 4294967295
+  pub polled : old.mote.cpu.pc ≢ fault_entry → new.mote.devices.polls ≤ old.mote.devices.polls + 1
   pub paged : IsPaged old.mote.sram old.mote.swap → IsPaged new.mote.sram new.mote.swap
 
 -- every service but MEM: the heap's cells, the tables and the frames, in 0x0120 to 0x0CFF, and the swap stay

@@ -12,18 +12,20 @@ use Rattle.avr_exec.specs.Spaces.{Outcome, Went, Stopped}
 use Rattle.avr_exec.specs.Asks.{ask_of}
 use Rattle.avr_exec.specs.Execution.{exec_of}
 use Rattle.mote_devices.specs.declared.line.Line.{Line}
+use Rattle.mote_devices.specs.State.{State}
+use Rattle.mote_devices.specs.Waking.{wake}
 use Rattle.sram_layout.specs.Bytes.{byte_at}
 use Rattle.sram_layout.specs.Cells.{r24_cell, sreg_cell}
 use Rattle.mem_guard.specs.FlatSpace.{FlatSpace, flat_calls, push_return, pop_return}
-use Rattle.mem_guard.specs.FlatMachine.{next_size, tried, Goes as GoesOn, Stops}
+use Rattle.mem_guard.specs.FlatMachine.{next_size, tried, Goes as GoesOn, Stops, Wakes}
 use Rattle.preempt_count.specs.Counting.{count_over}
 use Rattle.kernel_entry.specs.declared.kernel.Kernel.{Kernel}
 use Rattle.kernel_entry.specs.declared.kernel.Stop.{Stop}
-use Rattle.kernel_entry.specs.declared.kernel.Stop.TheVariants.{Halted}
+use Rattle.kernel_entry.specs.declared.kernel.Stop.TheVariants.{Halted, Asleep}
 use Rattle.kernel_entry.specs.declared.kernel.Served.{Served}
 use Rattle.kernel_entry.specs.declared.kernel.Served.TheVariants as answers
 use Rattle.kernel_entry.specs.Parts.{return_address, descriptor, instruction, virtual_sp, core_of, rested, image_held}
-use Rattle.kernel_entry.specs.Services.{stop_of, fault_of}
+use Rattle.kernel_entry.specs.Services.{stop_of, fault_of, is_sleep}
 use Rattle.kernel_entry.specs.Seen.{View, view_of, view_by, count_of, space_of, program, state_at, end_of}
 use Rattle.kernel_entry.specs.Left.{MovesPages}
 
@@ -124,9 +126,21 @@ pub record LoopsOrHalts (old : Kernel) (result : Served) (new : Kernel) : Type 0
   pub on : has_bit old.mote.cpu.sreg interrupts ≡ true → Goes old result new (view_of old) (descriptor old)
   pub off : has_bit old.mote.cpu.sreg interrupts ≡ false → HasStopped old result new (Halted (descriptor old))
 
--- FAULT
-abbrev pub Faults : Kernel → Served → Kernel → Type 0
-Faults old result new = HasStopped old result new (fault_of (descriptor old) (instruction old))
+-- FAULT: a SLEEP that an interrupt ends; it leaves the devices so, and COUNT is lowered where the step is a crossing
+pub record HasWoken (old : Kernel) (result : Served) (new : Kernel) (devices : State) : Type 0 where
+  pub answer : result ≡ answers.Woke (wrapping_sum (descriptor old) 1)
+  pub pc : new.mote.cpu.pc ≡ old.mote.cpu.pc
+  pub view : view_of new ≡ record (view_of old) { devices = devices }
+  pub count : count_of new ≡ count_over old.quantum (descriptor old) (wrapping_sum (descriptor old) 1) (count_of old)
+
+abbrev pub SleptBy : Kernel → Served → Kernel → Option State → Type 0
+SleptBy old result new (Some devices) = HasWoken old result new devices
+SleptBy old result new None = HasStopped old result new (Asleep (descriptor old))
+
+pub record Faults (old : Kernel) (result : Served) (new : Kernel) : Type 0 where
+  pub sleeps : is_sleep (instruction old) ≡ true → has_bit old.mote.cpu.sreg interrupts ≡ true → SleptBy old result new (wake old.mote.devices)
+  pub off : is_sleep (instruction old) ≡ true → has_bit old.mote.cpu.sreg interrupts ≡ false → HasStopped old result new (Asleep (descriptor old))
+  pub other : is_sleep (instruction old) ≡ false → HasStopped old result new (fault_of (descriptor old) (instruction old))
 
 -- All services of an instruction against the original program's own try of it, whatever the counts: they
 -- stop exactly where it stops, for the same reason; and else both take the same step.
@@ -140,3 +154,6 @@ pub data AsTried (old : Kernel) (result : Served) (new : Kernel) : Type 0 where
       → ((steps crossings : ℕ) → tried (program old) (state_at old (descriptor old) steps crossings) ≡ Stops (end_of stop)) → AsTried old result new
   ResumesToo : (line : Option Line) → (to : ℕ) → result ≡ answers.Resume line → IsStep old new line to → AsTried old result new
   GoesToo : (to : ℕ) → result ≡ answers.Goto to None → IsStep old new None to → AsTried old result new
+  WakesToo : (to : ℕ) → result ≡ answers.Woke to
+      → ((steps crossings : ℕ) → tried (program old) (state_at old (descriptor old) steps crossings)
+      ≡ Wakes (state_at new to (steps + 1) (if is_crossing (descriptor old) to then crossings + 1 else crossings))) → AsTried old result new

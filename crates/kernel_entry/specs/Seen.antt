@@ -54,7 +54,7 @@ space_of k = flat_of (memory_of k)
 
 -- the program, and the state of its own machine at this pc and with these counts
 abbrev pub program : Kernel → Program
-program k = program_of (memory_of k)
+program k = program_of k.quantum (memory_of k)
 
 abbrev pub state_at : Kernel → (pc steps crossings : ℕ) → FlatState
 state_at k pc steps crossings = state_of (memory_of k) (core_of k pc) steps crossings

@@ -1,8 +1,11 @@
 -- What each service of the kernel does, as a function of the whole kernel (docs/LOADER.md, "What a service does").
-use Rattle.std.specs.Prelude.{ℕ, ◌==◌, ◌||◌, if◌then◌else◌, slice_set, Option, Some, None, Result, Ok, Err}
+use Rattle.std.specs.Prelude.{ℕ, Bool, true, false, ◌==◌, ◌||◌, ◌&&◌, if◌then◌else◌, slice_set, Option, Some, None, Result, Ok, Err}
 use Rattle.avr_isa.specs.declared.form.Form.{Form}
 use Rattle.avr_isa.specs.declared.form.Form.TheVariants as forms
 use Rattle.avr_isa.specs.IoTable.{io_address}
+use Rattle.avr_isa.specs.Crossing.{is_crossing}
+use Rattle.mote_devices.specs.State.{State}
+use Rattle.mote_devices.specs.Waking.{wake}
 use Rattle.avr_flags.specs.Status.{has_bit, interrupts}
 use Rattle.avr_exec.specs.declared.cpu.Cpu.{Cpu}
 use Rattle.avr_exec.specs.declared.stop.BusStop.{BusStop}
@@ -96,8 +99,31 @@ fault_of at (Some (forms.Sbic a b)) = Io at (io_address a)
 fault_of at (Some (forms.Sbis a b)) = Io at (io_address a)
 fault_of at _ = Illegal at
 
+-- an instruction, if there is one, is SLEEP
+abbrev pub is_sleep : Option Form → Bool
+is_sleep (Some forms.Sleep) = true
+is_sleep _ = false
+
+-- SLEEP: with interrupts on the program goes on behind it once one is enabled, and the step is counted; with interrupts
+-- off, or where none will be, it sleeps for ever
+abbrev pub woken : Kernel → (to : ℕ) → State → Kernel
+woken k to devices = record k {
+  mote = record k.mote {
+    cpu = record k.mote.cpu { sp = kernel_stack_top };
+    sram = crossed k.quantum (descriptor k) to k.mote.sram;
+    devices = devices;
+  };
+}
+
+abbrev pub slept_by : Kernel → Option State → Served × Kernel
+slept_by k None = (answers.Stopped (Asleep (descriptor k)), rested k)
+slept_by k (Some devices) = (answers.Woke (wrapping_sum (descriptor k) 1), woken k (wrapping_sum (descriptor k) 1) devices)
+
+abbrev pub slept : Kernel → Served × Kernel
+slept k = if has_bit k.mote.cpu.sreg interrupts then slept_by k (wake k.mote.devices) else (answers.Stopped (Asleep (descriptor k)), rested k)
+
 abbrev pub faulted : Kernel → Served × Kernel
-faulted k = (answers.Stopped (fault_of (descriptor k) (instruction k)), rested k)
+faulted k = if is_sleep (instruction k) then slept k else (answers.Stopped (fault_of (descriptor k) (instruction k)), rested k)
 
 -- the service of the entry with this address
 abbrev pub served_at : ℕ → Kernel → Served × Kernel
@@ -112,3 +138,13 @@ served_at entry k =
 -- the answer of the entry at which the pc stands, and the kernel after it
 unfoldable pub served : Kernel → Served × Kernel
 served k = served_at k.mote.cpu.pc k
+
+-- A service ends at a checkpoint: QUANTUM, and a step that is the last crossing of the quantum. A SLEEP that an interrupt
+-- ended counts as one.
+abbrev pub due_by : (entry from : ℕ) → (last : Bool) → Served → Bool
+due_by entry from last (answers.Goto target None) = (entry == quantum_entry) || (is_crossing from target && last)
+due_by entry from last (answers.Woke target) = true
+due_by entry from last _ = false
+
+unfoldable pub is_due : Kernel → Bool
+is_due k = due_by k.mote.cpu.pc (descriptor k) (byte_at k.mote.sram count_cell == 1) (served k).0

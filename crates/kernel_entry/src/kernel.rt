@@ -19,7 +19,7 @@ pub struct Kernel {
 pub enum Stop {
     /// An RJMP or JMP to its own address with interrupts off.
     Halted(u16),
-    /// SLEEP.
+    /// SLEEP, and no interrupt will end it.
     Asleep(u16),
     /// The words are no instruction.
     Illegal(u16),
@@ -40,6 +40,19 @@ pub enum Served {
     Resume(Option<Line>),
     /// At this address of the image. `stub` is the flash address of the call of BRIDGE that led here.
     Goto { target: u16, stub: Option<u16> },
+    /// At this address, behind a SLEEP that an interrupt ended.
+    Woke { target: u16 },
     /// Not at all.
+    Stopped(Stop),
+}
+
+/// What becomes of an interrupt before the program goes on.
+#[derive(Clone, Copy, Debug, PartialEq, Eq)]
+pub enum Taken {
+    /// None is taken.
+    Nothing,
+    /// One was taken, and the program goes on at its vector.
+    Vector(u16),
+    /// The return address would lie outside the stack window.
     Stopped(Stop),
 }

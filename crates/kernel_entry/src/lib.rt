@@ -9,20 +9,25 @@
 //! match serve(&mut kernel) { // the pc is at an entry
 //!     Served::Resume(line) => ..,            // the pc is behind the descriptor; a device showed `line`
 //!     Served::Goto { target, stub } => ..,   // control arrives at the original address `target` next
+//!     Served::Woke { target } => ..,         // an interrupt ended a SLEEP; control arrives behind it next
 //!     Served::Stopped(stop) => ..,           // the program stopped
 //! }
 //! ```
 //!
+//! [`serve_told`] says besides whether an interrupt may be taken next; [`interrupt`] then takes one, if any.
+//!
 //! docs/LOADER.md has the entries and what each service does. `specs/Services` is that as one function of
 //! the whole kernel, `specs/Rows` the same entry by entry, over what the program sees (`specs/Seen`), and
 //! `specs/Left` what every service leaves; `specs/Conditions` says when a service may be asked.
-//! `specs/Texts` has the text of a device's line and of the end of a run. `proofs/ServedLaws` has the rows
+//! `specs/Interrupts` says when an interrupt is taken, and what that changes. `specs/Texts` has the text of a device's line and of the end of a run. `proofs/ServedLaws` has the rows
 //! as laws of the one function.
 #![tactic(auto)]
 
 mod execution;
+mod interrupts;
 mod kernel;
 mod services;
 
-pub use kernel::{Kernel, Served, Stop};
-pub use services::serve;
+pub use interrupts::interrupt;
+pub use kernel::{Kernel, Served, Stop, Taken};
+pub use services::{serve, serve_told};

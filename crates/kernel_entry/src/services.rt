@@ -9,7 +9,7 @@ ghost use Rattle.sram_layout.specs.Bytes.{byte_count};
 ghost use Rattle.nat_template.specs.Stubs.{bridge_entry, quantum_entry, mem_entry, push_return_entry, return_entry, indirect_entry, self_entry, fault_entry};
 ghost use Rattle.kernel_entry.specs.Conditions.{IsCalled, CanCount, CanServe};
 ghost use Rattle.kernel_entry.specs.Parts.{return_address, descriptor as descriptor_of, instruction};
-ghost use Rattle.kernel_entry.specs.Services.{bridged, quantum_ended, resumed, gone, halted_or_gone, faulted, served, stop_of as stop_of_bus, fault_of as fault_of_form};
+ghost use Rattle.kernel_entry.specs.Services.{bridged, quantum_ended, resumed, gone, halted_or_gone, faulted, slept, is_sleep as is_sleep_form, due_by, is_due, served, stop_of as stop_of_bus, fault_of as fault_of_form};
 ghost use Rattle.kernel_entry.specs.Left.{Leaves, LeavesHeap};
 ghost use Rattle.kernel_entry.specs.Rows.{Bridges, EndsQuantum, Executes, PushesReturn, Returns, GoesThrough, LoopsOrHalts, Faults, AsTried};
 
@@ -18,7 +18,7 @@ use crate::kernel::{Kernel, Served, Stop};
 use avr_exec::BusStop;
 use avr_isa::{Form, Instr};
 use mem_guard::instruction_in_image;
-use preempt_count::cross;
+use preempt_count::{cross, is_crossing};
 use sram_layout::KERNEL_STACK_TOP;
 
 /// Serves the entry of the kernel at which the pc stands. The call has left the address behind it, where
@@ -63,6 +63,32 @@ fn serve_at(k: &mut Kernel, at: u16) -> Served
         0xF008 | 0xF00A => go(k, at),
         0xF00C => halt_or_go(k, at),
         _ => fault(k, at),
+    }
+}
+
+/// The same, and tells whether the service ends at a checkpoint, or woke the program: then an interrupt may be taken next.
+#[tactic(auto, unfolding(crate::specs::Services::is_due))]
+pub fn serve_told(k: &mut Kernel) -> (Served, bool)
+    requires can { CanServe k.old }
+    ensures served { (result.0, k.new) ≡ served k.old }
+    ensures due { result.1 ≡ is_due k.old }
+    ensures leaves { Leaves k.old k.new }
+{
+    let at = descriptor(k);
+    let entry = k.mote.cpu.pc;
+    let last = k.mote.sram.count() == 1;
+    let answer = serve_at(k, at);
+    (answer, is_due_by(entry, at, last, answer))
+}
+
+/// Whether a service with this answer ends at a checkpoint; `last` is whether the next crossing is one.
+fn is_due_by(entry: u16, at: u16, last: bool, answer: Served) -> bool
+    ensures due { result ≡ due_by entry at last answer }
+{
+    match answer {
+        Served::Goto { target, stub: None } => entry == 0xF002 || is_crossing(at, target) && last,
+        Served::Woke { .. } => true,
+        _ => false,
     }
 }
 
@@ -146,14 +172,46 @@ fn halt_or_go(k: &mut Kernel, at: u16) -> Served
     Served::Stopped(Stop::Halted(at))
 }
 
-/// FAULT: the program stops.
+/// FAULT: a SLEEP ends at an interrupt, or stops the program for ever; any other instruction stops it.
 fn fault(k: &mut Kernel, at: u16) -> Served
     requires at { at ≡ descriptor_of k.old }
+    requires count { CanCount k.old }
     ensures served { (result, k.new) ≡ faulted k.old }
 {
     let instr = instruction_in_image(&k.mote.flash, &k.layout, at);
+    if is_sleep(instr.as_ref()) {
+        return sleep(k, at);
+    }
     k.mote.cpu.sp = KERNEL_STACK_TOP;
     Served::Stopped(fault_of(at, instr.as_ref()))
+}
+
+/// SLEEP: the program goes on behind it once an interrupt is enabled; it stops where interrupts are off, or where none will be.
+fn sleep(k: &mut Kernel, at: u16) -> Served
+    requires at { at ≡ descriptor_of k.old }
+    requires count { CanCount k.old }
+    ensures served { (result, k.new) ≡ slept k.old }
+{
+    k.mote.cpu.sp = KERNEL_STACK_TOP;
+    if !has_interrupts(k) {
+        return Served::Stopped(Stop::Asleep(at));
+    }
+    if !k.mote.devices.sleep() {
+        return Served::Stopped(Stop::Asleep(at));
+    }
+    let target = at.wrapping_add(1);
+    cross(&mut k.mote.sram, k.quantum, at, target);
+    Served::Woke { target }
+}
+
+/// Whether an instruction is SLEEP.
+fn is_sleep(instr: Option<&Instr>) -> bool
+    ensures value { result ≡ is_sleep_form (option_map (λ borrowed. borrowed.now) instr.entry) }
+{
+    match instr.map(Instr::form) {
+        Some(Form::Sleep) => true,
+        _ => false,
+    }
 }
 
 /// The flash address behind the call, where the descriptor is: the call left it with its high byte at the
@@ -188,14 +246,14 @@ fn called_instruction(k: &Kernel, at: u16) -> Instr
 }
 
 /// Whether the program has interrupts on.
-fn has_interrupts(k: &Kernel) -> bool
+pub(crate) fn has_interrupts(k: &Kernel) -> bool
     ensures value { result ≡ has_bit k.now.mote.cpu.sreg interrupts }
 {
     k.mote.cpu.sreg / 0x80 % 2 == 1
 }
 
 /// A stop of the program's memory, of the instruction at this address.
-fn stop_of(at: u16, stop: BusStop) -> Stop
+pub(crate) fn stop_of(at: u16, stop: BusStop) -> Stop
     ensures value { result ≡ stop_of_bus at stop }
 {
     match stop {

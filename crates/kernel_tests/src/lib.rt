@@ -6,6 +6,8 @@ mod arrivals;
 #[cfg(test)]
 mod crossings;
 #[cfg(test)]
+mod flash_checks;
+#[cfg(test)]
 mod generated;
 #[cfg(test)]
 mod guarded_memory;

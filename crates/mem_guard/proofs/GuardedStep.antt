@@ -48,29 +48,29 @@ executed_left result form cpu cpu' g next n paged outcome stop =
 abbrev counted : ℕ → Cpu → Cpu → ℕ
 counted crossings cpu cpu' = if is_crossing cpu.pc cpu'.pc then crossings + 1 else crossings
 
-same_space : (g : Guarded) (cpu : Cpu) (steps crossings : ℕ) → g.line ≡ None → space_of (program_of g) (state_of g cpu steps crossings) ≡ flat_of g
-same_space g cpu steps crossings none = ap (λ line. record (flat_of g) { line = line }) (sym none)
+same_space : (q : ℕ) (g : Guarded) (cpu : Cpu) (steps crossings : ℕ) → g.line ≡ None → space_of (program_of q g) (state_of g cpu steps crossings) ≡ flat_of g
+same_space q g cpu steps crossings none = ap (λ line. record (flat_of g) { line = line }) (sym none)
 
-step_tried : (g : Guarded) (cpu : Cpu) (steps crossings : ℕ) (form : Form) → IsPaged g.sram g.swap → g.line ≡ None
+step_tried : (q : ℕ) (g : Guarded) (cpu : Cpu) (steps crossings : ℕ) (form : Form) → IsPaged g.sram g.swap → g.line ≡ None
     → instruction_at (image_of g.layout g.words) cpu.pc ≡ Some form → is_executed form ≡ true → jumps_to_itself cpu.pc form && not (has_bit cpu.sreg interrupts) ≡ false
-    → tried (program_of g) (state_of g cpu steps crossings) ≡ stepped (state_of g cpu steps crossings) (over flat_of (exec_of guarded_calls form cpu g (next_size (image_of g.layout g.words) cpu.pc)))
-step_tried g cpu steps crossings form paged none is runs goes =
+    → tried (program_of q g) (state_of g cpu steps crossings) ≡ stepped (state_of g cpu steps crossings) (over flat_of (exec_of guarded_calls form cpu g (next_size (image_of g.layout g.words) cpu.pc)))
+step_tried q g cpu steps crossings form paged none is runs goes =
     let s = state_of g cpu steps crossings in
     let n = next_size (image_of g.layout g.words) cpu.pc in
-    tried_step (program_of g) s form is runs goes
-    ∙ ap (λ space. stepped s (exec_of flat_calls form cpu space n)) (same_space g cpu steps crossings none)
+    tried_step (program_of q g) s form is runs goes
+    ∙ ap (λ space. stepped s (exec_of flat_calls form cpu space n)) (same_space q g cpu steps crossings none)
     ∙ ap (stepped s) (executed_alike form cpu g n paged)
 
-pub guarded_goes : (g next : Guarded) (cpu cpu' : Cpu) (steps crossings : ℕ) (form : Form) → IsPaged g.sram g.swap → g.line ≡ None
+pub guarded_goes : (q : ℕ) (g next : Guarded) (cpu cpu' : Cpu) (steps crossings : ℕ) (form : Form) → IsPaged g.sram g.swap → g.line ≡ None
     → instruction_at (image_of g.layout g.words) cpu.pc ≡ Some form → is_executed form ≡ true → jumps_to_itself cpu.pc form && not (has_bit cpu.sreg interrupts) ≡ false
     → exec_of guarded_calls form cpu g (next_size (image_of g.layout g.words) cpu.pc) ≡ Went cpu' next
-    → tried (program_of g) (state_of g cpu steps crossings) ≡ Goes next.line (state_of next cpu' (steps + 1) (counted crossings cpu cpu'))
-guarded_goes g next cpu cpu' steps crossings form paged none is runs goes went =
-    step_tried g cpu steps crossings form paged none is runs goes ∙ ap (λ o. stepped (state_of g cpu steps crossings) (over flat_of o)) went
+    → tried (program_of q g) (state_of g cpu steps crossings) ≡ Goes next.line (state_of next cpu' (steps + 1) (counted crossings cpu cpu'))
+guarded_goes q g next cpu cpu' steps crossings form paged none is runs goes went =
+    step_tried q g cpu steps crossings form paged none is runs goes ∙ ap (λ o. stepped (state_of g cpu steps crossings) (over flat_of o)) went
 
-pub guarded_stops : (g : Guarded) (cpu : Cpu) (steps crossings : ℕ) (form : Form) (stop : BusStop) → IsPaged g.sram g.swap → g.line ≡ None
+pub guarded_stops : (q : ℕ) (g : Guarded) (cpu : Cpu) (steps crossings : ℕ) (form : Form) (stop : BusStop) → IsPaged g.sram g.swap → g.line ≡ None
     → instruction_at (image_of g.layout g.words) cpu.pc ≡ Some form → is_executed form ≡ true → jumps_to_itself cpu.pc form && not (has_bit cpu.sreg interrupts) ≡ false
     → exec_of guarded_calls form cpu g (next_size (image_of g.layout g.words) cpu.pc) ≡ Stopped stop
-    → tried (program_of g) (state_of g cpu steps crossings) ≡ Stops (end_at cpu.pc stop)
-guarded_stops g cpu steps crossings form stop paged none is runs goes stopped =
-    step_tried g cpu steps crossings form paged none is runs goes ∙ ap (λ o. stepped (state_of g cpu steps crossings) (over flat_of o)) stopped
+    → tried (program_of q g) (state_of g cpu steps crossings) ≡ Stops (end_at cpu.pc stop)
+guarded_stops q g cpu steps crossings form stop paged none is runs goes stopped =
+    step_tried q g cpu steps crossings form paged none is runs goes ∙ ap (λ o. stepped (state_of g cpu steps crossings) (over flat_of o)) stopped

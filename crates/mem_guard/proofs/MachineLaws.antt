@@ -9,7 +9,7 @@ use Rattle.avr_flags.specs.Status.{has_bit, interrupts}
 use Rattle.avr_exec.specs.Execution.{exec_of, is_executed}
 use Rattle.mote_devices.specs.declared.line.Line.{Line}
 use Rattle.mem_guard.specs.FlatSpace.{flat_calls}
-use Rattle.mem_guard.specs.FlatMachine.{Program, FlatState, End, Spent, Wild, Illegal, SelfProgram, Asleep, Halted, Tried, Stops, Goes, next_size, jumps_to_itself, space_of, stepped, executed, tried_form, tried, ended, with_line, followed, run}
+use Rattle.mem_guard.specs.FlatMachine.{Program, FlatState, End, Spent, Wild, Illegal, SelfProgram, Halted, Tried, Stops, Moment, Ends, On, next_of, next_by, is_taken, interrupted, slept, next_size, jumps_to_itself, space_of, stepped, executed, tried_form, tried, ended, with_line, followed, run}
 
 -- the cases of a try, by the instruction at the pc
 pub tried_illegal : (program : Program) (s : FlatState) → instruction_at program.image s.cpu.pc ≡ None → tried program s ≡ Stops (Illegal s.cpu.pc)
@@ -20,7 +20,7 @@ pub tried_spm : (program : Program) (s : FlatState) → instruction_at program.i
 unfolding tried
 tried_spm program s is = ap (tried_form program s) is
 
-pub tried_sleep : (program : Program) (s : FlatState) → instruction_at program.image s.cpu.pc ≡ Some Sleep → tried program s ≡ Stops (Asleep s.cpu.pc)
+pub tried_sleep : (program : Program) (s : FlatState) → instruction_at program.image s.cpu.pc ≡ Some Sleep → tried program s ≡ slept s
 unfolding tried
 tried_sleep program s is = ap (tried_form program s) is
 
@@ -51,27 +51,36 @@ pub tried_step : (program : Program) (s : FlatState) (form : Form) → instructi
 tried_step program s form is runs goes =
     tried_other program s form is runs ∙ either_step (jumps_to_itself s.cpu.pc form) (has_bit s.cpu.sreg interrupts) _ _ goes
 
+-- what comes next: an interrupt, or what the instruction is
+pub next_taken : (program : Program) (m : Moment) → is_taken m ≡ true → next_of program m ≡ interrupted program m.now
+unfolding next_of
+next_taken program m is = ap (λ b. cond b (interrupted program m.now) (next_by program.quantum m.now (tried program m.now))) is
+
+pub next_tried : (program : Program) (m : Moment) (t : Tried) → is_taken m ≡ false → tried program m.now ≡ t → next_of program m ≡ next_by program.quantum m.now t
+unfolding next_of
+next_tried program m t is same = ap (λ b. cond b (interrupted program m.now) (next_by program.quantum m.now (tried program m.now))) is ∙ ap (next_by program.quantum m.now) same
+
 -- a run outside the image
-pub run_wild : (program : Program) (s : FlatState) (n : ℕ) → is_inside program.image s.cpu.pc ≡ false → run program s n ≡ ended (Wild s.cpu.pc) s
+pub run_wild : (program : Program) (m : Moment) (n : ℕ) → is_inside program.image m.now.cpu.pc ≡ false → run program m n ≡ ended (Wild m.now.cpu.pc) m
 unfolding run
-run_wild program s zero out = ap (λ b. cond b (ended Spent s) (ended (Wild s.cpu.pc) s)) out
-run_wild program s (suc n) out = ap (λ b. cond b (followed s (tried program s) (λ next. run program next n)) (ended (Wild s.cpu.pc) s)) out
+run_wild program m zero out = ap (λ b. cond b (ended Spent m) (ended (Wild m.now.cpu.pc) m)) out
+run_wild program m (suc n) out = ap (λ b. cond b (followed m (next_of program m) (λ next. run program next n)) (ended (Wild m.now.cpu.pc) m)) out
 
 -- a run of no steps inside the image
-pub run_spent : (program : Program) (s : FlatState) → is_inside program.image s.cpu.pc ≡ true → run program s 0 ≡ ended Spent s
+pub run_spent : (program : Program) (m : Moment) → is_inside program.image m.now.cpu.pc ≡ true → run program m 0 ≡ ended Spent m
 unfolding run
-run_spent program s inside = ap (λ b. cond b (ended Spent s) (ended (Wild s.cpu.pc) s)) inside
+run_spent program m inside = ap (λ b. cond b (ended Spent m) (ended (Wild m.now.cpu.pc) m)) inside
 
 -- a run that begins with a stop
-pub run_stops : (program : Program) (s : FlatState) (n : ℕ) (end : End) → is_inside program.image s.cpu.pc ≡ true → tried program s ≡ Stops end
-    → run program s (suc n) ≡ ended end s
+pub run_stops : (program : Program) (m : Moment) (n : ℕ) (end : End) → is_inside program.image m.now.cpu.pc ≡ true → next_of program m ≡ Ends end
+    → run program m (suc n) ≡ ended end m
 unfolding run
-run_stops program s n end inside stops =
-    ap₂ (λ b t. cond b (followed s t (λ next. run program next n)) (ended (Wild s.cpu.pc) s)) inside stops
+run_stops program m n end inside stops =
+    ap₂ (λ b t. cond b (followed m t (λ next. run program next n)) (ended (Wild m.now.cpu.pc) m)) inside stops
 
 -- a run that begins with a step
-pub run_goes : (program : Program) (s next : FlatState) (n : ℕ) (line : Option Line) → is_inside program.image s.cpu.pc ≡ true → tried program s ≡ Goes line next
-    → run program s (suc n) ≡ with_line line (run program next n)
+pub run_goes : (program : Program) (m next : Moment) (n : ℕ) (line : Option Line) → is_inside program.image m.now.cpu.pc ≡ true → next_of program m ≡ On line next
+    → run program m (suc n) ≡ with_line line (run program next n)
 unfolding run
-run_goes program s next n line inside goes =
-    ap₂ (λ b t. cond b (followed s t (λ following. run program following n)) (ended (Wild s.cpu.pc) s)) inside goes
+run_goes program m next n line inside goes =
+    ap₂ (λ b t. cond b (followed m t (λ following. run program following n)) (ended (Wild m.now.cpu.pc) m)) inside goes

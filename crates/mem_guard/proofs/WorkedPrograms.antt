@@ -1,6 +1,6 @@
 -- The original program at longer programs: loops, the heap, calls, skips, flags and the devices.
 use Rattle.std.proofs.Common.{◌≡◌, [], ◌∷◌, refl}
-use Rattle.input_script.specs.declared.input.Input.TheVariants.{Uart}
+use Rattle.input_script.specs.declared.input.Input.TheVariants.{Uart, Int}
 use Rattle.avr_isa.specs.Instruction.{is_undefined}
 use Rattle.avr_isa.specs.IoTable.{can_read, can_write}
 use Rattle.avr_decode.specs.Decoding.{product_form, move_or_product_form, form_0000, form_0001, form_0010, displaced_form, load_form, store_form, plain_form, flag_or_plain_form, one_register_form, register_or_pair_form, io_bit_form, transfer_form, form_1001, io_form, register_bit_form, form_1111, one_word_form, is_long, two_word_form, defined_form, if_defined, the_form}
@@ -14,12 +14,13 @@ use Rattle.avr_exec.specs.Effects.{finish_of, loaded, stored, with_pointer}
 use Rattle.avr_exec.specs.Execution.{answer_of, exec_of}
 use Rattle.mote_devices.specs.declared.line.Port.TheVariants.{PortA, Uart0}
 use Rattle.mote_devices.specs.Inputs.{unreceived, at_poll}
+use Rattle.mote_devices.specs.Waking.{wake}
 use Rattle.list_parts.specs.Lists.{many}
 use Rattle.mote_devices.specs.Registers.{register_at}
 use Rattle.mote_devices.specs.Accesses.{write, read}
 use Rattle.mem_guard.specs.Classes.{class_of}
 use Rattle.mem_guard.specs.FlatSpace.{load, store, push, pop, push_return, pop_return}
-use Rattle.mem_guard.specs.FlatMachine.{Spent, Halted, SwapFull, original, run, tried, no_pages}
+use Rattle.mem_guard.specs.FlatMachine.{Spent, Halted, Asleep, SwapFull, original, run, next_of, tried, no_pages}
 use Rattle.mem_guard.proofs.WorkedRows.{program, worked}
 
 -- each row holds
@@ -61,6 +62,15 @@ record Programs : Type 0 where
   echo : worked 16 (original (program 128 (0xB10B ∷ 0xFF07 ∷ 0xCFFD ∷ 0xB10C ∷ 0xB90C ∷ 0xCFFF ∷ [])) (record { at = 3; input = Uart 0x41 } ∷ []) 1000000) ≡ record { end = Halted 5; lines = record { port = Uart0; value = 0x41 } ∷ []; steps = 10; crossings = 2; pc = 5; sp = 0; register = 0x41 }
   -- the same, cut off before the byte is sent
   echo_cut : worked 16 (original (program 128 (0xB10B ∷ 0xFF07 ∷ 0xCFFD ∷ 0xB10C ∷ 0xB90C ∷ 0xCFFF ∷ [])) (record { at = 3; input = Uart 0x41 } ∷ []) 9) ≡ record { end = Spent; lines = []; steps = 9; crossings = 2; pc = 4; sp = 0; register = 0x41 }
+  -- SEI; SLEEP, which INT0 ends at once: the interrupt's code shows r16 and returns behind the SLEEP; CLI; RJMP to itself
+  woken : worked 16 (original (program 128 (0xC003 ∷ 0x0000 ∷ 0xBB0B ∷ 0x9518 ∷ 0xE100 ∷ 0xBF0E ∷ 0xEF0F ∷ 0xBF0D ∷ 0xE001 ∷ 0xBF09 ∷ 0x9478 ∷ 0x9588 ∷ 0x94F8 ∷ 0xCFFF ∷ [])) (record { at = 1; input = Int 0 } ∷ []) 1000000)
+      ≡ record { end = Halted 0x0D; lines = record { port = PortA; value = 0x01 } ∷ []; steps = 13; crossings = 0; pc = 0x0D; sp = 0x10FF; register = 0x01 }
+  -- the same without an interrupt
+  never_woken : worked 16 (original (program 128 (0xC003 ∷ 0x0000 ∷ 0xBB0B ∷ 0x9518 ∷ 0xE100 ∷ 0xBF0E ∷ 0xEF0F ∷ 0xBF0D ∷ 0xE001 ∷ 0xBF09 ∷ 0x9478 ∷ 0x9588 ∷ 0x94F8 ∷ 0xCFFF ∷ [])) [] 1000000)
+      ≡ record { end = Asleep 0x0B; lines = []; steps = 8; crossings = 0; pc = 0x0B; sp = 0x10FF; register = 0x01 }
+  -- a loop of polls, with a checkpoint at each crossing: INT0 is taken at the second
+  interrupted_loop : worked 16 (original (record { image = (0xC003 ∷ 0x0000 ∷ 0xBB0B ∷ 0xCFFF ∷ 0xE100 ∷ 0xBF0E ∷ 0xEF0F ∷ 0xBF0D ∷ 0xE001 ∷ 0xBF09 ∷ 0x9478 ∷ 0xB319 ∷ 0xCFFE ∷ []); page_limit = 128; quantum = 1 }) (record { at = 2; input = Int 0 } ∷ []) 1000000)
+      ≡ record { end = Halted 3; lines = record { port = PortA; value = 0x01 } ∷ []; steps = 14; crossings = 2; pc = 3; sp = 0x10FD; register = 0x01 }
   -- IJMP
   indirect : worked 30 (original (program 128 (0xE0E4 ∷ 0xE0F0 ∷ 0x9409 ∷ 0x0000 ∷ 0xCFFF ∷ [])) [] 1000000) ≡ record { end = Halted 4; lines = []; steps = 3; crossings = 0; pc = 4; sp = 0; register = 4 }
   -- a program with the startup code of avr-gcc: three loops back and a return
@@ -78,11 +88,11 @@ record Programs : Type 0 where
 
 -- by computation
 programs : Programs
-unfolding run tried the_form is_long two_word_form one_word_form if_defined defined_form is_undefined product_form move_or_product_form form_0000
+unfolding run next_of tried the_form is_long two_word_form one_word_form if_defined defined_form is_undefined product_form move_or_product_form form_0000
     form_0001 form_0010 displaced_form load_form store_form plain_form flag_or_plain_form one_register_form register_or_pair_form io_bit_form
     transfer_form form_1001 io_form register_bit_form form_1111 exec_of answer_of ask_of finish_of two_of immediate_of word_of one_of load_of store_of
     pointed loaded stored with_pointer own_byte with_own_byte bitwise_status with_result_flags sum_status difference_status inc_status dec_status many
-    no_pages class_of load store push pop push_return pop_return read write can_read can_write register_at relative unreceived at_poll
+    no_pages class_of load store push pop push_return pop_return read write can_read can_write register_at relative unreceived at_poll wake
 programs = record {
   loops = refl;
   popped_return = refl;
@@ -95,6 +105,9 @@ programs = record {
   negated = refl;
   echo = refl;
   echo_cut = refl;
+  woken = refl;
+  never_woken = refl;
+  interrupted_loop = refl;
   indirect = refl;
   compiled = refl;
 }

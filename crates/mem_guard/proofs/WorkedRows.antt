@@ -15,11 +15,11 @@ use Rattle.mote_devices.specs.Registers.{register_at}
 use Rattle.mote_devices.specs.Accesses.{write, read}
 use Rattle.mem_guard.specs.Classes.{class_of}
 use Rattle.mem_guard.specs.FlatSpace.{load, store, push, pop, push_return, pop_return}
-use Rattle.mem_guard.specs.FlatMachine.{Program, End, Spent, Wild, Illegal, SelfProgram, Asleep, Halted, Io, Stack, SwapFull, Run, original, run, tried, no_pages}
+use Rattle.mem_guard.specs.FlatMachine.{Program, End, Spent, Wild, Illegal, SelfProgram, Asleep, Halted, Io, Stack, SwapFull, Run, original, run, next_of, tried, no_pages}
 
 -- a program of these words that may store to as many pages
 abbrev pub program : ℕ → List ℕ → Program
-program page_limit image = record { image = image; page_limit = page_limit }
+program page_limit image = record { image = image; page_limit = page_limit; quantum = 255 }
 
 -- What a run comes to: its end and its lines, the steps and crossings done, and where the core then stands,
 -- with one of its registers.
@@ -36,11 +36,11 @@ abbrev pub worked : ℕ → Run → Worked
 worked number r = record {
   end = r.end;
   lines = r.lines;
-  steps = r.state.steps;
-  crossings = r.state.crossings;
-  pc = r.state.cpu.pc;
-  sp = r.state.cpu.sp;
-  register = slice_index r.state.cpu.r number;
+  steps = r.state.now.steps;
+  crossings = r.state.now.crossings;
+  pc = r.state.now.cpu.pc;
+  sp = r.state.now.cpu.sp;
+  register = slice_index r.state.now.cpu.r number;
 }
 
 -- each row holds
@@ -76,7 +76,7 @@ record Rows : Type 0 where
 
 -- by computation
 rows : Rows
-unfolding run tried the_form is_long two_word_form one_word_form if_defined defined_form is_undefined load_form store_form io_form form_1001
+unfolding run next_of tried the_form is_long two_word_form one_word_form if_defined defined_form is_undefined load_form store_form io_form form_1001
     transfer_form register_or_pair_form one_register_form flag_or_plain_form plain_form exec_of answer_of ask_of finish_of immediate_of load_of
     store_of pointed loaded stored with_pointer own_byte with_own_byte many no_pages class_of load store push pop push_return pop_return read write
     can_read can_write register_at relative

@@ -1,6 +1,6 @@
 -- The original program, run as it stands: its own words, one after another, over flat memory.
 -- AVR Instruction Set Manual, "Operation" of each instruction; docs/MEMORY.md has the order of the stops.
-use Rattle.std.specs.Prelude.{ℕ, zero, suc, ◌+◌, Bool, false, not, ◌&&◌, ◌==◌, if◌then◌else◌, List, [], ◌∷◌, Option, Some, None, replicate}
+use Rattle.std.specs.Prelude.{ℕ, zero, suc, ◌+◌, ◌*◌, ◌%◌, Bool, true, false, not, ◌&&◌, ◌==◌, if◌then◌else◌, List, [], ◌∷◌, Option, Some, None, replicate}
 use Rattle.input_script.specs.declared.input.Event.{Event}
 use Rattle.avr_isa.specs.declared.form.Form.{Form}
 use Rattle.avr_isa.specs.declared.form.Form.TheVariants.{Jmp, Rjmp, Sleep, Spm}
@@ -8,22 +8,26 @@ use Rattle.avr_isa.specs.Image.{word, is_inside}
 use Rattle.avr_isa.specs.Crossing.{is_crossing}
 use Rattle.avr_decode.specs.Decoding.{size_by_first_word}
 use Rattle.avr_decode.specs.Program.{instruction_at}
-use Rattle.avr_flags.specs.Status.{has_bit, interrupts}
+use Rattle.std.specs.Int.{bit_at}
+use Rattle.avr_flags.specs.Status.{has_bit, with_bit, interrupts}
 use Rattle.avr_exec.specs.declared.cpu.Cpu.{Cpu}
 use Rattle.avr_exec.specs.declared.stop.BusStop.{BusStop}
 use Rattle.avr_exec.specs.declared.stop.BusStop.TheVariants.{Io as IoStop, Stack as StackStop, SwapFull as FullStop}
-use Rattle.avr_exec.specs.Registers.{wrapping_sum, relative}
+use Rattle.avr_exec.specs.Registers.{wrapping_sum, wrapping_difference, relative}
 use Rattle.avr_exec.specs.Spaces.{Outcome, Went, Stopped}
 use Rattle.avr_exec.specs.Execution.{exec_of}
 use Rattle.mote_devices.specs.declared.line.Line.{Line}
 use Rattle.list_parts.specs.Lists.{zeros}
 use Rattle.mote_devices.specs.State.{State, at_reset as devices_at_reset}
-use Rattle.mem_guard.specs.FlatSpace.{FlatSpace, flat_calls}
+use Rattle.mote_devices.specs.Waking.{enabled, is_enabled, with_taken, wake}
+use Rattle.mem_guard.specs.FlatSpace.{FlatSpace, flat_calls, push_return}
 
--- a program: its words from word 0 on, and how many pages of the heap it may store to
+-- a program: its words from word 0 on, how many pages of the heap it may store to, and how many crossings make
+-- a checkpoint
 pub record Program : Type 0 where
   pub image : List ℕ
   pub page_limit : ℕ
+  pub quantum : ℕ
 
 -- the core, a byte for each data address, the devices, which pages of the heap were stored to, the steps
 -- done, and how many of them were crossings
@@ -34,6 +38,12 @@ pub record FlatState : Type 0 where
   pub pages : List Bool
   pub steps : ℕ
   pub crossings : ℕ
+
+-- Between two steps; `due`: an interrupt may be taken before the next, since the last was a checkpoint, or a SLEEP that
+-- an interrupt ended.
+pub record Moment : Type 0 where
+  pub now : FlatState
+  pub due : Bool
 
 -- How a run ends: the bound of steps is reached; the pc is outside the image; or the instruction at the
 -- pc stops the program, the last three with a data address.
@@ -48,10 +58,11 @@ pub data End : Type 0 where
   Stack : (pc : ℕ) → (address : ℕ) → End
   SwapFull : (pc : ℕ) → (address : ℕ) → End
 
--- an instruction that is tried: it ends the run, or is a step, which may write a line
+-- an instruction that is tried: it ends the run, or is a step, which may write a line; or it is a SLEEP that an interrupt ends
 pub data Tried : Type 0 where
   Stops : (end : End) → Tried
   Goes : (line : Option Line) → (next : FlatState) → Tried
+  Wakes : (next : FlatState) → Tried
 
 -- how many words the next instruction has, which a skip passes over
 abbrev pub next_size : List ℕ → ℕ → ℕ
@@ -99,24 +110,99 @@ executed program s form =
     if jumps_to_itself s.cpu.pc form && not (has_bit s.cpu.sreg interrupts) then Stops (Halted s.cpu.pc)
     else stepped s (exec_of flat_calls form s.cpu (space_of program s) (next_size program.image s.cpu.pc))
 
+-- SLEEP: with interrupts on the program goes on once one is enabled; with interrupts off, or where none will be, it
+-- sleeps for ever
+abbrev pub woken_with : FlatState → State → FlatState
+woken_with s devices = record s {
+  cpu = record s.cpu { pc = wrapping_sum s.cpu.pc 1 };
+  devices = devices;
+  steps = s.steps + 1;
+  crossings = if is_crossing s.cpu.pc (wrapping_sum s.cpu.pc 1) then s.crossings + 1 else s.crossings;
+}
+
+abbrev pub slept_by : FlatState → Option State → Tried
+slept_by s None = Stops (Asleep s.cpu.pc)
+slept_by s (Some devices) = Wakes (woken_with s devices)
+
+abbrev pub slept : FlatState → Tried
+slept s = if has_bit s.cpu.sreg interrupts then slept_by s (wake s.devices) else Stops (Asleep s.cpu.pc)
+
 -- an instruction, or none, at the pc
 abbrev pub tried_form : Program → FlatState → Option Form → Tried
 tried_form program s None = Stops (Illegal s.cpu.pc)
 tried_form program s (Some Spm) = Stops (SelfProgram s.cpu.pc)
-tried_form program s (Some Sleep) = Stops (Asleep s.cpu.pc)
+tried_form program s (Some Sleep) = slept s
 tried_form program s (Some form) = executed program s form
 
 unfoldable pub tried : Program → FlatState → Tried
 tried program s = tried_form program s (instruction_at program.image s.cpu.pc)
 
--- an end, the lines that were written, and the state
+-- what comes next: the end of the run, or a step, which may write a line
+pub data Next : Type 0 where
+  Ends : (end : End) → Next
+  On : (line : Option Line) → (moment : Moment) → Next
+
+-- the least number of a bit that is set in a byte, which has one
+abbrev pub lowest : ℕ → ℕ
+lowest n =
+    if bit_at n 0 == 1 then 0
+    else if bit_at n 1 == 1 then 1
+    else if bit_at n 2 == 1 then 2
+    else if bit_at n 3 == 1 then 3
+    else if bit_at n 4 == 1 then 4
+    else if bit_at n 5 == 1 then 5
+    else if bit_at n 6 == 1 then 6
+    else 7
+
+-- the word address where the program answers INTk (ATmega128 datasheet, "Reset and Interrupt Vectors")
+abbrev pub vector : ℕ → ℕ
+vector k = 2 * (k + 1)
+
+-- an interrupt is taken before the next instruction
+abbrev pub is_taken : Moment → Bool
+is_taken m = m.due && (has_bit m.now.cpu.sreg interrupts && is_enabled m.now.devices)
+
+-- INTk is taken: the pc is pushed as by a call, interrupts are off, INTk is no longer pending, and the program goes on at
+-- its vector. This is a step, and no crossing.
+abbrev pub interrupted_by : FlatState → ℕ → Outcome FlatSpace (Unit {0}) → Next
+interrupted_by s k (Stopped stop) = Ends (end_at s.cpu.pc stop)
+interrupted_by s k (Went done space) = On None (record {
+  now = record {
+    cpu = record { r = s.cpu.r; sreg = with_bit s.cpu.sreg interrupts false; sp = wrapping_difference s.cpu.sp 2; pc = vector k };
+    memory = space.memory;
+    devices = with_taken space.devices k;
+    pages = space.pages;
+    steps = s.steps + 1;
+    crossings = s.crossings;
+  };
+  due = false;
+})
+
+-- the one with the least number
+abbrev pub interrupted : Program → FlatState → Next
+interrupted program s = interrupted_by s (lowest (enabled s.devices)) (push_return (space_of program s) s.cpu.sp s.cpu.pc)
+
+-- a step is a checkpoint where it is a crossing, and the crossings are then a multiple of the quantum
+abbrev pub is_checkpoint : ℕ → FlatState → FlatState → Bool
+is_checkpoint quantum s next = is_crossing s.cpu.pc next.cpu.pc && (next.crossings % quantum == 0)
+
+abbrev pub next_by : ℕ → FlatState → Tried → Next
+next_by quantum s (Stops end) = Ends end
+next_by quantum s (Goes line next) = On line (record { now = next; due = is_checkpoint quantum s next })
+next_by quantum s (Wakes next) = On None (record { now = next; due = true })
+
+-- an interrupt, or else the instruction at the pc
+unfoldable pub next_of : Program → Moment → Next
+next_of program m = if is_taken m then interrupted program m.now else next_by program.quantum m.now (tried program m.now)
+
+-- an end, the lines that were written, and the moment
 pub record Run : Type 0 where
   pub end : End
   pub lines : List Line
-  pub state : FlatState
+  pub state : Moment
 
-abbrev pub ended : End → FlatState → Run
-ended end s = record { end = end; lines = []; state = s }
+abbrev pub ended : End → Moment → Run
+ended end m = record { end = end; lines = []; state = m }
 
 -- a run whose first step wrote this line
 abbrev pub with_line : Option Line → Run → Run
@@ -124,18 +210,18 @@ with_line None r = r
 with_line (Some line) r = record r { lines = line ∷ r.lines }
 
 -- the run after a try, where a step is followed by the rest of the run
-abbrev pub followed : FlatState → Tried → (FlatState → Run) → Run
-followed s (Stops end) rest = ended end s
-followed s (Goes line next) rest = with_line line (rest next)
+abbrev pub followed : Moment → Next → (Moment → Run) → Run
+followed m (Ends end) rest = ended end m
+followed m (On line next) rest = with_line line (rest next)
 
 -- outside the image the run ends at once
-abbrev pub if_inside : Program → FlatState → Run → Run
-if_inside program s r = if is_inside program.image s.cpu.pc then r else ended (Wild s.cpu.pc) s
+abbrev pub if_inside : Program → Moment → Run → Run
+if_inside program m r = if is_inside program.image m.now.cpu.pc then r else ended (Wild m.now.cpu.pc) m
 
--- the run of at most n steps from a state
-unfoldable pub run : Program → FlatState → ℕ → Run
-run program s zero = if_inside program s (ended Spent s)
-run program s (suc n) = if_inside program s (followed s (tried program s) (λ next. run program next n))
+-- the run of at most n steps from a moment
+unfoldable pub run : Program → Moment → ℕ → Run
+run program m zero = if_inside program m (ended Spent m)
+run program m (suc n) = if_inside program m (followed m (next_of program m) (λ next. run program next n))
 
 -- how many pages of 256 bytes the data addresses have, none of them stored to
 unfoldable pub no_pages : List Bool
@@ -154,4 +240,4 @@ at_reset events = record {
 
 -- the original program's first n steps
 abbrev pub original : Program → List Event → ℕ → Run
-original program events n = run program (at_reset events) n
+original program events n = run program (record { now = at_reset events; due = false }) n

@@ -34,8 +34,8 @@ pub record Guarded : Type 0 where
   pub line : Option Line
 
 -- the program: as many pages of the heap may be stored to as there are slots
-abbrev pub program_of : Guarded → Program
-program_of g = record { image = image_of g.layout g.words; page_limit = length g.swap }
+abbrev pub program_of : ℕ → Guarded → Program
+program_of quantum g = record { image = image_of g.layout g.words; page_limit = length g.swap; quantum = quantum }
 
 -- what the program sees of it: flat memory
 abbrev pub flat_of : Guarded → FlatSpace

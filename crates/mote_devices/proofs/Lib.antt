@@ -2,4 +2,6 @@
 mod PlaceLaws
 mod PollLaws
 mod WorkedValues
+pub mod WakeLaws
+mod RecursionLaws
 pub mod AccessLaws

@@ -5,7 +5,7 @@ use Rattle.std.proofs.lemmas.Bool.Decides.{nat_tests}
 use Rattle.std.proofs.lemmas.List.{get_or-drop, length-drop}
 use Rattle.std.specs.Prelude.{filter, fold, AllPairs}
 use Rattle.input_script.specs.declared.input.Input.{Input}
-use Rattle.input_script.specs.declared.input.Input.TheVariants.{Pin, Uart, Adc}
+use Rattle.input_script.specs.declared.input.Input.TheVariants.{Pin, Uart, Adc, Int}
 use Rattle.input_script.specs.declared.input.Event.{Event}
 use Rattle.mote_devices.specs.Inputs.{Received, after_input, is_due, at_poll}
 use Rattle.mote_devices.specs.Places.{first_is_due, first_taken, with_first}
@@ -13,23 +13,25 @@ use Rattle.mote_devices.specs.Places.{first_is_due, first_taken, with_first}
 abbrev with_coming : Received → List Event → Received
 with_coming r events = record r { coming = events }
 
-coming_kept : (r : Received) (input : Input) → (after_input r input).coming ≡ r.coming
+pub coming_kept : (r : Received) (input : Input) → (after_input r input).coming ≡ r.coming
 coming_kept r (Pin port value) = refl
 coming_kept r (Uart byte) = refl
 coming_kept r (Adc value) = refl
+coming_kept r (Int k) = refl
 
 coming_apart : (r : Received) (input : Input) (events : List Event) → with_coming (after_input r input) events ≡ after_input (with_coming r events) input
 coming_apart r (Pin port value) events = refl
 coming_apart r (Uart byte) events = refl
 coming_apart r (Adc value) events = refl
+coming_apart r (Int k) events = refl
 
-abbrev all_after : Received → List Event → Received
+abbrev pub all_after : Received → List Event → Received
 all_after r events = fold (λ (now : Received) (event : Event). after_input now event.input) r events
 
-abbrev due : ℕ → List Event → List Event
+abbrev pub due : ℕ → List Event → List Event
 due n events = filter (is_due n) events
 
-abbrev later : ℕ → List Event → List Event
+abbrev pub later : ℕ → List Event → List Event
 later n events = filter (λ (event : Event). not (is_due n event)) events
 
 -- a first event that is due takes effect first
@@ -52,7 +54,7 @@ at_poll-with_first n r is = first_by n r r.coming is
 abbrev pub NoneDue : ℕ → List Event → Type 0
 NoneDue n events = (k : ℕ) (d : Event) → k < length events → n < (get_or events k d).at
 
-not_due : (n : ℕ) (event : Event) → n < event.at → is_due n event ≡ false
+pub not_due : (n : ℕ) (event : Event) → n < event.at → is_due n event ≡ false
 not_due n event above = grind (arith, nat_tests)
 
 tail_none : (n : ℕ) (event : Event) (events : List Event) → NoneDue n (event ∷ events) → NoneDue n events

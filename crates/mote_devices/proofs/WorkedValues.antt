@@ -34,13 +34,13 @@ script =
     ∷ []
 
 abbrev nothing : Received
-nothing = record { pins = 0 ∷ 0 ∷ 0 ∷ 0 ∷ []; converter = 0; queue = []; coming = script }
+nothing = record { pins = 0 ∷ 0 ∷ 0 ∷ 0 ∷ []; converter = 0; queue = []; pending = 0; coming = script }
 
 -- poll 1 takes nothing, poll 3 the first three, of which two fill the queue in order
 first_poll : at_poll 1 nothing ≡ nothing
 unfolding at_poll
 first_poll = refl
 
-third_poll : at_poll 3 nothing ≡ record { pins = 0x11 ∷ 0 ∷ 0 ∷ 0 ∷ []; converter = 0; queue = 0x41 ∷ 0x42 ∷ []; coming = record { at = 5; input = Adc 0x2A5 } ∷ [] }
+third_poll : at_poll 3 nothing ≡ record { pins = 0x11 ∷ 0 ∷ 0 ∷ 0 ∷ []; converter = 0; queue = 0x41 ∷ 0x42 ∷ []; pending = 0; coming = record { at = 5; input = Adc 0x2A5 } ∷ [] }
 unfolding at_poll
 third_poll = refl

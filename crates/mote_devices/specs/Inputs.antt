@@ -1,27 +1,29 @@
 -- What the devices have received, and when an input of the script takes effect.
-use Rattle.std.specs.Prelude.{ℕ, Bool, true, false, not, nat_le, List, [], ◌∷◌, ◌++◌, filter, fold, slice_set}
+use Rattle.std.specs.Prelude.{ℕ, ◌^◌, Bool, true, false, not, nat_le, nat_lt, if◌then◌else◌, List, [], ◌∷◌, ◌++◌, filter, fold, slice_set, bit_or}
 use Rattle.list_parts.specs.Lists.{zeros}
 use Rattle.input_script.specs.declared.input.Input.{Input}
-use Rattle.input_script.specs.declared.input.Input.TheVariants.{Pin, Uart, Adc}
+use Rattle.input_script.specs.declared.input.Input.TheVariants.{Pin, Uart, Adc, Int}
 use Rattle.input_script.specs.declared.input.Event.{Event}
 
 -- The pins of ports A to D, the converter's result, the bytes that the serial port received and that were
--- not read yet, and the events to come.
+-- not read yet, the external interrupts that are pending, and the events to come. Bit k of `pending` is INTk.
 pub record Received : Type 0 where
   pub pins : List ℕ
   pub converter : ℕ
   pub queue : List ℕ
+  pub pending : ℕ
   pub coming : List Event
 
 -- nothing was received, and these events are to come
 unfoldable pub unreceived : List Event → Received
-unreceived events = record { pins = zeros 4; converter = 0; queue = []; coming = events }
+unreceived events = record { pins = zeros 4; converter = 0; queue = []; pending = 0; coming = events }
 
 -- an input takes effect
 abbrev pub after_input : Received → Input → Received
 after_input r (Pin port value) = record r { pins = slice_set r.pins port value }
 after_input r (Uart byte) = record r { queue = r.queue ++ byte ∷ [] }
 after_input r (Adc value) = record r { converter = value }
+after_input r (Int k) = record r { pending = if nat_lt k 8 then bit_or r.pending (2 ^ k) else r.pending }
 
 -- the event takes effect at poll n or before
 abbrev pub is_due : ℕ → Event → Bool

@@ -4,3 +4,4 @@ pub mod Inputs
 pub mod Places
 pub mod State
 pub mod Accesses
+pub mod Waking

@@ -37,3 +37,7 @@ polled s = record s { polls = s.polls + 1; received = at_poll (s.polls + 1) s.re
 -- RAMPZ (ATmega128 datasheet, "RAM Page Z Select Register")
 abbrev pub rampz_address : ℕ
 rampz_address = 0x5B
+
+-- EIMSK (ATmega128 datasheet, "External Interrupt Mask Register"): bit k enables INTk
+abbrev pub mask_address : ℕ
+mask_address = 0x59

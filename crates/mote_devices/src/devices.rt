@@ -7,6 +7,9 @@ use avr_isa::io_access;
 use input_script::Script;
 use std::marker::Model;
 
+/// The data address of EIMSK.
+const EIMSK: usize = 0x59;
+
 /// The data address of RAMPZ.
 const RAMPZ: usize = 0x5B;
 
@@ -49,6 +52,8 @@ impl Devices {
     ghost use Rattle.std.specs.Prelude.{◌≡◌, ◌<◌, ◌^◌, false, OnErr, IfErr};
     ghost use Rattle.mote_devices.specs.Inputs.{is_empty};
     ghost use Rattle.mote_devices.specs.State.{State, at_reset, stored, with_stored, polled, rampz_address, register_count};
+    ghost use Rattle.std.specs.Int.{bit_at};
+    ghost use Rattle.mote_devices.specs.Waking.{enabled as enabled_of, with_taken, woken, IsWake, Timely};
     ghost use Rattle.mote_devices.specs.Accesses.{is_core_register, Gave, device_answer, read as read_of, read_from, write as write_of, modify as modify_of, value_of, after_value, line_written, after_write, serial_status as serial_status_of};
 
     /// The devices at reset.
@@ -66,7 +71,9 @@ impl Devices {
     /// How many polls were made: reads of the inputs' registers.
     pub fn polls(&self) -> u64
         ensures value { result ≡ self.now.polls }
+        ensures timely { Timely self.now }
     {
+        self.inputs.are_timely();
         self.polls
     }
 
@@ -82,6 +89,41 @@ impl Devices {
         ensures after { self.new ≡ with_stored self.old rampz_address v }
     {
         self.registers[RAMPZ] = v;
+    }
+
+    /// The external interrupts that are pending and enabled, INTk in bit k. This is no poll.
+    pub fn enabled(&self) -> u8
+        ensures value { result ≡ enabled_of self.now }
+    {
+        self.inputs.pending() & self.registers[EIMSK]
+    }
+
+    /// Takes an interrupt that is pending and enabled: it is no longer pending.
+    pub fn take(&mut self, k: u8)
+        requires number { k < 8 }
+        requires enabled { bit_at (enabled_of self.old) k ≡ 1 }
+        ensures taken { self.new ≡ with_taken self.old k }
+    {
+        self.inputs.clear(k);
+    }
+
+    /// Sleeps until an interrupt is enabled: events take effect, in order, until one is. Answers false where none will
+    /// be, and then nothing has changed.
+    pub fn sleep(&mut self) -> bool
+        ensures woken { (result, self.new) ≡ woken self.old }
+        ensures wake { IsWake self.old }
+    {
+        if self.enabled() != 0 {
+            return true;
+        }
+        match self.inputs.next_call(self.registers[EIMSK]) {
+            None => false,
+            Some(at) => {
+                self.polls = self.polls.max(at);
+                self.inputs.take_due(self.polls);
+                true
+            }
+        }
     }
 
     /// Reads the register at a data address. A read of an input is a poll: the inputs that are due at it

@@ -1,7 +1,8 @@
 //! The inputs of a script, as the devices receive them.
 
-ghost use Rattle.std.specs.Prelude.{◌≡◌, ◌≤◌, [], length, MatchOption};
+ghost use Rattle.std.specs.Prelude.{◌≡◌, ◌<◌, ◌≤◌, ◌^◌, [], length, drop, MatchOption};
 ghost use Rattle.mote_devices.specs.Places.{bytes_between, IsNextByte};
+ghost use Rattle.mote_devices.specs.Waking.{without, calls as calls_of, first_call as first_call_of, Rising};
 
 use input_script::{Event, Input, Script};
 use std::marker::Model;
@@ -12,6 +13,8 @@ use std::marker::Model;
 pub(crate) struct Inputs {
     pins: [u8; 4],
     converter: u16,
+    /// Bit k: INTk is pending.
+    pending: u8,
     script: Script,
     /// How many events have taken effect.
     taken: usize,
@@ -26,13 +29,14 @@ impl Model for Inputs {
 
     ghost Value = { Received };
 
-    ghost view = { λ a. record { pins = a.pins; converter = a.converter; queue = bytes_between a.script.events a.serial a.taken; coming = drop a.taken a.script.events } };
+    ghost view = { λ a. record { pins = a.pins; converter = a.converter; queue = bytes_between a.script.events a.serial a.taken; pending = a.pending; coming = drop a.taken a.script.events } };
 
     ghost invariant = { λ a. IsKept a.pins a.script.events a.taken a.serial };
 }
 
 impl Inputs {
-    ghost use Rattle.std.specs.Prelude.{◌≡◌, ◌<◌, length, false, not, drop, slice_index};
+    ghost use Rattle.std.specs.Prelude.{◌≡◌, ◌<◌, ◌≤◌, All, length, false, not, drop, slice_index};
+    ghost use Rattle.input_script.specs.declared.input.Event.{Event};
     ghost use Rattle.mote_devices.specs.Inputs.{unreceived, at_poll, first_byte, is_empty};
     ghost use Rattle.mote_devices.specs.Places.{first_is_due, with_first};
 
@@ -43,6 +47,7 @@ impl Inputs {
         Inputs {
             pins: [0; 4],
             converter: 0,
+            pending: 0,
             script,
             taken: 0,
             serial: 0,
@@ -100,7 +105,42 @@ impl Inputs {
             }
             Input::Uart(_) => {}
             Input::Adc(value) => self.converter = value,
+            Input::Int(k) => {
+                if k < 8 {
+                    self.pending |= bit(k);
+                }
+            }
         }
+    }
+
+    /// The external interrupts that are pending, INTk in bit k.
+    pub(crate) fn pending(&self) -> u8
+        ensures value { result ≡ self.now.pending }
+    {
+        self.pending
+    }
+
+    /// INTk is no longer pending.
+    pub(crate) fn clear(&mut self, k: u8)
+        requires number { k < 8 }
+        ensures cleared { self.new ≡ record self.old { pending = without self.old.pending k } }
+    {
+        self.pending &= 255 - bit(k);
+    }
+
+    /// The numbers of the events to come fit 32 bits, as a script keeps it.
+    pub(crate) fn are_timely(&self)
+        ensures timely { All (λ (event : Event). event.at ≤ 4294967295) self.now.coming }
+    {
+        let _ = self.script.events();
+    }
+
+    /// The number of the first event to come that brings an interrupt of `mask`, if one does.
+    pub(crate) fn next_call(&self, mask: u8) -> Option<u64>
+        ensures first { result ≡ first_call_of mask self.now.coming }
+        ensures rising { Rising 0 self.now.coming }
+    {
+        first_call(self.script.events(), self.taken, mask)
     }
 
     /// Whether the serial port's queue holds a byte.
@@ -135,6 +175,37 @@ impl Inputs {
                 0
             }
         }
+    }
+}
+
+/// A byte with this bit alone.
+fn bit(k: u8) -> u8
+    requires number { k < 8 }
+    ensures value { result ≡ 2 ^ k }
+{
+    1 << k
+}
+
+/// The number of the first event from place `from` on that brings an interrupt of `mask`.
+fn first_call(events: &[Event], from: usize, mask: u8) -> Option<u64>
+    requires within { from ≤ length events.now }
+    ensures first { result ≡ first_call_of mask (drop from events.now) }
+{
+    for place in from..events.len() {
+        if calls(events[place].input, mask) {
+            return Some(u64::from(events[place].at));
+        }
+    }
+    None
+}
+
+/// Whether an input brings an interrupt of `mask`.
+fn calls(input: Input, mask: u8) -> bool
+    ensures value { result ≡ calls_of mask input }
+{
+    match input {
+        Input::Int(k) => k < 8 && mask >> k & 1 == 1,
+        _ => false,
     }
 }
 

@@ -120,3 +120,19 @@ fn accesses_that_are_not_allowed(rt: HostRuntime) -> Result<(), Fail> {
     assert_eq!(rt; devices.polls(), 0);
     Ok(())
 }
+
+/// Two lines requested at one number: the sleep ends once both are pending, and either may be taken.
+#[test]
+fn a_sleep_ends_at_an_enabled_line(rt: HostRuntime) -> Result<(), Fail> {
+    let text = b"at 3 int 5\nat 7 int 3\nat 7 int 0\nat 9 int 0\n";
+    let mut devices = Devices::new(script(rt.alloc(), text)?);
+    assert!(rt; !devices.sleep()); // no line is enabled
+    assert_eq!(rt; devices.polls(), 0);
+    assert_eq!(rt; put(&rt, &mut devices, 0x59, 0x09), Ok(None)); // EIMSK
+    assert!(rt; devices.sleep());
+    assert_eq!(rt; devices.polls(), 7);
+    assert_eq!(rt; devices.enabled(), 0x09);
+    assert!(rt; devices.sleep());
+    assert_eq!(rt; devices.polls(), 7);
+    Ok(())
+}

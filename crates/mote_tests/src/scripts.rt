@@ -14,12 +14,13 @@ fn refusal(rt: &impl Abort, alloc: Global, text: &[u8]) -> Option<ScriptError> {
 #[test]
 fn a_script_of_every_form(rt: HostRuntime) -> Result<(), Fail> {
     let text =
-        b"# inputs\n\nat 1 pina 0x0f\r\nfail flash 7\nat 1 pind 0xF0\nat 22 uart 0x41\nfail flash 0000000007\r\nat 4294967295 adc 0x3FF\nfail flash 4294967295";
+        b"# inputs\n\nat 1 pina 0x0f\r\nfail flash 7\nat 1 pind 0xF0\nat 22 uart 0x41\nat 22 int 7\nfail flash 0000000007\r\nat 4294967295 adc 0x3FF\nfail flash 4294967295";
     let script = read(rt.alloc(), text).ok().ok_or("the script is good")?;
     let expected = [
         (1, Input::Pin(0, 0x0F)),
         (1, Input::Pin(3, 0xF0)),
         (22, Input::Uart(0x41)),
+        (22, Input::Int(7)),
         (4294967295, Input::Adc(0x3FF)),
     ];
     assert_eq!(rt; script.events().len(), expected.len());
@@ -32,7 +33,7 @@ fn a_script_of_every_form(rt: HostRuntime) -> Result<(), Fail> {
 
 #[test]
 fn the_first_fault_of_a_text(rt: HostRuntime) {
-    let texts: [(&[u8], u32, ScriptFault); 8] = [
+    let texts: [(&[u8], u32, ScriptFault); 12] = [
         (b"at 5 uart 0x41\nat 4 pina 0x00\n", 2, ScriptFault::Order),
         (b"at 1 adc 0x400", 1, ScriptFault::Range),
         (b"at 1  uart 0x41", 1, ScriptFault::Form),
@@ -41,6 +42,10 @@ fn the_first_fault_of_a_text(rt: HostRuntime) {
         (b"at 1 pine 0x00", 1, ScriptFault::Form),
         (b"at 1\tpina 0x00", 1, ScriptFault::Form),
         (b"at 1 pina 0x00\r\r", 1, ScriptFault::Form),
+        (b"at 1 int 8", 1, ScriptFault::Form),
+        (b"at 1 int 9", 1, ScriptFault::Form),
+        (b"at 1 int 07", 1, ScriptFault::Form),
+        (b"at 1 int 0x7", 1, ScriptFault::Form),
     ];
     for (text, line, fault) in texts {
         assert_eq!(rt;

@@ -32,14 +32,15 @@ use Rattle.step_laws.specs.declared.moves.Owed.{Owed}
 use Rattle.step_laws.specs.declared.moves.End.TheVariants as ends
 use Rattle.step_laws.specs.Moves.{Arrive}
 use Rattle.step_laws.specs.Numbers.{Numbers, moved, one_if}
-use Rattle.step_laws.specs.States.{State, mote_of, store_of, with_store, placed, settled_by, arrived, end_by}
+use Rattle.step_laws.specs.States.{Awaited, State, mote_of, store_of, with_store, placed, settled_by, arrived, end_by}
 use Rattle.step_laws.specs.StepLaws.{Reaches}
-use Rattle.program_steps.specs.Machines.{Machine, state_of, numbers_of, flat_of}
+use Rattle.program_steps.specs.Machines.{Machine, awaited, state_of, numbers_of, flat_of, awaits}
 use Rattle.program_steps.specs.Ready.{HasFault, AreTried, IsGoing, IsInOrder, most_arrivals}
 use Rattle.program_steps.specs.Stepping.{links_in}
 use Rattle.program_steps.specs.Loop.{HasArrived}
 use Rattle.program_steps.proofs.Arriving.{Answered, answered}
 use Rattle.program_steps.proofs.OutsideTables.{outside_paged, outside_memory, outside_pages, outside_pointer, outside_stack}
+use Rattle.program_steps.proofs.Awaiting.{awaits_some, awaits_none, free_of, some_same}
 use Rattle.program_steps.proofs.Laws.{faithful_going, used_going}
 
 -- where the machine stands
@@ -49,19 +50,27 @@ inside_of image a below = grind (arith, nat_tests)
 pub outside_of : (image : List ℕ) (a : ℕ) → length image ≤ a → is_inside image a ≡ false
 outside_of image a beyond = grind (arith, nat_tests)
 
-stands_inside : (m : Machine) → IsGoing m → m.owed ≡ None → Reaches (links_in m) m.at (state_of m) → m.at < length (image_held m.kernel)
-stands_inside m ready placed (Reaches.Placed free entry) = (entry_law m.kernel.layout (image_held m.kernel) m.kernel.mote.flash.words m.at m.kernel.mote.cpu.pc ready.order.right (faithful_going m ready) entry).inside
-stands_inside m ready placed (Reaches.Owing stub owes of) = absurd (let e : Some (record { target = m.at; stub = stub }) ≡ None = sym owes ∙ placed in cc)
+stands_inside : (m : Machine) → IsGoing m → m.owed ≡ None → Reaches (links_in m) m.at (awaits m) (state_of m) → m.at < length (image_held m.kernel)
+stands_inside m ready placed (Reaches.Placed quiet free entry) = (entry_law m.kernel.layout (image_held m.kernel) m.kernel.mote.flash.words m.at m.kernel.mote.cpu.pc ready.order.right (faithful_going m ready) entry).inside
+stands_inside m ready placed (Reaches.Owing stub alone owes of) = absurd (let e = sym owes ∙ awaits_none m placed in cc)
 
 pub place_inside : (m : Machine) → IsGoing m → m.owed ≡ None → is_inside (image_held m.kernel) m.at ≡ true
 place_inside m ready placed = inside_of (image_held m.kernel) m.at (stands_inside m ready placed ready.stands)
 
-owed_by : (m : Machine) (owed : Owed) → m.owed ≡ Some owed → Reaches (links_in m) m.at (state_of m) → owed.target ≡ m.at
-owed_by m owed owes (Reaches.Placed free entry) = absurd (let e : Some owed ≡ None = sym owes ∙ free in cc)
-owed_by m owed owes (Reaches.Owing stub owes' of) = let e : Some owed ≡ Some (record { target = m.at; stub = stub }) = sym owes ∙ owes' in cc
+owed_by : (m : Machine) (owed : Owed) → m.owed ≡ Some owed → Reaches (links_in m) m.at (awaits m) (state_of m) → owed.target ≡ m.at
+owed_by m owed owes (Reaches.Placed quiet free entry) = absurd (let e = sym (awaits_some m owed owes) ∙ free in cc)
+owed_by m owed owes (Reaches.Owing stub alone owes' of) = ap (λ (w : Awaited). w.target) (some_same _ _ (sym (awaits_some m owed owes) ∙ owes'))
 
 pub owed_at : (m : Machine) (owed : Owed) → IsGoing m → m.owed ≡ Some owed → owed.target ≡ m.at
 owed_at m owed ready owes = owed_by m owed owes ready.stands
+
+-- the same of the arrival as its moves see it
+awaited_by : (m : Machine) (w : Awaited) → (state_of m).owed ≡ Some w → Reaches (links_in m) m.at (awaits m) (state_of m) → w.target ≡ m.at
+awaited_by m w owes (Reaches.Placed quiet free entry) = absurd (let e = sym owes ∙ free in cc)
+awaited_by m w owes (Reaches.Owing stub alone owes' of) = ap (λ (v : Awaited). v.target) (some_same _ _ (sym owes ∙ owes'))
+
+pub awaited_at : (m : Machine) (w : Awaited) → IsGoing m → (state_of m).owed ≡ Some w → w.target ≡ m.at
+awaited_at m w ready owes = awaited_by m w owes ready.stands
 
 -- an arrival leaves all but the store and the pc
 pub record After (x y : State) (store : Store) : Type 0 where
@@ -93,7 +102,7 @@ after_self x y store after = record { layout = after.layout; quantum = after.qua
 put_together : (r : List ℕ) (sreg sp : ℕ) (memory : List ℕ) (devices : Devices) (stored : List Bool) (a s c : ℕ) → FlatState
 put_together r sreg sp memory devices stored a s c = record { cpu = record { r = r; sreg = sreg; sp = sp; pc = a }; memory = memory; devices = devices; pages = stored; steps = s; crossings = c }
 
-pub flat_parts : (old new : Machine) (store : Store) → After (state_of old) (state_of new) store → KeepsOtherBytes old.kernel.mote.sram new.kernel.mote.sram → new.at ≡ old.at → new.steps ≡ old.steps → new.crossings ≡ old.crossings → flat_of new ≡ flat_of old
+pub flat_parts : (old new : Machine) (store : Store) → After (state_of old) (state_of new) store → KeepsOtherBytes old.kernel.mote.sram new.kernel.mote.sram → new.at ≡ old.at → new.steps ≡ old.steps → new.crossings ≡ old.crossings → (flat_of new).now ≡ (flat_of old).now
 unfolding put_together
 flat_parts old new store same rest at steps crossings =
     let n = new.kernel.mote in
@@ -169,10 +178,11 @@ pub record Arrived (old new : Machine) (arrival : Arrival) : Type 0 where
   pub numbers : IsMoved (numbers_of old) (numbers_of new) arrival.made
   pub at : new.at ≡ old.at
   pub crossings : new.crossings ≡ old.crossings
+  pub due : new.due ≡ old.due
 
-owing : (owed : Option Owed) (o : Owed) (steps : ℕ) → owed ≡ Some o → most_arrivals owed steps ≡ steps
-owing (Some a) o steps is = refl
-owing None o steps is = absurd (cc)
+owing : (owed : Option Owed) (due : Bool) (w : Awaited) (steps : ℕ) → awaited owed due ≡ Some w → most_arrivals owed steps ≡ steps
+owing (Some a) due w steps is = refl
+owing None due w steps is = absurd (cc)
 
 pub arrived_by : (old new : Machine) → (arrived : HasArrived old new) → IsWhole new.kernel.mote.flash → IsGoing old → Arrived old new arrived.makes.arrival
 arrived_by old new arrived whole ready =
@@ -182,7 +192,7 @@ arrived_by old new arrived whole ready =
     let x = state_of old in
     let before = store_of x in
     let store = store_of (state_of new) in
-    let at : arrived.target ≡ old.at = makes.at ∙ owed_at old makes.owed ready makes.owes in
+    let at : arrived.target ≡ old.at = makes.at ∙ awaited_at old makes.owed ready makes.owes in
     let after = after_arrived x (state_of new) makes.store arrival makes.after in
     let same : store ≡ makes.store = after.store_is in
     let kept : KeptThrough l before store old.at arrival = subst (λ t. KeptThrough l before store t arrival) at (subst (λ s. KeptThrough l before s arrived.target arrival) (sym same) arrived.kept) in
@@ -197,12 +207,13 @@ arrived_by old new arrived whole ready =
       whole = whole;
       answer = answer;
       refused = λ r is. ap (λ (s : State). s.end) makes.after ∙ end_refused y arrival.refused r is;
-      goes_on = λ none. (let e = end_in y arrival.refused none in (ap (λ (s : State). s.end) makes.after ∙ e.0, ap (λ (s : State). s.owed) makes.after ∙ e.1));
+      goes_on = λ none. (let e = end_in y arrival.refused none in (ap (λ (s : State). s.end) makes.after ∙ e.0, free_of new (ap (λ (s : State). s.owed) makes.after ∙ e.1)));
       pc = λ v is. ap (λ (s : State). (mote_of s).cpu.pc) makes.after ∙ pc_in (with_store x makes.store) arrival.place arrival.refused v is;
-      owed = owing old.owed makes.owed old.steps makes.owes;
+      owed = owing old.owed old.due makes.owed old.steps makes.owes;
       numbers = moved_numbers (numbers_of old) (numbers_of new) arrived.target arrived.ops arrived.made arrival.made arrived.numbers makes.makes;
       at = arrived.at;
       crossings = arrived.crossings;
+      due = arrived.due;
     }
 
 -- the operations that were tried

@@ -1,5 +1,6 @@
 -- What an arrival answers, and the move that it is.
-use Rattle.std.proofs.Common.{◌≡◌, ℕ, ◌+◌, ◌-◌, ◌<◌, ◌≤◌, Bool, true, false, refl, sym, ap, ◌∙◌, subst, arith}
+use Rattle.program_steps.proofs.Awaiting.{awaits_some, some_same}
+use Rattle.std.proofs.Common.{◌≡◌, ℕ, ◌+◌, ◌-◌, ◌<◌, ◌≤◌, Bool, true, false, refl, sym, ap, ap₂, ◌∙◌, subst, arith}
 use Rattle.std.specs.Prelude.{Option, Some, None, Ok, Err, unwrap_or}
 use Rattle.std.specs.Option.{option_map}
 use Rattle.flash_model.specs.declared.layout.Layout.{Layout}
@@ -13,15 +14,16 @@ use Rattle.kernel_entry.specs.declared.kernel.Kernel.{Kernel}
 use Rattle.step_laws.specs.declared.moves.Owed.{Owed}
 use Rattle.step_laws.specs.Moves.{Arrive}
 use Rattle.step_laws.specs.Numbers.{moved, one_if}
-use Rattle.step_laws.specs.States.{State, mote_of, store_of, arrived}
+use Rattle.step_laws.specs.States.{Awaited, is_taken_at, State, mote_of, store_of, arrived}
 use Rattle.step_laws.specs.Links.{OfStub}
 use Rattle.step_laws.specs.StepLaws.{Reaches, links_at}
 use Rattle.program_steps.specs.declared.progress.Progress.{Progress}
-use Rattle.program_steps.specs.Machines.{Machine, state_of, numbers_of}
+use Rattle.program_steps.specs.Machines.{Machine, state_of, numbers_of, awaits}
 use Rattle.program_steps.specs.Wholes.{whole}
 use Rattle.program_steps.specs.Ready.{IsGoing}
 use Rattle.program_steps.specs.Loop.{HasArrived, after_arrival}
 use Rattle.program_steps.specs.Stepping.{links_in}
+use Rattle.program_steps.specs.Interrupts.{IsUntaken}
 use Rattle.program_steps.proofs.Told.{same_state}
 
 -- the stub that an arrival names is an unresolved link to its address
@@ -29,11 +31,12 @@ came_by : (x : State) (stub : Option ℕ) (t : ℕ) → OfStub (links_at x) (mot
 came_by x None t of = tt
 came_by x (Some s) t of = record { link = of.mark; call = of.call; bridge = of.bridge }
 
-came_owed : (m : Machine) (owed : Owed) → m.owed ≡ Some owed → Reaches (links_in m) m.at (state_of m) → CameThrough m.kernel.layout m.kernel.mote.flash.words owed.stub owed.target
-came_owed m owed owes (Reaches.Placed free entry) = absurd (let e : Some owed ≡ None = sym owes ∙ free in cc)
-came_owed m owed owes (Reaches.Owing stub owes' of) =
+came_owed : (m : Machine) (owed : Owed) → m.owed ≡ Some owed → Reaches (links_in m) m.at (awaits m) (state_of m) → CameThrough m.kernel.layout m.kernel.mote.flash.words owed.stub owed.target
+came_owed m owed owes (Reaches.Placed quiet free entry) = absurd (let e = sym (awaits_some m owed owes) ∙ free in cc)
+came_owed m owed owes (Reaches.Owing stub alone owes' of) =
     let from : Owed = record { target = m.at; stub = stub } in
-    let is : owed ≡ from = (let e : Some owed ≡ Some from = sym owes ∙ owes' in cc) in
+    let same = some_same _ _ (sym (awaits_some m owed owes) ∙ owes') in
+    let is : owed ≡ from = ap₂ (λ t s. record { target = t; stub = s }) (ap (λ (w : Awaited). w.target) same) (ap (λ (w : Awaited). w.stub) same) in
     let P : Owed → Type 0 = λ o. CameThrough m.kernel.layout m.kernel.mote.flash.words o.stub o.target in
     subst P (sym is) (came_by (state_of m) stub m.at of)
 
@@ -124,16 +127,17 @@ numbers_by k k' p t ops place made None tried = ap (λ o. record (numbers_of (wh
 numbers_by k k' p t ops place made (Some refused) tried = ap (λ o. record (numbers_of (whole k p)) { pages = p.pages + one_if made; ops = o }) tried
 
 rest_by : (k k' : Kernel) (p : Progress) (place : Option ℕ) (made : Bool) (refused : Option Refused) → (q : Progress) → q ≡ after_arrival (record { place = place; made = made; refused = refused }) p
-    → (q.at ≡ p.at) × (q.broken ≡ p.broken) × (q.crossings ≡ p.crossings)
-rest_by k k' p place made None q is = (ap (λ (x : Progress). x.at) is, ap (λ (x : Progress). x.broken) is, ap (λ (x : Progress). x.crossings) is)
-rest_by k k' p place made (Some refused) q is = (ap (λ (x : Progress). x.at) is, ap (λ (x : Progress). x.broken) is, ap (λ (x : Progress). x.crossings) is)
+    → (q.at ≡ p.at) × (q.broken ≡ p.broken) × (q.crossings ≡ p.crossings) × (q.due ≡ p.due)
+rest_by k k' p place made None q is = (ap (λ (x : Progress). x.at) is, ap (λ (x : Progress). x.broken) is, ap (λ (x : Progress). x.crossings) is, ap (λ (x : Progress). x.due) is)
+rest_by k k' p place made (Some refused) q is = (ap (λ (x : Progress). x.at) is, ap (λ (x : Progress). x.broken) is, ap (λ (x : Progress). x.crossings) is, ap (λ (x : Progress). x.due) is)
 
-pub has_arrived : (k : Kernel) (p q : Progress) (owed : Owed) (store : Store) (arrival : Arrival) (pc : ℕ) → p.owed ≡ Some owed → p.end ≡ None → p.torn ≡ None
+pub has_arrived : (k : Kernel) (p q : Progress) (owed : Owed) (store : Store) (arrival : Arrival) (pc : ℕ) → p.owed ≡ Some owed → p.end ≡ None → p.torn ≡ None → IsUntaken (whole k p)
     → ArrivesFrom k.layout (store_of (state_of (whole k p))) store owed.target owed.stub arrival → KeptThrough k.layout (store_of (state_of (whole k p))) store owed.target arrival
     → pc ≡ unwrap_or arrival.place k.mote.cpu.pc → q ≡ after_arrival arrival p
     → HasArrived (whole k p) (whole (record k { mote = record k.mote { cpu = record k.mote.cpu { pc = pc }; sram = store.sram; flash = store.flash } }) q)
-has_arrived k p q owed store arrival pc owes going untorn arrives kept at noted =
+has_arrived k p q owed store arrival pc owes going untorn untaken arrives kept at noted =
     let x = state_of (whole k p) in
+    let awaited = awaits_some (whole k p) owed owes in
     let k' : ℕ → Kernel = λ v. record k { mote = record k.mote { cpu = record k.mote.cpu { pc = v }; sram = store.sram; flash = store.flash } } in
     let ops = store.flash.ops - k.mote.flash.ops in
     let tried : store.flash.ops ≡ k.mote.flash.ops + ops = omega (arith, kept.tried.counted) in
@@ -144,12 +148,13 @@ has_arrived k p q owed store arrival pc owes going untorn arrives kept at noted 
       target = owed.target;
       made = arrival.made;
       ops = ops;
-      makes = record { owed = owed; owes = owes; going = going; at = refl; store = store; arrival = arrival; arrives = arrives; makes = refl; tried = tried; after = state };
+      makes = record { owed = record { target = owed.target; stub = owed.stub; due = p.due }; owes = awaited; going = going; untaken = untaken _ awaited; at = refl; store = store; arrival = arrival; arrives = arrives; makes = refl; tried = tried; after = state };
       kept = kept;
       numbers = ap (λ r. numbers_of (whole (k' pc) r)) noted ∙ numbers_by k (k' pc) p owed.target ops arrival.place arrival.made arrival.refused tried;
       at = rest.0;
       broken = rest.1;
       crossings = rest.2;
+      due = rest.3;
     }
 
 -- no stub, no page made, no refusal

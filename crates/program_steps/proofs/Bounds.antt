@@ -1,9 +1,9 @@
 -- How far the numbers go.
 use Rattle.std.proofs.Common.{◌≡◌, ℕ, ◌+◌, ◌-◌, ◌*◌, ◌/◌, ◌%◌, ◌<◌, ◌≤◌, ◌==◌, Bool, true, false, List, [], ◌∷◌, refl, ◌∙◌, arith}
-use Rattle.std.specs.Prelude.{◌≢◌, ◌^◌, Option, Some, None, if◌then◌else◌}
+use Rattle.std.specs.Prelude.{◌≢◌, ◌^◌, max, Option, Some, None, if◌then◌else◌}
 use Rattle.avr_isa.specs.Crossing.{is_crossing}
 use Rattle.preempt_count.specs.Counting.{count_over}
-use Rattle.step_laws.specs.Moves.{Move, Plain, Serve, Arrive}
+use Rattle.step_laws.specs.Moves.{Move, Plain, Serve, Arrive, Take}
 use Rattle.step_laws.specs.Numbers.{Numbers, moved, numbered}
 use Rattle.step_laws.specs.declared.moves.Owed.{Owed}
 use Rattle.program_steps.specs.Ready.{IsWithin, IsCounted, IsBounded, AreArrivals, most_arrivals}
@@ -21,6 +21,7 @@ since_longest [] n low = low
 since_longest (Plain b line ∷ ms) n low = since_longest ms (moved (Plain b line) n) (omega arith)
 since_longest (Serve line stops ∷ ms) n low = since_longest ms (moved (Serve line stops) n) (omega arith)
 since_longest (Arrive target made ops ∷ ms) n low = since_longest ms (moved (Arrive target made ops) n) low
+since_longest (Take stops ∷ ms) n low = since_longest ms (moved (Take stops) n) low
 
 rising : (from to : ℕ) → from < to → to / 128 ≡ from / 128 → from % 128 < to % 128
 rising from to up same = omega arith
@@ -54,6 +55,7 @@ steps_goes (Plain false line ∷ ms) n inner none = steps_goes ms (moved (Plain 
 steps_goes (Serve line true ∷ ms) n inner none = absurd (omega arith)
 steps_goes (Serve line false ∷ ms) n inner none = steps_goes ms (moved (Serve line false) n) inner none ∙ omega arith
 steps_goes (Arrive target made ops ∷ ms) n inner none = absurd (cc)
+steps_goes (Take stops ∷ ms) n inner none = absurd (cc)
 
 -- a step keeps them
 pub counted_on : (n : Numbers) (crossings quantum count from to : ℕ) (first : Option Line) (rest : List Move) → IsCounted n crossings quantum count from → 1 ≤ count → count ≤ quantum
@@ -108,7 +110,7 @@ bounded_counted n crossings quantum count at polls owed counted arrivals few =
 
 -- a step that stops
 pub bounded_stop : (n : Numbers) (crossings quantum count at polls polls' : ℕ) (owed : Option Owed) (first : Option Line) (rest : List Move) → IsCounted n crossings quantum count at → AreArrivals n (most_arrivals owed n.steps) → 1 ≤ count → count ≤ quantum
-    → are_inner rest ≡ true → count_plain rest ≤ 39 → count_serve rest ≤ 2 → (numbered (Plain true first ∷ rest) n).steps ≡ n.steps → polls ≤ n.steps + 2 ^ 32 → polls' ≤ polls + 1
+    → are_inner rest ≡ true → count_plain rest ≤ 39 → count_serve rest ≤ 2 → (numbered (Plain true first ∷ rest) n).steps ≡ n.steps → polls ≤ n.steps + 2 ^ 32 → polls' ≤ max (polls + 1) 4294967295
     → IsBounded (numbered (Plain true first ∷ rest) n) crossings quantum polls'
 unfolding moved
 bounded_stop n crossings quantum count at polls polls' owed first rest counted arrivals some most inner few serves steps low more =

@@ -1,6 +1,10 @@
 -- What the arrival that is owed leaves of the machine.
+use Rattle.avr_flags.specs.Status.{has_bit, interrupts}
+use Rattle.mote_devices.specs.Waking.{is_enabled}
+use Rattle.mem_guard.specs.FlatMachine.{is_taken}
+use Rattle.program_steps.proofs.Awaiting.{awaits_some, awaits_none, some_same}
 use Rattle.std.proofs.Common.{◌≡◌, ℕ, ◌+◌, ◌-◌, ◌*◌, ◌%◌, ◌<◌, ◌≤◌, Bool, true, false, List, [], ◌∷◌, length, refl, sym, ap, ap₂, ◌∙◌, arith, subst}
-use Rattle.std.specs.Prelude.{◌^◌, Option, Some, None, IfSome}
+use Rattle.std.specs.Prelude.{◌&&◌, is_some, ◌^◌, Option, Some, None, IfSome}
 use Rattle.avr_isa.specs.Image.{is_inside}
 use Rattle.flash_model.specs.Memory.{IsWhole}
 use Rattle.flash_model.specs.declared.layout.Layout.{Layout}
@@ -21,15 +25,16 @@ use Rattle.step_laws.specs.declared.moves.End.{End}
 use Rattle.step_laws.specs.declared.moves.End.TheVariants as ends
 use Rattle.step_laws.specs.Moves.{Arrive, lines_of}
 use Rattle.step_laws.specs.Numbers.{Numbers, moved, one_if}
-use Rattle.step_laws.specs.States.{store_of, placed, arrived}
+use Rattle.step_laws.specs.States.{Awaited, is_taken_at, store_of, placed, arrived}
 use Rattle.step_laws.specs.Walks.{MakesArrive}
 use Rattle.step_laws.specs.StepLaws.{Reaches}
-use Rattle.program_steps.specs.Machines.{Machine, state_of, numbers_of}
-use Rattle.program_steps.specs.Ready.{count_in, IsGoing, IsEnded, IsCounted, AreArrivals, most_arrivals, IsExact}
+use Rattle.program_steps.specs.Machines.{Machine, awaited, state_of, numbers_of, flat_of}
+use Rattle.program_steps.specs.Ready.{count_in, IsGoing, IsQuiet, IsEnded, IsCounted, AreArrivals, most_arrivals, IsExact}
 use Rattle.program_steps.specs.Stepping.{AreMadeAt, Goes, Stays, IsFault, Entering, HasEntered, HasBound}
+use Rattle.program_steps.specs.Interrupts.{IsUntaken}
 use Rattle.program_steps.specs.Loop.{HasArrived}
 use Rattle.program_steps.proofs.Arriving.{Answered}
-use Rattle.program_steps.proofs.Arrived.{inside_of, outside_of, place_inside, owed_at, flat_parts, IsMoved, Arrived, arrived_by, order_arrived}
+use Rattle.program_steps.proofs.Arrived.{inside_of, outside_of, place_inside, owed_at, awaited_at, flat_parts, IsMoved, Arrived, arrived_by, order_arrived}
 use Rattle.program_steps.proofs.OutsideTables.{outside_count}
 use Rattle.program_steps.proofs.ReadyLaws.{counted_same}
 use Rattle.program_steps.proofs.Bounds.{bounded_counted}
@@ -37,9 +42,9 @@ use Rattle.program_steps.proofs.Bounds.{bounded_counted}
 stays_self : (m : Machine) → Stays m m
 stays_self m = record { program = refl; layout = refl; quantum = refl; failing = refl }
 
-pub entered_none : (m : Machine) → IsGoing m → m.owed ≡ None → HasEntered m m None
+pub entered_none : (m : Machine) → IsGoing m → IsQuiet m → m.owed ≡ None → HasEntered m m None
 unfolding lines_of
-entered_none m ready placed = record { moves = []; goes = record { walk = refl; told = refl; numbers = refl }; stays = stays_self m; broken = refl; steps = refl; flat = refl; made = tt; way = Entering.In ready placed (place_inside m ready placed) }
+entered_none m ready quiet placed = record { moves = []; goes = record { walk = refl; told = refl; numbers = refl }; stays = stays_self m; broken = refl; steps = refl; flat = refl; made = tt; way = Entering.In ready placed (place_inside m ready placed) (ap (λ d. d && (has_bit m.kernel.mote.cpu.sreg interrupts && is_enabled m.kernel.mote.devices)) (quiet placed)) }
 
 exact_same : (old new : Machine) → KeepsOtherBytes old.kernel.mote.sram new.kernel.mote.sram → new.kernel.quantum ≡ old.kernel.quantum → new.crossings ≡ old.crossings → IsExact old → IsExact new
 exact_same old new rest quantum crossings is = outside_count old.kernel.mote.sram new.kernel.mote.sram rest ∙ is ∙ ap₂ (λ q c. q - c % q) (sym quantum) (sym crossings)
@@ -121,10 +126,11 @@ going_arrived old new arrival place told ready there none =
       top = same.sp ∙ ready.top;
       some = omega (arith, count, ready.some);
       most = omega (arith, count, ready.most, same.quantum);
-      stands = Reaches.Placed on.1 (subst (λ k. E k new.at new.kernel.mote.cpu.pc) (sym same.layout) (subst (λ a. E old.kernel.layout a new.kernel.mote.cpu.pc) (sym told.at) (subst (E old.kernel.layout old.at) (sym (told.pc place there)) entry)));
+      stands = Reaches.Placed (ap (λ o. is_some o && new.due) on.1) (awaits_none new on.1) (subst (λ k. E k new.at new.kernel.mote.cpu.pc) (sym same.layout) (subst (λ a. E old.kernel.layout a new.kernel.mote.cpu.pc) (sym told.at) (subst (E old.kernel.layout old.at) (sym (told.pc place there)) entry)));
       counted = counted_arrived old new arrival told ready;
       arrivals = subst (λ o. AreArrivals (numbers_of new) (most_arrivals o new.steps)) (sym on.1) (arrivals_arrived old new arrival told ready);
       polls = polls_arrived old new arrival told ready;
+      fresh = λ due. absurd (let e : false ≡ true = sym (ap (λ o. is_some o && new.due) on.1) ∙ due in cc);
       exact = exact_same old new told.rest same.quantum told.crossings ready.exact;
     }
 
@@ -140,17 +146,36 @@ fault_by old new arrival stop told is =
       refused = λ none. let e : Some tried.refused.page ≡ None = sym tried.refused.told ∙ none in cc;
     }
 
-way_by : (old new : Machine) (arrival : Arrival) → (told : Arrived old new arrival) → IsGoing old → Answered old.kernel.layout (store_of (state_of old)) (store_of (state_of new)) old.at arrival → Entering old new new.end
-way_by old new arrival told ready (Answered.Wild is outside) =
+way_by : (old new : Machine) (arrival : Arrival) → (told : Arrived old new arrival) → IsGoing old → (is_inside (image_held old.kernel) old.at ≡ true → is_taken (flat_of new) ≡ false) → Answered old.kernel.layout (store_of (state_of old)) (store_of (state_of new)) old.at arrival → Entering old new new.end
+way_by old new arrival told ready untaken (Answered.Wild is outside) =
     let e : new.end ≡ Some (ends.Wild old.at) = told.refused _ is in
     subst (Entering old new) (sym e) (Entering.Out (ended_arrived old new arrival (ends.Wild old.at) told ready e) e (outside_of (image_held old.kernel) old.at (omega (arith, outside, ready.order.faithful.image_length))))
-way_by old new arrival told ready (Answered.Failed stop is inside) =
+way_by old new arrival told ready untaken (Answered.Failed stop is inside) =
     let e : new.end ≡ Some (ends.Flash stop.op) = told.refused (refused_by stop) is in
     subst (Entering old new) (sym e) (Entering.Failed stop.op (ended_arrived old new arrival (ends.Flash stop.op) told ready e) e
     (inside_of (image_held old.kernel) old.at (omega (arith, inside, ready.order.faithful.image_length))) (fault_by old new arrival stop told is))
-way_by old new arrival told ready (Answered.In place there none inside) =
+way_by old new arrival told ready untaken (Answered.In place there none inside) =
     let on = told.goes_on none in
-    subst (Entering old new) (sym on.0) (Entering.In (going_arrived old new arrival place told ready there none) on.1 (inside_of (image_held old.kernel) old.at (omega (arith, inside, ready.order.faithful.image_length))))
+    let within = inside_of (image_held old.kernel) old.at (omega (arith, inside, ready.order.faithful.image_length)) in
+    subst (Entering old new) (sym on.0) (Entering.In (going_arrived old new arrival place told ready there none) on.1 within (untaken within))
+
+-- by an arrival that is made, no interrupt is to be taken
+and_off : (b : Bool) → b && false ≡ false
+and_off true = refl
+and_off false = refl
+
+and_inside : (d b c : Bool) → d && (b && c) ≡ false → b ≡ true → d && c ≡ false
+and_inside d true c is inside = is
+and_inside d false c is inside = absurd (cc)
+
+awaited_due : (o : Option Owed) (d : Bool) (w : Awaited) → awaited o d ≡ Some w → w.due ≡ d
+awaited_due None d w is = absurd (cc)
+awaited_due (Some owed) d w is = sym (ap (λ (v : Awaited). v.due) (some_same _ _ is))
+
+pub untaken_by : (m : Machine) (w : Awaited) → (state_of m).owed ≡ Some w → IsGoing m → is_taken_at (state_of m) w ≡ false → is_inside (image_held m.kernel) m.at ≡ true → is_taken (flat_of m) ≡ false
+untaken_by m w owes ready untaken inside =
+    and_inside m.due (is_inside (image_held m.kernel) m.at) (has_bit m.kernel.mote.cpu.sreg interrupts && is_enabled m.kernel.mote.devices)
+    (ap₂ (λ d t. d && (is_inside (image_held m.kernel) t && (has_bit m.kernel.mote.cpu.sreg interrupts && is_enabled m.kernel.mote.devices))) (sym (awaited_due m.owed m.due w owes)) (sym (awaited_at m w ready owes)) ∙ untaken) inside
 
 -- one move
 made_at : (t at ops : ℕ) (made : Bool) → t ≡ at → AreMadeAt (λ a. a ≡ at) (Arrive t made ops ∷ [])
@@ -166,18 +191,25 @@ entered_some old new arrived whole ready =
     let makes = arrived.makes in
     let told = arrived_by old new arrived whole ready in
     let steps : new.steps ≡ old.steps = told.numbers.steps in
+    let flat : flat_of new ≡ flat_of old = ap₂ (λ s d. record { now = s; due = d }) (flat_parts old new (store_of (state_of new)) told.after told.rest arrived.at steps arrived.crossings) arrived.due in
     record {
       moves = Arrive arrived.target arrived.made arrived.ops ∷ [];
       goes = goes_arrived old new arrived.target arrived.ops arrived.made makes arrived.numbers;
-      stays = record { program = ap₂ (λ i n. record { image = i; page_limit = n }) told.image (ap length told.after.swap); layout = told.after.layout; quantum = told.after.quantum; failing = told.kept.tried.failing };
+      stays = record { program = ap₂ (λ i n. record { image = i; page_limit = n; quantum = new.kernel.quantum }) told.image (ap length told.after.swap) ∙ ap (λ q. record { image = image_held old.kernel; page_limit = length old.kernel.mote.swap; quantum = q }) told.after.quantum; layout = told.after.layout; quantum = told.after.quantum; failing = told.kept.tried.failing };
       broken = arrived.broken;
       steps = steps;
-      flat = flat_parts old new (store_of (state_of new)) told.after told.rest arrived.at steps arrived.crossings;
-      made = made_at arrived.target old.at arrived.ops arrived.made (makes.at ∙ owed_at old makes.owed ready makes.owes);
-      way = way_by old new makes.arrival told ready told.answer;
+      flat = flat;
+      made = made_at arrived.target old.at arrived.ops arrived.made (makes.at ∙ awaited_at old makes.owed ready makes.owes);
+      way = way_by old new makes.arrival told ready (λ inside. ap is_taken flat ∙ untaken_by old makes.owed makes.owes ready makes.untaken inside) told.answer;
     }
 
 -- at the bound
+pub bound_untaken : (m : Machine) (owed : Owed) → IsGoing m → m.owed ≡ Some owed → m.kernel.layout.image_words ≤ owed.target → IsUntaken m
+bound_untaken m owed ready owes beyond w owes' =
+    let same : owed.target ≡ w.target = ap (λ (v : Awaited). v.target) (some_same _ _ (sym (awaits_some m owed owes) ∙ owes')) in
+    ap (λ b. w.due && (b && (has_bit m.kernel.mote.cpu.sreg interrupts && is_enabled m.kernel.mote.devices))) (outside_of (image_held m.kernel) w.target (omega (arith, same, beyond, ready.order.faithful.image_length)))
+    ∙ and_off w.due
+
 pub bound_inside : (m : Machine) (owed : Owed) → IsGoing m → m.owed ≡ Some owed → owed.target < m.kernel.layout.image_words → is_inside (image_held m.kernel) m.at ≡ true
 bound_inside m owed ready owes below = inside_of (image_held m.kernel) m.at (omega (arith, owed_at m owed ready owes, below, ready.order.faithful.image_length))
 
@@ -185,7 +217,7 @@ bound_outside : (m : Machine) (owed : Owed) → IsGoing m → m.owed ≡ Some ow
 bound_outside m owed ready owes beyond = outside_of (image_held m.kernel) m.at (omega (arith, owed_at m owed ready owes, beyond, ready.order.faithful.image_length))
 
 bound_by : (m new : Machine) (result : Option End) (end : End) → is_inside (image_held m.kernel) m.at ≡ false → HasEntered m new result → Entering m new result → result ≡ Some end → HasBound m new end
-bound_by m new result end outside entered (Entering.In ready free inside) is = absurd (cc)
+bound_by m new result end outside entered (Entering.In ready free inside untaken) is = absurd (cc)
 bound_by m new result end outside entered (Entering.Out over kept out) is =
     let e : ends.Wild m.at ≡ end = cc in
     subst (HasBound m new) e (HasBound.Leaves entered outside)
@@ -195,14 +227,14 @@ pub bound_wild : (m new : Machine) (owed : Owed) (result : Option End) (end : En
 bound_wild m new owed result end ready owes beyond entered is = bound_by m new result end (bound_outside m owed ready owes beyond) entered entered.way is
 
 none_by : (m new : Machine) (result : Option End) → is_inside (image_held m.kernel) m.at ≡ false → Entering m new result → result ≡ None → ⊥
-none_by m new result outside (Entering.In ready free inside) is = let e : true ≡ false = sym inside ∙ outside in absurd (cc)
+none_by m new result outside (Entering.In ready free inside untaken) is = let e : true ≡ false = sym inside ∙ outside in absurd (cc)
 none_by m new result outside (Entering.Out over kept out) is = absurd (cc)
 none_by m new result outside (Entering.Failed op over kept inside fault) is = absurd (cc)
 
 pub bound_none : (m new : Machine) (owed : Owed) (result : Option End) → IsGoing m → m.owed ≡ Some owed → m.kernel.layout.image_words ≤ owed.target → HasEntered m new result → result ≡ None → ⊥
 bound_none m new owed result ready owes beyond entered is = none_by m new result (bound_outside m owed ready owes beyond) entered.way is
 
-most_steps : (owed : Option Owed) (steps : ℕ) → most_arrivals owed steps ≤ steps + 1
+pub most_steps : (owed : Option Owed) (steps : ℕ) → most_arrivals owed steps ≤ steps + 1
 most_steps (Some a) steps = omega arith
 most_steps None steps = omega arith
 

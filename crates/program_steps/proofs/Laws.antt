@@ -1,6 +1,8 @@
 -- A machine that is going stands at an entry, so its step has its law.
+use Rattle.program_steps.proofs.Awaiting.{awaits_none}
+use Rattle.mote_devices.specs.Waking.{Timely}
 use Rattle.std.proofs.Common.{◌≡◌, ◌<◌, sym, ◌∙◌, arith, subst}
-use Rattle.std.specs.Prelude.{◌^◌, min, Option, Some, None}
+use Rattle.std.specs.Prelude.{◌^◌, min, Option, None}
 use Rattle.page_index.specs.Entries.{IsMapped}
 use Rattle.nat_page.specs.Faithful.{IsFaithful}
 use Rattle.nat_page.specs.Used.{used_pages}
@@ -11,13 +13,13 @@ use Rattle.branch_bridge.specs.Operating.{with_torn}
 use Rattle.kernel_entry.specs.Parts.{image_held}
 use Rattle.step_laws.specs.StepLaws.{StepLaw, Reaches, links_at}
 use Rattle.step_laws.proofs.EveryShape.{entry_laws}
-use Rattle.program_steps.specs.Machines.{Machine, state_of}
+use Rattle.program_steps.specs.Machines.{Machine, state_of, awaits}
 use Rattle.program_steps.specs.Ready.{IsGoing}
 use Rattle.program_steps.specs.Stepping.{links_in}
 
-by_stands : (m : Machine) → m.owed ≡ None → Reaches (links_in m) m.at (state_of m) → (links_in m).enters m.at m.kernel.mote.cpu.pc
-by_stands m placed (Reaches.Placed free entry) = entry
-by_stands m placed (Reaches.Owing stub owes of) = absurd (let e : Some (record { target = m.at; stub = stub }) ≡ None = sym owes ∙ placed in cc)
+pub by_stands : (m : Machine) → m.owed ≡ None → Reaches (links_in m) m.at (awaits m) (state_of m) → (links_in m).enters m.at m.kernel.mote.cpu.pc
+by_stands m placed (Reaches.Placed quiet free entry) = entry
+by_stands m placed (Reaches.Owing stub alone owes of) = absurd (let e = sym owes ∙ awaits_none m placed in cc)
 
 -- flash holds faithful code as it is, since no page is torn
 pub faithful_going : (m : Machine) → IsGoing m → IsFaithful m.kernel.layout (image_held m.kernel) m.kernel.mote.flash.words
@@ -40,17 +42,17 @@ used_going m ready =
 pub mapped_going : (m : Machine) → IsGoing m → IsMapped m.kernel.layout m.kernel.mote.flash.words
 mapped_going m ready = faithful_mapped m.kernel.layout (image_held m.kernel) m.kernel.mote.flash.words ready.order.right (faithful_going m ready)
 
-pub law_of : (m : Machine) → IsGoing m → m.steps < 2 ^ 50 → m.owed ≡ None → StepLaw (links_at (state_of m)) (state_of m) m.at
-law_of m ready few placed =
+pub law_of : (m : Machine) → IsGoing m → Timely m.kernel.mote.devices → m.steps < 2 ^ 50 → m.owed ≡ None → StepLaw (links_at (state_of m)) (state_of m) m.at
+law_of m ready timely few placed =
     let order = ready.order in
     let quantum = order.quantum in
     let most = ready.most in
     let polls = ready.polls in
     entry_laws (state_of m) m.at (record {
       ready = record {
-        running = record { free = placed; going = ready.going; room = omega arith };
+        running = record { free = awaits_none m placed; going = ready.going; room = omega arith };
         idle = record { registers = order.registers; size = order.paged.sized.sram; pointer = order.pointer; top = ready.top; some = ready.some; most = omega arith };
-        bounded = record { right = order.right; whole = order.whole; most = ready.most; polls = omega arith };
+        bounded = record { right = order.right; whole = order.whole; most = ready.most; polls = omega arith; timely = timely };
         paged = order.paged;
       };
       code = faithful_going m ready;

@@ -1,4 +1,5 @@
 -- What the calls leave.
+mod Awaiting
 pub mod Bounds
 pub mod Told
 pub mod Taking
@@ -10,6 +11,8 @@ pub mod OutsideTables
 pub mod Arriving
 pub mod Arrived
 pub mod Entered
+pub mod TakingLaws
 pub mod SameFlash
 pub mod MadeAt
 pub mod OneBehindOther
+pub mod Undue

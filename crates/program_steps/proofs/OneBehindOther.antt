@@ -9,7 +9,7 @@ use Rattle.program_steps.specs.Several.{Silently, HasDone}
 
 -- a step behind which the program goes on
 going_by : (old new : Machine) (line : Option Line) → HasStepped old new line → StepWay old new line → new.end ≡ None → IsGoing new × (new.steps ≡ old.steps + 1)
-going_by old new line step (StepWay.On ready steps is) going = (ready, steps)
+going_by old new line step (StepWay.On ready quiet steps is) going = (ready, steps)
 going_by old new line step (StepWay.Stopped stop over kept none steps is left) going = absurd (let e : Some _ ≡ None = sym kept ∙ going in cc)
 
 pub going_on : (old new : Machine) (line : Option Line) → HasStepped old new line → new.end ≡ None → IsGoing new × (new.steps ≡ old.steps + 1)

@@ -1,8 +1,9 @@
 -- A step keeps the machine ready.
+use Rattle.program_steps.proofs.Awaiting.{due_reached}
 use Rattle.std.proofs.Common.{suc, ◌≡◌, ℕ, ◌+◌, ◌-◌, ◌*◌, ◌%◌, ◌<◌, ◌≤◌, ◌==◌, Bool, true, false, List, ◌∷◌, refl, sym, ap, ap₂, ◌∙◌, arith, subst}
 use Rattle.std.proofs.Math.Nat.{mod-lt, mod-eq_of_lt, mod_self, suc-mod}
 use Rattle.std.proofs.Math.Numerals.{suc-eq-add-one}
-use Rattle.std.specs.Prelude.{◌≢◌, min, Option, Some, None, IfSome, if◌then◌else◌}
+use Rattle.std.specs.Prelude.{◌≢◌, ◌&&◌, min, Option, Some, None, IfSome, if◌then◌else◌}
 use Rattle.std.proofs.lemmas.Bool.Decides.{nat_tests}
 use Rattle.avr_isa.specs.Crossing.{is_crossing}
 use Rattle.flash_model.specs.Memory.{Memory, IsWhole}
@@ -21,25 +22,25 @@ use Rattle.step_laws.specs.declared.moves.End.TheVariants as ends
 use Rattle.nat_page.specs.Used.{used_pages}
 use Rattle.addr_tables.specs.Tables.{IsTables}
 use Rattle.addr_tables.proofs.TableLaws.{tables_kept}
-use Rattle.preempt_count.specs.Counting.{count_over}
+use Rattle.preempt_count.specs.Counting.{count_over, is_checkpoint}
 use Rattle.kernel_entry.specs.Seen.{count_of}
 use Rattle.step_laws.specs.Moves.{Plain, count_stop}
 use Rattle.step_laws.specs.Numbers.{Numbers, moved, numbered}
 use Rattle.step_laws.specs.States.{State}
 use Rattle.step_laws.specs.Links.{links_of}
 use Rattle.step_laws.specs.StepLaws.{StepLaw, Reaches, Keeps, IsReset, crossings_over, links_at}
-use Rattle.program_steps.specs.Machines.{Machine, state_of, numbers_of}
+use Rattle.program_steps.specs.Machines.{Machine, state_of, numbers_of, awaits}
 use Rattle.program_steps.specs.Ready.{count_in, HasFault, AreTried, IsInOrder, IsGoing, IsCounted, AreArrivals, most_arrivals}
 use Rattle.program_steps.specs.Loop.{Taken}
 use Rattle.program_steps.proofs.Bounds.{counted_on, steps_goes, pages_first}
 use Rattle.program_steps.proofs.Laws.{tables_going}
 
-ring_kept : (m n : List ℕ) → ((b : ℕ) → 0x0142 ≤ b → b < 0x0400 → byte_at n b ≡ byte_at m b) → ring_of n ≡ ring_of m
+pub ring_kept : (m n : List ℕ) → ((b : ℕ) → 0x0142 ≤ b → b < 0x0400 → byte_at n b ≡ byte_at m b) → ring_of n ≡ ring_of m
 unfolding data_word_at
 ring_kept m n same = ap₂ (λ low high. low + 256 * high) (same 0x0142 (omega arith) (omega arith)) (same 0x0143 (omega arith) (omega arith))
 
 -- no operation on flash is tried in a step
-tried_on : (old new : Machine) → new.kernel.mote.flash ≡ old.kernel.mote.flash → new.torn ≡ None → IsGoing old → AreTried new
+pub tried_on : (old new : Machine) → new.kernel.mote.flash ≡ old.kernel.mote.flash → new.torn ≡ None → IsGoing old → AreTried new
 tried_on old new flash torn ready =
     let before = ready.order.tried in
     let never : HasFault old → ⊥ = λ fault. (let e : Some (ends.Flash fault.0) ≡ None = sym fault.1 ∙ ready.going in absurd (cc)) in
@@ -118,6 +119,25 @@ exact_by true false q c count some is one =
 pub exact_on : (q from to c count : ℕ) → 1 ≤ q → count ≡ q - c % q → count_over q from to count ≡ q - crossings_over from to c % q
 exact_on q from to c count some is = exact_by (is_crossing from to) (count == 1) q c count some is refl
 
+-- a step is a checkpoint of the original program where COUNT was 1 and it is a crossing
+last_by : (b k : Bool) (q c count : ℕ) → 1 ≤ q → 1 ≤ count → count ≤ q → count ≡ q - c % q → (count == 1) ≡ k → b && ((if b then c + 1 else c) % q == 0) ≡ b && k
+last_by false k q c count some one most is last = refl
+last_by true true q c count some one most is last =
+    let less : c % q < q = mod-lt c some in
+    let is_one : count ≡ 1 = grind (arith, nat_tests) in
+    let full : c % q + 1 ≡ q = omega arith in
+    let round = mod_round q c full in
+    grind (arith, nat_tests)
+last_by true false q c count some one most is last =
+    let less : c % q < q = mod-lt c some in
+    let apart : count ≢ 1 = grind (arith, nat_tests) in
+    let next : c % q + 1 < q = omega arith in
+    let on = mod_on q c next in
+    grind (arith, nat_tests)
+
+pub last_on : (q from to c count : ℕ) → 1 ≤ count → count ≤ q → count ≡ q - c % q → is_crossing from to && (crossings_over from to c % q == 0) ≡ is_checkpoint from to count
+last_on q from to c count one most is = last_by (is_crossing from to) (count == 1) q c count (omega arith) one most is refl
+
 is_one : (count : ℕ) → (count == 1) ≡ true → count ≡ 1
 is_one count is = grind (arith, nat_tests)
 
@@ -136,17 +156,17 @@ arrivals_on n n' owed owed' pages ops steps before =
     record { pages = omega arith; ops = omega arith }
 
 -- the step that goes on
-pub ready_on : (old new : Machine) (law : StepLaw (links_at (state_of old)) (state_of old) old.at) (to : ℕ) → IsGoing old → Taken old new law
-    → new.at ≡ to → new.crossings ≡ crossings_over old.at to old.crossings → law.end.end ≡ None → Reaches (links_at (state_of old)) to law.end
+pub ready_on : (old new : Machine) (law : StepLaw (links_at (state_of old)) (state_of old) old.at) (to : ℕ) (due : Bool) → IsGoing old → Taken old new law
+    → new.at ≡ to → new.crossings ≡ crossings_over old.at to old.crossings → law.end.end ≡ None → Reaches (links_at (state_of old)) to due law.end
     → count_of law.end.kernel ≡ count_over old.kernel.quantum old.at to (count_in old)
     → IsCounted (numbered (Plain true law.first ∷ law.rest) (numbers_of old)) (crossings_over old.at to old.crossings) old.kernel.quantum (count_over old.kernel.quantum old.at to (count_in old)) to
-    → (numbers_of new).steps ≡ old.steps + 1 → new.torn ≡ old.torn
+    → (numbers_of new).steps ≡ old.steps + 1 → new.torn ≡ old.torn → (due ≡ true → new.since ≡ 0)
     → IsGoing new
-ready_on old new law to ready taken at crossings going where' count counted steps torn =
+ready_on old new law to due ready taken at crossings going where' count counted steps torn fresh =
     let keeps : Keeps (state_of old) (state_of new) = subst (Keeps (state_of old)) (sym taken.state) law.keeps in
     let same : count_in new ≡ count_over old.kernel.quantum old.at to (count_in old) = ap (λ (s : State). count_of s.kernel) taken.state ∙ count in
     let range = count_range old.kernel.quantum old.at to (count_in old) ready.some ready.most in
-    let W : Layout → Memory → ℕ → State → Type 0 = λ l f t s. Reaches (links_of l f.words) t s in
+    let W : Layout → Memory → ℕ → State → Type 0 = λ l f t s. Reaches (links_of l f.words) t (awaits new) s in
     let polls = ready.polls in
     let polls' = keeps.polls in
     let pages = ap (λ (k : Numbers). k.pages) taken.numbers ∙ pages_first law.first law.rest (numbers_of old) law.inner in
@@ -160,20 +180,23 @@ ready_on old new law to ready taken at crossings going where' count counted step
       stands = subst (λ l. W l new.kernel.mote.flash new.at (state_of new)) (sym keeps.layout)
           (subst (λ f. W old.kernel.layout f new.at (state_of new)) (sym keeps.flash)
           (subst (λ t. W old.kernel.layout old.kernel.mote.flash t (state_of new)) (sym at)
-          (subst (W old.kernel.layout old.kernel.mote.flash to) (sym taken.state) where')));
+          (subst (W old.kernel.layout old.kernel.mote.flash to) (sym taken.state)
+          (subst (λ d. Reaches (links_at (state_of old)) to d law.end) (sym (due_reached new (links_at (state_of old)) to due law.end taken.state where')) where'))));
       counted = counted_same (numbers_of new) _ new.crossings _ new.kernel.quantum _ (count_in new) _ new.at to taken.numbers crossings keeps.quantum same at counted;
       arrivals = arrivals_on (numbers_of old) (numbers_of new) old.owed new.owed pages (ap (λ (f : Memory). f.ops) keeps.flash) steps ready.arrivals;
       polls = omega arith;
+      fresh = λ on. fresh (sym (due_reached new (links_at (state_of old)) to due law.end taken.state where') ∙ on);
       exact = same ∙ exact_on old.kernel.quantum old.at to old.crossings (count_in old) (omega (arith, ready.some, ready.most)) ready.exact ∙ ap₂ (λ q c. q - c % q) (sym keeps.quantum) (sym crossings);
     }
 
 -- by the law itself
-pub ready_went : (old new : Machine) (law : StepLaw (links_at (state_of old)) (state_of old) old.at) (to : ℕ) → IsGoing old → Taken old new law → new.at ≡ to → new.crossings ≡ crossings_over old.at to old.crossings
-    → law.end.end ≡ None → Reaches (links_at (state_of old)) to law.end → count_of law.end.kernel ≡ count_over old.kernel.quantum old.at to (count_in old)
-    → count_stop law.rest ≡ 0 → IsReset (state_of old) (is_crossing old.at to) law.rest → new.torn ≡ old.torn → IsGoing new
+pub ready_went : (old new : Machine) (law : StepLaw (links_at (state_of old)) (state_of old) old.at) (to : ℕ) (due : Bool) → IsGoing old → Taken old new law → new.at ≡ to → new.crossings ≡ crossings_over old.at to old.crossings
+    → law.end.end ≡ None → Reaches (links_at (state_of old)) to due law.end → count_of law.end.kernel ≡ count_over old.kernel.quantum old.at to (count_in old)
+    → count_stop law.rest ≡ 0 → IsReset (state_of old) (is_crossing old.at to) law.rest → new.torn ≡ old.torn → (due ≡ true → (n : Numbers) → (numbered law.rest n).since ≡ 0) → IsGoing new
 unfolding moved
-ready_went old new law to ready taken at crossings going where' count goes reset torn =
+ready_went old new law to due ready taken at crossings going where' count goes reset torn fresh =
     let n = numbers_of old in
-    ready_on old new law to ready taken at crossings going where' count
+    ready_on old new law to due ready taken at crossings going where' count
     (counted_on n old.crossings old.kernel.quantum (count_in old) old.at to law.first law.rest ready.counted ready.some ready.most law.inner law.few law.serves goes (λ crosses one. reset crosses (is_one (count_in old) one)))
     (ap (λ (k : Numbers). k.steps) taken.numbers ∙ steps_goes law.rest (moved (Plain true law.first) n) law.inner goes) torn
+    (λ on. ap (λ (k : Numbers). k.since) taken.numbers ∙ fresh on (moved (Plain true law.first) n))

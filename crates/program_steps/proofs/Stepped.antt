@@ -1,6 +1,13 @@
 -- A whole step, from its moves and where they led.
-use Rattle.std.proofs.Common.{◌≡◌, ℕ, ◌+◌, ◌-◌, ◌%◌, ◌<◌, true, false, List, [], ◌∷◌, refl, sym, ap, ap₂, ◌∙◌, arith, subst}
-use Rattle.std.specs.Prelude.{◌^◌, Option, Some, None}
+use Rattle.std.proofs.lemmas.Bool.Decides.{nat_tests}
+use Rattle.avr_isa.specs.Crossing.{is_crossing}
+use Rattle.preempt_count.specs.Counting.{is_checkpoint}
+use Rattle.mote_devices.specs.Waking.{Timely}
+use Rattle.mem_guard.specs.FlatMachine.{is_taken, next_of, tried}
+use Rattle.mem_guard.proofs.MachineLaws.{next_tried}
+use Rattle.program_steps.proofs.Awaiting.{state_settled, due_reached, free_of}
+use Rattle.std.proofs.Common.{◌≡◌, ℕ, ◌+◌, ◌-◌, ◌%◌, ◌<◌, length, Bool, true, false, List, [], ◌∷◌, refl, sym, ap, ap₂, ◌∙◌, arith, subst}
+use Rattle.std.specs.Prelude.{◌&&◌, ◌||◌, ◌==◌, is_some, ◌^◌, Option, Some, None}
 use Rattle.mote_core.proofs.NeverStops.{both as parts}
 use Rattle.mote_devices.specs.declared.line.Line.{Line}
 use Rattle.flash_model.specs.Memory.{Memory}
@@ -10,22 +17,23 @@ use Rattle.page_index.specs.Entries.{IsMapped}
 use Rattle.mem_guard.specs.FlatMachine as flat_ends
 use Rattle.kernel_entry.specs.declared.kernel.Kernel.{Kernel}
 use Rattle.kernel_entry.specs.declared.kernel.Stop.{Stop}
+use Rattle.kernel_entry.specs.Parts.{image_held}
 use Rattle.kernel_entry.specs.Seen.{count_of}
 use Rattle.step_laws.specs.declared.moves.End.TheVariants as ends
-use Rattle.step_laws.specs.Moves.{Move, Plain, Serve, Arrive, line_before, is_inner, are_inner, count_stop}
+use Rattle.step_laws.specs.Moves.{Move, Plain, Serve, Arrive, Take, line_before, is_inner, are_inner, count_stop}
 use Rattle.step_laws.specs.Numbers.{Numbers, moved, numbered}
 use Rattle.step_laws.specs.States.{State, mote_of}
 use Rattle.step_laws.specs.Walks.{Walk}
 use Rattle.step_laws.specs.Links.{links_of}
-use Rattle.step_laws.specs.StepLaws.{StepLaw, Outcome, GoesTo, StopsAt, Reaches, Keeps, crossings_over}
-use Rattle.kernel_entry.specs.Seen.{state_at}
+use Rattle.step_laws.specs.StepLaws.{tried_as, StepLaw, Outcome, GoesTo, StopsAt, Reaches, Keeps, crossings_over}
+use Rattle.kernel_entry.specs.Seen.{state_at, program}
 use Rattle.program_steps.specs.Machines.{Machine, state_of, numbers_of, flat_of}
-use Rattle.program_steps.specs.Ready.{count_in, IsGoing, IsBounded, HasBounds}
+use Rattle.program_steps.specs.Ready.{count_in, IsGoing, IsQuiet, IsBounded, HasBounds}
 use Rattle.program_steps.specs.Loop.{is_small, Taken, Took, HasTaken}
 use Rattle.program_steps.specs.Stepping.{links_in, settled, HasSettled, HasStepped, StepWay, Stays, AreMadeAt, ends_in_arrive}
 use Rattle.program_steps.proofs.Told.{mapped_same}
 use Rattle.program_steps.proofs.Bounds.{steps_goes, pages_first, bounded_stop}
-use Rattle.program_steps.proofs.ReadyLaws.{ready_went, order_on}
+use Rattle.program_steps.proofs.ReadyLaws.{ready_went, order_on, last_on}
 use Rattle.program_steps.proofs.Laws.{law_of, mapped_going}
 
 pub small_ready : (m : Machine) → IsGoing m → m.steps < 2 ^ 50 → is_small (numbers_of m) (2 ^ 60)
@@ -40,6 +48,7 @@ inner_last [] inner = refl
 inner_last (Plain b line ∷ ms) inner = inner_last ms (parts (is_inner (Plain b line)) (are_inner ms) inner).1
 inner_last (Serve line stops ∷ ms) inner = inner_last ms inner
 inner_last (Arrive target made ops ∷ ms) inner = absurd (cc)
+inner_last (Take stops ∷ ms) inner = absurd (cc)
 
 -- .. and makes no page
 inner_made : (ms : List Move) → are_inner ms ≡ true → AreMadeAt (λ t. ⊥) ms
@@ -47,6 +56,7 @@ inner_made [] inner = tt
 inner_made (Plain b line ∷ ms) inner = inner_made ms (parts (is_inner (Plain b line)) (are_inner ms) inner).1
 inner_made (Serve line stops ∷ ms) inner = inner_made ms inner
 inner_made (Arrive target made ops ∷ ms) inner = absurd (cc)
+inner_made (Take stops ∷ ms) inner = absurd (cc)
 
 -- a step that stops isn't counted
 steps_stop : (ms : List Move) (n : Numbers) → are_inner ms ≡ true → count_stop ms ≡ 1 → (numbered ms n).steps ≡ n.steps - 1
@@ -57,6 +67,7 @@ steps_stop (Plain false line ∷ ms) n inner one = steps_stop ms (moved (Plain f
 steps_stop (Serve line true ∷ ms) n inner one = steps_goes ms (moved (Serve line true) n) inner (omega arith)
 steps_stop (Serve line false ∷ ms) n inner one = steps_stop ms (moved (Serve line false) n) inner one ∙ omega arith
 steps_stop (Arrive target made ops ∷ ms) n inner one = absurd (cc)
+steps_stop (Take stops ∷ ms) n inner one = absurd (cc)
 
 stop_steps : (first : Option Line) (rest : List Move) (n : Numbers) → are_inner rest ≡ true → count_stop rest ≡ 1 → (numbered (Plain true first ∷ rest) n).steps ≡ n.steps
 unfolding moved
@@ -70,34 +81,62 @@ flat_same k k' a a' s s' c c' ek ea es ec = ap (λ (x : Kernel). state_at x a s 
 
 stays_by : (old new : Machine) → Keeps (state_of old) (state_of new) → Stays old new
 stays_by old new keeps = record {
-  program = ap₂ (λ i n. record { image = i; page_limit = n }) (ap₂ (λ (l : Layout) (f : Memory). image_of l f.words) keeps.layout keeps.flash) keeps.slots;
+  program = ap₂ (λ i n. record { image = i; page_limit = n; quantum = new.kernel.quantum }) (ap₂ (λ (l : Layout) (f : Memory). image_of l f.words) keeps.layout keeps.flash) keeps.slots ∙ ap (λ q. record { image = image_held old.kernel; page_limit = length old.kernel.mote.swap; quantum = q }) keeps.quantum;
   layout = keeps.layout;
   quantum = keeps.quantum;
   failing = ap (λ (f : Memory). f.failing) keeps.flash;
 }
 
 -- the step that goes on
-went_by : (old mid : Machine) (line : Option Line) (law : StepLaw (links_in old) (state_of old) old.at) (to : ℕ) → IsGoing old → mid.torn ≡ old.torn → Took old mid line law → GoesTo (links_in old) (state_of old) old.at law.line law.rest to law.end → HasStepped old (settled mid to) line
+-- what comes next, by what is tried
+next_as : (old new : Machine) (line : Option Line) (wakes : Bool) → IsGoing old → is_taken (flat_of old) ≡ false → (wakes ≡ true → line ≡ None)
+    → tried (program old.kernel) (flat_of old).now ≡ tried_as wakes line (flat_of new).now → new.crossings ≡ crossings_over old.at new.at old.crossings
+    → new.due ≡ (wakes || is_checkpoint old.at new.at (count_in old)) → next_of (program old.kernel) (flat_of old) ≡ flat_ends.On line (flat_of new)
+next_as old new line false ready untaken silent is crossings due =
+    let last = last_on old.kernel.quantum old.at new.at old.crossings (count_in old) ready.some ready.most ready.exact in
+    let same : (is_crossing old.at new.at && (new.crossings % old.kernel.quantum == 0)) ≡ new.due = ap (λ c. is_crossing old.at new.at && (c % old.kernel.quantum == 0)) crossings ∙ last ∙ sym due in
+    next_tried (program old.kernel) (flat_of old) _ untaken is ∙ ap (λ d. flat_ends.On line (record { now = (flat_of new).now; due = d })) same
+next_as old new line true ready untaken silent is crossings due =
+    next_tried (program old.kernel) (flat_of old) _ untaken is ∙ ap₂ (λ l d. flat_ends.On l (record { now = (flat_of new).now; due = d })) (sym (silent refl)) (sym due)
+
+-- behind a checkpoint no plain step has been made since the last service
+both_true : (b c : Bool) → b && c ≡ true → (b ≡ true) × (c ≡ true)
+both_true true true is = (refl, refl)
+both_true true false is = absurd (cc)
+both_true false c is = absurd (cc)
+
+is_one : (count : ℕ) → (count == 1) ≡ true → count ≡ 1
+is_one count is = grind (arith, nat_tests)
+
+fresh_by : (from to count : ℕ) (wakes : Bool) (rest : List Move) → (wakes ≡ true → (n : Numbers) → (numbered rest n).since ≡ 0) → (is_crossing from to ≡ true → count ≡ 1 → (n : Numbers) → (numbered rest n).since ≡ 0)
+    → (wakes || is_checkpoint from to count) ≡ true → (n : Numbers) → (numbered rest n).since ≡ 0
+fresh_by from to count true rest fresh reset on n = fresh refl n
+fresh_by from to count false rest fresh reset on n = let both = both_true (is_crossing from to) (count == 1) on in reset both.0 (is_one count both.1) n
+
+went_by : (old mid : Machine) (line : Option Line) (law : StepLaw (links_in old) (state_of old) old.at) (to : ℕ) → IsGoing old → is_taken (flat_of old) ≡ false → mid.torn ≡ old.torn → Took old mid line law → GoesTo (links_in old) (state_of old) old.at law.line law.rest to law.end → HasStepped old (settled mid to) line
 unfolding moved
-went_by old mid line law to ready torn took goes =
+went_by old mid line law to ready untaken torn took goes =
     let new = settled mid to in
     let crossed : crossings_over mid.at to mid.crossings ≡ crossings_over old.at to old.crossings = ap₂ (λ a c. crossings_over a to c) took.at took.crossings in
-    let taken : Taken old new law = record { state = took.taken.state; numbers = took.taken.numbers } in
+    let state : state_of new ≡ law.end = state_settled mid to ∙ took.taken.state in
+    let taken : Taken old new law = record { state = state; numbers = took.taken.numbers } in
+    let due : new.due ≡ (goes.wakes || is_checkpoint old.at to (count_in old)) = due_reached mid (links_in old) to _ law.end took.taken.state goes.reaches in
     let steps : mid.steps ≡ old.steps + 1 = ap (λ (k : Numbers). k.steps) took.taken.numbers ∙ steps_goes law.rest (moved (Plain true law.first) (numbers_of old)) law.inner goes.unstopped in
     let same : state_at law.end.kernel to (old.steps + 1)
-    (crossings_over old.at to old.crossings) ≡ flat_of new = flat_same law.end.kernel mid.kernel to to (old.steps + 1) mid.steps
+    (crossings_over old.at to old.crossings) ≡ (flat_of new).now = flat_same law.end.kernel mid.kernel to to (old.steps + 1) mid.steps
     (crossings_over old.at to old.crossings) (crossings_over mid.at to mid.crossings) (sym (ap (λ (s : State). s.kernel) took.taken.state)) refl
     (sym steps) (sym crossed) in
     record {
       moves = Plain true law.first ∷ law.rest;
-      goes = record { walk = subst (λ s. Walk (state_of old) (Plain true law.first ∷ law.rest) s) (sym took.taken.state) law.walk; told = law.lines ∙ ap (λ l. line_before l []) (sym took.written); numbers = took.taken.numbers };
+      goes = record { walk = subst (λ s. Walk (state_of old) (Plain true law.first ∷ law.rest) s) (sym state) law.walk; told = law.lines ∙ ap (λ l. line_before l []) (sym took.written); numbers = took.taken.numbers };
       last = inner_first law.first law.rest law.inner;
       some = λ e. cc;
       none_made = inner_made law.rest law.inner;
-      stays = stays_by old new (subst (Keeps (state_of old)) (sym took.taken.state) law.keeps);
+      stays = stays_by old new (subst (Keeps (state_of old)) (sym state) law.keeps);
       broken = took.broken;
       flash = ap (λ (s : State). (mote_of s).flash) took.taken.state ∙ law.keeps.flash;
-      way = StepWay.On (ready_went old new law to ready taken refl crossed goes.going goes.reaches goes.count goes.unstopped goes.reset torn) steps (goes.original old.steps old.crossings ∙ ap₂ flat_ends.Goes (sym took.written) same);
+      way = StepWay.On (ready_went old new law to _ ready taken refl crossed goes.going goes.reaches goes.count goes.unstopped goes.reset torn (fresh_by old.at to (count_in old) goes.wakes law.rest goes.fresh goes.reset)) (λ free. ap (λ o. is_some o && mid.due) free) steps
+          (next_as old new line goes.wakes ready untaken (λ w. took.written ∙ goes.silent w) (goes.original old.steps old.crossings ∙ ap₂ (tried_as goes.wakes) (sym took.written) same) crossed due);
     }
 
 bounded_to : (m : Machine) (n : Numbers) (c q : ℕ) → numbers_of m ≡ n → m.crossings ≡ c → m.kernel.quantum ≡ q → IsBounded n c q m.kernel.mote.devices.polls → HasBounds m
@@ -105,8 +144,8 @@ bounded_to m n c q numbers crossings quantum bounded =
     subst (λ x. IsBounded x m.crossings m.kernel.quantum m.kernel.mote.devices.polls) (sym numbers) (subst (λ x. IsBounded n x m.kernel.quantum m.kernel.mote.devices.polls) (sym crossings) (subst (λ x. IsBounded n c x m.kernel.mote.devices.polls) (sym quantum) bounded))
 
 -- the step that stops the program
-stopped_by : (old mid : Machine) (line : Option Line) (law : StepLaw (links_in old) (state_of old) old.at) (stop : Stop) → IsGoing old → mid.torn ≡ old.torn → Took old mid line law → StopsAt (state_of old) old.at law.line law.rest stop law.end → HasStepped old mid line
-stopped_by old mid line law stop ready torn took stops =
+stopped_by : (old mid : Machine) (line : Option Line) (law : StepLaw (links_in old) (state_of old) old.at) (stop : Stop) → IsGoing old → is_taken (flat_of old) ≡ false → mid.torn ≡ old.torn → Took old mid line law → StopsAt (state_of old) old.at law.line law.rest stop law.end → HasStepped old mid line
+stopped_by old mid line law stop ready untaken torn took stops =
     let steps : mid.steps ≡ old.steps = ap (λ (k : Numbers). k.steps) took.taken.numbers ∙ stop_steps law.first law.rest (numbers_of old) law.inner stops.stopped in
     let keeps : Keeps (state_of old) (state_of mid) = subst (Keeps (state_of old)) (sym took.taken.state) law.keeps in
     let stopped : mid.end ≡ Some (ends.Stopped stop) = ap (λ (s : State). s.end) took.taken.state ∙ stops.ended in
@@ -126,32 +165,37 @@ stopped_by old mid line law stop ready torn took stops =
             (count_in old) old.at old.kernel.mote.devices.polls mid.kernel.mote.devices.polls old.owed law.first law.rest ready.counted ready.arrivals ready.some ready.most law.inner law.few law.serves (stop_steps law.first law.rest (numbers_of old) law.inner stops.stopped) ready.polls keeps.polls);
         ended = λ going. let e : Some (ends.Stopped stop) ≡ None = sym stopped ∙ going in cc;
         exact = ap (λ (s : State). count_of s.kernel) took.taken.state ∙ stops.count ∙ ready.exact ∙ ap₂ (λ q c. q - c % q) (sym keeps.quantum) (sym took.crossings);
-      }) stopped (took.written ∙ stops.silent) steps (stops.original old.steps old.crossings)
-          (flat_same mid.kernel law.end.kernel mid.at old.at mid.steps old.steps mid.crossings old.crossings (ap (λ (s : State). s.kernel) took.taken.state) took.at steps took.crossings ∙ stops.same old.steps old.crossings);
+      }) stopped (took.written ∙ stops.silent) steps (next_tried (program old.kernel) (flat_of old) _ untaken (stops.original old.steps old.crossings))
+          (ap₂ (λ s d. record { now = s; due = d }) (flat_same mid.kernel law.end.kernel mid.at old.at mid.steps old.steps mid.crossings old.crossings (ap (λ (s : State). s.kernel) took.taken.state) took.at steps took.crossings ∙ stops.same old.steps old.crossings)
+          (took.due (free_of mid (ap (λ (s : State). s.owed) took.taken.state ∙ stops.free))));
     }
 
-stepped_as : (old mid new : Machine) (line : Option Line) (law : StepLaw (links_in old) (state_of old) old.at) → IsGoing old → mid.torn ≡ old.torn → Took old mid line law → mid.kernel.layout ≡ old.kernel.layout → mid.kernel.mote.flash ≡ old.kernel.mote.flash
+stepped_as : (old mid new : Machine) (line : Option Line) (law : StepLaw (links_in old) (state_of old) old.at) → IsGoing old → is_taken (flat_of old) ≡ false → mid.torn ≡ old.torn → Took old mid line law → mid.kernel.layout ≡ old.kernel.layout → mid.kernel.mote.flash ≡ old.kernel.mote.flash
     → HasSettled mid new → Outcome (links_in old) (state_of old) old.at law.line law.rest law.end → HasStepped old new line
-stepped_as old mid new line law ready torn took layout flash settle (Outcome.Went to goes) =
-    let W : Layout → Memory → State → Type 0 = λ l f s. Reaches (links_of l f.words) to s in
-    let there : Reaches (links_in mid) to (state_of mid) = subst (λ l. W l mid.kernel.mote.flash (state_of mid)) (sym layout) (subst (λ f. W old.kernel.layout f (state_of mid)) (sym flash) (subst (W old.kernel.layout old.kernel.mote.flash) (sym took.taken.state) goes.reaches)) in
-    subst (λ m. HasStepped old m line) (sym (settle.on to (ap (λ (s : State). s.end) took.taken.state ∙ goes.going) there))
-    (went_by old mid line law to ready torn took goes)
-stepped_as old mid new line law ready torn took layout flash settle (Outcome.Stopped stop stops) =
+stepped_as old mid new line law ready untaken torn took layout flash settle (Outcome.Went to goes) =
+    let due = goes.wakes || is_checkpoint old.at to (count_in old) in
+    let W : Layout → Memory → State → Type 0 = λ l f s. Reaches (links_of l f.words) to due s in
+    let there : Reaches (links_in mid) to due (state_of mid) = subst (λ l. W l mid.kernel.mote.flash (state_of mid)) (sym layout) (subst (λ f. W old.kernel.layout f (state_of mid)) (sym flash) (subst (W old.kernel.layout old.kernel.mote.flash) (sym took.taken.state) goes.reaches)) in
+    subst (λ m. HasStepped old m line) (sym (settle.on to due (ap (λ (s : State). s.end) took.taken.state ∙ goes.going) there))
+    (went_by old mid line law to ready untaken torn took goes)
+stepped_as old mid new line law ready untaken torn took layout flash settle (Outcome.Stopped stop stops) =
     let stopped : mid.end ≡ Some (ends.Stopped stop) = ap (λ (s : State). s.end) took.taken.state ∙ stops.ended in
     subst (λ m. HasStepped old m line) (sym (settle.over (λ going. let e : Some (ends.Stopped stop) ≡ None = sym stopped ∙ going in cc)))
-    (stopped_by old mid line law stop ready torn took stops)
+    (stopped_by old mid line law stop ready untaken torn took stops)
 
-pub gone_by : (old mid new : Machine) (line : Option Line) → IsGoing old → old.steps < 2 ^ 50 → old.owed ≡ None → mid.torn ≡ old.torn → HasTaken old mid line → mid.kernel.layout ≡ old.kernel.layout → mid.kernel.mote.flash ≡ old.kernel.mote.flash → HasSettled mid new → HasStepped old new line
-gone_by old mid new line ready few placed torn told layout flash settle =
-    let law = law_of old ready few placed in
-    stepped_as old mid new line law ready torn (told law) layout flash settle law.outcome
+pub gone_by : (old mid new : Machine) (line : Option Line) → IsGoing old → Timely old.kernel.mote.devices → is_taken (flat_of old) ≡ false → old.steps < 2 ^ 50 → old.owed ≡ None → mid.torn ≡ old.torn → HasTaken old mid line → mid.kernel.layout ≡ old.kernel.layout → mid.kernel.mote.flash ≡ old.kernel.mote.flash → HasSettled mid new → HasStepped old new line
+gone_by old mid new line ready timely untaken few placed torn told layout flash settle =
+    let law = law_of old ready timely few placed in
+    stepped_as old mid new line law ready untaken torn (told law) layout flash settle law.outcome
 
-pub few_after : (old mid : Machine) (line : Option Line) → IsGoing old → old.owed ≡ None → old.steps < 2 ^ 50 → HasTaken old mid line → mid.crossings < 2 ^ 62
-few_after old mid line ready placed steps told =
-    let same = (told (law_of old ready steps placed)).crossings in
+pub few_after : (old mid : Machine) (line : Option Line) → IsGoing old → Timely old.kernel.mote.devices → old.owed ≡ None → old.steps < 2 ^ 50 → HasTaken old mid line → mid.crossings < 2 ^ 62
+few_after old mid line ready timely placed steps told =
+    let same = (told (law_of old ready timely steps placed)).crossings in
     let few = ready.counted.crossed in
     omega arith
 
 pub mapped_after : (old mid : Machine) → IsGoing old → mid.kernel.layout ≡ old.kernel.layout → mid.kernel.mote.flash ≡ old.kernel.mote.flash → IsMapped mid.kernel.layout mid.kernel.mote.flash.words
 mapped_after old mid ready layout flash = mapped_same old mid layout flash (mapped_going old ready)
+
+pub quiet_after : (old mid : Machine) (line : Option Line) → IsGoing old → Timely old.kernel.mote.devices → old.owed ≡ None → old.steps < 2 ^ 50 → old.due ≡ false → HasTaken old mid line → IsQuiet mid
+quiet_after old mid line ready timely placed steps undue told = λ free. (told (law_of old ready timely steps placed)).due free ∙ undue

@@ -1,5 +1,6 @@
 -- From the law of a step to what the loop needs, and back.
-use Rattle.std.proofs.Common.{◌≡◌, ℕ, ◌+◌, ◌<◌, ◌≤◌, true, false, List, [], ◌∷◌, length, refl, sym, ap, ◌∙◌, arith, subst}
+use Rattle.program_steps.proofs.Awaiting.{free_of}
+use Rattle.std.proofs.Common.{Bool, ◌≡◌, ℕ, ◌+◌, ◌<◌, ◌≤◌, true, false, List, [], ◌∷◌, length, refl, sym, ap, ◌∙◌, arith, subst}
 use Rattle.std.specs.Prelude.{◌≢◌, max, Option, Some, None}
 use Rattle.std.specs.Option.{option_or}
 use Rattle.mote_core.proofs.NeverStops.{both as parts}
@@ -9,10 +10,10 @@ use Rattle.flash_model.specs.Memory.{Memory}
 use Rattle.flash_model.specs.Layouts.{IsRight}
 use Rattle.flash_model.specs.declared.layout.Layout.{Layout}
 use Rattle.program_steps.specs.Machines.{Machine, state_of, numbers_of}
-use Rattle.step_laws.specs.Moves.{Move, Plain, Serve, Arrive, lines_of, line_before, is_inner, are_inner}
+use Rattle.step_laws.specs.Moves.{Move, Plain, Serve, Arrive, Take, lines_of, line_before, is_inner, are_inner}
 use Rattle.step_laws.specs.Numbers.{Numbers, moved, numbered, one_if}
 use Rattle.step_laws.specs.States.{State, mote_of}
-use Rattle.step_laws.specs.Walks.{Walk}
+use Rattle.step_laws.specs.Walks.{Walk, Makes}
 use Rattle.step_laws.specs.StepLaws.{Reaches, Outcome, Keeps, links_at}
 use Rattle.program_steps.specs.Loop.{IsOver, CanMove, HasMoved, LawOf, moves_of, moves_made, Rest, IsMidway, Took, line_of_move}
 use Rattle.program_steps.proofs.Told.{inner_of_step, none_left, moved_made}
@@ -21,14 +22,14 @@ some_none : {A : Type 0} (o : Option A) (a : A) → o ≡ Some a → o ≢ None
 some_none o a is = λ none. let e : Some a ≡ None = sym is ∙ none in cc
 
 -- where a step leads it is over
-over_reached : (x z : State) (to : ℕ) → Keeps x z → Reaches (links_at x) to z → IsOver z
-over_reached x z to keeps (Reaches.Placed free entry) =
+over_reached : (x z : State) (to : ℕ) (due : Bool) → Keeps x z → Reaches (links_at x) to due z → IsOver z
+over_reached x z to due keeps (Reaches.Placed quiet free entry) =
     let P : Layout → List ℕ → Type 0 = λ l w. IsEntry l w to (mote_of z).cpu.pc in
     IsOver.Reached (to, subst (λ l. P l (mote_of z).flash.words) (sym keeps.layout) (subst (λ (f : Memory). P x.kernel.layout f.words) (sym keeps.flash) entry))
-over_reached x z to keeps (Reaches.Owing stub owes of) = IsOver.Owes (some_none z.owed _ owes)
+over_reached x z to due keeps (Reaches.Owing stub alone owes of) = IsOver.Owes (some_none z.owed _ owes)
 
 over_by : (x z : State) (a : ℕ) (line : Option Line) (rest : List Move) → Keeps x z → Outcome (links_at x) x a line rest z → IsOver z
-over_by x z a line rest keeps (Outcome.Went to goes) = over_reached x z to keeps goes.reaches
+over_by x z a line rest keeps (Outcome.Went to goes) = over_reached x z to _ keeps goes.reaches
 over_by x z a line rest keeps (Outcome.Stopped stop stops) = IsOver.Ended (some_none z.end _ stops.ended)
 
 over_law : (old : Machine) (law : LawOf old) → IsOver law.end
@@ -53,11 +54,19 @@ unfolding lines_of
 lines_moved (Plain b line) ms = refl
 lines_moved (Serve line stops) ms = refl
 lines_moved (Arrive target made ops) ms = refl
+lines_moved (Take stops) ms = refl
 
 -- behind a move: what is left, from what was left before it
 lines_on : (before after one : Option Line) (m : Move) (ms : List Move) → after ≡ option_or (line_of_move m) before → line_before before (lines_of (m ∷ ms)) ≡ line_before one [] → line_before after (lines_of ms) ≡ line_before one []
 lines_on before after one m ms written lines =
     ap (λ l. line_before l (lines_of ms)) written ∙ line_kept before (line_of_move m) one (lines_of ms) (sym (ap (line_before before) (lines_moved m ms)) ∙ lines)
+
+-- a move in the midst of a step is made where nothing is owed
+free_move : (x : State) (m : Move) (y : State) → is_inner m ≡ true → Makes x m y → x.owed ≡ None
+free_move x (Plain b line) y inner makes = makes.free
+free_move x (Serve line stops) y inner makes = makes.free
+free_move x (Arrive target made ops) y inner makes = absurd (cc)
+free_move x (Take stops) y inner makes = absurd (cc)
 
 -- behind the first move, by a machine that counted the step before
 counted : (n : Numbers) (line : Option Line) → ◌≡◌ {A = Numbers} (moved (Plain false line) (record n { steps = n.steps + 1 })) (moved (Plain true line) n)
@@ -79,14 +88,15 @@ rest_first old new after law told =
       at = t.at;
       broken = t.broken;
       crossings = t.crossings;
+      due = t.due;
       lines = lines_on None after law.line (Plain true law.first) law.rest t.written law.lines;
     }
 
 rest_by : (old now new : Machine) (before after : Option Line) (law : LawOf old) (ms : List Move) → Walk (state_of now) ms law.end → are_inner ms ≡ true → length ms + moves_made now ≤ moves_made old + 65
-    → numbered ms (numbers_of now) ≡ numbered (moves_of old law) (numbers_of old) → now.at ≡ old.at → now.broken ≡ old.broken → now.crossings ≡ old.crossings
+    → numbered ms (numbers_of now) ≡ numbered (moves_of old law) (numbers_of old) → now.at ≡ old.at → now.broken ≡ old.broken → now.crossings ≡ old.crossings → (now.owed ≡ None → now.due ≡ old.due)
     → line_before before (lines_of ms) ≡ line_before law.line [] → ¬ IsOver (state_of now) → HasMoved now new before after → Rest old new after law
-rest_by old now new before after law [] walk inner short numbers at broken crossings lines on told = absurd (on (subst IsOver (sym walk) (over_law old law)))
-rest_by old now new before after law (m ∷ ms) walk inner short numbers at broken crossings lines on told =
+rest_by old now new before after law [] walk inner short numbers at broken crossings due lines on told = absurd (on (subst IsOver (sym walk) (over_law old law)))
+rest_by old now new before after law (m ∷ ms) walk inner short numbers at broken crossings due lines on told =
     let both = parts (is_inner m) (are_inner ms) inner in
     let of_step = inner_of_step m both.0 in
     let t = told m walk.0 walk.1 of_step.0 in
@@ -100,6 +110,7 @@ rest_by old now new before after law (m ∷ ms) walk inner short numbers at brok
       at = t.at ∙ at;
       broken = t.broken ∙ broken;
       crossings = t.crossings ∙ crossings;
+      due = λ free. t.due free ∙ due (free_of now (free_move (state_of now) m walk.0 both.0 walk.1));
       lines = lines_on before after law.line m ms t.written lines;
     }
 
@@ -109,7 +120,7 @@ midway_on old now new before after (IsMidway.Begun same silent) told law =
     rest_first old new after law (subst (λ m. HasMoved m new None after) same (subst (λ l. HasMoved now new l after) silent told))
 midway_on old now new before after (IsMidway.Going on left) told law =
     let r = left law in
-    rest_by old now new before after law r.rest r.walk r.inner r.short r.numbers r.at r.broken r.crossings r.lines on told
+    rest_by old now new before after law r.rest r.walk r.inner r.short r.numbers r.at r.broken r.crossings r.due r.lines on told
 
 -- some move of the step may be made
 next_by : (x z : State) (ms : List Move) → Walk x ms z → are_inner ms ≡ true → IsOver z → ¬ IsOver x → CanMove x
@@ -133,12 +144,12 @@ midway_few old now line law (IsMidway.Going on left) = let r = left law in few_b
 
 -- where it is over, all moves were made
 took_by : (old new : Machine) (line : Option Line) (law : LawOf old) (ms : List Move) → ms ≡ [] → Walk (state_of new) ms law.end → numbered ms (numbers_of new) ≡ numbered (moves_of old law) (numbers_of old)
-    → new.at ≡ old.at → new.broken ≡ old.broken → new.crossings ≡ old.crossings → line_before line (lines_of ms) ≡ line_before law.line [] → Took old new line law
+    → new.at ≡ old.at → new.broken ≡ old.broken → new.crossings ≡ old.crossings → (new.owed ≡ None → new.due ≡ old.due) → line_before line (lines_of ms) ≡ line_before law.line [] → Took old new line law
 unfolding lines_of
-took_by old new line law [] none walk numbers at broken crossings lines =
-    record { taken = record { state = walk; numbers = numbers }; written = same_line line law.line lines; at = at; broken = broken; crossings = crossings }
-took_by old new line law (m ∷ ms) none walk numbers at broken crossings lines = absurd (cc)
+took_by old new line law [] none walk numbers at broken crossings due lines =
+    record { taken = record { state = walk; numbers = numbers }; written = same_line line law.line lines; at = at; broken = broken; crossings = crossings; due = due }
+took_by old new line law (m ∷ ms) none walk numbers at broken crossings due lines = absurd (cc)
 
 pub took_over : (old new : Machine) (line : Option Line) → IsRight new.kernel.layout → IsMapped new.kernel.layout new.kernel.mote.flash.words → IsOver (state_of new) → (law : LawOf old) → Rest old new line law → Took old new line law
 took_over old new line right mapped over law r =
-    took_by old new line law r.rest (none_left (state_of new) law.end r.rest right mapped r.walk r.inner over) r.walk r.numbers r.at r.broken r.crossings r.lines
+    took_by old new line law r.rest (none_left (state_of new) law.end r.rest right mapped r.walk r.inner over) r.walk r.numbers r.at r.broken r.crossings r.due r.lines

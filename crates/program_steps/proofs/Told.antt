@@ -1,4 +1,5 @@
 -- What one call tells of a move.
+use Rattle.program_steps.proofs.Awaiting.{owes_of}
 use Rattle.std.proofs.Common.{◌≡◌, ℕ, ◌+◌, ◌-◌, ◌<◌, ◌≤◌, Bool, true, false, List, [], ◌∷◌, refl, sym, ap, ap₂, ◌∙◌, arith, subst, inl, inr}
 use Rattle.std.specs.Prelude.{◌⊎◌, ◌^◌, max, is_some, IfNone, Option, Some, None}
 use Rattle.mote_devices.specs.declared.line.Line.{Line}
@@ -9,11 +10,11 @@ use Rattle.mote_core.specs.Step.{IsPlainStep}
 use Rattle.mote_core.proofs.KnownSteps.{one_step}
 use Rattle.kernel_entry.specs.declared.kernel.Kernel.{Kernel}
 use Rattle.kernel_entry.specs.declared.kernel.Served.{Served}
-use Rattle.kernel_entry.specs.Services.{served}
+use Rattle.kernel_entry.specs.Services.{served, is_due}
 use Rattle.branch_bridge.specs.declared.rewriting.Torn.{Torn}
 use Rattle.step_laws.specs.declared.moves.Owed.{Owed}
 use Rattle.step_laws.specs.declared.moves.End.{End}
-use Rattle.step_laws.specs.Moves.{Move, Plain as PlainMove, Serve, Arrive}
+use Rattle.step_laws.specs.Moves.{Move, Plain as PlainMove, Serve, Arrive, Take}
 use Rattle.step_laws.specs.Numbers.{Numbers, moved, one_if}
 use Rattle.page_index.specs.Entries.{IsEntry, IsMapped}
 use Rattle.page_index.specs.Cursors.{IsCursor}
@@ -26,7 +27,7 @@ use Rattle.program_steps.specs.Machines.{Machine}
 use Rattle.program_steps.specs.Machines.{state_of, numbers_of}
 use Rattle.step_laws.specs.Moves.{is_inner, are_inner}
 use Rattle.program_steps.specs.Loop.{IsHalted, is_small, IsOver, CanPlain, CanServeNow, HasPlain, HasServed, CanMove, HasMoved, is_of_step, uncounted, moves_made}
-use Rattle.step_laws.specs.States.{State, mote_of, with_mote, after_service, line_served, is_stop}
+use Rattle.step_laws.specs.States.{Awaited, State, mote_of, with_mote, after_service, line_served, is_stop}
 use Rattle.step_laws.specs.Walks.{Makes, MakesPlain, MakesServe, Walk}
 use Rattle.step_laws.proofs.MoveLaws.{entry_high, pool_low}
 use Rattle.nat_page.specs.Entered.{IsPlace}
@@ -49,9 +50,9 @@ plain_numbers n line before longest ops counted is stays =
     ∙ ap₂ (λ s l. record n { steps = s; natural = n.natural + 1; since = n.since + 1; longest = l }) same reach
 
 -- a service, from what it answered
-pub serve_state : (x y : State) (answer : Served) (k : Kernel) (line : Option Line) (stops : Bool) → (answer, k) ≡ served x.kernel → MakesServe x line stops y → (after_service (answer, k) ≡ y) × (line_served answer ≡ line) × (is_stop answer ≡ stops)
-serve_state x y answer k line stops is makes =
-    (ap after_service is ∙ sym makes.result, ap (λ (o : Served × Kernel). line_served o.0) is ∙ makes.written, ap (λ (o : Served × Kernel). is_stop o.0) is ∙ makes.halts)
+pub serve_state : (x y : State) (answer : Served) (k : Kernel) (due : Bool) (line : Option Line) (stops : Bool) → (answer, k) ≡ served x.kernel → due ≡ is_due x.kernel → MakesServe x line stops y → (after_service due (answer, k) ≡ y) × (line_served answer ≡ line) × (is_stop answer ≡ stops)
+serve_state x y answer k due line stops is same makes =
+    (ap₂ after_service same is ∙ sym makes.result, ap (λ (o : Served × Kernel). line_served o.0) is ∙ makes.written, ap (λ (o : Served × Kernel). is_stop o.0) is ∙ makes.halts)
 
 pub serve_numbers : (n : Numbers) (line : Option Line) (stops b : Bool) (steps natural longest ops : ℕ) → b ≡ stops → steps ≡ n.steps - one_if b → natural ≡ n.natural → longest ≡ n.longest → ops ≡ n.ops
     → ◌≡◌ {A = Numbers} (record n { steps = steps; natural = natural; entries = n.entries + 1; since = 0; longest = longest; ops = ops }) (moved (Serve line stops) n)
@@ -62,10 +63,10 @@ serve_numbers n line stops b steps natural longest ops same is counted raised st
     ∙ ap₂ (λ s l. record n { steps = s; entries = n.entries + 1; since = 0; longest = l }) (is ∙ ap (λ c. n.steps - one_if c) same) raised
 
 -- states that differ in what they are made of
-pub same_state : (k : Kernel) (o o' : Option Owed) (e e' : Option End) (t t' : Option Torn) → o ≡ o' → e ≡ e' → t ≡ t'
+pub same_state : (k : Kernel) (o o' : Option Awaited) (e e' : Option End) (t t' : Option Torn) → o ≡ o' → e ≡ e' → t ≡ t'
     → ◌≡◌ {A = State} (record { kernel = k; owed = o; end = e; torn = t }) (record { kernel = k; owed = o'; end = e'; torn = t' })
 same_state k o o' e e' t t' eo ee et =
-    let S : Option Owed → Option End → Option Torn → State = λ x y z. record { kernel = k; owed = x; end = y; torn = z } in
+    let S : Option Awaited → Option End → Option Torn → State = λ x y z. record { kernel = k; owed = x; end = y; torn = z } in
     ap (λ x. S x e t) eo ∙ ap (λ y. S o' y t) ee ∙ ap (λ z. S o' e' z) et
 
 pub none_behind : (n : ℕ) → n + 0 ≡ n
@@ -93,6 +94,7 @@ plain_by : (x y : State) (move : Move) → Makes x move y → is_of_step move �
 plain_by x y (PlainMove b line) makes of_step low = record { begins = b; line = line; next = y; makes = makes }
 plain_by x y (Serve line stops) makes of_step low = absurd (let e = entry_high x.kernel makes.can in omega arith)
 plain_by x y (Arrive target made ops) makes of_step low = absurd (cc)
+plain_by x y (Take stops) makes of_step low = absurd (cc)
 
 pub can_plain : (x : State) → CanMove x → (mote_of x).cpu.pc < 0xF000 → CanPlain x
 can_plain x can low = plain_by x can.next can.move can.makes can.of_step low
@@ -101,6 +103,7 @@ serve_by : (x y : State) (move : Move) → IsRight x.kernel.layout → Makes x m
 serve_by x y (PlainMove b line) right makes of_step high = absurd (let e = pool_low x.kernel.layout (mote_of x).cpu.pc right makes.pool in omega arith)
 serve_by x y (Serve line stops) right makes of_step high = record { line = line; stops = stops; next = y; makes = makes }
 serve_by x y (Arrive target made ops) right makes of_step high = absurd (cc)
+serve_by x y (Take stops) right makes of_step high = absurd (cc)
 
 pub can_serve : (x : State) → IsRight x.kernel.layout → CanMove x → 0xF000 ≤ (mote_of x).cpu.pc → CanServeNow x
 can_serve x right can high = serve_by x can.next can.move right can.makes can.of_step high
@@ -108,16 +111,18 @@ can_serve x right can high = serve_by x can.next can.move right can.makes can.of
 pub moved_plain : (old new : Machine) (before after : Option Line) → HasPlain old new before after → old.kernel.mote.cpu.pc < 0xF000 → HasMoved old new before after
 moved_plain old new before after told low (PlainMove b written) next makes of_step =
     let t = told b written next makes in
-    record { state = t.0; numbers = t.1; written = t.2; at = t.3; broken = t.4; crossings = t.5 }
+    record { state = t.0; numbers = t.1; written = t.2; at = t.3; broken = t.4; crossings = t.5; due = λ free. t.6 }
 moved_plain old new before after told low (Serve written stops) next makes of_step = absurd (let e = entry_high old.kernel makes.can in omega arith)
 moved_plain old new before after told low (Arrive target made ops) next makes of_step = absurd (cc)
+moved_plain old new before after told low (Take stops) next makes of_step = absurd (cc)
 
 pub moved_serve : (old new : Machine) (before after : Option Line) → IsRight old.kernel.layout → HasServed old new before after → 0xF000 ≤ old.kernel.mote.cpu.pc → HasMoved old new before after
 moved_serve old new before after right told high (Serve written stops) next makes of_step =
     let t = told written stops next makes in
-    record { state = t.0; numbers = t.1; written = t.2; at = t.3; broken = t.4; crossings = t.5 }
+    record { state = t.0; numbers = t.1; written = t.2; at = t.3; broken = t.4; crossings = t.5; due = t.6 }
 moved_serve old new before after right told high (PlainMove b written) next makes of_step = absurd (let e = pool_low old.kernel.layout old.kernel.mote.cpu.pc right makes.pool in omega arith)
 moved_serve old new before after right told high (Arrive target made ops) next makes of_step = absurd (cc)
+moved_serve old new before after right told high (Take stops) next makes of_step = absurd (cc)
 
 -- a move in the midst of a step is one of a step, and counts as it is
 pub inner_of_step : (m : Move) → is_inner m ≡ true → (is_of_step m ≡ true) × (uncounted m ≡ m)
@@ -125,6 +130,7 @@ inner_of_step (PlainMove true line) inner = absurd (cc)
 inner_of_step (PlainMove false line) inner = (refl, refl)
 inner_of_step (Serve line stops) inner = (refl, refl)
 inner_of_step (Arrive target made ops) inner = absurd (cc)
+inner_of_step (Take stops) inner = absurd (cc)
 
 -- an entry's place is in the pool
 low_by : (layout : Layout) (words : List ℕ) (t a : ℕ) → IsRight layout → (entry : IsEntry layout words t a) → IsFree words entry.page ⊎ IsMap words entry.page → a < 0xF000
@@ -150,6 +156,7 @@ none_left x z (Serve line stops ∷ ms) right mapped walk inner (IsOver.Owes owe
 none_left x z (Serve line stops ∷ ms) right mapped walk inner (IsOver.Ended ended) = absurd (ended walk.1.going)
 none_left x z (Serve line stops ∷ ms) right mapped walk inner (IsOver.Reached place) = absurd (let e = place_low x.kernel.layout (mote_of x).flash.words (mote_of x).cpu.pc right mapped place in let f = entry_high x.kernel walk.1.can in omega arith)
 none_left x z (Arrive target made ops ∷ ms) right mapped walk inner over = absurd (cc)
+none_left x z (Take stops ∷ ms) right mapped walk inner over = absurd (cc)
 
 -- numbers grow by one a move
 pub small_moved : (n : Numbers) (m : Move) (top : ℕ) → is_small n top → is_small (moved m n) (top + 1)
@@ -157,6 +164,7 @@ unfolding moved
 small_moved n (PlainMove b line) top small = let a = small.natural in let b = small.entries in let c = small.since in record { natural = omega arith; entries = omega arith; since = omega arith }
 small_moved n (Serve line stops) top small = let a = small.natural in let b = small.entries in let c = small.since in record { natural = omega arith; entries = omega arith; since = omega arith }
 small_moved n (Arrive target made ops) top small = let a = small.natural in let b = small.entries in let c = small.since in record { natural = omega arith; entries = omega arith; since = omega arith }
+small_moved n (Take stops) top small = let a = small.natural in let b = small.entries in let c = small.since in record { natural = omega arith; entries = omega arith; since = omega arith }
 
 -- each move of a step is one more
 made_by : (m : Move) (n k : Numbers) → is_of_step m ≡ true → k ≡ moved (uncounted m) n → k.natural + k.entries ≡ n.natural + n.entries + 1
@@ -164,6 +172,7 @@ unfolding moved
 made_by (PlainMove b line) n k of_step is = ap (λ (x : Numbers). x.natural + x.entries) is ∙ omega arith
 made_by (Serve line stops) n k of_step is = ap (λ (x : Numbers). x.natural + x.entries) is ∙ omega arith
 made_by (Arrive target made ops) n k of_step is = absurd (cc)
+made_by (Take stops) n k of_step is = absurd (cc)
 
 pub moved_made : (now new : Machine) (before after : Option Line) → CanMove (state_of now) → HasMoved now new before after → moves_made new ≡ moves_made now + 1
 moved_made now new before after can told = made_by can.move (numbers_of now) (numbers_of new) can.of_step (told can.move can.next can.makes can.of_step).numbers
@@ -191,7 +200,7 @@ mapped_same old now layout flash mapped =
 
 -- the step is over
 pub over_halted : (m : Machine) → IsHalted m → IsOver (state_of m)
-over_halted m (IsHalted.Owes owes going) = IsOver.Owes owes
+over_halted m (IsHalted.Owes owes going) = IsOver.Owes (owes_of m owes)
 over_halted m (IsHalted.Ended free ended) = IsOver.Ended ended
 
 pub none_there : (layout : Layout) (words : List ℕ) (v : ℕ) (found : Option ℕ) → ((t : ℕ) → IsEntry layout words t v → found ≡ Some t) → IfNone found ((t : ℕ) → ¬ IsEntry layout words t v)

@@ -3,5 +3,6 @@ pub mod Machines
 pub mod Wholes
 pub mod Ready
 pub mod Loop
+pub mod Interrupts
 pub mod Stepping
 pub mod Several

@@ -13,7 +13,7 @@ use Rattle.step_laws.specs.declared.moves.Owed.{Owed}
 use Rattle.program_steps.specs.declared.progress.Progress.{Progress}
 use Rattle.program_steps.specs.Machines.{Machine, state_of, numbers_of}
 use Rattle.step_laws.specs.StepLaws.{StepLaw, crossings_over, links_at}
-use Rattle.step_laws.specs.Moves.{Move, Plain, Serve, Arrive, lines_of, line_before}
+use Rattle.step_laws.specs.Moves.{Move, Plain, Serve, Arrive, Take, lines_of, line_before}
 use Rattle.step_laws.specs.Numbers.{Numbers, moved, numbered, one_if}
 use Rattle.step_laws.specs.States.{State, mote_of, store_of, end_by}
 use Rattle.step_laws.specs.Walks.{Makes, MakesPlain, MakesServe, MakesArrive, Walk}
@@ -37,7 +37,7 @@ pub record CanPlain (x : State) : Type 0 where
 abbrev pub HasPlain : Machine → Machine → (before after : Option Line) → Type 0
 HasPlain old new before after = (begins : Bool) → (line : Option Line) → (y : State) → MakesPlain (state_of old) begins line y
     → (state_of new ≡ y) × (numbers_of new ≡ moved (Plain false line) (numbers_of old)) × (after ≡ option_or line before) × (new.at ≡ old.at) ×
-    (new.broken ≡ old.broken) × (new.crossings ≡ old.crossings)
+    (new.broken ≡ old.broken) × (new.crossings ≡ old.crossings) × (new.due ≡ old.due)
 
 -- the same of a service
 pub record CanServeNow (x : State) : Type 0 where
@@ -49,7 +49,7 @@ pub record CanServeNow (x : State) : Type 0 where
 abbrev pub HasServed : Machine → Machine → (before after : Option Line) → Type 0
 HasServed old new before after = (line : Option Line) → (stops : Bool) → (y : State) → MakesServe (state_of old) line stops y
     → (state_of new ≡ y) × (numbers_of new ≡ moved (Serve line stops) (numbers_of old)) × (after ≡ option_or line before) × (new.at ≡ old.at) ×
-    (new.broken ≡ old.broken) × (new.crossings ≡ old.crossings)
+    (new.broken ≡ old.broken) × (new.crossings ≡ old.crossings) × (new.owed ≡ None → new.due ≡ old.due)
 
 -- a step of the program is over
 pub data IsOver (x : State) : Type 0 where
@@ -77,6 +77,7 @@ abbrev pub is_of_step : Move → Bool
 is_of_step (Plain begins line) = true
 is_of_step (Serve line stops) = true
 is_of_step (Arrive target made ops) = false
+is_of_step (Take stops) = false
 
 -- some move of a step may be made, and whichever may, it was made
 pub record CanMove (x : State) : Type 0 where
@@ -89,12 +90,14 @@ abbrev pub line_of_move : Move → Option Line
 line_of_move (Plain begins line) = line
 line_of_move (Serve line stops) = line
 line_of_move (Arrive target made ops) = None
+line_of_move (Take stops) = None
 
 -- the move, where the step that it may begin was counted before
 abbrev pub uncounted : Move → Move
 uncounted (Plain begins line) = Plain false line
 uncounted (Serve line stops) = Serve line stops
 uncounted (Arrive target made ops) = Arrive target made ops
+uncounted (Take stops) = Take stops
 
 pub record Moved (old new : Machine) (before after : Option Line) (move : Move) (next : State) : Type 0 where
   pub state : state_of new ≡ next
@@ -103,6 +106,7 @@ pub record Moved (old new : Machine) (before after : Option Line) (move : Move) 
   pub at : new.at ≡ old.at
   pub broken : new.broken ≡ old.broken
   pub crossings : new.crossings ≡ old.crossings
+  pub due : new.owed ≡ None → new.due ≡ old.due
 
 abbrev pub HasMoved : Machine → Machine → (before after : Option Line) → Type 0
 HasMoved old new before after = (move : Move) → (next : State) → Makes (state_of old) move next → is_of_step move ≡ true → Moved old new before after move next
@@ -118,6 +122,7 @@ pub record HasArrived (old new : Machine) : Type 0 where
   pub at : new.at ≡ old.at
   pub broken : new.broken ≡ old.broken
   pub crossings : new.crossings ≡ old.crossings
+  pub due : new.due ≡ old.due
 
 -- what is counted of an arrival, and how a refused one ends the program
 abbrev pub noted_refusal : Option Refused → Progress → Progress
@@ -148,6 +153,7 @@ pub record Rest (old now : Machine) (line : Option Line) (law : LawOf old) : Typ
   pub at : now.at ≡ old.at
   pub broken : now.broken ≡ old.broken
   pub crossings : now.crossings ≡ old.crossings
+  pub due : now.owed ≡ None → now.due ≡ old.due
   pub lines : line_before line (lines_of rest) ≡ line_before law.line []
 
 -- A step was counted, and has not moved yet; or some of its moves were made, whichever the law gives, and it
@@ -167,6 +173,7 @@ pub record Took (old new : Machine) (line : Option Line) (law : LawOf old) : Typ
   pub at : new.at ≡ old.at
   pub broken : new.broken ≡ old.broken
   pub crossings : new.crossings ≡ old.crossings
+  pub due : new.owed ≡ None → new.due ≡ old.due
 
 abbrev pub HasTaken : Machine → Machine → Option Line → Type 0
 HasTaken old new line = (law : LawOf old) → Took old new line law

@@ -18,7 +18,7 @@ use Rattle.step_laws.specs.declared.moves.Owed.{Owed}
 use Rattle.step_laws.specs.declared.moves.End.TheVariants as ends
 use Rattle.step_laws.specs.Numbers.{Numbers}
 use Rattle.step_laws.specs.StepLaws.{Reaches, links_at}
-use Rattle.program_steps.specs.Machines.{Machine, state_of, numbers_of}
+use Rattle.program_steps.specs.Machines.{Machine, state_of, numbers_of, awaits}
 
 -- COUNT, the crossings that are left in the quantum
 abbrev pub count_in : Machine → ℕ
@@ -115,16 +115,22 @@ pub record IsGoing (m : Machine) : Type 0 where
   pub top : m.kernel.mote.cpu.sp ≡ kernel_stack_top
   pub some : 1 ≤ count_in m
   pub most : count_in m ≤ m.kernel.quantum
-  pub stands : Reaches (links_at (state_of m)) m.at (state_of m)
+  pub stands : Reaches (links_at (state_of m)) m.at (awaits m) (state_of m)
   pub counted : IsCounted (numbers_of m) m.crossings m.kernel.quantum (count_in m) m.at
   pub arrivals : AreArrivals (numbers_of m) (most_arrivals m.owed m.steps)
   pub polls : m.kernel.mote.devices.polls ≤ m.steps + 2 ^ 32
   pub exact : IsExact m
+  pub fresh : awaits m ≡ true → m.since ≡ 0
+
+-- where nothing is owed, no interrupt is due
+abbrev pub IsQuiet : Machine → Type 0
+IsQuiet m = m.owed ≡ None → m.due ≡ false
 
 pub record IsReady (m : Machine) : Type 0 where
   pub sound : IsSound m
   pub exact : IsExact m
   pub going : m.end ≡ None → IsGoing m
+  pub quiet : m.end ≡ None → IsQuiet m
 
 -- what the type `Machine` keeps
 pub record IsKept (m : Machine) : Type 0 where

@@ -3,21 +3,21 @@ use Rattle.std.specs.Prelude.{◌≡◌, ◌≢◌, ℕ, ◌+◌, Bool, true, fa
 use Rattle.avr_isa.specs.Image.{is_inside}
 use Rattle.flash_model.specs.Operations.{is_listed}
 use Rattle.mote_devices.specs.declared.line.Line.{Line}
-use Rattle.mem_guard.specs.FlatMachine.{Stops, tried}
+use Rattle.mem_guard.specs.FlatMachine.{Ends, next_of, is_taken}
 use Rattle.mem_guard.specs.FlatMachine as flat_ends
 use Rattle.kernel_entry.specs.declared.kernel.Stop.{Stop}
 use Rattle.kernel_entry.specs.Parts.{image_held}
 use Rattle.kernel_entry.specs.Texts.{line_text}
 use Rattle.step_laws.specs.declared.moves.End.{End}
 use Rattle.step_laws.specs.declared.moves.End.TheVariants as ends
-use Rattle.step_laws.specs.Moves.{Move, Plain, Serve, Arrive, lines_of, line_before}
+use Rattle.step_laws.specs.Moves.{Move, Plain, Serve, Arrive, Take, lines_of, line_before}
 use Rattle.step_laws.specs.Numbers.{numbered}
 use Rattle.step_laws.specs.Walks.{Walk}
 use Rattle.step_laws.specs.Links.{Links}
 use Rattle.step_laws.specs.StepLaws.{Reaches, links_at, crossings_over}
 use Rattle.kernel_entry.specs.Seen.{program as program_of, end_of}
-use Rattle.program_steps.specs.Machines.{Machine, state_of, numbers_of, flat_of}
-use Rattle.program_steps.specs.Ready.{IsGoing, IsEnded}
+use Rattle.program_steps.specs.Machines.{Machine, state_of, numbers_of, flat_of, awaits}
+use Rattle.program_steps.specs.Ready.{IsGoing, IsQuiet, IsEnded}
 
 -- the text of device lines, one after another
 abbrev pub lines_text : List Line → List ℕ
@@ -29,14 +29,14 @@ links_in m = links_at (state_of m)
 
 -- where the machine stands is told
 abbrev pub IsTold : Machine → ℕ → Type 0
-IsTold m result = (t : ℕ) → Reaches (links_in m) t (state_of m) → result ≡ t
+IsTold m result = (t : ℕ) → (due : Bool) → Reaches (links_in m) t due (state_of m) → result ≡ t
 
 -- a step led to this address
 abbrev pub settled : Machine → ℕ → Machine
-settled m to = record m { at = to; crossings = crossings_over m.at to m.crossings }
+settled m to = record m { at = to; crossings = crossings_over m.at to m.crossings; due = awaits m }
 
 pub record HasSettled (old new : Machine) : Type 0 where
-  pub on : (to : ℕ) → old.end ≡ None → Reaches (links_in old) to (state_of old) → new ≡ settled old to
+  pub on : (to : ℕ) → (due : Bool) → old.end ≡ None → Reaches (links_in old) to due (state_of old) → new ≡ settled old to
   pub over : old.end ≢ None → new ≡ old
 
 -- whether the last move is an arrival
@@ -58,6 +58,7 @@ AreMadeAt holds (Arrive target true ops ∷ moves) = holds target × AreMadeAt h
 AreMadeAt holds (Arrive target false ops ∷ moves) = AreMadeAt holds moves
 AreMadeAt holds (Plain begins line ∷ moves) = AreMadeAt holds moves
 AreMadeAt holds (Serve line stops ∷ moves) = AreMadeAt holds moves
+AreMadeAt holds (Take stops ∷ moves) = AreMadeAt holds moves
 
 -- the program, the layout, the quantum and the list of operations that are to fail stay
 pub record Stays (old new : Machine) : Type 0 where
@@ -69,10 +70,10 @@ pub record Stays (old new : Machine) : Type 0 where
 -- The step goes on as the original program's does; or it stops the program where the original stops, and
 -- then nothing that the program sees has changed.
 pub data StepWay (old new : Machine) (line : Option Line) : Type 0 where
-  On : IsGoing new → new.steps ≡ old.steps + 1
-      → tried (program_of old.kernel) (flat_of old) ≡ flat_ends.Goes line (flat_of new) → StepWay old new line
+  On : IsGoing new → IsQuiet new → new.steps ≡ old.steps + 1
+      → next_of (program_of old.kernel) (flat_of old) ≡ flat_ends.On line (flat_of new) → StepWay old new line
   Stopped : (stop : Stop) → IsEnded new → new.end ≡ Some (ends.Stopped stop) → line ≡ None → new.steps ≡ old.steps
-      → tried (program_of old.kernel) (flat_of old) ≡ Stops (end_of stop) → flat_of new ≡ flat_of old → StepWay old new line
+      → next_of (program_of old.kernel) (flat_of old) ≡ Ends (end_of stop) → flat_of new ≡ flat_of old → StepWay old new line
 
 -- what one step leaves: moves, none of which is an arrival, and where they lead
 pub record HasStepped (old new : Machine) (line : Option Line) : Type 0 where
@@ -94,7 +95,7 @@ pub record IsFault (m : Machine) (op : ℕ) : Type 0 where
 
 -- an arrival that is owed is made; or it is refused, outside the image or by flash
 pub data Entering (old new : Machine) : Option End → Type 0 where
-  In : IsGoing new → new.owed ≡ None → is_inside (image_held old.kernel) old.at ≡ true → Entering old new None
+  In : IsGoing new → new.owed ≡ None → is_inside (image_held old.kernel) old.at ≡ true → is_taken (flat_of new) ≡ false → Entering old new None
   Out : IsEnded new → new.end ≡ Some (ends.Wild old.at) → is_inside (image_held old.kernel) old.at ≡ false → Entering old new (Some (ends.Wild old.at))
   Failed : (op : ℕ) → IsEnded new → new.end ≡ Some (ends.Flash op) → is_inside (image_held old.kernel) old.at ≡ true → IsFault new op → Entering old new (Some (ends.Flash op))
 

@@ -10,8 +10,9 @@ ghost use Rattle.branch_bridge.specs.Arrivals.{CameThrough, ring_of};
 ghost use Rattle.kernel_entry.specs.Parts.{image_held};
 ghost use Rattle.step_laws.specs.States.{end_by as end_by_of};
 ghost use Rattle.program_steps.specs.Loop.{HasArrived, after_arrival};
-ghost use Rattle.program_steps.specs.Ready.{IsGoing};
+ghost use Rattle.program_steps.specs.Ready.{IsGoing, IsQuiet};
 ghost use Rattle.program_steps.specs.Stepping.{HasEntered, HasBound};
+ghost use Rattle.program_steps.specs.Interrupts.{IsUntaken};
 ghost use Rattle.program_steps.specs.Wholes.{whole};
 
 use crate::progress::Progress;
@@ -26,6 +27,8 @@ use step_laws::{End, Owed};
 pub fn enter(k: &mut Kernel, p: &mut Progress, cursor: &mut Cursor) -> Option<End>
     requires ready { IsGoing (whole k.old p.old) }
     requires steps { p.old.steps ≤ 10 ^ 12 }
+    requires quiet { IsQuiet (whole k.old p.old) }
+    requires untaken { IsUntaken (whole k.old p.old) }
     requires cursor { IsCursor k.old.layout k.old.mote.flash.words cursor.old }
     ensures entered { HasEntered (whole k.old p.old) (whole k.new p.new) result }
     ensures cursor { IsCursor k.new.layout k.new.mote.flash.words cursor.new }
@@ -56,6 +59,7 @@ fn forget_if(changed: bool, cursor: &mut Cursor)
 pub fn at_bound(k: &mut Kernel, p: &mut Progress) -> End
     requires ready { IsGoing (whole k.old p.old) }
     requires steps { p.old.steps ≤ 10 ^ 12 }
+    requires quiet { IsQuiet (whole k.old p.old) }
     ensures bound { HasBound (whole k.old p.old) (whole k.new p.new) result }
 {
     let owed = match p.owed {
@@ -77,6 +81,7 @@ fn arrive_owed(k: &mut Kernel, p: &mut Progress, owed: Owed) -> bool
     requires owed { p.old.owed ≡ Some owed }
     requires going { p.old.end ≡ None }
     requires untorn { p.old.torn ≡ None }
+    requires untaken { IsUntaken (whole k.old p.old) }
     requires right { IsRight k.old.layout }
     requires faithful { IsFaithful k.old.layout (image_held k.old) k.old.mote.flash.words }
     requires tables { IsTables k.old.layout k.old.mote.sram k.old.mote.flash.words }

@@ -2,10 +2,12 @@
 #![tactic(auto)]
 
 mod arrival;
+mod interrupts;
 mod moves;
 mod progress;
 mod step;
 
 pub use arrival::{at_bound, enter};
+pub use interrupts::{must_take, take};
 pub use progress::Progress;
 pub use step::steps;

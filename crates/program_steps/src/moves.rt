@@ -7,7 +7,7 @@ ghost use Rattle.program_steps.specs.Loop.{CanPlain, HasPlain, CanServeNow, HasS
 ghost use Rattle.program_steps.specs.Wholes.{whole};
 
 use crate::progress::Progress;
-use kernel_entry::{Kernel, Served, serve};
+use kernel_entry::{Kernel, Served, serve_told};
 use mote_core::Plain;
 use step_laws::{End, Owed};
 
@@ -71,13 +71,20 @@ fn service(k: &mut Kernel, p: &mut Progress) -> bool
     p.before += p.since;
     p.longest = p.longest.max(p.since);
     p.since = 0;
-    match serve(k) {
+    let told = serve_told(k);
+    match told.0 {
         Served::Resume(line) => {
             p.line = line.or(p.line);
             false
         }
         Served::Goto { target, stub } => {
             p.owed = Some(Owed { target, stub });
+            p.due = told.1;
+            true
+        }
+        Served::Woke { target } => {
+            p.owed = Some(Owed { target, stub: None });
+            p.due = told.1;
             true
         }
         Served::Stopped(stop) => {

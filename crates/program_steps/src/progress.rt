@@ -11,6 +11,8 @@ pub struct Progress {
     pub at: u16,
     pub owed: Option<Owed>,
     pub end: Option<End>,
+    /// Whether the step that begins here, or has begun, may be an interrupt.
+    pub due: bool,
     /// The page that a refused operation on flash has left torn.
     pub torn: Option<Torn>,
     pub broken: bool,

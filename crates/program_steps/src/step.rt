@@ -1,10 +1,12 @@
 //! Steps of the program: each from one entry of its code to the next, or to the kernel.
 
-ghost use Rattle.std.specs.Prelude.{◌≡◌, ℕ, ◌+◌, ◌<◌, ◌≤◌, ◌^◌, true, None, IfSome, IfNone};
+ghost use Rattle.std.specs.Prelude.{◌≡◌, ◌≢◌, ℕ, ◌+◌, ◌<◌, ◌≤◌, ◌^◌, true, false, None, IfSome, IfNone};
 ghost use Rattle.flash_model.specs.Layouts.{IsRight};
 ghost use Rattle.page_index.specs.Entries.{IsEntry, IsMapped};
 ghost use Rattle.page_index.specs.Cursors.{IsCursor};
-ghost use Rattle.program_steps.specs.Machines.{state_of, numbers_of};
+ghost use Rattle.mote_devices.specs.Waking.{Timely};
+ghost use Rattle.mem_guard.specs.FlatMachine.{is_taken};
+ghost use Rattle.program_steps.specs.Machines.{state_of, numbers_of, flat_of};
 ghost use Rattle.step_laws.specs.Links.{links_of};
 ghost use Rattle.step_laws.specs.StepLaws.{StepLaw, crossings_over};
 ghost use Rattle.program_steps.specs.Loop.{HasReached, HasTaken, is_small, target, settled_at};
@@ -16,19 +18,49 @@ ghost use Rattle.program_steps.specs.Wholes.{whole};
 use crate::moves::one_move;
 use crate::progress::Progress;
 use kernel_entry::Kernel;
+use mote_devices::Devices;
 use page_index::Cursor;
 use preempt_count::is_crossing;
 
 /// Whole steps of the program, one behind the other: at most so many, and none behind one that writes a device
-/// line, or leads to the kernel, for an arrival or for good. Tells how many there were.
+/// line, or leads to the kernel, for an arrival or for good. Tells how many there were. Only the first may begin
+/// where an interrupt is due; where it stops the program, one stays due.
 #[inline(never)]
 pub fn steps(k: &mut Kernel, p: &mut Progress, cursor: &mut Cursor, most: u64) -> u64
     requires ready { IsGoing (whole k.old p.old) }
     requires placed { p.old.owed ≡ None }
+    requires untaken { is_taken (flat_of (whole k.old p.old)) ≡ false }
     requires some { 1 ≤ most }
     requires few { p.old.steps + most ≤ 10 ^ 12 }
     requires cursor { IsCursor k.old.layout k.old.mote.flash.words cursor.old }
     ensures done { HasDone (whole k.old p.old) (whole k.new p.new) result p.new.line }
+    ensures most { result ≤ most }
+    ensures cursor { IsCursor k.new.layout k.new.mote.flash.words cursor.new }
+{
+    let due = p.due;
+    p.due = false;
+    let count = undue_steps(k, p, cursor, most);
+    if count != 1 {
+        return count;
+    }
+    if p.end.is_none() {
+        return 1;
+    }
+    p.due = due;
+    1
+}
+
+/// The same where no interrupt is due.
+#[inline(always)]
+fn undue_steps(k: &mut Kernel, p: &mut Progress, cursor: &mut Cursor, most: u64) -> u64
+    requires ready { IsGoing (whole k.old p.old) }
+    requires placed { p.old.owed ≡ None }
+    requires undue { p.old.due ≡ false }
+    requires some { 1 ≤ most }
+    requires few { p.old.steps + most ≤ 10 ^ 12 }
+    requires cursor { IsCursor k.old.layout k.old.mote.flash.words cursor.old }
+    ensures done { HasDone (whole k.old p.old) (whole k.new p.new) result p.new.line }
+    ensures ended { p.new.end ≢ None → p.new.owed ≡ None }
     ensures most { result ≤ most }
     ensures cursor { IsCursor k.new.layout k.new.mote.flash.words cursor.new }
 {
@@ -48,12 +80,15 @@ fn step(k: &mut Kernel, p: &mut Progress, cursor: &mut Cursor) -> bool
     requires ready { IsGoing (whole k.old p.old) }
     requires placed { p.old.owed ≡ None }
     requires steps { p.old.steps < 2 ^ 50 }
+    requires undue { p.old.due ≡ false }
     requires silent { p.old.line ≡ None }
     requires cursor { IsCursor k.old.layout k.old.mote.flash.words cursor.old }
     ensures stepped { HasStepped (whole k.old p.old) (whole k.new p.new) p.new.line }
-    ensures reached { result ≡ true → (p.new.owed ≡ None) × (p.new.end ≡ None) }
+    ensures reached { result ≡ true → (p.new.owed ≡ None) × (p.new.end ≡ None) × (p.new.due ≡ false) }
+    ensures ended { p.new.end ≢ None → p.new.owed ≡ None }
     ensures cursor { IsCursor k.new.layout k.new.mote.flash.words cursor.new }
 {
+    is_timely(&k.mote.devices);
     let reached = all_moves(k, p, cursor);
     settle(p, reached);
     reached.is_some()
@@ -100,6 +135,15 @@ fn look(k: &Kernel, cursor: &mut Cursor) -> Option<u16>
     ensures cursor { IsCursor k.now.layout k.now.mote.flash.words cursor.new }
 {
     cursor.origin(&k.mote.flash, &k.layout, k.mote.cpu.pc)
+}
+
+/// The numbers of the events to come fit 32 bits, as the devices' type keeps it; a read of their count tells so to the
+/// proof.
+#[inline(always)]
+fn is_timely(devices: &Devices)
+    ensures timely { Timely devices.now }
+{
+    let _ = devices.polls();
 }
 
 /// Takes down where the step led, and whether it was a crossing.

@@ -1,6 +1,6 @@
 -- A call of the kernel, behind any plain moves of a template, and what follows from the service's answer.
 use Rattle.std.proofs.Common.{[], ℕ, ◌≡◌, ◌+◌, ◌<◌, ◌≤◌, ◌∷◌, ◌++◌, ◌∙◌, true, false, List, length, refl, sym, ap, arith, subst, inl}
-use Rattle.std.specs.Prelude.{◌≢◌, ◌&&◌, Some, None, not}
+use Rattle.std.specs.Prelude.{◌≢◌, ◌&&◌, ◌==◌, Some, None, not}
 use Rattle.avr_isa.specs.Crossing.{is_crossing}
 use Rattle.avr_isa.specs.declared.form.Form.{Form}
 use Rattle.avr_flags.specs.Status.{has_bit, interrupts}
@@ -33,7 +33,7 @@ use Rattle.step_laws.proofs.PlainRuns.{plains_inner, plains_counted, plains_leng
 use Rattle.step_laws.proofs.Onward.{Onward}
 use Rattle.step_laws.specs.Moves.{Plain, Serve, line_before, lines_of, plains}
 use Rattle.step_laws.proofs.SameProgram.{flat_same, paged_after}
-use Rattle.step_laws.specs.StepLaws.{StepLaw, Outcome as StepOutcome, crossings_over}
+use Rattle.step_laws.specs.StepLaws.{Reaches, StepLaw, Outcome as StepOutcome, crossings_over}
 use Rattle.step_laws.proofs.KernelCalls.{pushed, serve_by}
 use Rattle.avr_exec.proofs.RegistersKept.{exec_kept}
 use Rattle.step_laws.proofs.Executed.{end_stop, flat_put, kept_of, executed_at, returned, executed_is}
@@ -97,6 +97,7 @@ stop_asked links x a v ram back entry more stop s c can is stops =
       keeps = record { layout = refl; quantum = refl; flash = refl; slots = refl; paged = c.state.can.paged; registers = refl; top = refl; polls = omega arith; pointer = c.state.pointer; tables = c.state.tables };
       outcome = StepOutcome.Stopped stop (record {
         ended = refl;
+        free = refl;
         silent = refl;
         original = stops;
         same = c.state.sees a;
@@ -114,7 +115,7 @@ pub bus_stops_asked : (x : State) (a : ℕ) (ram : List ℕ) (back entry more : 
 bus_stops_asked x a ram back entry more form stop c is runs apart stopped n m =
     let kc = asked x ram back entry in
     ap (tried (program x.kernel)) (sym (c.state.sees a n m))
-    ∙ guarded_stops (memory_of kc) (core_of kc a) n m form stop c.state.can.paged refl is runs apart stopped
+    ∙ guarded_stops _ (memory_of kc) (core_of kc a) n m form stop c.state.can.paged refl is runs apart stopped
     ∙ ap Stops (sym (end_stop a stop))
 
 -- the service goes on behind the descriptor
@@ -146,7 +147,7 @@ resume_asked links x a v ram back entry more to form cpu g s c can is runs apart
     let P : ℕ → Type 0 = λ to. (s c : ℕ) → tried (program k) (state_at k a s c) ≡ Goes g.line (state_at end.kernel to (s + 1) (crossings_over a to c)) in
     let goes : P cpu.pc = λ n m.
     ap (tried (program k)) (sym (c.state.sees a n m))
-    ∙ guarded_goes (memory_of kc) g (core_of kc a) cpu n m form c.state.can.paged refl is runs apart went
+    ∙ guarded_goes _ (memory_of kc) g (core_of kc a) cpu n m form c.state.can.paged refl is runs apart went
     ∙ ap (Goes g.line) (sym (flat_put kc cpu g (wrapping_sum back 1) (n + 1) (crossings_over a cpu.pc m) size') ∙ sym (flat_same z1.kernel end.kernel cpu.pc (n + 1) (crossings_over a cpu.pc m) on.left.same)) in
     let ms = Serve g.line false ∷ on.moves in
     record {
@@ -173,9 +174,13 @@ resume_asked links x a v ram back entry more to form cpu g s c can is runs apart
         pointer = omega (arith, on.left.same.bytes 0x0103 (omega arith) (λ e. omega arith) (λ e. omega arith));
       };
       outcome = StepOutcome.Went to (record {
+        wakes = false;
+        silent = λ e. absurd (cc);
+        fresh = λ e. absurd (cc);
+        polls = λ e. let polls = kept.polls in omega (arith, ap (λ d. d.polls) on.left.same.devices);
         going = on.left.going;
         original = subst P pc goes;
-        reaches = on.left.reaches;
+        reaches = subst (λ c. Reaches links to (is_crossing a to && (c == 1)) on.end) count' on.left.reaches;
         count = on.left.count ∙ ap (λ c. count_over k.quantum a to c) count';
         unstopped = plains_stopped more ms ∙ on.goes;
         reset = plains_reset x (is_crossing a to) more ms (λ crosses one n. on.reset crosses (count' ∙ one) (moved (Serve g.line false) n));

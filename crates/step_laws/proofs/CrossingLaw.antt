@@ -108,6 +108,10 @@ same_timed m d q ret quantum pc size top =
       swap = refl;
     }
 
+-- whether an interrupt is due
+due_to : (links : Links) (t : ℕ) (b c : Bool) (z : State) → b ≡ c → Reaches links t b z → Reaches links t c z
+due_to links t b c z same reaches = subst (λ d. Reaches links t d z) same reaches
+
 -- after the ten instructions, the link
 link_way : (links : Links) (x : State) (w t : ℕ) (b : Bool) → IsRunning x → CrossingStub links x.kernel.layout (mote_of x).flash.words w t → IsIdle x.kernel → (mote_of x).cpu.pc ≡ w
     → (byte_at (mote_of x).sram 0x0100 == 1) ≡ false
@@ -132,13 +136,13 @@ link_way links x w t b free stub fit is more way =
           let first : Makes y (Plain false None) called = call_move y (w + 16) 0xF000 false
           (record { free = free.free; going = free.going; room = free.room }) refl (stub.row.pool 16 (omega arith)) (omega arith)
           (stub.row.inner 16 (omega arith) (omega arith)) bridge.0 (ap (word_at m.flash.words) there ∙ bridge.1) fit.top in
-          let served : Makes called (Serve None false) (owing (rested called.kernel) t (Some (w + 16))) = bridge_move called (w + 16) t
+          let served : Makes called (Serve None false) (owing (rested called.kernel) t (Some (w + 16)) false) = bridge_move called (w + 16) t
           (record { free = free.free; going = free.going; room = free.room }) refl (omega arith) (pushed_address ram (w + 16 + 2) size)
           (ap (word_at m.flash.words) target ∙ stub.target) in
           record {
-            end = owing (rested called.kernel) t (Some (w + 16));
+            end = owing (rested called.kernel) t (Some (w + 16)) false;
             rest = plains 9 ++ (Plain false None ∷ Serve None false ∷ []);
-            walk = walk_on x y (owing (rested called.kernel) t (Some (w + 16))) (Plain b None ∷ plains 9) (Plain false None ∷ Serve None false ∷ []) way (called, first, (owing (rested called.kernel) t (Some (w + 16)), served, refl));
+            walk = walk_on x y (owing (rested called.kernel) t (Some (w + 16)) false) (Plain b None ∷ plains 9) (Plain false None ∷ Serve None false ∷ []) way (called, first, (owing (rested called.kernel) t (Some (w + 16)) false, served, refl));
             inner = refl;
             silent = refl;
             few = omega arith;
@@ -152,7 +156,7 @@ link_way links x w t b free stub fit is more way =
               quantum = refl;
               same = same_called m ram (w + 16 + 2) 0xF000 fit.top (same_down m 0 fit.top);
               count = pushed_kept ram (w + 16 + 2) 0x0100 (omega arith) (λ e. omega arith) (λ e. omega arith) ∙ count;
-              reaches = Reaches.Owing (Some (w + 16)) refl (record { mark = stub.mark; call = bridge.0; bridge = ap (word_at m.flash.words) there ∙ bridge.1 });
+              reaches = due_to links t false (byte_at m.sram 0x0100 == 1) (owing (rested called.kernel) t (Some (w + 16)) false) (sym more) (Reaches.Owing (Some (w + 16)) (λ e. absurd (cc)) refl (record { mark = stub.mark; call = bridge.0; bridge = ap (word_at m.flash.words) there ∙ bridge.1 }));
             };
           })
       | inr jump ↦ (
@@ -177,7 +181,7 @@ link_way links x w t b free stub fit is more way =
               quantum = refl;
               same = same_down m place fit.top;
               count = count;
-              reaches = Reaches.Placed free.free jump.1;
+              reaches = due_to links t false (byte_at m.sram 0x0100 == 1) z (sym more) (Reaches.Placed refl free.free jump.1);
             };
           })
     ]
@@ -219,7 +223,7 @@ over_way links x w t b free stub fit one way =
         quantum = refl;
         same = same_timed m d d (w + 19 + 2) x.kernel.quantum 0xF002 fit.size fit.top;
         count = byte_same (pushed ram (w + 19 + 2)) 0x0100 x.kernel.quantum (omega arith) (omega (arith, pushed_size ram (w + 19 + 2))) ∙ sym (ap (λ c. if c then x.kernel.quantum else byte_at m.sram 0x0100 - 1) one);
-        reaches = Reaches.Owing None refl tt;
+        reaches = due_to links t true (byte_at m.sram 0x0100 == 1) (quantum_state called t) (sym one) (Reaches.Owing None (λ e. refl) refl tt);
       };
     }
 

@@ -1,6 +1,6 @@
 -- Returns and jumps through Z: the service owes an arrival.
-use Rattle.std.proofs.Common.{[], ℕ, ◌≡◌, ◌+◌, ◌∷◌, ◌∙◌, true, false, length, refl, sym, ap, arith, inl}
-use Rattle.std.specs.Prelude.{Some, None}
+use Rattle.std.proofs.Common.{[], ℕ, ◌≡◌, ◌+◌, ◌∷◌, ◌∙◌, true, false, length, refl, sym, ap, ap₂, subst, arith, inl}
+use Rattle.std.specs.Prelude.{Some, None, ◌&&◌, ◌||◌, ◌==◌}
 use Rattle.avr_isa.specs.Crossing.{is_crossing}
 use Rattle.avr_isa.specs.Image.{word}
 use Rattle.avr_isa.specs.declared.form.Form.{Form}
@@ -14,14 +14,14 @@ use Rattle.sram_layout.proofs.Laws.{byte_out_of_word, length-with_word, word_low
 use Rattle.heap_frames.specs.Paged.{IsPaged}
 use Rattle.heap_frames.proofs.SamePagingLaws.{same_paging_word, paged_same}
 use Rattle.nat_template.specs.declared.shapes.TemplateShape.TheVariants.{Ret, Ind}
-use Rattle.nat_template.specs.Stubs.{return_entry, indirect_entry}
+use Rattle.nat_template.specs.Stubs.{quantum_entry, return_entry, indirect_entry}
 use Rattle.nat_template.specs.Templates.{template_by}
 use Rattle.nat_page.specs.Runs.{size_at}
 use Rattle.mem_guard.specs.FlatMachine.{Goes, tried, next_size}
 use Rattle.mem_guard.specs.Guarded.{Guarded, guarded_calls, state_of}
 use Rattle.mem_guard.specs.Left.{IsKept}
 use Rattle.mem_guard.proofs.GuardedStep.{guarded_goes}
-use Rattle.preempt_count.specs.Counting.{crossed, count_over}
+use Rattle.preempt_count.specs.Counting.{crossed, count_over, is_checkpoint}
 use Rattle.kernel_entry.specs.declared.kernel.Kernel.{Kernel}
 use Rattle.kernel_entry.specs.declared.kernel.Served.TheVariants as answers
 use Rattle.step_laws.proofs.ServiceLaw.{Called, bus_stops, called, called_by, stop_law}
@@ -33,7 +33,7 @@ use Rattle.step_laws.specs.StepLaws.{Reaches, ShapeLaw, StepLaw, Outcome as Step
 use Rattle.step_laws.proofs.SameProgram.{SameProgram, flat_same, paged_after}
 use Rattle.step_laws.specs.Moves.{Serve, lines_of}
 use Rattle.step_laws.specs.States.{State}
-use Rattle.step_laws.proofs.KernelCalls.{called_of, pushed_kept, serve_by}
+use Rattle.step_laws.proofs.KernelCalls.{due_is, called_of, pushed_kept, serve_by}
 use Rattle.step_laws.proofs.Counting.{count_crossed, same_crossed}
 use Rattle.avr_exec.proofs.RegistersKept.{exec_kept}
 use Rattle.step_laws.proofs.Executed.{flat_put, kept_of, executed_at, returned, executed_is}
@@ -42,7 +42,7 @@ use Rattle.step_laws.proofs.CodeLaws.{form_of_shape}
 use Rattle.step_laws.specs.Numbers.{moved}
 use Rattle.avr_decode.specs.Program.{instruction_at}
 use Rattle.kernel_entry.specs.Parts.{core_of, descriptor, memory_of, put_back, rested, with_sram, image_held}
-use Rattle.kernel_entry.specs.Services.{gone, gone_by, served, stop_of, if_instruction, execution, execution_by}
+use Rattle.kernel_entry.specs.Services.{is_due, gone, gone_by, served, stop_of, if_instruction, execution, execution_by}
 use Rattle.kernel_entry.specs.Conditions.{CanServe}
 use Rattle.kernel_entry.specs.declared.kernel.Served.{Served}
 use Rattle.mem_guard.proofs.LineLaws.{transfer_line}
@@ -56,11 +56,11 @@ gone_to k a (WentOn cpu g) = (answers.Goto cpu.pc None, with_sram (put_back k cp
 gone_to k a (StoppedOn stop) = (answers.Stopped (stop_of a stop), rested k)
 
 -- the service owes an arrival
-pub go_law : (links : Links) (x : State) (a v entry : ℕ) (form : Form) (cpu : Cpu) (g : Guarded) → IsSetting links x a v → Called x a v entry → CanServe (called x v entry)
+pub go_law : (links : Links) (x : State) (a v entry : ℕ) (form : Form) (cpu : Cpu) (g : Guarded) → (entry == quantum_entry) ≡ false → IsSetting links x a v → Called x a v entry → CanServe (called x v entry)
     → instruction_at (image_held x.kernel) a ≡ Some form → is_executed form ≡ true → RunsOn x.kernel a form → executed_at (called x v entry) a form ≡ WentOn cpu g → g.line ≡ None
     → served (called x v entry) ≡ gone_to (called x v entry) a (WentOn cpu g) → StepLaw links x a
 unfolding lines_of crossed moved
-go_law links x a v entry form cpu g s c can is runs apart went quiet answer =
+go_law links x a v entry form cpu g other s c can is runs apart went quiet answer =
     let k = x.kernel in
     let image = image_held k in
     let kc = called x v entry in
@@ -72,11 +72,15 @@ go_law links x a v entry form cpu g s c can is runs apart went quiet answer =
     let long : length m ≡ 4096 = length-with_word g.sram vsp_cell cpu.sp ∙ size' in
     let put = returned kc cpu g entry in
     let k2 = with_sram put (crossed k.quantum a cpu.pc m) in
-    let z : State = record { kernel = k2; owed = Some (record { target = cpu.pc; stub = None }); end = None; torn = None } in
+    let z : State = record { kernel = k2; owed = Some (record { target = cpu.pc; stub = None; due = is_due kc }); end = None; torn = None } in
     let served' : Makes y (Serve None false) z = serve_by y (answers.Goto cpu.pc None, k2) (record { free = s.ready.running.free; going = s.ready.running.going; room = s.ready.running.room }) can answer in
     let count' : byte_at m 0x0100 ≡ byte_at ram 0x0100 = byte_out_of_word g.sram vsp_cell 0x0100 cpu.sp (omega arith) (omega arith) (λ e. omega arith)
     (λ e. omega arith) ∙ kept.cells 0x0100 (omega arith) (omega arith)
     ∙ pushed_kept ram (v + 2) 0x0100 (omega arith) (λ e. omega arith) (λ e. omega arith) in
+    let due' : is_due kc ≡ is_checkpoint a cpu.pc (byte_at ram 0x0100) =
+    due_is kc (answers.Goto cpu.pc None, k2) answer
+    ∙ ap₂ (λ e w. e || (is_crossing w cpu.pc && (byte_at kc.mote.sram 0x0100 == 1))) other c.behind
+    ∙ ap (λ n. is_crossing a cpu.pc && (n == 1)) (pushed_kept ram (v + 2) 0x0100 (omega arith) (λ e. omega arith) (λ e. omega arith)) in
     let same2 : SameProgram put.mote k2.mote = same_crossed put k.quantum a cpu.pc m refl in
     let paged2 : IsPaged put.mote.sram put.mote.swap = paged_same g.sram m g.swap (same_paging_word g.sram vsp_cell cpu.sp (omega arith) (inl (omega arith))) kept.paged in
     let registers' : length cpu.r ≡ length k.mote.cpu.r = exec_kept guarded_calls form (core_of kc a) cpu (memory_of kc) g (next_size image a) went in
@@ -99,20 +103,24 @@ go_law links x a v entry form cpu g s c can is runs apart went quiet answer =
         paged = paged_after put.mote k2.mote same2 paged2;
         registers = registers';
         top = refl;
-        polls = kept.polls;
+        polls = omega (arith, kept.polls);
         tables = λ b low high.
             same2.bytes b (omega arith) (λ e. omega arith) (λ e. omega arith) ∙ byte_out_of_word g.sram vsp_cell b cpu.sp (omega arith) (omega arith) (λ e. omega arith) (λ e. omega arith)
             ∙ kept.tables b (omega arith) high ∙ pushed_kept ram (v + 2) b (omega arith) (λ e. omega arith) (λ e. omega arith);
         pointer = omega (arith, same2.bytes 0x0103 (omega arith) (λ e. omega arith) (λ e. omega arith), word_low g.sram vsp_cell cpu.sp (omega arith) (omega arith));
       };
       outcome = StepOutcome.Went cpu.pc (record {
+        wakes = false;
+        silent = λ e. absurd (cc);
+        fresh = λ e. absurd (cc);
+        polls = λ e. kept.polls;
         going = refl;
         original = λ n p.
             ap (tried (program k)) (sym (flat_same k (rested kc) a n p c.same))
-            ∙ guarded_goes (memory_of kc) g (core_of kc a) cpu n p form c.can.paged refl is runs apart went
+            ∙ guarded_goes _ (memory_of kc) g (core_of kc a) cpu n p form c.can.paged refl is runs apart went
             ∙ ap (λ l. Goes l (state_of g cpu (n + 1) (crossings_over a cpu.pc p))) quiet
             ∙ ap (Goes None) (sym (flat_put kc cpu g entry (n + 1) (crossings_over a cpu.pc p) size') ∙ sym (flat_same put k2 cpu.pc (n + 1) (crossings_over a cpu.pc p) same2));
-        reaches = Reaches.Owing None refl tt;
+        reaches = subst (λ d. Reaches links cpu.pc d z) due' (Reaches.Owing None (λ e. refl) refl tt);
         count = count_crossed k.quantum a cpu.pc m (is_crossing a cpu.pc) refl (omega arith) ∙ ap (λ c. count_over k.quantum a cpu.pc c) count';
         unstopped = refl;
         reset = λ crosses one n. refl;
@@ -134,11 +142,11 @@ gone_is k a form o behind is done =
     ∙ ap (λ o. gone_by k (execution_by k o).0 (execution_by k o).1) (executed_is k a form behind ∙ done)
     ∙ gone_by_is k a o behind
 
-pub gone_law : (links : Links) (x : State) (a v entry : ℕ) (form : Form) (o : Outcome Guarded Cpu) → executed_at (called x v entry) a form ≡ o → IsSetting links x a v → Called x a v entry → CanServe (called x v entry)
+pub gone_law : (links : Links) (x : State) (a v entry : ℕ) (form : Form) (o : Outcome Guarded Cpu) → (entry == quantum_entry) ≡ false → executed_at (called x v entry) a form ≡ o → IsSetting links x a v → Called x a v entry → CanServe (called x v entry)
     → instruction_at (image_held x.kernel) a ≡ Some form → is_executed form ≡ true → RunsOn x.kernel a form → is_transfer form ≡ true → served (called x v entry) ≡ gone (called x v entry) → StepLaw links x a
-gone_law links x a v entry form (WentOn cpu g) done s c can is runs apart h serves =
-    go_law links x a v entry form cpu g s c can is runs apart done (gone_quiet (called x v entry) a form cpu g h done) (serves ∙ gone_is (called x v entry) a form (WentOn cpu g) c.behind is done)
-gone_law links x a v entry form (StoppedOn stop) done s c can is runs apart h serves =
+gone_law links x a v entry form (WentOn cpu g) other done s c can is runs apart h serves =
+    go_law links x a v entry form cpu g other s c can is runs apart done (gone_quiet (called x v entry) a form cpu g h done) (serves ∙ gone_is (called x v entry) a form (WentOn cpu g) c.behind is done)
+gone_law links x a v entry form (StoppedOn stop) other done s c can is runs apart h serves =
     stop_law links x a v entry (stop_of a stop) s c can (serves ∙ gone_is (called x v entry) a form (StoppedOn stop) c.behind is done) (bus_stops links x a v entry form stop s c is runs apart done)
 
 pub ret_law : ShapeLaw Ret
@@ -148,7 +156,7 @@ ret_law links x a v s shape =
     let some = form_of_shape Ret a (instruction_at image a) shape (λ e. cc) in
     let form : Form = some.0 in
     let c = called_by links x a v return_entry [] s (ap (λ s. template_by s a (word image a) (instruction_at image a) (size_at image (a + 1))) shape) in
-    gone_law links x a v return_entry form _ refl s c (CanServe.AtReturn refl (c.shape ∙ shape) c.can c.counts) some.1 (runs_or_faults a form (λ e. let e' = sym some.2 ∙ e in cc)) (runs_on x.kernel a form (λ e. let e' = sym some.2 ∙ e in cc)) (transfers a form (ap is_service_jump some.2)) refl
+    gone_law links x a v return_entry form _ refl refl s c (CanServe.AtReturn refl (c.shape ∙ shape) c.can c.counts) some.1 (runs_or_faults a form (λ e. let e' = sym some.2 ∙ e in cc)) (runs_on x.kernel a form (λ e. let e' = sym some.2 ∙ e in cc)) (transfers a form (ap is_service_jump some.2)) refl
 
 pub ind_law : ShapeLaw Ind
 unfolding template_by served
@@ -157,4 +165,4 @@ ind_law links x a v s shape =
     let some = form_of_shape Ind a (instruction_at image a) shape (λ e. cc) in
     let form : Form = some.0 in
     let c = called_by links x a v indirect_entry [] s (ap (λ s. template_by s a (word image a) (instruction_at image a) (size_at image (a + 1))) shape) in
-    gone_law links x a v indirect_entry form _ refl s c (CanServe.AtIndirect refl (c.shape ∙ shape) c.can c.counts) some.1 (runs_or_faults a form (λ e. let e' = sym some.2 ∙ e in cc)) (runs_on x.kernel a form (λ e. let e' = sym some.2 ∙ e in cc)) (transfers a form (ap is_service_jump some.2)) refl
+    gone_law links x a v indirect_entry form _ refl refl s c (CanServe.AtIndirect refl (c.shape ∙ shape) c.can c.counts) some.1 (runs_or_faults a form (λ e. let e' = sym some.2 ∙ e in cc)) (runs_on x.kernel a form (λ e. let e' = sym some.2 ∙ e in cc)) (transfers a form (ap is_service_jump some.2)) refl

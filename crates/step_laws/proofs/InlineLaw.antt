@@ -1,6 +1,6 @@
 -- An inline template: inside the stack window its steps make the program's step, and outside they come to the service MEM.
-use Rattle.std.proofs.Common.{◌≡◌, ℕ, ◌+◌, ◌-◌, ◌/◌, ◌%◌, ◌<◌, ◌≤◌, ◌∷◌, ◌++◌, ◌∙◌, true, List, length, refl, sym, ap, arith, subst, inl, inr}
-use Rattle.std.specs.Prelude.{None, slice_index}
+use Rattle.std.proofs.Common.{false, ◌≡◌, ℕ, ◌+◌, ◌-◌, ◌/◌, ◌%◌, ◌<◌, ◌≤◌, ◌∷◌, ◌++◌, ◌∙◌, true, List, length, refl, sym, ap, arith, subst, inl, inr}
+use Rattle.std.specs.Prelude.{◌&&◌, ◌==◌, None, slice_index}
 use Rattle.avr_isa.specs.Crossing.{is_crossing}
 use Rattle.avr_isa.specs.Instruction.{size_of}
 use Rattle.avr_isa.specs.declared.form.Form.{Form}
@@ -35,7 +35,7 @@ use Rattle.step_laws.specs.Links.{Links}
 use Rattle.step_laws.specs.Moves.{Plain, lines_of, plains}
 use Rattle.step_laws.specs.Settings.{IsIdle, IsRunning, IsSetting}
 use Rattle.step_laws.specs.States.{InPool, State, mote_of, with_mote}
-use Rattle.step_laws.specs.StepLaws.{StepLaw, Outcome as StepOutcome, crossings_over}
+use Rattle.step_laws.specs.StepLaws.{Reaches, StepLaw, Outcome as StepOutcome, crossings_over}
 use Rattle.step_laws.specs.Walks.{Makes, Walk}
 use Rattle.step_laws.proofs.AskedLaw.{Asked, IsAsked, asked}
 use Rattle.step_laws.proofs.Executed.{executed_at, kept_of}
@@ -77,7 +77,7 @@ pub inside_goes : (x : State) (a v n more : ℕ) (form : Form) (r sram sram' : L
 inside_goes x a v n more form r sram sram' sp f paged g s c =
     let k = x.kernel in
     let y = with_mote x (held (mote_of x) r (mote_of x).cpu.sreg (v + n) sram') in
-    guarded_goes (memory_of k) (memory_after k sram) (core_of k a) (core_after k a r sp) s c form paged refl g.is g.runs g.apart f.went
+    guarded_goes _ (memory_of k) (memory_after k sram) (core_of k a) (core_after k a r sp) s c form paged refl g.is g.runs g.apart f.went
     ∙ ap (Goes None) (sym (seen_alike k y.kernel sram sp (wrapping_sum a 1) (s + 1) (crossings_over a (wrapping_sum a 1) c) f.pointer f.same.size (λ b from. f.same.bytes b (omega arith)) refl refl))
 
 pub inside_law : (links : Links) (x : State) (a v n more : ℕ) (form : Form) (r sram sram' : List ℕ) (sp : ℕ) → IsSetting links x a v → Inside x a v n more form r sram sram' sp → IsReached x a form
@@ -130,9 +130,13 @@ inside_law links x a v n more form r sram sram' sp s f g next width some =
         pointer = let low = f.low in omega (arith, on.left.same.bytes 0x0103 (omega arith) (λ e. omega arith) (λ e. omega arith));
       };
       outcome = StepOutcome.Went (next_of image a) (record {
+        wakes = false;
+        silent = λ e. absurd (cc);
+        fresh = λ e. absurd (cc);
+        polls = λ e. omega (arith, ap (λ d. d.polls) on.left.same.devices);
         going = on.left.going;
         original = subst P next goes;
-        reaches = on.left.reaches;
+        reaches = subst (λ c. Reaches links (next_of image a) (is_crossing a (next_of image a) && (c == 1)) on.end) count on.left.reaches;
         count = on.left.count ∙ ap (λ c. count_over k.quantum a (next_of image a) c) count;
         unstopped = plains_stopped more on.moves ∙ on.goes;
         reset = plains_reset x (is_crossing a (next_of image a)) more on.moves (λ crosses one. on.reset crosses (count ∙ one));

@@ -50,7 +50,7 @@ paged_at k (CanServe.AtPushReturn at shape can) is = can.paged
 paged_at k (CanServe.AtReturn at shape can counts) is = can.paged
 paged_at k (CanServe.AtIndirect at shape can counts) is = can.paged
 paged_at k (CanServe.AtSelf at shape can counts) is = can.paged
-paged_at k (CanServe.AtFault at shape) is = absurd (omega arith)
+paged_at k (CanServe.AtFault at shape can) is = absurd (omega arith)
 
 -- MEM's answer, by what the execution comes to
 mem_goes : (k : Kernel) (a to : ℕ) (form : Form) (end : Kernel) (crossings : ℕ) (o : Outcome Guarded Cpu) → executed_at k a form ≡ o → IsPaged k.mote.sram k.mote.swap → k.mote.cpu.pc ≡ mem_entry → descriptor k ≡ a
@@ -58,7 +58,7 @@ mem_goes : (k : Kernel) (a to : ℕ) (form : Form) (end : Kernel) (crossings : �
     → ((served k).0 ≡ answers.Resume None) × ((s c : ℕ) → state_at (served k).1 to s c ≡ state_at end to s c)
 unfolding served
 mem_goes k a to form end crossings (WentOn cpu g) done paged at behind is runs apart goes =
-    let tries = guarded_goes (memory_of k) g (core_of k a) cpu 0 0 form paged refl is runs apart done in
+    let tries = guarded_goes _ (memory_of k) g (core_of k a) cpu 0 0 form paged refl is runs apart done in
     let both = sym tries ∙ goes in
     let silent : g.line ≡ None = cc in
     let same : state_of g cpu 1 (crossings_over a cpu.pc 0) ≡ state_at end to 1 crossings = cc in
@@ -70,7 +70,7 @@ mem_goes k a to form end crossings (WentOn cpu g) done paged at behind is runs a
     let sees : P cpu.pc = λ s c. flat_put k cpu g (wrapping_sum (return_address k) 1) s c size ∙ ap (λ (f : FlatState). record f { steps = s; crossings = c }) same in
     (ap (λ o. o.0) answer ∙ ap (λ l. answers.Resume l) silent, λ s c. ap (λ o. state_at o.1 to s c) answer ∙ subst P there sees s c)
 mem_goes k a to form end crossings (StoppedOn stop) done paged at behind is runs apart goes =
-    let both = sym (guarded_stops (memory_of k) (core_of k a) 0 0 form stop paged refl is runs apart done) ∙ goes in
+    let both = sym (guarded_stops _ (memory_of k) (core_of k a) 0 0 form stop paged refl is runs apart done) ∙ goes in
     absurd (cc)
 
 as_mem : (x : State) (a to : ℕ) (form : Form) (end : Kernel) → IsReached x a form → ((s c : ℕ) → tried_at x a s c ≡ Goes None (state_at end to (s + 1) (crossings_over a to c))) → IsAsMem x a to end

@@ -2,7 +2,7 @@
 use Rattle.std.proofs.Common.{◌≡◌, List, [], ◌∷◌, ◌++◌, refl, sym, ap, ◌∙◌}
 use Rattle.std.specs.Prelude.{Option, Some, None}
 use Rattle.mote_devices.specs.declared.line.Line.{Line}
-use Rattle.step_laws.specs.Moves.{Move, Plain, Serve, Arrive, line_before, lines_of}
+use Rattle.step_laws.specs.Moves.{Move, Plain, Serve, Arrive, Take, line_before, lines_of}
 use Rattle.step_laws.specs.Numbers.{Numbers, moved, numbered}
 use Rattle.step_laws.specs.Joining.{Joins}
 use Rattle.step_laws.proofs.Ways.{walk_on}
@@ -18,6 +18,7 @@ lines_of-append [] after = refl
 lines_of-append (Plain begins line ∷ before) after = ap (line_before line) (lines_of-append before after) ∙ line_on line (lines_of before) (lines_of after)
 lines_of-append (Serve line stops ∷ before) after = ap (line_before line) (lines_of-append before after) ∙ line_on line (lines_of before) (lines_of after)
 lines_of-append (Arrive target made ops ∷ before) after = lines_of-append before after
+lines_of-append (Take stops ∷ before) after = lines_of-append before after
 
 -- and their numbers
 pub numbered-append : (before after : List Move) (n : Numbers) → numbered (before ++ after) n ≡ numbered after (numbered before n)

@@ -1,5 +1,5 @@
 -- A jump: the stub to its target.
-use Rattle.std.proofs.Common.{ℕ, ◌≡◌, ◌+◌, ◌<◌, ◌==◌, ◌∙◌, true, false, List, length, refl, sym, ap, arith, subst}
+use Rattle.std.proofs.Common.{Bool, ℕ, ◌≡◌, ◌+◌, ◌<◌, ◌==◌, ◌∙◌, true, false, List, length, refl, sym, ap, arith, subst}
 use Rattle.std.specs.Prelude.{ℤ, ◌&&◌, Some, None, not}
 use Rattle.avr_isa.specs.Crossing.{is_crossing}
 use Rattle.avr_isa.specs.Image.{word}
@@ -66,12 +66,12 @@ pub jump_tried : (k : Kernel) (a t : ℕ) (form : Form) → IsPaged k.mote.sram 
     → finish_of form (core_of k a) (next_size (image_held k) a) Done ≡ core_of k t → (s c : ℕ)
     → tried (program k) (state_at k a s c) ≡ Goes None (state_at k t (s + 1) (crossings_over a t c))
 jump_tried k a t form paged is runs apart asks after s c =
-    guarded_goes (memory_of k) (memory_of k) (core_of k a) (core_of k t) s c form paged refl is runs (ap (λ b. b && not (has_bit k.mote.cpu.sreg interrupts)) apart)
+    guarded_goes _ (memory_of k) (memory_of k) (core_of k a) (core_of k t) s c form paged refl is runs (ap (λ b. b && not (has_bit k.mote.cpu.sreg interrupts)) apart)
     (exec_nothing guarded_calls form (core_of k a) (memory_of k) (next_size (image_held k) a) asks ∙ ap (λ cpu. WentOn cpu (memory_of k)) after)
 
 -- the step from the way through the stub
-keeps_by : (links : Links) (x z : State) (t c : ℕ) → IsPaged (mote_of x).sram (mote_of x).swap → byte_at (mote_of x).sram 0x0103 < 256 → Reached links x t c z → Keeps x z
-keeps_by links x z t c paged pointer left = record {
+keeps_by : (links : Links) (x z : State) (t c : ℕ) (b : Bool) → IsPaged (mote_of x).sram (mote_of x).swap → byte_at (mote_of x).sram 0x0103 < 256 → Reached links x t c b z → Keeps x z
+keeps_by links x z t c b paged pointer left = record {
   layout = left.layout;
   quantum = left.quantum;
   flash = left.same.flash;
@@ -99,8 +99,12 @@ jumps_by links x a t paged pointer goes way = record {
   short = let short = way.short in omega arith;
   serves = let serves = way.serves in omega arith;
   lines = way.silent;
-  keeps = keeps_by links x way.end t _ paged pointer way.left;
+  keeps = keeps_by links x way.end t _ _ paged pointer way.left;
   outcome = Outcome.Went t (record {
+    wakes = false;
+    silent = λ e. absurd (cc);
+    fresh = λ e. absurd (cc);
+    polls = λ e. omega (arith, ap (λ d. d.polls) way.left.same.devices);
     going = way.left.going;
     original = λ s c. goes s c ∙ ap (Goes None) (sym (flat_same x.kernel way.end.kernel t (s + 1) (crossings_over a t c) way.left.same));
     reaches = way.left.reaches;

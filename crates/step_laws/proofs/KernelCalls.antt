@@ -1,10 +1,11 @@
 -- A call of the kernel: the plain move of the CALL, and the services that stubs call.
-use Rattle.std.proofs.Common.{ℕ, ◌≡◌, ◌+◌, ◌*◌, ◌/◌, ◌%◌, ◌<◌, ◌≤◌, ◌∙◌, Bool, false, List, length, sym, ap, ap₂, arith, subst}
-use Rattle.std.specs.Prelude.{◌≢◌, Some, None, Option}
+use Rattle.std.proofs.Common.{true, ℕ, ◌≡◌, ◌+◌, ◌*◌, ◌/◌, ◌%◌, ◌<◌, ◌≤◌, ◌∙◌, Bool, false, List, length, sym, ap, ap₂, arith, subst}
+use Rattle.std.specs.Prelude.{◌≢◌, ◌==◌, Some, None, Option}
 use Rattle.avr_isa.specs.declared.form.Form.TheVariants as forms
 use Rattle.avr_exec.specs.Registers.{wrapping_difference}
 use Rattle.flash_model.specs.Pages.{word_at}
 use Rattle.sram_layout.specs.Bytes.{byte_at, with_byte}
+use Rattle.sram_layout.specs.Cells.{count_cell}
 use Rattle.sram_layout.proofs.Laws.{byte_same, byte_other, length-with_byte}
 use Rattle.nat_template.specs.Stubs.{call_word}
 use Rattle.kernel_entry.specs.declared.kernel.Kernel.{Kernel}
@@ -16,7 +17,7 @@ use Rattle.step_laws.specs.Walks.{Makes}
 use Rattle.step_laws.specs.Moves.{Plain, Serve}
 use Rattle.step_laws.proofs.StubWords.{call_form}
 use Rattle.kernel_entry.specs.Parts.{descriptor, rested, return_address}
-use Rattle.kernel_entry.specs.Services.{served, served_at, quantum_ended}
+use Rattle.kernel_entry.specs.Services.{served, served_at, quantum_ended, is_due, due_by}
 use Rattle.kernel_entry.specs.Conditions.{CanServe}
 use Rattle.mote_core.specs.QuietSteps.{flash_form, IsQuiet}
 use Rattle.mote_core.proofs.QuietMemory.{quiet_call}
@@ -42,14 +43,14 @@ pushed_size ram ret = length-with_byte (with_byte ram 0x011F (ret % 256)) 0x011E
 abbrev pub called_of : State → ℕ → ℕ → State
 called_of x v entry = with_mote x (record (mote_of x) { cpu = record (mote_of x).cpu { sp = 0x011D; pc = entry }; sram = pushed (mote_of x).sram (v + 2) })
 
-pub serve_by : (x : State) (answer : Served × Kernel) → IsRunning x → CanServe x.kernel → served x.kernel ≡ answer → Makes x (Serve (line_served answer.0) (is_stop answer.0)) (after_service answer)
+pub serve_by : (x : State) (answer : Served × Kernel) → IsRunning x → CanServe x.kernel → served x.kernel ≡ answer → Makes x (Serve (line_served answer.0) (is_stop answer.0)) (after_service (is_due x.kernel) answer)
 serve_by x answer free can is = record {
   free = free.free;
   going = free.going;
   can = can;
   written = ap (λ (o : Served × Kernel). line_served o.0) is;
   halts = ap (λ (o : Served × Kernel). is_stop o.0) is;
-  result = sym (ap after_service is);
+  result = sym (ap (after_service (is_due x.kernel)) is);
 }
 
 pub call_move : (x : State) (p entry : ℕ) (b : Bool) → IsRunning x → (mote_of x).cpu.pc ≡ p → InPool x.kernel.layout p → p < 0xF000 → Begins x.kernel.layout (mote_of x).flash.words p b
@@ -65,11 +66,16 @@ call_move x p entry b free is pool low starts first second top =
     quiet_move x (record m { cpu = record m.cpu { sp = 0x011D; pc = entry }; sram = pushed m.sram (p + 2) }) b free (subst Q (sym is) pool) (subst R (sym is) starts) (subst P ret (quiet_call m m.cpu.r m.cpu.sreg m.cpu.pc m.sram entry form top (omega arith)))
 
 -- the service BRIDGE behind the address p
-abbrev pub owing : Kernel → (t : ℕ) → Option ℕ → State
-owing k t stub = record { kernel = k; owed = Some (record { target = t; stub = stub }); end = None; torn = None }
+abbrev pub owing : Kernel → (t : ℕ) → Option ℕ → Bool → State
+owing k t stub due = record { kernel = k; owed = Some (record { target = t; stub = stub; due = due }); end = None; torn = None }
+
+-- whether an interrupt is due behind a service, by its answer
+pub due_is : (k : Kernel) (answer : Served × Kernel) → served k ≡ answer → is_due k ≡ due_by k.mote.cpu.pc (descriptor k) (byte_at k.mote.sram count_cell == 1) answer.0
+unfolding is_due
+due_is k answer is = ap (λ (o : Served × Kernel). due_by k.mote.cpu.pc (descriptor k) (byte_at k.mote.sram count_cell == 1) o.0) is
 
 pub bridge_move : (x : State) (p t : ℕ) → IsRunning x → (mote_of x).cpu.pc ≡ 0xF000 → p + 2 < 65536 → return_address x.kernel ≡ p + 2 → word_at (mote_of x).flash.words (p + 2) ≡ t
-    → Makes x (Serve None false) (owing (rested x.kernel) t (Some p))
+    → Makes x (Serve None false) (owing (rested x.kernel) t (Some p) false)
 unfolding served
 bridge_move x p t free at low back word =
     let k = x.kernel in
@@ -82,12 +88,12 @@ bridge_move x p t free at low back word =
       can = CanServe.AtBridge at;
       written = ap (λ (o : Served × Kernel). line_served o.0) is;
       halts = ap (λ (o : Served × Kernel). is_stop o.0) is;
-      result = sym (ap after_service is);
+      result = sym (ap₂ after_service (due_is k (answers.Goto t (Some p), rested k) is) is);
     }
 
 -- the service QUANTUM
 abbrev pub quantum_state : State → ℕ → State
-quantum_state x t = owing (quantum_ended x.kernel).1 t None
+quantum_state x t = owing (quantum_ended x.kernel).1 t None true
 
 pub quantum_move : (x : State) (p t : ℕ) → IsRunning x → (mote_of x).cpu.pc ≡ 0xF002 → return_address x.kernel ≡ p + 2 → word_at (mote_of x).flash.words (p + 2) ≡ t
     → Makes x (Serve None false) (quantum_state x t)
@@ -102,5 +108,5 @@ quantum_move x p t free at back word =
       can = CanServe.AtQuantum at;
       written = ap (λ (o : Served × Kernel). line_served o.0) is;
       halts = ap (λ (o : Served × Kernel). is_stop o.0) is;
-      result = sym (ap after_service is);
+      result = sym (ap₂ after_service (due_is k (answers.Goto t None, (quantum_ended k).1) is ∙ ap (λ e. due_by e (descriptor k) (byte_at k.mote.sram count_cell == 1) (answers.Goto t None)) at) is);
     }

@@ -1,17 +1,20 @@
--- What decides the next move: a plain step and a service exclude each other, each has one outcome, and an
--- ended program has no move.
+-- What decides the next move: a plain step and a service exclude each other, and so do an arrival and an interrupt;
+-- a plain step, a service and an interrupt have one outcome each, and an ended program has no move.
 use Rattle.std.proofs.Common.{◌≡◌, ℕ, ◌<◌, ◌≤◌, Bool, true, false, List, [], ◌∷◌, refl, sym, ap, ◌∙◌, arith}
 use Rattle.std.specs.Prelude.{◌≢◌, Option, None}
+use Rattle.std.proofs.lemmas.Option.{same_Some}
 use Rattle.flash_model.specs.Layouts.{IsRight}
 use Rattle.flash_model.specs.declared.layout.Layout.{Layout}
 use Rattle.mote_devices.specs.declared.line.Line.{Line}
 use Rattle.mote_core.specs.Shown.{line_shown}
 use Rattle.mote_core.proofs.KnownSteps.{one_step}
 use Rattle.kernel_entry.specs.declared.kernel.Kernel.{Kernel}
+use Rattle.kernel_entry.specs.declared.kernel.Taken.{Taken}
 use Rattle.kernel_entry.specs.Conditions.{CanServe}
-use Rattle.step_laws.specs.Moves.{Move, Plain, Serve, Arrive}
-use Rattle.step_laws.specs.States.{State, Begins, InPool, mote_of, with_mote}
-use Rattle.step_laws.specs.Walks.{MakesPlain, MakesServe, Makes, Walk}
+use Rattle.kernel_entry.specs.Interrupts.{taken}
+use Rattle.step_laws.specs.Moves.{Move, Plain, Serve, Arrive, Take}
+use Rattle.step_laws.specs.States.{State, Awaited, Begins, InPool, mote_of, with_mote, is_taken_at, after_taking, stops_taking}
+use Rattle.step_laws.specs.Walks.{MakesPlain, MakesServe, MakesArrive, MakesTake, Makes, Walk}
 
 -- the pool lies below the kernel's entries
 pub pool_low : (layout : Layout) (a : ℕ) → IsRight layout → InPool layout a → a < 0xF000
@@ -28,7 +31,7 @@ entry_high k (CanServe.AtPushReturn at shape can) = omega arith
 entry_high k (CanServe.AtReturn at shape can counts) = omega arith
 entry_high k (CanServe.AtIndirect at shape can counts) = omega arith
 entry_high k (CanServe.AtSelf at shape can counts) = omega arith
-entry_high k (CanServe.AtFault at shape) = omega arith
+entry_high k (CanServe.AtFault at shape can) = omega arith
 
 pub plain_or_service : (x y z : State) (begins stops : Bool) (line line' : Option Line) → IsRight x.kernel.layout → MakesPlain x begins line y → MakesServe x line' stops z → ⊥
 plain_or_service x y z begins stops line line' right plain service =
@@ -55,11 +58,24 @@ pub one_service : (x y z : State) (stops stops' : Bool) (line line' : Option Lin
 one_service x y z stops stops' line line' one other =
     (sym one.written ∙ other.written, sym one.halts ∙ other.halts, one.result ∙ sym other.result)
 
+pub arrival_or_interrupt : (x y z : State) (target ops : ℕ) (made stops : Bool) → MakesArrive x target made ops y → MakesTake x stops z → ⊥
+arrival_or_interrupt x y z target ops made stops arrival interrupt =
+    let same : arrival.owed ≡ interrupt.owed = same_Some arrival.owed interrupt.owed (sym arrival.owes ∙ interrupt.owes) in
+    let taken = ap (is_taken_at x) same ∙ interrupt.taken_now in
+    absurd (cc)
+
+pub one_interrupt : (x y z : State) (stops stops' : Bool) → MakesTake x stops y → MakesTake x stops' z → (stops ≡ stops') × (y ≡ z)
+one_interrupt x y z stops stops' one other =
+    let same : one.owed.target ≡ other.owed.target = ap (λ (o : Awaited). o.target) (same_Some one.owed other.owed (sym one.owes ∙ other.owes)) in
+    let answer = ap (taken x.kernel) same in
+    (sym one.halts ∙ ap (λ (o : Taken × Kernel). stops_taking o.0) answer ∙ other.halts, one.result ∙ ap (after_taking x) answer ∙ sym other.result)
+
 -- no move of an ended program
 no_move : (x y : State) (move : Move) → x.end ≢ None → Makes x move y → ⊥
 no_move x y (Plain begins line) ended makes = ended makes.going
 no_move x y (Serve line stops) ended makes = ended makes.going
 no_move x y (Arrive target made ops) ended makes = ended makes.going
+no_move x y (Take stops) ended makes = ended makes.going
 
 pub ended_stays : (x z : State) (moves : List Move) → x.end ≢ None → Walk x moves z → (moves ≡ []) × (x ≡ z)
 ended_stays x z [] ended walk = (refl, walk)

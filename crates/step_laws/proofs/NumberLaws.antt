@@ -1,6 +1,6 @@
 -- What moves add to the numbers.
 use Rattle.std.proofs.Common.{◌≡◌, ℕ, ◌+◌, ◌-◌, ◌≤◌, true, false, List, [], ◌∷◌, refl, ◌∙◌, arith}
-use Rattle.step_laws.specs.Moves.{Move, Plain, Serve, Arrive, are_inner, count_plain, count_serve, count_stop}
+use Rattle.step_laws.specs.Moves.{Move, Plain, Serve, Arrive, Take, are_inner, count_plain, count_serve, count_stop}
 use Rattle.step_laws.specs.Numbers.{Numbers, moved, numbered}
 
 pub natural_is : (moves : List Move) (n : Numbers) → (numbered moves n).natural ≡ n.natural + count_plain moves
@@ -9,6 +9,7 @@ natural_is [] n = omega arith
 natural_is (Plain begins line ∷ moves) n = natural_is moves (moved (Plain begins line) n) ∙ omega arith
 natural_is (Serve line stops ∷ moves) n = natural_is moves (moved (Serve line stops) n)
 natural_is (Arrive target made ops ∷ moves) n = natural_is moves (moved (Arrive target made ops) n)
+natural_is (Take stops ∷ moves) n = natural_is moves (moved (Take stops) n)
 
 pub entries_is : (moves : List Move) (n : Numbers) → (numbered moves n).entries ≡ n.entries + count_serve moves
 unfolding moved
@@ -16,6 +17,7 @@ entries_is [] n = omega arith
 entries_is (Plain begins line ∷ moves) n = entries_is moves (moved (Plain begins line) n)
 entries_is (Serve line stops ∷ moves) n = entries_is moves (moved (Serve line stops) n) ∙ omega arith
 entries_is (Arrive target made ops ∷ moves) n = entries_is moves (moved (Arrive target made ops) n)
+entries_is (Take stops ∷ moves) n = entries_is moves (moved (Take stops) n)
 
 pub since_bound : (moves : List Move) (n : Numbers) → (numbered moves n).since ≤ n.since + count_plain moves
 unfolding moved
@@ -23,6 +25,7 @@ since_bound [] n = omega arith
 since_bound (Plain begins line ∷ moves) n = let rest = since_bound moves (moved (Plain begins line) n) in omega arith
 since_bound (Serve line stops ∷ moves) n = let rest = since_bound moves (moved (Serve line stops) n) in omega arith
 since_bound (Arrive target made ops ∷ moves) n = since_bound moves (moved (Arrive target made ops) n)
+since_bound (Take stops ∷ moves) n = since_bound moves (moved (Take stops) n)
 
 pub longest_bound : (moves : List Move) (n : Numbers) (top : ℕ) → n.longest ≤ top → n.since + count_plain moves ≤ top → (numbered moves n).longest ≤ top
 unfolding moved
@@ -30,6 +33,7 @@ longest_bound [] n top before reach = before
 longest_bound (Plain begins line ∷ moves) n top before reach = longest_bound moves (moved (Plain begins line) n) top (omega arith) (omega arith)
 longest_bound (Serve line stops ∷ moves) n top before reach = longest_bound moves (moved (Serve line stops) n) top before (omega arith)
 longest_bound (Arrive target made ops ∷ moves) n top before reach = longest_bound moves (moved (Arrive target made ops) n) top before reach
+longest_bound (Take stops ∷ moves) n top before reach = longest_bound moves (moved (Take stops) n) top before reach
 
 -- inside a step no page is made
 pub pages_inner : (moves : List Move) (n : Numbers) → are_inner moves ≡ true → (numbered moves n).pages ≡ n.pages
@@ -39,6 +43,7 @@ pages_inner (Plain true line ∷ moves) n inner = absurd (cc)
 pages_inner (Plain false line ∷ moves) n inner = pages_inner moves (moved (Plain false line) n) inner
 pages_inner (Serve line stops ∷ moves) n inner = pages_inner moves (moved (Serve line stops) n) inner
 pages_inner (Arrive target made ops ∷ moves) n inner = absurd (cc)
+pages_inner (Take stops ∷ moves) n inner = absurd (cc)
 
 -- and no step begins; a service that stops takes one back
 pub steps_inner : (moves : List Move) (n : Numbers) → are_inner moves ≡ true → (numbered moves n).steps ≡ n.steps - count_stop moves
@@ -49,6 +54,7 @@ steps_inner (Plain false line ∷ moves) n inner = steps_inner moves (moved (Pla
 steps_inner (Serve line true ∷ moves) n inner = steps_inner moves (moved (Serve line true) n) inner ∙ omega arith
 steps_inner (Serve line false ∷ moves) n inner = steps_inner moves (moved (Serve line false) n) inner ∙ omega arith
 steps_inner (Arrive target made ops ∷ moves) n inner = absurd (cc)
+steps_inner (Take stops ∷ moves) n inner = absurd (cc)
 
 -- and no operation on flash is tried
 pub ops_inner : (moves : List Move) (n : Numbers) → are_inner moves ≡ true → (numbered moves n).ops ≡ n.ops
@@ -58,3 +64,4 @@ ops_inner (Plain true line ∷ moves) n inner = absurd (cc)
 ops_inner (Plain false line ∷ moves) n inner = ops_inner moves (moved (Plain false line) n) inner
 ops_inner (Serve line stops ∷ moves) n inner = ops_inner moves (moved (Serve line stops) n) inner
 ops_inner (Arrive target made ops ∷ moves) n inner = absurd (cc)
+ops_inner (Take stops ∷ moves) n inner = absurd (cc)

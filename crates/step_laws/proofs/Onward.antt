@@ -1,6 +1,6 @@
 -- What follows behind a template: the next entry, or the closing.
 use Rattle.std.proofs.Common.{[], ℕ, ◌≡◌, ◌+◌, ◌<◌, ◌≤◌, ◌∷◌, ◌∙◌, Bool, true, false, List, length, refl, sym, ap, arith, subst}
-use Rattle.std.specs.Prelude.{if◌then◌else◌, None}
+use Rattle.std.specs.Prelude.{if◌then◌else◌, None, ◌&&◌, ◌==◌}
 use Rattle.avr_isa.specs.Crossing.{is_crossing}
 use Rattle.sram_layout.specs.Bytes.{byte_at}
 use Rattle.nat_template.specs.declared.piece.Piece.{Piece}
@@ -35,7 +35,7 @@ pub record Onward (more : ℕ) (links : Links) (y : State) (t c : ℕ) (crosses 
   pub serves : count_serve moves ≤ 1
   pub goes : count_stop moves ≡ 0
   pub reset : IsReset y crosses moves
-  pub left : Reached links y t c end
+  pub left : Reached links y t c crosses end
 
 pub by_way : (more : ℕ) (links : Links) (y : State) (t c : ℕ) (crosses : Bool) → Way links y false t c crosses → Onward more links y t c crosses
 unfolding lines_of
@@ -74,7 +74,7 @@ onward_by links y image a v free fit right pool (Next next) some some' closed at
     quantum = refl;
     same = same_program (mote_of y) fit.top;
     count = sym (ap (λ b. if b then count_after y.kernel.quantum (byte_at (mote_of y).sram 0x0100) else byte_at (mote_of y).sram 0x0100) next.uncounted);
-    reaches = Reaches.Placed free.free (subst (links.enters (next_of image a)) (sym at) next.entry);
+    reaches = Reaches.Placed (ap (λ b. b && (byte_at (mote_of y).sram 0x0100 == 1)) next.uncounted) free.free (subst (links.enters (next_of image a)) (sym at) next.entry);
   };
 }
 onward_by links y image a v free fit right pool (Closed last) some some' closed at =

@@ -1,6 +1,6 @@
 -- A step of the program whose first plain move does the instruction's work, from there on.
-use Rattle.std.proofs.Common.{ℕ, ◌≡◌, ◌+◌, ◌<◌, ◌≤◌, ◌∙◌, true, length, sym, ap, arith}
-use Rattle.std.specs.Prelude.{Option}
+use Rattle.std.proofs.Common.{false, List, subst, ℕ, ◌≡◌, ◌+◌, ◌<◌, ◌≤◌, ◌∙◌, true, length, sym, ap, arith}
+use Rattle.std.specs.Prelude.{◌&&◌, ◌==◌, Option}
 use Rattle.avr_isa.specs.Crossing.{is_crossing}
 use Rattle.sram_layout.specs.Bytes.{byte_at}
 use Rattle.heap_frames.specs.Paged.{IsPaged}
@@ -12,7 +12,7 @@ use Rattle.step_laws.specs.Walks.{Makes}
 use Rattle.step_laws.proofs.Onward.{Onward}
 use Rattle.step_laws.specs.Moves.{Plain, line_before, lines_of}
 use Rattle.step_laws.specs.States.{State, mote_of, with_mote}
-use Rattle.step_laws.specs.StepLaws.{StepLaw, Outcome as StepOutcome, crossings_over}
+use Rattle.step_laws.specs.StepLaws.{Reaches, StepLaw, Outcome as StepOutcome, crossings_over}
 use Rattle.step_laws.proofs.SameProgram.{flat_same, paged_after}
 use Rattle.preempt_count.specs.Counting.{count_over}
 use Rattle.kernel_entry.specs.Seen.{program, state_at}
@@ -59,9 +59,13 @@ plain_law links x a to line n more low paged f on =
         pointer = let pointer = f.pointer in omega (arith, on.left.same.bytes 0x0103 (omega arith) (λ e. omega arith) (λ e. omega arith), ap (λ ram. byte_at ram 0x0103) f.sram);
       };
       outcome = StepOutcome.Went to (record {
+        wakes = false;
+        silent = λ e. absurd (cc);
+        fresh = λ e. absurd (cc);
+        polls = λ e. let polls = f.polls in omega (arith, ap (λ d. d.polls) on.left.same.devices);
         going = on.left.going;
         original = λ s c. f.goes s c ∙ ap (Goes line) (sym (flat_same y.kernel end.kernel to (s + 1) (crossings_over a to c) on.left.same));
-        reaches = on.left.reaches;
+        reaches = subst (λ (ram : List ℕ). Reaches links to (is_crossing a to && (byte_at ram 0x0100 == 1)) end) f.sram on.left.reaches;
         count = on.left.count;
         unstopped = on.goes;
         reset = λ crosses one. on.reset crosses (ap (λ ram. byte_at ram 0x0100) f.sram ∙ one);

@@ -38,7 +38,7 @@ self_by : (links : Links) (x : State) (a v : ℕ) (form : Form) (b : Bool) → h
     → instruction_at (image_held x.kernel) a ≡ Some form → is_executed form ≡ true → shape_of_form a form ≡ SelfJump → StepLaw links x a
 unfolding served is_transfer
 self_by links x a v form true on s c can is runs shape =
-    gone_law links x a v self_entry form _ refl s c can is runs (ap₂ (λ j i. j && not i) (self_jumps a form shape) on) (by_self_form (λ f. is_transfer f ≡ true) a (λ k same. refl) (λ t same. refl) form shape) (halted_is (called x v self_entry) true on)
+    gone_law links x a v self_entry form _ refl refl s c can is runs (ap₂ (λ j i. j && not i) (self_jumps a form shape) on) (by_self_form (λ f. is_transfer f ≡ true) a (λ k same. refl) (λ t same. refl) form shape) (halted_is (called x v self_entry) true on)
 self_by links x a v form false off s c can is runs shape =
     let k = x.kernel in
     let kc = called x v self_entry in

@@ -109,7 +109,7 @@ skip_by links x a v form s shape is skips =
         swap = refl;
       };
       polls = ag.polls;
-      goes = λ s' c. guarded_goes (memory_of k) g core (core_of k (if far then t else next_of image a)) s' c form s.ready.paged refl instr skips.runs (ap (λ b. b && not (has_bit m.cpu.sreg interrupts)) (skips.apart a)) original;
+      goes = λ s' c. guarded_goes _ (memory_of k) g core (core_of k (if far then t else next_of image a)) s' c form s.ready.paged refl instr skips.runs (ap (λ b. b && not (has_bit m.cpu.sreg interrupts)) (skips.apart a)) original;
     })
 
 pub skip_law : ShapeLaw Skip

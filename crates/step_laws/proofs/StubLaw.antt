@@ -68,11 +68,11 @@ plain_law links x w t b free row stands marks fit is starts =
       | inl bridge ↦ (
           let called : State = with_mote x (record m { cpu = record m.cpu { sp = 0x011D; pc = 0xF000 }; sram = pushed m.sram (w + 2) }) in
           let first : Makes x (Plain b None) called = call_move x w 0xF000 b free is pool (omega arith) starts bridge.0 bridge.1 fit.top in
-          let served : Makes called (Serve None false) (owing (rested called.kernel) t (Some w)) = bridge_move called w t (record { free = free.free; going = free.going; room = free.room }) refl (omega arith) (pushed_address m.sram (w + 2) fit.size) stands.0.1 in
+          let served : Makes called (Serve None false) (owing (rested called.kernel) t (Some w) false) = bridge_move called w t (record { free = free.free; going = free.going; room = free.room }) refl (omega arith) (pushed_address m.sram (w + 2) fit.size) stands.0.1 in
           record {
-            end = owing (rested called.kernel) t (Some w);
+            end = owing (rested called.kernel) t (Some w) false;
             rest = Serve None false ∷ [];
-            walk = (called, first, (owing (rested called.kernel) t (Some w), served, refl));
+            walk = (called, first, (owing (rested called.kernel) t (Some w) false, served, refl));
             inner = refl;
             silent = refl;
             few = omega arith;
@@ -86,7 +86,7 @@ plain_law links x w t b free row stands marks fit is starts =
               quantum = refl;
               same = same_bridged m (w + 2) 0xF000;
               count = pushed_kept m.sram (w + 2) 0x0100 (omega arith) (λ e. omega arith) (λ e. omega arith);
-              reaches = Reaches.Owing (Some w) refl (record { mark = marks.0; call = bridge.0; bridge = bridge.1 });
+              reaches = Reaches.Owing (Some w) (λ e. absurd (cc)) refl (record { mark = marks.0; call = bridge.0; bridge = bridge.1 });
             };
           })
       | inr jump ↦ (
@@ -112,7 +112,7 @@ plain_law links x w t b free row stands marks fit is starts =
               quantum = refl;
               same = same_self m place fit.top;
               count = refl;
-              reaches = Reaches.Placed free.free jump.1;
+              reaches = Reaches.Placed refl free.free jump.1;
             };
           })
     ]

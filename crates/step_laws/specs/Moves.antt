@@ -4,11 +4,13 @@ use Rattle.mote_devices.specs.declared.line.Line.{Line}
 
 -- A plain step, which is one instruction of the code pool: it may begin at an entry's place, and may write
 -- a device line. A service of the kernel, which may write a line, and may stop the program. An arrival at
--- the address that is owed, which may make a page, and tries so many operations on flash.
+-- the address that is owed, which may make a page, and tries so many operations on flash. An interrupt that is
+-- taken before the arrival, which may stop the program.
 pub data Move : Type 0 where
   Plain : (begins : Bool) → (line : Option Line) → Move
   Serve : (line : Option Line) → (stops : Bool) → Move
   Arrive : (target : ℕ) → (made : Bool) → (ops : ℕ) → Move
+  Take : (stops : Bool) → Move
 
 -- a line, if there is one, in front of others
 abbrev pub line_before : Option Line → List Line → List Line
@@ -21,12 +23,14 @@ lines_of [] = []
 lines_of (Plain begins line ∷ moves) = line_before line (lines_of moves)
 lines_of (Serve line stops ∷ moves) = line_before line (lines_of moves)
 lines_of (Arrive target made ops ∷ moves) = lines_of moves
+lines_of (Take stops ∷ moves) = lines_of moves
 
--- moves in the midst of one step: none begins at an entry's place, and none is an arrival
+-- moves in the midst of one step: none begins at an entry's place, and none is an arrival or an interrupt
 abbrev pub is_inner : Move → Bool
 is_inner (Plain begins line) = not begins
 is_inner (Serve line stops) = true
 is_inner (Arrive target made ops) = false
+is_inner (Take stops) = false
 
 abbrev pub are_inner : List Move → Bool
 are_inner [] = true

@@ -1,6 +1,6 @@
 -- The numbers that are counted by the moves, and by nothing else (docs/RUN.md, "Numbers").
-use Rattle.std.specs.Prelude.{ℕ, ◌+◌, ◌-◌, max, Bool, if◌then◌else◌, List, [], ◌∷◌}
-use Rattle.step_laws.specs.Moves.{Move, Plain, Serve, Arrive}
+use Rattle.std.specs.Prelude.{ℕ, ◌+◌, ◌-◌, max, not, Bool, if◌then◌else◌, List, [], ◌∷◌}
+use Rattle.step_laws.specs.Moves.{Move, Plain, Serve, Arrive, Take}
 
 -- steps of the original program; plain steps; services; pages made; plain steps since the last service;
 -- the most plain steps without a service between them; and operations on flash that were tried
@@ -30,6 +30,7 @@ moved (Serve line stops) n = record n {
   since = 0;
 }
 moved (Arrive target made ops) n = record n { pages = n.pages + one_if made; ops = n.ops + ops }
+moved (Take stops) n = record n { steps = n.steps + one_if (not stops) }
 
 -- the numbers after these moves
 abbrev pub numbered : List Move → Numbers → Numbers

@@ -3,6 +3,7 @@ use Rattle.std.specs.Prelude.{◌≡◌, ℕ, ◌+◌, ◌<◌, ◌≤◌, ◌^�
 use Rattle.sram_layout.specs.Bytes.{byte_at}
 use Rattle.sram_layout.specs.Cells.{count_cell, vsp_cell, kernel_stack_top}
 use Rattle.heap_frames.specs.Paged.{IsPaged}
+use Rattle.mote_devices.specs.Waking.{Timely}
 use Rattle.flash_model.specs.Layouts.{IsRight}
 use Rattle.flash_model.specs.Memory.{IsWhole}
 use Rattle.page_index.specs.Entries.{IsEntry}
@@ -29,12 +30,14 @@ pub record IsIdle (k : Kernel) : Type 0 where
   pub some : 1 ≤ byte_at k.mote.sram count_cell
   pub most : byte_at k.mote.sram count_cell < 256
 
--- the layout is right, flash is whole, COUNT is within the quantum, and two polls can be counted
+-- the layout is right, flash is whole, COUNT is within the quantum, two polls can be counted, and the numbers of the
+-- events to come fit 32 bits
 pub record IsBounded (k : Kernel) : Type 0 where
   pub right : IsRight k.layout
   pub whole : IsWhole k.mote.flash
   pub most : byte_at k.mote.sram count_cell ≤ k.quantum
   pub polls : k.mote.devices.polls + 1 < 2 ^ 63
+  pub timely : Timely k.mote.devices
 
 -- a step can begin, as far as it isn't the code's matter
 pub record CanBegin (x : State) : Type 0 where

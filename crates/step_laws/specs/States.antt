@@ -1,5 +1,6 @@
--- The states that moves lead between, and what a service and an arrival leave (docs/RUN.md, "Moves").
-use Rattle.std.specs.Prelude.{ℕ, ◌/◌, Bool, true, false, List, Option, Some, None}
+-- The states that moves lead between, and what a service, an interrupt and an arrival leave (docs/RUN.md, "Moves").
+use Rattle.std.specs.Prelude.{ℕ, ◌/◌, ◌&&◌, Bool, true, false, List, Option, Some, None}
+use Rattle.avr_isa.specs.Image.{is_inside}
 use Rattle.flash_model.specs.Pages.{page_words}
 use Rattle.flash_model.specs.declared.layout.Layout.{Layout}
 use Rattle.page_index.specs.Maps.{IsPool}
@@ -15,14 +16,24 @@ use Rattle.branch_bridge.specs.Arrivals.{Store}
 use Rattle.kernel_entry.specs.declared.kernel.Kernel.{Kernel}
 use Rattle.kernel_entry.specs.declared.kernel.Served.{Served}
 use Rattle.kernel_entry.specs.declared.kernel.Served.TheVariants as answers
-use Rattle.step_laws.specs.declared.moves.Owed.{Owed}
+use Rattle.kernel_entry.specs.declared.kernel.Taken.{Taken}
+use Rattle.kernel_entry.specs.declared.kernel.Taken.TheVariants as interrupted
+use Rattle.kernel_entry.specs.Parts.{image_held}
+use Rattle.kernel_entry.specs.Interrupts.{is_wanted}
 use Rattle.step_laws.specs.declared.moves.End.{End}
 use Rattle.step_laws.specs.declared.moves.End.TheVariants as ends
+
+-- An arrival that is owed: the address, the stub that asked for it, if one did, and whether an interrupt may be taken
+-- instead. So it is where a service ended at a checkpoint, or woke the program, until the next move.
+pub record Awaited : Type 0 where
+  pub target : ℕ
+  pub stub : Option ℕ
+  pub due : Bool
 
 -- the mote with what the kernel knows of it, the arrival that is owed, and how the program ended
 pub record State : Type 0 where
   pub kernel : Kernel
-  pub owed : Option Owed
+  pub owed : Option Awaited
   pub end : Option End
   pub torn : Option Torn
 
@@ -50,10 +61,25 @@ abbrev pub is_stop : Served → Bool
 is_stop (answers.Stopped stop) = true
 is_stop _ = false
 
-abbrev pub after_service : Served × Kernel → State
-after_service (answers.Resume line, k) = record { kernel = k; owed = None; end = None; torn = None }
-after_service (answers.Goto target stub, k) = record { kernel = k; owed = Some (record { target = target; stub = stub }); end = None; torn = None }
-after_service (answers.Stopped stop, k) = record { kernel = k; owed = None; end = Some (ends.Stopped stop); torn = None }
+abbrev pub after_service : (due : Bool) → Served × Kernel → State
+after_service due (answers.Resume line, k) = record { kernel = k; owed = None; end = None; torn = None }
+after_service due (answers.Goto target stub, k) = record { kernel = k; owed = Some (record { target = target; stub = stub; due = due }); end = None; torn = None }
+after_service due (answers.Woke target, k) = record { kernel = k; owed = Some (record { target = target; stub = None; due = due }); end = None; torn = None }
+after_service due (answers.Stopped stop, k) = record { kernel = k; owed = None; end = Some (ends.Stopped stop); torn = None }
+
+-- an interrupt is to be taken before the arrival: it is due, the arrival is inside the image, and one is wanted
+abbrev pub is_taken_at : State → Awaited → Bool
+is_taken_at x owed = owed.due && (is_inside (image_held x.kernel) owed.target && is_wanted x.kernel)
+
+-- one that is taken leads to its vector, where no further one is due; or it stops the program
+abbrev pub after_taking : State → Taken × Kernel → State
+after_taking x (interrupted.Nothing, k) = record x { kernel = k }
+after_taking x (interrupted.Vector v, k) = record { kernel = k; owed = Some (record { target = v; stub = None; due = false }); end = None; torn = None }
+after_taking x (interrupted.Stopped stop, k) = record x { kernel = k; end = Some (ends.Stopped stop) }
+
+abbrev pub stops_taking : Taken → Bool
+stops_taking (interrupted.Stopped stop) = true
+stops_taking _ = false
 
 -- flash and SRAM, which an arrival may change
 abbrev pub store_of : State → Store

@@ -1,6 +1,6 @@
 -- The law of a step: the moves from an entry's place on make exactly the original program's next step
 -- (docs/RUN.md, "The law of a step").
-use Rattle.std.specs.Prelude.{◌≡◌, ℕ, ◌+◌, ◌<◌, ◌≤◌, Bool, true, List, [], ◌∷◌, length, Option, Some, None, if◌then◌else◌}
+use Rattle.std.specs.Prelude.{◌≡◌, ℕ, ◌+◌, ◌<◌, ◌≤◌, max, Bool, true, false, ◌||◌, List, [], ◌∷◌, length, Option, Some, None, if◌then◌else◌}
 use Rattle.avr_isa.specs.Crossing.{is_crossing}
 use Rattle.sram_layout.specs.Bytes.{byte_at}
 use Rattle.sram_layout.specs.Cells.{vsp_cell, kernel_stack_top}
@@ -8,8 +8,8 @@ use Rattle.heap_frames.specs.Paged.{IsPaged}
 use Rattle.mote_devices.specs.declared.line.Line.{Line}
 use Rattle.nat_template.specs.declared.shapes.TemplateShape.{TemplateShape}
 use Rattle.nat_page.specs.Runs.{shape_at}
-use Rattle.mem_guard.specs.FlatMachine.{Tried, Stops, Goes, tried}
-use Rattle.preempt_count.specs.Counting.{count_over}
+use Rattle.mem_guard.specs.FlatMachine.{FlatState, Tried, Stops, Goes, Wakes, tried}
+use Rattle.preempt_count.specs.Counting.{count_over, is_checkpoint}
 use Rattle.kernel_entry.specs.declared.kernel.Stop.{Stop}
 use Rattle.step_laws.specs.declared.moves.End.TheVariants as ends
 use Rattle.step_laws.specs.Moves.{Move, Plain, lines_of, line_before, are_inner, count_plain, count_serve, count_stop}
@@ -33,14 +33,16 @@ crossings_over from to crossings = if is_crossing from to then crossings + 1 els
 abbrev pub IsReset : State → Bool → List Move → Type 0
 IsReset x crosses moves = crosses ≡ true → count_of x.kernel ≡ 1 → (n : Numbers) → (numbered moves n).since ≡ 0
 
--- control has reached a place of t; or an arrival at t is owed, of an unresolved link to t or of none
-pub data Reaches (links : Links) (t : ℕ) (z : State) : Type 0 where
-  Placed : z.owed ≡ None → links.enters t (mote_of z).cpu.pc → Reaches links t z
-  Owing : (stub : Option ℕ) → z.owed ≡ Some (record { target = t; stub = stub })
-      → OfStub links (mote_of z).flash.words stub t → Reaches links t z
+-- Control has reached a place of t; or an arrival at t is owed, of an unresolved link to t or of none. Only in the last
+-- case may an interrupt be due.
+pub data Reaches (links : Links) (t : ℕ) (due : Bool) (z : State) : Type 0 where
+  Placed : due ≡ false → z.owed ≡ None → links.enters t (mote_of z).cpu.pc → Reaches links t due z
+  Owing : (stub : Option ℕ) → (due ≡ true → stub ≡ None) → z.owed ≡ Some (record { target = t; stub = stub; due = due })
+      → OfStub links (mote_of z).flash.words stub t → Reaches links t due z
 
 -- what every step leaves: the layout and the quantum, flash, the number of slots and of registers, a heap
--- in order, the kernel's stack empty, one poll more at most, and SRAM from 0x0142 to 0x03FF, the tables
+-- in order, the kernel's stack empty, one poll more at most, or as many as an event's number may be, and SRAM from
+-- 0x0142 to 0x03FF, the tables
 pub record Keeps (x z : State) : Type 0 where
   pub layout : z.kernel.layout ≡ x.kernel.layout
   pub quantum : z.kernel.quantum ≡ x.kernel.quantum
@@ -49,15 +51,26 @@ pub record Keeps (x z : State) : Type 0 where
   pub paged : IsPaged (mote_of z).sram (mote_of z).swap
   pub registers : length (mote_of z).cpu.r ≡ length (mote_of x).cpu.r
   pub top : (mote_of z).cpu.sp ≡ kernel_stack_top
-  pub polls : (mote_of z).devices.polls ≤ (mote_of x).devices.polls + 1
+  pub polls : (mote_of z).devices.polls ≤ max ((mote_of x).devices.polls + 1) 4294967295
   pub tables : (b : ℕ) → 0x0142 ≤ b → b < 0x0400 → byte_at (mote_of z).sram b ≡ byte_at (mote_of x).sram b
   pub pointer : byte_at (mote_of z).sram vsp_cell < 256
 
--- The instruction at a is executed: the original program's step to the address `to`, with its line.
+-- the original program's step: the instruction is executed, or is a SLEEP that an interrupt ends
+abbrev pub tried_as : (wakes : Bool) → Option Line → FlatState → Tried
+tried_as false line next = Goes line next
+tried_as true line next = Wakes next
+
+-- The instruction at a is executed: the original program's step to the address `to`, with its line. An interrupt is due
+-- behind it where it is a checkpoint or a SLEEP; a SLEEP writes no line, ends with a service, and alone may raise the
+-- count of polls by more than one.
 pub record GoesTo (links : Links) (x : State) (a : ℕ) (line : Option Line) (rest : List Move) (to : ℕ) (z : State) : Type 0 where
+  pub wakes : Bool
+  pub silent : wakes ≡ true → line ≡ None
+  pub fresh : wakes ≡ true → (n : Numbers) → (numbered rest n).since ≡ 0
+  pub polls : wakes ≡ false → (mote_of z).devices.polls ≤ (mote_of x).devices.polls + 1
   pub going : z.end ≡ None
-  pub original : (s c : ℕ) → tried_at x a s c ≡ Goes line (state_at z.kernel to (s + 1) (crossings_over a to c))
-  pub reaches : Reaches links to z
+  pub original : (s c : ℕ) → tried_at x a s c ≡ tried_as wakes line (state_at z.kernel to (s + 1) (crossings_over a to c))
+  pub reaches : Reaches links to (wakes || is_checkpoint a to (count_of x.kernel)) z
   pub count : count_of z.kernel ≡ count_over x.kernel.quantum a to (count_of x.kernel)
   pub unstopped : count_stop rest ≡ 0
   pub reset : IsReset x (is_crossing a to) rest
@@ -65,6 +78,7 @@ pub record GoesTo (links : Links) (x : State) (a : ℕ) (line : Option Line) (re
 -- The instruction at a stops the original program, and nothing that the program sees changes.
 pub record StopsAt (x : State) (a : ℕ) (line : Option Line) (rest : List Move) (stop : Stop) (z : State) : Type 0 where
   pub ended : z.end ≡ Some (ends.Stopped stop)
+  pub free : z.owed ≡ None
   pub silent : line ≡ None
   pub original : (s c : ℕ) → tried_at x a s c ≡ Stops (end_of stop)
   pub same : (s c : ℕ) → state_at z.kernel a s c ≡ state_at x.kernel a s c

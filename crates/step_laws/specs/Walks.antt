@@ -1,5 +1,5 @@
 -- Which moves may be made, and walks of them (docs/RUN.md, "Moves").
-use Rattle.std.specs.Prelude.{◌≡◌, ℕ, ◌+◌, ◌<◌, ◌^◌, Bool, true, List, [], ◌∷◌, Option, Some, None}
+use Rattle.std.specs.Prelude.{◌≡◌, ℕ, ◌+◌, ◌<◌, ◌^◌, Bool, true, false, List, [], ◌∷◌, Option, Some, None}
 use Rattle.mote_devices.specs.declared.line.Line.{Line}
 use Rattle.mote_core.specs.declared.mote.Mote.{Mote}
 use Rattle.mote_core.specs.declared.mote.Plain.{Plain as Shown}
@@ -7,12 +7,13 @@ use Rattle.mote_core.specs.Conditions.{can_step}
 use Rattle.mote_core.specs.Shown.{line_shown}
 use Rattle.mote_core.specs.Step.{form_at, IsPlainStep}
 use Rattle.mote_core.specs.QuietSteps.{KeepsKernel}
+use Rattle.heap_frames.specs.Paged.{IsPaged}
 use Rattle.branch_bridge.specs.declared.through.Arrival.{Arrival}
 use Rattle.branch_bridge.specs.Arrivals.{Store, ArrivesFrom}
-use Rattle.step_laws.specs.declared.moves.Owed.{Owed}
-use Rattle.step_laws.specs.Moves.{Move, Plain, Serve, Arrive}
-use Rattle.step_laws.specs.States.{State, mote_of, with_mote, Begins, InPool, line_served, is_stop, after_service, store_of, arrived}
-use Rattle.kernel_entry.specs.Services.{served}
+use Rattle.step_laws.specs.Moves.{Move, Plain, Serve, Arrive, Take}
+use Rattle.step_laws.specs.States.{State, mote_of, with_mote, Awaited, is_taken_at, after_taking, stops_taking, Begins, InPool, line_served, is_stop, after_service, store_of, arrived}
+use Rattle.kernel_entry.specs.Services.{served, is_due}
+use Rattle.kernel_entry.specs.Interrupts.{taken}
 use Rattle.kernel_entry.specs.Conditions.{CanServe}
 
 -- A plain step: nothing is owed, and the program has not ended; the pc is in the code pool, and at an
@@ -39,14 +40,15 @@ pub record MakesServe (x : State) (line : Option Line) (stops : Bool) (y : State
   pub can : CanServe x.kernel
   pub written : line_served (served x.kernel).0 ≡ line
   pub halts : is_stop (served x.kernel).0 ≡ stops
-  pub result : y ≡ after_service (served x.kernel)
+  pub result : y ≡ after_service (is_due x.kernel) (served x.kernel)
 
--- An arrival: it is the one that is owed, from the stub that asked for it, and makes a page and tries so many
--- operations on flash as the move says, a refused one included.
+-- An arrival: it is the one that is owed, from the stub that asked for it, with no interrupt to be taken before it,
+-- and makes a page and tries so many operations on flash as the move says, a refused one included.
 pub record MakesArrive (x : State) (target : ℕ) (made : Bool) (ops : ℕ) (y : State) : Type 0 where
-  pub owed : Owed
+  pub owed : Awaited
   pub owes : x.owed ≡ Some owed
   pub going : x.end ≡ None
+  pub untaken : is_taken_at x owed ≡ false
   pub at : target ≡ owed.target
   pub store : Store
   pub arrival : Arrival
@@ -55,11 +57,24 @@ pub record MakesArrive (x : State) (target : ℕ) (made : Bool) (ops : ℕ) (y :
   pub tried : store.flash.ops ≡ (store_of x).flash.ops + ops
   pub after : y ≡ arrived x store arrival
 
+-- An interrupt in place of the arrival that is owed: it is to be taken, and pushes the arrival's address. It leaves what
+-- its answer says.
+pub record MakesTake (x : State) (stops : Bool) (y : State) : Type 0 where
+  pub owed : Awaited
+  pub owes : x.owed ≡ Some owed
+  pub going : x.end ≡ None
+  pub taken_now : is_taken_at x owed ≡ true
+  pub room : (mote_of x).devices.polls < 2 ^ 63
+  pub paged : IsPaged (mote_of x).sram (mote_of x).swap
+  pub halts : stops_taking (taken x.kernel owed.target).0 ≡ stops
+  pub result : y ≡ after_taking x (taken x.kernel owed.target)
+
 -- the move leads from one state to the next
 abbrev pub Makes : State → Move → State → Type 0
 Makes x (Plain begins line) y = MakesPlain x begins line y
 Makes x (Serve line stops) y = MakesServe x line stops y
 Makes x (Arrive target made ops) y = MakesArrive x target made ops y
+Makes x (Take stops) y = MakesTake x stops y
 
 -- moves one after another
 abbrev pub Walk : State → List Move → State → Type 0

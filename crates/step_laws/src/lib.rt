@@ -1,17 +1,18 @@
 //! The run as a list of moves, and the law of each step: rewritten code does what the original program does.
 //!
-//! A *move* is a plain step of the mote in a page of the code pool, a service of the kernel, or the arrival
-//! that is owed. From the place of an instruction's template on there is a walk of such moves that makes
-//! exactly the step that the original program makes on flat memory, or comes to its stop. The functions of
-//! this crate do nothing: each one's contract is a law, for the layer that makes the moves.
+//! A *move* is a plain step of the mote in a page of the code pool, a service of the kernel, the arrival that
+//! is owed, or an interrupt that is taken in its place. From the place of an instruction's template on there is
+//! a walk of plain steps and services that makes exactly the step that the original program makes on flat
+//! memory, or comes to its stop. The functions of this crate do nothing: each one's contract is a law, for the
+//! layer that makes the moves.
 //!
 //! docs/RUN.md tells all of this in words. `specs/Moves`, `specs/States` and `specs/Walks` say which moves
 //! there are and what each leaves, `specs/Numbers` what is counted by them, `specs/Bounds` how far that goes,
 //! `specs/Links` where control may go on, `specs/Settings` what the law of a step rests on, `specs/StepLaws`
 //! what it says, and `specs/InlineLaws` what an inline template does, move by move. Public laws:
 //! `proofs/EveryShape` (the law of a shape, for any links, and of an entry), `proofs/InlineRuns` (inline
-//! templates), `proofs/MoveLaws` (a plain step and a service exclude each other, and have one outcome each)
-//! and `proofs/Joining` (walks in a row).
+//! templates), `proofs/MoveLaws` (a plain step and a service exclude each other, as an arrival and an interrupt
+//! do, and which of them have one outcome) and `proofs/Joining` (walks in a row).
 #![tactic(auto)]
 
 mod laws;

@@ -1,7 +1,7 @@
 //! What is known of a run between two moves, beside the kernel.
 use kernel_entry::Stop;
 
-/// An arrival that is owed: it is made before anything else.
+/// An arrival that is owed: it is made before anything else but an interrupt.
 #[derive(Clone, Copy, Debug, PartialEq, Eq)]
 pub struct Owed {
     /// The original address to arrive at.

@@ -6,7 +6,7 @@ ghost use Rattle.std.specs.Str.Parse.{digits_value, AllDigits};
 /// The number that up to 10 digits of a base write, none where another byte stands among them. No digits
 /// write 0; hexadecimal digits may have either case.
 pub fn value_of(text: &[u8], radix: u32) -> Option<u64>
-    requires base { (10 ≤ radix) × (radix ≤ 16) }
+    requires base { (8 ≤ radix) × (radix ≤ 16) }
     requires short { length text.now ≤ 10 }
     ensures cases { MatchOption result (¬ AllDigits radix text.now) (λ value. AllDigits radix text.now × (value ≡ digits_value radix text.now)) }
 {

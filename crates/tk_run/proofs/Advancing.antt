@@ -8,7 +8,7 @@ use Rattle.tk_io.proofs.KnownBytes.{appends-both, appends-nothing}
 use Rattle.tk_io.specs.declared.failure.Failed.{Failed}
 use Rattle.avr_isa.specs.Image.{is_inside}
 use Rattle.mote_devices.specs.declared.line.Line.{Line}
-use Rattle.mem_guard.specs.FlatMachine.{Program, FlatState, Run, run, ended}
+use Rattle.mem_guard.specs.FlatMachine.{Program, Moment, Run, run, ended, is_taken}
 use Rattle.mem_guard.specs.FlatMachine as flat_ends
 use Rattle.kernel_entry.specs.Parts.{image_held}
 use Rattle.step_laws.specs.declared.moves.End.{End}
@@ -16,7 +16,7 @@ use Rattle.step_laws.specs.declared.moves.End.TheVariants as ends
 use Rattle.step_laws.specs.Moves.{Move, lines_of, line_before}
 use Rattle.kernel_entry.specs.Seen.{end_of, program as program_of}
 use Rattle.program_steps.specs.Machines.{Machine, numbers_of, flat_of}
-use Rattle.program_steps.specs.Ready.{count_in, AreTried, IsGoing, IsInOrder, IsSound, IsEnded, IsKept, HasBounds}
+use Rattle.program_steps.specs.Ready.{count_in, AreTried, IsGoing, IsQuiet, IsInOrder, IsSound, IsEnded, IsKept, HasBounds}
 use Rattle.program_steps.specs.Stepping.{lines_text}
 use Rattle.program_steps.specs.Stepping.{Goes, Stays, IsFault, ends_in_arrive, HasStepped, StepWay, HasEntered, Entering, HasBound}
 use Rattle.tk_run.specs.Running.{Leads, original_from, run_of, Answers, IsBroken, HasAdvanced}
@@ -46,12 +46,12 @@ bounds_ready m ready = bounded_counted (numbers_of m) m.crossings m.kernel.quant
 kept_ended : (m : Machine) → m.steps ≤ 10 ^ 12 → IsEnded m → IsKept m
 kept_ended m few over =
     let sound : IsSound m = record { order = over.order; bounded = over.bounded; steps = few } in
-    record { sound = sound; ready = λ e. record { sound = sound; exact = over.exact; going = λ going. absurd (over.ended going) } }
+    record { sound = sound; ready = λ e. record { sound = sound; exact = over.exact; going = λ going. absurd (over.ended going); quiet = λ going. absurd (over.ended going) } }
 
-pub kept_ready : (m : Machine) → m.steps ≤ 10 ^ 12 → IsGoing m → IsKept m
-kept_ready m few ready =
+pub kept_ready : (m : Machine) → m.steps ≤ 10 ^ 12 → IsGoing m → IsQuiet m → IsKept m
+kept_ready m few ready quiet =
     let sound : IsSound m = record { order = ready.order; bounded = bounds_ready m ready; steps = few } in
-    record { sound = sound; ready = λ e. record { sound = sound; exact = ready.exact; going = λ going. ready } }
+    record { sound = sound; ready = λ e. record { sound = sound; exact = ready.exact; going = λ going. ready; quiet = λ going. quiet } }
 
 by_wild : (old now new : Machine) (i n t : ℕ) (before after : Option (List ℕ)) → old.end ≡ None → old.broken ≡ false → i ≤ n → t ≡ now.at
     → Ran old now i before after → is_inside (image_held now.kernel) now.at ≡ false → HasEntered now new (Some (ends.Wild t))
@@ -112,7 +112,7 @@ by_failed old now new i n op before after going whole below ran inside entered k
 entered_ends : (old now new : Machine) (i n : ℕ) (before after : Option (List ℕ)) (result : Option End) (end : End) → old.end ≡ None
     → old.broken ≡ false → i < n → Ran old now i before after → HasEntered now new result → Entering now new result → result ≡ Some end
     → HasAdvanced old new n before after (Ok end)
-entered_ends old now new i n before after result end going whole below ran entered (Entering.In ready free inside) is = absurd (cc)
+entered_ends old now new i n before after result end going whole below ran entered (Entering.In ready free inside untaken) is = absurd (cc)
 entered_ends old now new i n before after result end going whole below ran entered (Entering.Out over kept outside) is =
     let e : ends.Wild now.at ≡ end = cc in
     subst (λ x. HasAdvanced old new n before after (Ok x)) e (by_wild old now new i n now.at before after going whole (omega arith) refl ran outside entered kept over)
@@ -126,19 +126,27 @@ advanced_enter old now new i n before after result end going whole below between
 -- in the middle of a turn
 pub record IsIn (old now : Machine) (i : ℕ) (before after : Option (List ℕ)) : Type 0 where
   pub ran : Ran old now i before after
-  pub ready : IsGoing now
-  pub placed : now.owed ≡ None
   pub inside : is_inside (image_held now.kernel) now.at ≡ true
 
-entered_in : (now new : Machine) (result : Option End) → Stays now new → flat_of new ≡ flat_of now → Entering now new result → result ≡ None → IsGoing new × (new.owed ≡ None) × (is_inside (image_held new.kernel) new.at ≡ true)
-entered_in now new result stays flat (Entering.In ready free inside) is = (ready, free, ap₂ (λ (p : Program) a. is_inside p.image a) stays.program (ap (λ (s : FlatState). s.cpu.pc) flat) ∙ inside)
+-- behind an arrival a step can begin
+pub record CanStep (m : Machine) : Type 0 where
+  pub ready : IsGoing m
+  pub placed : m.owed ≡ None
+  pub untaken : is_taken (flat_of m) ≡ false
+  pub inside : is_inside (image_held m.kernel) m.at ≡ true
+
+entered_in : (now new : Machine) (result : Option End) → Stays now new → flat_of new ≡ flat_of now → Entering now new result → result ≡ None → CanStep new
+entered_in now new result stays flat (Entering.In ready free inside untaken) is = record { ready = ready; placed = free; untaken = untaken; inside = ap₂ (λ (p : Program) a. is_inside p.image a) stays.program (ap (λ (s : Moment). s.now.cpu.pc) flat) ∙ inside }
 entered_in now new result stays flat (Entering.Out over kept outside) is = absurd (cc)
 entered_in now new result stays flat (Entering.Failed op over kept inside fault) is = absurd (cc)
 
 pub is_in : (old now new : Machine) (i : ℕ) (before after : Option (List ℕ)) (result : Option End) → IsBetween old now i before after → HasEntered now new result → result ≡ None → IsIn old new i before after
 is_in old now new i before after result between entered is =
     let e = entered_in now new result entered.stays entered.flat entered.way is in
-    record { ran = ran_enter old now new i before after result between.ran entered; ready = e.0; placed = e.1; inside = e.2 }
+    record { ran = ran_enter old now new i before after result between.ran entered; inside = e.inside }
+
+pub can_step : (now new : Machine) (result : Option End) → HasEntered now new result → result ≡ None → CanStep new
+can_step now new result entered is = entered_in now new result entered.stays entered.flat entered.way is
 
 last_step : (ms ns : List Move) → ends_in_arrive ns ≡ false → ns ≢ [] → ends_in_arrive (ms ++ ns) ≡ false
 last_step ms [] inner some = absurd (some refl)
@@ -149,8 +157,8 @@ between_by : (old now new : Machine) (i : ℕ) (line : Option Line) (before afte
     → (step : HasStepped now new line) → StepWay now new line → Appends after later (lines_text (line_before line [])) → new.end ≡ None
     → IsBetween old new (i + 1) before later
 unfolding ran_step
-between_by old now new i line before after later now' step (StepWay.On ready steps is) put going =
-    record { ran = ran_step old now new i line before after later now'.ran now'.inside step steps is put; last = last_step now'.ran.moves step.moves step.last step.some; ready = ready }
+between_by old now new i line before after later now' step (StepWay.On ready quiet steps is) put going =
+    record { ran = ran_step old now new i line before after later now'.ran now'.inside step steps is put; last = last_step now'.ran.moves step.moves step.last step.some; ready = ready; quiet = quiet }
 between_by old now new i line before after later now' step (StepWay.Stopped stop over kept none steps is left) put going = absurd (no_end new (ends.Stopped stop) kept going)
 
 pub between_on : (old now new : Machine) (i : ℕ) (line : Option Line) (before after later : Option (List ℕ)) → IsIn old now i before after → HasStepped now new line → Appends after later (lines_text (line_before line [])) → new.end ≡ None → IsBetween old new (i + 1) before later
@@ -160,7 +168,7 @@ between_on old now new i line before after later now' step put going = between_b
 stopped_by : (old now new : Machine) (i n : ℕ) (line : Option Line) (end : End) (before after later : Option (List ℕ)) → old.end ≡ None
     → old.broken ≡ false → i < n → IsIn old now i before after → (step : HasStepped now new line) → StepWay now new line
     → Appends after later (lines_text (line_before line [])) → new.end ≡ Some end → HasAdvanced old new n before later (Ok end)
-stopped_by old now new i n line end before after later going whole below now' step (StepWay.On ready steps is) put ended' = absurd (no_end new end ended' ready.going)
+stopped_by old now new i n line end before after later going whole below now' step (StepWay.On ready quiet steps is) put ended' = absurd (no_end new end ended' ready.going)
 stopped_by old now new i n line end before after later going whole below now' step (StepWay.Stopped stop over kept none steps is left) put ended' =
     let ran = now'.ran in
     let e : ends.Stopped stop ≡ end = (let f : Some (ends.Stopped stop) ≡ Some end = sym kept ∙ ended' in cc) in
@@ -200,7 +208,7 @@ advanced_stop old now new i n line end before after later going whole below now'
 bound_by : (old now new : Machine) (n : ℕ) (before after : Option (List ℕ)) (result : Option End) → old.end ≡ None → old.broken ≡ false
     → IsBetween old now n before after → HasEntered now new result → is_inside (image_held now.kernel) now.at ≡ false → Entering now new result
     → result ≡ Some (ends.Wild now.at) → HasAdvanced old new n before after (Ok (ends.Wild now.at))
-bound_by old now new n before after result going whole between entered outside (Entering.In ready free inside) is = absurd (cc)
+bound_by old now new n before after result going whole between entered outside (Entering.In ready free inside untaken) is = absurd (cc)
 bound_by old now new n before after result going whole between entered outside (Entering.Out over kept out) is = by_wild old now new n n now.at before after going whole (omega arith) refl between.ran outside entered kept over
 bound_by old now new n before after result going whole between entered outside (Entering.Failed op over kept inside fault) is = absurd (cc)
 
@@ -222,9 +230,9 @@ advanced_bound old now new n before after end going whole between (HasBound.Wait
         written = ap (λ (r : Run). r.lines) part;
         left = ap (λ (r : Run). r.state) part;
         made = ran.made;
-        answers = record { all = refl; ran = part; ready = between.ready };
+        answers = record { all = refl; ran = part; ready = between.ready; quiet = between.quiet };
       };
-      keeps = λ few before'. kept_ready now (omega (arith, ran.steps, few)) between.ready;
+      keeps = λ few before'. kept_ready now (omega (arith, ran.steps, few)) between.ready between.quiet;
       kept = λ end is. absurd (no_end old end is going);
     })
 advanced_bound old now new n before after end going whole between (HasBound.Leaves entered outside) = bound_by old now new n before after (Some (ends.Wild now.at)) going whole between entered outside entered.way refl
@@ -294,13 +302,13 @@ advanced_cut old now i n e text before after going whole below between cut =
         made = ran.made;
         answers = record { broken = refl; order = order_broken now between.ready.order; bounded = bounds_broken now (bounds_ready now between.ready) };
       };
-      keeps = λ few before'. kept_broken now (kept_ready now (omega (arith, ran.steps, few, below)) between.ready);
+      keeps = λ few before'. kept_broken now (kept_ready now (omega (arith, ran.steps, few, below)) between.ready between.quiet);
       kept = λ end is. absurd (no_end old end is going);
     }
 
 failed_by : (old now new : Machine) (i n : ℕ) (line : Option Line) (e : Failed) (text : List ℕ) (before after : Option (List ℕ)) → old.end ≡ None → old.broken ≡ false → i < n → IsIn old now i (Some []) (Some text) → (step : HasStepped now new line) → StepWay now new line → line ≢ None
     → CutShort before after (text ++ lines_text (line_before line [])) → HasAdvanced old (record new { broken = true }) n before after (Err e)
-failed_by old now new i n line e text before after going whole below now' step (StepWay.On ready steps is) some cut =
+failed_by old now new i n line e text before after going whole below now' step (StepWay.On ready quiet steps is) some cut =
     let behind : List ℕ = text ++ lines_text (line_before line []) in
     advanced_cut old new (i + 1) n e behind before after going whole (omega arith) (between_on old now new i line (Some []) (Some text) (Some behind) now' step refl ready.going) cut
 failed_by old now new i n line e text before after going whole below now' step (StepWay.Stopped stop over kept none steps is left) some cut = absurd (some none)

@@ -1,5 +1,5 @@
 -- The machine at boot is ready, and stands for the original program at reset.
-use Rattle.std.proofs.Common.{◌≡◌, ℕ, ◌+◌, ◌-◌, ◌*◌, ◌%◌, ◌<◌, ◌≤◌, List, length, take, refl, sym, ap, ap₂, ◌∙◌, arith, subst, inl}
+use Rattle.std.proofs.Common.{false, ◌≡◌, ℕ, ◌+◌, ◌-◌, ◌*◌, ◌%◌, ◌<◌, ◌≤◌, List, length, take, refl, sym, ap, ap₂, ◌∙◌, arith, subst, inl}
 use Rattle.std.specs.Prelude.{None}
 use Rattle.avr_exec.specs.declared.cpu.Cpu.{Cpu}
 use Rattle.hex_image.specs.Image.{IsImage}
@@ -107,11 +107,12 @@ going_boot image script quantum slots is some low few whole =
       top = refl;
       some = omega (arith, count);
       most = omega (arith, count);
-      stands = Reaches.Owing None refl tt;
+      stands = Reaches.Owing None (λ e. absurd (cc)) refl tt;
       counted = record { natural = omega arith; entries = omega arith; since = omega arith; longest = omega arith; crossed = omega arith; within = omega arith; most = omega arith };
       arrivals = record { pages = omega arith; ops = omega arith };
       polls = omega arith;
       exact = count ∙ none_off quantum;
+      fresh = λ e. refl;
     }
 
 stack_boot : data_word_at at_boot vsp_cell ≡ 0
@@ -119,24 +120,24 @@ unfolding data_word_at
 stack_boot = ap₂ (λ low high. low + 256 * high) (boot_zero vsp_cell (omega arith) (omega arith) (inl (omega arith))) (boot_zero (vsp_cell + 1) (omega arith) (omega arith) (inl (omega arith)))
 
 -- the original's machine at reset
-flat_boot : (image : List ℕ) (script : Schedule) (quantum slots : ℕ) → flat_of (booted image script quantum slots) ≡ flat_at_reset script.events
+flat_boot : (image : List ℕ) (script : Schedule) (quantum slots : ℕ) → flat_of (booted image script quantum slots) ≡ record { now = flat_at_reset script.events; due = false }
 flat_boot image script quantum slots =
-    flat_same (record { mote = boot_mote image script slots; layout = layout_of (length image); quantum = quantum }) (booted image script quantum slots).kernel 0 0 0 (same_boot image script quantum slots)
-    ∙ flat_parts _ _ _ _ _ _ 0 0 0 _ _ _ _ _ _ refl refl stack_boot (memory_at_reset (zero_slots slots)) refl pages_at_reset
+    ap (λ s. record { now = s; due = false }) (flat_same (record { mote = boot_mote image script slots; layout = layout_of (length image); quantum = quantum }) (booted image script quantum slots).kernel 0 0 0 (same_boot image script quantum slots)
+    ∙ flat_parts _ _ _ _ _ _ 0 0 0 _ _ _ _ _ _ refl refl stack_boot (memory_at_reset (zero_slots slots)) refl pages_at_reset)
 
 -- the program is the image's
 held_boot : (image : List ℕ) → IsImage image → take (length image) (loaded image) ≡ image
 held_boot image is = (new_flash_faithful (layout_of (length image)) image (right_at image is.few) refl).held
 
-pub program_boot : (image : List ℕ) (script : Schedule) (quantum slots : ℕ) → IsImage image → program_of (booted image script quantum slots).kernel ≡ program_at image slots
-program_boot image script quantum slots is = ap₂ (λ i n. record { image = i; page_limit = n }) (held_boot image is) (length-zero_slots slots)
+pub program_boot : (image : List ℕ) (script : Schedule) (quantum slots : ℕ) → IsImage image → program_of (booted image script quantum slots).kernel ≡ program_at image quantum slots
+program_boot image script quantum slots is = ap₂ (λ i n. record { image = i; page_limit = n; quantum = quantum }) (held_boot image is) (length-zero_slots slots)
 
 -- and its run the original program's
-pub run_boot : (image : List ℕ) (script : Schedule) (quantum slots n : ℕ) → IsImage image → original_from (booted image script quantum slots) n ≡ original (program_at image slots) script.events n
+pub run_boot : (image : List ℕ) (script : Schedule) (quantum slots n : ℕ) → IsImage image → original_from (booted image script quantum slots) n ≡ original (program_at image quantum slots) script.events n
 run_boot image script quantum slots n is = ap₂ (λ p s. run p s n) (program_boot image script quantum slots is) (flat_boot image script quantum slots)
 
 pub kept_boot : (image : List ℕ) (script : Schedule) (quantum slots : ℕ) → IsGoing (booted image script quantum slots) → IsKept (booted image script quantum slots)
-kept_boot image script quantum slots going = kept_ready (booted image script quantum slots) (omega arith) going
+kept_boot image script quantum slots going = kept_ready (booted image script quantum slots) (omega arith) going (λ free. refl)
 
 -- what the call makes is the machine at boot
 booted_by : (image : List ℕ) (script : Schedule) (quantum slots : ℕ) (mote : Mote) (sram : List ℕ) (layout : Layout) → IsAtReset image script slots mote → sram ≡ with_byte mote.sram count_cell quantum → layout ≡ layout_of (length image)

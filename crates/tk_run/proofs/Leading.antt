@@ -3,7 +3,7 @@ use Rattle.std.proofs.Common.{◌≡◌, false, List, [], ◌∷◌, ◌++◌, r
 use Rattle.std.specs.Prelude.{None}
 use Rattle.std.proofs.lemmas.List.{append-nil}
 use Rattle.mote_devices.specs.declared.line.Line.{Line}
-use Rattle.step_laws.specs.Moves.{Move, Plain, Serve, Arrive}
+use Rattle.step_laws.specs.Moves.{Move, Plain, Serve, Arrive, Take}
 use Rattle.step_laws.specs.Numbers.{numbered}
 use Rattle.step_laws.specs.States.{State}
 use Rattle.step_laws.specs.Walks.{Walk}
@@ -24,6 +24,7 @@ pub last_cons : (m : Move) (ns : List Move) (n : Move) → ends_in_arrive (m ∷
 last_cons (Plain b line) ns n = refl
 last_cons (Serve line stops) ns n = refl
 last_cons (Arrive target made ops) ns n = refl
+last_cons (Take stops) ns n = refl
 
 -- the last of both is the last of the second, which isn't empty
 pub last_on : (ms ns : List Move) (n : Move) → ends_in_arrive (ms ++ n ∷ ns) ≡ ends_in_arrive (n ∷ ns)

@@ -7,7 +7,7 @@ use Rattle.std.specs.Io.KnownBytes.{Appends}
 use Rattle.tk_io.proofs.KnownBytes.{appends-both, appends-nothing}
 use Rattle.avr_isa.specs.Image.{is_inside}
 use Rattle.mote_devices.specs.declared.line.Line.{Line}
-use Rattle.mem_guard.specs.FlatMachine.{Program, FlatState, End as FlatEnd, Run, run, with_line, ended, tried}
+use Rattle.mem_guard.specs.FlatMachine.{Program, Moment, End as FlatEnd, Run, run, with_line, ended, next_of}
 use Rattle.mem_guard.specs.FlatMachine as flat_ends
 use Rattle.mem_guard.proofs.MachineLaws.{run_wild, run_spent, run_stops, run_goes}
 use Rattle.mem_guard.proofs.RunLaws.{behind}
@@ -16,7 +16,7 @@ use Rattle.step_laws.specs.declared.moves.End.{End}
 use Rattle.step_laws.specs.Moves.{Move, lines_of, line_before}
 use Rattle.kernel_entry.specs.Seen.{program as program_of}
 use Rattle.program_steps.specs.Machines.{Machine, flat_of}
-use Rattle.program_steps.specs.Ready.{IsGoing}
+use Rattle.program_steps.specs.Ready.{IsGoing, IsQuiet}
 use Rattle.kernel_entry.specs.Texts.{line_text}
 use Rattle.program_steps.specs.Stepping.{lines_text}
 use Rattle.program_steps.specs.Stepping.{Goes, Stays, AreMadeAt, ends_in_arrive, HasStepped, HasEntered}
@@ -41,6 +41,7 @@ pub record IsBetween (old now : Machine) (i : ℕ) (before after : Option (List 
   pub ran : Ran old now i before after
   pub last : ends_in_arrive ran.moves ≡ false
   pub ready : IsGoing now
+  pub quiet : IsQuiet now
 
 -- the original's run
 behind_nothing : (r : Run) → behind [] r ≡ r
@@ -50,15 +51,15 @@ pub behind_line : (lines : List Line) (line : Option Line) (r : Run) → behind 
 behind_line lines None r = ap (λ l. record r { lines = l ++ r.lines }) (sym (append-nil lines))
 behind_line lines (Some l) r = ap (λ k. record r { lines = k }) (sym (append_assoc lines (l ∷ []) r.lines))
 
-pub behind_ended : (lines : List Line) (end : FlatEnd) (s : FlatState) → behind lines (ended end s) ≡ run_of end lines s
+pub behind_ended : (lines : List Line) (end : FlatEnd) (s : Moment) → behind lines (ended end s) ≡ run_of end lines s
 behind_ended lines end s = ap (λ l. run_of end l s) (append-nil lines)
 
-none_by : (program : Program) (s : FlatState) (b : Bool) → is_inside program.image s.cpu.pc ≡ b → ((run program s 0).lines ≡ []) × ((run program s 0).state ≡ s)
+none_by : (program : Program) (s : Moment) (b : Bool) → is_inside program.image s.now.cpu.pc ≡ b → ((run program s 0).lines ≡ []) × ((run program s 0).state ≡ s)
 none_by program s true inside = let is = run_spent program s inside in (ap (λ (r : Run). r.lines) is, ap (λ (r : Run). r.state) is)
 none_by program s false outside = let is = run_wild program s 0 outside in (ap (λ (r : Run). r.lines) is, ap (λ (r : Run). r.state) is)
 
-pub none_ran : (program : Program) (s : FlatState) → ((run program s 0).lines ≡ []) × ((run program s 0).state ≡ s)
-none_ran program s = none_by program s (is_inside program.image s.cpu.pc) refl
+pub none_ran : (program : Program) (s : Moment) → ((run program s 0).lines ≡ []) × ((run program s 0).state ≡ s)
+none_ran program s = none_by program s (is_inside program.image s.now.cpu.pc) refl
 
 pub nothing : (i : ℕ) → 0 + i ≡ i
 nothing i = omega arith
@@ -70,9 +71,9 @@ made_on old i j moves below made = made_map (Visits old i) (Visits old j) moves 
 pub made_step : (old : Machine) (i : ℕ) (moves more : List Move) → AreMadeAt (Visits old i) moves → AreMadeAt (λ t. ⊥) more → AreMadeAt (Visits old i) (moves ++ more)
 made_step old i moves more made none = made_both (Visits old i) moves more made (made_map (λ t. ⊥) (Visits old i) more (λ t never. absurd never) none)
 
-stands_after : (old now : Machine) (i : ℕ) (before after : Option (List ℕ)) → Ran old now i before after → (original_from old i).state.cpu.pc ≡ now.at
+stands_after : (old now : Machine) (i : ℕ) (before after : Option (List ℕ)) → Ran old now i before after → (original_from old i).state.now.cpu.pc ≡ now.at
 stands_after old now i before after ran =
-    ap (λ k. (original_from old k).state.cpu.pc) (sym (nothing i)) ∙ ap (λ (r : Run). r.state.cpu.pc) (ran.run 0) ∙ ap (λ (s : FlatState). s.cpu.pc) (none_ran (program_of old.kernel) (flat_of now)).1
+    ap (λ k. (original_from old k).state.now.cpu.pc) (sym (nothing i)) ∙ ap (λ (r : Run). r.state.now.cpu.pc) (ran.run 0) ∙ ap (λ (s : Moment). s.now.cpu.pc) (none_ran (program_of old.kernel) (flat_of now)).1
 
 pub made_enter : (old now new : Machine) (i : ℕ) (before after : Option (List ℕ)) (result : Option End) → (ran : Ran old now i before after) → (entered : HasEntered now new result) → AreMadeAt (Visits old i) (ran.moves ++ entered.moves)
 made_enter old now new i before after result ran entered =
@@ -94,9 +95,9 @@ ran_start m known = record {
   run = λ k. ap (original_from m) (add-zero k);
 }
 
-pub between_start : (m : Machine) (known : Option (List ℕ)) → IsGoing m → IsBetween m m 0 known known
+pub between_start : (m : Machine) (known : Option (List ℕ)) → IsGoing m → IsQuiet m → IsBetween m m 0 known known
 unfolding ran_start
-between_start m known ready = record { ran = ran_start m known; last = refl; ready = ready }
+between_start m known ready quiet = record { ran = ran_start m known; last = refl; ready = ready; quiet = quiet }
 
 unfoldable pub ran_enter : (old now new : Machine) (i : ℕ) (before after : Option (List ℕ)) (result : Option End) → Ran old now i before after → HasEntered now new result → Ran old new i before after
 ran_enter old now new i before after result ran entered = record {
@@ -114,14 +115,14 @@ ran_enter old now new i before after result ran entered = record {
 pub lines_text_on : (a b : List Line) → lines_text (a ++ b) ≡ lines_text a ++ lines_text b
 lines_text_on a b = flat_map-append line_text a b
 
-pub tried_same : (old now : Machine) (t : flat_ends.Tried) → Stays old now → tried (program_of now.kernel) (flat_of now) ≡ t → tried (program_of old.kernel) (flat_of now) ≡ t
-tried_same old now t stays is = ap (λ p. tried p (flat_of now)) (sym stays.program) ∙ is
+pub tried_same : (old now : Machine) (t : flat_ends.Next) → Stays old now → next_of (program_of now.kernel) (flat_of now) ≡ t → next_of (program_of old.kernel) (flat_of now) ≡ t
+tried_same old now t stays is = ap (λ p. next_of p (flat_of now)) (sym stays.program) ∙ is
 
 pub inside_same : (old now : Machine) → Stays old now → is_inside (image_held now.kernel) now.at ≡ true → is_inside (image_held old.kernel) now.at ≡ true
 inside_same old now stays is = ap (λ (p : Program). is_inside p.image now.at) (sym stays.program) ∙ is
 
 unfoldable pub ran_step : (old now new : Machine) (i : ℕ) (line : Option Line) (before after later : Option (List ℕ)) → Ran old now i before after → is_inside (image_held now.kernel) now.at ≡ true → (step : HasStepped now new line) → new.steps ≡ now.steps + 1
-    → tried (program_of now.kernel) (flat_of now) ≡ flat_ends.Goes line (flat_of new) → Appends after later (lines_text (line_before line [])) → Ran old new (i + 1) before later
+    → next_of (program_of now.kernel) (flat_of now) ≡ flat_ends.On line (flat_of new) → Appends after later (lines_text (line_before line [])) → Ran old new (i + 1) before later
 ran_step old now new i line before after later ran inside step steps is put =
     let program = program_of old.kernel in
     let on : (k : ℕ) → run program (flat_of now) (suc k) ≡ with_line line (run program (flat_of new) k) = λ k. run_goes program (flat_of now) (flat_of new) k line (inside_same old now ran.stays inside) (tried_same old now _ ran.stays is) in
@@ -150,7 +151,7 @@ wild_at old now i k before after ran outside =
     ran.run k ∙ ap (behind ran.lines) (run_wild (program_of old.kernel) (flat_of now) k (ap (λ (p : Program). is_inside p.image now.at) (sym ran.stays.program) ∙ outside)) ∙ behind_ended ran.lines (flat_ends.Wild now.at) (flat_of now)
 
 pub stop_at : (old now : Machine) (i k : ℕ) (before after : Option (List ℕ)) (end : FlatEnd) → (ran : Ran old now i before after)
-    → is_inside (image_held now.kernel) now.at ≡ true → tried (program_of now.kernel) (flat_of now) ≡ flat_ends.Stops end
+    → is_inside (image_held now.kernel) now.at ≡ true → next_of (program_of now.kernel) (flat_of now) ≡ flat_ends.Ends end
     → original_from old (suc k + i) ≡ run_of end ran.lines (flat_of now)
 stop_at old now i k before after end ran inside is =
     ran.run (suc k) ∙ ap (behind ran.lines) (run_stops (program_of old.kernel) (flat_of now) k end (inside_same old now ran.stays inside) (tried_same old now _ ran.stays is)) ∙ behind_ended ran.lines end (flat_of now)

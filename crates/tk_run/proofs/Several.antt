@@ -16,8 +16,8 @@ use Rattle.tk_run.proofs.Gathered.{IsUnderWay, step_on}
 
 -- behind them, with the last still to come, the run is in the middle of a turn
 in_by : (old now new : Machine) (i : ℕ) (before after : Option (List ℕ)) → IsIn old now i before after → HasStepped now new None → StepWay now new None → IsGoing new → new.owed ≡ None → IsIn old new (i + 1) before after
-in_by old now new i before after now' step (StepWay.On ready steps is) going placed =
-    record { ran = ran_step old now new i None before after after now'.ran now'.inside step steps is (appends-nothing after); ready = going; placed = placed; inside = place_inside new going placed }
+in_by old now new i before after now' step (StepWay.On ready quiet steps is) going placed =
+    record { ran = ran_step old now new i None before after after now'.ran now'.inside step steps is (appends-nothing after); inside = place_inside new going placed }
 in_by old now new i before after now' step (StepWay.Stopped stop over kept none steps is left) going placed = absurd (let e : Some _ ≡ None = sym kept ∙ going.going in cc)
 
 silently_in : (n : ℕ) (old now last : Machine) (i : ℕ) (before after : Option (List ℕ)) → Silently n now last → IsIn old now i before after → IsIn old last (i + n) before after

@@ -31,10 +31,10 @@ leads_as x y lines lines' leads same =
     (record { moves = leads.moves; goes = record { walk = leads.goes.walk; told = leads.goes.told ∙ same; numbers = leads.goes.numbers }; last = leads.last; ended = leads.ended; broken = leads.broken }, refl)
 
 -- where its pages were made
-made_as : (image : List ℕ) (script : Schedule) (quantum slots done steps : ℕ) (moves moves' : List Move) → IsImage image → done ≡ steps → moves' ≡ moves → AreMadeAt (Visits (booted image script quantum slots) done) moves → AreMadeAt (StandsAt image script slots steps) moves'
+made_as : (image : List ℕ) (script : Schedule) (quantum slots done steps : ℕ) (moves moves' : List Move) → IsImage image → done ≡ steps → moves' ≡ moves → AreMadeAt (Visits (booted image script quantum slots) done) moves → AreMadeAt (StandsAt image script quantum slots steps) moves'
 made_as image script quantum slots done steps moves moves' is same all made =
-    subst (AreMadeAt (StandsAt image script slots steps)) (sym all) (made_map (Visits (booted image script quantum slots) done) (StandsAt image script slots steps) moves
-    (λ t visit. (visit.0, omega (arith, visit.1, same), sym (ap (λ (r : Run). r.state.cpu.pc) (run_boot image script quantum slots visit.0 is)) ∙ visit.2)) made)
+    subst (AreMadeAt (StandsAt image script quantum slots steps)) (sym all) (made_map (Visits (booted image script quantum slots) done) (StandsAt image script quantum slots steps) moves
+    (λ t visit. (visit.0, omega (arith, visit.1, same), sym (ap (λ (r : Run). r.state.now.cpu.pc) (run_boot image script quantum slots visit.0 is)) ∙ visit.2)) made)
 
 -- what the script lists, as flash does
 listed_as : (image : List ℕ) (script : Schedule) (quantum slots op : ℕ) (m : Machine) → Stays (booted image script quantum slots) m → is_listed script.failing op ≡ is_listed m.kernel.mote.flash.failing op
@@ -54,8 +54,8 @@ exact_by : (image : List ℕ) (script : Schedule) (quantum slots n : ℕ) (befor
     → HasRun (booted image script quantum slots) m n advanced.leads.moves advanced.lines (Ok end)
     → original_from (booted image script quantum slots) n ≡ run_of (flat_end end) advanced.lines (flat_of m) → IsKeptEnd (flat_end end) end m.end → ((op : ℕ) → m.end ≡ Some (ends.Flash op) → ⊥) → IsExactRun image script quantum slots n before after end m
 exact_by image script quantum slots n before after end m is kept advanced run ran ends unfailed =
-    let same : original (program_at image slots) script.events n ≡ run_of (flat_end end) advanced.lines (flat_of m) = sym (run_boot image script quantum slots n is) ∙ ran in
-    let lines : advanced.lines ≡ (original (program_at image slots) script.events n).lines = sym (ap (λ (r : Run). r.lines) same) in
+    let same : original (program_at image quantum slots) script.events n ≡ run_of (flat_end end) advanced.lines (flat_of m) = sym (run_boot image script quantum slots n is) ∙ ran in
+    let lines : advanced.lines ≡ (original (program_at image quantum slots) script.events n).lines = sym (ap (λ (r : Run). r.lines) same) in
     let path = leads_as (booted image script quantum slots) m advanced.lines _ advanced.leads lines in
     let done : run.done ≡ m.steps = omega (arith, run.steps) in
     let tried = kept.sound.order.tried in
@@ -79,8 +79,8 @@ failed_by : (image : List ℕ) (script : Schedule) (quantum slots n : ℕ) (befo
 failed_by image script quantum slots n before after op m is kept advanced ran =
     let failed = ran.answers in
     let done : ran.done ≡ m.steps = omega (arith, ran.steps) in
-    let same : original (program_at image slots) script.events m.steps ≡ run_of flat_ends.Spent advanced.lines (flat_of m) = ap (original (program_at image slots) script.events) (sym done) ∙ sym (run_boot image script quantum slots ran.done is) ∙ failed.ran in
-    let lines : advanced.lines ≡ (original (program_at image slots) script.events m.steps).lines = sym (ap (λ (r : Run). r.lines) same) in
+    let same : original (program_at image quantum slots) script.events m.steps ≡ run_of flat_ends.Spent advanced.lines (flat_of m) = ap (original (program_at image quantum slots) script.events) (sym done) ∙ sym (run_boot image script quantum slots ran.done is) ∙ failed.ran in
+    let lines : advanced.lines ≡ (original (program_at image quantum slots) script.events m.steps).lines = sym (ap (λ (r : Run). r.lines) same) in
     let path = leads_as (booted image script quantum slots) m advanced.lines _ advanced.leads lines in
     let tried = kept.sound.order.tried in
     record {
@@ -108,7 +108,7 @@ cut_by : (image : List ℕ) (script : Schedule) (quantum slots n : ℕ) (before 
     → (ran : HasRun (booted image script quantum slots) m n advanced.leads.moves advanced.lines (Err e)) → IsCutRun image script quantum slots n before after m
 cut_by image script quantum slots n before after e m is kept advanced ran =
     let done : ran.done ≡ m.steps = omega (arith, ran.steps) in
-    let lines : advanced.lines ≡ (original (program_at image slots) script.events m.steps).lines = sym ran.written ∙ ap (λ (r : Run). r.lines) (run_boot image script quantum slots ran.done is) ∙ ap (λ k. (original (program_at image slots) script.events k).lines) done in
+    let lines : advanced.lines ≡ (original (program_at image quantum slots) script.events m.steps).lines = sym ran.written ∙ ap (λ (r : Run). r.lines) (run_boot image script quantum slots ran.done is) ∙ ap (λ k. (original (program_at image quantum slots) script.events k).lines) done in
     let path = leads_as (booted image script quantum slots) m advanced.lines _ advanced.leads lines in
     record {
       within = omega (arith, ran.within);

@@ -28,6 +28,7 @@ booted image script quantum slots = record {
   at = 0;
   owed = Some (record { target = 0; stub = None });
   end = None;
+  due = false;
   torn = None;
   broken = false;
   steps = 0;

@@ -2,7 +2,7 @@
 -- (docs/MACHINE.md, "A run of n steps" and "The original program").
 use Rattle.std.specs.Prelude.{◌≡◌, ◌≢◌, ℕ, ◌+◌, ◌<◌, ◌≤◌, ◌^◌, Bool, true, false, List, [], Option, Some, None, Result, Ok, Err}
 use Rattle.mote_devices.specs.declared.line.Line.{Line}
-use Rattle.mem_guard.specs.FlatMachine.{FlatState, End as FlatEnd, Run, run}
+use Rattle.mem_guard.specs.FlatMachine.{Moment, End as FlatEnd, Run, run}
 use Rattle.mem_guard.specs.FlatMachine as flat_ends
 use Rattle.tk_io.specs.declared.failure.Failed.{Failed}
 use Rattle.tk_io.specs.Streams.{Puts}
@@ -11,7 +11,7 @@ use Rattle.step_laws.specs.declared.moves.End.TheVariants as ends
 use Rattle.step_laws.specs.Moves.{Move}
 use Rattle.kernel_entry.specs.Seen.{end_of, program as program_of}
 use Rattle.program_steps.specs.Machines.{Machine, flat_of}
-use Rattle.program_steps.specs.Ready.{IsGoing, IsInOrder, IsEnded, IsKept, HasBounds}
+use Rattle.program_steps.specs.Ready.{IsGoing, IsQuiet, IsInOrder, IsEnded, IsKept, HasBounds}
 use Rattle.program_steps.specs.Stepping.{lines_text}
 use Rattle.program_steps.specs.Stepping.{Goes, Stays, IsFault, AreMadeAt, ends_in_arrive}
 
@@ -36,7 +36,7 @@ flat_end (ends.Stopped stop) = end_of stop
 flat_end (ends.Wild t) = flat_ends.Wild t
 flat_end (ends.Flash op) = flat_ends.Spent
 
-abbrev pub run_of : FlatEnd → List Line → FlatState → Run
+abbrev pub run_of : FlatEnd → List Line → Moment → Run
 run_of end lines state = record { end = end; lines = lines; state = state }
 
 -- all n steps were done, and the program goes on
@@ -44,6 +44,7 @@ pub record IsSpent (old new : Machine) (n done : ℕ) (lines : List Line) : Type
   pub all : done ≡ n
   pub ran : original_from old n ≡ run_of flat_ends.Spent lines (flat_of new)
   pub ready : IsGoing new
+  pub quiet : IsQuiet new
 
 -- the original program ended within n steps, and so did the machine
 pub record IsOver (old new : Machine) (n : ℕ) (lines : List Line) (end : End) : Type 0 where
@@ -74,7 +75,7 @@ Answers old new n done lines (Err e) = IsBroken new
 
 -- within so many steps the original program stands at this address
 abbrev pub Visits : Machine → (done t : ℕ) → Type 0
-Visits old done t = (k : ℕ) × (k ≤ done) × ((original_from old k).state.cpu.pc ≡ t)
+Visits old done t = (k : ℕ) × (k ≤ done) × ((original_from old k).state.now.cpu.pc ≡ t)
 
 -- What a run of up to n steps leaves of a machine without an end: with the number of steps that were done
 -- as its bound, the original program writes the same lines, and comes to the state that the new machine

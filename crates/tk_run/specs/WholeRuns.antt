@@ -18,8 +18,8 @@ use Rattle.tk_run.specs.Running.{Leads, flat_end}
 use Rattle.tk_run.specs.Booted.{booted}
 
 -- the original program, which may store to as many pages of heap as there are slots
-abbrev pub program_at : (image : List ℕ) (slots : ℕ) → Program
-program_at image slots = record { image = image; page_limit = slots }
+abbrev pub program_at : (image : List ℕ) (quantum slots : ℕ) → Program
+program_at image quantum slots = record { image = image; page_limit = slots; quantum = quantum }
 
 -- moves lead from boot to the machine, and write these lines
 abbrev pub Path : (image : List ℕ) (script : Schedule) (quantum slots : ℕ) → List Line → Machine → Type 0
@@ -31,22 +31,22 @@ IsKeptEnd flat_ends.Spent end kept = kept ≡ None
 IsKeptEnd _ end kept = kept ≡ Some end
 
 -- within so many steps the original program stands at this address
-abbrev pub StandsAt : (image : List ℕ) (script : Schedule) (slots done t : ℕ) → Type 0
-StandsAt image script slots done t = (k : ℕ) × (k ≤ done) × ((original (program_at image slots) script.events k).state.cpu.pc ≡ t)
+abbrev pub StandsAt : (image : List ℕ) (script : Schedule) (quantum slots done t : ℕ) → Type 0
+StandsAt image script quantum slots done t = (k : ℕ) × (k ≤ done) × ((original (program_at image quantum slots) script.events k).state.now.cpu.pc ≡ t)
 
 -- The run ended as the original program's n steps do, and all their lines were put. No operation on flash that was
 -- tried was to fail, and each page was made at an address where the original program stands.
 pub record IsExactRun (image : List ℕ) (script : Schedule) (quantum slots n : ℕ) (before after : Option (List ℕ)) (end : End) (m : Machine) : Type 0 where
-  pub put : Appends before after (lines_text (original (program_at image slots) script.events n).lines)
-  pub same : flat_end end ≡ (original (program_at image slots) script.events n).end
-  pub state : flat_of m ≡ (original (program_at image slots) script.events n).state
-  pub program : program_of m.kernel ≡ program_at image slots
+  pub put : Appends before after (lines_text (original (program_at image quantum slots) script.events n).lines)
+  pub same : flat_end end ≡ (original (program_at image quantum slots) script.events n).end
+  pub state : flat_of m ≡ (original (program_at image quantum slots) script.events n).state
+  pub program : program_of m.kernel ≡ program_at image quantum slots
   pub quantum_is : m.kernel.quantum ≡ quantum
   pub unbroken : m.broken ≡ false
   pub ready : IsReady m
   pub kept : IsKeptEnd (flat_end end) end m.end
-  pub path : Path image script quantum slots (original (program_at image slots) script.events n).lines m
-  pub made : AreMadeAt (StandsAt image script slots m.steps) path.moves
+  pub path : Path image script quantum slots (original (program_at image quantum slots) script.events n).lines m
+  pub made : AreMadeAt (StandsAt image script quantum slots m.steps) path.moves
   pub unlisted : (op : ℕ) → 1 ≤ op → op ≤ m.kernel.mote.flash.ops → is_listed script.failing op ≡ false
   pub unrefused : m.kernel.mote.flash.refused ≡ None
 
@@ -54,16 +54,16 @@ pub record IsExactRun (image : List ℕ) (script : Schedule) (quantum slots n : 
 -- there the run is the original program's.
 pub record IsFailedRun (image : List ℕ) (script : Schedule) (quantum slots n : ℕ) (before after : Option (List ℕ)) (op : ℕ) (m : Machine) : Type 0 where
   pub fewer : m.steps < n
-  pub put : Appends before after (lines_text (original (program_at image slots) script.events m.steps).lines)
-  pub same : (original (program_at image slots) script.events m.steps).end ≡ flat_ends.Spent
-  pub state : flat_of m ≡ (original (program_at image slots) script.events m.steps).state
-  pub program : program_of m.kernel ≡ program_at image slots
+  pub put : Appends before after (lines_text (original (program_at image quantum slots) script.events m.steps).lines)
+  pub same : (original (program_at image quantum slots) script.events m.steps).end ≡ flat_ends.Spent
+  pub state : flat_of m ≡ (original (program_at image quantum slots) script.events m.steps).state
+  pub program : program_of m.kernel ≡ program_at image quantum slots
   pub quantum_is : m.kernel.quantum ≡ quantum
   pub unbroken : m.broken ≡ false
   pub ready : IsReady m
   pub kept : m.end ≡ Some (ends.Flash op)
-  pub path : Path image script quantum slots (original (program_at image slots) script.events m.steps).lines m
-  pub made : AreMadeAt (StandsAt image script slots m.steps) path.moves
+  pub path : Path image script quantum slots (original (program_at image quantum slots) script.events m.steps).lines m
+  pub made : AreMadeAt (StandsAt image script quantum slots m.steps) path.moves
   pub last : op ≡ m.kernel.mote.flash.ops
   pub listed : is_listed script.failing op ≡ true
   pub first : (earlier : ℕ) → 1 ≤ earlier → earlier < op → is_listed script.failing earlier ≡ false
@@ -72,11 +72,11 @@ pub record IsFailedRun (image : List ℕ) (script : Schedule) (quantum slots n :
 -- a line could not be put: what went out is cut short of the lines of the steps that were done
 pub record IsCutRun (image : List ℕ) (script : Schedule) (quantum slots n : ℕ) (before after : Option (List ℕ)) (m : Machine) : Type 0 where
   pub within : m.steps ≤ n
-  pub put : CutShort before after (lines_text (original (program_at image slots) script.events m.steps).lines)
+  pub put : CutShort before after (lines_text (original (program_at image quantum slots) script.events m.steps).lines)
   pub broken : m.broken ≡ true
   pub sound : IsSound m
-  pub path : Path image script quantum slots (original (program_at image slots) script.events m.steps).lines m
-  pub made : AreMadeAt (StandsAt image script slots m.steps) path.moves
+  pub path : Path image script quantum slots (original (program_at image quantum slots) script.events m.steps).lines m
+  pub made : AreMadeAt (StandsAt image script quantum slots m.steps) path.moves
 
 abbrev pub HasWhole : (image : List ℕ) (script : Schedule) (quantum slots n : ℕ) (before after : Option (List ℕ)) → Result End Failed → Machine → Type 0
 HasWhole image script quantum slots n before after (Ok (ends.Flash op)) m = IsFailedRun image script quantum slots n before after op m

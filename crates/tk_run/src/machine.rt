@@ -39,6 +39,8 @@ pub struct Machine {
     pub owed: Option<Owed>,
     /// How the program ended, once it has.
     pub end: Option<End>,
+    /// Whether an interrupt may be taken before the next step: the last was a checkpoint, or a SLEEP that an interrupt ended.
+    pub due: bool,
     /// The page that a refused operation on flash has left torn: it is blank, and lacks these words.
     pub torn: Option<Torn>,
     /// Whether a device line could not be put: then the machine goes no further.
@@ -65,9 +67,9 @@ impl Model for Machine {
 
     ghost Value = { MachineValue };
 
-    ghost view = { λ m. record { kernel = m.kernel; at = m.at; owed = m.owed; end = m.end; torn = m.torn; broken = m.broken; steps = m.steps; crossings = m.crossings; natural = m.natural; entries = m.entries; pages = m.pages; since = m.since; longest = m.longest } };
+    ghost view = { λ m. record { kernel = m.kernel; at = m.at; owed = m.owed; end = m.end; due = m.due; torn = m.torn; broken = m.broken; steps = m.steps; crossings = m.crossings; natural = m.natural; entries = m.entries; pages = m.pages; since = m.since; longest = m.longest } };
 
-    ghost invariant = { λ m. IsKept (record { kernel = m.kernel; at = m.at; owed = m.owed; end = m.end; torn = m.torn; broken = m.broken; steps = m.steps; crossings = m.crossings; natural = m.natural; entries = m.entries; pages = m.pages; since = m.since; longest = m.longest }) };
+    ghost invariant = { λ m. IsKept (record { kernel = m.kernel; at = m.at; owed = m.owed; end = m.end; due = m.due; torn = m.torn; broken = m.broken; steps = m.steps; crossings = m.crossings; natural = m.natural; entries = m.entries; pages = m.pages; since = m.since; longest = m.longest }) };
 }
 
 impl Machine {
@@ -96,6 +98,7 @@ impl Machine {
                 stub: None,
             }),
             end: None,
+            due: false,
             torn: None,
             broken: false,
             steps: 0,
@@ -123,6 +126,7 @@ impl Machine {
             at: self.at,
             owed: self.owed,
             end: self.end,
+            due: self.due,
             torn: self.torn,
             broken: self.broken,
             steps: self.steps,
@@ -138,6 +142,7 @@ impl Machine {
         self.at = p.at;
         self.owed = p.owed;
         self.end = p.end;
+        self.due = p.due;
         self.torn = p.torn;
         self.broken = p.broken;
         self.steps = p.steps;

@@ -3,7 +3,7 @@
 ghost use Rattle.std.specs.Prelude.{◌≡◌, ◌≤◌, ◌+◌, ◌^◌, false, None, []};
 ghost use Rattle.tk_io.specs.Faults.{HasCause};
 ghost use Rattle.tk_run.specs.Gathering.{HasGathered, HasPut};
-ghost use Rattle.program_steps.specs.Ready.{IsGoing};
+ghost use Rattle.program_steps.specs.Ready.{IsGoing, IsQuiet};
 ghost use Rattle.tk_run.specs.Running.{HasAdvanced};
 ghost use Rattle.program_steps.specs.Wholes.{whole};
 
@@ -11,7 +11,7 @@ use crate::End;
 use crate::lines::{Gathered, gather, send, send_in_turn, up_to_turn};
 use kernel_entry::Kernel;
 use page_index::Cursor;
-use program_steps::{Progress, at_bound, enter, steps};
+use program_steps::{Progress, at_bound, enter, must_take, steps, take};
 use tk_io::{Failed, Sink};
 
 /// Does up to n further steps, and puts the lines of each.
@@ -23,6 +23,7 @@ pub(crate) fn run_on<K: Sink>(
 ) -> Result<End, Failed>
     requires whole { p.old.broken ≡ false }
     requires ready { p.old.end ≡ None → IsGoing (whole k.old p.old) }
+    requires quiet { p.old.end ≡ None → IsQuiet (whole k.old p.old) }
     requires steps { p.old.steps + n ≤ 10 ^ 12 }
     ensures advanced { HasAdvanced (whole k.old p.old) (whole k.new p.new) n (K.taken out.old) (K.taken out.new) result }
     ensures cause { HasCause (K.faults out.old) (K.faults out.new) result }
@@ -44,6 +45,7 @@ fn put_steps<K: Sink>(k: &mut Kernel, p: &mut Progress, n: u64, out: &mut K) -> 
     requires going { p.old.end ≡ None }
     requires whole { p.old.broken ≡ false }
     requires ready { IsGoing (whole k.old p.old) }
+    requires quiet { IsQuiet (whole k.old p.old) }
     requires steps { p.old.steps + n ≤ 10 ^ 12 }
     ensures put { HasPut (whole k.old p.old) (whole k.new p.new) n (K.taken out.old) (K.taken out.new) result }
     ensures cause { HasCause (K.faults out.old) (K.faults out.new) result }
@@ -65,6 +67,7 @@ fn all_steps<K: Sink>(
     requires going { p.old.end ≡ None }
     requires whole { p.old.broken ≡ false }
     requires ready { IsGoing (whole k.old p.old) }
+    requires quiet { IsQuiet (whole k.old p.old) }
     requires steps { p.old.steps + n ≤ 10 ^ 12 }
     requires empty { gathered.old.items ≡ [] }
     ensures gathered { HasGathered (whole k.old p.old) (whole k.new p.new) n gathered.new.items (K.taken out.old) (K.taken out.new) result }
@@ -74,6 +77,13 @@ fn all_steps<K: Sink>(
     let mut done = 0;
     'steps: while done < n {
         send_in_turn(done, gathered, out)?;
+        if must_take(k, p) {
+            if let Some(end) = take(k, p) {
+                return Ok(end);
+            }
+            done += 1;
+            continue 'steps;
+        }
         if let Some(end) = enter(k, p, &mut cursor) {
             return Ok(end);
         }

@@ -42,15 +42,15 @@ last_lines end m steps crossings quantum s c q =
     ∙ ap₂ (λ x y. end_line end steps (x / y) ++ count_text m.natural m.entries m.pages) c q
 
 -- what is said, as the text of the run
-said_run : (request : Request) (end : MachineEnd) (r : Run) (own told : Status) (before mid now : Stream) (m : Machine) → m.steps ≡ r.state.steps → m.crossings ≡ r.state.crossings → m.kernel.quantum ≡ request.options.quantum
+said_run : (request : Request) (end : MachineEnd) (r : Run) (own told : Status) (before mid now : Stream) (m : Machine) → m.steps ≡ r.state.now.steps → m.crossings ≡ r.state.now.crossings → m.kernel.quantum ≡ request.options.quantum
     → Appends before.told mid.told (lines_text r.lines) → before.faults ≤ mid.faults
     → Says own (end_line end m.steps (m.crossings / m.kernel.quantum) ++ count_text m.natural m.entries m.pages) mid now told
-    → Says own (run_text r (end_line end r.state.steps (checkpoints_of request r)) m) before now told
+    → Says own (run_text r (end_line end r.state.now.steps (checkpoints_of request r)) m) before now told
 said_run request end r own told before mid now m steps crossings quantum put later said =
     let whole = said_on own told before mid now (lines_text r.lines) _ put later said in
-    let text : lines_text r.lines ++ (end_line end m.steps (m.crossings / m.kernel.quantum) ++ count_text m.natural m.entries m.pages) ≡ run_text r (end_line end r.state.steps (checkpoints_of request r)) m =
-    ap (λ last. lines_text r.lines ++ last) (last_lines end m r.state.steps r.state.crossings request.options.quantum steps crossings quantum)
-    ∙ sym (append_assoc (lines_text r.lines) (end_line end r.state.steps (checkpoints_of request r)) (count_text m.natural m.entries m.pages)) in
+    let text : lines_text r.lines ++ (end_line end m.steps (m.crossings / m.kernel.quantum) ++ count_text m.natural m.entries m.pages) ≡ run_text r (end_line end r.state.now.steps (checkpoints_of request r)) m =
+    ap (λ last. lines_text r.lines ++ last) (last_lines end m r.state.now.steps r.state.now.crossings request.options.quantum steps crossings quantum)
+    ∙ sym (append_assoc (lines_text r.lines) (end_line end r.state.now.steps (checkpoints_of request r)) (count_text m.natural m.entries m.pages)) in
     subst (λ t. Says own t before now told) text whole
 
 keeps_end : (e : End) (end : MachineEnd) (m : Machine) → flat_end end ≡ e → IsKeptEnd e end m.end → KeepsEnd e m
@@ -76,13 +76,13 @@ ended : (request : Request) (before mid now : Stream) (told : Status) (end : Mac
     → Runs request before now told m
 ended request before mid now told end m status how run later said =
     let r = whole_run request in
-    let steps : m.steps ≡ r.state.steps = ap (λ s. s.steps) run.state in
-    let crossings : m.crossings ≡ r.state.crossings = ap (λ s. s.crossings) run.state in
+    let steps : m.steps ≡ r.state.now.steps = ap (λ s. s.now.steps) run.state in
+    let crossings : m.crossings ≡ r.state.now.crossings = ap (λ s. s.now.crossings) run.state in
     let whole = said_run request end r (status_of_stop end) told before mid now m steps crossings run.quantum_is run.put later said in
-    let stop : end_line end r.state.steps (checkpoints_of request r) ≡ stop_text r.end r.state.steps (checkpoints_of request r) = line_of end r.state.steps (checkpoints_of request r) how ∙ ap (λ e. stop_text e r.state.steps (checkpoints_of request r)) run.same in
+    let stop : end_line end r.state.now.steps (checkpoints_of request r) ≡ stop_text r.end r.state.now.steps (checkpoints_of request r) = line_of end r.state.now.steps (checkpoints_of request r) how ∙ ap (λ e. stop_text e r.state.now.steps (checkpoints_of request r)) run.same in
     let own : status_of_stop end ≡ status_of_end r.end = status ∙ ap status_of_end run.same in
     Runs.Ended (record {
-      said = subst (λ s. Says s (run_text r (stop_text r.end r.state.steps (checkpoints_of request r)) m) before now told) own (subst (λ l. Says (status_of_stop end) (run_text r l m) before now told) stop whole);
+      said = subst (λ s. Says s (run_text r (stop_text r.end r.state.now.steps (checkpoints_of request r)) m) before now told) own (subst (λ l. Says (status_of_stop end) (run_text r l m) before now told) stop whole);
       end = subst (λ e. KeepsEnd e m) run.same (keeps_end (flat_end end) end m refl run.kept);
       unlisted = run.unlisted;
       unrefused = run.unrefused;
@@ -96,8 +96,8 @@ failed : (request : Request) (before mid now : Stream) (told : Status) (op : ℕ
     → Runs request before now told m
 failed request before mid now told op m run later said =
     let r = original_of request m.steps in
-    let steps : m.steps ≡ r.state.steps = ap (λ s. s.steps) run.state in
-    let crossings : m.crossings ≡ r.state.crossings = ap (λ s. s.crossings) run.state in
+    let steps : m.steps ≡ r.state.now.steps = ap (λ s. s.now.steps) run.state in
+    let crossings : m.crossings ≡ r.state.now.crossings = ap (λ s. s.now.crossings) run.state in
     let whole = said_run request (ends.Flash op) r status.FlashFault told before mid now m steps crossings run.quantum_is run.put later said in
     Runs.Failed (record {
       op = op;

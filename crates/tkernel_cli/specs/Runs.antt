@@ -38,7 +38,7 @@ Says own text before now told =
 -- the original program's first n steps, with the script's events, where as many pages of the heap may be
 -- stored to as swap slots are asked for
 abbrev pub original_of : Request → ℕ → Run
-original_of request n = original (program_at request.image request.options.swap) request.script.events n
+original_of request n = original (program_at request.image request.options.quantum request.options.swap) request.script.events n
 
 -- those up to the bound that was asked for
 abbrev pub whole_run : Request → Run
@@ -58,7 +58,7 @@ status_of_stop end = status_of_end (flat_end end)
 
 -- the checkpoints of a run: every crossing that ends a quantum
 abbrev pub checkpoints_of : Request → Run → ℕ
-checkpoints_of request r = r.state.crossings / request.options.quantum
+checkpoints_of request r = r.state.now.crossings / request.options.quantum
 
 -- the text of a run: the device lines, a stop line, and the count line with the machine's own counts
 abbrev pub run_text : Run → (stop : List ℕ) → Machine → List ℕ
@@ -66,7 +66,7 @@ run_text r stop m = lines_text r.lines ++ stop ++ count_text m.natural m.entries
 
 -- the text of a run to the original's end, and of one that flash ends after m's steps
 abbrev pub ended_text : Request → Machine → List ℕ
-ended_text request m = run_text (whole_run request) (stop_text (whole_run request).end (whole_run request).state.steps (checkpoints_of request (whole_run request))) m
+ended_text request m = run_text (whole_run request) (stop_text (whole_run request).end (whole_run request).state.now.steps (checkpoints_of request (whole_run request))) m
 
 abbrev pub failed_text : Request → (op : ℕ) → Machine → List ℕ
 failed_text request op m = run_text (original_of request m.steps) (end_line (ends.Flash op) m.steps (checkpoints_of request (original_of request m.steps))) m
@@ -78,12 +78,12 @@ failed_text request op m = run_text (original_of request m.steps) (end_line (end
 -- each crossing of a quantum.
 pub record Follows (request : Request) (n : ℕ) (m : Machine) : Type 0 where
   pub state : flat_of m ≡ (original_of request n).state
-  pub program : program m.kernel ≡ program_at request.image request.options.swap
+  pub program : program m.kernel ≡ program_at request.image request.options.quantum request.options.swap
   pub quantum : m.kernel.quantum ≡ request.options.quantum
   pub unbroken : m.broken ≡ false
   pub ready : IsReady m
   pub path : Path request.image request.script request.options.quantum request.options.swap (original_of request n).lines m
-  pub made : AreMadeAt (StandsAt request.image request.script request.options.swap m.steps) path.moves
+  pub made : AreMadeAt (StandsAt request.image request.script request.options.quantum request.options.swap m.steps) path.moves
   pub longest : m.longest ≤ 5120 * m.kernel.quantum
 
 -- the end that the machine keeps is the original's, and none where the bound of steps was reached
@@ -123,7 +123,7 @@ pub record RunsUntilCut (request : Request) (before now : Stream) (told : Status
   pub within : m.steps ≤ request.options.steps
   pub sound : IsSound m
   pub path : Path request.image request.script request.options.quantum request.options.swap (original_of request m.steps).lines m
-  pub made : AreMadeAt (StandsAt request.image request.script request.options.swap m.steps) path.moves
+  pub made : AreMadeAt (StandsAt request.image request.script request.options.quantum request.options.swap m.steps) path.moves
 
 pub data Runs (request : Request) (before now : Stream) (told : Status) (m : Machine) : Type 0 where
   Ended : RunsToTheEnd request before now told m → Runs request before now told m

@@ -12,11 +12,15 @@ mod generated_program;
 #[cfg(test)]
 mod inputs;
 #[cfg(test)]
+mod interrupts;
+#[cfg(test)]
 mod pages_used_again;
 #[cfg(test)]
 mod programs;
 #[cfg(test)]
 mod programs_with_options;
+#[cfg(test)]
+mod sources;
 #[cfg(test)]
 mod stack_instructions;
 #[cfg(test)]

@@ -42,7 +42,7 @@ returns-clause-itself c = λ here.
 
 pub returns-clause-fault : goal.returns-clause-fault
 returns-clause-fault c = λ here.
-    along (Faults c.args.k.now) (c.serve_at.result, c.serve_at.new.k) (served c.args.k.now) c.serve_at.ensures.served (fault_row c.args.k.now here)
+    along (Faults c.args.k.now) (c.serve_at.result, c.serve_at.new.k) (served c.args.k.now) c.serve_at.ensures.served (fault_row c.args.k.now c.descriptor-at.ensures.size here)
 
 pub returns-clause-tried : goal.returns-clause-tried
 returns-clause-tried c = λ one two.

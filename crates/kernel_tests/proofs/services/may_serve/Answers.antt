@@ -25,4 +25,4 @@ pub returns-in-SelfJump : goal.returns-in-SelfJump
 returns-in-SelfJump c = record { can = λ yes. CanServe.AtSelf (self_target c.args.k.now.mote.cpu.pc 0xF00C yes) (sym c.called_shape.ensures.value ∙ c.in-SelfJump.is) (record { paged = c.requires.paged; room = omega arith }) (record { some = omega arith; most = omega arith }) }
 
 pub returns-in-Fault : goal.returns-in-Fault
-returns-in-Fault c = record { can = λ yes. CanServe.AtFault (self_target c.args.k.now.mote.cpu.pc 0xF00E yes) (sym c.called_shape.ensures.value ∙ c.in-Fault.is) }
+returns-in-Fault c = record { can = λ yes. CanServe.AtFault (self_target c.args.k.now.mote.cpu.pc 0xF00E yes) (sym c.called_shape.ensures.value ∙ c.in-Fault.is) (record { count = record { some = omega arith; most = omega arith }; timely = c.polls.ensures.timely }) }

@@ -2,7 +2,7 @@ use Rattle.std.proofs.Common.{refl}
 use Rattle.program_steps.specs.Wholes.{whole}
 use Rattle.program_steps.specs.Stepping.{HasBound}
 use Rattle.program_steps.proofs.Arrived.{place_inside}
-use Rattle.program_steps.proofs.Entered.{bound_inside, bound_wild, bound_none}
+use Rattle.program_steps.proofs.Entered.{bound_inside, bound_wild, bound_none, bound_untaken}
 use Rattle.program_steps.proofs.arrival.at_bound.Goals as goal
 
 pub returns-in-None : goal.returns-in-None
@@ -19,3 +19,6 @@ returns-in-Some-enter c = record { bound = bound_wild (whole c.args.k.now c.args
 
 pub enter-requires-clause-cursor : goal.enter-requires-clause-cursor
 enter-requires-clause-cursor c = c.new.ensures.right c.args.k.now.layout c.args.k.now.mote.flash.words
+
+pub enter-requires-clause-untaken : goal.enter-requires-clause-untaken
+enter-requires-clause-untaken c = bound_untaken (whole c.args.k.now c.args.p.now) c.in-Some.owed c.requires.ready c.in-Some.is c.if-owed-k.false

@@ -6,14 +6,14 @@ use Rattle.program_steps.proofs.SameFlash.{cursor_kept}
 use Rattle.program_steps.proofs.arrival.enter.Goals as goal
 
 pub returns-in-None-clause-entered : goal.returns-in-None-clause-entered
-returns-in-None-clause-entered c = entered_none (whole c.args.k.now c.args.p.now) c.requires.ready c.in-None.is
+returns-in-None-clause-entered c = entered_none (whole c.args.k.now c.args.p.now) c.requires.ready c.requires.quiet c.in-None.is
 
 pub arrive_owed-changed-requires : goal.arrive_owed-changed-requires
 arrive_owed-changed-requires c =
     let m = whole c.args.k.now c.args.p.now in
     let ready = c.requires.ready in
     let few = few_pages m ready c.requires.steps in
-    record { owed = c.in-Some.is; going = ready.going; untorn = ready.untorn; right = ready.order.right; faithful = faithful_going m ready; tables = tables_going m ready; stub = owed_came m _ ready c.in-Some.is; ring = ready.order.ring; room = few.1; few = few.0 }
+    record { owed = c.in-Some.is; going = ready.going; untorn = ready.untorn; untaken = c.requires.untaken; right = ready.order.right; faithful = faithful_going m ready; tables = tables_going m ready; stub = owed_came m _ ready c.in-Some.is; ring = ready.order.ring; room = few.1; few = few.0 }
 
 pub returns-in-Some-clause-entered : goal.returns-in-Some-clause-entered
 returns-in-Some-clause-entered c = entered_some (whole c.args.k.now c.args.p.now) (whole c.arrive_owed-changed.new.k c.arrive_owed-changed.new.p) c.arrive_owed-changed.ensures.arrived c.is_whole.ensures.whole c.requires.ready

@@ -1,3 +1,4 @@
+use Rattle.program_steps.proofs.Awaiting.{awaits_none}
 use Rattle.std.proofs.Common.{◌≡◌, sym, ◌∙◌, arith, subst}
 use Rattle.flash_model.specs.Layouts.{IsRight}
 use Rattle.program_steps.specs.Wholes.{whole}
@@ -50,7 +51,7 @@ moves-preserved c =
       torn = told.torn ∙ at.torn;
       cursor = c.look.ensures.cursor;
       small = small_moves now new c.moves.p.line c.one_move.new.p.line (midway_can old now c.moves.p.line c.requires.law at.midway) told.moved at.small;
-      midway = IsMidway.Going (not_over (state_of new) free.0 free.1 c.in_default.ensures.none) (midway_on old now new c.moves.p.line c.one_move.new.p.line at.midway told.moved);
+      midway = IsMidway.Going (not_over (state_of new) (awaits_none new free.0) free.1 c.in_default.ensures.none) (midway_on old now new c.moves.p.line c.one_move.new.p.line at.midway told.moved);
     }
 
 pub returns-then-one_move-clause-taken : goal.returns-then-one_move-clause-taken

@@ -1,18 +1,21 @@
-use Rattle.std.proofs.Common.{◌≡◌, ◌+◌, ◌++◌, [], refl, subst, arith}
+use Rattle.tk_io.proofs.KnownBytes.{appends-nothing}
+use Rattle.program_steps.proofs.TakingLaws.{untaken_of}
+use Rattle.program_steps.proofs.Told.{cursor_same}
+use Rattle.std.proofs.Common.{sym, ◌∙◌, ◌≡◌, ◌+◌, ◌++◌, [], refl, subst, arith}
 use Rattle.std.proofs.lemmas.Result.{err_from_is_err_and}
-use Rattle.std.specs.Prelude.{Some}
+use Rattle.std.specs.Prelude.{Some, None}
 use Rattle.program_steps.specs.Stepping.{lines_text}
 use Rattle.step_laws.specs.Moves.{line_before}
 use Rattle.program_steps.specs.Wholes.{whole}
 use Rattle.tk_run.proofs.RunSoFar.{IsBetween}
-use Rattle.tk_run.proofs.Advancing.{advanced_enter, is_in, advanced_stop, advanced_bound, advanced_cut, advanced_failed}
-use Rattle.tk_run.proofs.Gathered.{sent_on, cut_on, under_way, turn_on, turn_cut}
+use Rattle.tk_run.proofs.Advancing.{can_step, advanced_enter, is_in, advanced_stop, advanced_bound, advanced_cut, advanced_failed}
+use Rattle.tk_run.proofs.Gathered.{take_in, take_on, sent_on, cut_on, under_way, turn_on, turn_cut}
 use Rattle.tk_run.proofs.Several.{last_in, last_below, steps_on}
 use Rattle.tk_run.proofs.run.all_steps.Goals as goal
 
 pub steps-init : goal.steps-init
 steps-init g c = record {
-  way = under_way (whole c.args.k.now c.args.p.now) c.args.gathered.now.items (g.K.Sink.taken c.args.out.now) c.requires.ready c.requires.empty;
+  way = under_way (whole c.args.k.now c.args.p.now) c.args.gathered.now.items (g.K.Sink.taken c.args.out.now) c.requires.ready c.requires.quiet c.requires.empty;
   cursor = c.new-cursor.ensures.right c.args.k.now.layout c.args.k.now.mote.flash.words;
   within = omega arith;
   faults = omega arith;
@@ -27,25 +30,54 @@ returns-in_err-send_in_turn-clause-gathered g c =
     rw failed.1 (advanced_cut old now c.steps.done c.args.n failed.0 way.text _ _ c.requires.going c.requires.whole (omega (arith, c.steps-test.true)) way.between
     (turn_cut old now c.steps.done c.steps.gathered.items _ _ _ way c.in_err-send_in_turn.ensures.text))
 
-pub returns-in-Some-clause-gathered : goal.returns-in-Some-clause-gathered
-returns-in-Some-clause-gathered g c =
+pub returns-in-Some-enter-clause-gathered : goal.returns-in-Some-enter-clause-gathered
+returns-in-Some-enter-clause-gathered g c =
     let old = whole c.args.k.now c.args.p.now in
     let way = turn_on old (whole c.steps.k c.steps.p) c.steps.done c.steps.gathered.items c.send_in_turn.new.gathered.items _ _ _ c.steps.invariant.way c.in_ok-send_in_turn.ensures.text in
     record {
       text = way.text;
-      advanced = advanced_enter old (whole c.steps.k c.steps.p) (whole c.enter.new.k c.enter.new.p) c.steps.done c.args.n (Some []) (Some way.text) c.enter.result c.in-Some.end c.requires.going c.requires.whole c.steps-test.true way.between c.enter.ensures.entered c.in-Some.is;
+      advanced = advanced_enter old (whole c.steps.k c.steps.p) (whole c.enter.new.k c.enter.new.p) c.steps.done c.args.n (Some []) (Some way.text) c.enter.result c.in-Some-enter.end c.requires.going c.requires.whole c.steps-test.true way.between c.enter.ensures.entered c.in-Some-enter.is;
       sent = way.sent;
     }
 
 pub steps-done-requires-clause-ready : goal.steps-done-requires-clause-ready
-steps-done-requires-clause-ready g c =
-    let way = c.steps.invariant.way in
-    (is_in (whole c.args.k.now c.args.p.now) (whole c.steps.k c.steps.p) (whole c.enter.new.k c.enter.new.p) c.steps.done (Some []) (Some way.text) c.enter.result way.between c.enter.ensures.entered c.in_default.is).ready
+steps-done-requires-clause-ready g c = (can_step (whole c.steps.k c.steps.p) (whole c.enter.new.k c.enter.new.p) c.enter.result c.enter.ensures.entered c.in_default-enter.is).ready
 
 pub steps-done-requires-clause-placed : goal.steps-done-requires-clause-placed
-steps-done-requires-clause-placed g c =
-    let way = c.steps.invariant.way in
-    (is_in (whole c.args.k.now c.args.p.now) (whole c.steps.k c.steps.p) (whole c.enter.new.k c.enter.new.p) c.steps.done (Some []) (Some way.text) c.enter.result way.between c.enter.ensures.entered c.in_default.is).placed
+steps-done-requires-clause-placed g c = (can_step (whole c.steps.k c.steps.p) (whole c.enter.new.k c.enter.new.p) c.enter.result c.enter.ensures.entered c.in_default-enter.is).placed
+
+pub steps-done-requires-clause-untaken : goal.steps-done-requires-clause-untaken
+steps-done-requires-clause-untaken g c = (can_step (whole c.steps.k c.steps.p) (whole c.enter.new.k c.enter.new.p) c.enter.result c.enter.ensures.entered c.in_default-enter.is).untaken
+
+pub enter-requires-clause-untaken : goal.enter-requires-clause-untaken
+enter-requires-clause-untaken g c = untaken_of (whole c.steps.k c.steps.p) (sym c.must_take.ensures.value ∙ c.if-must_take.false)
+
+pub take-requires-clause-wanted : goal.take-requires-clause-wanted
+take-requires-clause-wanted g c = sym c.must_take.ensures.value ∙ c.if-must_take.true
+
+pub steps-preserved-then-must_take : goal.steps-preserved-then-must_take
+steps-preserved-then-must_take g c =
+    let old = whole c.args.k.now c.args.p.now in
+    let now = whole c.steps.k c.steps.p in
+    let way = turn_on old now c.steps.done c.steps.gathered.items c.send_in_turn.new.gathered.items _ _ _ c.steps.invariant.way c.in_ok-send_in_turn.ensures.text in
+    record {
+      way = take_on old now (whole c.take.new.k c.take.new.p) c.steps.done c.send_in_turn.new.gathered.items _ _ way (sym c.must_take.ensures.value ∙ c.if-must_take.true) c.take.ensures.stepped (sym c.take.ensures.end ∙ c.in_default.is);
+      cursor = cursor_same now (whole c.take.new.k c.take.new.p) c.steps.cursor c.take.ensures.layout c.take.ensures.flash c.steps.invariant.cursor;
+      within = omega (arith, c.steps-test.true);
+      faults = omega (arith, c.steps.invariant.faults, c.in_ok-send_in_turn.ensures.cause.later);
+    }
+
+pub returns-in-Some-clause-gathered : goal.returns-in-Some-clause-gathered
+returns-in-Some-clause-gathered g c =
+    let old = whole c.args.k.now c.args.p.now in
+    let now = whole c.steps.k c.steps.p in
+    let way = turn_on old now c.steps.done c.steps.gathered.items c.send_in_turn.new.gathered.items _ _ _ c.steps.invariant.way c.in_ok-send_in_turn.ensures.text in
+    record {
+      text = way.text;
+      advanced = advanced_stop old now (whole c.take.new.k c.take.new.p) c.steps.done c.args.n None c.in-Some.end (Some []) (Some way.text) (Some way.text) c.requires.going c.requires.whole c.steps-test.true
+          (take_in old now c.steps.done (Some []) (Some way.text) way.between (sym c.must_take.ensures.value ∙ c.if-must_take.true)) c.take.ensures.stepped (appends-nothing (Some way.text)) (sym c.take.ensures.end ∙ c.in-Some.is);
+      sent = way.sent;
+    }
 
 pub returns-in_err-gather-clause-gathered : goal.returns-in_err-gather-clause-gathered
 returns-in_err-gather-clause-gathered g c =
@@ -55,7 +87,7 @@ returns-in_err-gather-clause-gathered g c =
     let line = c.steps-done.new.p.line in
     let done = c.steps-done.ensures.done in
     let way = turn_on old (whole c.steps.k c.steps.p) c.steps.done c.steps.gathered.items c.send_in_turn.new.gathered.items _ _ _ c.steps.invariant.way c.in_ok-send_in_turn.ensures.text in
-    let now = is_in old (whole c.steps.k c.steps.p) mid c.steps.done (Some []) (Some way.text) c.enter.result way.between c.enter.ensures.entered c.in_default.is in
+    let now = is_in old (whole c.steps.k c.steps.p) mid c.steps.done (Some []) (Some way.text) c.enter.result way.between c.enter.ensures.entered c.in_default-enter.is in
     let last = last_in old mid new c.steps.done c.steps-done.result line (Some []) (Some way.text) now done in
     let below = last_below mid new c.steps.done c.steps-done.result c.args.n line done (omega (arith, c.steps-done.ensures.most, c.min.ensures, c.steps.invariant.within)) in
     let failed = err_from_is_err_and c.from_residual-in_err-gather.result c.from_residual-in_err-gather.ensures.1 in
@@ -70,7 +102,7 @@ returns-in-Some-end-clause-gathered g c =
     let line = c.steps-done.new.p.line in
     let done = c.steps-done.ensures.done in
     let way = turn_on old (whole c.steps.k c.steps.p) c.steps.done c.steps.gathered.items c.send_in_turn.new.gathered.items _ _ _ c.steps.invariant.way c.in_ok-send_in_turn.ensures.text in
-    let now = is_in old (whole c.steps.k c.steps.p) mid c.steps.done (Some []) (Some way.text) c.enter.result way.between c.enter.ensures.entered c.in_default.is in
+    let now = is_in old (whole c.steps.k c.steps.p) mid c.steps.done (Some []) (Some way.text) c.enter.result way.between c.enter.ensures.entered c.in_default-enter.is in
     let last = last_in old mid new c.steps.done c.steps-done.result line (Some []) (Some way.text) now done in
     let below = last_below mid new c.steps.done c.steps-done.result c.args.n line done (omega (arith, c.steps-done.ensures.most, c.min.ensures, c.steps.invariant.within)) in
     let text = lines_text (line_before line []) in
@@ -87,7 +119,7 @@ steps-preserved g c =
     let new = whole c.steps-done.new.k c.steps-done.new.p in
     let line = c.steps-done.new.p.line in
     let way = turn_on old (whole c.steps.k c.steps.p) c.steps.done c.steps.gathered.items c.send_in_turn.new.gathered.items _ _ _ c.steps.invariant.way c.in_ok-send_in_turn.ensures.text in
-    let now = is_in old (whole c.steps.k c.steps.p) mid c.steps.done (Some []) (Some way.text) c.enter.result way.between c.enter.ensures.entered c.in_default.is in
+    let now = is_in old (whole c.steps.k c.steps.p) mid c.steps.done (Some []) (Some way.text) c.enter.result way.between c.enter.ensures.entered c.in_default-enter.is in
     record {
       way = steps_on old mid new c.steps.done c.steps-done.result line way.text c.send_in_turn.new.gathered.items c.gather.new.gathered.items _ _ _ now c.steps-done.ensures.done c.in_default-end.is way.sent c.in_ok-gather.ensures.text;
       cursor = c.steps-done.ensures.cursor;

@@ -10,10 +10,10 @@ use Rattle.mote_devices.proofs.PollLaws.{at_poll-none, none_due}
 use Rattle.mote_devices.proofs.inputs.Inputs.is_due.Goals as goal
 
 -- nothing changes where the next event isn't due
-settled : (n : ℕ) (now : Received) (pins : List ℕ) (converter : ℕ) (script : Schedule) (taken serial : ℕ) → received_at pins converter script.events taken serial ≡ now → IsSchedule script
+settled : (n : ℕ) (now : Received) (pins : List ℕ) (converter pending : ℕ) (script : Schedule) (taken serial : ℕ) → received_at pins converter pending script.events taken serial ≡ now → IsSchedule script
     → ((d : Event) → taken < length script.events → n < (get_or script.events taken d).at) → at_poll n now ≡ now
-settled n now pins converter script taken serial is schedule next =
-    ap (at_poll n) (sym is) ∙ at_poll-none n (received_at pins converter script.events taken serial) (none_due n script.events taken schedule.ordered next) ∙ is
+settled n now pins converter pending script taken serial is schedule next =
+    ap (at_poll n) (sym is) ∙ at_poll-none n (received_at pins converter pending script.events taken serial) (none_due n script.events taken schedule.ordered next) ∙ is
 
 above : (at n : ℕ) → nat_le at n ≡ false → n < at
 above at n test = grind (arith, nat_tests)
@@ -29,7 +29,7 @@ next_above n at events script taken e d same above is inside =
 pub returns-then-self-events-clause-none : goal.returns-then-self-events-clause-none
 returns-then-self-events-clause-none c = λ test.
     let i = c.self.inside in
-    settled c.args.poll c.args.self.now i.pins i.converter i.script i.taken i.serial c.self.view_is c.events-events.ensures.schedule
+    settled c.args.poll c.args.self.now i.pins i.converter i.pending i.script i.taken i.serial c.self.view_is c.events-events.ensures.schedule
     (λ d inside. next_above c.args.poll c.from.result c.events-events.result.now i.script.events i.taken _ d c.events-events.ensures.value
     (above c.from.result c.args.poll test) c.from.ensures inside)
 
@@ -37,4 +37,4 @@ pub returns-else-self-events-clause-none : goal.returns-else-self-events-clause-
 returns-else-self-events-clause-none c = λ test.
     let i = c.self.inside in
     let end = past i.taken (length c.events-events.result.now) test in
-    settled c.args.poll c.args.self.now i.pins i.converter i.script i.taken i.serial c.self.view_is c.events-events.ensures.schedule (λ d inside. absurd (omega (arith, ap (length {A = Event}) c.events-events.ensures.value)))
+    settled c.args.poll c.args.self.now i.pins i.converter i.pending i.script i.taken i.serial c.self.view_is c.events-events.ensures.schedule (λ d inside. absurd (omega (arith, ap (length {A = Event}) c.events-events.ensures.value)))

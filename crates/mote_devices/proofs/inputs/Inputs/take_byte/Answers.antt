@@ -8,5 +8,5 @@ pub returns-in-None-clause-taken : goal.returns-in-None-clause-taken
 returns-in-None-clause-taken c =
     let i = c.self.inside in
     let empty = rw c.events.ensures.value at c.in-None.ensures.cases in
-    ap (λ bytes. record { pins = i.pins; converter = i.converter; queue = bytes; coming = drop i.taken i.script.events }) (bytes_between-none i.script.events i.taken ∙ sym (ap (λ bytes. drop 1 bytes) empty))
+    ap (λ bytes. record { pins = i.pins; converter = i.converter; queue = bytes; pending = i.pending; coming = drop i.taken i.script.events }) (bytes_between-none i.script.events i.taken ∙ sym (ap (λ bytes. drop 1 bytes) empty))
     ∙ ap (λ (s : Received). record s { queue = drop 1 s.queue }) c.self.view_is

@@ -1,0 +1,138 @@
+-- An interrupt that is taken is the original program's.
+use Rattle.std.specs.Prelude.{◌≤◌, ◌<◌}
+use Rattle.std.proofs.Common.{arith, ◌≡◌, ℕ, ◌+◌, Bool, true, false, cond, refl, sym, ap, ap₂, subst, ◌∙◌}
+use Rattle.std.specs.Prelude.{None, ◌&&◌}
+use Rattle.avr_flags.specs.Status.{has_bit, with_bit, interrupts}
+use Rattle.avr_exec.specs.Registers.{wrapping_difference}
+use Rattle.avr_exec.specs.Spaces.{Outcome, Went, Stopped}
+use Rattle.avr_exec.specs.Likeness.{over, Leaves}
+use Rattle.avr_exec.specs.declared.stop.BusStop.{BusStop}
+use Rattle.avr_exec.specs.declared.stop.BusStop.TheVariants as bus
+use Rattle.heap_frames.specs.Addresses.{is_stack}
+use Rattle.heap_frames.specs.Paged.{IsPaged}
+use Rattle.sram_layout.specs.Bytes.{byte_at, with_word}
+use Rattle.sram_layout.specs.Cells.{vsp_cell}
+use Rattle.sram_layout.proofs.Laws.{byte_out_of_word, word_low}
+use Rattle.heap_frames.proofs.SamePagingLaws.{paged_same}
+use Rattle.kernel_entry.proofs.LeftLaws.{same_stored}
+use Rattle.kernel_entry.specs.declared.kernel.Stop.{Stop}
+use Rattle.mote_devices.specs.State.{State as Devices}
+use Rattle.mote_devices.specs.Waking.{enabled, is_enabled, with_taken}
+use Rattle.mem_guard.specs.FlatMachine.{Ends, On, next_of, interrupted, interrupted_by, lowest, vector, end_at}
+use Rattle.mem_guard.specs.Guarded.{Guarded, flat_of, push_return}
+use Rattle.mem_guard.specs.Left.{IsKept, KeepsHeap}
+use Rattle.mem_guard.proofs.Alike.{push_return_alike}
+use Rattle.mem_guard.proofs.Leaves.{push_return_leaves_kept}
+use Rattle.mem_guard.proofs.MachineLaws.{next_taken}
+use Rattle.kernel_entry.specs.declared.kernel.Kernel.{Kernel}
+use Rattle.kernel_entry.specs.declared.kernel.Taken.{Taken}
+use Rattle.kernel_entry.specs.declared.kernel.Taken.TheVariants as answers
+use Rattle.kernel_entry.specs.Parts.{virtual_sp, memory_of}
+use Rattle.kernel_entry.specs.Services.{stop_of}
+use Rattle.kernel_entry.specs.Interrupts.{pushed, pushed_by, taken, taken_by}
+use Rattle.kernel_entry.specs.Seen.{View, program, state_at, end_of}
+use Rattle.kernel_entry.proofs.ViewLaws.{view_put}
+
+-- a return address that is pushed leaves the devices
+abbrev SameDevices : Guarded → Outcome Guarded (Unit {0}) → Type 0
+SameDevices g o = Leaves (λ next. next.devices ≡ g.devices) o
+
+two_kept : (b c : Bool) (g next : Guarded) (high low : BusStop) → next.devices ≡ g.devices → SameDevices g (cond b (cond c (Went tt next) (Stopped low)) (Stopped high))
+two_kept true true g next high low same = same
+two_kept true false g next high low same = tt
+two_kept false c g next high low same = tt
+
+pub push_devices : (g : Guarded) (sp ret : ℕ) → SameDevices g (push_return g sp ret)
+unfolding push_return
+push_devices g sp ret = two_kept (is_stack sp) (is_stack (wrapping_difference sp 1)) g _ _ _ refl
+
+-- what an answer says of the original program's next step
+abbrev pub AsTaken : Kernel → ℕ → Taken × Kernel → Type 0
+AsTaken k target (answers.Nothing, new) = ⊥
+AsTaken k target (answers.Vector v, new) = (s c : ℕ) → next_of (program k) (record { now = state_at k target s c; due = true }) ≡ On None (record { now = state_at new v (s + 1) c; due = false })
+AsTaken k target (answers.Stopped stop, new) = (s c : ℕ) → next_of (program k) (record { now = state_at k target s c; due = true }) ≡ Ends (end_of stop)
+
+end_stop : (at : ℕ) (stop : BusStop) → end_at at stop ≡ end_of (stop_of at stop)
+end_stop at (bus.Io a) = refl
+end_stop at (bus.Stack a) = refl
+end_stop at (bus.SwapFull a) = refl
+
+taken_as : (k : Kernel) (target : ℕ) (o : Outcome Guarded (Unit {0})) → push_return (memory_of k) (virtual_sp k) target ≡ o → IsPaged k.mote.sram k.mote.swap → Leaves (λ next. IsKept (memory_of k) next × KeepsHeap (memory_of k) next) o
+    → ((s c : ℕ) → next_of (program k) (record { now = state_at k target s c; due = true }) ≡ interrupted (program k) (state_at k target s c))
+    → AsTaken k target (taken_by k (lowest (enabled k.mote.devices)) target (pushed_by k o).0 (pushed_by k o).1)
+taken_as k target (Stopped stop) is paged left here = λ s c.
+    here s c ∙ ap (interrupted_by (state_at k target s c) (lowest (enabled k.mote.devices))) (push_return_alike (memory_of k) (virtual_sp k) target paged ∙ ap (over flat_of) is)
+    ∙ ap Ends (end_stop target stop)
+taken_as k target (Went done g) is paged left here = λ s c.
+    let n = lowest (enabled k.mote.devices) in
+    here s c ∙ ap (interrupted_by (state_at k target s c) n) (push_return_alike (memory_of k) (virtual_sp k) target paged ∙ ap (over flat_of) is)
+    ∙ ap (λ (v : View). On None (record {
+      now = record {
+        cpu = record { r = v.registers; sreg = v.status; sp = v.stack_pointer; pc = vector n };
+        memory = v.memory;
+        devices = v.devices;
+        pages = v.pages;
+        steps = s + 1;
+        crossings = c;
+      };
+      due = false;
+    })) (sym (view_put k (record { r = k.mote.cpu.r; sreg = with_bit k.mote.cpu.sreg interrupts false; sp = wrapping_difference (virtual_sp k) 2; pc = vector n }) (record g { devices = with_taken g.devices n }) left.0.paged.sized.sram))
+
+taken_is : (k : Kernel) (target : ℕ) → has_bit k.mote.cpu.sreg interrupts ≡ true → is_enabled k.mote.devices ≡ true
+    → taken k target ≡ taken_by k (lowest (enabled k.mote.devices)) target (pushed k target).0 (pushed k target).1
+taken_is k target on some = ap₂ (λ a b. cond (a && b) (taken_by k (lowest (enabled k.mote.devices)) target (pushed k target).0 (pushed k target).1) (answers.Nothing, k)) on some
+
+-- where interrupts are on and one is enabled, it is taken as the original program takes it
+pub interrupt_taken : (k : Kernel) (target : ℕ) → has_bit k.mote.cpu.sreg interrupts ≡ true → is_enabled k.mote.devices ≡ true → IsPaged k.mote.sram k.mote.swap → AsTaken k target (taken k target)
+interrupt_taken k target on some paged =
+    subst (AsTaken k target) (sym (taken_is k target on some))
+    (taken_as k target (push_return (memory_of k) (virtual_sp k) target) refl paged (push_return_leaves_kept (memory_of k) (virtual_sp k) target paged)
+    (λ s c. next_taken (program k) (record { now = state_at k target s c; due = true }) (ap₂ (λ a b. a && b) on some)))
+
+-- what one that is taken leaves: all but the stack window, the stack pointer, SREG and the pending set
+pub record KeepsTaken (k new : Kernel) : Type 0 where
+  pub layout : new.layout ≡ k.layout
+  pub quantum : new.quantum ≡ k.quantum
+  pub flash : new.mote.flash ≡ k.mote.flash
+  pub swap : new.mote.swap ≡ k.mote.swap
+  pub registers : new.mote.cpu.r ≡ k.mote.cpu.r
+  pub top : new.mote.cpu.sp ≡ k.mote.cpu.sp
+  pub polls : new.mote.devices.polls ≡ k.mote.devices.polls
+  pub paged : IsPaged new.mote.sram new.mote.swap
+  pub count : byte_at new.mote.sram 0x0100 ≡ byte_at k.mote.sram 0x0100
+  pub tables : (b : ℕ) → 0x0142 ≤ b → b < 0x0400 → byte_at new.mote.sram b ≡ byte_at k.mote.sram b
+  pub pointer : byte_at new.mote.sram vsp_cell < 256
+
+abbrev pub KeepsIf : Kernel → Taken × Kernel → Type 0
+KeepsIf k (answers.Vector v, new) = KeepsTaken k new
+KeepsIf k (_, new) = new ≡ k
+
+pub keeps_as : (k : Kernel) (n target : ℕ) (o : Outcome Guarded (Unit {0})) → Leaves (λ next. IsKept (memory_of k) next × KeepsHeap (memory_of k) next) o → SameDevices (memory_of k) o → KeepsIf k (taken_by k n target (pushed_by k o).0 (pushed_by k o).1)
+keeps_as k n target (Stopped stop) left same = refl
+keeps_as k n target (Went done g) left same = record {
+  layout = refl;
+  quantum = refl;
+  flash = refl;
+  swap = left.1.swap;
+  registers = refl;
+  top = refl;
+  polls = ap (λ (d : Devices). d.polls) same;
+  paged = paged_same g.sram (with_word g.sram vsp_cell (wrapping_difference (virtual_sp k) 2)) g.swap (same_stored g.sram (wrapping_difference (virtual_sp k) 2)) left.0.paged;
+  count = byte_out_of_word g.sram vsp_cell 0x0100 (wrapping_difference (virtual_sp k) 2) (omega arith) (omega arith) (λ e. omega arith) (λ e. omega arith) ∙ left.0.cells 0x0100 (omega arith) (omega arith);
+  tables = λ b low high. byte_out_of_word g.sram vsp_cell b (wrapping_difference (virtual_sp k) 2) (omega arith) (omega arith) (λ e. omega arith) (λ e. omega arith) ∙ left.0.tables b (omega arith) high;
+  pointer = let size = left.0.paged.sized.sram in omega (arith, word_low g.sram vsp_cell (wrapping_difference (virtual_sp k) 2) (omega arith) (omega arith));
+}
+
+pub interrupt_keeps : (k : Kernel) (target v : ℕ) (new : Kernel) → has_bit k.mote.cpu.sreg interrupts ≡ true → is_enabled k.mote.devices ≡ true → IsPaged k.mote.sram k.mote.swap → taken k target ≡ (answers.Vector v, new) → KeepsTaken k new
+interrupt_keeps k target v new on some paged is =
+    subst (KeepsIf k) (sym (taken_is k target on some) ∙ is)
+    (keeps_as k (lowest (enabled k.mote.devices)) target (push_return (memory_of k) (virtual_sp k) target) (push_return_leaves_kept (memory_of k) (virtual_sp k) target paged) (push_devices (memory_of k) (virtual_sp k) target))
+
+stays_as : (k : Kernel) (n target : ℕ) (o : Outcome Guarded (Unit {0})) → KeepsIf k (taken_by k n target (pushed_by k o).0 (pushed_by k o).1) → (stop : Stop) (new : Kernel) → taken_by k n target (pushed_by k o).0 (pushed_by k o).1 ≡ (answers.Stopped stop, new) → new ≡ k
+stays_as k n target o keeps stop new is = subst (KeepsIf k) is keeps
+
+pub interrupt_stays : (k : Kernel) (target : ℕ) (stop : Stop) (new : Kernel) → has_bit k.mote.cpu.sreg interrupts ≡ true → is_enabled k.mote.devices ≡ true → IsPaged k.mote.sram k.mote.swap → taken k target ≡ (answers.Stopped stop, new) → new ≡ k
+interrupt_stays k target stop new on some paged is =
+    stays_as k (lowest (enabled k.mote.devices)) target (push_return (memory_of k) (virtual_sp k) target)
+    (keeps_as k (lowest (enabled k.mote.devices)) target (push_return (memory_of k) (virtual_sp k) target) (push_return_leaves_kept (memory_of k) (virtual_sp k) target paged) (push_devices (memory_of k) (virtual_sp k) target))
+    stop new (sym (taken_is k target on some) ∙ is)

@@ -1,0 +1,9 @@
+-- Laws of a flash that is checked page by page.
+mod WidthLaws
+mod FormLaws
+mod MovedLaws
+pub mod CheckedLaws
+mod LinkTests
+mod CountLaws
+mod DumpLineLaws
+mod DumpLaws

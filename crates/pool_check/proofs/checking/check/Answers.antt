@@ -1,0 +1,23 @@
+use Rattle.std.proofs.Common.{ℕ, List, arith, sym, subst}
+use Rattle.pool_check.specs.Forms.{HasForm}
+use Rattle.pool_check.proofs.LinkTests.{is_so_not}
+use Rattle.pool_check.proofs.CheckedLaws.{checked_code, code_forms, code_links}
+use Rattle.pool_check.proofs.checking.check.Goals as goal
+
+pub returns-then-not-page_form-clause-faithful : goal.returns-then-not-page_form-clause-faithful
+returns-then-not-page_form-clause-faithful c = λ code.
+    let P : List ℕ → Type 0 = λ own. HasForm c.args.layout.now c.args.image.now c.loop-page.page own in
+    let form = subst P (sym c.page_words.ensures.words) (code_forms c.args.layout.now c.args.image.now c.args.flash.now.words c.loop-page.page c.requires.right code (omega arith)) in
+    let yes' = c.page_form.ensures.value.1 form in
+    absurd (is_so_not yes' c.if-not-page_form.true)
+
+pub returns-in-Some-clause-faithful : goal.returns-in-Some-clause-faithful
+returns-in-Some-clause-faithful c = λ code.
+    let first = c.in-Some.ensures.first in
+    absurd (first.without (code_links c.args.layout.now c.args.image.now c.args.flash.now.words c.in-Some.page c.requires.right code first.pool))
+
+pub returns-in-None-clause-verdict : goal.returns-in-None-clause-verdict
+returns-in-None-clause-verdict c = (
+  checked_code c.args.layout.now c.args.image.now c.args.flash.now.words c.requires.right c.used.ensures.whole.words c.requires.length (record { forms = λ page low. c.loop-page.invariant page (omega (arith, c.loop-page-test.false)); links = c.in-None.ensures.first }),
+  c.used.ensures.value,
+)

@@ -1,0 +1,6 @@
+use Rattle.std.proofs.Common.{◌≡◌, ℕ, ◌<◌, ◌≤◌}
+use Rattle.flash_model.specs.Pages.{word_at}
+use Rattle.pool_check.proofs.form.are_blank_from.Given as goal
+
+abbrev pub invariant-loop-k : goal.invariant-loop-k
+invariant-loop-k l = (j : ℕ) → l.from ≤ j → j < l.k → word_at l.words j ≡ 0xFFFF

@@ -1,0 +1,54 @@
+use Rattle.std.proofs.Common.{◌∙◌, arith, sym, subst, List}
+use Rattle.nat_template.specs.declared.piece.Piece.{Piece}
+use Rattle.nat_page.specs.Standing.{Stands}
+use Rattle.nat_page.specs.CodePages.{Anywhere}
+use Rattle.pool_check.specs.Forms.{first_told, last_told}
+use Rattle.pool_check.proofs.FormLaws.{told, page_told, stands_told, rest_told, is_code}
+use Rattle.pool_check.proofs.form.is_code.Goals.{then-words-ge192-via-then-words-ge192, then-words-ge192-via-else-words-ge192+then-count-lt1, then-words-ge192-via-else-words-ge192+else-count-lt1+then-count-ge126}
+use Rattle.pool_check.proofs.form.is_code.Goals as goal
+
+pub returns-then-words-ge192 : goal.returns-then-words-ge192
+returns-then-words-ge192 c =
+    record {
+      value = (
+        λ no. absurd (cc),
+        λ code.
+            let is = told c.args.image.now c.args.words.now c.requires.short code in
+            elim c.then-words-ge192.branch [
+              | then-words-ge192-via-then-words-ge192 w ↦ absurd (omega (arith, is.original, w.if-words-ge192.true))
+              | then-words-ge192-via-else-words-ge192+then-count-lt1 w ↦ absurd (omega (arith, is.some, w.if-count-lt1.true))
+              | then-words-ge192-via-else-words-ge192+else-count-lt1+then-count-ge126 w ↦ absurd (omega (arith, is.few, w.if-count-ge126.true))
+            ],
+      );
+    }
+
+pub returns-in-None : goal.returns-in-None
+returns-in-None c =
+    record { value = (λ no. absurd (cc), λ code. absurd (c.in-None.ensures.page (page_told c.args.image.now c.args.words.now code))) }
+
+pub returns-then-not-stands : goal.returns-then-not-stands
+returns-then-not-stands c =
+    record {
+      value = (
+        λ no. absurd (cc),
+        λ code.
+            let is = c.deref.ensures.0 ∙ c.in-Some.ensures.page.1 in
+            let yes = c.stands.ensures.value.1 (stands_told c.args.image.now c.args.words.now c.deref.result.now is code) in
+            let no = c.if-not-stands.true in
+            absurd (cc),
+      );
+    }
+
+pub returns-else-not-stands : goal.returns-else-not-stands
+returns-else-not-stands c =
+    let words = c.args.words.now in
+    let is = c.deref-in-Some.ensures.0 ∙ c.in-Some.ensures.page.1 in
+    let same = c.deref.ensures.0 ∙ sym c.deref-in-Some.ensures.0 in
+    let P : List Piece → Type 0 = λ row. Stands Anywhere words 0 row in
+    let stands = subst P same (c.stands.ensures.value.0 c.if-not-stands.false) in
+    record {
+      value = (
+        λ yes. is_code c.args.image.now words (first_told words) (last_told words) c.deref-in-Some.result.now c.in-Some.ensures.page.0 is stands (λ k behind below. c.are_blank_from.ensures.value.0 yes k (omega (arith, c.size.ensures.value)) below),
+        λ code. c.are_blank_from.ensures.value.1 (λ k behind below. rest_told c.args.image.now words c.deref-in-Some.result.now is code k (omega (arith, c.size.ensures.value)) below),
+      );
+    }

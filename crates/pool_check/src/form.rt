@@ -1,0 +1,122 @@
+//! The form of a page.
+
+ghost use Rattle.std.specs.Prelude.{◌≡◌, ℕ, ◌+◌, ◌*◌, ◌<◌, ◌≤◌, ◌⊎◌, ◌↔◌, length, IsTrue};
+ghost use Rattle.avr_isa.specs.Image.{word};
+ghost use Rattle.flash_model.specs.Pages.{word_at, blank};
+ghost use Rattle.flash_model.specs.Layouts.{IsRight};
+ghost use Rattle.nat_page.specs.CodePages.{IsCodePage};
+ghost use Rattle.pool_check.specs.Forms.{HasForm};
+
+use crate::image::GivenImage;
+use crate::standing::{size, stands};
+use flash_model::Layout;
+use nat_page::{ImageWords, remade};
+
+/// The words of a page.
+pub(crate) const PAGE_WORDS: u16 = 128;
+
+/// An erased word.
+pub(crate) const BLANK: u16 = 0xFFFF;
+
+/// RET, each word of the kernel's pages, and the first of these.
+const RET: u16 = 0x9508;
+
+const KERNEL_FIRST: u16 = 480;
+
+/// Whether a page by itself has the form that it must have in a flash that holds this image: the image's words below
+/// the pool, erased words or rewritten code in the pool, and RET in the kernel's pages.
+pub fn page_form(image: &[u16], layout: &Layout, page: u16, words: &[u16; 128]) -> bool
+    requires right { IsRight layout.now }
+    requires length { length image.now ≡ layout.now.image_words }
+    requires page { page < 512 }
+    ensures value { IsTrue result ↔ HasForm layout.now image.now page words.now }
+{
+    if page < layout.pool_first {
+        return is_of_image(image, page, words);
+    }
+    if page >= KERNEL_FIRST {
+        return are_all(words, RET);
+    }
+    if page >= layout.pool_first + layout.pool_pages {
+        return true;
+    }
+    is_pool_page(image, words)
+}
+
+/// Whether a page of the pool is free or rewritten code.
+fn is_pool_page(image: &[u16], words: &[u16; 128]) -> bool
+    requires short { length image.now ≤ 24576 }
+    ensures value { IsTrue result ↔ ((words.now ≡ blank) ⊎ IsCodePage image.now words.now 0) }
+{
+    if is_blank(words) {
+        return true;
+    }
+    is_code(image, words)
+}
+
+/// Whether a page is rewritten code: it is made anew from its first address and the number of its instructions.
+fn is_code(image: &[u16], words: &[u16; 128]) -> bool
+    requires short { length image.now ≤ 24576 }
+    ensures value { IsTrue result ↔ IsCodePage image.now words.now 0 }
+{
+    let count = words[1];
+    if words[0] >= 192 || count < 1 || count >= 126 {
+        return false;
+    }
+    let t = PAGE_WORDS * words[0] + words[2] / 256;
+    match remade(&GivenImage { words: image }, t, count) {
+        None => false,
+        Some(pieces) => {
+            if !stands(words, &pieces) {
+                return false;
+            }
+            are_blank_from(words, size(&pieces))
+        }
+    }
+}
+
+/// Whether a page is free.
+#[tactic(auto, unfolding(flash_model::specs::Pages::blank, list_parts::specs::Lists::many))]
+fn is_blank(words: &[u16; 128]) -> bool
+    ensures value { IsTrue result ↔ (words.now ≡ blank) }
+{
+    *words == [BLANK; 128]
+}
+
+/// Whether the words from a place on are erased.
+fn are_blank_from(words: &[u16; 128], from: u16) -> bool
+    ensures value { IsTrue result ↔ ((k : ℕ) → from ≤ k → k < 128 → word_at words.now k ≡ 0xFFFF) }
+{
+    for k in from..128u16 {
+        if words[k as usize] != BLANK {
+            return false;
+        }
+    }
+    true
+}
+
+/// Whether all words are this one.
+fn are_all(words: &[u16; 128], word: u16) -> bool
+    ensures value { IsTrue result ↔ ((k : ℕ) → k < 128 → word_at words.now k ≡ word) }
+{
+    for k in 0..128u16 {
+        if words[k as usize] != word {
+            return false;
+        }
+    }
+    true
+}
+
+/// Whether a page has the image's words, and erased ones behind its end.
+fn is_of_image(image: &[u16], page: u16, words: &[u16; 128]) -> bool
+    requires page { page < 512 }
+    ensures value { IsTrue result ↔ ((k : ℕ) → k < 128 → word_at words.now k ≡ word image.now (128 * page + k)) }
+{
+    let given = GivenImage { words: image };
+    for k in 0..128u16 {
+        if words[k as usize] != given.word(PAGE_WORDS * page + k) {
+            return false;
+        }
+    }
+    true
+}

@@ -1,0 +1,29 @@
+//! An image as its words.
+
+ghost use Rattle.std.specs.Prelude.{◌≡◌, length};
+
+use nat_page::ImageWords;
+
+/// The image with these words.
+#[derive(Clone, Copy)]
+pub(crate) struct GivenImage<'a> {
+    /// From word 0 on.
+    pub words: &'a [u16],
+}
+
+impl ImageWords for GivenImage<'_> {
+    ghost words = { λ image. image.words.now };
+
+    ghost counted = { λ image. Unit {0} };
+
+    fn count(&self) -> usize {
+        self.words.len()
+    }
+
+    fn word(&self, a: u16) -> u16 {
+        match self.words.get(usize::from(a)) {
+            Some(word) => *word,
+            None => 0xFFFF,
+        }
+    }
+}

@@ -1,0 +1,74 @@
+//! Pieces of code where they stand.
+
+ghost use Rattle.std.specs.Prelude.{◌≡◌, ◌+◌, ◌≤◌, ◌↔◌, length, IsTrue};
+ghost use Rattle.flash_model.specs.Pages.{word_at};
+ghost use Rattle.nat_page.specs.Standing.{size as size_of_pieces, Stands, StandsAt, width as width_of};
+ghost use Rattle.nat_page.specs.CodePages.{Anywhere};
+ghost use Rattle.pool_check.specs.Forms.{IsLinkWords};
+
+use nat_template::Piece;
+
+/// CALL and JMP, the first of their two words, and the kernel's bridge.
+const CALL: u16 = 0x940E;
+
+const JMP: u16 = 0x940C;
+
+const BRIDGE: u16 = 0xF000;
+
+/// How many words the pieces have.
+pub(crate) fn size(pieces: &[Piece]) -> u16
+    requires small { length pieces.now ≤ 128 }
+    ensures value { result ≡ size_of_pieces pieces.now }
+{
+    let mut words = 0;
+    for piece in pieces {
+        words += width(*piece);
+    }
+    words
+}
+
+/// How many words a piece has.
+pub(crate) fn width(piece: Piece) -> u16
+    ensures value { result ≡ width_of piece }
+{
+    match piece {
+        Piece::Fixed(_) => 1,
+        Piece::Link(_) => 3,
+    }
+}
+
+/// Whether the pieces stand at the front of a page, whatever their links lead to once they are resolved.
+pub(crate) fn stands(words: &[u16; 128], pieces: &[Piece]) -> bool
+    requires fits { size_of_pieces pieces.now ≤ 128 }
+    ensures value { IsTrue result ↔ Stands Anywhere words.now 0 pieces.now }
+{
+    let mut place = 0;
+    for piece in pieces {
+        if !stands_at(words, place, *piece) {
+            return false;
+        }
+        place += width(*piece);
+    }
+    true
+}
+
+/// Whether a piece stands at a place of a page.
+fn stands_at(words: &[u16; 128], place: u16, piece: Piece) -> bool
+    requires inside { place + width_of piece ≤ 128 }
+    ensures value { IsTrue result ↔ StandsAt Anywhere words.now place piece }
+{
+    match piece {
+        Piece::Fixed(word) => words[place as usize] == word,
+        Piece::Link(target) => {
+            is_link(words[place as usize], words[place as usize + 1])
+                && words[place as usize + 2] == target
+        }
+    }
+}
+
+/// Whether two words call the kernel's bridge, or jump.
+fn is_link(first: u16, second: u16) -> bool
+    ensures value { IsTrue result ↔ IsLinkWords first second }
+{
+    first == CALL && second == BRIDGE || first == JMP
+}

@@ -1,0 +1,239 @@
+-- An interrupt that is taken is a step of the program.
+use Rattle.std.proofs.Common.{◌≡◌, ℕ, ◌+◌, ◌<◌, Bool, true, false, [], ◌∷◌, length, refl, sym, ap, ap₂, ◌∙◌, arith, subst}
+use Rattle.std.specs.Prelude.{◌^◌, ◌&&◌, ◌-◌, ◌%◌, is_some, min, List, Some, None, Option}
+use Rattle.avr_isa.specs.Image.{is_inside}
+use Rattle.avr_flags.specs.Status.{has_bit, interrupts}
+use Rattle.flash_model.specs.Memory.{Memory, IsWhole}
+use Rattle.flash_model.specs.Layouts.{IsRight, image_of, layout_of}
+use Rattle.flash_model.specs.declared.layout.Layout.{Layout}
+use Rattle.nat_page.specs.Faithful.{IsFaithful}
+use Rattle.nat_page.specs.Used.{used_pages}
+use Rattle.addr_tables.specs.Tables.{IsTables}
+use Rattle.branch_bridge.specs.declared.rewriting.Torn.{Torn}
+use Rattle.branch_bridge.specs.Operating.{with_torn}
+use Rattle.addr_tables.proofs.TableLaws.{tables_kept}
+use Rattle.mote_devices.specs.Waking.{is_enabled}
+use Rattle.mem_guard.specs.FlatMachine.{next_of}
+use Rattle.mem_guard.specs.FlatMachine as flat_ends
+use Rattle.kernel_entry.specs.declared.kernel.Kernel.{Kernel}
+use Rattle.kernel_entry.specs.declared.kernel.Stop.{Stop}
+use Rattle.kernel_entry.specs.declared.kernel.Taken.{Taken}
+use Rattle.kernel_entry.specs.declared.kernel.Taken.TheVariants as answers
+use Rattle.kernel_entry.specs.Parts.{image_held}
+use Rattle.kernel_entry.specs.Seen.{program, state_at, end_of}
+use Rattle.kernel_entry.specs.Interrupts.{taken}
+use Rattle.kernel_entry.proofs.InterruptLaws.{AsTaken, KeepsTaken, interrupt_taken, interrupt_keeps, interrupt_stays}
+use Rattle.step_laws.specs.declared.moves.Owed.{Owed}
+use Rattle.step_laws.specs.declared.moves.End.TheVariants as ends
+use Rattle.step_laws.specs.Moves.{Take, lines_of}
+use Rattle.step_laws.specs.Numbers.{moved}
+use Rattle.step_laws.specs.States.{Awaited, State, after_taking, stops_taking}
+use Rattle.step_laws.specs.Walks.{MakesTake}
+use Rattle.step_laws.specs.StepLaws.{Reaches}
+use Rattle.program_steps.specs.Machines.{Machine, awaited, state_of, numbers_of}
+use Rattle.program_steps.specs.Ready.{count_in, IsGoing, IsInOrder, HasBounds}
+use Rattle.program_steps.specs.Stepping.{HasStepped, StepWay}
+use Rattle.program_steps.specs.Interrupts.{IsUntaken, is_wanted_at, is_to_be_taken}
+use Rattle.program_steps.proofs.Bounds.{bounded_counted}
+use Rattle.program_steps.proofs.Arrived.{owed_at}
+use Rattle.program_steps.proofs.Entered.{most_steps}
+use Rattle.program_steps.proofs.Laws.{tables_going}
+use Rattle.program_steps.proofs.ReadyLaws.{ring_kept, tried_on}
+use Rattle.program_steps.proofs.Awaiting.{awaits_some, some_same}
+
+both : (b c : Bool) → b && c ≡ true → (b ≡ true) × (c ≡ true)
+both true true is = (refl, refl)
+both true false is = absurd (cc)
+both false c is = absurd (cc)
+
+-- what is known where one is to be taken
+record Wanted (m : Machine) (owed : Owed) : Type 0 where
+  due : m.due ≡ true
+  inside : is_inside (image_held m.kernel) owed.target ≡ true
+  on : has_bit m.kernel.mote.cpu.sreg interrupts ≡ true
+  some : is_enabled m.kernel.mote.devices ≡ true
+
+wanted_of : (m : Machine) (owed : Owed) → m.owed ≡ Some owed → is_to_be_taken m ≡ true → Wanted m owed
+wanted_of m owed owes is =
+    let one = both m.due (is_wanted_at m.kernel m.owed) is in
+    let two = both (is_inside (image_held m.kernel) owed.target) (has_bit m.kernel.mote.cpu.sreg interrupts && is_enabled m.kernel.mote.devices) (sym (ap (is_wanted_at m.kernel) owes) ∙ one.1) in
+    let three = both (has_bit m.kernel.mote.cpu.sreg interrupts) (is_enabled m.kernel.mote.devices) two.1 in
+    record { due = one.0; inside = two.0; on = three.0; some = three.1 }
+
+pub none_wanted : (m : Machine) → m.owed ≡ None → is_to_be_taken m ≡ true → ⊥
+none_wanted m free is =
+    let one = both m.due (is_wanted_at m.kernel m.owed) is in
+    absurd (let e : false ≡ true = sym (ap (is_wanted_at m.kernel) free) ∙ one.1 in cc)
+
+abbrev awaited_of : Machine → Owed → Awaited
+awaited_of m owed = record { target = owed.target; stub = owed.stub; due = m.due }
+
+-- the move
+take_move : (m : Machine) (owed : Owed) (answer : Taken × Kernel) (stops : Bool) (y : State) → IsGoing m → m.owed ≡ Some owed → m.steps < 2 ^ 50 → Wanted m owed → answer ≡ taken m.kernel owed.target → stops_taking answer.0 ≡ stops → y ≡ after_taking (state_of m) answer
+    → MakesTake (state_of m) stops y
+take_move m owed answer stops y ready owes few w is halts result =
+    let polls = ready.polls in
+    record {
+      owed = awaited_of m owed;
+      owes = awaits_some m owed owes;
+      going = ready.going;
+      taken_now = ap₂ (λ d b. d && (b && (has_bit m.kernel.mote.cpu.sreg interrupts && is_enabled m.kernel.mote.devices))) w.due w.inside ∙ ap₂ (λ a b. a && b) w.on w.some;
+      room = omega arith;
+      paged = ready.order.paged;
+      halts = ap (λ (a : Taken × Kernel). stops_taking a.0) (sym is) ∙ halts;
+      result = result ∙ ap (after_taking (state_of m)) is;
+    }
+
+-- the machine after it
+abbrev vectored : Machine → ℕ → Kernel → Machine
+vectored m v k = record m { kernel = k; owed = Some (record { target = v; stub = None }); due = false; at = v; steps = m.steps + 1 }
+
+order_taken : (m : Machine) (v : ℕ) (k : Kernel) → KeepsTaken m.kernel k → IsGoing m → IsInOrder (vectored m v k)
+order_taken m v k same ready =
+    let order = ready.order in
+    let F : Layout → Memory → Type 0 = λ l f. IsFaithful l (image_of l f.words) (with_torn f.words m.torn) in
+    let T : Layout → Memory → Option Torn → Type 0 = λ l f t. IsTables l k.mote.sram (with_torn f.words t) in
+    let U : Layout → Memory → Type 0 = λ l f. used_pages l (with_torn f.words m.torn) ≡ min m.pages l.pool_pages in
+    let l = m.kernel.layout in
+    let f = m.kernel.mote.flash in
+    let words = f.words in
+    let registers = order.registers in
+    let quantum = order.quantum in
+    record {
+      layout = subst (λ (l : Layout). l ≡ layout_of l.image_words) (sym same.layout) order.layout;
+      right = subst IsRight (sym same.layout) order.right;
+      faithful = subst (λ l. F l k.mote.flash) (sym same.layout) (subst (F l) (sym same.flash) order.faithful);
+      tables = subst (λ l. T l k.mote.flash m.torn) (sym same.layout) (subst (λ g. T l g m.torn) (sym same.flash) (subst (T l f) (sym ready.untorn)
+          (tables_kept l m.kernel.mote.sram k.mote.sram words words (λ a from to. same.tables a (omega arith) to) (λ t w entry. entry) (tables_going m ready))));
+      paged = same.paged;
+      whole = subst IsWhole (sym same.flash) order.whole;
+      registers = omega (arith, ap length same.registers);
+      pointer = same.pointer;
+      quantum = omega (arith, same.quantum);
+      pages = subst (λ l. U l k.mote.flash) (sym same.layout) (subst (U l) (sym same.flash) order.pages);
+      ring = omega (arith, ring_kept m.kernel.mote.sram k.mote.sram same.tables, order.ring, ap (λ (l : Layout). l.pool_pages) same.layout);
+      tried = tried_on m (vectored m v k) same.flash ready.untorn ready;
+    }
+
+going_taken : (m : Machine) (v : ℕ) (k : Kernel) → m.since ≡ 0 → KeepsTaken m.kernel k → IsGoing m → IsGoing (vectored m v k)
+going_taken m v k fresh same ready =
+    let counted = ready.counted in
+    let a = counted.natural in
+    let b = counted.entries in
+    let c = counted.since in
+    let d = counted.longest in
+    let e = counted.crossed in
+    let f = counted.most in
+    let polls = ready.polls in
+    let most = most_steps m.owed m.steps in
+    let pages = ready.arrivals.pages in
+    let ops = ready.arrivals.ops in
+    record {
+      order = order_taken m v k same ready;
+      going = ready.going;
+      untorn = ready.untorn;
+      top = same.top ∙ ready.top;
+      some = omega (arith, same.count, ready.some);
+      most = omega (arith, same.count, ready.most, same.quantum);
+      stands = Reaches.Owing None (λ e. absurd (cc)) refl tt;
+      counted = record { natural = omega arith; entries = omega arith; since = c; longest = d; crossed = omega arith; within = omega arith; most = omega (arith, same.quantum) };
+      arrivals = record { pages = omega arith; ops = omega (arith, ap (λ (f : Memory). f.ops) same.flash) };
+      polls = omega (arith, same.polls);
+      exact = same.count ∙ ready.exact ∙ ap (λ q. q - m.crossings % q) (sym same.quantum);
+      fresh = λ e. fresh;
+    }
+
+numbers_taken : (m : Machine) (v : ℕ) (k : Kernel) → KeepsTaken m.kernel k → numbers_of (vectored m v k) ≡ moved (Take false) (numbers_of m)
+unfolding moved
+numbers_taken m v k same = ap (λ (f : Memory). record (numbers_of m) { steps = m.steps + 1; ops = f.ops }) same.flash
+
+numbers_stopped : (m : Machine) → ◌≡◌ {A = _} (numbers_of m) (moved (Take true) (numbers_of m))
+unfolding moved
+numbers_stopped m = let same : m.steps ≡ m.steps + 0 = omega arith in ap (λ s. record (numbers_of m) { steps = s }) same
+
+pub taken_vector : (m : Machine) (owed : Owed) (v : ℕ) (k : Kernel) → IsGoing m → m.owed ≡ Some owed → m.steps < 2 ^ 50 → is_to_be_taken m ≡ true → (answers.Vector v, k) ≡ taken m.kernel owed.target → HasStepped m (vectored m v k) None
+unfolding lines_of
+taken_vector m owed v k ready owes few wanted is =
+    let w = wanted_of m owed owes wanted in
+    let same = interrupt_keeps m.kernel owed.target v k w.on w.some ready.order.paged (sym is) in
+    let fresh : m.since ≡ 0 = ready.fresh (ap₂ (λ o d. is_some o && d) owes w.due) in
+    let at = owed_at m owed ready owes in
+    let on : next_of (program m.kernel) (record { now = state_at m.kernel owed.target m.steps m.crossings; due = true }) ≡ flat_ends.On None (record { now = state_at k v (m.steps + 1) m.crossings; due = false }) =
+    subst (AsTaken m.kernel owed.target) (sym is) (interrupt_taken m.kernel owed.target w.on w.some ready.order.paged) m.steps m.crossings in
+    record {
+      moves = Take false ∷ [];
+      goes = record { walk = (state_of (vectored m v k), take_move m owed (answers.Vector v, k) false (state_of (vectored m v k)) ready owes few w is refl (ap₂ (λ e t. record { kernel = k; owed = Some (record { target = v; stub = None; due = false }); end = e; torn = t }) ready.going ready.untorn), refl); told = refl; numbers = numbers_taken m v k same };
+      last = refl;
+      some = λ e. cc;
+      none_made = tt;
+      stays = record {
+        program = ap₂ (λ i n. record { image = i; page_limit = n; quantum = k.quantum }) (ap₂ (λ (l : Layout) (f : Memory). image_of l f.words) same.layout same.flash) (ap length same.swap) ∙ ap (λ q. record { image = image_held m.kernel; page_limit = length m.kernel.mote.swap; quantum = q }) same.quantum;
+        layout = same.layout;
+        quantum = same.quantum;
+        failing = ap (λ (f : Memory). f.failing) same.flash;
+      };
+      broken = refl;
+      flash = same.flash;
+      way = StepWay.On (going_taken m v k fresh same ready) (λ free. absurd (cc)) refl
+          (ap₂ (λ a d. next_of (program m.kernel) (record { now = state_at m.kernel a m.steps m.crossings; due = d })) (sym at) w.due ∙ on);
+    }
+
+pub taken_stopped : (m : Machine) (owed : Owed) (stop : Stop) (k : Kernel) → IsGoing m → m.owed ≡ Some owed → m.steps < 2 ^ 50 → is_to_be_taken m ≡ true → (answers.Stopped stop, k) ≡ taken m.kernel owed.target → HasStepped m (record m { kernel = k; end = Some (ends.Stopped stop) }) None
+unfolding lines_of
+taken_stopped m owed stop k ready owes few wanted is =
+    let w = wanted_of m owed owes wanted in
+    let same : k ≡ m.kernel = interrupt_stays m.kernel owed.target stop k w.on w.some ready.order.paged (sym is) in
+    let at = owed_at m owed ready owes in
+    let on : next_of (program m.kernel) (record { now = state_at m.kernel owed.target m.steps m.crossings; due = true }) ≡ flat_ends.Ends (end_of stop) =
+    subst (AsTaken m.kernel owed.target) (sym is) (interrupt_taken m.kernel owed.target w.on w.some ready.order.paged) m.steps m.crossings in
+    let new : Machine = record m { kernel = m.kernel; end = Some (ends.Stopped stop) } in
+    let bounded : HasBounds m = bounded_counted (numbers_of m) m.crossings m.kernel.quantum (count_in m) m.at m.kernel.mote.devices.polls m.owed ready.counted ready.arrivals ready.polls in
+    subst (λ x. HasStepped m (record m { kernel = x; end = Some (ends.Stopped stop) }) None) (sym same) (record {
+      moves = Take true ∷ [];
+      goes = record { walk = (state_of new, take_move m owed (answers.Stopped stop, m.kernel) true (state_of new) ready owes few w (ap (λ x. (answers.Stopped stop, x)) (sym same) ∙ is) refl refl, refl); told = refl; numbers = numbers_stopped m };
+      last = refl;
+      some = λ e. cc;
+      none_made = tt;
+      stays = record { program = refl; layout = refl; quantum = refl; failing = refl };
+      broken = refl;
+      flash = refl;
+      way = StepWay.Stopped stop (record {
+        order = record {
+          layout = ready.order.layout;
+          right = ready.order.right;
+          faithful = ready.order.faithful;
+          tables = ready.order.tables;
+          paged = ready.order.paged;
+          whole = ready.order.whole;
+          registers = ready.order.registers;
+          pointer = ready.order.pointer;
+          quantum = ready.order.quantum;
+          pages = ready.order.pages;
+          ring = ready.order.ring;
+          tried = tried_on m new refl ready.untorn ready;
+        };
+        bounded = bounded;
+        ended = λ e. cc;
+        exact = ready.exact;
+      }) refl refl refl
+          (ap₂ (λ a d. next_of (program m.kernel) (record { now = state_at m.kernel a m.steps m.crossings; due = d })) (sym at) w.due ∙ on) refl;
+    })
+
+-- where none is to be taken
+untaken_as : (k : Kernel) (o : Option Owed) (d : Bool) (w : Awaited) → awaited o d ≡ Some w → d && is_wanted_at k o ≡ false
+    → w.due && (is_inside (image_held k) w.target && (has_bit k.mote.cpu.sreg interrupts && is_enabled k.mote.devices)) ≡ false
+untaken_as k None d w is none = absurd (cc)
+untaken_as k (Some owed) d w is none =
+    let same = some_same _ _ is in
+    ap (λ (v : Awaited). v.due && (is_inside (image_held k) v.target && (has_bit k.mote.cpu.sreg interrupts && is_enabled k.mote.devices))) (sym same) ∙ none
+
+pub untaken_of : (m : Machine) → is_to_be_taken m ≡ false → IsUntaken m
+untaken_of m none w owes = untaken_as m.kernel m.owed m.due w owes none
+
+-- where one is, the arrival is inside the image
+wanted_inside : (m : Machine) (o : Option Owed) → m.owed ≡ o → IsGoing m → is_to_be_taken m ≡ true → is_inside (image_held m.kernel) m.at ≡ true
+wanted_inside m None free ready wanted = absurd (none_wanted m free wanted)
+wanted_inside m (Some owed) owes ready wanted = ap (is_inside (image_held m.kernel)) (sym (owed_at m owed ready owes)) ∙ (wanted_of m owed owes wanted).inside
+
+pub taken_inside : (m : Machine) → IsGoing m → is_to_be_taken m ≡ true → is_inside (image_held m.kernel) m.at ≡ true
+taken_inside m ready wanted = wanted_inside m m.owed refl ready wanted

@@ -1,0 +1,138 @@
+-- Steps that begin where an interrupt is due and none is wanted are those that begin where none is due.
+use Rattle.std.proofs.Common.{◌≡◌, ℕ, zero, suc, ◌+◌, Bool, true, false, refl, sym, ap, ◌∙◌, arith, subst}
+use Rattle.std.specs.Prelude.{◌≢◌, ◌&&◌, is_some, Option, Some, None}
+use Rattle.avr_flags.specs.Status.{has_bit, interrupts}
+use Rattle.mote_devices.specs.declared.line.Line.{Line}
+use Rattle.mote_devices.specs.Waking.{is_enabled}
+use Rattle.mem_guard.specs.FlatMachine.{Moment, is_taken, next_of}
+use Rattle.mem_guard.proofs.MachineLaws.{next_tried}
+use Rattle.kernel_entry.specs.Seen.{program as program_of}
+use Rattle.step_laws.specs.declared.moves.End.{End}
+use Rattle.step_laws.specs.States.{State}
+use Rattle.step_laws.specs.Walks.{Walk}
+use Rattle.step_laws.specs.StepLaws.{Reaches}
+use Rattle.program_steps.specs.Machines.{Machine, state_of, flat_of}
+use Rattle.program_steps.specs.Ready.{IsGoing, IsInOrder}
+use Rattle.program_steps.specs.Stepping.{HasStepped, StepWay}
+use Rattle.program_steps.specs.Several.{Silently, HasDone}
+use Rattle.program_steps.proofs.Awaiting.{awaits_none}
+use Rattle.program_steps.proofs.Laws.{by_stands}
+
+abbrev pub undue : Machine → Machine
+undue m = record m { due = false }
+
+pub undue_untaken : (m : Machine) → m.due ≡ false → is_taken (flat_of m) ≡ false
+undue_untaken m is = ap (λ d. d && (has_bit m.kernel.mote.cpu.sreg interrupts && is_enabled m.kernel.mote.devices)) is
+
+-- where nothing is owed, moves begin in the same state
+undue_state : (m : Machine) (d : Bool) → m.owed ≡ None → state_of (record m { due = d }) ≡ state_of m
+undue_state m d free = ap (λ o. record { kernel = m.kernel; owed = o; end = m.end; torn = m.torn }) (awaits_none (record m { due = d }) free ∙ sym (awaits_none m free))
+
+-- what is in order stays so
+order_due : (m : Machine) (d : Bool) → IsInOrder m → IsInOrder (record m { due = d })
+order_due m d order = record {
+  layout = order.layout;
+  right = order.right;
+  faithful = order.faithful;
+  tables = order.tables;
+  paged = order.paged;
+  whole = order.whole;
+  registers = order.registers;
+  pointer = order.pointer;
+  quantum = order.quantum;
+  pages = order.pages;
+  ring = order.ring;
+  tried = record { listed = order.tried.listed; refused = order.tried.refused; torn = order.tried.torn };
+}
+
+pub going_undue : (m : Machine) → IsGoing m → m.owed ≡ None → IsGoing (undue m)
+going_undue m ready free = record {
+  order = order_due m false ready.order;
+  going = ready.going;
+  untorn = ready.untorn;
+  top = ready.top;
+  some = ready.some;
+  most = ready.most;
+  stands = Reaches.Placed (ap (λ o. is_some o && false) free) (awaits_none (undue m) free) (by_stands m free ready.stands);
+  counted = ready.counted;
+  arrivals = ready.arrivals;
+  polls = ready.polls;
+  exact = ready.exact;
+  fresh = λ due. absurd (let e : false ≡ true = sym (ap (λ o. is_some o && false) free) ∙ due in cc);
+}
+
+-- what comes next is the same
+undue_next : (m : Machine) → is_taken (flat_of m) ≡ false → next_of (program_of m.kernel) (flat_of m) ≡ next_of (program_of m.kernel) (flat_of (undue m))
+undue_next m untaken = next_tried (program_of m.kernel) (flat_of m) _ untaken refl ∙ sym (next_tried (program_of m.kernel) (flat_of (undue m)) _ refl refl)
+
+-- a step behind which the program goes on
+way_on : (m z : Machine) (line : Option Line) → is_taken (flat_of m) ≡ false → z.end ≡ None → StepWay (undue m) z line → StepWay m z line
+way_on m z line untaken going (StepWay.On ready quiet steps is) = StepWay.On ready quiet steps (undue_next m untaken ∙ is)
+way_on m z line untaken going (StepWay.Stopped stop over kept silent steps is same) = absurd (over.ended going)
+
+step_on : (m z : Machine) (line : Option Line) → m.owed ≡ None → is_taken (flat_of m) ≡ false → z.end ≡ None → HasStepped (undue m) z line → HasStepped m z line
+step_on m z line free untaken going step = record {
+  moves = step.moves;
+  goes = record { walk = subst (λ (s : State). Walk s step.moves (state_of z)) (undue_state m false free) step.goes.walk; told = step.goes.told; numbers = step.goes.numbers };
+  last = step.last;
+  some = step.some;
+  none_made = step.none_made;
+  stays = record { program = step.stays.program; layout = step.stays.layout; quantum = step.stays.quantum; failing = step.stays.failing };
+  broken = step.broken;
+  flash = step.flash;
+  way = way_on m z line untaken going step.way;
+}
+
+-- a step that stops leaves one due
+way_over : (m z : Machine) (line : Option Line) → is_taken (flat_of m) ≡ false → z.end ≢ None → StepWay (undue m) z line → StepWay m (record z { due = m.due }) line
+way_over m z line untaken ended (StepWay.On ready quiet steps is) = absurd (ended ready.going)
+way_over m z line untaken ended (StepWay.Stopped stop over kept silent steps is same) =
+    StepWay.Stopped stop (record { order = order_due z m.due over.order; bounded = over.bounded; ended = over.ended; exact = over.exact }) kept silent steps (undue_next m untaken ∙ is)
+    (ap (λ (f : Moment). record { now = f.now; due = m.due }) same)
+
+step_over : (m z : Machine) (line : Option Line) → m.owed ≡ None → is_taken (flat_of m) ≡ false → z.end ≢ None → z.owed ≡ None → HasStepped (undue m) z line → HasStepped m (record z { due = m.due }) line
+step_over m z line free untaken ended nothing step = record {
+  moves = step.moves;
+  goes = record {
+    walk = subst (Walk (state_of m) step.moves) (sym (undue_state z m.due nothing)) (subst (λ (s : State). Walk s step.moves (state_of z)) (undue_state m false free) step.goes.walk);
+    told = step.goes.told;
+    numbers = step.goes.numbers;
+  };
+  last = step.last;
+  some = step.some;
+  none_made = step.none_made;
+  stays = record { program = step.stays.program; layout = step.stays.layout; quantum = step.stays.quantum; failing = step.stays.failing };
+  broken = step.broken;
+  flash = step.flash;
+  way = way_over m z line untaken ended step.way;
+}
+
+-- several steps
+silently_undue : (n : ℕ) (m z : Machine) → m.owed ≡ None → is_taken (flat_of m) ≡ false → Silently (suc n) (undue m) z → Silently (suc n) m z
+silently_undue zero m z free untaken s = (m, refl, step_on m z None free untaken s.3.going (subst (λ y. HasStepped y z None) (sym s.1) s.2), s.3, s.4)
+silently_undue (suc n) m z free untaken s = (s.0, silently_undue n m s.0 free untaken s.1, s.2, s.3, s.4)
+
+done_by : (earlier : ℕ) (m z last : Machine) (count : ℕ) (line : Option Line) → m.owed ≡ None → is_taken (flat_of m) ≡ false → (count ≡ 1 → z.end ≡ None) → count ≡ earlier + 1 → Silently earlier (undue m) last → HasStepped last z line → HasDone m z count line
+done_by zero m z last count line free untaken going counted s step =
+    record { earlier = 0; last = m; counted = counted; silently = refl; step = step_on m z line free untaken (going counted) (subst (λ y. HasStepped y z line) (sym s) step) }
+done_by (suc n) m z last count line free untaken going counted s step =
+    record { earlier = suc n; last = last; counted = counted; silently = silently_undue n m last free untaken s; step = step }
+
+pub done_on : (m z : Machine) (count : ℕ) (line : Option Line) → m.owed ≡ None → is_taken (flat_of m) ≡ false → (count ≡ 1 → z.end ≡ None) → HasDone (undue m) z count line → HasDone m z count line
+done_on m z count line free untaken going done = done_by done.earlier m z done.last count line free untaken going done.counted done.silently done.step
+
+over_by : (earlier : ℕ) (m z last : Machine) (line : Option Line) → m.owed ≡ None → is_taken (flat_of m) ≡ false → z.end ≢ None → z.owed ≡ None → 1 ≡ earlier + 1 → Silently earlier (undue m) last → HasStepped last z line → HasDone m (record z { due = m.due }) 1 line
+over_by zero m z last line free untaken ended nothing counted s step =
+    record { earlier = 0; last = m; counted = refl; silently = refl; step = step_over m z line free untaken ended nothing (subst (λ y. HasStepped y z line) (sym s) step) }
+over_by (suc n) m z last line free untaken ended nothing counted s step = absurd (omega arith)
+
+pub done_over : (m z : Machine) (count : ℕ) (line : Option Line) → m.owed ≡ None → is_taken (flat_of m) ≡ false → z.end ≢ None → z.owed ≡ None → count ≡ 1 → HasDone (undue m) z count line → HasDone m (record z { due = m.due }) 1 line
+done_over m z count line free untaken ended nothing one done = over_by done.earlier m z done.last line free untaken ended nothing (sym one ∙ done.counted) done.silently done.step
+
+pub none_end : (e : Option End) → is_some e ≡ false → e ≡ None
+none_end None is = refl
+none_end (Some end) is = absurd (cc)
+
+pub some_end : (e : Option End) → is_some e ≡ true → e ≢ None
+some_end None is = absurd (cc)
+some_end (Some end) is = λ none. absurd (cc)

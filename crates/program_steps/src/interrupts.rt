@@ -1,0 +1,74 @@
+//! An interrupt that is taken instead of the arrival that is owed.
+
+ghost use Rattle.std.specs.Prelude.{◌≡◌, ◌<◌, ◌^◌, true, false, None, length};
+ghost use Rattle.avr_flags.specs.Status.{has_bit, interrupts};
+ghost use Rattle.kernel_entry.specs.Parts.{image_held};
+ghost use Rattle.program_steps.specs.Ready.{IsGoing};
+ghost use Rattle.program_steps.specs.Stepping.{HasStepped};
+ghost use Rattle.program_steps.specs.Interrupts.{is_wanted_at, is_to_be_taken};
+ghost use Rattle.program_steps.specs.Wholes.{whole};
+
+use crate::progress::Progress;
+use kernel_entry::{Kernel, Taken, interrupt};
+use step_laws::{End, Owed};
+
+/// Whether an interrupt is to be taken instead of the arrival that is owed: one is due, the arrival is inside the image,
+/// interrupts are on, and one is enabled.
+#[inline(always)]
+pub fn must_take(k: &Kernel, p: &Progress) -> bool
+    requires ready { IsGoing (whole k.now p.now) }
+    ensures value { result ≡ is_to_be_taken (whole k.now p.now) }
+{
+    if p.due { is_wanted(k, p.owed) } else { false }
+}
+
+/// The same, where one is due.
+fn is_wanted(k: &Kernel, owed: Option<Owed>) -> bool
+    requires length { length (image_held k.now) ≡ k.now.layout.image_words }
+    ensures value { result ≡ is_wanted_at k.now owed }
+{
+    match owed {
+        None => false,
+        Some(owed) => owed.target < k.layout.image_words
+            && has_interrupts(k)
+            && k.mote.devices.enabled() != 0,
+    }
+}
+
+/// Takes it: a step of the program. Where the program's stack has no room for it, the program has ended.
+pub fn take(k: &mut Kernel, p: &mut Progress) -> Option<End>
+    requires ready { IsGoing (whole k.old p.old) }
+    requires wanted { is_to_be_taken (whole k.old p.old) ≡ true }
+    requires steps { p.old.steps < 2 ^ 50 }
+    ensures stepped { HasStepped (whole k.old p.old) (whole k.new p.new) None }
+    ensures end { result ≡ p.new.end }
+    ensures flash { k.new.mote.flash ≡ k.old.mote.flash }
+    ensures layout { k.new.layout ≡ k.old.layout }
+{
+    let owed = match p.owed {
+        None => return None,
+        Some(owed) => owed,
+    };
+    match interrupt(k, owed.target) {
+        Taken::Nothing => None,
+        Taken::Vector(target) => {
+            p.owed = Some(Owed { target, stub: None });
+            p.due = false;
+            p.at = target;
+            p.steps += 1;
+            None
+        }
+        Taken::Stopped(stop) => {
+            let end = Some(End::Stopped(stop));
+            p.end = end;
+            end
+        }
+    }
+}
+
+/// Whether the program has interrupts on.
+fn has_interrupts(k: &Kernel) -> bool
+    ensures value { result ≡ has_bit k.now.mote.cpu.sreg interrupts }
+{
+    k.mote.cpu.sreg / 0x80 % 2 == 1
+}

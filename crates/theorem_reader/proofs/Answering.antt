@@ -1,0 +1,142 @@
+-- What is answered, in lists and numbers.
+use Rattle.std.proofs.Common.{◌≡◌, ◌≢◌, ℕ, ◌+◌, ◌*◌, ◌≤◌, ◌<◌, ◌^◌, ◌/◌, Bool, true, false, List, [], ◌∷◌, ◌++◌, length, Option, Some, None, refl, sym, ap, ◌∙◌, subst, arith, zero-add, inl, inr, ◌⊎◌}
+use Rattle.std.specs.Io.KnownBytes.{Appends}
+use Rattle.tk_io.specs.Faults.{Rose}
+use Rattle.sram_layout.specs.Bytes.{byte_at, data_word_at}
+use Rattle.list_parts.specs.Lists.{many}
+use Rattle.flash_model.specs.Memory.{loaded}
+use Rattle.input_script.specs.Script.{Schedule}
+use Rattle.mem_guard.specs.FlatMachine.{Moment, Run, at_reset}
+use Rattle.step_laws.specs.Numbers.{Numbers}
+use Rattle.step_laws.specs.States.{mote_of}
+use Rattle.program_steps.specs.Machines.{Machine, state_of, numbers_of}
+use Rattle.tk_run.specs.Booted.{booted}
+use Rattle.tk_run.specs.WholeRuns.{Path, program_at}
+use Rattle.tkernel_cli.specs.declared.command.Command.TheVariants.{Run as RunCommand}
+use Rattle.tkernel_cli.specs.declared.status.Status.{Status}
+use Rattle.tkernel_cli.specs.declared.status.Status.TheVariants as status
+use Rattle.tkernel_cli.specs.declared.top.Exit.{Exit}
+use Rattle.tkernel_cli.specs.Status.{number_of}
+use Rattle.tkernel_cli.specs.Reading.{Good}
+use Rattle.tkernel_cli.specs.Runs.{Stream, Says, Runs, HasRun, Follows, status_of_end}
+use Rattle.tkernel_cli.specs.Runs as whole
+use Rattle.tkernel_cli.specs.Answer.{IsExact, IsWarranted}
+use Rattle.theorem_reader.specs.Acts.{HasActs, IsBoot, pool_from, Act}
+use Rattle.theorem_reader.specs.Runs.{Asked, Asks, original_of, Stands, ToTheEnd, IntoAFault, IsRun, NoMemory, Ended, Failed, text_of}
+use Rattle.theorem_reader.proofs.Acting.{acts_of, follow, pool_begins}
+use Rattle.theorem_reader.proofs.Bounding.{natural_of, entries_of, pages_of, ops_of, longest_of, longest_in, no_longer, last_arrives, same_last, arrives_last, last_refuses}
+use Rattle.theorem_reader.proofs.StepCount.{run_within}
+use Rattle.theorem_reader.proofs.SameTexts.{ended_same, failed_same, status_same}
+
+abbrev script_of : Asked → Schedule
+script_of asked = record { events = asked.events; failing = asked.failing }
+
+abbrev boot_of : Asked → Machine
+boot_of asked = booted asked.image (script_of asked) asked.quantum asked.slots
+
+is_boot : (asked : Asked) → IsBoot asked.image (boot_of asked).kernel.mote
+unfolding loaded many
+is_boot asked = record { words = refl; ops = refl }
+
+has_acts : (asked : Asked) (n : ℕ) (m : Machine) → Follows (record { image = asked.image; script = script_of asked; options = record { steps = asked.steps; quantum = asked.quantum; swap = asked.slots } }) n m → HasActs asked.image asked.quantum m.natural m.entries m.pages m.end m.kernel.mote
+has_acts asked n m follows =
+    let path = follows.path in
+    let x = state_of (boot_of asked) in
+    let moves = path.moves in
+    let walk = path.goes.walk in
+    let counts = numbers_of (boot_of asked) in
+    let acts = acts_of x moves (state_of m) walk in
+    let bound : m.longest ≤ 5120 * asked.quantum = subst (λ q. m.longest ≤ 5120 * q) follows.quantum follows.longest in
+    record {
+      acts = acts;
+      first = (boot_of asked).kernel.mote;
+      boot = is_boot asked;
+      follow = follow (pool_from asked.image) x moves (state_of m) walk (pool_begins asked.image);
+      natural_is = ap (λ (k : Numbers). k.natural) path.goes.numbers ∙ natural_of x moves (state_of m) walk counts ∙ zero-add (_);
+      entries_is = ap (λ (k : Numbers). k.entries) path.goes.numbers ∙ entries_of x moves (state_of m) walk counts ∙ zero-add (_);
+      pages_is = ap (λ (k : Numbers). k.pages) path.goes.numbers ∙ pages_of x moves (state_of m) walk counts ∙ zero-add (_);
+      tried = ap (λ (k : Numbers). k.ops) path.goes.numbers ∙ ops_of x moves (state_of m) walk counts ∙ zero-add (_);
+      few = λ front between back is none.
+          let longest : m.longest ≡ longest_in 0 0 acts = ap (λ (k : Numbers). k.longest) path.goes.numbers ∙ longest_of x moves (state_of m) walk counts in
+          omega (arith, bound, longest, ap (longest_in 0 0) is, no_longer 0 0 front between back none);
+      ends = λ front made ops before after is.
+          let arrives = same_last x moves (state_of m) walk ∙ ap last_arrives is ∙ arrives_last front made ops before after in
+          elim (last_refuses x moves (state_of m) walk arrives) [
+            | inl none ↦ let both : true ≡ false = sym arrives ∙ path.last none in absurd (cc)
+            | inr refusal ↦ refusal
+          ];
+    }
+
+stands : (asked : Asked) (n : ℕ) (m : Machine) → Follows (record { image = asked.image; script = script_of asked; options = record { steps = asked.steps; quantum = asked.quantum; swap = asked.slots } }) n m → m.steps ≤ asked.steps → Stands asked (original_of asked n) m
+unfolding data_word_at byte_at
+stands asked n m follows within =
+    let same = follows.state in
+    record {
+      registers = ap (λ (s : Moment). s.now.cpu.r) same;
+      status = ap (λ (s : Moment). s.now.cpu.sreg) same;
+      pointer = ap (λ (s : Moment). s.now.cpu.sp) same;
+      pc = ap (λ (s : Moment). s.now.cpu.pc) same;
+      devices = ap (λ (s : Moment). s.now.devices) same;
+      steps = ap (λ (s : Moment). s.now.steps) same;
+      crossings = ap (λ (s : Moment). s.now.crossings) same;
+      due = ap (λ (s : Moment). s.due) same;
+      most_steps = within;
+      most_operations = follows.ready.sound.bounded.ops;
+      acts = has_acts asked n m follows;
+    }
+
+-- the bytes that a new sink took
+taken_is : (before now : Option (List ℕ)) (taken text : List ℕ) → before ≡ Some [] → now ≡ Some taken → Appends before now text → taken ≡ text
+taken_is None now taken text first last appended = absurd (cc)
+taken_is (Some xs) None taken text first last appended = absurd appended
+taken_is (Some xs) (Some ys) taken text first last appended =
+    let empty : xs ≡ [] = cc in
+    let same : ys ≡ taken = cc in
+    sym same ∙ appended ∙ ap (λ z. z ++ text) empty
+
+said_is : (own told : Status) (text taken : List ℕ) (before now : Stream) → (Rose before.faults now.faults → ⊥) → before.told ≡ Some [] → now.told ≡ Some taken → Says own text before now told → (told ≡ own) × (taken ≡ text)
+said_is own told text taken before now well first last said = elim said [
+  | inl is ↦ (is.0, taken_is before.told now.told taken text first last is.1)
+  | inr cut ↦ absurd (well cut.1)
+]
+
+ran : (asked : Asked) (before now : Stream) (exit : Exit) (taken : List ℕ) (m : Machine) → (Rose before.faults now.faults → ⊥) → before.told ≡ Some [] → now.told ≡ Some taken → exit.kept ≡ Some m
+    → Runs (record { image = asked.image; script = script_of asked; options = record { steps = asked.steps; quantum = asked.quantum; swap = asked.slots } }) before now exit.status m → IsRun asked (number_of exit.status) taken exit.kept
+ran asked before now exit taken m well first last kept (Runs.Ended run) =
+    let r = original_of asked asked.steps in
+    let said = said_is _ exit.status _ taken before now well first last run.said in
+    let within : m.steps ≤ asked.steps = omega (arith, ap (λ (s : Moment). s.now.steps) run.follows.state, run_within (program_at asked.image asked.quantum asked.slots) (record { now = at_reset asked.events; due = false }) asked.steps) in
+    Ended m kept (record {
+      status_is = ap number_of said.0 ∙ status_same r.end;
+      text_is = said.1 ∙ ended_same r asked.quantum m;
+      stands = stands asked asked.steps m run.follows within;
+      none_failed = run.unlisted;
+    })
+ran asked before now exit taken m well first last kept (Runs.Failed run) =
+    let r = original_of asked m.steps in
+    let said = said_is _ exit.status _ taken before now well first last run.said in
+    Failed m kept (record {
+      op = run.op;
+      status_is = ap number_of said.0;
+      text_is = said.1 ∙ failed_same r run.op asked.quantum m (ap (λ (s : Moment). s.now.steps) run.follows.state);
+      stands = stands asked m.steps m run.follows (omega (arith, run.fewer));
+      fewer = run.fewer;
+      going = run.spent;
+      last = sym run.last;
+      listed = run.listed;
+      first = run.first;
+      end = run.end;
+    })
+ran asked before now exit taken m well first last kept (Runs.Cut run) = absurd (well run.rose)
+
+pub answered : (words : List (List ℕ)) (source source' sink sink' : Stream) (exit : Exit) (text taken : List ℕ) (asked : Asked)
+    → source.told ≡ Some text → (Rose source.faults source'.faults → ⊥) → (Rose sink.faults sink'.faults → ⊥) → sink.told ≡ Some [] → sink'.told ≡ Some taken
+    → Asks words text asked → IsExact words source source' sink sink' exit → IsRun asked (number_of exit.status) taken exit.kept
+answered words source source' sink sink' exit text taken asked told read written first last asks exact =
+    elim (exact text _ (record { told = told; read = read; written = written }) (inl (RunCommand (record { steps = asked.steps; quantum = asked.quantum; swap = asked.slots }), asks.command, inr (asks.short, Good (asked.image, asks.position) asks.hex (Good (script_of asked) asks.script refl))))) [
+      | inl none ↦ NoMemory (ap number_of none)
+      | inr done ↦ ran asked sink sink' exit taken done.0.machine written first last done.0.kept done.0.runs
+    ]
+
+pub not_risen : (a b : ℕ) → a ≡ 0 → b ≡ 0 → Rose a b → ⊥
+not_risen a b first last rose = omega (arith, first, last, rose)

@@ -1,0 +1,4 @@
+-- What a user relies on, in lists and numbers.
+pub mod Acts
+pub mod Texts
+pub mod Runs

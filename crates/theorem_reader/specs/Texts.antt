@@ -1,0 +1,56 @@
+-- The printed lines of a run, letter by letter.
+use Rattle.std.specs.Prelude.{ℕ, ◌/◌, ◌%◌, ◌<◌, nat_le, List, [], ◌∷◌, ◌++◌, codes, decimal, flat_map, slice_index}
+use Rattle.mote_devices.specs.declared.line.Line.{Line}
+use Rattle.mote_devices.specs.declared.line.Port.{Port}
+use Rattle.mote_devices.specs.declared.line.Port.TheVariants.{PortA, PortB, PortC, PortD, DdrA, DdrB, DdrC, DdrD, Uart0}
+use Rattle.mem_guard.specs.FlatMachine.{End, Spent, Wild, Illegal, SelfProgram, Asleep, Halted, Io, Stack, SwapFull}
+use Rattle.hex.specs.Hex.{encode_upper}
+
+-- the bytes in upper-case hexadecimal digits, two each
+abbrev pub hex : List ℕ → List ℕ
+hex bytes = encode_upper bytes
+
+abbrev pub port_word : Port → List ℕ
+port_word PortA = codes "PORTA"
+port_word PortB = codes "PORTB"
+port_word PortC = codes "PORTC"
+port_word PortD = codes "PORTD"
+port_word DdrA = codes "DDRA"
+port_word DdrB = codes "DDRB"
+port_word DdrC = codes "DDRC"
+port_word DdrD = codes "DDRD"
+port_word Uart0 = codes "UART0"
+
+-- a device line, as `PORTA 0x0F`
+abbrev pub device_line : Line → List ℕ
+device_line line = port_word line.port ++ codes " " ++ (codes "0x" ++ hex (line.value ∷ [])) ++ codes "\n"
+
+-- an address, as `0x1234`
+abbrev pub address : ℕ → List ℕ
+address a = codes "0x" ++ hex ((a / 256) ∷ []) ++ hex ((a % 256) ∷ [])
+
+-- how the run ended
+abbrev pub end_words : End → List ℕ
+end_words Spent = codes "spent"
+end_words (Halted pc) = codes "halted " ++ address pc
+end_words (Asleep pc) = codes "asleep " ++ address pc
+end_words (Wild pc) = codes "fault wild " ++ address pc
+end_words (Illegal pc) = codes "fault illegal " ++ address pc
+end_words (SelfProgram pc) = codes "fault selfprogram " ++ address pc
+end_words (Io pc a) = codes "fault io " ++ address pc ++ codes " address " ++ address a
+end_words (Stack pc a) = codes "fault stack " ++ address pc ++ codes " address " ++ address a
+end_words (SwapFull pc a) = codes "fault swap " ++ address pc ++ codes " address " ++ address a
+
+-- the last two lines
+abbrev pub stop_line : (how : List ℕ) (steps checkpoints : ℕ) → List ℕ
+stop_line how steps checkpoints = how ++ codes " steps " ++ decimal steps ++ codes " checkpoints " ++ decimal checkpoints ++ codes "\n"
+
+abbrev pub count_line : (natural entries pages : ℕ) → List ℕ
+count_line natural entries pages = codes "natural " ++ decimal natural ++ codes " entries " ++ decimal entries ++ codes " pages " ++ decimal pages ++ codes "\n"
+
+-- the exit status of an end
+abbrev pub end_status : End → ℕ
+end_status Spent = 1
+end_status (Halted pc) = 0
+end_status (Asleep pc) = 0
+end_status _ = 2

@@ -1,0 +1,65 @@
+//! Runs over streams in memory.
+ghost use Rattle.std.specs.Prelude.{◌≡◌, ◌*◌, IfOk, map, string_bytes};
+ghost use Rattle.theorem_reader.specs.Runs.{Asked, Asks, IsRun, plainly};
+
+use hex_image::{Image, write};
+use preempt_count::BOUND_PER_Q;
+use std::alloc::Global;
+use tk_io::{MemSink, MemSource, NoMemory};
+use tk_run::Machine;
+use tkernel_cli::tkernel;
+
+/// What a call answered.
+#[derive(Drop)]
+pub struct Told {
+    /// The number that the process would end with.
+    pub status: u8,
+    /// What was put.
+    pub out: MemSink,
+    /// The machine of the run, where one was made.
+    pub kept: Option<Machine>,
+}
+
+/// Answers these words over this text, into a sink with room for so many bytes.
+pub fn run_text(
+    alloc: Global,
+    words: &[String],
+    text: Vec<u8>,
+    room: usize,
+) -> Result<Told, NoMemory>
+    ensures run { IfOk result (λ told. (asked : Asked) → Asks (map string_bytes words.now) text.items asked
+        → told.out.faults ≡ 0 → IsRun asked told.status told.out.taken told.kept) }
+{
+    let mut input = MemSource::new(text);
+    let mut out = MemSink::new(alloc, room)?;
+    let exit = tkernel(alloc, words, &mut input, &mut out);
+    let status = exit.status.number();
+    Ok(Told {
+        status,
+        out,
+        kept: exit.kept,
+    })
+}
+
+/// Runs any image, without inputs, by the word `run`.
+pub fn run_image(alloc: Global, image: &Image, room: usize) -> Result<Told, NoMemory>
+    ensures run { IfOk result (λ told. told.out.faults ≡ 0
+        → IsRun (plainly image.now) told.status told.out.taken told.kept) }
+{
+    let text = write(alloc, image)?;
+    if text.len() > 2_097_152 {
+        return Err(NoMemory);
+    }
+    let word = match String::from_str(alloc, "run") {
+        Ok(word) => word,
+        Err(_) => return Err(NoMemory),
+    };
+    run_text(alloc, &[word], text, room)
+}
+
+/// The most plain steps that a run of this quantum makes between two services.
+pub fn longest_wait(quantum: u8) -> u64
+    ensures value { result ≡ 5120 * quantum }
+{
+    BOUND_PER_Q * u64::from(quantum)
+}
