@@ -6,6 +6,8 @@ pub mod RecycleLaws
 pub mod MakeLaws
 pub mod ErasedLaws
 pub mod ThroughLaws
+mod KnownLaws
 pub mod TriedLaws
 pub mod ArrivalLaws
 pub mod RestLaws
+pub mod PartLaws

@@ -45,7 +45,7 @@ makes_refused layout flash flash' sram page t op again words place prepared list
     NotMade words place prepared (stop op) (perform_refused flash (Program again page words) [] listed ∙ ap (λ m. told m (stop (next_op flash))) (sym after) ∙ ap (λ n. told flash' (stop n)) (sym is)) refl refl
 
 -- what holds of the words before and of those with the page in them, holds of the new ones with a torn page put in
-by_program : (P : List ℕ → Type 0) (flash flash' : Memory) (page : ℕ) (again : Bool) (words : List ℕ) (stop : ResolveStop) → P flash.words → P (set_page flash.words page words) → perform flash (Program again page words ∷ []) ≡ record { memory = flash'; stop = Some stop } → P (with_torn flash'.words stop.torn)
+pub by_program : (P : List ℕ → Type 0) (flash flash' : Memory) (page : ℕ) (again : Bool) (words : List ℕ) (stop : ResolveStop) → P flash.words → P (set_page flash.words page words) → perform flash (Program again page words ∷ []) ≡ record { memory = flash'; stop = Some stop } → P (with_torn flash'.words stop.torn)
 by_program P flash flash' page again words stop before after performed =
     let refused : Performed = record { memory = left_by_refusal flash page; stop = Some (stop_at flash (Program again page words)) } in
     let done : Performed = record { memory = programmed_page flash page words; stop = None } in
@@ -67,7 +67,7 @@ by_program P flash flash' page again words stop before after performed =
       | false ↦ λ is. absurd (let told : None ≡ Some stop = ap (λ (r : Performed). r.stop) is in cc)
     ]) performed
 
-done_words : (flash flash' : Memory) (page : ℕ) (again : Bool) (words : List ℕ) → perform flash (Program again page words ∷ []) ≡ record { memory = flash'; stop = None } → flash'.words ≡ set_page flash.words page words
+pub done_words : (flash flash' : Memory) (page : ℕ) (again : Bool) (words : List ℕ) → perform flash (Program again page words ∷ []) ≡ record { memory = flash'; stop = None } → flash'.words ≡ set_page flash.words page words
 done_words flash flash' page again words performed =
     let refused : Performed = record { memory = left_by_refusal flash page; stop = Some (stop_at flash (Program again page words)) } in
     let done : Performed = record { memory = programmed_page flash page words; stop = None } in

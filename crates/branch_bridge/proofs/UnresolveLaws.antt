@@ -70,7 +70,7 @@ one_call words s x inside none = elim (cases_eq x s) [
   ]
 ]
 
-no_jump : (words stubs : List ℕ) (x : ℕ) → Each (λ s. s + 1 < length words) stubs → word_at words x ≢ jump_word → word_at (with_calls words stubs) x ≢ jump_word
+pub no_jump : (words stubs : List ℕ) (x : ℕ) → Each (λ s. s + 1 < length words) stubs → word_at words x ≢ jump_word → word_at (with_calls words stubs) x ≢ jump_word
 no_jump words [] x inside none = none
 no_jump words (s ∷ stubs) x inside none =
     let P : ℕ → Type 0 = λ n. Each (λ b. b + 1 < n) stubs in

@@ -12,6 +12,7 @@ use Rattle.flash_model.specs.Pages.{page_words, page_of, blank}
 use Rattle.nat_page.specs.Links.{IsUnresolved}
 use Rattle.nat_page.specs.Faithful.{IsFaithful}
 use Rattle.nat_page.specs.Used.{used_pages}
+use Rattle.nat_page.specs.Parts.{IsLinkFrom, IsParted}
 use Rattle.page_index.specs.Entries.{IsEntry}
 use Rattle.addr_tables.specs.Tables.{IsTables}
 use Rattle.addr_tables.specs.Changes.{Finds, noted, forgotten}
@@ -147,6 +148,19 @@ pub data ArrivesFrom (layout : Layout) (old new : Store) (t : ℕ) (stub : Optio
   Resolved : (mid : Store) → (moved : Moved) → (s : ℕ) → Arrives layout old mid t (Ok moved) → to_resolve moved.recycled stub ≡ Some s → (stop : Option ResolveStop)
       → perform mid.flash (resolving mid.flash.words s moved.place) ≡ record { memory = new.flash; stop = stop } → new.sram ≡ mid.sram
       → arrival ≡ record { place = Some moved.place; made = moved.made; refused = option_map refused_by stop } → ArrivesFrom layout old new t stub arrival
+
+-- the answer of one that made no page, and was not refused
+abbrev pub went_on : ℕ → Arrival
+went_on place = record { place = Some place; made = false; refused = None }
+
+-- the stub through which control came, if any, is of a page of its target's part
+abbrev pub IsOwnStub : Layout → (words : List ℕ) → (part : ℕ → ℕ) → Option ℕ → (t : ℕ) → Type 0
+IsOwnStub layout words part stub t = IfSome stub (λ s. IsLinkFrom layout (image_of layout words) words part (part t) s t)
+
+-- links keep to the parts of the image that they keep to, however it is parted, unless a stub is resolved into another
+abbrev pub KeepsParts : Layout → (old new : Store) → (t : ℕ) → Option ℕ → Arrival → Type 0
+KeepsParts layout old new t stub arrival = (part : ℕ → ℕ) → IsParted layout (image_of layout old.flash.words) old.flash.words part → IsOwnStub layout old.flash.words part stub t
+    → IsParted layout (image_of layout old.flash.words) (with_torn new.flash.words (torn_by arrival.refused)) part
 
 -- What it leaves. With the words put in that a torn page lacks, the pool is faithful to the same image, the tables are
 -- right, t has its entry where control goes on, and one page more is used where one was made, as far as the pool

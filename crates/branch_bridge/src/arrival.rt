@@ -96,9 +96,7 @@ pub fn arrive(sram: &mut Sram, flash: &mut Flash, layout: &Layout, t: u16) -> Re
     }
 }
 
-/// Recycles the page that RING names for the page of `t`. Not inlined, since what it keeps on the stack is cleared
-/// where it begins, and most arrivals find their place in the kernel's tables.
-#[inline(never)]
+/// Recycles the page that RING names for the page of `t`.
 fn recycle(sram: &mut Sram, flash: &mut Flash, layout: &Layout, t: u16) -> Result<Moved, Refused>
     requires right { IsRight layout.now }
     requires code { IsFaithful layout.now (image_of layout.now flash.old.words) flash.old.words }

@@ -21,8 +21,7 @@ const PAGE_WORDS: u16 = 128;
 
 /// Resolves the stub whose call of the kernel's bridge stands at the word address `stub`: a jump to `place`,
 /// the place of the address that the stub leads to, takes the place of the call. The stub's page is erased
-/// and programmed once. Not inlined, since each arrival would clear the space of its words.
-#[inline(never)]
+/// and programmed once.
 pub fn resolve(flash: &mut Flash, layout: &Layout, stub: u16, place: u16) -> Result<(), ResolveStop>
     requires right { IsRight layout.now }
     requires code { IsFaithful layout.now (image_of layout.now flash.old.words) flash.old.words }

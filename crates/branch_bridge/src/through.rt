@@ -1,16 +1,18 @@
 //! An arrival through a stub.
 
-ghost use Rattle.std.specs.Prelude.{◌≡◌, ◌<◌, ◌^◌, Option};
+ghost use Rattle.std.specs.Prelude.{◌≡◌, ℕ, ◌<◌, ◌^◌, ◌↔◌, Option, Some as Just, None as Nothing, IfSome};
 ghost use Rattle.std.specs.Option.{option_map};
 ghost use Rattle.flash_model.specs.Layouts.{IsRight, image_of};
 ghost use Rattle.nat_page.specs.Faithful.{IsFaithful};
+ghost use Rattle.page_index.specs.Entries.{IsEntry};
 ghost use Rattle.addr_tables.specs.Tables.{IsTables};
-ghost use Rattle.branch_bridge.specs.Arrivals.{ArrivesFrom, CameThrough, KeptThrough, ring_of, to_resolve as to_resolve_of, refused_by};
+ghost use Rattle.branch_bridge.specs.Arrivals.{ArrivesFrom, CameThrough, KeptThrough, KeepsParts, went_on, ring_of, to_resolve as to_resolve_of, refused_by};
 ghost use Rattle.branch_bridge.specs.Operating.{stop_of};
 
 use crate::arrival::{ArriveStop, Refused, arrive};
 use crate::resolving::resolve;
 use crate::rewriting::ResolveStop;
+use addr_tables::find;
 use flash_model::{Flash, Layout};
 use sram_layout::Sram;
 
@@ -42,6 +44,7 @@ pub fn arrive_from(
     requires room { flash.old.ops < 2 ^ 61 }
     ensures arrives { ArrivesFrom layout.now (record { flash = flash.old; sram = sram.old }) (record { flash = flash.new; sram = sram.new }) t stub result }
     ensures kept { KeptThrough layout.now (record { flash = flash.old; sram = sram.old }) (record { flash = flash.new; sram = sram.new }) t result }
+    ensures parts { KeepsParts layout.now (record { flash = flash.old; sram = sram.old }) (record { flash = flash.new; sram = sram.new }) t stub result }
 {
     let moved = match arrive(sram, flash, layout, t) {
         Ok(moved) => moved,
@@ -61,6 +64,32 @@ pub fn arrive_from(
         place: Some(moved.place),
         made: moved.made,
         refused,
+    }
+}
+
+/// The same arrival where it leaves flash as it is: through no stub, at an address of the image that has its place.
+/// Tells the place, and notes it in the kernel's tables. Elsewhere nothing is done, and the arrival is still owed. Most
+/// arrivals are of this kind, and here they want no room for the words of a page.
+pub fn arrive_known(
+    sram: &mut Sram,
+    flash: &Flash,
+    layout: &Layout,
+    t: u16,
+    stub: Option<u16>,
+) -> Option<u16>
+    requires right { IsRight layout.now }
+    requires code { IsFaithful layout.now (image_of layout.now flash.now.words) flash.now.words }
+    requires tables { IsTables layout.now sram.old flash.now.words }
+    requires ring { ring_of sram.old < layout.now.pool_pages }
+    ensures known { (place : ℕ) → (result ≡ Just place) ↔ ((stub ≡ Nothing) × (t < layout.now.image_words) × IsEntry layout.now flash.now.words t place) }
+    ensures none { result ≡ Nothing → sram.new ≡ sram.old }
+    ensures arrives { IfSome result (λ place. ArrivesFrom layout.now (record { flash = flash.now; sram = sram.old }) (record { flash = flash.now; sram = sram.new }) t stub (went_on place)) }
+    ensures kept { IfSome result (λ place. KeptThrough layout.now (record { flash = flash.now; sram = sram.old }) (record { flash = flash.now; sram = sram.new }) t (went_on place)) }
+{
+    match stub {
+        Some(_) => None,
+        None if t >= layout.image_words => None,
+        None => find(sram, flash, layout, t),
     }
 }
 

@@ -1,5 +1,5 @@
 -- The flash as contracts see it, and as it is first.
-use Rattle.std.specs.Prelude.{◌≡◌, ℕ, ◌-◌, ◌<◌, List, ◌++◌, length, Option, None}
+use Rattle.std.specs.Prelude.{◌≡◌, ℕ, ◌-◌, ◌<◌, List, [], ◌++◌, length, Option, None}
 use Rattle.flash_model.specs.Pages.{word_count, page_count, word_at}
 use Rattle.list_parts.specs.Lists.{many}
 
@@ -33,3 +33,7 @@ loaded image = image ++ many (kernel_first - length image) 0xFFFF ++ many (word_
 -- a new flash: no page was erased, and no operation was tried
 abbrev pub new_flash : (image failing : List ℕ) → Memory
 new_flash image failing = record { words = loaded image; erases = many page_count 0; failing = failing; ops = 0; refused = None }
+
+-- a flash whose words are all erased, before any operation
+abbrev pub erased_flash : Memory
+erased_flash = record { words = many word_count 0xFFFF; erases = many page_count 0; failing = []; ops = 0; refused = None }

@@ -3,7 +3,7 @@
 ghost use Rattle.std.specs.Prelude.{◌≡◌, ◌+◌, ◌-◌, ◌*◌, ◌≤◌, ◌<◌, ◌++◌, ◌^◌, true, false, length, OnOk, OnErr, IfOk, IfErr, slice_index, slice_set};
 ghost use Rattle.flash_model.specs.Operations.{next_op, fails, left_by_refusal, erased_page, programmed_page, renewed};
 ghost use Rattle.flash_model.specs.Pages.{word_count, page_count, page_words, many, word_at, page_of, set_page, blank, programmed, raised};
-ghost use Rattle.flash_model.specs.Memory.{AreWords, IsWhole, loaded, new_flash};
+ghost use Rattle.flash_model.specs.Memory.{AreWords, IsWhole, erased_flash, loaded, new_flash};
 
 use crate::failing::{FlashStop, next_listed};
 use std::alloc::Global;
@@ -65,6 +65,25 @@ impl Cells {
         let words = loaded_words(alloc, image)?;
         let erases = no_erases(alloc)?;
         let failing = failing.to_vec(alloc).map_err(|_| NoMemory)?;
+        let next_failing = next_listed(&failing, 0);
+        Ok(Cells {
+            words,
+            erases,
+            failing,
+            next_failing,
+            ops: 0,
+            refused: None,
+        })
+    }
+
+    /// A flash whose words are all erased, before any operation.
+    pub(crate) fn erased(alloc: Global) -> Result<Cells, NoMemory>
+        ensures new { IfOk result (λ cells. cells ≡ erased_flash) }
+        ensures whole { IfOk result IsWhole }
+    {
+        let words = erased_words(alloc)?;
+        let erases = no_erases(alloc)?;
+        let failing = Vec::new(alloc);
         let next_failing = next_listed(&failing, 0);
         Ok(Cells {
             words,
@@ -222,6 +241,17 @@ fn loaded_words(alloc: Global, image: &[u16]) -> Result<Vec<u16>, NoMemory>
     words.extend_from_slice(image).map_err(|_| NoMemory)?;
     fill_up(&mut words, KERNEL_FIRST, BLANK)?;
     fill_up(&mut words, WORDS, RET)?;
+    Ok(words)
+}
+
+/// The words of a flash that is erased.
+fn erased_words(alloc: Global) -> Result<Vec<u16>, NoMemory>
+    ensures value { IfOk result (λ words. words.items ≡ many word_count 0xFFFF) }
+    ensures size { IfOk result (λ words. length words.items ≡ word_count) }
+    ensures fit { IfOk result (λ words. AreWords words.items) }
+{
+    let mut words = Vec::with_capacity(alloc, WORDS).map_err(|_| NoMemory)?;
+    fill_up(&mut words, WORDS, BLANK)?;
     Ok(words)
 }
 

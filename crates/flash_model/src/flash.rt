@@ -2,7 +2,7 @@
 
 ghost use Rattle.std.specs.Prelude.{◌≡◌, ◌≤◌, ◌<◌, ◌^◌, true, false, [], ◌∷◌, length, OnOk, OnErr, IfOk, IfErr, slice_index};
 ghost use Rattle.flash_model.specs.Pages.{page_count, word_at, page_of, blank, programmed};
-ghost use Rattle.flash_model.specs.Memory.{IsWhole, new_flash};
+ghost use Rattle.flash_model.specs.Memory.{IsWhole, erased_flash, new_flash};
 ghost use Rattle.flash_model.specs.Operations.{next_op, fails, left_by_refusal, erased_page, programmed_page, renewed, Erase, Program, perform, refusal_of};
 ghost use Rattle.flash_model.specs.Code.{decoded_at};
 
@@ -42,6 +42,17 @@ impl Flash {
         ensures whole { IfOk result IsWhole }
     {
         let cells = Cells::new(alloc, image, failing)?;
+        let mut code = no_code(alloc)?;
+        renew(&cells, &mut code, 0, WORDS);
+        Ok(Flash { cells, code })
+    }
+
+    /// A flash whose words are all erased, the kernel's too, before any operation; none is to fail.
+    pub fn erased(alloc: Global) -> Result<Flash, NoMemory>
+        ensures new { IfOk result (λ flash. flash ≡ erased_flash) }
+        ensures whole { IfOk result IsWhole }
+    {
+        let cells = Cells::erased(alloc)?;
         let mut code = no_code(alloc)?;
         renew(&cells, &mut code, 0, WORDS);
         Ok(Flash { cells, code })

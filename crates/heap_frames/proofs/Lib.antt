@@ -1,10 +1,10 @@
 mod Tables
 mod Searches
-mod FrameLaws
+pub mod FrameLaws
 mod WriteLaws
 mod EntryLaws
 mod BackLaws
-mod HeapBytes
+pub mod HeapBytes
 mod ReplaceLaws
 mod PutLaws
 mod GivenLaws

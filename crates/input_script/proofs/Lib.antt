@@ -4,5 +4,7 @@ mod Reading
 mod Spelling
 mod Schedules
 pub mod Judgement
+pub mod EventLines
 mod Done
 mod Answered
+mod WorkedLines

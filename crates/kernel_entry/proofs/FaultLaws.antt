@@ -31,7 +31,8 @@ use Rattle.mem_guard.specs.FlatMachine.{slept as slept_at}
 use Rattle.mem_guard.specs.FlatMachine.{Stops, Io as IoEnd, tried, stepped, next_size, jumps_to_itself}
 use Rattle.mem_guard.proofs.MachineLaws.{tried_illegal, tried_spm, tried_sleep, tried_step}
 use Rattle.kernel_entry.specs.declared.kernel.Kernel.{Kernel}
-use Rattle.kernel_entry.specs.Parts.{descriptor, instruction, core_of, image_held}
+use Rattle.mem_guard.proofs.ReadLaws.{reads_program, reads_own}
+use Rattle.kernel_entry.specs.Parts.{descriptor, instruction, memory_of, core_of, image_held}
 use Rattle.kernel_entry.specs.Services.{is_sleep, fault_of}
 use Rattle.kernel_entry.specs.Seen.{space_of, program, state_at, end_of}
 use Rattle.kernel_entry.specs.Conditions.{shape_behind}
@@ -112,10 +113,10 @@ fault_self false is = cc
 abbrev TriedSo : Kernel → Option Form → Type 0
 TriedSo k form = is_sleep form ≡ false → (s c : ℕ) → tried (program k) (state_at k (descriptor k) s c) ≡ Stops (end_of (fault_of (descriptor k) form))
 
-io_stops : (k : Kernel) (b : ℕ) (form : Form) → instruction k ≡ Some form → is_executed form ≡ true → jumps_to_itself (descriptor k) form ≡ false
+io_stops : (k : Kernel) (b : ℕ) (form : Form) → instruction k ≡ Some form → is_executed form ≡ true → reads_program form ≡ false → jumps_to_itself (descriptor k) form ≡ false
     → answer_of flat_calls (space_of k) (ask_of form (core_of k (descriptor k))) ≡ Stopped (IoStop b) → (s c : ℕ) → tried (program k) (state_at k (descriptor k) s c) ≡ Stops (IoEnd (descriptor k) b)
-io_stops k b form is runs apart stopped s c =
-    tried_step (program k) (state_at k (descriptor k) s c) form is runs (ap (λ b. b && not (has_bit k.mote.cpu.sreg interrupts)) apart)
+io_stops k b form is runs reads apart stopped s c =
+    tried_step (program k) (state_at k (descriptor k) s c) form is runs (reads_own k.part (memory_of k) (core_of k (descriptor k)) form reads) (ap (λ b. b && not (has_bit k.mote.cpu.sreg interrupts)) apart)
     ∙ ap (stepped (state_at k (descriptor k) s c)) (exec_stopped flat_calls form (core_of k (descriptor k)) (space_of k) (next_size (image_held k) (descriptor k)) (IoStop b) stopped)
 
 some_tries : (k : Kernel) (form : Form) → instruction k ≡ Some form → IsTrue (is_valid form) → shape_of_form (descriptor k) form ≡ Fault → TriedSo k (Some form)
@@ -125,21 +126,21 @@ some_tries k forms.Spm is valid shape = λ none s c. tried_spm (program k) (stat
 some_tries k (forms.InIo d q) is valid shape =
     let t = fault_io (is_stack_pointer q) (can_read (io_address q)) shape in
     let low = six_right d q valid in
-    λ none. io_stops k (q + 0x20) (forms.InIo d q) is refl refl (refused_load (space_of k) (q + 0x20) (omega arith) (own_read q (is_own (q + 0x20)) refl low t.0 t.1) t.1)
+    λ none. io_stops k (q + 0x20) (forms.InIo d q) is refl refl refl (refused_load (space_of k) (q + 0x20) (omega arith) (own_read q (is_own (q + 0x20)) refl low t.0 t.1) t.1)
 some_tries k (forms.OutIo q r) is valid shape =
     let t = fault_io (is_stack_pointer q) (can_write (io_address q)) shape in
     let low = six_left q r valid in
-    λ none. io_stops k (q + 0x20) (forms.OutIo q r) is refl refl (refused_store (space_of k) (q + 0x20) (register (core_of k (descriptor k)) r) (omega arith) (own_write q (is_own (q + 0x20)) refl low t.0 t.1) t.1)
+    λ none. io_stops k (q + 0x20) (forms.OutIo q r) is refl refl refl (refused_store (space_of k) (q + 0x20) (register (core_of k (descriptor k)) r) (omega arith) (own_write q (is_own (q + 0x20)) refl low t.0 t.1) t.1)
 some_tries k (forms.Cbi q b) is valid shape =
-    λ none. io_stops k (q + 0x20) (forms.Cbi q b) is refl refl (refused_modify (space_of k) (q + 0x20) (2 ^ b) 0 (fault_one (can_modify (io_address q)) Native (λ e. cc) shape))
+    λ none. io_stops k (q + 0x20) (forms.Cbi q b) is refl refl refl (refused_modify (space_of k) (q + 0x20) (2 ^ b) 0 (fault_one (can_modify (io_address q)) Native (λ e. cc) shape))
 some_tries k (forms.Sbi q b) is valid shape =
-    λ none. io_stops k (q + 0x20) (forms.Sbi q b) is refl refl (refused_modify (space_of k) (q + 0x20) 0 (2 ^ b) (fault_one (can_modify (io_address q)) Native (λ e. cc) shape))
+    λ none. io_stops k (q + 0x20) (forms.Sbi q b) is refl refl refl (refused_modify (space_of k) (q + 0x20) 0 (2 ^ b) (fault_one (can_modify (io_address q)) Native (λ e. cc) shape))
 some_tries k (forms.Sbic q b) is valid shape =
     let low = low_left q b valid in
-    λ none. io_stops k (q + 0x20) (forms.Sbic q b) is refl refl (refused_load (space_of k) (q + 0x20) (omega arith) (low_own q low) (fault_one (can_read (io_address q)) Skip (λ e. cc) shape))
+    λ none. io_stops k (q + 0x20) (forms.Sbic q b) is refl refl refl (refused_load (space_of k) (q + 0x20) (omega arith) (low_own q low) (fault_one (can_read (io_address q)) Skip (λ e. cc) shape))
 some_tries k (forms.Sbis q b) is valid shape =
     let low = low_left q b valid in
-    λ none. io_stops k (q + 0x20) (forms.Sbis q b) is refl refl (refused_load (space_of k) (q + 0x20) (omega arith) (low_own q low) (fault_one (can_read (io_address q)) Skip (λ e. cc) shape))
+    λ none. io_stops k (q + 0x20) (forms.Sbis q b) is refl refl refl (refused_load (space_of k) (q + 0x20) (omega arith) (low_own q low) (fault_one (can_read (io_address q)) Skip (λ e. cc) shape))
 some_tries k (forms.Rjmp d) is valid shape = absurd (fault_self (relative (descriptor k) d == descriptor k) shape)
 some_tries k (forms.Jmp t) is valid shape = absurd (fault_self (t == descriptor k) shape)
 some_tries k _ is valid shape = absurd (cc)

@@ -61,14 +61,14 @@ taken_as : (k : Kernel) (target : ℕ) (o : Outcome Guarded (Unit {0})) → push
     → ((s c : ℕ) → next_of (program k) (record { now = state_at k target s c; due = true }) ≡ interrupted (program k) (state_at k target s c))
     → AsTaken k target (taken_by k (lowest (enabled k.mote.devices)) target (pushed_by k o).0 (pushed_by k o).1)
 taken_as k target (Stopped stop) is paged left here = λ s c.
-    here s c ∙ ap (interrupted_by (state_at k target s c) (lowest (enabled k.mote.devices))) (push_return_alike (memory_of k) (virtual_sp k) target paged ∙ ap (over flat_of) is)
+    here s c ∙ ap (interrupted_by k.part (state_at k target s c) (lowest (enabled k.mote.devices))) (push_return_alike (memory_of k) (virtual_sp k) target paged ∙ ap (over flat_of) is)
     ∙ ap Ends (end_stop target stop)
 taken_as k target (Went done g) is paged left here = λ s c.
     let n = lowest (enabled k.mote.devices) in
-    here s c ∙ ap (interrupted_by (state_at k target s c) n) (push_return_alike (memory_of k) (virtual_sp k) target paged ∙ ap (over flat_of) is)
+    here s c ∙ ap (interrupted_by k.part (state_at k target s c) n) (push_return_alike (memory_of k) (virtual_sp k) target paged ∙ ap (over flat_of) is)
     ∙ ap (λ (v : View). On None (record {
       now = record {
-        cpu = record { r = v.registers; sreg = v.status; sp = v.stack_pointer; pc = vector n };
+        cpu = record { r = v.registers; sreg = v.status; sp = v.stack_pointer; pc = vector k.part n };
         memory = v.memory;
         devices = v.devices;
         pages = v.pages;
@@ -76,7 +76,7 @@ taken_as k target (Went done g) is paged left here = λ s c.
         crossings = c;
       };
       due = false;
-    })) (sym (view_put k (record { r = k.mote.cpu.r; sreg = with_bit k.mote.cpu.sreg interrupts false; sp = wrapping_difference (virtual_sp k) 2; pc = vector n }) (record g { devices = with_taken g.devices n }) left.0.paged.sized.sram))
+    })) (sym (view_put k (record { r = k.mote.cpu.r; sreg = with_bit k.mote.cpu.sreg interrupts false; sp = wrapping_difference (virtual_sp k) 2; pc = vector k.part n }) (record g { devices = with_taken g.devices n }) left.0.paged.sized.sram))
 
 taken_is : (k : Kernel) (target : ℕ) → has_bit k.mote.cpu.sreg interrupts ≡ true → is_enabled k.mote.devices ≡ true
     → taken k target ≡ taken_by k (lowest (enabled k.mote.devices)) target (pushed k target).0 (pushed k target).1
@@ -92,6 +92,7 @@ interrupt_taken k target on some paged =
 -- what one that is taken leaves: all but the stack window, the stack pointer, SREG and the pending set
 pub record KeepsTaken (k new : Kernel) : Type 0 where
   pub layout : new.layout ≡ k.layout
+  pub part : new.part ≡ k.part
   pub quantum : new.quantum ≡ k.quantum
   pub flash : new.mote.flash ≡ k.mote.flash
   pub swap : new.mote.swap ≡ k.mote.swap
@@ -111,6 +112,7 @@ pub keeps_as : (k : Kernel) (n target : ℕ) (o : Outcome Guarded (Unit {0})) �
 keeps_as k n target (Stopped stop) left same = refl
 keeps_as k n target (Went done g) left same = record {
   layout = refl;
+  part = refl;
   quantum = refl;
   flash = refl;
   swap = left.1.swap;

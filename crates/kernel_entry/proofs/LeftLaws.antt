@@ -34,13 +34,14 @@ kept k form paged = executed_leaves form (core_of k (descriptor k)) (memory_of k
 
 -- the kernel as it was, and with other bytes of SRAM
 pub leaves_rested : (k : Kernel) → Leaves k (rested k)
-leaves_rested k = record { stack = refl; flash = refl; layout = refl; quantum = refl; slots = refl; size = refl; tables = λ b from to. refl; polls = omega arith; polled = λ apart. omega arith; paged = λ paged. paged }
+leaves_rested k = record { stack = refl; flash = refl; layout = refl; part = refl; quantum = refl; slots = refl; size = refl; tables = λ b from to. refl; polls = omega arith; polled = λ apart. omega arith; paged = λ paged. paged }
 
 pub leaves_sram : (k next : Kernel) (m : List ℕ) → Leaves k next → SamePaging next.mote.sram m → ((b : ℕ) → 0x0142 ≤ b → b ≤ 0x03FF → byte_at m b ≡ byte_at next.mote.sram b) → Leaves k (with_sram next m)
 leaves_sram k next m left same tables = record {
   stack = left.stack;
   flash = left.flash;
   layout = left.layout;
+  part = left.part;
   quantum = left.quantum;
   slots = left.slots;
   size = same.size ∙ left.size;
@@ -51,7 +52,7 @@ leaves_sram k next m left same tables = record {
 }
 
 pub leaves_pc : (k next : Kernel) (place : ℕ) → Leaves k next → Leaves k (with_pc next place)
-leaves_pc k next place left = record { stack = left.stack; flash = left.flash; layout = left.layout; quantum = left.quantum; slots = left.slots; size = left.size; tables = left.tables; polls = left.polls; polled = left.polled; paged = left.paged }
+leaves_pc k next place left = record { stack = left.stack; flash = left.flash; layout = left.layout; part = left.part; quantum = left.quantum; slots = left.slots; size = left.size; tables = left.tables; polls = left.polls; polled = left.polled; paged = left.paged }
 
 -- a counted step
 pub same_crossed : (q pc t : ℕ) (m : List ℕ) → SamePaging m (crossed q pc t m)
@@ -77,6 +78,7 @@ leaves_execution k ask (Went core memory) paged left = record {
   stack = refl;
   flash = refl;
   layout = refl;
+  part = refl;
   quantum = refl;
   slots = left.0.slots;
   size = length-with_word memory.sram vsp_cell core.sp ∙ left.0.paged.sized.sram ∙ sym paged.sized.sram;

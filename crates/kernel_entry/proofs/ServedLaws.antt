@@ -27,24 +27,26 @@ use Rattle.mote_devices.specs.Waking.{wake, Timely}
 use Rattle.mote_devices.proofs.WakeLaws.{wake_polls}
 use Rattle.preempt_count.proofs.CountLaws.{count_crossed, byte_crossed}
 use Rattle.heap_frames.proofs.SamePagingLaws.{paged_same}
-use Rattle.mem_guard.proofs.MachineLaws.{tried_halt}
+use Rattle.mem_guard.proofs.MachineLaws.{tried_halt, tried_read}
+use Rattle.mem_guard.proofs.GuardedStep.{ReadsOwn}
+use Rattle.mem_guard.proofs.ReadLaws.{reads_own}
 use Rattle.preempt_count.specs.Counting.{crossed}
 use Rattle.kernel_entry.specs.declared.kernel.Kernel.{Kernel}
 use Rattle.kernel_entry.specs.declared.kernel.Served.{Served}
-use Rattle.kernel_entry.specs.declared.kernel.Stop.TheVariants.{Halted, Asleep}
+use Rattle.kernel_entry.specs.declared.kernel.Stop.TheVariants.{Halted, Asleep, Read}
 use Rattle.kernel_entry.specs.Parts.{return_address, descriptor, instruction, memory_of, core_of, virtual_sp, rested, with_sram}
 use Rattle.avr_isa.specs.Instruction.{size_of}
 use Rattle.avr_exec.specs.Registers.{wrapping_sum}
 use Rattle.heap_frames.specs.SamePaging.{SamePaging}
 use Rattle.mem_guard.specs.FlatSpace.{push_return, pop_return}
-use Rattle.kernel_entry.specs.Services.{bridged, faulted, executed, execution, execution_by, if_instruction, resumed_by, resumed, gone_by, gone, halted_or_gone, quantum_ended, fault_of, is_sleep, slept, slept_by, woken, served, served_at}
+use Rattle.kernel_entry.specs.Services.{bridged, faulted, foreign_in, foreign_read, read_by, accessed, executed, execution, execution_by, if_instruction, resumed_by, resumed, gone_by, gone, halted_or_gone, quantum_ended, fault_of, is_sleep, slept, slept_by, woken, served, served_at}
 use Rattle.kernel_entry.specs.Conditions.{CanServe, CanExecute, IsCalled, shape_behind, executes}
 use Rattle.kernel_entry.specs.Seen.{View, view_of, space_of, program, state_at}
 use Rattle.kernel_entry.specs.Left.{Leaves, LeavesHeap}
-use Rattle.kernel_entry.specs.Rows.{SleptBy, HasStopped, Goes, Bridges, EndsQuantum, Executes, PushesReturn, PushedBy, Returns, PoppedBy, GoesThrough, GoneThrough, LoopsOrHalts, Faults, AsTried, ExecutedBy}
+use Rattle.kernel_entry.specs.Rows.{SleptBy, HasStopped, Goes, Bridges, EndsQuantum, Executes, PushesReturn, PushedBy, Returns, PoppedBy, GoesThrough, GoneThrough, LoopsOrHalts, Faults, AsTried, ExecutedBy, ReadBy}
 use Rattle.kernel_entry.proofs.Answering.{called, called_by}
 use Rattle.kernel_entry.proofs.LeftLaws.{Kept, kept, leaves_rested, leaves_pc, leaves_sram, leaves_crossed, leaves_execution, leaves_heap, same_stored, same_crossed}
-use Rattle.kernel_entry.proofs.ShapeLaws.{is_service_jump, by_service_jump, by_self_form, jumps_on, self_jumps}
+use Rattle.kernel_entry.proofs.ShapeLaws.{is_service_jump, by_service_jump, by_self_form, jumps_on, self_jumps, reads_by_mem}
 use Rattle.kernel_entry.proofs.ViewLaws.{view_sram, view_crossed}
 use Rattle.kernel_entry.proofs.RowLaws.{flatly, resumes_row, goes_row, executed_row, pushed_row, popped_row, through_row, self_row}
 use Rattle.kernel_entry.proofs.FaultLaws.{fault_tried, sleep_tried}
@@ -115,18 +117,29 @@ resumes_at k form entry here at is = at_entry k entry here ∙ at ∙ resumed_as
 goes_at : (k : Kernel) (form : Form) (entry : ℕ) → k.mote.cpu.pc ≡ entry → served_at entry k ≡ gone k → instruction k ≡ Some form → served k ≡ gone_by k (execution k form).0 (execution k form).1
 goes_at k form entry here at is = at_entry k entry here ∙ at ∙ gone_as k form is
 
--- MEM
+-- MEM, by the word that may not be read
+accesses_at : (k : Kernel) (foreign : Option ℕ) → k.mote.cpu.pc ≡ mem_entry → foreign_read k ≡ foreign → served k ≡ read_by k foreign
+unfolding accessed
+accesses_at k foreign here is = at_entry k mem_entry here ∙ ap (read_by k) is
+
+reads_at : (k : Kernel) (a : ℕ) → k.mote.cpu.pc ≡ mem_entry → foreign_read k ≡ Some a → served k ≡ (Served.Stopped (Read (descriptor k) a), rested k)
+reads_at k a here is = accesses_at k (Some a) here is
+
+executes_at : (k : Kernel) (form : Form) → k.mote.cpu.pc ≡ mem_entry → foreign_read k ≡ None → instruction k ≡ Some form → served k ≡ resumed_by k (execution k form).0 (execution k form).1
+executes_at k form here is at = accesses_at k None here is ∙ resumed_as k form at
+
+mem_does : (k : Kernel) (s : Serving k Mem) (foreign : Option ℕ) → k.mote.cpu.pc ≡ mem_entry → foreign_read k ≡ foreign → ReadBy k (served k).0 (served k).1 s.called.form foreign
+mem_does k s None here is =
+    let form = s.called.form in
+    let e = resumed_by k (execution k form).0 (execution k form).1 in
+    along (λ result new. ExecutedBy k result new form (flatly k form)) (served k) e (executes_at k form here is s.called.is) (executed_row k e.1 e.0 form s.shaped (resumes_row k form s.called.can.paged))
+mem_does k s (Some a) here is =
+    along (λ result new. HasStopped k result new (Read (descriptor k) a)) (served k) (Served.Stopped (Read (descriptor k) a), rested k) (reads_at k a here is) (record { answer = refl; stays = refl })
+
 pub mem_row : (k : Kernel) → CanServe k → k.mote.cpu.pc ≡ mem_entry → Executes k (served k).0 (served k).1
 mem_row k can here =
     let s = serving_at k mem_entry Mem can here (ap executes here) refl (λ e. cc) in
-    let form = s.called.form in
-    let e = resumed_by k (execution k form).0 (execution k form).1 in
-    record {
-      form = form;
-      is = s.called.is;
-      does = along (λ result new. ExecutedBy k result new form (flatly k form)) (served k) e (resumes_at k form mem_entry here refl s.called.is)
-          (executed_row k e.1 e.0 form s.shaped (resumes_row k form s.called.can.paged));
-    }
+    record { form = s.called.form; is = s.called.is; does = mem_does k s (foreign_read k) here refl }
 
 -- PUSHRET
 pub push_row : (k : Kernel) → CanServe k → k.mote.cpu.pc ≡ push_return_entry → PushesReturn k (served k).0 (served k).1
@@ -251,6 +264,12 @@ resume_left k entry c here at =
     let e = resumed_by k (execution k c.form).0 (execution k c.form).1 in
     along (λ result new. Leaves k new) (served k) e (resumes_at k c.form entry here at c.is) (resumed_leaves k (ask_of c.form (core_of k (descriptor k))) (executed k c.form) (execution_left k c.form c.can))
 
+access_left : (k : Kernel) (foreign : Option ℕ) → IsCalled k → k.mote.cpu.pc ≡ mem_entry → foreign_read k ≡ foreign → Leaves k (served k).1
+access_left k None c here is =
+    let e = resumed_by k (execution k c.form).0 (execution k c.form).1 in
+    along (λ result new. Leaves k new) (served k) e (executes_at k c.form here is c.is) (resumed_leaves k (ask_of c.form (core_of k (descriptor k))) (executed k c.form) (execution_left k c.form c.can))
+access_left k (Some a) c here is = along (λ result new. Leaves k new) (served k) (Served.Stopped (Read (descriptor k) a), rested k) (reads_at k a here is) (leaves_rested k)
+
 going_left : (k : Kernel) (form : Form) → CanExecute k → served k ≡ gone_by k (execution k form).0 (execution k form).1 → Leaves k (served k).1
 going_left k form can is =
     let e = gone_by k (execution k form).0 (execution k form).1 in
@@ -267,7 +286,7 @@ quantum_left : (k : Kernel) → Leaves k (quantum_ended k).1
 quantum_left k =
     let m = k.mote.sram in
     let before = with_sram (quantum_ended k).1 m in
-    leaves_sram k before (with_byte m count_cell k.quantum) (record { stack = refl; flash = refl; layout = refl; quantum = refl; slots = refl; size = refl; tables = λ b from to. refl; polls = omega arith; polled = λ apart. omega arith; paged = λ paged. paged })
+    leaves_sram k before (with_byte m count_cell k.quantum) (record { stack = refl; flash = refl; layout = refl; part = refl; quantum = refl; slots = refl; size = refl; tables = λ b from to. refl; polls = omega arith; polled = λ apart. omega arith; paged = λ paged. paged })
     (same_count m k.quantum) (λ b from to. byte_other m count_cell b k.quantum (omega arith) (omega arith) (λ e. omega arith))
 
 -- FAULT
@@ -278,6 +297,7 @@ leaves_woken k to devices here polls =
       stack = refl;
       flash = refl;
       layout = refl;
+      part = refl;
       quantum = refl;
       slots = refl;
       size = same.size;
@@ -302,7 +322,7 @@ leaves_faulted k here timely false is = subst (λ (c : Bool). Leaves k (cond c (
 pub served_leaves : (k : Kernel) → CanServe k → Leaves k (served k).1
 served_leaves k (CanServe.AtBridge is) = along (λ result new. Leaves k new) (served k) (bridged k) (at_entry k bridge_entry is) (leaves_rested k)
 served_leaves k (CanServe.AtQuantum is) = along (λ result new. Leaves k new) (served k) (quantum_ended k) (at_entry k quantum_entry is) (quantum_left k)
-served_leaves k (CanServe.AtMem is shape can) = resume_left k mem_entry (called_by k (λ e. cc) can) is refl
+served_leaves k (CanServe.AtMem is shape can) = access_left k (foreign_read k) (called_by k (λ e. cc) can) is refl
 served_leaves k (CanServe.AtPushReturn is shape can) = resume_left k push_return_entry (called_by k (λ e. cc) can) is refl
 served_leaves k (CanServe.AtReturn is shape can count) = go_left k return_entry (called_by k (λ e. cc) can) is refl
 served_leaves k (CanServe.AtIndirect is shape can count) = go_left k indirect_entry (called_by k (λ e. cc) can) is refl
@@ -391,21 +411,37 @@ and_off : (b : Bool) → b && false ≡ false
 and_off true = refl
 and_off false = refl
 
-resuming_tried : (k : Kernel) (shape : TemplateShape) (entry : ℕ) → Serving k shape → shape ≢ SelfJump → k.mote.cpu.pc ≡ entry → served_at entry k ≡ resumed k → AsTried k (served k).0 (served k).1
-resuming_tried k shape entry s apart here at =
+-- an instruction of another shape than MEM's reads no word of the program
+shape_own : (k : Kernel) (shape : TemplateShape) → (s : Serving k shape) → shape ≢ Mem → ReadsOwn k.part (memory_of k) (core_of k (descriptor k)) s.called.form
+shape_own k shape s apart = reads_own k.part (memory_of k) (core_of k (descriptor k)) s.called.form (reads_by_mem (descriptor k) s.called.form (λ is. apart (sym s.shaped ∙ is)))
+
+access_tried : (k : Kernel) (s : Serving k Mem) (foreign : Option ℕ) → k.mote.cpu.pc ≡ mem_entry → foreign_read k ≡ foreign → AsTried k (served k).0 (served k).1
+access_tried k s None here none =
+    let form = s.called.form in
+    let e = resumed_by k (execution k form).0 (execution k form).1 in
+    let goes = ap (λ b. b && not (has_bit k.mote.cpu.sreg interrupts)) (jumps_on (descriptor k) form (λ is. absurd (let never : Mem ≡ SelfJump = sym s.shaped ∙ is in cc))) in
+    along (λ result new. AsTried k result new) (served k) e (executes_at k form here none s.called.is)
+    (resumes_tried k form (ask_of form (core_of k (descriptor k))) (executed k form) s.called.can.paged s.called.is s.called.runs (sym (ap (foreign_in k) s.called.is) ∙ none) goes (kept k form s.called.can.paged) refl)
+access_tried k s (Some a) here is =
+    let form = s.called.form in
+    along (λ result new. AsTried k result new) (served k) (Served.Stopped (Read (descriptor k) a), rested k) (reads_at k a here is)
+    (AsTried.StopsToo (Read (descriptor k) a) (record { answer = refl; stays = refl }) (λ s' c. tried_read (program k) (state_at k (descriptor k) s' c) form a s.called.is s.called.runs (sym (ap (foreign_in k) s.called.is) ∙ is)))
+
+resuming_tried : (k : Kernel) (shape : TemplateShape) (entry : ℕ) → (s : Serving k shape) → shape ≢ Mem → shape ≢ SelfJump → k.mote.cpu.pc ≡ entry → served_at entry k ≡ resumed k → AsTried k (served k).0 (served k).1
+resuming_tried k shape entry s other apart here at =
     let form = s.called.form in
     let e = resumed_by k (execution k form).0 (execution k form).1 in
     let goes = ap (λ b. b && not (has_bit k.mote.cpu.sreg interrupts)) (jumps_on (descriptor k) form (λ is. apart (sym s.shaped ∙ is))) in
     along (λ result new. AsTried k result new) (served k) e (resumes_at k form entry here at s.called.is)
-    (resumes_tried k form (ask_of form (core_of k (descriptor k))) (executed k form) s.called.can.paged s.called.is s.called.runs goes (kept k form s.called.can.paged) refl)
+    (resumes_tried k form (ask_of form (core_of k (descriptor k))) (executed k form) s.called.can.paged s.called.is s.called.runs (shape_own k shape s other) goes (kept k form s.called.can.paged) refl)
 
-going_tried : (k : Kernel) (shape : TemplateShape) (entry : ℕ) → Serving k shape → shape ≢ SelfJump → is_service_jump shape ≡ true → k.mote.cpu.pc ≡ entry → served_at entry k ≡ gone k → AsTried k (served k).0 (served k).1
-going_tried k shape entry s apart jumps here at =
+going_tried : (k : Kernel) (shape : TemplateShape) (entry : ℕ) → Serving k shape → shape ≢ Mem → shape ≢ SelfJump → is_service_jump shape ≡ true → k.mote.cpu.pc ≡ entry → served_at entry k ≡ gone k → AsTried k (served k).0 (served k).1
+going_tried k shape entry s other apart jumps here at =
     let form = s.called.form in
     let e = gone_by k (execution k form).0 (execution k form).1 in
     let goes = ap (λ b. b && not (has_bit k.mote.cpu.sreg interrupts)) (jumps_on (descriptor k) form (λ is. apart (sym s.shaped ∙ is))) in
     along (λ result new. AsTried k result new) (served k) e (goes_at k form entry here at s.called.is)
-    (goes_tried k form (ask_of form (core_of k (descriptor k))) (executed k form) s.called.can.paged s.called.is s.called.runs goes (transfers (descriptor k) form (ap is_service_jump s.shaped ∙ jumps)) (kept k form s.called.can.paged) refl)
+    (goes_tried k form (ask_of form (core_of k (descriptor k))) (executed k form) s.called.can.paged s.called.is s.called.runs (shape_own k shape s other) goes (transfers (descriptor k) form (ap is_service_jump s.shaped ∙ jumps)) (kept k form s.called.can.paged) refl)
 
 loop_tried : (k : Kernel) (b : Bool) → has_bit k.mote.cpu.sreg interrupts ≡ b → Serving k SelfJump → k.mote.cpu.pc ≡ self_entry → AsTried k (served k).0 (served k).1
 loop_tried k true on s here =
@@ -413,11 +449,11 @@ loop_tried k true on s here =
     let e = gone_by k (execution k form).0 (execution k form).1 in
     let goes = ap (λ b. jumps_to_itself (descriptor k) form && not b) on ∙ and_off (jumps_to_itself (descriptor k) form) in
     along (λ result new. AsTried k result new) (served k) e (loops_at k form here s.called.is on)
-    (goes_tried k form (ask_of form (core_of k (descriptor k))) (executed k form) s.called.can.paged s.called.is s.called.runs goes (self_transfers (descriptor k) form s.shaped) (kept k form s.called.can.paged) refl)
+    (goes_tried k form (ask_of form (core_of k (descriptor k))) (executed k form) s.called.can.paged s.called.is s.called.runs (shape_own k SelfJump s (λ e. cc)) goes (self_transfers (descriptor k) form s.shaped) (kept k form s.called.can.paged) refl)
 loop_tried k false off s here =
     let form = s.called.form in
     along (λ result new. AsTried k result new) (served k) (Served.Stopped (Halted (descriptor k)), rested k) (halts_at k here off)
-    (AsTried.StopsToo (Halted (descriptor k)) (record { answer = refl; stays = refl }) (λ s' c. tried_halt (program k) (state_at k (descriptor k) s' c) form s.called.is s.called.runs (self_jumps (descriptor k) form s.shaped) off))
+    (AsTried.StopsToo (Halted (descriptor k)) (record { answer = refl; stays = refl }) (λ s' c. tried_halt (program k) (state_at k (descriptor k) s' c) form s.called.is s.called.runs (shape_own k SelfJump s (λ e. cc)) (self_jumps (descriptor k) form s.shaped) off))
 
 -- FAULT
 woken_tried : (k : Kernel) (devices : State) → wake k.mote.devices ≡ Some devices → (s c : ℕ)
@@ -472,10 +508,10 @@ faulted_tried k fit shape false is =
 pub served_tried : (k : Kernel) → AreWords k.mote.flash.words → CanServe k → k.mote.cpu.pc ≢ bridge_entry → k.mote.cpu.pc ≢ quantum_entry → AsTried k (served k).0 (served k).1
 served_tried k fit (CanServe.AtBridge is) one two = absurd (one is)
 served_tried k fit (CanServe.AtQuantum is) one two = absurd (two is)
-served_tried k fit (CanServe.AtMem is shape can) one two = resuming_tried k Mem mem_entry (serving k Mem shape (λ e. cc) can) (λ e. cc) is refl
-served_tried k fit (CanServe.AtPushReturn is shape can) one two = resuming_tried k Call push_return_entry (serving k Call shape (λ e. cc) can) (λ e. cc) is refl
-served_tried k fit (CanServe.AtReturn is shape can count) one two = going_tried k Ret return_entry (serving k Ret shape (λ e. cc) can) (λ e. cc) refl is refl
-served_tried k fit (CanServe.AtIndirect is shape can count) one two = going_tried k Ind indirect_entry (serving k Ind shape (λ e. cc) can) (λ e. cc) refl is refl
+served_tried k fit (CanServe.AtMem is shape can) one two = access_tried k (serving k Mem shape (λ e. cc) can) (foreign_read k) is refl
+served_tried k fit (CanServe.AtPushReturn is shape can) one two = resuming_tried k Call push_return_entry (serving k Call shape (λ e. cc) can) (λ e. cc) (λ e. cc) is refl
+served_tried k fit (CanServe.AtReturn is shape can count) one two = going_tried k Ret return_entry (serving k Ret shape (λ e. cc) can) (λ e. cc) (λ e. cc) refl is refl
+served_tried k fit (CanServe.AtIndirect is shape can count) one two = going_tried k Ind indirect_entry (serving k Ind shape (λ e. cc) can) (λ e. cc) (λ e. cc) refl is refl
 served_tried k fit (CanServe.AtSelf is shape can count) one two = loop_tried k (has_bit k.mote.cpu.sreg interrupts) refl (serving k SelfJump shape (λ e. cc) can) is
 served_tried k fit (CanServe.AtFault is shape can) one two =
     along (λ result new. AsTried k result new) (served k) (faulted k) (at_entry k fault_entry is) (faulted_tried k fit shape (is_sleep (instruction k)) refl)

@@ -11,6 +11,7 @@ use Rattle.nat_template.specs.declared.shapes.TemplateShape.{TemplateShape}
 use Rattle.nat_template.specs.declared.shapes.TemplateShape.TheVariants.{Native, Mem, Jump, Branch, Skip, Call, Ret, Ind, SelfJump, Fault}
 use Rattle.nat_template.specs.Shapes.{shape_of_form, is_stack_pointer, can_modify}
 use Rattle.mem_guard.specs.FlatMachine.{jumps_to_itself}
+use Rattle.mem_guard.proofs.ReadLaws.{reads_program}
 
 -- a call, a return, a jump or a call through Z
 abbrev pub is_service_jump : TemplateShape → Bool
@@ -111,6 +112,15 @@ equal_test a b is = grind (arith, nat_tests)
 
 pub self_jumps : (pc : ℕ) (form : Form) → shape_of_form pc form ≡ SelfJump → jumps_to_itself pc form ≡ true
 self_jumps pc form is = by_self_form (λ f. jumps_to_itself pc f ≡ true) pc (λ k e. equal_test (relative pc k) pc e) (λ a e. equal_test a pc e) form is
+
+-- all that read words of the program are served by MEM
+pub reads_by_mem : (pc : ℕ) (form : Form) → shape_of_form pc form ≢ Mem → reads_program form ≡ false
+unfolding shape_of_form
+reads_by_mem pc forms.Lpm0 apart = absurd (apart refl)
+reads_by_mem pc forms.Elpm0 apart = absurd (apart refl)
+reads_by_mem pc (forms.Lpm d inc) apart = absurd (apart refl)
+reads_by_mem pc (forms.Elpm d inc) apart = absurd (apart refl)
+reads_by_mem pc _ apart = refl
 
 -- a load or a store, and its kin, transfers no control
 mem_access : (c : Bool) (own : TemplateShape) → own ≢ Mem → cond c own Fault ≡ Mem → ⊥

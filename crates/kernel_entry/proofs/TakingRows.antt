@@ -54,12 +54,12 @@ stopped_row k target address on outside paged = record {
 }
 
 vector_row : (k : Kernel) (target : ℕ) → is_wanted k ≡ true → first_outside (virtual_sp k) ≡ None → IsPaged (after_taking k (least k) target).mote.sram k.mote.swap
-    → Row k target (answers.Vector (vector (least k)), after_taking k (least k) target)
+    → Row k target (answers.Vector (vector k.part (least k)), after_taking k (least k) target)
 vector_row k target on inside paged = record {
   nothing = (λ e. absurd (cc), λ e. absurd (not_both (is_wanted k) on e));
   stopped = λ stop. (λ e. absurd (cc), λ e. absurd (let none = e.1.1 in let some : None ≡ Some e.1.0 = sym inside ∙ none in cc));
-  vector = λ place. (λ e. (on, inside, let same : place ≡ vector (least k) = cc in same), λ e. ap answers.Vector (sym e.2));
-  stays = λ none. absurd (none (vector (least k)) refl);
+  vector = λ place. (λ e. (on, inside, let same : place ≡ vector k.part (least k) = cc in same), λ e. ap answers.Vector (sym e.2));
+  stays = λ none. absurd (none (vector k.part (least k)) refl);
   taken = λ place e. refl;
   paged = paged;
 }

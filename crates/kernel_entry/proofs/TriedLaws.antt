@@ -15,7 +15,7 @@ use Rattle.nat_template.specs.declared.shapes.TemplateShape.TheVariants.{SelfJum
 use Rattle.nat_template.specs.Shapes.{shape_of_form}
 use Rattle.mem_guard.specs.FlatMachine.{FlatState, Goes as GoesOn, Stops, jumps_to_itself, end_at, next_size}
 use Rattle.mem_guard.specs.Guarded.{Guarded, flat_of}
-use Rattle.mem_guard.proofs.GuardedStep.{guarded_goes, guarded_stops}
+use Rattle.mem_guard.proofs.GuardedStep.{ReadsOwn, guarded_goes, guarded_stops}
 use Rattle.mem_guard.proofs.LineLaws.{transfer_line}
 use Rattle.avr_exec.specs.declared.ask.Ask.{Ask}
 use Rattle.kernel_entry.specs.declared.kernel.Kernel.{Kernel}
@@ -50,30 +50,30 @@ counted k to crossings = if is_crossing (descriptor k) to then crossings + 1 els
 abbrev GoesOnward : Kernel → Form → Type 0
 GoesOnward k form = jumps_to_itself (descriptor k) form && not (has_bit k.mote.cpu.sreg interrupts) ≡ false
 
-pub resumes_tried : (k : Kernel) (form : Form) (ask : Ask) (o : Outcome Guarded Cpu) → IsPaged k.mote.sram k.mote.swap → instruction k ≡ Some form → is_executed form ≡ true → GoesOnward k form
+pub resumes_tried : (k : Kernel) (form : Form) (ask : Ask) (o : Outcome Guarded Cpu) → IsPaged k.mote.sram k.mote.swap → instruction k ≡ Some form → is_executed form ≡ true → ReadsOwn k.part (memory_of k) (core_of k (descriptor k)) form → GoesOnward k form
     → LeavesSpace (Kept k ask) o → executed k form ≡ o → (let e = resumed_by k (execution_by k o).0 (execution_by k o).1 in AsTried k e.0 e.1)
 unfolding executed
-resumes_tried k form ask (Went core memory) paged is runs goes left went =
+resumes_tried k form ask (Went core memory) paged is runs own goes left went =
     AsTried.ResumesToo memory.line core.pc refl (λ s c.
-    guarded_goes _ (memory_of k) memory (core_of k (descriptor k)) core s c form paged refl is runs goes went
+    guarded_goes _ _ (memory_of k) memory (core_of k (descriptor k)) core s c form paged refl is runs own goes went
     ∙ sym (ap (λ v. GoesOn memory.line (state_by v core.pc (s + 1) (counted k core.pc c))) (view_put k core memory left.0.paged.sized.sram)))
-resumes_tried k form ask (Stopped stop) paged is runs goes left went =
+resumes_tried k form ask (Stopped stop) paged is runs own goes left went =
     AsTried.StopsToo (stop_of (descriptor k) stop) (record { answer = refl; stays = refl }) (λ s c.
-    guarded_stops _ (memory_of k) (core_of k (descriptor k)) s c form stop paged refl is runs goes went ∙ ap Stops (end_stop (descriptor k) stop))
+    guarded_stops _ _ (memory_of k) (core_of k (descriptor k)) s c form stop paged refl is runs own goes went ∙ ap Stops (end_stop (descriptor k) stop))
 
-pub goes_tried : (k : Kernel) (form : Form) (ask : Ask) (o : Outcome Guarded Cpu) → IsPaged k.mote.sram k.mote.swap → instruction k ≡ Some form → is_executed form ≡ true → GoesOnward k form → is_transfer form ≡ true
+pub goes_tried : (k : Kernel) (form : Form) (ask : Ask) (o : Outcome Guarded Cpu) → IsPaged k.mote.sram k.mote.swap → instruction k ≡ Some form → is_executed form ≡ true → ReadsOwn k.part (memory_of k) (core_of k (descriptor k)) form → GoesOnward k form → is_transfer form ≡ true
     → LeavesSpace (Kept k ask) o → executed k form ≡ o → (let e = gone_by k (execution_by k o).0 (execution_by k o).1 in AsTried k e.0 e.1)
 unfolding executed
-goes_tried k form ask (Went core memory) paged is runs goes moves left went =
+goes_tried k form ask (Went core memory) paged is runs own goes moves left went =
     AsTried.GoesToo core.pc refl (λ s c.
-    guarded_goes _ (memory_of k) memory (core_of k (descriptor k)) core s c form paged refl is runs goes went
+    guarded_goes _ _ (memory_of k) memory (core_of k (descriptor k)) core s c form paged refl is runs own goes went
     ∙ ap (λ line. GoesOn line (state_by (view_by core (flat_of memory)) core.pc (s + 1) (counted k core.pc c)))
     (transfer_line form (core_of k (descriptor k)) core (memory_of k) memory (next_size (image_held k) (descriptor k)) moves went)
     ∙ sym (ap (λ v. GoesOn None (state_by v core.pc (s + 1) (counted k core.pc c)))
     (view_crossed (put_back k core memory) k.quantum (descriptor k) core.pc ∙ view_put k core memory left.0.paged.sized.sram)))
-goes_tried k form ask (Stopped stop) paged is runs goes moves left went =
+goes_tried k form ask (Stopped stop) paged is runs own goes moves left went =
     AsTried.StopsToo (stop_of (descriptor k) stop) (record { answer = refl; stays = refl }) (λ s c.
-    guarded_stops _ (memory_of k) (core_of k (descriptor k)) s c form stop paged refl is runs goes went ∙ ap Stops (end_stop (descriptor k) stop))
+    guarded_stops _ _ (memory_of k) (core_of k (descriptor k)) s c form stop paged refl is runs own goes went ∙ ap Stops (end_stop (descriptor k) stop))
 
 -- which of them transfer control, and go on
 pub transfers : (pc : ℕ) (form : Form) → is_service_jump (shape_of_form pc form) ≡ true → is_transfer form ≡ true

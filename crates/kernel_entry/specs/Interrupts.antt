@@ -30,7 +30,7 @@ pushed k address = pushed_by k (push_return (memory_of k) (virtual_sp k) address
 -- INTn is taken: interrupts are off, and it is no longer pending
 abbrev pub taken_by : Kernel → (n target : ℕ) → Result (Unit {0}) BusStop → Kernel → Taken × Kernel
 taken_by k n target (Ok done) next = (
-  answers.Vector (vector n),
+  answers.Vector (vector k.part n),
   record next {
     mote = record next.mote {
       cpu = record next.mote.cpu { sreg = with_bit next.mote.cpu.sreg interrupts false };
@@ -77,7 +77,7 @@ pub record TakesLeast (old : Kernel) (target : ℕ) (result : Taken) (new : Kern
   pub stopped : (stop : Stop) → (result ≡ answers.Stopped stop)
       ↔ ((is_wanted old ≡ true) × ((address : ℕ) × (first_outside (virtual_sp old) ≡ Some address) × (stop ≡ Stack target address)))
   pub vector : (place : ℕ) → (result ≡ answers.Vector place)
-      ↔ ((is_wanted old ≡ true) × (first_outside (virtual_sp old) ≡ None) × (place ≡ vector (lowest (enabled old.mote.devices))))
+      ↔ ((is_wanted old ≡ true) × (first_outside (virtual_sp old) ≡ None) × (place ≡ vector old.part (lowest (enabled old.mote.devices))))
   pub stays : ((place : ℕ) → result ≢ answers.Vector place) → new ≡ old
   pub taken : (place : ℕ) → result ≡ answers.Vector place → new ≡ after_taking old (lowest (enabled old.mote.devices)) target
   pub paged : IsPaged new.mote.sram new.mote.swap

@@ -10,13 +10,14 @@ use Rattle.mem_guard.specs.Left.{HeapAfter}
 use Rattle.kernel_entry.specs.declared.kernel.Kernel.{Kernel}
 use Rattle.kernel_entry.specs.Parts.{virtual_sp, memory_of}
 
--- every service: the kernel's stack is empty; flash, the layout, the quantum, the number of slots and the
+-- every service: the kernel's stack is empty; flash, the layout, the program's part, the quantum, the number of slots and the
 -- kernel's tables of places, in 0x0142 to 0x03FF, stay; the devices are polled once at most, or by FAULT, at a SLEEP, as
 -- often as an event asks for; and the heap stays in order
 pub record Leaves (old new : Kernel) : Type 0 where
   pub stack : new.mote.cpu.sp ≡ kernel_stack_top
   pub flash : new.mote.flash ≡ old.mote.flash
   pub layout : new.layout ≡ old.layout
+  pub part : new.part ≡ old.part
   pub quantum : new.quantum ≡ old.quantum
   pub slots : length new.mote.swap ≡ length old.mote.swap
   pub size : length new.mote.sram ≡ length old.mote.sram

@@ -21,11 +21,11 @@ use Rattle.mem_guard.specs.FlatMachine.{next_size, tried, Goes as GoesOn, Stops,
 use Rattle.preempt_count.specs.Counting.{count_over}
 use Rattle.kernel_entry.specs.declared.kernel.Kernel.{Kernel}
 use Rattle.kernel_entry.specs.declared.kernel.Stop.{Stop}
-use Rattle.kernel_entry.specs.declared.kernel.Stop.TheVariants.{Halted, Asleep}
+use Rattle.kernel_entry.specs.declared.kernel.Stop.TheVariants.{Halted, Asleep, Read}
 use Rattle.kernel_entry.specs.declared.kernel.Served.{Served}
 use Rattle.kernel_entry.specs.declared.kernel.Served.TheVariants as answers
 use Rattle.kernel_entry.specs.Parts.{return_address, descriptor, instruction, virtual_sp, core_of, rested, image_held}
-use Rattle.kernel_entry.specs.Services.{stop_of, fault_of, is_sleep}
+use Rattle.kernel_entry.specs.Services.{stop_of, fault_of, is_sleep, foreign_read}
 use Rattle.kernel_entry.specs.Seen.{View, view_of, view_by, count_of, space_of, program, state_at, end_of}
 use Rattle.kernel_entry.specs.Left.{MovesPages}
 
@@ -74,10 +74,15 @@ abbrev pub ExecutedBy : Kernel → Served → Kernel → Form → Outcome FlatSp
 ExecutedBy old result new form (Went core space) = HasExecuted old result new form core space
 ExecutedBy old result new form (Stopped stop) = HasStopped old result new (stop_of (descriptor old) stop)
 
+-- .. unless it reads a word of the program that it may not
+abbrev pub ReadBy : Kernel → Served → Kernel → Form → Option ℕ → Type 0
+ReadBy old result new form (Some a) = HasStopped old result new (Read (descriptor old) a)
+ReadBy old result new form None = ExecutedBy old result new form (exec_of flat_calls form (core_of old (descriptor old)) (space_of old) (next_size (image_held old) (descriptor old)))
+
 pub record Executes (old : Kernel) (result : Served) (new : Kernel) : Type 0 where
   pub form : Form
   pub is : instruction old ≡ Some form
-  pub does : ExecutedBy old result new form (exec_of flat_calls form (core_of old (descriptor old)) (space_of old) (next_size (image_held old) (descriptor old)))
+  pub does : ReadBy old result new form (foreign_read old)
 
 -- PUSHRET: the address behind the call is pushed onto the program's stack
 abbrev pub PushedBy : Kernel → Served → Kernel → Outcome FlatSpace (Unit {0}) → Type 0

@@ -7,11 +7,11 @@ use Rattle.heap_frames.specs.Frames.{pages}
 use Rattle.heap_frames.specs.Memory.{vmem}
 use Rattle.mote_devices.specs.State.{State}
 use Rattle.mem_guard.specs.FlatSpace.{FlatSpace}
-use Rattle.mem_guard.specs.FlatMachine.{Program, FlatState, End, Halted as HaltedEnd, Asleep as AsleepEnd, Illegal as IllegalEnd, SelfProgram as SelfProgramEnd, Io as IoEnd, Stack as StackEnd, SwapFull as SwapFullEnd}
+use Rattle.mem_guard.specs.FlatMachine.{Program, FlatState, End, Halted as HaltedEnd, Asleep as AsleepEnd, Read as ReadEnd, Illegal as IllegalEnd, SelfProgram as SelfProgramEnd, Io as IoEnd, Stack as StackEnd, SwapFull as SwapFullEnd}
 use Rattle.mem_guard.specs.Guarded.{flat_of, state_of, program_of}
 use Rattle.kernel_entry.specs.declared.kernel.Kernel.{Kernel}
 use Rattle.kernel_entry.specs.declared.kernel.Stop.{Stop}
-use Rattle.kernel_entry.specs.declared.kernel.Stop.TheVariants.{Halted, Asleep, Illegal, SelfProgram, Io, Stack, SwapFull}
+use Rattle.kernel_entry.specs.declared.kernel.Stop.TheVariants.{Halted, Asleep, Illegal, SelfProgram, Read, Io, Stack, SwapFull}
 use Rattle.kernel_entry.specs.Parts.{virtual_sp, memory_of, core_of}
 
 -- its registers, SREG and SP; a byte for each data address; the devices; and which pages of the heap have a slot
@@ -54,7 +54,7 @@ space_of k = flat_of (memory_of k)
 
 -- the program, and the state of its own machine at this pc and with these counts
 abbrev pub program : Kernel → Program
-program k = program_of k.quantum (memory_of k)
+program k = program_of k.part k.quantum (memory_of k)
 
 abbrev pub state_at : Kernel → (pc steps crossings : ℕ) → FlatState
 state_at k pc steps crossings = state_of (memory_of k) (core_of k pc) steps crossings
@@ -65,6 +65,7 @@ end_of (Halted pc) = HaltedEnd pc
 end_of (Asleep pc) = AsleepEnd pc
 end_of (Illegal pc) = IllegalEnd pc
 end_of (SelfProgram pc) = SelfProgramEnd pc
+end_of (Read pc a) = ReadEnd pc a
 end_of (Io pc a) = IoEnd pc a
 end_of (Stack pc a) = StackEnd pc a
 end_of (SwapFull pc a) = SwapFullEnd pc a

@@ -4,7 +4,7 @@ use Rattle.avr_isa.specs.declared.form.Form.{Form}
 use Rattle.avr_isa.specs.declared.form.Form.TheVariants as forms
 use Rattle.avr_isa.specs.IoTable.{io_address}
 use Rattle.avr_isa.specs.Crossing.{is_crossing}
-use Rattle.mote_devices.specs.State.{State}
+use Rattle.mote_devices.specs.State.{State, stored, rampz_address}
 use Rattle.mote_devices.specs.Waking.{wake}
 use Rattle.avr_flags.specs.Status.{has_bit, interrupts}
 use Rattle.avr_exec.specs.declared.cpu.Cpu.{Cpu}
@@ -12,16 +12,17 @@ use Rattle.avr_exec.specs.declared.stop.BusStop.{BusStop}
 use Rattle.avr_exec.specs.declared.stop.BusStop.TheVariants as bus
 use Rattle.avr_exec.specs.Registers.{wrapping_sum, wrapping_difference}
 use Rattle.avr_exec.specs.Spaces.{Outcome, Went, Stopped}
+use Rattle.avr_exec.specs.Asks.{ask_of}
 use Rattle.avr_exec.specs.Execution.{exec_of}
 use Rattle.sram_layout.specs.Bytes.{byte_at, with_byte}
 use Rattle.sram_layout.specs.Cells.{count_cell, r24_cell, sreg_cell, kernel_stack_top}
 use Rattle.nat_template.specs.Stubs.{bridge_entry, quantum_entry, mem_entry, push_return_entry, return_entry, indirect_entry, self_entry}
-use Rattle.mem_guard.specs.FlatMachine.{next_size}
+use Rattle.mem_guard.specs.FlatMachine.{next_size, word_asked, if_foreign}
 use Rattle.mem_guard.specs.Guarded.{Guarded, guarded_calls}
 use Rattle.preempt_count.specs.Counting.{crossed}
 use Rattle.kernel_entry.specs.declared.kernel.Kernel.{Kernel}
 use Rattle.kernel_entry.specs.declared.kernel.Stop.{Stop}
-use Rattle.kernel_entry.specs.declared.kernel.Stop.TheVariants.{Halted, Asleep, Illegal, SelfProgram, Io, Stack, SwapFull}
+use Rattle.kernel_entry.specs.declared.kernel.Stop.TheVariants.{Halted, Asleep, Illegal, SelfProgram, Read, Io, Stack, SwapFull}
 use Rattle.kernel_entry.specs.declared.kernel.Served.{Served}
 use Rattle.kernel_entry.specs.declared.kernel.Served.TheVariants as answers
 use Rattle.kernel_entry.specs.declared.execution.Ran.{Ran}
@@ -67,13 +68,28 @@ abbrev pub if_instruction : Kernel → Option Form → (Form → Served × Kerne
 if_instruction k None service = (answers.Stopped (Illegal (descriptor k)), rested k)
 if_instruction k (Some form) service = service form
 
--- MEM and PUSHRET: after the execution the physical pc is behind the descriptor
+-- MEM, which may read, and PUSHRET: after the execution the physical pc is behind the descriptor
 abbrev pub resumed_by : Kernel → Result Ran BusStop → Kernel → Served × Kernel
 resumed_by k (Ok ran) next = (answers.Resume ran.line, with_pc next (wrapping_sum (return_address k) 1))
 resumed_by k (Err stop) next = (answers.Stopped (stop_of (descriptor k) stop), next)
 
 unfoldable pub resumed : Kernel → Served × Kernel
 resumed k = if_instruction k (instruction k) (λ form. resumed_by k (execution k form).0 (execution k form).1)
+
+-- MEM: LPM or ELPM of a word that the program may not read stops it
+abbrev pub foreign_in : Kernel → Option Form → Option ℕ
+foreign_in k None = None
+foreign_in k (Some form) = if_foreign k.part (word_asked (stored k.mote.devices rampz_address) (ask_of form (core_of k (descriptor k))))
+
+abbrev pub foreign_read : Kernel → Option ℕ
+foreign_read k = foreign_in k (instruction k)
+
+abbrev pub read_by : Kernel → Option ℕ → Served × Kernel
+read_by k (Some a) = (answers.Stopped (Read (descriptor k) a), rested k)
+read_by k None = resumed k
+
+unfoldable pub accessed : Kernel → Served × Kernel
+accessed k = read_by k (foreign_read k)
 
 -- RET and IND: after the execution control goes to the program's new pc, and the step is counted
 abbrev pub gone_by : Kernel → Result Ran BusStop → Kernel → Served × Kernel
@@ -130,7 +146,8 @@ abbrev pub served_at : ℕ → Kernel → Served × Kernel
 served_at entry k =
     if entry == bridge_entry then bridged k
     else if entry == quantum_entry then quantum_ended k
-    else if (entry == mem_entry) || (entry == push_return_entry) then resumed k
+    else if entry == mem_entry then accessed k
+    else if entry == push_return_entry then resumed k
     else if (entry == return_entry) || (entry == indirect_entry) then gone k
     else if entry == self_entry then halted_or_gone k
     else faulted k

@@ -4,7 +4,7 @@ use Rattle.hex.specs.Hex.{encode_upper}
 use Rattle.mote_devices.specs.declared.line.Line.{Line}
 use Rattle.mote_devices.specs.declared.line.Port.{Port}
 use Rattle.mote_devices.specs.declared.line.Port.TheVariants.{PortA, PortB, PortC, PortD, DdrA, DdrB, DdrC, DdrD, Uart0}
-use Rattle.mem_guard.specs.FlatMachine.{End, Spent, Wild, Illegal, SelfProgram, Asleep, Halted, Io, Stack, SwapFull}
+use Rattle.mem_guard.specs.FlatMachine.{End, Spent, Wild, Illegal, SelfProgram, Asleep, Halted, Read, Io, Stack, SwapFull}
 
 -- the two upper-case digits of a byte
 abbrev pub two_digits : ℕ → List ℕ
@@ -33,7 +33,7 @@ port_name Uart0 = codes "UART0"
 unfoldable pub line_text : Line → List ℕ
 line_text line = port_name line.port ++ codes " " ++ byte_text line.value ++ codes "\n"
 
--- how a run ended; the last three also name the data address
+-- how a run ended; one also names the word that it may not read, and the last three the data address
 abbrev pub end_text : End → List ℕ
 end_text Spent = codes "spent"
 end_text (Halted pc) = codes "halted " ++ address_text pc
@@ -41,6 +41,7 @@ end_text (Asleep pc) = codes "asleep " ++ address_text pc
 end_text (Wild pc) = codes "fault wild " ++ address_text pc
 end_text (Illegal pc) = codes "fault illegal " ++ address_text pc
 end_text (SelfProgram pc) = codes "fault selfprogram " ++ address_text pc
+end_text (Read pc a) = codes "fault read " ++ address_text pc ++ codes " address " ++ address_text a
 end_text (Io pc a) = codes "fault io " ++ address_text pc ++ codes " address " ++ address_text a
 end_text (Stack pc a) = codes "fault stack " ++ address_text pc ++ codes " address " ++ address_text a
 end_text (SwapFull pc a) = codes "fault swap " ++ address_text pc ++ codes " address " ++ address_text a

@@ -10,13 +10,15 @@ ghost use Rattle.kernel_entry.specs.Interrupts.{taken, pushed, TakesLeast};
 use crate::kernel::{Kernel, Taken};
 use crate::services::{has_interrupts, stop_of};
 use avr_exec::{Bus, BusStop};
-use mem_guard::VirtualBus;
+use mem_guard::{Part, VirtualBus};
 
 /// Takes the pending and enabled interrupt with the least number, where interrupts are on: `target`, the address where
-/// the program would go on, is pushed onto its stack, and interrupts are off.
+/// the program would go on, is pushed onto its stack, and interrupts are off. Its vector stands at the front of the
+/// program's part.
 pub fn interrupt(k: &mut Kernel, target: u16) -> Taken
     requires paged { IsPaged k.old.mote.sram k.old.mote.swap }
     requires room { k.old.mote.devices.polls < 2 ^ 63 }
+    requires low { k.old.part.first < 65520 }
     // The answer and the whole kernel are a function of the kernel.
     ensures taken { (result, k.new) ≡ taken k.old target }
     // When each answer comes, and what it leaves.
@@ -29,6 +31,7 @@ pub fn interrupt(k: &mut Kernel, target: u16) -> Taken
 fn take_least(k: &mut Kernel, target: u16) -> Taken
     requires paged { IsPaged k.old.mote.sram k.old.mote.swap }
     requires room { k.old.mote.devices.polls < 2 ^ 63 }
+    requires low { k.old.part.first < 65520 }
     ensures taken { (result, k.new) ≡ taken k.old target }
 {
     let enabled = k.mote.devices.enabled();
@@ -44,7 +47,7 @@ fn take_least(k: &mut Kernel, target: u16) -> Taken
             let number = lowest(enabled);
             k.mote.devices.take(number);
             k.mote.cpu.sreg &= 0x7F;
-            Taken::Vector(2 * (u16::from(number) + 1))
+            Taken::Vector(vector(&k.part, number))
         }
     }
 }
@@ -72,6 +75,15 @@ fn push(k: &mut Kernel, address: u16) -> Result<(), BusStop>
         }
         Err(stop) => Err(stop),
     }
+}
+
+/// The word address where the program answers an interrupt.
+fn vector(part: &Part, number: u8) -> u16
+    requires small { number < 8 }
+    requires low { part.now.first < 65520 }
+    ensures value { result ≡ vector_of part.now number }
+{
+    part.first + 2 * (u16::from(number) + 1)
 }
 
 /// The least number of a bit that is set.

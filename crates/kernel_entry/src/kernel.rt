@@ -1,6 +1,7 @@
 //! The kernel's state, and its answers.
 
 use flash_model::Layout;
+use mem_guard::Part;
 use mote_core::Mote;
 use mote_devices::Line;
 
@@ -9,12 +10,14 @@ use mote_devices::Line;
 pub struct Kernel {
     pub mote: Mote,
     pub layout: Layout,
+    /// The words of the image that the program may run.
+    pub part: Part,
     /// How many crossings make a checkpoint.
     pub quantum: u8,
 }
 
-/// Why the program stopped: the address of the instruction in the image, and for the last three the data
-/// address that it would have touched.
+/// Why the program stopped: the address of the instruction in the image; with it, for `Read` the word address, and for
+/// the last three the data address that it would have touched.
 #[derive(Clone, Copy, Debug, PartialEq, Eq)]
 pub enum Stop {
     /// An RJMP or JMP to its own address with interrupts off.
@@ -25,6 +28,8 @@ pub enum Stop {
     Illegal(u16),
     /// SPM.
     SelfProgram(u16),
+    /// LPM or ELPM of a word of the image that the program may not read.
+    Read(u16, u16),
     /// A register of a device that may not be accessed so.
     Io(u16, u16),
     /// A byte outside the stack window.

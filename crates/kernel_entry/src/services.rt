@@ -9,15 +9,15 @@ ghost use Rattle.sram_layout.specs.Bytes.{byte_count};
 ghost use Rattle.nat_template.specs.Stubs.{bridge_entry, quantum_entry, mem_entry, push_return_entry, return_entry, indirect_entry, self_entry, fault_entry};
 ghost use Rattle.kernel_entry.specs.Conditions.{IsCalled, CanCount, CanServe};
 ghost use Rattle.kernel_entry.specs.Parts.{return_address, descriptor as descriptor_of, instruction};
-ghost use Rattle.kernel_entry.specs.Services.{bridged, quantum_ended, resumed, gone, halted_or_gone, faulted, slept, is_sleep as is_sleep_form, due_by, is_due, served, stop_of as stop_of_bus, fault_of as fault_of_form};
+ghost use Rattle.kernel_entry.specs.Services.{bridged, quantum_ended, foreign_read as foreign_read_of, accessed, resumed, gone, halted_or_gone, faulted, slept, is_sleep as is_sleep_form, due_by, is_due, served, stop_of as stop_of_bus, fault_of as fault_of_form};
 ghost use Rattle.kernel_entry.specs.Left.{Leaves, LeavesHeap};
 ghost use Rattle.kernel_entry.specs.Rows.{Bridges, EndsQuantum, Executes, PushesReturn, Returns, GoesThrough, LoopsOrHalts, Faults, AsTried};
 
 use crate::execution::execute;
 use crate::kernel::{Kernel, Served, Stop};
-use avr_exec::BusStop;
+use avr_exec::{BusStop, Cpu};
 use avr_isa::{Form, Instr};
-use mem_guard::instruction_in_image;
+use mem_guard::{foreign_word, instruction_in_image, known_instruction};
 use preempt_count::{cross, is_crossing};
 use sram_layout::KERNEL_STACK_TOP;
 
@@ -59,7 +59,8 @@ fn serve_at(k: &mut Kernel, at: u16) -> Served
     match k.mote.cpu.pc {
         0xF000 => bridge(k, at),
         0xF002 => end_quantum(k, at),
-        0xF004 | 0xF006 => resume(k, at),
+        0xF004 => access(k, at),
+        0xF006 => resume(k, at),
         0xF008 | 0xF00A => go(k, at),
         0xF00C => halt_or_go(k, at),
         _ => fault(k, at),
@@ -120,7 +121,42 @@ fn end_quantum(k: &mut Kernel, at: u16) -> Served
     }
 }
 
-/// MEM and PUSHRET: the instruction is executed, and the template goes on behind the descriptor.
+/// MEM: LPM and ELPM of a word that the program may not read stop it; all else is executed.
+#[tactic(auto, unfolding(crate::specs::Services::accessed))]
+fn access(k: &mut Kernel, at: u16) -> Served
+    requires at { at ≡ descriptor_of k.old }
+    requires called { IsCalled k.old }
+    ensures served { (result, k.new) ≡ accessed k.old }
+{
+    match foreign_read(k, at) {
+        None => resume(k, at),
+        Some(word) => {
+            k.mote.cpu.sp = KERNEL_STACK_TOP;
+            Served::Stopped(Stop::Read(at, word))
+        }
+    }
+}
+
+/// The word of the program that the instruction would read, where it may not. Only a shut part forbids any.
+fn foreign_read(k: &Kernel, at: u16) -> Option<u16>
+    requires at { at ≡ descriptor_of k.now }
+    requires called { IsCalled k.now }
+    ensures value { result ≡ foreign_read_of k.now }
+{
+    if !k.part.shut {
+        return None;
+    }
+    let instr = called_instruction(k, at);
+    let core = Cpu {
+        r: k.mote.cpu.r,
+        sreg: k.mote.cpu.sreg,
+        sp: k.mote.sram.vsp(),
+        pc: at,
+    };
+    foreign_word(&k.part, &k.mote.devices, &instr, &core)
+}
+
+/// MEM, which may read, and PUSHRET: the instruction is executed, and the template goes on behind the descriptor.
 fn resume(k: &mut Kernel, at: u16) -> Served
     requires at { at ≡ descriptor_of k.old }
     requires called { IsCalled k.old }
@@ -242,7 +278,7 @@ fn called_instruction(k: &Kernel, at: u16) -> Instr
     ensures value { instruction k.now ≡ Some result }
     ensures executed { is_executed result ≡ true }
 {
-    instruction_in_image(&k.mote.flash, &k.layout, at).unwrap()
+    known_instruction(&k.mote.flash, &k.layout, at)
 }
 
 /// Whether the program has interrupts on.

@@ -1,4 +1,3 @@
 -- Laws of what the tests set up.
-mod TestPage
-mod WorkedPage
 mod PagedLaws
+mod WorkedRuns

@@ -1,12 +1,9 @@
-//! Tests of the public calls of the crates from the rewriter to the run. Each file has one subject.
+//! Tests of the public calls of the crates from the rewriter's templates to the run, but for the code pool. Each file has
+//! one subject.
 #![tactic(auto)]
 
 #[cfg(test)]
-mod arrivals;
-#[cfg(test)]
 mod crossings;
-#[cfg(test)]
-mod flash_checks;
 #[cfg(test)]
 mod generated;
 #[cfg(test)]
@@ -14,20 +11,12 @@ mod guarded_memory;
 #[cfg(test)]
 mod heap;
 #[cfg(test)]
-mod page_maps;
-#[cfg(test)]
-mod pool_pages;
-#[cfg(test)]
-mod recycling;
-#[cfg(test)]
-mod runs;
-#[cfg(test)]
 mod services;
 #[cfg(test)]
-mod support;
-#[cfg(test)]
-mod tables;
+mod tasks;
 #[cfg(test)]
 mod templates;
 #[cfg(test)]
 mod texts;
+#[cfg(test)]
+mod turns;

@@ -1,13 +1,13 @@
 //! Calls of the kernel's entries.
 
-ghost use Rattle.std.specs.Prelude.{◌≡◌, ◌≤◌, IfOk, true};
+ghost use Rattle.std.specs.Prelude.{◌≡◌, ◌<◌, ◌≤◌, ◌^◌, IfOk, true};
 ghost use Rattle.heap_frames.specs.Paged.{IsPaged};
 ghost use Rattle.kernel_entry.specs.Conditions.{CanServe, shape_behind};
 ghost use Rattle.kernel_entry.specs.Parts.{descriptor as called_address};
 
 use flash_model::Layout;
-use kernel_entry::{Kernel, Served, Stop, serve};
-use mem_guard::instruction_in_image;
+use kernel_entry::{Kernel, Served, Stop, Taken, interrupt, serve};
+use mem_guard::{Part, instruction_in_image};
 use mote_core::Mote;
 use nat_template::{TemplateShape, shape};
 use std::process::Abort;
@@ -50,11 +50,16 @@ fn kernel_at_boot(rt: &HostRuntime, slots: u8) -> Result<Kernel, Fail>
     requires { slots ≤ 251 }
     ensures paged { IfOk result (λ k. IsPaged k.mote.sram k.mote.swap) }
 {
-    let script = input_script::read(rt.alloc(), b"")?;
+    let script = input_script::read(rt.alloc(), b"at 7 int 5\nat 7 int 2")?;
     let mote = Mote::new(rt.alloc(), &IMAGE, script, slots)?;
     Ok(Kernel {
         mote,
         layout: Layout::of(64),
+        part: Part {
+            first: 0,
+            count: 64,
+            shut: false,
+        },
         quantum: 3,
     })
 }
@@ -132,6 +137,27 @@ fn served(rt: &impl Abort, k: &mut Kernel, call: Call) -> Served
     k.mote.sram.set_vsp(call.sp);
     assert!(rt; may_serve(k));
     serve(k)
+}
+
+/// Whether the devices' count of polls is far from its end, and the program's vectors are in flash.
+fn may_take(k: &Kernel) -> bool
+    ensures left { result ≡ true → k.now.mote.devices.polls < 2 ^ 63 }
+    ensures low { result ≡ true → k.now.part.first < 65520 }
+{
+    if k.mote.devices.polls() >= 1000 {
+        return false;
+    }
+    k.part.first < 1000
+}
+
+/// Sets the program's stack pointer, and takes an interrupt, where one is wanted, before the target.
+fn taken(rt: &impl Abort, k: &mut Kernel, target: u16, sp: u16) -> Taken
+    requires paged { IsPaged k.old.mote.sram k.old.mote.swap }
+    ensures paged { IsPaged k.new.mote.sram k.new.mote.swap }
+{
+    assert!(rt; may_take(k));
+    k.mote.sram.set_vsp(sp);
+    interrupt(k, target)
 }
 
 /// The program's stack pointer and SREG, and COUNT.
@@ -221,6 +247,53 @@ fn ends_and_steps_of_the_kernel(rt: HostRuntime) -> Result<(), Fail> {
         is_served(&rt, &mut k, call, want, (0, sreg_after, count));
     }
     assert_eq!(rt; k.mote.cpu.r[24], 0x5A);
+    Ok(())
+}
+
+/// SLEEP with INT2 enabled goes on behind itself at poll 7, and INT2 is taken before INT5.
+#[test]
+fn an_interrupt_ends_a_sleep(rt: HostRuntime) -> Result<(), Fail> {
+    let mut k = kernel_at_boot(&rt, 0)?;
+    let call = Call {
+        entry: FAULT,
+        at: 8,
+        sp: 0x10FF,
+        sreg: 0x80,
+    };
+    is_served(
+        &rt,
+        &mut k,
+        call,
+        Served::Stopped(Stop::Asleep(8)),
+        (0x10FF, 0x80, 3),
+    );
+    assert_eq!(rt; taken(&rt, &mut k, 9, 0x10FF), Taken::Nothing);
+    assert_eq!(rt; k.mote.devices.polls(), 0);
+    assert_eq!(rt; k.mote.devices.write(0x59, 0x24), Ok(None));
+    is_served(
+        &rt,
+        &mut k,
+        call,
+        Served::Woke { target: 9 },
+        (0x10FF, 0x80, 3),
+    );
+    assert_eq!(rt;
+        (k.mote.devices.polls(), k.mote.devices.enabled()),
+        (7, 0x24)
+    );
+    assert_eq!(rt;
+        taken(&rt, &mut k, 9, 0x0D00),
+        Taken::Stopped(Stop::Stack(9, 0x0CFF))
+    );
+    assert_eq!(rt; left(&k), (0x0D00, 0x80, 3));
+    assert_eq!(rt; taken(&rt, &mut k, 0x1234, 0x10FF), Taken::Vector(6));
+    assert_eq!(rt; left(&k), (0x10FD, 0x00, 3));
+    assert_eq!(rt;
+        (k.mote.sram.byte(0x10FF), k.mote.sram.byte(0x10FE)),
+        (0x34, 0x12)
+    );
+    assert_eq!(rt; k.mote.devices.enabled(), 0x20);
+    assert_eq!(rt; taken(&rt, &mut k, 6, 0x10FD), Taken::Nothing);
     Ok(())
 }
 

@@ -13,8 +13,10 @@ use Rattle.avr_exec.specs.Execution.{exec_of, is_executed, finished}
 use Rattle.avr_exec.specs.Likeness.{over, Leaves}
 use Rattle.heap_frames.specs.Paged.{IsPaged}
 use Rattle.flash_model.specs.Layouts.{image_of}
+use Rattle.mem_guard.specs.declared.part.Part.{Part}
 use Rattle.mem_guard.specs.FlatSpace.{flat_calls}
-use Rattle.mem_guard.specs.FlatMachine.{Stops, Goes, tried, stepped, space_of, next_size, jumps_to_itself, end_at}
+use Rattle.mote_devices.specs.State.{stored, rampz_address}
+use Rattle.mem_guard.specs.FlatMachine.{word_asked, if_foreign, Stops, Goes, tried, stepped, space_of, next_size, jumps_to_itself, end_at}
 use Rattle.mem_guard.specs.Guarded.{Guarded, flat_of, state_of, program_of, guarded_calls}
 use Rattle.mem_guard.specs.Left.{IsKept, HeapAfter}
 use Rattle.mem_guard.proofs.MachineLaws.{tried_step}
@@ -48,29 +50,33 @@ executed_left result form cpu cpu' g next n paged outcome stop =
 abbrev counted : ℕ → Cpu → Cpu → ℕ
 counted crossings cpu cpu' = if is_crossing cpu.pc cpu'.pc then crossings + 1 else crossings
 
-same_space : (q : ℕ) (g : Guarded) (cpu : Cpu) (steps crossings : ℕ) → g.line ≡ None → space_of (program_of q g) (state_of g cpu steps crossings) ≡ flat_of g
-same_space q g cpu steps crossings none = ap (λ line. record (flat_of g) { line = line }) (sym none)
+same_space : (part : Part) (q : ℕ) (g : Guarded) (cpu : Cpu) (steps crossings : ℕ) → g.line ≡ None → space_of (program_of part q g) (state_of g cpu steps crossings) ≡ flat_of g
+same_space part q g cpu steps crossings none = ap (λ line. record (flat_of g) { line = line }) (sym none)
 
-step_tried : (q : ℕ) (g : Guarded) (cpu : Cpu) (steps crossings : ℕ) (form : Form) → IsPaged g.sram g.swap → g.line ≡ None
-    → instruction_at (image_of g.layout g.words) cpu.pc ≡ Some form → is_executed form ≡ true → jumps_to_itself cpu.pc form && not (has_bit cpu.sreg interrupts) ≡ false
-    → tried (program_of q g) (state_of g cpu steps crossings) ≡ stepped (state_of g cpu steps crossings) (over flat_of (exec_of guarded_calls form cpu g (next_size (image_of g.layout g.words) cpu.pc)))
-step_tried q g cpu steps crossings form paged none is runs goes =
+-- the instruction reads no word of the program that it may not
+abbrev pub ReadsOwn : Part → Guarded → Cpu → Form → Type 0
+ReadsOwn part g cpu form = if_foreign part (word_asked (stored g.devices rampz_address) (ask_of form cpu)) ≡ None
+
+step_tried : (part : Part) (q : ℕ) (g : Guarded) (cpu : Cpu) (steps crossings : ℕ) (form : Form) → IsPaged g.sram g.swap → g.line ≡ None
+    → instruction_at (image_of g.layout g.words) cpu.pc ≡ Some form → is_executed form ≡ true → ReadsOwn part g cpu form → jumps_to_itself cpu.pc form && not (has_bit cpu.sreg interrupts) ≡ false
+    → tried (program_of part q g) (state_of g cpu steps crossings) ≡ stepped (state_of g cpu steps crossings) (over flat_of (exec_of guarded_calls form cpu g (next_size (image_of g.layout g.words) cpu.pc)))
+step_tried part q g cpu steps crossings form paged none is runs own goes =
     let s = state_of g cpu steps crossings in
     let n = next_size (image_of g.layout g.words) cpu.pc in
-    tried_step (program_of q g) s form is runs goes
-    ∙ ap (λ space. stepped s (exec_of flat_calls form cpu space n)) (same_space q g cpu steps crossings none)
+    tried_step (program_of part q g) s form is runs own goes
+    ∙ ap (λ space. stepped s (exec_of flat_calls form cpu space n)) (same_space part q g cpu steps crossings none)
     ∙ ap (stepped s) (executed_alike form cpu g n paged)
 
-pub guarded_goes : (q : ℕ) (g next : Guarded) (cpu cpu' : Cpu) (steps crossings : ℕ) (form : Form) → IsPaged g.sram g.swap → g.line ≡ None
-    → instruction_at (image_of g.layout g.words) cpu.pc ≡ Some form → is_executed form ≡ true → jumps_to_itself cpu.pc form && not (has_bit cpu.sreg interrupts) ≡ false
+pub guarded_goes : (part : Part) (q : ℕ) (g next : Guarded) (cpu cpu' : Cpu) (steps crossings : ℕ) (form : Form) → IsPaged g.sram g.swap → g.line ≡ None
+    → instruction_at (image_of g.layout g.words) cpu.pc ≡ Some form → is_executed form ≡ true → ReadsOwn part g cpu form → jumps_to_itself cpu.pc form && not (has_bit cpu.sreg interrupts) ≡ false
     → exec_of guarded_calls form cpu g (next_size (image_of g.layout g.words) cpu.pc) ≡ Went cpu' next
-    → tried (program_of q g) (state_of g cpu steps crossings) ≡ Goes next.line (state_of next cpu' (steps + 1) (counted crossings cpu cpu'))
-guarded_goes q g next cpu cpu' steps crossings form paged none is runs goes went =
-    step_tried q g cpu steps crossings form paged none is runs goes ∙ ap (λ o. stepped (state_of g cpu steps crossings) (over flat_of o)) went
+    → tried (program_of part q g) (state_of g cpu steps crossings) ≡ Goes next.line (state_of next cpu' (steps + 1) (counted crossings cpu cpu'))
+guarded_goes part q g next cpu cpu' steps crossings form paged none is runs own goes went =
+    step_tried part q g cpu steps crossings form paged none is runs own goes ∙ ap (λ o. stepped (state_of g cpu steps crossings) (over flat_of o)) went
 
-pub guarded_stops : (q : ℕ) (g : Guarded) (cpu : Cpu) (steps crossings : ℕ) (form : Form) (stop : BusStop) → IsPaged g.sram g.swap → g.line ≡ None
-    → instruction_at (image_of g.layout g.words) cpu.pc ≡ Some form → is_executed form ≡ true → jumps_to_itself cpu.pc form && not (has_bit cpu.sreg interrupts) ≡ false
+pub guarded_stops : (part : Part) (q : ℕ) (g : Guarded) (cpu : Cpu) (steps crossings : ℕ) (form : Form) (stop : BusStop) → IsPaged g.sram g.swap → g.line ≡ None
+    → instruction_at (image_of g.layout g.words) cpu.pc ≡ Some form → is_executed form ≡ true → ReadsOwn part g cpu form → jumps_to_itself cpu.pc form && not (has_bit cpu.sreg interrupts) ≡ false
     → exec_of guarded_calls form cpu g (next_size (image_of g.layout g.words) cpu.pc) ≡ Stopped stop
-    → tried (program_of q g) (state_of g cpu steps crossings) ≡ Stops (end_at cpu.pc stop)
-guarded_stops q g cpu steps crossings form stop paged none is runs goes stopped =
-    step_tried q g cpu steps crossings form paged none is runs goes ∙ ap (λ o. stepped (state_of g cpu steps crossings) (over flat_of o)) stopped
+    → tried (program_of part q g) (state_of g cpu steps crossings) ≡ Stops (end_at cpu.pc stop)
+guarded_stops part q g cpu steps crossings form stop paged none is runs own goes stopped =
+    step_tried part q g cpu steps crossings form paged none is runs own goes ∙ ap (λ o. stepped (state_of g cpu steps crossings) (over flat_of o)) stopped

@@ -3,6 +3,8 @@ mod WorkedRows
 mod WorkedPrograms
 pub mod MachineLaws
 pub mod RunLaws
+pub mod PartLaws
+mod WorkedParts
 pub mod ImageLaws
 mod ClassLaws
 mod HeapLaws
@@ -11,5 +13,6 @@ pub mod Leaves
 pub mod LineLaws
 pub mod FlatCalls
 pub mod GuardedStep
+pub mod ReadLaws
 pub mod AtReset
 pub mod DeviceAnswers

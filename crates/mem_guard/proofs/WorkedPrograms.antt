@@ -69,7 +69,7 @@ record Programs : Type 0 where
   never_woken : worked 16 (original (program 128 (0xC003 ∷ 0x0000 ∷ 0xBB0B ∷ 0x9518 ∷ 0xE100 ∷ 0xBF0E ∷ 0xEF0F ∷ 0xBF0D ∷ 0xE001 ∷ 0xBF09 ∷ 0x9478 ∷ 0x9588 ∷ 0x94F8 ∷ 0xCFFF ∷ [])) [] 1000000)
       ≡ record { end = Asleep 0x0B; lines = []; steps = 8; crossings = 0; pc = 0x0B; sp = 0x10FF; register = 0x01 }
   -- a loop of polls, with a checkpoint at each crossing: INT0 is taken at the second
-  interrupted_loop : worked 16 (original (record { image = (0xC003 ∷ 0x0000 ∷ 0xBB0B ∷ 0xCFFF ∷ 0xE100 ∷ 0xBF0E ∷ 0xEF0F ∷ 0xBF0D ∷ 0xE001 ∷ 0xBF09 ∷ 0x9478 ∷ 0xB319 ∷ 0xCFFE ∷ []); page_limit = 128; quantum = 1 }) (record { at = 2; input = Int 0 } ∷ []) 1000000)
+  interrupted_loop : worked 16 (original (record (program 128 (0xC003 ∷ 0x0000 ∷ 0xBB0B ∷ 0xCFFF ∷ 0xE100 ∷ 0xBF0E ∷ 0xEF0F ∷ 0xBF0D ∷ 0xE001 ∷ 0xBF09 ∷ 0x9478 ∷ 0xB319 ∷ 0xCFFE ∷ [])) { quantum = 1 }) (record { at = 2; input = Int 0 } ∷ []) 1000000)
       ≡ record { end = Halted 3; lines = record { port = PortA; value = 0x01 } ∷ []; steps = 14; crossings = 2; pc = 3; sp = 0x10FD; register = 0x01 }
   -- IJMP
   indirect : worked 30 (original (program 128 (0xE0E4 ∷ 0xE0F0 ∷ 0x9409 ∷ 0x0000 ∷ 0xCFFF ∷ [])) [] 1000000) ≡ record { end = Halted 4; lines = []; steps = 3; crossings = 0; pc = 4; sp = 0; register = 4 }

@@ -15,11 +15,11 @@ use Rattle.mote_devices.specs.Registers.{register_at}
 use Rattle.mote_devices.specs.Accesses.{write, read}
 use Rattle.mem_guard.specs.Classes.{class_of}
 use Rattle.mem_guard.specs.FlatSpace.{load, store, push, pop, push_return, pop_return}
-use Rattle.mem_guard.specs.FlatMachine.{Program, End, Spent, Wild, Illegal, SelfProgram, Asleep, Halted, Io, Stack, SwapFull, Run, original, run, next_of, tried, no_pages}
+use Rattle.mem_guard.specs.FlatMachine.{Program, whole_part, End, Spent, Wild, Illegal, SelfProgram, Asleep, Halted, Io, Stack, SwapFull, Run, original, run, next_of, tried, no_pages}
 
 -- a program of these words that may store to as many pages
 abbrev pub program : ℕ → List ℕ → Program
-program page_limit image = record { image = image; page_limit = page_limit; quantum = 255 }
+program page_limit image = record { image = image; part = whole_part image; page_limit = page_limit; quantum = 255 }
 
 -- What a run comes to: its end and its lines, the steps and crossings done, and where the core then stands,
 -- with one of its registers.

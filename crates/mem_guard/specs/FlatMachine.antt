@@ -1,33 +1,50 @@
 -- The original program, run as it stands: its own words, one after another, over flat memory.
 -- AVR Instruction Set Manual, "Operation" of each instruction; docs/MEMORY.md has the order of the stops.
-use Rattle.std.specs.Prelude.{ℕ, zero, suc, ◌+◌, ◌*◌, ◌%◌, Bool, true, false, not, ◌&&◌, ◌==◌, if◌then◌else◌, List, [], ◌∷◌, Option, Some, None, replicate}
+use Rattle.std.specs.Prelude.{ℕ, zero, suc, ◌+◌, ◌*◌, ◌/◌, ◌%◌, Bool, true, false, not, ◌&&◌, ◌==◌, nat_le, nat_lt, if◌then◌else◌, List, [], ◌∷◌, length, Option, Some, None, replicate}
 use Rattle.input_script.specs.declared.input.Event.{Event}
 use Rattle.avr_isa.specs.declared.form.Form.{Form}
 use Rattle.avr_isa.specs.declared.form.Form.TheVariants.{Jmp, Rjmp, Sleep, Spm}
-use Rattle.avr_isa.specs.Image.{word, is_inside}
+use Rattle.avr_isa.specs.Image.{word}
 use Rattle.avr_isa.specs.Crossing.{is_crossing}
 use Rattle.avr_decode.specs.Decoding.{size_by_first_word}
 use Rattle.avr_decode.specs.Program.{instruction_at}
 use Rattle.std.specs.Int.{bit_at}
 use Rattle.avr_flags.specs.Status.{has_bit, with_bit, interrupts}
 use Rattle.avr_exec.specs.declared.cpu.Cpu.{Cpu}
+use Rattle.avr_exec.specs.declared.ask.Ask.{Ask}
+use Rattle.avr_exec.specs.declared.ask.Ask.TheVariants.{Program as ProgramAsk, ExtendedProgram as ExtendedAsk, ExtendedProgramRaising as RaisingAsk}
 use Rattle.avr_exec.specs.declared.stop.BusStop.{BusStop}
 use Rattle.avr_exec.specs.declared.stop.BusStop.TheVariants.{Io as IoStop, Stack as StackStop, SwapFull as FullStop}
 use Rattle.avr_exec.specs.Registers.{wrapping_sum, wrapping_difference, relative}
 use Rattle.avr_exec.specs.Spaces.{Outcome, Went, Stopped}
-use Rattle.avr_exec.specs.Execution.{exec_of}
+use Rattle.avr_exec.specs.Asks.{ask_of}
+use Rattle.avr_exec.specs.Execution.{exec_of, extended}
 use Rattle.mote_devices.specs.declared.line.Line.{Line}
 use Rattle.list_parts.specs.Lists.{zeros}
-use Rattle.mote_devices.specs.State.{State, at_reset as devices_at_reset}
+use Rattle.mote_devices.specs.State.{State, at_reset as devices_at_reset, stored, rampz_address}
 use Rattle.mote_devices.specs.Waking.{enabled, is_enabled, with_taken, wake}
+use Rattle.mem_guard.specs.declared.part.Part.{Part}
 use Rattle.mem_guard.specs.FlatSpace.{FlatSpace, flat_calls, push_return}
 
--- a program: its words from word 0 on, how many pages of the heap it may store to, and how many crossings make
--- a checkpoint
+-- all of an image is a program's own part
+abbrev pub whole_part : List ℕ → Part
+whole_part image = record { first = 0; count = length image; shut = false }
+
+-- the word address is the part's own
+abbrev pub is_own : Part → ℕ → Bool
+is_own part a = nat_le part.first a && nat_lt a (part.first + part.count)
+
+-- a program: the image from word 0 on and its own part of that, how many pages of the heap it may store to, and how
+-- many crossings make a checkpoint
 pub record Program : Type 0 where
   pub image : List ℕ
+  pub part : Part
   pub page_limit : ℕ
   pub quantum : ℕ
+
+-- the program runs its own words alone
+abbrev pub is_inside : Program → ℕ → Bool
+is_inside program pc = is_own program.part pc
 
 -- the core, a byte for each data address, the devices, which pages of the heap were stored to, the steps
 -- done, and how many of them were crossings
@@ -45,8 +62,8 @@ pub record Moment : Type 0 where
   pub now : FlatState
   pub due : Bool
 
--- How a run ends: the bound of steps is reached; the pc is outside the image; or the instruction at the
--- pc stops the program, the last three with a data address.
+-- How a run ends: the bound of steps is reached; the pc is outside the program's part; or the instruction at the
+-- pc stops the program, one with the word address that it would have read, the last three with a data address.
 pub data End : Type 0 where
   Spent : End
   Wild : (pc : ℕ) → End
@@ -54,6 +71,7 @@ pub data End : Type 0 where
   SelfProgram : (pc : ℕ) → End
   Asleep : (pc : ℕ) → End
   Halted : (pc : ℕ) → End
+  Read : (pc : ℕ) → (word : ℕ) → End
   Io : (pc : ℕ) → (address : ℕ) → End
   Stack : (pc : ℕ) → (address : ℕ) → End
   SwapFull : (pc : ℕ) → (address : ℕ) → End
@@ -127,12 +145,32 @@ slept_by s (Some devices) = Wakes (woken_with s devices)
 abbrev pub slept : FlatState → Tried
 slept s = if has_bit s.cpu.sreg interrupts then slept_by s (wake s.devices) else Stops (Asleep s.cpu.pc)
 
+-- the word address of the byte that LPM or ELPM reads
+abbrev pub word_asked : (rampz : ℕ) → Ask → Option ℕ
+word_asked rampz (ProgramAsk z) = Some (z / 2)
+word_asked rampz (ExtendedAsk z) = Some (extended rampz z / 2)
+word_asked rampz (RaisingAsk z) = Some (extended rampz z / 2)
+word_asked rampz _ = None
+
+-- .. where it may not be read
+abbrev pub if_foreign : Part → Option ℕ → Option ℕ
+if_foreign part None = None
+if_foreign part (Some a) = if part.shut && not (is_own part a) then Some a else None
+
+abbrev pub foreign_word : Program → FlatState → Form → Option ℕ
+foreign_word program s form = if_foreign program.part (word_asked (stored s.devices rampz_address) (ask_of form s.cpu))
+
+-- it stops the program; every other instruction is executed
+abbrev pub read_or_executed : Program → FlatState → Form → Option ℕ → Tried
+read_or_executed program s form (Some a) = Stops (Read s.cpu.pc a)
+read_or_executed program s form None = executed program s form
+
 -- an instruction, or none, at the pc
 abbrev pub tried_form : Program → FlatState → Option Form → Tried
 tried_form program s None = Stops (Illegal s.cpu.pc)
 tried_form program s (Some Spm) = Stops (SelfProgram s.cpu.pc)
 tried_form program s (Some Sleep) = slept s
-tried_form program s (Some form) = executed program s form
+tried_form program s (Some form) = read_or_executed program s form (foreign_word program s form)
 
 unfoldable pub tried : Program → FlatState → Tried
 tried program s = tried_form program s (instruction_at program.image s.cpu.pc)
@@ -154,9 +192,10 @@ lowest n =
     else if bit_at n 6 == 1 then 6
     else 7
 
--- the word address where the program answers INTk (ATmega128 datasheet, "Reset and Interrupt Vectors")
-abbrev pub vector : ℕ → ℕ
-vector k = 2 * (k + 1)
+-- the word address where the program answers INTk, at the front of its part (ATmega128 datasheet, "Reset and Interrupt
+-- Vectors")
+abbrev pub vector : Part → ℕ → ℕ
+vector part k = part.first + 2 * (k + 1)
 
 -- an interrupt is taken before the next instruction
 abbrev pub is_taken : Moment → Bool
@@ -164,11 +203,11 @@ is_taken m = m.due && (has_bit m.now.cpu.sreg interrupts && is_enabled m.now.dev
 
 -- INTk is taken: the pc is pushed as by a call, interrupts are off, INTk is no longer pending, and the program goes on at
 -- its vector. This is a step, and no crossing.
-abbrev pub interrupted_by : FlatState → ℕ → Outcome FlatSpace (Unit {0}) → Next
-interrupted_by s k (Stopped stop) = Ends (end_at s.cpu.pc stop)
-interrupted_by s k (Went done space) = On None (record {
+abbrev pub interrupted_by : Part → FlatState → ℕ → Outcome FlatSpace (Unit {0}) → Next
+interrupted_by part s k (Stopped stop) = Ends (end_at s.cpu.pc stop)
+interrupted_by part s k (Went done space) = On None (record {
   now = record {
-    cpu = record { r = s.cpu.r; sreg = with_bit s.cpu.sreg interrupts false; sp = wrapping_difference s.cpu.sp 2; pc = vector k };
+    cpu = record { r = s.cpu.r; sreg = with_bit s.cpu.sreg interrupts false; sp = wrapping_difference s.cpu.sp 2; pc = vector part k };
     memory = space.memory;
     devices = with_taken space.devices k;
     pages = space.pages;
@@ -180,7 +219,7 @@ interrupted_by s k (Went done space) = On None (record {
 
 -- the one with the least number
 abbrev pub interrupted : Program → FlatState → Next
-interrupted program s = interrupted_by s (lowest (enabled s.devices)) (push_return (space_of program s) s.cpu.sp s.cpu.pc)
+interrupted program s = interrupted_by program.part s (lowest (enabled s.devices)) (push_return (space_of program s) s.cpu.sp s.cpu.pc)
 
 -- a step is a checkpoint where it is a crossing, and the crossings are then a multiple of the quantum
 abbrev pub is_checkpoint : ℕ → FlatState → FlatState → Bool
@@ -214,9 +253,9 @@ abbrev pub followed : Moment → Next → (Moment → Run) → Run
 followed m (Ends end) rest = ended end m
 followed m (On line next) rest = with_line line (rest next)
 
--- outside the image the run ends at once
+-- outside the program's part the run ends at once
 abbrev pub if_inside : Program → Moment → Run → Run
-if_inside program m r = if is_inside program.image m.now.cpu.pc then r else ended (Wild m.now.cpu.pc) m
+if_inside program m r = if is_inside program m.now.cpu.pc then r else ended (Wild m.now.cpu.pc) m
 
 -- the run of at most n steps from a moment
 unfoldable pub run : Program → Moment → ℕ → Run
@@ -238,6 +277,10 @@ at_reset events = record {
   crossings = 0;
 }
 
+-- the same where a program begins, at the front of its part
+abbrev pub at_front : Program → List Event → Moment
+at_front program events = record { now = record (at_reset events) { cpu = record (at_reset events).cpu { pc = program.part.first } }; due = false }
+
 -- the original program's first n steps
 abbrev pub original : Program → List Event → ℕ → Run
-original program events n = run program (record { now = at_reset events; due = false }) n
+original program events n = run program (at_front program events) n

@@ -18,6 +18,7 @@ use Rattle.mote_devices.specs.State.{State, stored, with_stored, rampz_address}
 use Rattle.mote_devices.specs.Accesses.{Asked, read, write, modify as modify_device}
 use Rattle.mote_core.specs.DeviceAnswers.{read_answer, write_answer}
 use Rattle.mem_guard.specs.declared.address.AddrClass.{AddrClass}
+use Rattle.mem_guard.specs.declared.part.Part.{Part}
 use Rattle.mem_guard.specs.declared.address.AddrClass.TheVariants.{Stack, Heap}
 use Rattle.mem_guard.specs.Classes.{class_of}
 use Rattle.mem_guard.specs.FlatSpace.{FlatSpace}
@@ -33,9 +34,9 @@ pub record Guarded : Type 0 where
   pub layout : Layout
   pub line : Option Line
 
--- the program: as many pages of the heap may be stored to as there are slots
-abbrev pub program_of : ℕ → Guarded → Program
-program_of quantum g = record { image = image_of g.layout g.words; page_limit = length g.swap; quantum = quantum }
+-- the program of a part of the image: as many pages of the heap may be stored to as there are slots
+abbrev pub program_of : Part → ℕ → Guarded → Program
+program_of part quantum g = record { image = image_of g.layout g.words; part = part; page_limit = length g.swap; quantum = quantum }
 
 -- what the program sees of it: flat memory
 abbrev pub flat_of : Guarded → FlatSpace

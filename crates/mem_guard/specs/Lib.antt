@@ -2,6 +2,7 @@
 pub mod Classes
 pub mod FlatSpace
 pub mod FlatMachine
+pub mod Masked
 pub mod Guarded
 pub mod Readiness
 pub mod Bus

@@ -1,6 +1,6 @@
 //! The program's own words and instructions, read from flash.
 
-ghost use Rattle.std.specs.Prelude.{◌≡◌, ◌+◌, ◌%◌, ◌≤◌};
+ghost use Rattle.std.specs.Prelude.{◌≡◌, ◌+◌, ◌%◌, ◌<◌, ◌≤◌, ◌↔◌, IsTrue, true, Some as Just, is_some};
 ghost use Rattle.avr_isa.specs.Image.{word};
 ghost use Rattle.avr_decode.specs.Program.{instruction_at};
 ghost use Rattle.flash_model.specs.Layouts.{image_of};
@@ -18,13 +18,34 @@ pub fn instruction_in_image(flash: &Flash, layout: &Layout, at: u16) -> Option<I
     decode(first, word_behind(flash, layout, at))
 }
 
+/// The same at an address where the program has one. Inside the image it is the one that flash keeps decoded.
+pub fn known_instruction(flash: &Flash, layout: &Layout, at: u16) -> Instr
+    requires known { is_some (instruction_at (image_of layout.now flash.now.words) at) ≡ true }
+    ensures value { instruction_at (image_of layout.now flash.now.words) at ≡ Just result }
+{
+    if has_both_words(layout, at) {
+        return flash.decoded(at).instr;
+    }
+    instruction_in_image(flash, layout, at).unwrap()
+}
+
 /// How many words a skip at a word address passes, where its condition holds: the size of the instruction
 /// behind it, and 1 where there is none.
 pub fn next_size_in_image(flash: &Flash, layout: &Layout, at: u16) -> u16
     ensures value { result ≡ next_size (image_of layout.now flash.now.words) at }
     ensures range { (1 ≤ result) × (result ≤ 2) }
 {
+    if has_both_words(layout, at) {
+        return flash.decoded(at).next_size;
+    }
     size_by_first_word(word_behind(flash, layout, at))
+}
+
+/// Whether the words at an address and behind it are both in the image.
+fn has_both_words(layout: &Layout, at: u16) -> bool
+    ensures value { IsTrue result ↔ (at + 1 < layout.now.image_words) }
+{
+    u32::from(at) + 1 < u32::from(layout.image_words)
 }
 
 /// The word behind an address; behind the last address comes the first.

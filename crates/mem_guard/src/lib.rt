@@ -9,7 +9,9 @@
 //! exec(&instr, &mut cpu, &mut bus, next_size)?; // a stop says why, and changes nothing
 //! ```
 //!
-//! [`instruction_in_image`] and [`next_size_in_image`] read the program itself from flash.
+//! [`instruction_in_image`], [`known_instruction`] and [`next_size_in_image`] read the program itself from flash, and a
+//! [`Part`] says which words of the image are its own: all, or those of one of several programs. [`foreign_word`] tells
+//! what it would read outside.
 //!
 //! The machine that the program believes it runs on stands in `specs/FlatSpace` and `specs/FlatMachine`,
 //! in plain lists and numbers: its memory, one step, and a run with its end. `specs/Guarded` is what a
@@ -19,14 +21,17 @@
 //! Laws for the layers above: `proofs/MachineLaws` (a try in each case, and what a run does first),
 //! `proofs/Alike`, `proofs/Leaves` and `proofs/LineLaws` (every call and every instruction),
 //! `proofs/GuardedStep` (an instruction executed over the guarded space is the original program's step),
-//! and `proofs/ImageLaws` (the program's instructions as flash has them).
+//! `proofs/ImageLaws` (the program's instructions as flash has them), and `proofs/PartLaws` (a program that is shut in a part
+//! runs as over its own words alone, `specs/Masked`).
 #![tactic(auto)]
 
 mod address;
 mod image;
+mod part;
 mod parts;
 mod virtual_bus;
 
 pub use address::{AddrClass, class};
-pub use image::{instruction_in_image, next_size_in_image};
+pub use image::{instruction_in_image, known_instruction, next_size_in_image};
+pub use part::{Part, foreign_word};
 pub use virtual_bus::VirtualBus;

@@ -25,24 +25,29 @@ use Rattle.nat_page.proofs.FaithfulLaws.{faithful_mapped}
 uncounted : (from to : ℕ) → from < to → to / 128 ≡ from / 128 → is_crossing from to ≡ false
 uncounted from to forward paged = grind (arith, nat_tests)
 
--- the links of the template of instruction i, and of the closing, are links of a page of the pool
-links_in : (layout : Layout) (image words : List ℕ) (page t last i : ℕ) → IsPool layout page → HoldsRun (IsEntry layout words) image words page t last
-    → i ≤ last → EachLink (IsLinkIn layout image words) (page_words * page + place_in_page image t (suc last) i)
-    (template_at image (address image t i)) × EachLink (IsLinkIn layout image words)
+-- an entry of an address of the run is one where its links may lead
+abbrev pub OwnLead : (leads : ℕ → ℕ → Type 0) (layout : Layout) (image words : List ℕ) (t last : ℕ) → Type 0
+OwnLead leads layout image words t last = (i v : ℕ) → i ≤ last → IsEntry layout words (address image t i) v → leads (address image t i) v
+
+-- each link of the page's run is one of `links`
+abbrev pub OwnLink : (links : ℕ → ℕ → Type 0) (image : List ℕ) (page t last : ℕ) → Type 0
+OwnLink links image page t last = (s to : ℕ) → IsLinkOf (page_pieces image t last) (page_words * page) s to → links s to
+
+-- so are those of the template of instruction i, and of the closing
+links_in : (links : ℕ → ℕ → Type 0) (image : List ℕ) (page t last i : ℕ) → OwnLink links image page t last
+    → i ≤ last → EachLink links (page_words * page + place_in_page image t (suc last) i)
+    (template_at image (address image t i)) × EachLink links
     (page_words * page + (2 + suc last + size (templates image t (suc last)))) (closing_at image (address image t last))
-links_in layout image words page t last i pool holds near =
+links_in links image page t last i each near =
     let own : ℕ → ℕ → Type 0 = λ s to. IsLinkOf (page_pieces image t last) (page_words * page) s to in
-    let all : ℕ → ℕ → Type 0 = λ s to. IsLinkIn layout image words s to in
-    let each : (s to : ℕ) → own s to → all s to = λ s to link. record { page = page; pool = pool; first = t; last = last; holds = holds; link = link } in
     let both = page_links image (page_words * page) t last i near in
-    (each_link_more own all (page_words * page + place_in_page image t (suc last) i) (template_at image (address image t i)) each both.0, each_link_more own all (page_words * page + (2 + suc last + size (templates image t (suc last)))) (closing_at image (address image t last)) each both.1)
+    (each_link_more own links (page_words * page + place_in_page image t (suc last) i) (template_at image (address image t i)) each both.0, each_link_more own links (page_words * page + (2 + suc last + size (templates image t (suc last)))) (closing_at image (address image t last)) each both.1)
 
 -- instruction i of a page that isn't its last
-next_in : (layout : Layout) (image words : List ℕ) (page t last i : ℕ) → length image ≤ 24576 → IsMapped layout words → IsPool layout page
-    → HoldsRun (IsEntry layout words) image words page t last → i < last
-    → HasNext (IsEntry layout words) layout image words (address image t i) (page_words * page + place_in_page image t (suc last) i)
-next_in layout image words page t last i short mapped pool holds before =
-    let leads : ℕ → ℕ → Type 0 = λ a v. IsEntry layout words a v in
+next_in : (leads : ℕ → ℕ → Type 0) (layout : Layout) (image words : List ℕ) (page t last i : ℕ) → length image ≤ 24576 → IsMapped layout words → IsPool layout page
+    → HoldsRun leads image words page t last → OwnLead leads layout image words t last → i < last
+    → HasNext leads layout image words (address image t i) (page_words * page + place_in_page image t (suc last) i)
+next_in leads layout image words page t last i short mapped pool holds own before =
     let a = address image t i in
     let v = page_words * page + place_in_page image t (suc last) i in
     let more = size-templates image t i in
@@ -51,24 +56,22 @@ next_in layout image words page t last i short mapped pool holds before =
     let range' = place_range leads image words page t last (suc i) holds (omega arith) in
     let there = place_held leads image words page t last i holds (omega arith) in
     let there' = place_held leads image words page t last (suc i) holds (omega arith) in
-    let Entry : ℕ → Type 0 = λ place. IsEntry layout words (next_of image a) place in
+    let Entry : ℕ → Type 0 = λ place. leads (next_of image a) place in
     let Alone : ℕ → ℕ → Type 0 = λ from to. HasNoPlace layout words from to in
     let alone = between_entries layout words page i mapped (map_held leads image words page t last short holds) (omega (arith, count_held leads image words page t last holds)) in
     record {
-      entry = subst Entry next (record { page = page; index = suc i; pool = pool; lists = lists_held leads image words page t last (suc i) short holds (omega arith) });
+      entry = subst Entry next (own (suc i) (page_words * page + place_in_page image t (suc last) (suc i)) (omega arith) (record { page = page; index = suc i; pool = pool; lists = lists_held leads image words page t last (suc i) short holds (omega arith) }));
       uncounted = uncounted a (next_of image a) (address-rises image t i (suc i) (omega arith)) (holds.run.paged (suc i) (omega arith) ∙ sym (holds.run.paged i (omega arith)));
       fits = omega arith;
       alone = subst (Alone v) (there' ∙ next) (subst (λ (from : ℕ). Alone from (place_of words page (suc i))) there alone);
     }
 
 -- the last instruction of a page
-last_in : (layout : Layout) (image words : List ℕ) (page t last : ℕ) → length image ≤ 24576 → IsMapped layout words → IsPool layout page
-    → HoldsRun (IsEntry layout words) image words page t last
-    → IsLast (IsEntry layout words) (IsLinkIn layout image words) layout image words (address image t last)
+last_in : (leads links : ℕ → ℕ → Type 0) (layout : Layout) (image words : List ℕ) (page t last : ℕ) → length image ≤ 24576 → IsMapped layout words → IsPool layout page
+    → HoldsRun leads image words page t last → OwnLink links image page t last
+    → IsLast leads links layout image words (address image t last)
     (page_words * page + place_in_page image t (suc last) last)
-last_in layout image words page t last short mapped pool holds =
-    let leads : ℕ → ℕ → Type 0 = λ a v. IsEntry layout words a v in
-    let links : ℕ → ℕ → Type 0 = λ s to. IsLinkIn layout image words s to in
+last_in leads links layout image words page t last short mapped pool holds each =
     let a = address image t last in
     let v = page_words * page + place_in_page image t (suc last) last in
     let more = size-templates image t last in
@@ -84,18 +87,17 @@ last_in layout image words page t last short mapped pool holds =
     let alone = behind_last layout words page last mapped (map_held leads image words page t last short holds) (sym (count_held leads image words page t last holds)) in
     record {
       closing = subst Closing place (parts_of leads image words (page_words * page) t last holds.stands).closing;
-      linked = subst Linked place (links_in layout image words page t last last pool holds (omega arith)).1;
+      linked = subst Linked place (links_in links image page t last last each (omega arith)).1;
       fits = omega arith;
       alone = subst (Alone v) end (subst (λ (from : ℕ). Alone from (page_words * page + page_words)) there alone);
     }
 
--- at each entry of a page that holds a run, whatever the other pages hold
-pub entry_stands : (layout : Layout) (image words : List ℕ) (page t last i a v : ℕ) → length image ≤ 24576 → IsMapped layout words
-    → IsPool layout page → HoldsRun (IsEntry layout words) image words page t last → Lists words page i a v
-    → StandsIn (IsEntry layout words) (IsLinkIn layout image words) layout image words a v
-entry_stands layout image words page t last i a v short mapped pool holds lists =
-    let leads : ℕ → ℕ → Type 0 = λ a v. IsEntry layout words a v in
-    let links : ℕ → ℕ → Type 0 = λ s to. IsLinkIn layout image words s to in
+-- at each entry of a page that holds a run, whatever the other pages hold: its links lead where `leads` allows,
+-- the entries of the run's own addresses among it, and are among `links`
+pub stands_by : (leads links : ℕ → ℕ → Type 0) (layout : Layout) (image words : List ℕ) (page t last i a v : ℕ) → length image ≤ 24576 → IsMapped layout words
+    → IsPool layout page → HoldsRun leads image words page t last → OwnLead leads layout image words t last
+    → OwnLink links image page t last → Lists words page i a v → StandsIn leads links layout image words a v
+stands_by leads links layout image words page t last i a v short mapped pool holds own_leads each lists =
     let held = held_listed leads image words page t last i a v holds lists in
     let near : i ≤ last = held.near in
     let range = place_range leads image words page t last i holds near in
@@ -109,16 +111,23 @@ entry_stands layout image words page t last i a v short mapped pool holds lists 
       pool = subst Pool own pool;
       place = (here, record { page = page; index = i; pool = pool; lists = lists_held leads image words page t last i short holds near });
       template = template_stands leads image words page t last i holds near;
-      linked = (links_in layout image words page t last i pool holds near).0;
+      linked = (links_in links image page t last i each near).0;
       behind = elim (cases_lt i last) [
-        | inl before ↦ Behind.Next (next_in layout image words page t last i short mapped pool holds before)
+        | inl before ↦ Behind.Next (next_in leads layout image words page t last i short mapped pool holds own_leads before)
         | inr same ↦ (
             let last_one : last ≡ i = omega arith in
             let Closed : ℕ → Type 0 = λ k. IsLast leads links layout image words (address image t k) (page_words * page + place_in_page image t (suc last) k) in
-            Behind.Closed (subst Closed last_one (last_in layout image words page t last short mapped pool holds)))
+            Behind.Closed (subst Closed last_one (last_in leads links layout image words page t last short mapped pool holds each)))
       ];
     } in
     subst (All a) (sym held.place) (subst (λ (pc : ℕ). All pc there) (sym held.address) at_i)
+
+pub entry_stands : (layout : Layout) (image words : List ℕ) (page t last i a v : ℕ) → length image ≤ 24576 → IsMapped layout words
+    → IsPool layout page → HoldsRun (IsEntry layout words) image words page t last → Lists words page i a v
+    → StandsIn (IsEntry layout words) (IsLinkIn layout image words) layout image words a v
+entry_stands layout image words page t last i a v short mapped pool holds lists =
+    stands_by (IsEntry layout words) (IsLinkIn layout image words) layout image words page t last i a v short mapped pool holds (λ j w near entry. entry)
+    (λ s to link. record { page = page; pool = pool; first = t; last = last; holds = holds; link = link }) lists
 
 -- at each entry of a pool that holds code
 pub entry_law : (layout : Layout) (image words : List ℕ) (a v : ℕ) → IsRight layout → IsFaithful layout image words → IsEntry layout words a v → StandsIn (IsEntry layout words) (IsLinkIn layout image words) layout image words a v

@@ -27,7 +27,7 @@ pub record KeepsRun (layout : Layout) (image words words' : List ℕ) (page t la
   pub new : HoldsRun (IsEntry layout words) image words' page t last
 
 -- a page lists the same where it holds the same run
-lists_again : (leads leads' : ℕ → ℕ → Type 0) (image words words' : List ℕ) (page t last i a v : ℕ) → length image ≤ 24576 → HoldsRun leads image words page t last → HoldsRun leads' image words' page t last → Lists words page i a v → Lists words' page i a v
+pub lists_again : (leads leads' : ℕ → ℕ → Type 0) (image words words' : List ℕ) (page t last i a v : ℕ) → length image ≤ 24576 → HoldsRun leads image words page t last → HoldsRun leads' image words' page t last → Lists words page i a v → Lists words' page i a v
 lists_again leads leads' image words words' page t last i a v short holds holds' lists =
     let held = held_listed leads image words page t last i a v holds lists in
     let there = lists_held leads' image words' page t last i short holds' held.near in

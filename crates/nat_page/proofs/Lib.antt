@@ -15,6 +15,7 @@ pub mod MadeLaws
 pub mod TwoWords
 pub mod KeptLaws
 pub mod RelinkLaws
+pub mod PartLaws
 pub mod UsedLaws
 mod PageWords
 mod OnePage

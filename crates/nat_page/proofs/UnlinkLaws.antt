@@ -65,7 +65,7 @@ two_alike words words' s x first second long inside same = elim (cases_eq x s) [
   ]
 ]
 
-calls_alike : (words words' stubs : List ℕ) (x : ℕ) → length words ≡ length words' → Each (λ s. s + 1 < length words) stubs → word_at words x ≡ word_at words' x → word_at (with_calls words stubs) x ≡ word_at (with_calls words' stubs) x
+pub calls_alike : (words words' stubs : List ℕ) (x : ℕ) → length words ≡ length words' → Each (λ s. s + 1 < length words) stubs → word_at words x ≡ word_at words' x → word_at (with_calls words stubs) x ≡ word_at (with_calls words' stubs) x
 calls_alike words words' [] x long inside same = same
 calls_alike words words' (s ∷ stubs) x long inside same =
     let long' = length-with_two_words words s call_word bridge_entry in
@@ -74,7 +74,7 @@ calls_alike words words' (s ∷ stubs) x long inside same =
     calls_alike (with_two_words words s call_word bridge_entry) (with_two_words words' s call_word bridge_entry) stubs x (long' ∙ long ∙ sym long'') (subst P (sym long') inside.1) (two_alike words words' s x call_word bridge_entry long inside.0 same)
 
 -- the links lie among the pieces
-abbrev Among : (a end s : ℕ) → Type 0
+abbrev pub Among : (a end s : ℕ) → Type 0
 Among a end s = (a ≤ s) × (s + 3 ≤ end)
 
 among_more : (a a' end end' : ℕ) (stubs : List ℕ) → a' ≤ a → end ≤ end' → Each (Among a end) stubs → Each (Among a' end') stubs
@@ -94,13 +94,13 @@ links_among words test a (Link t ∷ pieces) =
     let P : Bool → Type 0 = λ b. Each (Among a (a + size (Link t ∷ pieces))) (if b then a ∷ links_where words test (a + 3) pieces else links_where words test (a + 3) pieces) in
     by_test (is_picked words test a t) P ((omega arith, omega arith), rest) rest
 
-beside_below : (a end x : ℕ) (stubs : List ℕ) → x < a → Each (Among a end) stubs → Each (Beside x) stubs
+pub beside_below : (a end x : ℕ) (stubs : List ℕ) → x < a → Each (Among a end) stubs → Each (Beside x) stubs
 beside_below a end x [] below all = tt
 beside_below a end x (s ∷ stubs) below all =
     let first = all.0.0 in
     ((λ is. omega arith, λ is. omega arith), beside_below a end x stubs below all.1)
 
-beside_above : (a end x : ℕ) (stubs : List ℕ) → end ≤ x → Each (Among a end) stubs → Each (Beside x) stubs
+pub beside_above : (a end x : ℕ) (stubs : List ℕ) → end ≤ x → Each (Among a end) stubs → Each (Beside x) stubs
 beside_above a end x [] above all = tt
 beside_above a end x (s ∷ stubs) above all =
     let last = all.0.1 in

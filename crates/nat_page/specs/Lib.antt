@@ -4,6 +4,7 @@ pub mod Runs
 pub mod CodePages
 pub mod Links
 pub mod Entered
+pub mod Parts
 pub mod Faithful
 pub mod Making
 pub mod Used

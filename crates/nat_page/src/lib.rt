@@ -36,6 +36,7 @@ mod unlinking;
 mod words;
 
 pub use making::{NatStop, Prepared, naturalise, prepare};
+pub use pieces::{size, width};
 pub use remaking::remade;
 pub use unlinking::{
     LeadsInto, LinkTest, Unlinked, may_have_stubs_into, page_words, without_links,

@@ -11,8 +11,8 @@ use nat_template::Piece;
 /// CALL of the kernel's bridge.
 pub(crate) const CALL_BRIDGE: [u16; 2] = [0x940E, 0xF000];
 
-/// How many words the pieces have.
-pub(crate) fn size(pieces: &[Piece]) -> u16
+/// How many words the pieces have, each link unresolved or resolved: one for a fixed word, three for a link.
+pub fn size(pieces: &[Piece]) -> u16
     requires small { length pieces.now ≤ 128 }
     ensures value { result ≡ size_of pieces.now }
 {
@@ -24,7 +24,7 @@ pub(crate) fn size(pieces: &[Piece]) -> u16
 }
 
 /// How many words a piece has.
-pub(crate) fn width(piece: Piece) -> u16
+pub fn width(piece: Piece) -> u16
     ensures value { result ≡ width_of piece }
 {
     match piece {

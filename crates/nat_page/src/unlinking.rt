@@ -3,6 +3,7 @@
 ghost use Rattle.std.specs.Prelude.{◌≡◌, ◌+◌, ◌*◌, ◌/◌, ◌%◌, ◌<◌, ◌≤◌, [], true, false, length};
 ghost use Rattle.flash_model.specs.Pages.{page_of};
 ghost use Rattle.flash_model.specs.Layouts.{IsRight, image_of};
+ghost use Rattle.flash_model.specs.Memory.{IsWhole};
 ghost use Rattle.nat_template.specs.Stubs.{call_word, bridge_entry};
 ghost use Rattle.page_index.specs.Maps.{IsPool};
 ghost use Rattle.nat_page.specs.Standing.{size};
@@ -145,6 +146,7 @@ fn unlink_one<L: LinkTest>(
 pub fn page_words(flash: &Flash, page: u16) -> [u16; 128]
     requires page { page < 512 }
     ensures words { result ≡ page_of flash.now.words page }
+    ensures whole { IsWhole flash.now }
 {
     let mut words = [0; 128];
     'words: for k in 0..PAGE_WORDS {

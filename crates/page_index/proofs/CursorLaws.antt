@@ -150,5 +150,5 @@ reached_found layout words (Some t) address place s is entry at stretch =
     let same : t ≡ address = cc in
     record {
       entry = λ some. let P : ℕ → Type 0 = λ a. IsEntry layout words a s.place in subst P same (subst (λ (v : ℕ). IsEntry layout words t v) (sym at) entry);
-      stretch = stretch;
+      stretch = λ some. stretch;
     }

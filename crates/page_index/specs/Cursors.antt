@@ -21,10 +21,10 @@ pub record IsStretch (layout : Layout) (words : List ℕ) (s : Stretch) : Type 0
   pub listed : s.listed ≢ 0 → IsListed layout words s.listed s.next
 
 -- an entry that was reached: its address is right, and so is the stretch that begins at its place; place 0 is
--- none that was reached
+-- none that was reached, whatever the rest says
 pub record IsReached (layout : Layout) (words : List ℕ) (r : Reached) : Type 0 where
   pub entry : r.stretch.place ≢ 0 → IsEntry layout words r.address r.stretch.place
-  pub stretch : IsStretch layout words r.stretch
+  pub stretch : r.stretch.place ≢ 0 → IsStretch layout words r.stretch
 
 -- the cursor's stretch, and all that it keeps
 pub record IsCursor (layout : Layout) (words : List ℕ) (c : Cursor) : Type 0 where

@@ -9,7 +9,7 @@ use crate::stretch::Stretch;
 use flash_model::{Flash, Layout};
 
 /// How many entries are kept.
-const KEPT: usize = 256;
+const KEPT: usize = 1024;
 
 /// An entry that control has reached.
 #[derive(Clone, Copy, Debug)]
@@ -23,13 +23,13 @@ struct Reached {
 /// Where the last search was, and how far behind it no other entry begins; and entries that were reached
 /// before, by the last bits of their places. [`Cursor::origin`] answers as [`origin`] does: without a search
 /// inside a template, where control goes on to the next entry of the page, and at an entry that is kept. A
-/// cursor is right for one state of flash; where flash has changed, begin with a new one.
+/// cursor is right for one state of flash; where flash has changed, let it forget.
 ///
 /// [`origin`]: crate::origin
 #[derive(Clone, Copy, Debug)]
 pub struct Cursor {
     stretch: Stretch,
-    reached: [Reached; 256],
+    reached: [Reached; 1024],
 }
 
 impl Cursor {
@@ -43,7 +43,17 @@ impl Cursor {
         };
         Cursor {
             stretch: Stretch::new(),
-            reached: [none; 256],
+            reached: [none; 1024],
+        }
+    }
+
+    /// Forgets all that it knows, in less time than a new one is made.
+    pub fn forget(&mut self)
+        ensures right { IsCursorAnywhere self.new }
+    {
+        self.stretch = Stretch::new();
+        'entries: for i in 0..KEPT {
+            self.reached[i].stretch.place = 0;
         }
     }
 
@@ -92,7 +102,7 @@ impl Cursor {
 /// Which of those that are kept an entry at this place is.
 #[inline(always)]
 fn slot(place: u16) -> usize
-    ensures range { result < 256 }
+    ensures range { result < 1024 }
 {
     place as usize % KEPT
 }

@@ -25,7 +25,7 @@ use Rattle.nat_page.proofs.HeldLaws.{map_held}
 use Rattle.nat_page.proofs.FaithfulLaws.{faithful_mapped}
 use Rattle.nat_page.proofs.PieceLaws.{stands_split}
 use Rattle.pool_check.specs.Forms.{HasForm}
-use Rattle.pool_check.specs.Links.{IsOneEntry, HasLinks, IsChecked}
+use Rattle.pool_check.specs.Links.{IsOneEntry, HasLinks, HaveForms, HaveFormsAround, IsChecked}
 use Rattle.pool_check.proofs.MovedLaws.{holds_alone, holds_in_flash, stands_leading}
 
 -- a page of the pool that has its form
@@ -70,32 +70,35 @@ rewritten layout image words page pool form links = elim (form.pool pool) [
   | inr code ↦ inr (record { first = code.first; last = code.last; holds = leading layout image words page code.first code.last links (holds_in_flash image words page code.first code.last code.holds) })
 ]
 
+pub forms_around : (layout : Layout) (image words : List ℕ) → HaveForms layout image words → HaveFormsAround layout image words
+forms_around layout image words forms page low out = forms page low
+
 -- a word below the pool is the image's, and one of the kernel is RET
-below_pool : (layout : Layout) (image words : List ℕ) (a : ℕ) → IsRight layout → IsChecked layout image words → a < page_words * layout.pool_first → word_at words a ≡ word image a
-below_pool layout image words a right checked below =
+pub below_pool : (layout : Layout) (image words : List ℕ) (a : ℕ) → IsRight layout → HaveFormsAround layout image words → a < page_words * layout.pool_first → word_at words a ≡ word image a
+below_pool layout image words a right around below =
     let page = a / page_words in
     let there : page_words * page + (a % page_words) ≡ a = omega arith in
-    let form = checked.forms page (omega (arith, right.pool_below_kernel)) in
+    let form = around page (omega (arith, right.pool_below_kernel)) (λ pool. omega (arith, pool.from)) in
     sym (page_word words page (a % page_words) (omega arith) ∙ ap (word_at words) there) ∙ form.below (omega arith) (a % page_words) (omega arith) ∙ ap (word image) there
 
-kernel_word : (layout : Layout) (image words : List ℕ) (a : ℕ) → IsChecked layout image words → 0xF000 ≤ a → a < word_count → word_at words a ≡ 0x9508
-kernel_word layout image words a checked from to =
+pub kernel_word : (layout : Layout) (image words : List ℕ) (a : ℕ) → IsRight layout → HaveFormsAround layout image words → 0xF000 ≤ a → a < word_count → word_at words a ≡ 0x9508
+kernel_word layout image words a right around from to =
     let page = a / page_words in
     let there : page_words * page + (a % page_words) ≡ a = omega arith in
-    sym (page_word words page (a % page_words) (omega arith) ∙ ap (word_at words) there) ∙ (checked.forms page (omega arith)).kernel (omega arith) (a % page_words) (omega arith)
+    sym (page_word words page (a % page_words) (omega arith) ∙ ap (word_at words) there) ∙ (around page (omega arith) (λ pool. omega (arith, pool.to, right.pool_below_kernel))).kernel (omega arith) (a % page_words) (omega arith)
 
-outside : (image : List ℕ) (a : ℕ) → length image ≤ a → word image a ≡ 0xFFFF
+pub outside : (image : List ℕ) (a : ℕ) → length image ≤ a → word image a ≡ 0xFFFF
 outside image a beyond = get_or_past image a 0xFFFF beyond
 
 inside : (image : List ℕ) (a : ℕ) → a < length image → word image a ≡ word_at image a
 inside image a within = get_or_default image a 0xFFFF 0 within
 
-held_image : (layout : Layout) (image words : List ℕ) → IsRight layout → length words ≡ word_count → length image ≡ layout.image_words → IsChecked layout image words → image_of layout words ≡ image
-held_image layout image words right whole long checked =
+pub held_image : (layout : Layout) (image words : List ℕ) → IsRight layout → length words ≡ word_count → length image ≡ layout.image_words → HaveFormsAround layout image words → image_of layout words ≡ image
+held_image layout image words right whole long around =
     let cut : length (take layout.image_words words) ≡ layout.image_words = omega (arith, length-take layout.image_words words, right.image_fits) in
     same_number_lists (take layout.image_words words) image (cut ∙ sym long) (λ k within.
     let below : k < layout.image_words = omega arith in
-    get_or-take layout.image_words words k 0 below ∙ below_pool layout image words k right checked (omega (arith, right.image_below_pool)) ∙ inside image k (omega arith))
+    get_or-take layout.image_words words k 0 below ∙ below_pool layout image words k right around (omega (arith, right.image_below_pool)) ∙ inside image k (omega arith))
 
 -- below the pool flash has the image's words, and erased ones behind
 below_word : (layout : Layout) (image words : List ℕ) (a : ℕ) → IsRight layout → IsFaithful layout image words → a < page_words * layout.pool_first → word_at words a ≡ word image a
@@ -108,12 +111,13 @@ below_word layout image words a right code below = elim (cases_lt a layout.image
 pub checked_code : (layout : Layout) (image words : List ℕ) → IsRight layout → length words ≡ word_count → length image ≡ layout.image_words → IsChecked layout image words → IsFaithful layout image words
 checked_code layout image words right whole long checked =
     let short : length image ≤ 24576 = omega (arith, right.image_fits) in
+    let around = forms_around layout image words checked.forms in
     record {
       whole = whole;
       image_length = long;
-      held = held_image layout image words right whole long checked;
-      erased = λ a after before. below_pool layout image words a right checked before ∙ outside image a (omega (arith, long));
-      kernel = λ a from to. kernel_word layout image words a checked from to;
+      held = held_image layout image words right whole long around;
+      erased = λ a after before. below_pool layout image words a right around before ∙ outside image a (omega (arith, long));
+      kernel = λ a from to. kernel_word layout image words a right around from to;
       pages = λ page pool. rewritten layout image words page pool (checked.forms page (pool_low layout page right pool)) (checked.links page pool);
       once = once layout image words right short checked;
     }

@@ -1,16 +1,14 @@
 -- A dump that is read line by line.
-use Rattle.std.proofs.Common.{◌≡◌, ℕ, ◌+◌, ◌-◌, ◌*◌, ◌<◌, ◌≤◌, false, cond, eqb, eq-eqb, List, [], ◌∷◌, length, arith, refl, sym, ap, ◌∙◌, subst, inl, inr}
+use Rattle.std.proofs.Common.{◌≡◌, ℕ, ◌+◌, ◌*◌, ◌<◌, ◌≤◌, false, cond, eqb, eq-eqb, List, [], ◌∷◌, length, arith, refl, sym, ap, ◌∙◌, subst, inl, inr}
 use Rattle.std.proofs.lemmas.Bool.Decides.{nat_tests}
 use Rattle.std.proofs.lemmas.Grind.{same_number_lists}
 use Rattle.std.proofs.lemmas.List.FromFn.{length-map-range_with_len}
 use Rattle.list_parts.proofs.ManyLaws.{length-many, get_or-many}
 use Rattle.std.specs.Str.Parse.{digits_value}
-use Rattle.flash_model.specs.Pages.{word_count, page_words, page_count, word_at, page_of, set_page, blank, many}
-use Rattle.flash_model.specs.Memory.{Memory, loaded, new_flash}
-use Rattle.flash_model.specs.Operations.{erased_page, programmed_page}
-use Rattle.flash_model.proofs.PageLaws.{page_word, length-page_of, length-set_page, page_other, word_in_page, word_out_of_page}
-use Rattle.flash_model.proofs.LoadedLaws.{length-loaded, loaded_blank}
-use Rattle.std.proofs.lemmas.Bool.{cases_lt}
+use Rattle.flash_model.specs.Pages.{word_count, page_words, word_at, page_of, set_page, blank, many}
+use Rattle.flash_model.specs.Memory.{Memory, erased_flash}
+use Rattle.flash_model.specs.Operations.{programmed_page}
+use Rattle.flash_model.proofs.PageLaws.{page_word, length-page_of, length-set_page, page_other}
 use Rattle.text_lines.specs.Lines.{lines_of}
 use Rattle.pool_check.specs.declared.dump_line.DumpFault.{DumpFault}
 use Rattle.pool_check.specs.DumpLines.{HasPage, IsFaulty, page_in, word_digits, words_in}
@@ -48,6 +46,7 @@ taken_page line least page words old new has page_is words_are from below open' 
       is_open = record {
         whole = ap length new_words ∙ length-set_page old.words words page long room ∙ open'.whole;
         failing = ap (λ (m : Memory). m.failing) after ∙ open'.failing;
+        erases = ap (λ (m : Memory). m.erases) after ∙ open'.erases;
         few = omega (arith, ap (λ (m : Memory). m.ops) after, open'.few);
         blank_on = λ other above low. ap (λ ws. page_of ws other) new_words ∙ page_other old.words words page other long room (λ is. omega arith) ∙ open'.blank_on other (omega arith) low;
       };
@@ -85,59 +84,19 @@ read_start text flash is open' = record {
   words_are = ap (λ ws. with_lines ws (lines_of text)) is;
 }
 
--- words that are all erased
-pub all_erased : (words : List ℕ) → length words ≡ word_count → ((a : ℕ) → a < word_count → word_at words a ≡ 0xFFFF) → words ≡ erased
-all_erased words whole all =
-    same_number_lists words erased (whole ∙ sym (length-many word_count 0xFFFF)) (λ k below. all k (omega (arith, whole)) ∙ sym (get_or-many word_count 0xFFFF k (omega (arith, whole))))
-
-pub erased_page_blank : (words : List ℕ) (page : ℕ) → length words ≡ word_count → ((a : ℕ) → a < word_count → word_at words a ≡ 0xFFFF) → page < page_count → page_of words page ≡ blank
+-- a flash that is erased
+pub erased_open : (flash : Memory) → flash ≡ erased_flash → IsOpen flash 0
 unfolding blank
-erased_page_blank words page whole all low =
-    let long : length (page_of words page) ≡ page_words = length-page_of words page (omega (arith, whole)) in
-    same_number_lists (page_of words page) (many page_words 0xFFFF) (long ∙ sym (length-many page_words 0xFFFF)) (λ k below.
-    page_word words page k (omega (arith, long)) ∙ all (page_words * page + k) (omega (arith, long)) ∙ sym (get_or-many page_words 0xFFFF k (omega (arith, long))))
-
--- a new flash without an image, while its kernel's pages are erased
-pub record IsErasedTo (page : ℕ) (flash : Memory) : Type 0 where
-  pub whole : length flash.words ≡ word_count
-  pub failing : flash.failing ≡ []
-  pub few : flash.ops + 480 ≤ page
-  pub done : (a : ℕ) → a < page_words * page → word_at flash.words a ≡ 0xFFFF
-
-pub erased_start : (flash : Memory) → flash ≡ new_flash [] [] → IsErasedTo 480 flash
-erased_start flash is =
-    let words : flash.words ≡ loaded [] = ap (λ (m : Memory). m.words) is in
+erased_open flash is =
+    let words : flash.words ≡ erased = ap (λ (m : Memory). m.words) is in
+    let whole : length flash.words ≡ word_count = ap length words ∙ length-many word_count 0xFFFF in
     record {
-      whole = ap length words ∙ length-loaded [] (omega arith);
+      whole = whole;
       failing = ap (λ (m : Memory). m.failing) is;
+      erases = ap (λ (m : Memory). m.erases) is;
       few = omega (arith, ap (λ (m : Memory). m.ops) is);
-      done = λ a below. ap (λ ws. word_at ws a) words ∙ loaded_blank [] a (omega arith) (omega arith);
+      blank_on = λ page above low.
+          let long : length (page_of flash.words page) ≡ page_words = length-page_of flash.words page (omega (arith, whole)) in
+          same_number_lists (page_of flash.words page) (many page_words 0xFFFF) (long ∙ sym (length-many page_words 0xFFFF)) (λ k below.
+          page_word flash.words page k (omega (arith, long)) ∙ ap (λ ws. word_at ws (page_words * page + k)) words ∙ get_or-many word_count 0xFFFF (page_words * page + k) (omega (arith, long)) ∙ sym (get_or-many page_words 0xFFFF k (omega (arith, long))));
     }
-
-pub erased_more : (page : ℕ) (old new : Memory) → page < page_count → IsErasedTo page old → new ≡ erased_page old page → IsErasedTo (page + 1) new
-unfolding blank
-erased_more page old new low erased' after =
-    let words : new.words ≡ set_page old.words page blank = ap (λ (m : Memory). m.words) after in
-    let long : length blank ≡ page_words = length-many page_words 0xFFFF in
-    let room : page_words * page + page_words ≤ length old.words = omega (arith, erased'.whole) in
-    record {
-      whole = ap length words ∙ length-set_page old.words blank page long room ∙ erased'.whole;
-      failing = ap (λ (m : Memory). m.failing) after ∙ erased'.failing;
-      few = omega (arith, ap (λ (m : Memory). m.ops) after, erased'.few);
-      done = λ a below. ap (λ ws. word_at ws a) words ∙ elim (cases_lt a (page_words * page)) [
-        | inl before ↦ word_out_of_page old.words blank page a long room (inl before) ∙ erased'.done a before
-        | inr from ↦ word_in_page old.words blank page a long room from (omega arith) ∙ get_or-many page_words 0xFFFF (a - page_words * page) (omega arith)
-      ];
-    }
-
-pub erased_whole : (flash : Memory) (page : ℕ) → 512 ≤ page → page ≤ 512 → IsErasedTo page flash → (flash.words ≡ erased) × IsOpen flash 0
-erased_whole flash page from to is =
-    let all : (a : ℕ) → a < word_count → word_at flash.words a ≡ 0xFFFF = λ a below. is.done a (omega arith) in (
-      all_erased flash.words is.whole all,
-      record {
-        whole = is.whole;
-        failing = is.failing;
-        few = omega (arith, is.few);
-        blank_on = λ other above low. erased_page_blank flash.words other is.whole all low;
-      },
-    )

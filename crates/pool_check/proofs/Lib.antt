@@ -1,9 +1,12 @@
 -- Laws of a flash that is checked page by page.
 mod WidthLaws
 mod FormLaws
-mod MovedLaws
+pub mod MovedLaws
 pub mod CheckedLaws
 mod LinkTests
 mod CountLaws
 mod DumpLineLaws
 mod DumpLaws
+mod WrittenLaws
+mod DumpBack
+pub mod Judgement

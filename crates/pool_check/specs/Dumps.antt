@@ -39,7 +39,8 @@ IsNoDump text n fault = IsFirstFault 0 1 (lines_of text) n fault
 pub record IsOpen (flash : Memory) (least : ℕ) : Type 0 where
   pub whole : length flash.words ≡ word_count
   pub failing : flash.failing ≡ []
-  pub few : flash.ops ≤ 32 + least
+  pub erases : flash.erases ≡ many page_count 0
+  pub few : flash.ops ≤ least
   pub blank_on : (page : ℕ) → least ≤ page → page < page_count → page_of flash.words page ≡ blank
 
 -- .. and before the lines of the rest

@@ -5,3 +5,4 @@ pub mod Verdicts
 pub mod DumpLines
 pub mod Dumps
 pub mod DumpAnswers
+pub mod WrittenDumps

@@ -53,6 +53,10 @@ pub record HasLinks (layout : Layout) (image words : List ℕ) (page : ℕ) : Ty
 abbrev pub HaveForms : Layout → (image words : List ℕ) → Type 0
 HaveForms layout image words = (page : ℕ) → page < page_count → HasForm layout image page (page_of words page)
 
+-- the same of each page outside the pool
+abbrev pub HaveFormsAround : Layout → (image words : List ℕ) → Type 0
+HaveFormsAround layout image words = (page : ℕ) → page < page_count → ¬ IsPool layout page → HasForm layout image page (page_of words page)
+
 -- each page of the pool has its links
 abbrev pub HaveLinks : Layout → (image words : List ℕ) → Type 0
 HaveLinks layout image words = (page : ℕ) → IsPool layout page → HasLinks layout image words page

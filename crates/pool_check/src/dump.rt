@@ -1,8 +1,8 @@
 //! The text of a dump.
 
 ghost use Rattle.std.specs.Prelude.{◌≡◌, ◌≤◌, ◌<◌, [], length, IfOk, IfErr, None};
-ghost use Rattle.flash_model.specs.Pages.{page_of, set_page, blank};
-ghost use Rattle.flash_model.specs.Operations.{erased_page, programmed_page};
+ghost use Rattle.flash_model.specs.Pages.{many, page_count, page_of, blank};
+ghost use Rattle.flash_model.specs.Operations.{programmed_page};
 ghost use Rattle.pool_check.specs.DumpLines.{IsFaulty};
 ghost use Rattle.pool_check.specs.Dumps.{IsDump, IsNoDump, IsOpen, IsTaken, erased as erased_words};
 ghost use Rattle.pool_check.specs.declared.dump.DumpError.{DumpError};
@@ -27,11 +27,11 @@ pub enum DumpError {
 }
 
 /// Reads a dump. The flash that it gives has the words of the dump's lines, and erased ones in all pages without a
-/// line; none of its operations fails.
+/// line; none of its operations fails, and no page counts as erased.
 pub fn read_dump(alloc: Global, text: &[u8]) -> Result<Flash, DumpError>
     requires short { length text.now ≤ 2097152 }
     ensures read { IfOk result (λ flash. IsDump text.now flash.words) }
-    ensures sound { IfOk result (λ flash. (flash.failing ≡ []) × (flash.ops ≡ 0) × (flash.refused ≡ None)) }
+    ensures sound { IfOk result (λ flash. (flash.failing ≡ []) × (flash.ops ≡ 0) × (flash.refused ≡ None) × (flash.erases ≡ many page_count 0)) }
     ensures bad { IfErr result (IsRefusal text.now) }
 {
     let mut flash = erased(alloc).map_err(|_| DumpError::NoMemory)?;
@@ -84,25 +84,7 @@ fn take_line(flash: &mut Flash, least: u16, line: &[u8]) -> Result<u16, DumpFaul
 fn erased(alloc: Global) -> Result<Flash, NoMemory>
     ensures words { IfOk result (λ flash. (flash.words ≡ erased_words) × IsOpen flash 0) }
 {
-    let mut flash = Flash::new(alloc, &[], &[])?;
-    'kernel: for page in 480..512u16 {
-        erase(&mut flash, page);
-    }
-    Ok(flash)
-}
-
-/// Erases a page of a flash of which no operation fails.
-fn erase(flash: &mut Flash, page: u16)
-    requires page { page < 512 }
-    requires sound { flash.old.failing ≡ [] }
-    requires few { flash.old.ops < 1000 }
-    ensures after { flash.new ≡ erased_page flash.old page }
-    ensures whole { length flash.new.words ≡ 65536 }
-{
-    match flash.erase(page) {
-        Ok(()) => {}
-        Err(_) => unreachable!(),
-    }
+    Flash::erased(alloc)
 }
 
 /// Programs a page that is erased, of a flash of which no operation fails.

@@ -8,9 +8,9 @@ ghost use Rattle.nat_page.specs.CodePages.{IsCodePage};
 ghost use Rattle.pool_check.specs.Forms.{HasForm};
 
 use crate::image::GivenImage;
-use crate::standing::{size, stands};
+use crate::standing::stands;
 use flash_model::Layout;
-use nat_page::{ImageWords, remade};
+use nat_page::{ImageWords, remade, size};
 
 /// The words of a page.
 pub(crate) const PAGE_WORDS: u16 = 128;
@@ -55,7 +55,7 @@ fn is_pool_page(image: &[u16], words: &[u16; 128]) -> bool
 }
 
 /// Whether a page is rewritten code: it is made anew from its first address and the number of its instructions.
-fn is_code(image: &[u16], words: &[u16; 128]) -> bool
+pub fn is_code(image: &[u16], words: &[u16; 128]) -> bool
     requires short { length image.now ≤ 24576 }
     ensures value { IsTrue result ↔ IsCodePage image.now words.now 0 }
 {
@@ -77,7 +77,7 @@ fn is_code(image: &[u16], words: &[u16; 128]) -> bool
 
 /// Whether a page is free.
 #[tactic(auto, unfolding(flash_model::specs::Pages::blank, list_parts::specs::Lists::many))]
-fn is_blank(words: &[u16; 128]) -> bool
+pub fn is_blank(words: &[u16; 128]) -> bool
     ensures value { IsTrue result ↔ (words.now ≡ blank) }
 {
     *words == [BLANK; 128]

@@ -22,6 +22,7 @@
 mod checking;
 mod dump;
 mod dump_line;
+mod dump_writing;
 mod form;
 mod image;
 mod links;
@@ -30,4 +31,6 @@ mod standing;
 pub use checking::{Verdict, check};
 pub use dump::{DumpError, read_dump};
 pub use dump_line::DumpFault;
-pub use form::page_form;
+pub use dump_writing::write_dump;
+pub use form::{is_blank, is_code, page_form};
+pub use links::is_alone;

@@ -12,10 +12,9 @@ ghost use Rattle.pool_check.specs.Links.{ArePages, ArePagesTo, HasLinks, IsAlone
 
 use crate::form::PAGE_WORDS;
 use crate::image::GivenImage;
-use crate::standing::width;
 use arrayvec::ArrayVec;
 use flash_model::{Flash, Layout};
-use nat_page::{page_words, remade};
+use nat_page::{page_words, remade, width};
 use nat_template::Piece;
 use page_index::{address_at, entries, is_free, place_in};
 
@@ -56,7 +55,7 @@ fn is_unlisted(flash: &Flash, layout: &Layout, page: u16, t: u16) -> bool
 }
 
 /// Whether no page of the pool below this one has an entry of one of its addresses.
-pub(crate) fn is_alone(flash: &Flash, layout: &Layout, page: u16) -> bool
+pub fn is_alone(flash: &Flash, layout: &Layout, page: u16) -> bool
     requires right { IsRight layout.now }
     requires page { IsPool layout.now page }
     requires pages { ArePagesTo layout.now flash.now.words page }

@@ -1,11 +1,12 @@
 //! Pieces of code where they stand.
 
-ghost use Rattle.std.specs.Prelude.{◌≡◌, ◌+◌, ◌≤◌, ◌↔◌, length, IsTrue};
+ghost use Rattle.std.specs.Prelude.{◌+◌, ◌≤◌, ◌↔◌, IsTrue};
 ghost use Rattle.flash_model.specs.Pages.{word_at};
 ghost use Rattle.nat_page.specs.Standing.{size as size_of_pieces, Stands, StandsAt, width as width_of};
 ghost use Rattle.nat_page.specs.CodePages.{Anywhere};
 ghost use Rattle.pool_check.specs.Forms.{IsLinkWords};
 
+use nat_page::width;
 use nat_template::Piece;
 
 /// CALL and JMP, the first of their two words, and the kernel's bridge.
@@ -14,28 +15,6 @@ const CALL: u16 = 0x940E;
 const JMP: u16 = 0x940C;
 
 const BRIDGE: u16 = 0xF000;
-
-/// How many words the pieces have.
-pub(crate) fn size(pieces: &[Piece]) -> u16
-    requires small { length pieces.now ≤ 128 }
-    ensures value { result ≡ size_of_pieces pieces.now }
-{
-    let mut words = 0;
-    for piece in pieces {
-        words += width(*piece);
-    }
-    words
-}
-
-/// How many words a piece has.
-pub(crate) fn width(piece: Piece) -> u16
-    ensures value { result ≡ width_of piece }
-{
-    match piece {
-        Piece::Fixed(_) => 1,
-        Piece::Link(_) => 3,
-    }
-}
 
 /// Whether the pieces stand at the front of a page, whatever their links lead to once they are resolved.
 pub(crate) fn stands(words: &[u16; 128], pieces: &[Piece]) -> bool

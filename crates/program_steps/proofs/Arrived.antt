@@ -1,9 +1,7 @@
 -- What an arrival leaves, whatever it answers.
-use Rattle.std.proofs.Common.{◌≡◌, ℕ, ◌+◌, ◌<◌, ◌≤◌, Bool, true, false, List, length, refl, sym, ap, ◌∙◌, arith, subst, inl, inr}
+use Rattle.std.proofs.Common.{◌≡◌, ℕ, ◌+◌, ◌<◌, ◌≤◌, Bool, true, List, length, refl, sym, ap, ◌∙◌, arith, subst, inl, inr}
 use Rattle.std.specs.Prelude.{min, Option, Some, None, IfSome}
 use Rattle.std.proofs.lemmas.Bool.{cases_lt}
-use Rattle.std.proofs.lemmas.Bool.Decides.{nat_tests}
-use Rattle.avr_isa.specs.Image.{is_inside}
 use Rattle.sram_layout.specs.Bytes.{data_word_at}
 use Rattle.sram_layout.specs.Cells.{vsp_cell}
 use Rattle.flash_model.specs.Memory.{Memory, IsWhole}
@@ -26,7 +24,7 @@ use Rattle.branch_bridge.specs.declared.through.Arrival.{Arrival}
 use Rattle.branch_bridge.specs.Operating.{with_torn}
 use Rattle.flash_model.specs.Operations.{is_listed}
 use Rattle.branch_bridge.specs.Tried.{IsTorn, Tried}
-use Rattle.branch_bridge.specs.Arrivals.{Store, KeptThrough, KeepsOtherBytes, refused_by, stopped_by, torn_by, ring_of}
+use Rattle.branch_bridge.specs.Arrivals.{Store, IsOwnStub, KeptThrough, KeepsOtherBytes, refused_by, stopped_by, torn_by, ring_of}
 use Rattle.kernel_entry.specs.Parts.{image_held}
 use Rattle.step_laws.specs.declared.moves.Owed.{Owed}
 use Rattle.step_laws.specs.declared.moves.End.TheVariants as ends
@@ -35,27 +33,28 @@ use Rattle.step_laws.specs.Numbers.{Numbers, moved, one_if}
 use Rattle.step_laws.specs.States.{Awaited, State, mote_of, store_of, with_store, placed, settled_by, arrived, end_by}
 use Rattle.step_laws.specs.StepLaws.{Reaches}
 use Rattle.program_steps.specs.Machines.{Machine, awaited, state_of, numbers_of, flat_of, awaits}
-use Rattle.program_steps.specs.Ready.{HasFault, AreTried, IsGoing, IsInOrder, most_arrivals}
+use Rattle.program_steps.specs.Ready.{IsRightPart, HasFault, AreTried, IsGoing, IsInOrder, most_arrivals}
 use Rattle.program_steps.specs.Stepping.{links_in}
 use Rattle.program_steps.specs.Loop.{HasArrived}
-use Rattle.program_steps.proofs.Arriving.{Answered, answered}
+use Rattle.program_steps.proofs.Arriving.{Answered, answered, owed_own}
+use Rattle.program_steps.proofs.Owning.{number_own, admitted_number}
+use Rattle.mem_guard.specs.FlatMachine.{is_own}
+use Rattle.step_laws.specs.Links.{part_number, number_of}
+use Rattle.step_laws.specs.States.{admits}
+use Rattle.nat_page.specs.Parts.{IsParted}
 use Rattle.program_steps.proofs.OutsideTables.{outside_paged, outside_memory, outside_pages, outside_pointer, outside_stack}
 use Rattle.program_steps.proofs.Awaiting.{awaits_some, awaits_none, free_of, some_same}
-use Rattle.program_steps.proofs.Laws.{faithful_going, used_going}
+use Rattle.program_steps.proofs.Laws.{faithful_going, parted_going, used_going}
 
 -- where the machine stands
-pub inside_of : (image : List ℕ) (a : ℕ) → a < length image → is_inside image a ≡ true
-inside_of image a below = grind (arith, nat_tests)
-
-pub outside_of : (image : List ℕ) (a : ℕ) → length image ≤ a → is_inside image a ≡ false
-outside_of image a beyond = grind (arith, nat_tests)
-
-stands_inside : (m : Machine) → IsGoing m → m.owed ≡ None → Reaches (links_in m) m.at (awaits m) (state_of m) → m.at < length (image_held m.kernel)
-stands_inside m ready placed (Reaches.Placed quiet free entry) = (entry_law m.kernel.layout (image_held m.kernel) m.kernel.mote.flash.words m.at m.kernel.mote.cpu.pc ready.order.right (faithful_going m ready) entry).inside
+stands_inside : (m : Machine) → IsGoing m → m.owed ≡ None → Reaches (links_in m) m.at (awaits m) (state_of m) → (m.at < length (image_held m.kernel)) × (part_number m.kernel.part.shut m.at ≡ number_of m.kernel.part)
+stands_inside m ready placed (Reaches.Placed quiet free entry) = ((entry_law m.kernel.layout (image_held m.kernel) m.kernel.mote.flash.words m.at m.kernel.mote.cpu.pc ready.order.right (faithful_going m ready) entry.0).inside, entry.1)
 stands_inside m ready placed (Reaches.Owing stub alone owes of) = absurd (let e = sym owes ∙ awaits_none m placed in cc)
 
-pub place_inside : (m : Machine) → IsGoing m → m.owed ≡ None → is_inside (image_held m.kernel) m.at ≡ true
-place_inside m ready placed = inside_of (image_held m.kernel) m.at (stands_inside m ready placed ready.stands)
+pub place_inside : (m : Machine) → IsGoing m → m.owed ≡ None → is_own m.kernel.part m.at ≡ true
+place_inside m ready placed =
+    let stands = stands_inside m ready placed ready.stands in
+    number_own m.kernel.part m.kernel.layout.image_words m.at ready.order.part (omega (arith, stands.0, ready.order.faithful.image_length)) stands.1
 
 owed_by : (m : Machine) (owed : Owed) → m.owed ≡ Some owed → Reaches (links_in m) m.at (awaits m) (state_of m) → owed.target ≡ m.at
 owed_by m owed owes (Reaches.Placed quiet free entry) = absurd (let e = sym (awaits_some m owed owes) ∙ free in cc)
@@ -75,6 +74,7 @@ awaited_at m w ready owes = awaited_by m w owes ready.stands
 -- an arrival leaves all but the store and the pc
 pub record After (x y : State) (store : Store) : Type 0 where
   pub layout : y.kernel.layout ≡ x.kernel.layout
+  pub part : y.kernel.part ≡ x.kernel.part
   pub quantum : y.kernel.quantum ≡ x.kernel.quantum
   pub swap : (mote_of y).swap ≡ (mote_of x).swap
   pub devices : (mote_of y).devices ≡ (mote_of x).devices
@@ -87,16 +87,16 @@ after_same : (x y : State) (store : Store) (z : State) → y ≡ z → After x z
 after_same x y store z is after = subst (λ s. After x s store) (sym is) after
 
 after_by : (x y : State) (store : Store) (place : Option ℕ) (refused : Option Refused) → y ≡ settled_by (placed (with_store x store) place) refused → After x y store
-after_by x y store None None is = after_same x y store _ is (record { layout = refl; quantum = refl; swap = refl; devices = refl; r = refl; sreg = refl; sp = refl; store_is = refl })
-after_by x y store (Some place) None is = after_same x y store _ is (record { layout = refl; quantum = refl; swap = refl; devices = refl; r = refl; sreg = refl; sp = refl; store_is = refl })
-after_by x y store None (Some refused) is = after_same x y store _ is (record { layout = refl; quantum = refl; swap = refl; devices = refl; r = refl; sreg = refl; sp = refl; store_is = refl })
-after_by x y store (Some place) (Some refused) is = after_same x y store _ is (record { layout = refl; quantum = refl; swap = refl; devices = refl; r = refl; sreg = refl; sp = refl; store_is = refl })
+after_by x y store None None is = after_same x y store _ is (record { layout = refl; part = refl; quantum = refl; swap = refl; devices = refl; r = refl; sreg = refl; sp = refl; store_is = refl })
+after_by x y store (Some place) None is = after_same x y store _ is (record { layout = refl; part = refl; quantum = refl; swap = refl; devices = refl; r = refl; sreg = refl; sp = refl; store_is = refl })
+after_by x y store None (Some refused) is = after_same x y store _ is (record { layout = refl; part = refl; quantum = refl; swap = refl; devices = refl; r = refl; sreg = refl; sp = refl; store_is = refl })
+after_by x y store (Some place) (Some refused) is = after_same x y store _ is (record { layout = refl; part = refl; quantum = refl; swap = refl; devices = refl; r = refl; sreg = refl; sp = refl; store_is = refl })
 
 pub after_arrived : (x y : State) (store : Store) (arrival : Arrival) → y ≡ arrived x store arrival → After x y store
 after_arrived x y store arrival is = after_by x y store arrival.place arrival.refused is
 
 after_self : (x y : State) (store : Store) → After x y store → After x y (store_of y)
-after_self x y store after = record { layout = after.layout; quantum = after.quantum; swap = after.swap; devices = after.devices; r = after.r; sreg = after.sreg; sp = after.sp; store_is = refl }
+after_self x y store after = record { layout = after.layout; part = after.part; quantum = after.quantum; swap = after.swap; devices = after.devices; r = after.r; sreg = after.sreg; sp = after.sp; store_is = refl }
 
 -- the flat state, from its parts
 put_together : (r : List ℕ) (sreg sp : ℕ) (memory : List ℕ) (devices : Devices) (stored : List Bool) (a s c : ℕ) → FlatState
@@ -166,6 +166,8 @@ moved_numbers n n' t ops made made' is same = record {
 pub record Arrived (old new : Machine) (arrival : Arrival) : Type 0 where
   pub after : After (state_of old) (state_of new) (store_of (state_of new))
   pub kept : KeptThrough old.kernel.layout (store_of (state_of old)) (store_of (state_of new)) old.at arrival
+  pub parted : IsParted old.kernel.layout (image_held old.kernel) (with_torn new.kernel.mote.flash.words (torn_by arrival.refused)) (part_number old.kernel.part.shut)
+  pub admitted : admits old.kernel.part old.at ≡ true
   pub rest : KeepsOtherBytes old.kernel.mote.sram new.kernel.mote.sram
   pub image : image_held new.kernel ≡ image_held old.kernel
   pub torn : new.torn ≡ torn_by arrival.refused
@@ -193,6 +195,7 @@ arrived_by old new arrived whole ready =
     let before = store_of x in
     let store = store_of (state_of new) in
     let at : arrived.target ≡ old.at = makes.at ∙ awaited_at old makes.owed ready makes.owes in
+    let admitted : admits old.kernel.part old.at ≡ true = subst (λ t. admits old.kernel.part t ≡ true) at makes.own in
     let after = after_arrived x (state_of new) makes.store arrival makes.after in
     let same : store ≡ makes.store = after.store_is in
     let kept : KeptThrough l before store old.at arrival = subst (λ t. KeptThrough l before store t arrival) at (subst (λ s. KeptThrough l before s arrived.target arrival) (sym same) arrived.kept) in
@@ -201,6 +204,11 @@ arrived_by old new arrived whole ready =
     record {
       after = after_self x (state_of new) makes.store after;
       kept = kept;
+      parted = subst (λ (s : Store). IsParted l (image_held old.kernel) (with_torn s.flash.words (torn_by arrival.refused)) (part_number old.kernel.part.shut)) (sym same)
+          (arrived.parts (part_number old.kernel.part.shut) (parted_going old ready)
+          (subst (IsOwnStub l old.kernel.mote.flash.words (part_number old.kernel.part.shut) makes.owed.stub) (sym makes.at)
+          (owed_own old makes.owed ready makes.owes (admitted_number old.kernel.part l.image_words old.at ready.order.part admitted))));
+      admitted = admitted;
       rest = kept.rest;
       image = ap (λ (k : Layout). image_of k new.kernel.mote.flash.words) after.layout ∙ kept.image;
       torn = ap (λ (s : State). s.torn) makes.after ∙ torn_settled y arrival.refused (placed_torn (with_store x makes.store) arrival.place ∙ ready.untorn);
@@ -281,6 +289,11 @@ order_arrived old new arrival told ready =
       layout = subst (λ (k : Layout). k ≡ layout_of k.image_words) (sym same.layout) order.layout;
       right = subst IsRight (sym same.layout) order.right;
       faithful = subst (λ k. F k (image_held new.kernel) new.torn) (sym same.layout) (subst (λ i. F l i new.torn) (sym told.image) (subst (F l (image_held old.kernel)) (sym told.torn) told.kept.code));
+      part = subst (λ (k : Layout). IsRightPart new.kernel.part k.image_words) (sym same.layout) (subst (λ p. IsRightPart p l.image_words) (sym same.part) order.part);
+      parted = subst (λ p. IsParted new.kernel.layout (image_held new.kernel) (with_torn words new.torn) (part_number p.shut)) (sym same.part)
+          (subst (λ k. IsParted k (image_held new.kernel) (with_torn words new.torn) (part_number old.kernel.part.shut)) (sym same.layout)
+          (subst (λ i. IsParted l i (with_torn words new.torn) (part_number old.kernel.part.shut)) (sym told.image)
+          (subst (λ t. IsParted l (image_held old.kernel) (with_torn words t) (part_number old.kernel.part.shut)) (sym told.torn) told.parted)));
       tables = subst (λ k. T k new.torn) (sym same.layout) (subst (T l) (sym told.torn) told.kept.tables);
       paged = subst (λ w. IsPaged new.kernel.mote.sram w) (sym same.swap) (outside_paged old.kernel.mote.sram new.kernel.mote.sram old.kernel.mote.swap told.rest order.paged);
       whole = told.whole;

@@ -9,13 +9,13 @@ use Rattle.branch_bridge.specs.declared.arrival.Refused.{Refused}
 use Rattle.branch_bridge.specs.declared.arrival.ArriveStop.TheVariants as refusals
 use Rattle.branch_bridge.specs.declared.rewriting.ResolveStop.{ResolveStop}
 use Rattle.branch_bridge.specs.declared.through.Arrival.{Arrival}
-use Rattle.branch_bridge.specs.Arrivals.{Store, Arrives, ArrivesFrom, Makes, Recycles, CameThrough, KeptThrough, refused_by, recycled_page, to_resolve}
+use Rattle.branch_bridge.specs.Arrivals.{Store, Arrives, ArrivesFrom, Makes, Recycles, CameThrough, KeptThrough, KeepsParts, IsOwnStub, refused_by, recycled_page, to_resolve}
 use Rattle.kernel_entry.specs.declared.kernel.Kernel.{Kernel}
 use Rattle.step_laws.specs.declared.moves.Owed.{Owed}
 use Rattle.step_laws.specs.Moves.{Arrive}
 use Rattle.step_laws.specs.Numbers.{moved, one_if}
-use Rattle.step_laws.specs.States.{Awaited, is_taken_at, State, mote_of, store_of, arrived}
-use Rattle.step_laws.specs.Links.{OfStub}
+use Rattle.step_laws.specs.States.{Awaited, admits, State, mote_of, store_of, arrived}
+use Rattle.step_laws.specs.Links.{OfStub, part_number, number_of}
 use Rattle.step_laws.specs.StepLaws.{Reaches, links_at}
 use Rattle.program_steps.specs.declared.progress.Progress.{Progress}
 use Rattle.program_steps.specs.Machines.{Machine, state_of, numbers_of, awaits}
@@ -29,7 +29,7 @@ use Rattle.program_steps.proofs.Told.{same_state}
 -- the stub that an arrival names is an unresolved link to its address
 came_by : (x : State) (stub : Option ℕ) (t : ℕ) → OfStub (links_at x) (mote_of x).flash.words stub t → CameThrough x.kernel.layout (mote_of x).flash.words stub t
 came_by x None t of = tt
-came_by x (Some s) t of = record { link = of.mark; call = of.call; bridge = of.bridge }
+came_by x (Some s) t of = record { link = of.mark.link; call = of.call; bridge = of.bridge }
 
 came_owed : (m : Machine) (owed : Owed) → m.owed ≡ Some owed → Reaches (links_in m) m.at (awaits m) (state_of m) → CameThrough m.kernel.layout m.kernel.mote.flash.words owed.stub owed.target
 came_owed m owed owes (Reaches.Placed quiet free entry) = absurd (let e = sym (awaits_some m owed owes) ∙ free in cc)
@@ -42,6 +42,22 @@ came_owed m owed owes (Reaches.Owing stub alone owes' of) =
 
 pub owed_came : (m : Machine) (owed : Owed) → IsGoing m → m.owed ≡ Some owed → CameThrough m.kernel.layout m.kernel.mote.flash.words owed.stub owed.target
 owed_came m owed ready owes = came_owed m owed owes ready.stands
+
+-- .. of a page of its part, where the address is of the program's
+stub_by : (x : State) (stub : Option ℕ) (t : ℕ) → part_number x.kernel.part.shut t ≡ number_of x.kernel.part → OfStub (links_at x) (mote_of x).flash.words stub t → IsOwnStub x.kernel.layout (mote_of x).flash.words (part_number x.kernel.part.shut) stub t
+stub_by x None t own of = tt
+stub_by x (Some s) t own of = record { link = of.mark.link; own = of.mark.own ∙ sym own }
+
+own_stub : (m : Machine) (w : Awaited) → (state_of m).owed ≡ Some w → part_number m.kernel.part.shut m.at ≡ number_of m.kernel.part → Reaches (links_in m) m.at (awaits m) (state_of m)
+    → IsOwnStub m.kernel.layout m.kernel.mote.flash.words (part_number m.kernel.part.shut) w.stub w.target
+own_stub m w owes own (Reaches.Placed quiet free entry) = absurd (let e = sym owes ∙ free in cc)
+own_stub m w owes own (Reaches.Owing stub alone owes' of) =
+    let same = some_same _ _ (sym owes ∙ owes') in
+    let P : Awaited → Type 0 = λ v. IsOwnStub m.kernel.layout m.kernel.mote.flash.words (part_number m.kernel.part.shut) v.stub v.target in
+    subst P (sym same) (stub_by (state_of m) stub m.at own of)
+
+pub owed_own : (m : Machine) (w : Awaited) → IsGoing m → (state_of m).owed ≡ Some w → part_number m.kernel.part.shut m.at ≡ number_of m.kernel.part → IsOwnStub m.kernel.layout m.kernel.mote.flash.words (part_number m.kernel.part.shut) w.stub w.target
+owed_own m w ready owes own = own_stub m w owes own ready.stands
 
 -- how an arrival was answered: it was refused outside the image, or by flash, or control goes on at a place
 pub data Answered (layout : Layout) (old new : Store) (t : ℕ) (arrival : Arrival) : Type 0 where
@@ -131,11 +147,11 @@ rest_by : (k k' : Kernel) (p : Progress) (place : Option ℕ) (made : Bool) (ref
 rest_by k k' p place made None q is = (ap (λ (x : Progress). x.at) is, ap (λ (x : Progress). x.broken) is, ap (λ (x : Progress). x.crossings) is, ap (λ (x : Progress). x.due) is)
 rest_by k k' p place made (Some refused) q is = (ap (λ (x : Progress). x.at) is, ap (λ (x : Progress). x.broken) is, ap (λ (x : Progress). x.crossings) is, ap (λ (x : Progress). x.due) is)
 
-pub has_arrived : (k : Kernel) (p q : Progress) (owed : Owed) (store : Store) (arrival : Arrival) (pc : ℕ) → p.owed ≡ Some owed → p.end ≡ None → p.torn ≡ None → IsUntaken (whole k p)
-    → ArrivesFrom k.layout (store_of (state_of (whole k p))) store owed.target owed.stub arrival → KeptThrough k.layout (store_of (state_of (whole k p))) store owed.target arrival
+pub has_arrived : (k : Kernel) (p q : Progress) (owed : Owed) (store : Store) (arrival : Arrival) (pc : ℕ) → p.owed ≡ Some owed → p.end ≡ None → p.torn ≡ None → IsUntaken (whole k p) → admits k.part owed.target ≡ true
+    → ArrivesFrom k.layout (store_of (state_of (whole k p))) store owed.target owed.stub arrival → KeptThrough k.layout (store_of (state_of (whole k p))) store owed.target arrival → KeepsParts k.layout (store_of (state_of (whole k p))) store owed.target owed.stub arrival
     → pc ≡ unwrap_or arrival.place k.mote.cpu.pc → q ≡ after_arrival arrival p
     → HasArrived (whole k p) (whole (record k { mote = record k.mote { cpu = record k.mote.cpu { pc = pc }; sram = store.sram; flash = store.flash } }) q)
-has_arrived k p q owed store arrival pc owes going untorn untaken arrives kept at noted =
+has_arrived k p q owed store arrival pc owes going untorn untaken admitted arrives kept parts at noted =
     let x = state_of (whole k p) in
     let awaited = awaits_some (whole k p) owed owes in
     let k' : ℕ → Kernel = λ v. record k { mote = record k.mote { cpu = record k.mote.cpu { pc = v }; sram = store.sram; flash = store.flash } } in
@@ -148,8 +164,9 @@ has_arrived k p q owed store arrival pc owes going untorn untaken arrives kept a
       target = owed.target;
       made = arrival.made;
       ops = ops;
-      makes = record { owed = record { target = owed.target; stub = owed.stub; due = p.due }; owes = awaited; going = going; untaken = untaken _ awaited; at = refl; store = store; arrival = arrival; arrives = arrives; makes = refl; tried = tried; after = state };
+      makes = record { owed = record { target = owed.target; stub = owed.stub; due = p.due }; owes = awaited; going = going; untaken = untaken _ awaited; at = refl; own = admitted; store = store; arrival = arrival; arrives = arrives; makes = refl; tried = tried; after = state };
       kept = kept;
+      parts = parts;
       numbers = ap (λ r. numbers_of (whole (k' pc) r)) noted ∙ numbers_by k (k' pc) p owed.target ops arrival.place arrival.made arrival.refused tried;
       at = rest.0;
       broken = rest.1;

@@ -5,7 +5,10 @@ use Rattle.mem_guard.specs.FlatMachine.{is_taken}
 use Rattle.program_steps.proofs.Awaiting.{awaits_some, awaits_none, some_same}
 use Rattle.std.proofs.Common.{◌≡◌, ℕ, ◌+◌, ◌-◌, ◌*◌, ◌%◌, ◌<◌, ◌≤◌, Bool, true, false, List, [], ◌∷◌, length, refl, sym, ap, ap₂, ◌∙◌, arith, subst}
 use Rattle.std.specs.Prelude.{◌&&◌, is_some, ◌^◌, Option, Some, None, IfSome}
-use Rattle.avr_isa.specs.Image.{is_inside}
+use Rattle.mem_guard.specs.FlatMachine.{is_own}
+use Rattle.mem_guard.specs.declared.part.Part.{Part}
+use Rattle.step_laws.specs.Links.{part_number, number_of}
+use Rattle.program_steps.proofs.Owning.{beyond_own, admitted_own, admitted_number, open_admits}
 use Rattle.flash_model.specs.Memory.{IsWhole}
 use Rattle.flash_model.specs.declared.layout.Layout.{Layout}
 use Rattle.heap_frames.specs.Frames.{pages}
@@ -34,7 +37,7 @@ use Rattle.program_steps.specs.Stepping.{AreMadeAt, Goes, Stays, IsFault, Enteri
 use Rattle.program_steps.specs.Interrupts.{IsUntaken}
 use Rattle.program_steps.specs.Loop.{HasArrived}
 use Rattle.program_steps.proofs.Arriving.{Answered}
-use Rattle.program_steps.proofs.Arrived.{inside_of, outside_of, place_inside, owed_at, awaited_at, flat_parts, IsMoved, Arrived, arrived_by, order_arrived}
+use Rattle.program_steps.proofs.Arrived.{place_inside, owed_at, awaited_at, flat_parts, IsMoved, Arrived, arrived_by, order_arrived}
 use Rattle.program_steps.proofs.OutsideTables.{outside_count}
 use Rattle.program_steps.proofs.ReadyLaws.{counted_same}
 use Rattle.program_steps.proofs.Bounds.{bounded_counted}
@@ -126,7 +129,10 @@ going_arrived old new arrival place told ready there none =
       top = same.sp ∙ ready.top;
       some = omega (arith, count, ready.some);
       most = omega (arith, count, ready.most, same.quantum);
-      stands = Reaches.Placed (ap (λ o. is_some o && new.due) on.1) (awaits_none new on.1) (subst (λ k. E k new.at new.kernel.mote.cpu.pc) (sym same.layout) (subst (λ a. E old.kernel.layout a new.kernel.mote.cpu.pc) (sym told.at) (subst (E old.kernel.layout old.at) (sym (told.pc place there)) entry)));
+      stands = Reaches.Placed (ap (λ o. is_some o && new.due) on.1) (awaits_none new on.1) (
+        subst (λ k. E k new.at new.kernel.mote.cpu.pc) (sym same.layout) (subst (λ a. E old.kernel.layout a new.kernel.mote.cpu.pc) (sym told.at) (subst (E old.kernel.layout old.at) (sym (told.pc place there)) entry)),
+        subst (λ (q : Part). part_number q.shut new.at ≡ number_of q) (sym same.part) (subst (λ a. part_number old.kernel.part.shut a ≡ number_of old.kernel.part) (sym told.at) (admitted_number old.kernel.part old.kernel.layout.image_words old.at ready.order.part told.admitted)),
+      );
       counted = counted_arrived old new arrival told ready;
       arrivals = subst (λ o. AreArrivals (numbers_of new) (most_arrivals o new.steps)) (sym on.1) (arrivals_arrived old new arrival told ready);
       polls = polls_arrived old new arrival told ready;
@@ -146,17 +152,17 @@ fault_by old new arrival stop told is =
       refused = λ none. let e : Some tried.refused.page ≡ None = sym tried.refused.told ∙ none in cc;
     }
 
-way_by : (old new : Machine) (arrival : Arrival) → (told : Arrived old new arrival) → IsGoing old → (is_inside (image_held old.kernel) old.at ≡ true → is_taken (flat_of new) ≡ false) → Answered old.kernel.layout (store_of (state_of old)) (store_of (state_of new)) old.at arrival → Entering old new new.end
+way_by : (old new : Machine) (arrival : Arrival) → (told : Arrived old new arrival) → IsGoing old → (is_own old.kernel.part old.at ≡ true → is_taken (flat_of new) ≡ false) → Answered old.kernel.layout (store_of (state_of old)) (store_of (state_of new)) old.at arrival → Entering old new new.end
 way_by old new arrival told ready untaken (Answered.Wild is outside) =
     let e : new.end ≡ Some (ends.Wild old.at) = told.refused _ is in
-    subst (Entering old new) (sym e) (Entering.Out (ended_arrived old new arrival (ends.Wild old.at) told ready e) e (outside_of (image_held old.kernel) old.at (omega (arith, outside, ready.order.faithful.image_length))))
+    subst (Entering old new) (sym e) (Entering.Out (ended_arrived old new arrival (ends.Wild old.at) told ready e) e (beyond_own old.kernel.part old.kernel.layout.image_words old.at ready.order.part outside))
 way_by old new arrival told ready untaken (Answered.Failed stop is inside) =
     let e : new.end ≡ Some (ends.Flash stop.op) = told.refused (refused_by stop) is in
     subst (Entering old new) (sym e) (Entering.Failed stop.op (ended_arrived old new arrival (ends.Flash stop.op) told ready e) e
-    (inside_of (image_held old.kernel) old.at (omega (arith, inside, ready.order.faithful.image_length))) (fault_by old new arrival stop told is))
+    (admitted_own old.kernel.part old.kernel.layout.image_words old.at ready.order.part told.admitted inside) (fault_by old new arrival stop told is))
 way_by old new arrival told ready untaken (Answered.In place there none inside) =
     let on = told.goes_on none in
-    let within = inside_of (image_held old.kernel) old.at (omega (arith, inside, ready.order.faithful.image_length)) in
+    let within = admitted_own old.kernel.part old.kernel.layout.image_words old.at ready.order.part told.admitted inside in
     subst (Entering old new) (sym on.0) (Entering.In (going_arrived old new arrival place told ready there none) on.1 within (untaken within))
 
 -- by an arrival that is made, no interrupt is to be taken
@@ -172,10 +178,10 @@ awaited_due : (o : Option Owed) (d : Bool) (w : Awaited) → awaited o d ≡ Som
 awaited_due None d w is = absurd (cc)
 awaited_due (Some owed) d w is = sym (ap (λ (v : Awaited). v.due) (some_same _ _ is))
 
-pub untaken_by : (m : Machine) (w : Awaited) → (state_of m).owed ≡ Some w → IsGoing m → is_taken_at (state_of m) w ≡ false → is_inside (image_held m.kernel) m.at ≡ true → is_taken (flat_of m) ≡ false
+pub untaken_by : (m : Machine) (w : Awaited) → (state_of m).owed ≡ Some w → IsGoing m → is_taken_at (state_of m) w ≡ false → is_own m.kernel.part m.at ≡ true → is_taken (flat_of m) ≡ false
 untaken_by m w owes ready untaken inside =
-    and_inside m.due (is_inside (image_held m.kernel) m.at) (has_bit m.kernel.mote.cpu.sreg interrupts && is_enabled m.kernel.mote.devices)
-    (ap₂ (λ d t. d && (is_inside (image_held m.kernel) t && (has_bit m.kernel.mote.cpu.sreg interrupts && is_enabled m.kernel.mote.devices))) (sym (awaited_due m.owed m.due w owes)) (sym (awaited_at m w ready owes)) ∙ untaken) inside
+    and_inside m.due (is_own m.kernel.part m.at) (has_bit m.kernel.mote.cpu.sreg interrupts && is_enabled m.kernel.mote.devices)
+    (ap₂ (λ d t. d && (is_own m.kernel.part t && (has_bit m.kernel.mote.cpu.sreg interrupts && is_enabled m.kernel.mote.devices))) (sym (awaited_due m.owed m.due w owes)) (sym (awaited_at m w ready owes)) ∙ untaken) inside
 
 -- one move
 made_at : (t at ops : ℕ) (made : Bool) → t ≡ at → AreMadeAt (λ a. a ≡ at) (Arrive t made ops ∷ [])
@@ -195,7 +201,7 @@ entered_some old new arrived whole ready =
     record {
       moves = Arrive arrived.target arrived.made arrived.ops ∷ [];
       goes = goes_arrived old new arrived.target arrived.ops arrived.made makes arrived.numbers;
-      stays = record { program = ap₂ (λ i n. record { image = i; page_limit = n; quantum = new.kernel.quantum }) told.image (ap length told.after.swap) ∙ ap (λ q. record { image = image_held old.kernel; page_limit = length old.kernel.mote.swap; quantum = q }) told.after.quantum; layout = told.after.layout; quantum = told.after.quantum; failing = told.kept.tried.failing };
+      stays = record { program = ap₂ (λ i n. record { image = i; part = new.kernel.part; page_limit = n; quantum = new.kernel.quantum }) told.image (ap length told.after.swap) ∙ ap₂ (λ q r. record { image = image_held old.kernel; part = r; page_limit = length old.kernel.mote.swap; quantum = q }) told.after.quantum told.after.part; layout = told.after.layout; quantum = told.after.quantum; failing = told.kept.tried.failing };
       broken = arrived.broken;
       steps = steps;
       flat = flat;
@@ -207,16 +213,16 @@ entered_some old new arrived whole ready =
 pub bound_untaken : (m : Machine) (owed : Owed) → IsGoing m → m.owed ≡ Some owed → m.kernel.layout.image_words ≤ owed.target → IsUntaken m
 bound_untaken m owed ready owes beyond w owes' =
     let same : owed.target ≡ w.target = ap (λ (v : Awaited). v.target) (some_same _ _ (sym (awaits_some m owed owes) ∙ owes')) in
-    ap (λ b. w.due && (b && (has_bit m.kernel.mote.cpu.sreg interrupts && is_enabled m.kernel.mote.devices))) (outside_of (image_held m.kernel) w.target (omega (arith, same, beyond, ready.order.faithful.image_length)))
+    ap (λ b. w.due && (b && (has_bit m.kernel.mote.cpu.sreg interrupts && is_enabled m.kernel.mote.devices))) (beyond_own m.kernel.part m.kernel.layout.image_words w.target ready.order.part (omega (arith, same, beyond)))
     ∙ and_off w.due
 
-pub bound_inside : (m : Machine) (owed : Owed) → IsGoing m → m.owed ≡ Some owed → owed.target < m.kernel.layout.image_words → is_inside (image_held m.kernel) m.at ≡ true
-bound_inside m owed ready owes below = inside_of (image_held m.kernel) m.at (omega (arith, owed_at m owed ready owes, below, ready.order.faithful.image_length))
+pub bound_inside : (m : Machine) (owed : Owed) → IsGoing m → m.kernel.part.shut ≡ false → m.owed ≡ Some owed → owed.target < m.kernel.layout.image_words → is_own m.kernel.part m.at ≡ true
+bound_inside m owed ready unshut owes below = admitted_own m.kernel.part m.kernel.layout.image_words m.at ready.order.part (open_admits m.kernel.part m.at unshut) (omega (arith, owed_at m owed ready owes, below))
 
-bound_outside : (m : Machine) (owed : Owed) → IsGoing m → m.owed ≡ Some owed → m.kernel.layout.image_words ≤ owed.target → is_inside (image_held m.kernel) m.at ≡ false
-bound_outside m owed ready owes beyond = outside_of (image_held m.kernel) m.at (omega (arith, owed_at m owed ready owes, beyond, ready.order.faithful.image_length))
+bound_outside : (m : Machine) (owed : Owed) → IsGoing m → m.owed ≡ Some owed → m.kernel.layout.image_words ≤ owed.target → is_own m.kernel.part m.at ≡ false
+bound_outside m owed ready owes beyond = beyond_own m.kernel.part m.kernel.layout.image_words m.at ready.order.part (omega (arith, owed_at m owed ready owes, beyond))
 
-bound_by : (m new : Machine) (result : Option End) (end : End) → is_inside (image_held m.kernel) m.at ≡ false → HasEntered m new result → Entering m new result → result ≡ Some end → HasBound m new end
+bound_by : (m new : Machine) (result : Option End) (end : End) → is_own m.kernel.part m.at ≡ false → HasEntered m new result → Entering m new result → result ≡ Some end → HasBound m new end
 bound_by m new result end outside entered (Entering.In ready free inside untaken) is = absurd (cc)
 bound_by m new result end outside entered (Entering.Out over kept out) is =
     let e : ends.Wild m.at ≡ end = cc in
@@ -226,7 +232,7 @@ bound_by m new result end outside entered (Entering.Failed op over kept inside f
 pub bound_wild : (m new : Machine) (owed : Owed) (result : Option End) (end : End) → IsGoing m → m.owed ≡ Some owed → m.kernel.layout.image_words ≤ owed.target → HasEntered m new result → result ≡ Some end → HasBound m new end
 bound_wild m new owed result end ready owes beyond entered is = bound_by m new result end (bound_outside m owed ready owes beyond) entered entered.way is
 
-none_by : (m new : Machine) (result : Option End) → is_inside (image_held m.kernel) m.at ≡ false → Entering m new result → result ≡ None → ⊥
+none_by : (m new : Machine) (result : Option End) → is_own m.kernel.part m.at ≡ false → Entering m new result → result ≡ None → ⊥
 none_by m new result outside (Entering.In ready free inside untaken) is = let e : true ≡ false = sym inside ∙ outside in absurd (cc)
 none_by m new result outside (Entering.Out over kept out) is = absurd (cc)
 none_by m new result outside (Entering.Failed op over kept inside fault) is = absurd (cc)

@@ -13,6 +13,8 @@ use Rattle.branch_bridge.specs.Operating.{with_torn}
 use Rattle.kernel_entry.specs.Parts.{image_held}
 use Rattle.step_laws.specs.StepLaws.{StepLaw, Reaches, links_at}
 use Rattle.step_laws.proofs.EveryShape.{entry_laws}
+use Rattle.step_laws.specs.Links.{part_number}
+use Rattle.nat_page.specs.Parts.{IsParted}
 use Rattle.program_steps.specs.Machines.{Machine, state_of, awaits}
 use Rattle.program_steps.specs.Ready.{IsGoing}
 use Rattle.program_steps.specs.Stepping.{links_in}
@@ -26,6 +28,12 @@ pub faithful_going : (m : Machine) → IsGoing m → IsFaithful m.kernel.layout 
 faithful_going m ready =
     let P : Option Torn → Type 0 = λ torn. IsFaithful m.kernel.layout (image_held m.kernel) (with_torn m.kernel.mote.flash.words torn) in
     subst P ready.untorn ready.order.faithful
+
+-- .. whose links keep to the parts
+pub parted_going : (m : Machine) → IsGoing m → IsParted m.kernel.layout (image_held m.kernel) m.kernel.mote.flash.words (part_number m.kernel.part.shut)
+parted_going m ready =
+    let P : Option Torn → Type 0 = λ torn. IsParted m.kernel.layout (image_held m.kernel) (with_torn m.kernel.mote.flash.words torn) (part_number m.kernel.part.shut) in
+    subst P ready.untorn ready.order.parted
 
 -- .. and so do the tables
 pub tables_going : (m : Machine) → IsGoing m → IsTables m.kernel.layout m.kernel.mote.sram m.kernel.mote.flash.words
@@ -56,5 +64,7 @@ law_of m ready timely few placed =
         paged = order.paged;
       };
       code = faithful_going m ready;
-      entry = by_stands m placed ready.stands;
+      parted = parted_going m ready;
+      own = (by_stands m placed ready.stands).1;
+      entry = (by_stands m placed ready.stands).0;
     })

@@ -5,7 +5,8 @@ pub mod Told
 pub mod Taking
 pub mod Settling
 pub mod ReadyLaws
-pub mod Laws
+pub mod Owning
+mod Laws
 pub mod Stepped
 pub mod OutsideTables
 pub mod Arriving

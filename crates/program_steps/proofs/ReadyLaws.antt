@@ -27,10 +27,12 @@ use Rattle.kernel_entry.specs.Seen.{count_of}
 use Rattle.step_laws.specs.Moves.{Plain, count_stop}
 use Rattle.step_laws.specs.Numbers.{Numbers, moved, numbered}
 use Rattle.step_laws.specs.States.{State}
-use Rattle.step_laws.specs.Links.{links_of}
+use Rattle.mem_guard.specs.declared.part.Part.{Part}
+use Rattle.nat_page.specs.Parts.{IsParted}
+use Rattle.step_laws.specs.Links.{links_of, part_number}
 use Rattle.step_laws.specs.StepLaws.{StepLaw, Reaches, Keeps, IsReset, crossings_over, links_at}
 use Rattle.program_steps.specs.Machines.{Machine, state_of, numbers_of, awaits}
-use Rattle.program_steps.specs.Ready.{count_in, HasFault, AreTried, IsInOrder, IsGoing, IsCounted, AreArrivals, most_arrivals}
+use Rattle.program_steps.specs.Ready.{IsRightPart, count_in, HasFault, AreTried, IsInOrder, IsGoing, IsCounted, AreArrivals, most_arrivals}
 use Rattle.program_steps.specs.Loop.{Taken}
 use Rattle.program_steps.proofs.Bounds.{counted_on, steps_goes, pages_first}
 use Rattle.program_steps.proofs.Laws.{tables_going}
@@ -58,6 +60,7 @@ order_on old new keeps torn same ready =
     let order = ready.order in
     let untorn : new.torn ≡ None = torn ∙ ready.untorn in
     let F : Layout → Memory → Option Torn → Type 0 = λ l f t. IsFaithful l (image_of l f.words) (with_torn f.words t) in
+    let I : Part → Layout → Memory → Option Torn → Type 0 = λ p l f t. IsParted l (image_of l f.words) (with_torn f.words t) (part_number p.shut) in
     let T : Layout → List ℕ → Memory → Option Torn → Type 0 = λ l m f t. IsTables l m (with_torn f.words t) in
     let U : Layout → Memory → Option Torn → Type 0 = λ l f t. used_pages l (with_torn f.words t) ≡ min new.pages l.pool_pages in
     let l = old.kernel.layout in
@@ -70,6 +73,8 @@ order_on old new keeps torn same ready =
       layout = subst (λ (l : Layout). l ≡ layout_of l.image_words) (sym keeps.layout) order.layout;
       right = subst IsRight (sym keeps.layout) order.right;
       faithful = subst (λ k. F k new.kernel.mote.flash new.torn) (sym keeps.layout) (subst (λ g. F l g new.torn) (sym keeps.flash) (subst (F l f) (sym torn) order.faithful));
+      part = subst (λ (k : Layout). IsRightPart new.kernel.part k.image_words) (sym keeps.layout) (subst (λ p. IsRightPart p l.image_words) (sym keeps.part) order.part);
+      parted = subst (λ p. I p new.kernel.layout new.kernel.mote.flash new.torn) (sym keeps.part) (subst (λ k. I old.kernel.part k new.kernel.mote.flash new.torn) (sym keeps.layout) (subst (λ g. I old.kernel.part l g new.torn) (sym keeps.flash) (subst (I old.kernel.part l f) (sym torn) order.parted)));
       tables = subst (λ k. T k new.kernel.mote.sram new.kernel.mote.flash new.torn) (sym keeps.layout) (subst (λ g. T l new.kernel.mote.sram g new.torn) (sym keeps.flash) (subst (T l new.kernel.mote.sram f) (sym untorn)
           (tables_kept l m new.kernel.mote.sram words words (λ a from to. keeps.tables a (omega arith) to) (λ t v entry. entry) (tables_going old ready))));
       paged = keeps.paged;
@@ -166,7 +171,8 @@ ready_on old new law to due ready taken at crossings going where' count counted 
     let keeps : Keeps (state_of old) (state_of new) = subst (Keeps (state_of old)) (sym taken.state) law.keeps in
     let same : count_in new ≡ count_over old.kernel.quantum old.at to (count_in old) = ap (λ (s : State). count_of s.kernel) taken.state ∙ count in
     let range = count_range old.kernel.quantum old.at to (count_in old) ready.some ready.most in
-    let W : Layout → Memory → ℕ → State → Type 0 = λ l f t s. Reaches (links_of l f.words) t (awaits new) s in
+    let W : Part → Layout → Memory → ℕ → State → Type 0 = λ p l f t s. Reaches (links_of p l f.words) t (awaits new) s in
+    let part = old.kernel.part in
     let polls = ready.polls in
     let polls' = keeps.polls in
     let pages = ap (λ (k : Numbers). k.pages) taken.numbers ∙ pages_first law.first law.rest (numbers_of old) law.inner in
@@ -177,11 +183,12 @@ ready_on old new law to due ready taken at crossings going where' count counted 
       top = keeps.top;
       some = omega (arith, same, range.0);
       most = omega (arith, same, range.1, keeps.quantum);
-      stands = subst (λ l. W l new.kernel.mote.flash new.at (state_of new)) (sym keeps.layout)
-          (subst (λ f. W old.kernel.layout f new.at (state_of new)) (sym keeps.flash)
-          (subst (λ t. W old.kernel.layout old.kernel.mote.flash t (state_of new)) (sym at)
-          (subst (W old.kernel.layout old.kernel.mote.flash to) (sym taken.state)
-          (subst (λ d. Reaches (links_at (state_of old)) to d law.end) (sym (due_reached new (links_at (state_of old)) to due law.end taken.state where')) where'))));
+      stands = subst (λ p. W p new.kernel.layout new.kernel.mote.flash new.at (state_of new)) (sym keeps.part)
+          (subst (λ l. W part l new.kernel.mote.flash new.at (state_of new)) (sym keeps.layout)
+          (subst (λ f. W part old.kernel.layout f new.at (state_of new)) (sym keeps.flash)
+          (subst (λ t. W part old.kernel.layout old.kernel.mote.flash t (state_of new)) (sym at)
+          (subst (W part old.kernel.layout old.kernel.mote.flash to) (sym taken.state)
+          (subst (λ d. Reaches (links_at (state_of old)) to d law.end) (sym (due_reached new (links_at (state_of old)) to due law.end taken.state where')) where')))));
       counted = counted_same (numbers_of new) _ new.crossings _ new.kernel.quantum _ (count_in new) _ new.at to taken.numbers crossings keeps.quantum same at counted;
       arrivals = arrivals_on (numbers_of old) (numbers_of new) old.owed new.owed pages (ap (λ (f : Memory). f.ops) keeps.flash) steps ready.arrivals;
       polls = omega arith;

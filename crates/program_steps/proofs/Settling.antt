@@ -1,7 +1,7 @@
 -- Where a step led, from what its moves told.
 use Rattle.program_steps.proofs.Awaiting.{awaits_some, awaits_none, some_same}
 use Rattle.step_laws.specs.States.{Awaited}
-use Rattle.std.proofs.Common.{◌≡◌, ℕ, Bool, true, false, refl, sym, ap, subst, ◌∙◌}
+use Rattle.std.proofs.Common.{◌≡◌, ℕ, true, false, refl, sym, ap, subst, ◌∙◌}
 use Rattle.std.specs.Prelude.{◌≢◌, ◌&&◌, is_some, Option, Some, None}
 use Rattle.page_index.specs.Entries.{IsEntry, IsMapped}
 use Rattle.page_index.proofs.EntryLaws.{one_address}
@@ -20,7 +20,7 @@ told_owed m owed is t due (Reaches.Placed quiet free entry) = absurd (let e = sy
 told_owed m owed is t due (Reaches.Owing stub alone owes of) = ap (λ (w : Awaited). w.target) (some_same _ _ (sym (awaits_some m owed is) ∙ owes))
 
 told_entry : (m : Machine) (t : ℕ) → IsMapped m.kernel.layout m.kernel.mote.flash.words → m.owed ≡ None → IsEntry m.kernel.layout m.kernel.mote.flash.words t m.kernel.mote.cpu.pc → IsTold m t
-told_entry m t mapped free entry u due (Reaches.Placed quiet free' entry') = one_address m.kernel.layout m.kernel.mote.flash.words t u m.kernel.mote.cpu.pc mapped entry entry'
+told_entry m t mapped free entry u due (Reaches.Placed quiet free' entry') = one_address m.kernel.layout m.kernel.mote.flash.words t u m.kernel.mote.cpu.pc mapped entry entry'.0
 told_entry m t mapped free entry u due (Reaches.Owing stub alone owes of) = absurd (let e = sym owes ∙ awaits_none m free in cc)
 
 settled_by : (m : Machine) (to : ℕ) → m.end ≡ None → IsTold m to → HasSettled m (settled m to)

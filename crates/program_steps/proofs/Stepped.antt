@@ -3,6 +3,7 @@ use Rattle.std.proofs.lemmas.Bool.Decides.{nat_tests}
 use Rattle.avr_isa.specs.Crossing.{is_crossing}
 use Rattle.preempt_count.specs.Counting.{is_checkpoint}
 use Rattle.mote_devices.specs.Waking.{Timely}
+use Rattle.mem_guard.specs.declared.part.Part.{Part}
 use Rattle.mem_guard.specs.FlatMachine.{is_taken, next_of, tried}
 use Rattle.mem_guard.proofs.MachineLaws.{next_tried}
 use Rattle.program_steps.proofs.Awaiting.{state_settled, due_reached, free_of}
@@ -81,7 +82,7 @@ flat_same k k' a a' s s' c c' ek ea es ec = ap (λ (x : Kernel). state_at x a s 
 
 stays_by : (old new : Machine) → Keeps (state_of old) (state_of new) → Stays old new
 stays_by old new keeps = record {
-  program = ap₂ (λ i n. record { image = i; page_limit = n; quantum = new.kernel.quantum }) (ap₂ (λ (l : Layout) (f : Memory). image_of l f.words) keeps.layout keeps.flash) keeps.slots ∙ ap (λ q. record { image = image_held old.kernel; page_limit = length old.kernel.mote.swap; quantum = q }) keeps.quantum;
+  program = ap₂ (λ i n. record { image = i; part = new.kernel.part; page_limit = n; quantum = new.kernel.quantum }) (ap₂ (λ (l : Layout) (f : Memory). image_of l f.words) keeps.layout keeps.flash) keeps.slots ∙ ap₂ (λ q r. record { image = image_held old.kernel; part = r; page_limit = length old.kernel.mote.swap; quantum = q }) keeps.quantum keeps.part;
   layout = keeps.layout;
   quantum = keeps.quantum;
   failing = ap (λ (f : Memory). f.failing) keeps.flash;
@@ -174,8 +175,10 @@ stepped_as : (old mid new : Machine) (line : Option Line) (law : StepLaw (links_
     → HasSettled mid new → Outcome (links_in old) (state_of old) old.at law.line law.rest law.end → HasStepped old new line
 stepped_as old mid new line law ready untaken torn took layout flash settle (Outcome.Went to goes) =
     let due = goes.wakes || is_checkpoint old.at to (count_in old) in
-    let W : Layout → Memory → State → Type 0 = λ l f s. Reaches (links_of l f.words) to due s in
-    let there : Reaches (links_in mid) to due (state_of mid) = subst (λ l. W l mid.kernel.mote.flash (state_of mid)) (sym layout) (subst (λ f. W old.kernel.layout f (state_of mid)) (sym flash) (subst (W old.kernel.layout old.kernel.mote.flash) (sym took.taken.state) goes.reaches)) in
+    let W : Part → Layout → Memory → State → Type 0 = λ p l f s. Reaches (links_of p l f.words) to due s in
+    let part : mid.kernel.part ≡ old.kernel.part = ap (λ (s : State). s.kernel.part) took.taken.state ∙ law.keeps.part in
+    let there : Reaches (links_in mid) to due (state_of mid) = subst (λ p. W p mid.kernel.layout mid.kernel.mote.flash (state_of mid)) (sym part)
+    (subst (λ l. W old.kernel.part l mid.kernel.mote.flash (state_of mid)) (sym layout) (subst (λ f. W old.kernel.part old.kernel.layout f (state_of mid)) (sym flash) (subst (W old.kernel.part old.kernel.layout old.kernel.mote.flash) (sym took.taken.state) goes.reaches))) in
     subst (λ m. HasStepped old m line) (sym (settle.on to due (ap (λ (s : State). s.end) took.taken.state ∙ goes.going) there))
     (went_by old mid line law to ready untaken torn took goes)
 stepped_as old mid new line law ready untaken torn took layout flash settle (Outcome.Stopped stop stops) =

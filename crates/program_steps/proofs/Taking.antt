@@ -25,7 +25,7 @@ some_none o a is = λ none. let e : Some a ≡ None = sym is ∙ none in cc
 over_reached : (x z : State) (to : ℕ) (due : Bool) → Keeps x z → Reaches (links_at x) to due z → IsOver z
 over_reached x z to due keeps (Reaches.Placed quiet free entry) =
     let P : Layout → List ℕ → Type 0 = λ l w. IsEntry l w to (mote_of z).cpu.pc in
-    IsOver.Reached (to, subst (λ l. P l (mote_of z).flash.words) (sym keeps.layout) (subst (λ (f : Memory). P x.kernel.layout f.words) (sym keeps.flash) entry))
+    IsOver.Reached (to, subst (λ l. P l (mote_of z).flash.words) (sym keeps.layout) (subst (λ (f : Memory). P x.kernel.layout f.words) (sym keeps.flash) entry.0))
 over_reached x z to due keeps (Reaches.Owing stub alone owes of) = IsOver.Owes (some_none z.owed _ owes)
 
 over_by : (x z : State) (a : ℕ) (line : Option Line) (rest : List Move) → Keeps x z → Outcome (links_at x) x a line rest z → IsOver z

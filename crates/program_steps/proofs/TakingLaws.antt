@@ -1,7 +1,10 @@
 -- An interrupt that is taken is a step of the program.
 use Rattle.std.proofs.Common.{◌≡◌, ℕ, ◌+◌, ◌<◌, Bool, true, false, [], ◌∷◌, length, refl, sym, ap, ap₂, ◌∙◌, arith, subst}
 use Rattle.std.specs.Prelude.{◌^◌, ◌&&◌, ◌-◌, ◌%◌, is_some, min, List, Some, None, Option}
-use Rattle.avr_isa.specs.Image.{is_inside}
+use Rattle.mem_guard.specs.FlatMachine.{is_own}
+use Rattle.mem_guard.specs.declared.part.Part.{Part}
+use Rattle.nat_page.specs.Parts.{IsParted}
+use Rattle.step_laws.specs.Links.{part_number}
 use Rattle.avr_flags.specs.Status.{has_bit, interrupts}
 use Rattle.flash_model.specs.Memory.{Memory, IsWhole}
 use Rattle.flash_model.specs.Layouts.{IsRight, image_of, layout_of}
@@ -31,7 +34,7 @@ use Rattle.step_laws.specs.States.{Awaited, State, after_taking, stops_taking}
 use Rattle.step_laws.specs.Walks.{MakesTake}
 use Rattle.step_laws.specs.StepLaws.{Reaches}
 use Rattle.program_steps.specs.Machines.{Machine, awaited, state_of, numbers_of}
-use Rattle.program_steps.specs.Ready.{count_in, IsGoing, IsInOrder, HasBounds}
+use Rattle.program_steps.specs.Ready.{IsRightPart, count_in, IsGoing, IsInOrder, HasBounds}
 use Rattle.program_steps.specs.Stepping.{HasStepped, StepWay}
 use Rattle.program_steps.specs.Interrupts.{IsUntaken, is_wanted_at, is_to_be_taken}
 use Rattle.program_steps.proofs.Bounds.{bounded_counted}
@@ -49,14 +52,14 @@ both false c is = absurd (cc)
 -- what is known where one is to be taken
 record Wanted (m : Machine) (owed : Owed) : Type 0 where
   due : m.due ≡ true
-  inside : is_inside (image_held m.kernel) owed.target ≡ true
+  inside : is_own m.kernel.part owed.target ≡ true
   on : has_bit m.kernel.mote.cpu.sreg interrupts ≡ true
   some : is_enabled m.kernel.mote.devices ≡ true
 
 wanted_of : (m : Machine) (owed : Owed) → m.owed ≡ Some owed → is_to_be_taken m ≡ true → Wanted m owed
 wanted_of m owed owes is =
     let one = both m.due (is_wanted_at m.kernel m.owed) is in
-    let two = both (is_inside (image_held m.kernel) owed.target) (has_bit m.kernel.mote.cpu.sreg interrupts && is_enabled m.kernel.mote.devices) (sym (ap (is_wanted_at m.kernel) owes) ∙ one.1) in
+    let two = both (is_own m.kernel.part owed.target) (has_bit m.kernel.mote.cpu.sreg interrupts && is_enabled m.kernel.mote.devices) (sym (ap (is_wanted_at m.kernel) owes) ∙ one.1) in
     let three = both (has_bit m.kernel.mote.cpu.sreg interrupts) (is_enabled m.kernel.mote.devices) two.1 in
     record { due = one.0; inside = two.0; on = three.0; some = three.1 }
 
@@ -92,6 +95,7 @@ order_taken : (m : Machine) (v : ℕ) (k : Kernel) → KeepsTaken m.kernel k →
 order_taken m v k same ready =
     let order = ready.order in
     let F : Layout → Memory → Type 0 = λ l f. IsFaithful l (image_of l f.words) (with_torn f.words m.torn) in
+    let I : Part → Layout → Memory → Type 0 = λ p l f. IsParted l (image_of l f.words) (with_torn f.words m.torn) (part_number p.shut) in
     let T : Layout → Memory → Option Torn → Type 0 = λ l f t. IsTables l k.mote.sram (with_torn f.words t) in
     let U : Layout → Memory → Type 0 = λ l f. used_pages l (with_torn f.words m.torn) ≡ min m.pages l.pool_pages in
     let l = m.kernel.layout in
@@ -103,6 +107,8 @@ order_taken m v k same ready =
       layout = subst (λ (l : Layout). l ≡ layout_of l.image_words) (sym same.layout) order.layout;
       right = subst IsRight (sym same.layout) order.right;
       faithful = subst (λ l. F l k.mote.flash) (sym same.layout) (subst (F l) (sym same.flash) order.faithful);
+      part = subst (λ (l : Layout). IsRightPart k.part l.image_words) (sym same.layout) (subst (λ p. IsRightPart p l.image_words) (sym same.part) order.part);
+      parted = subst (λ p. I p k.layout k.mote.flash) (sym same.part) (subst (λ l. I m.kernel.part l k.mote.flash) (sym same.layout) (subst (I m.kernel.part l) (sym same.flash) order.parted));
       tables = subst (λ l. T l k.mote.flash m.torn) (sym same.layout) (subst (λ g. T l g m.torn) (sym same.flash) (subst (T l f) (sym ready.untorn)
           (tables_kept l m.kernel.mote.sram k.mote.sram words words (λ a from to. same.tables a (omega arith) to) (λ t w entry. entry) (tables_going m ready))));
       paged = same.paged;
@@ -167,7 +173,7 @@ taken_vector m owed v k ready owes few wanted is =
       some = λ e. cc;
       none_made = tt;
       stays = record {
-        program = ap₂ (λ i n. record { image = i; page_limit = n; quantum = k.quantum }) (ap₂ (λ (l : Layout) (f : Memory). image_of l f.words) same.layout same.flash) (ap length same.swap) ∙ ap (λ q. record { image = image_held m.kernel; page_limit = length m.kernel.mote.swap; quantum = q }) same.quantum;
+        program = ap₂ (λ i n. record { image = i; part = k.part; page_limit = n; quantum = k.quantum }) (ap₂ (λ (l : Layout) (f : Memory). image_of l f.words) same.layout same.flash) (ap length same.swap) ∙ ap₂ (λ q r. record { image = image_held m.kernel; part = r; page_limit = length m.kernel.mote.swap; quantum = q }) same.quantum same.part;
         layout = same.layout;
         quantum = same.quantum;
         failing = ap (λ (f : Memory). f.failing) same.flash;
@@ -202,6 +208,8 @@ taken_stopped m owed stop k ready owes few wanted is =
           layout = ready.order.layout;
           right = ready.order.right;
           faithful = ready.order.faithful;
+          part = ready.order.part;
+          parted = ready.order.parted;
           tables = ready.order.tables;
           paged = ready.order.paged;
           whole = ready.order.whole;
@@ -221,19 +229,19 @@ taken_stopped m owed stop k ready owes few wanted is =
 
 -- where none is to be taken
 untaken_as : (k : Kernel) (o : Option Owed) (d : Bool) (w : Awaited) → awaited o d ≡ Some w → d && is_wanted_at k o ≡ false
-    → w.due && (is_inside (image_held k) w.target && (has_bit k.mote.cpu.sreg interrupts && is_enabled k.mote.devices)) ≡ false
+    → w.due && (is_own k.part w.target && (has_bit k.mote.cpu.sreg interrupts && is_enabled k.mote.devices)) ≡ false
 untaken_as k None d w is none = absurd (cc)
 untaken_as k (Some owed) d w is none =
     let same = some_same _ _ is in
-    ap (λ (v : Awaited). v.due && (is_inside (image_held k) v.target && (has_bit k.mote.cpu.sreg interrupts && is_enabled k.mote.devices))) (sym same) ∙ none
+    ap (λ (v : Awaited). v.due && (is_own k.part v.target && (has_bit k.mote.cpu.sreg interrupts && is_enabled k.mote.devices))) (sym same) ∙ none
 
 pub untaken_of : (m : Machine) → is_to_be_taken m ≡ false → IsUntaken m
 untaken_of m none w owes = untaken_as m.kernel m.owed m.due w owes none
 
--- where one is, the arrival is inside the image
-wanted_inside : (m : Machine) (o : Option Owed) → m.owed ≡ o → IsGoing m → is_to_be_taken m ≡ true → is_inside (image_held m.kernel) m.at ≡ true
+-- where one is, the arrival is inside the program's part
+wanted_inside : (m : Machine) (o : Option Owed) → m.owed ≡ o → IsGoing m → is_to_be_taken m ≡ true → is_own m.kernel.part m.at ≡ true
 wanted_inside m None free ready wanted = absurd (none_wanted m free wanted)
-wanted_inside m (Some owed) owes ready wanted = ap (is_inside (image_held m.kernel)) (sym (owed_at m owed ready owes)) ∙ (wanted_of m owed owes wanted).inside
+wanted_inside m (Some owed) owes ready wanted = ap (is_own m.kernel.part) (sym (owed_at m owed ready owes)) ∙ (wanted_of m owed owes wanted).inside
 
-pub taken_inside : (m : Machine) → IsGoing m → is_to_be_taken m ≡ true → is_inside (image_held m.kernel) m.at ≡ true
+pub taken_inside : (m : Machine) → IsGoing m → is_to_be_taken m ≡ true → is_own m.kernel.part m.at ≡ true
 taken_inside m ready wanted = wanted_inside m m.owed refl ready wanted

@@ -1,18 +1,17 @@
 -- When an interrupt is taken instead of the arrival that is owed (docs/MACHINE.md, "A run of n steps").
 use Rattle.std.specs.Prelude.{◌≡◌, ◌&&◌, Bool, false, Option, Some, None}
-use Rattle.avr_isa.specs.Image.{is_inside}
 use Rattle.avr_flags.specs.Status.{has_bit, interrupts}
 use Rattle.mote_devices.specs.Waking.{is_enabled}
 use Rattle.kernel_entry.specs.declared.kernel.Kernel.{Kernel}
-use Rattle.kernel_entry.specs.Parts.{image_held}
+use Rattle.mem_guard.specs.FlatMachine.{is_own}
 use Rattle.step_laws.specs.declared.moves.Owed.{Owed}
 use Rattle.step_laws.specs.States.{Awaited, is_taken_at}
 use Rattle.program_steps.specs.Machines.{Machine, state_of}
 
--- the arrival that is owed is inside the image, interrupts are on, and one is enabled
+-- the arrival that is owed is inside the program's part, interrupts are on, and one is enabled
 abbrev pub is_wanted_at : Kernel → Option Owed → Bool
 is_wanted_at k None = false
-is_wanted_at k (Some owed) = is_inside (image_held k) owed.target && (has_bit k.mote.cpu.sreg interrupts && is_enabled k.mote.devices)
+is_wanted_at k (Some owed) = is_own k.part owed.target && (has_bit k.mote.cpu.sreg interrupts && is_enabled k.mote.devices)
 
 -- an interrupt is due as well, and so is taken instead of that arrival
 abbrev pub is_to_be_taken : Machine → Bool

@@ -8,7 +8,7 @@ use Rattle.mote_devices.specs.declared.line.Line.{Line}
 use Rattle.page_index.specs.Entries.{IsEntry}
 use Rattle.branch_bridge.specs.declared.arrival.Refused.{Refused}
 use Rattle.branch_bridge.specs.declared.through.Arrival.{Arrival}
-use Rattle.branch_bridge.specs.Arrivals.{KeptThrough}
+use Rattle.branch_bridge.specs.Arrivals.{KeptThrough, KeepsParts}
 use Rattle.step_laws.specs.declared.moves.Owed.{Owed}
 use Rattle.program_steps.specs.declared.progress.Progress.{Progress}
 use Rattle.program_steps.specs.Machines.{Machine, state_of, numbers_of}
@@ -118,6 +118,7 @@ pub record HasArrived (old new : Machine) : Type 0 where
   pub ops : ℕ
   pub makes : MakesArrive (state_of old) target made ops (state_of new)
   pub kept : KeptThrough old.kernel.layout (store_of (state_of old)) makes.store target makes.arrival
+  pub parts : KeepsParts old.kernel.layout (store_of (state_of old)) makes.store target makes.owed.stub makes.arrival
   pub numbers : numbers_of new ≡ moved (Arrive target made ops) (numbers_of old)
   pub at : new.at ≡ old.at
   pub broken : new.broken ≡ old.broken

@@ -7,6 +7,9 @@ use Rattle.flash_model.specs.Layouts.{IsRight, layout_of}
 use Rattle.flash_model.specs.Memory.{IsWhole}
 use Rattle.nat_page.specs.Faithful.{IsFaithful}
 use Rattle.nat_page.specs.Used.{used_pages}
+use Rattle.nat_page.specs.Parts.{IsParted}
+use Rattle.mem_guard.specs.declared.part.Part.{Part}
+use Rattle.step_laws.specs.Links.{part_number}
 use Rattle.addr_tables.specs.Tables.{IsTables}
 use Rattle.branch_bridge.specs.Operating.{with_torn}
 use Rattle.flash_model.specs.Operations.{is_listed}
@@ -39,13 +42,20 @@ pub record AreTried (m : Machine) : Type 0 where
   pub refused : m.kernel.mote.flash.refused ≢ None → HasFault m
   pub torn : IfSome m.torn (λ torn. IsTorn m.kernel.layout m.kernel.mote.flash.words torn × HasFault m)
 
+-- The program's part is all of the image; or, where it is shut, a quarter that lies in the image.
+pub record IsRightPart (part : Part) (words : ℕ) : Type 0 where
+  pub whole : part.shut ≡ false → (part.first ≡ 0) × (part.count ≡ words)
+  pub quarter : part.shut ≡ true → (q : ℕ) × (part.first ≡ 4096 * q) × (part.count ≡ 4096) × (part.first + part.count ≤ words)
+
 -- The layout is that of the image's length; flash, with the words that a torn page lacks, holds the image and its
--- faithful rewritten code; the tables and the heap are in order; as many pages are used as were made, up to the whole
+-- faithful rewritten code, whose links keep to the parts of the image; the tables and the heap are in order; as many pages are used as were made, up to the whole
 -- pool; r0 to r31 are there, and the low half of the program's stack pointer is a byte.
 pub record IsInOrder (m : Machine) : Type 0 where
   pub layout : m.kernel.layout ≡ layout_of m.kernel.layout.image_words
   pub right : IsRight m.kernel.layout
   pub faithful : IsFaithful m.kernel.layout (image_held m.kernel) (mended_words m)
+  pub part : IsRightPart m.kernel.part m.kernel.layout.image_words
+  pub parted : IsParted m.kernel.layout (image_held m.kernel) (mended_words m) (part_number m.kernel.part.shut)
   pub tables : IsTables m.kernel.layout m.kernel.mote.sram (mended_words m)
   pub paged : IsPaged m.kernel.mote.sram m.kernel.mote.swap
   pub whole : IsWhole m.kernel.mote.flash
@@ -132,9 +142,10 @@ pub record IsReady (m : Machine) : Type 0 where
   pub going : m.end ≡ None → IsGoing m
   pub quiet : m.end ≡ None → IsQuiet m
 
--- what the type `Machine` keeps
+-- what the type `Machine` keeps: also that its program has the whole image
 pub record IsKept (m : Machine) : Type 0 where
   pub sound : IsSound m
+  pub unshut : m.kernel.part.shut ≡ false
   pub ready : m.broken ≡ false → IsReady m
 
 -- the program has ended

@@ -1,12 +1,10 @@
 -- What one step of the program, and one arrival, leave of the machine.
 use Rattle.std.specs.Prelude.{◌≡◌, ◌≢◌, ℕ, ◌+◌, Bool, true, false, List, [], ◌∷◌, Option, Some, None, flat_map}
-use Rattle.avr_isa.specs.Image.{is_inside}
 use Rattle.flash_model.specs.Operations.{is_listed}
 use Rattle.mote_devices.specs.declared.line.Line.{Line}
-use Rattle.mem_guard.specs.FlatMachine.{Ends, next_of, is_taken}
+use Rattle.mem_guard.specs.FlatMachine.{Ends, is_own, next_of, is_taken}
 use Rattle.mem_guard.specs.FlatMachine as flat_ends
 use Rattle.kernel_entry.specs.declared.kernel.Stop.{Stop}
-use Rattle.kernel_entry.specs.Parts.{image_held}
 use Rattle.kernel_entry.specs.Texts.{line_text}
 use Rattle.step_laws.specs.declared.moves.End.{End}
 use Rattle.step_laws.specs.declared.moves.End.TheVariants as ends
@@ -93,11 +91,11 @@ pub record IsFault (m : Machine) (op : ℕ) : Type 0 where
   pub listed : is_listed m.kernel.mote.flash.failing op ≡ true
   pub refused : m.kernel.mote.flash.refused ≢ None
 
--- an arrival that is owed is made; or it is refused, outside the image or by flash
+-- an arrival that is owed is made; or it is refused, outside the program's part or by flash
 pub data Entering (old new : Machine) : Option End → Type 0 where
-  In : IsGoing new → new.owed ≡ None → is_inside (image_held old.kernel) old.at ≡ true → is_taken (flat_of new) ≡ false → Entering old new None
-  Out : IsEnded new → new.end ≡ Some (ends.Wild old.at) → is_inside (image_held old.kernel) old.at ≡ false → Entering old new (Some (ends.Wild old.at))
-  Failed : (op : ℕ) → IsEnded new → new.end ≡ Some (ends.Flash op) → is_inside (image_held old.kernel) old.at ≡ true → IsFault new op → Entering old new (Some (ends.Flash op))
+  In : IsGoing new → new.owed ≡ None → is_own old.kernel.part old.at ≡ true → is_taken (flat_of new) ≡ false → Entering old new None
+  Out : IsEnded new → new.end ≡ Some (ends.Wild old.at) → is_own old.kernel.part old.at ≡ false → Entering old new (Some (ends.Wild old.at))
+  Failed : (op : ℕ) → IsEnded new → new.end ≡ Some (ends.Flash op) → is_own old.kernel.part old.at ≡ true → IsFault new op → Entering old new (Some (ends.Flash op))
 
 -- what that leaves: one move at most, and of what the program sees nothing has changed
 pub record HasEntered (old new : Machine) (result : Option End) : Type 0 where
@@ -110,7 +108,7 @@ pub record HasEntered (old new : Machine) (result : Option End) : Type 0 where
   pub made : AreMadeAt (λ t. t ≡ old.at) moves
   pub way : Entering old new result
 
--- at the bound only an arrival outside the image is made, and refused
+-- at the bound only an arrival outside the program's part is made, and refused
 pub data HasBound (old new : Machine) : End → Type 0 where
-  Waits : new ≡ old → is_inside (image_held old.kernel) old.at ≡ true → HasBound old new ends.Spent
-  Leaves : HasEntered old new (Some (ends.Wild old.at)) → is_inside (image_held old.kernel) old.at ≡ false → HasBound old new (ends.Wild old.at)
+  Waits : new ≡ old → is_own old.kernel.part old.at ≡ true → HasBound old new ends.Spent
+  Leaves : HasEntered old new (Some (ends.Wild old.at)) → is_own old.kernel.part old.at ≡ false → HasBound old new (ends.Wild old.at)

@@ -8,7 +8,7 @@ ghost use Rattle.nat_page.specs.Faithful.{IsFaithful};
 ghost use Rattle.addr_tables.specs.Tables.{IsTables};
 ghost use Rattle.branch_bridge.specs.Arrivals.{CameThrough, ring_of};
 ghost use Rattle.kernel_entry.specs.Parts.{image_held};
-ghost use Rattle.step_laws.specs.States.{end_by as end_by_of};
+ghost use Rattle.step_laws.specs.States.{admits, end_by as end_by_of};
 ghost use Rattle.program_steps.specs.Loop.{HasArrived, after_arrival};
 ghost use Rattle.program_steps.specs.Ready.{IsGoing, IsQuiet};
 ghost use Rattle.program_steps.specs.Stepping.{HasEntered, HasBound};
@@ -16,11 +16,19 @@ ghost use Rattle.program_steps.specs.Interrupts.{IsUntaken};
 ghost use Rattle.program_steps.specs.Wholes.{whole};
 
 use crate::progress::Progress;
-use branch_bridge::{Arrival, ArriveStop, arrive_from};
+use branch_bridge::{Arrival, ArriveStop, arrive_from, arrive_known};
 use flash_model::Flash;
 use kernel_entry::Kernel;
 use page_index::Cursor;
 use step_laws::{End, Owed};
+
+/// Whether the program may go on where it stands: one that is shut in its part may not outside it, and then ends there
+/// without an arrival.
+pub fn may_enter(k: &Kernel, p: &Progress) -> bool
+    ensures value { result ≡ admits k.now.part p.now.at }
+{
+    !k.part.shut || k.part.owns(p.at)
+}
 
 /// Makes the arrival that is owed, if any. Where it is refused the program has ended.
 #[inline(always)]
@@ -29,6 +37,7 @@ pub fn enter(k: &mut Kernel, p: &mut Progress, cursor: &mut Cursor) -> Option<En
     requires steps { p.old.steps ≤ 10 ^ 12 }
     requires quiet { IsQuiet (whole k.old p.old) }
     requires untaken { IsUntaken (whole k.old p.old) }
+    requires admitted { admits k.old.part p.old.at ≡ true }
     requires cursor { IsCursor k.old.layout k.old.mote.flash.words cursor.old }
     ensures entered { HasEntered (whole k.old p.old) (whole k.new p.new) result }
     ensures cursor { IsCursor k.new.layout k.new.mote.flash.words cursor.new }
@@ -51,15 +60,16 @@ fn forget_if(changed: bool, cursor: &mut Cursor)
     ensures forgotten { changed ≡ true → IsCursorAnywhere cursor.new }
 {
     if changed {
-        *cursor = Cursor::new();
+        cursor.forget();
     }
 }
 
-/// The answer where all steps are done: an arrival outside the image is refused at once.
+/// The answer where all steps of a program that has the whole image are done: an arrival outside it is refused at once.
 pub fn at_bound(k: &mut Kernel, p: &mut Progress) -> End
     requires ready { IsGoing (whole k.old p.old) }
     requires steps { p.old.steps ≤ 10 ^ 12 }
     requires quiet { IsQuiet (whole k.old p.old) }
+    requires unshut { k.old.part.shut ≡ false }
     ensures bound { HasBound (whole k.old p.old) (whole k.new p.new) result }
 {
     let owed = match p.owed {
@@ -75,13 +85,51 @@ pub fn at_bound(k: &mut Kernel, p: &mut Progress) -> End
     }
 }
 
-/// Makes the arrival that is owed. The stub that asked for it leads to its place from then on. Tells whether flash
-/// may have changed.
+/// Makes the arrival that is owed. Tells whether flash may have changed. Not inlined, so that arrivals can be counted
+/// from outside.
+#[inline(never)]
 fn arrive_owed(k: &mut Kernel, p: &mut Progress, owed: Owed) -> bool
     requires owed { p.old.owed ≡ Some owed }
     requires going { p.old.end ≡ None }
     requires untorn { p.old.torn ≡ None }
     requires untaken { IsUntaken (whole k.old p.old) }
+    requires admitted { admits k.old.part owed.target ≡ true }
+    requires right { IsRight k.old.layout }
+    requires faithful { IsFaithful k.old.layout (image_held k.old) k.old.mote.flash.words }
+    requires tables { IsTables k.old.layout k.old.mote.sram k.old.mote.flash.words }
+    requires stub { CameThrough k.old.layout k.old.mote.flash.words owed.stub owed.target }
+    requires ring { ring_of k.old.mote.sram < k.old.layout.pool_pages }
+    requires room { k.old.mote.flash.ops < 2 ^ 61 }
+    requires few { p.old.pages < 2 ^ 62 }
+    ensures arrived { HasArrived (whole k.old p.old) (whole k.new p.new) }
+    ensures unchanged { result ≡ false → k.new.mote.flash ≡ k.old.mote.flash }
+{
+    let found = arrive_known(
+        &mut k.mote.sram,
+        &k.mote.flash,
+        &k.layout,
+        owed.target,
+        owed.stub,
+    );
+    match found {
+        Some(place) => {
+            k.mote.cpu.pc = place;
+            p.owed = None;
+            false
+        }
+        None => arrive_anew(k, p, owed),
+    }
+}
+
+/// The same where flash may change. The stub that asked for the arrival leads to its place from then on. Not inlined,
+/// since what it keeps on the stack, with the words of pages, is cleared where it begins.
+#[inline(never)]
+fn arrive_anew(k: &mut Kernel, p: &mut Progress, owed: Owed) -> bool
+    requires owed { p.old.owed ≡ Some owed }
+    requires going { p.old.end ≡ None }
+    requires untorn { p.old.torn ≡ None }
+    requires untaken { IsUntaken (whole k.old p.old) }
+    requires admitted { admits k.old.part owed.target ≡ true }
     requires right { IsRight k.old.layout }
     requires faithful { IsFaithful k.old.layout (image_held k.old) k.old.mote.flash.words }
     requires tables { IsTables k.old.layout k.old.mote.sram k.old.mote.flash.words }

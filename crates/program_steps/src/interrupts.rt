@@ -1,8 +1,7 @@
 //! An interrupt that is taken instead of the arrival that is owed.
 
-ghost use Rattle.std.specs.Prelude.{◌≡◌, ◌<◌, ◌^◌, true, false, None, length};
+ghost use Rattle.std.specs.Prelude.{◌≡◌, ◌<◌, ◌^◌, true, false, None};
 ghost use Rattle.avr_flags.specs.Status.{has_bit, interrupts};
-ghost use Rattle.kernel_entry.specs.Parts.{image_held};
 ghost use Rattle.program_steps.specs.Ready.{IsGoing};
 ghost use Rattle.program_steps.specs.Stepping.{HasStepped};
 ghost use Rattle.program_steps.specs.Interrupts.{is_wanted_at, is_to_be_taken};
@@ -12,7 +11,7 @@ use crate::progress::Progress;
 use kernel_entry::{Kernel, Taken, interrupt};
 use step_laws::{End, Owed};
 
-/// Whether an interrupt is to be taken instead of the arrival that is owed: one is due, the arrival is inside the image,
+/// Whether an interrupt is to be taken instead of the arrival that is owed: one is due, the arrival is inside the program's part,
 /// interrupts are on, and one is enabled.
 #[inline(always)]
 pub fn must_take(k: &Kernel, p: &Progress) -> bool
@@ -24,12 +23,11 @@ pub fn must_take(k: &Kernel, p: &Progress) -> bool
 
 /// The same, where one is due.
 fn is_wanted(k: &Kernel, owed: Option<Owed>) -> bool
-    requires length { length (image_held k.now) ≡ k.now.layout.image_words }
     ensures value { result ≡ is_wanted_at k.now owed }
 {
     match owed {
         None => false,
-        Some(owed) => owed.target < k.layout.image_words
+        Some(owed) => k.part.owns(owed.target)
             && has_interrupts(k)
             && k.mote.devices.enabled() != 0,
     }

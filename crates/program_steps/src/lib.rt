@@ -7,7 +7,7 @@ mod moves;
 mod progress;
 mod step;
 
-pub use arrival::{at_bound, enter};
+pub use arrival::{at_bound, enter, may_enter};
 pub use interrupts::{must_take, take};
 pub use progress::Progress;
 pub use step::steps;

@@ -101,7 +101,7 @@ fn all_moves(k: &mut Kernel, p: &mut Progress, cursor: &mut Cursor) -> Option<u1
     requires untorn { p.old.torn ≡ None }
     requires right { IsRight k.old.layout }
     requires mapped { IsMapped k.old.layout k.old.mote.flash.words }
-    requires law { StepLaw (links_of k.old.layout k.old.mote.flash.words) (state_of (whole k.old p.old)) p.old.at }
+    requires law { StepLaw (links_of k.old.part k.old.layout k.old.mote.flash.words) (state_of (whole k.old p.old)) p.old.at }
     requires small { is_small (numbers_of (whole k.old p.old)) (2 ^ 60) }
     requires steps { p.old.steps < 2 ^ 60 }
     requires silent { p.old.line ≡ None }

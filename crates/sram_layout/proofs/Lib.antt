@@ -1,3 +1,4 @@
 pub mod Laws
 pub mod CellLaws
 pub mod BootLaws
+pub mod PartLaws

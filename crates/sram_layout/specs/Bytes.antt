@@ -1,6 +1,6 @@
--- Bytes, words and blocks of the internal SRAM, seen as the list of its 4,096 bytes, and what a write of each leaves.
+-- Bytes, words, blocks and parts of the internal SRAM, seen as the list of its 4,096 bytes, and what a write of each leaves.
 -- An address is a data address (ATmega128 datasheet, "AVR ATmega128 Memories", SRAM data memory): the SRAM begins at 0x0100.
-use Rattle.std.specs.Prelude.{ℕ, ◌+◌, ◌-◌, ◌*◌, ◌/◌, ◌%◌, List, ◌++◌, take, drop, slice_index, slice_set}
+use Rattle.std.specs.Prelude.{ℕ, ◌+◌, ◌-◌, ◌*◌, ◌/◌, ◌%◌, List, ◌++◌, take, drop, length, slice_index, slice_set}
 
 -- the data address of the first byte
 abbrev pub first_address : ℕ
@@ -33,3 +33,11 @@ block_at m a = take 256 (drop (a - first_address) m)
 -- m with the 256 bytes bs from address a on
 unfoldable pub with_block : List ℕ → ℕ → List ℕ → List ℕ
 with_block m a bs = take (a - first_address) m ++ bs ++ drop (a - first_address + 256) m
+
+-- the n bytes from address a on
+unfoldable pub part_at : List ℕ → ℕ → ℕ → List ℕ
+part_at m a n = take n (drop (a - first_address) m)
+
+-- m with the bytes bs from address a on
+unfoldable pub with_part : List ℕ → ℕ → List ℕ → List ℕ
+with_part m a bs = take (a - first_address) m ++ bs ++ drop (a - first_address + length bs) m

@@ -1,12 +1,12 @@
 //! The mote's SRAM and what the kernel keeps in it.
 //!
 //! [`Sram`] is the 4,096 bytes at data addresses 0x0100 to 0x10FF. Contracts see it as the list of
-//! its bytes. Beside plain bytes and blocks of 256 it has a getter and a setter for each kernel
+//! its bytes. Beside plain bytes, blocks of 256 and parts of any length it has a getter and a setter for each kernel
 //! cell and table entry: each getter reads the bytes of its cell, each setter changes them alone.
 //!
-//! `specs/Bytes.antt` says what bytes, words and blocks are, `specs/Cells.antt` where each cell
-//! stands, and `specs/Boot.antt` what the kernel finds at boot. `proofs/Laws.antt` has the laws of
-//! one write and then one read, for the layers above.
+//! `specs/Bytes.antt` says what bytes, words, blocks and parts are, `specs/Cells.antt` where each cell
+//! stands, and `specs/Boot.antt` what the kernel finds at boot. `proofs/Laws.antt` and
+//! `proofs/PartLaws.antt` have the laws of one write and then one read, for the layers above.
 #![tactic(auto)]
 
 mod cells;

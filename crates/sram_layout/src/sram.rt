@@ -1,7 +1,7 @@
 //! The bytes, and what is read and written of them in one piece.
 
 ghost use Rattle.std.specs.Prelude.{◌≡◌, ◌+◌, ◌-◌, ◌≤◌, ◌<◌, length};
-ghost use Rattle.sram_layout.specs.Bytes.{byte_count, byte_at, with_byte, data_word_at, with_word, block_at, with_block};
+ghost use Rattle.sram_layout.specs.Bytes.{byte_count, byte_at, with_byte, data_word_at, with_word, block_at, with_block, part_at, with_part};
 ghost use Rattle.list_parts.specs.Lists.{many};
 ghost use Rattle.sram_layout.specs.Boot.{at_boot};
 
@@ -82,6 +82,28 @@ impl Sram {
     {
         let first = (a - FIRST) as usize;
         self.bytes[first..first + 256].copy_from_slice(block);
+    }
+
+    /// Copies the bytes from a data address on, as many as `into` has.
+    #[tactic(auto, unfolding(crate::specs::Bytes::part_at))]
+    pub fn part(&self, a: u16, into: &mut [u8])
+        requires { (0x0100 ≤ a) × (a + length into.old ≤ 0x1100) }
+        ensures value { into.new ≡ part_at self.now a (length into.old) }
+        ensures size { length self.now ≡ byte_count }
+    {
+        let first = (a - FIRST) as usize;
+        into.copy_from_slice(&self.bytes[first..first + into.len()]);
+    }
+
+    /// Writes the bytes from a data address on.
+    #[tactic(auto, unfolding(crate::specs::Bytes::with_part))]
+    pub fn set_part(&mut self, a: u16, part: &[u8])
+        requires { (0x0100 ≤ a) × (a + length part.now ≤ 0x1100) }
+        ensures after { self.new ≡ with_part self.old a part.now }
+        ensures size { (length self.old ≡ byte_count) × (length self.new ≡ byte_count) }
+    {
+        let first = (a - FIRST) as usize;
+        self.bytes[first..first + part.len()].copy_from_slice(part);
     }
 
     /// The word at a data address, low byte first.

@@ -1,6 +1,6 @@
 -- A call of the kernel, behind any plain moves of a template, and what follows from the service's answer.
 use Rattle.std.proofs.Common.{[], ℕ, ◌≡◌, ◌+◌, ◌<◌, ◌≤◌, ◌∷◌, ◌++◌, ◌∙◌, true, false, List, length, refl, sym, ap, arith, subst, inl}
-use Rattle.std.specs.Prelude.{◌≢◌, ◌&&◌, ◌==◌, Some, None, not}
+use Rattle.std.specs.Prelude.{◌≢◌, ◌&&◌, ◌==◌, Option, Some, None, not}
 use Rattle.avr_isa.specs.Crossing.{is_crossing}
 use Rattle.avr_isa.specs.declared.form.Form.{Form}
 use Rattle.avr_flags.specs.Status.{has_bit, interrupts}
@@ -17,12 +17,20 @@ use Rattle.heap_frames.proofs.SamePagingLaws.{same_paging_word, paged_same}
 use Rattle.nat_template.specs.declared.shapes.TemplateShape.TheVariants.{SelfJump}
 use Rattle.nat_template.specs.Shapes.{shape_of_form}
 use Rattle.nat_page.specs.Runs.{shape_at}
-use Rattle.mem_guard.specs.FlatMachine.{Goes, Stops, tried, next_size, jumps_to_itself}
+use Rattle.mem_guard.specs.FlatMachine.{Goes, Stops, tried, next_size, jumps_to_itself, word_asked, if_foreign}
+use Rattle.mote_devices.specs.State.{stored, rampz_address}
+use Rattle.avr_exec.specs.Asks.{ask_of}
+use Rattle.avr_exec.specs.declared.ask.Ask.{Ask}
+use Rattle.avr_exec.specs.declared.ask.Ask.TheVariants as asks
+use Rattle.mote_core.specs.Conditions.{is_device_ask}
+use Rattle.mem_guard.proofs.MachineLaws.{tried_read}
+use Rattle.mem_guard.proofs.ReadLaws.{reads_program, reads_own}
 use Rattle.mem_guard.specs.Guarded.{Guarded, guarded_calls}
 use Rattle.mem_guard.specs.Left.{IsKept}
-use Rattle.mem_guard.proofs.GuardedStep.{guarded_goes, guarded_stops}
+use Rattle.mem_guard.proofs.GuardedStep.{ReadsOwn, guarded_goes, guarded_stops}
 use Rattle.kernel_entry.specs.declared.kernel.Kernel.{Kernel}
 use Rattle.kernel_entry.specs.declared.kernel.Stop.{Stop}
+use Rattle.kernel_entry.specs.declared.kernel.Stop.TheVariants.{Read}
 use Rattle.kernel_entry.specs.declared.kernel.Served.TheVariants as answers
 use Rattle.step_laws.specs.States.{State, mote_of, with_mote}
 use Rattle.step_laws.specs.Settings.{IsIdle, IsRunning, IsSetting}
@@ -41,7 +49,7 @@ use Rattle.step_laws.specs.declared.moves.End.TheVariants as ends
 use Rattle.step_laws.specs.Numbers.{moved}
 use Rattle.avr_decode.specs.Program.{instruction_at}
 use Rattle.kernel_entry.specs.Parts.{core_of, descriptor, memory_of, rested, return_address, image_held}
-use Rattle.kernel_entry.specs.Services.{resumed, resumed_by, served, stop_of, if_instruction, execution, execution_by}
+use Rattle.kernel_entry.specs.Services.{foreign_in, foreign_read, read_by, accessed, resumed, resumed_by, served, stop_of, if_instruction, execution, execution_by}
 use Rattle.kernel_entry.specs.Conditions.{CanExecute, CanServe, shape_behind}
 use Rattle.preempt_count.specs.Counting.{count_over}
 use Rattle.kernel_entry.specs.declared.kernel.Served.{Served}
@@ -94,7 +102,7 @@ stop_asked links x a v ram back entry more stop s c can is stops =
       short = let few = c.few in omega (arith, plains_length more ms);
       serves = omega (arith, plains_served more ms);
       lines = plains_lines more ms;
-      keeps = record { layout = refl; quantum = refl; flash = refl; slots = refl; paged = c.state.can.paged; registers = refl; top = refl; polls = omega arith; pointer = c.state.pointer; tables = c.state.tables };
+      keeps = record { layout = refl; part = refl; quantum = refl; flash = refl; slots = refl; paged = c.state.can.paged; registers = refl; top = refl; polls = omega arith; pointer = c.state.pointer; tables = c.state.tables };
       outcome = StepOutcome.Stopped stop (record {
         ended = refl;
         free = refl;
@@ -110,21 +118,61 @@ stop_asked links x a v ram back entry more stop s c can is stops =
 abbrev pub RunsOn : Kernel → ℕ → Form → Type 0
 RunsOn k a form = jumps_to_itself a form && not (has_bit k.mote.cpu.sreg interrupts) ≡ false
 
-pub bus_stops_asked : (x : State) (a : ℕ) (ram : List ℕ) (back entry more : ℕ) (form : Form) (stop : BusStop) → Asked x a ram back entry more → instruction_at (image_held x.kernel) a ≡ Some form → is_executed form ≡ true → RunsOn x.kernel a form
+-- and it reads no word of the program that it may not
+abbrev pub Owns : Kernel → ℕ → Form → Type 0
+Owns k a form = ReadsOwn k.part (memory_of k) (core_of k a) form
+
+pub owns_by : (k : Kernel) (a : ℕ) (form : Form) → reads_program form ≡ false → Owns k a form
+owns_by k a form none = reads_own k.part (memory_of k) (core_of k a) form none
+
+-- nor does what asks for a device's register alone
+device_none : (r : ℕ) (ask : Ask) → is_device_ask ask ≡ true → word_asked r ask ≡ None
+unfolding is_device_ask
+device_none r (asks.Program z) is = absurd (cc)
+device_none r (asks.ExtendedProgram z) is = absurd (cc)
+device_none r (asks.ExtendedProgramRaising z) is = absurd (cc)
+device_none r _ is = refl
+
+pub device_owns : (k : Kernel) (a : ℕ) (form : Form) → is_device_ask (ask_of form (core_of k a)) ≡ true → Owns k a form
+device_owns k a form is = ap (if_foreign k.part) (device_none (stored k.mote.devices rampz_address) (ask_of form (core_of k a)) is)
+
+-- what may not be read, where the service is asked for the instruction at a
+abbrev pub foreign_at : Kernel → ℕ → Form → Option ℕ
+foreign_at k a form = if_foreign k.part (word_asked (stored k.mote.devices rampz_address) (ask_of form (core_of k a)))
+
+pub foreign_is : (k : Kernel) (a : ℕ) (form : Form) → descriptor k ≡ a → instruction_at (image_held k) a ≡ Some form → foreign_read k ≡ foreign_at k a form
+foreign_is k a form behind is = ap (foreign_in k) (ap (instruction_at (image_held k)) behind ∙ is) ∙ ap (λ w. foreign_at k w form) behind
+
+-- MEM's answer by that
+pub accessed_own : (k : Kernel) → foreign_read k ≡ None → accessed k ≡ resumed k
+unfolding accessed
+accessed_own k none = ap (read_by k) none
+
+pub accessed_foreign : (k : Kernel) (a w : ℕ) → descriptor k ≡ a → foreign_read k ≡ Some w → accessed k ≡ (answers.Stopped (Read a w), rested k)
+unfolding accessed
+accessed_foreign k a w behind is = ap (read_by k) is ∙ ap (λ at. (answers.Stopped (Read at w), rested k)) behind
+
+pub read_stops_asked : (x : State) (a w : ℕ) (ram : List ℕ) (back entry more : ℕ) (form : Form) → Asked x a ram back entry more → instruction_at (image_held x.kernel) a ≡ Some form → is_executed form ≡ true
+    → foreign_at (asked x ram back entry) a form ≡ Some w → (s c : ℕ) → tried (program x.kernel) (state_at x.kernel a s c) ≡ Stops (end_of (Read a w))
+read_stops_asked x a w ram back entry more form c is runs foreign n m =
+    let kc = asked x ram back entry in
+    ap (tried (program x.kernel)) (sym (c.state.sees a n m)) ∙ tried_read (program kc) (state_at kc a n m) form w is runs foreign
+
+pub bus_stops_asked : (x : State) (a : ℕ) (ram : List ℕ) (back entry more : ℕ) (form : Form) (stop : BusStop) → Asked x a ram back entry more → instruction_at (image_held x.kernel) a ≡ Some form → is_executed form ≡ true → Owns (asked x ram back entry) a form → RunsOn x.kernel a form
     → executed_at (asked x ram back entry) a form ≡ StoppedOn stop → (s c : ℕ) → tried (program x.kernel) (state_at x.kernel a s c) ≡ Stops (end_of (stop_of a stop))
-bus_stops_asked x a ram back entry more form stop c is runs apart stopped n m =
+bus_stops_asked x a ram back entry more form stop c is runs own apart stopped n m =
     let kc = asked x ram back entry in
     ap (tried (program x.kernel)) (sym (c.state.sees a n m))
-    ∙ guarded_stops _ (memory_of kc) (core_of kc a) n m form stop c.state.can.paged refl is runs apart stopped
+    ∙ guarded_stops _ _ (memory_of kc) (core_of kc a) n m form stop c.state.can.paged refl is runs own apart stopped
     ∙ ap Stops (sym (end_stop a stop))
 
 -- the service goes on behind the descriptor
 pub resume_asked : (links : Links) (x : State) (a v : ℕ) (ram : List ℕ) (back entry more to : ℕ) (form : Form) (cpu : Cpu) (g : Guarded) → IsSetting links x a v → Asked x a ram back entry more → CanServe (asked x ram back entry)
-    → instruction_at (image_held x.kernel) a ≡ Some form → is_executed form ≡ true → RunsOn x.kernel a form → executed_at (asked x ram back entry) a form ≡ WentOn cpu g → cpu.pc ≡ to
+    → instruction_at (image_held x.kernel) a ≡ Some form → is_executed form ≡ true → Owns (asked x ram back entry) a form → RunsOn x.kernel a form → executed_at (asked x ram back entry) a form ≡ WentOn cpu g → cpu.pc ≡ to
     → served (asked x ram back entry) ≡ (answers.Resume g.line, returned (asked x ram back entry) cpu g (wrapping_sum back 1))
     → (let z : State = record { kernel = returned (asked x ram back entry) cpu g (wrapping_sum back 1); owed = None; end = None; torn = None } in IsRunning z → IsIdle z.kernel → Onward 0 links z to (count_over x.kernel.quantum a to (byte_at (mote_of z).sram 0x0100)) (is_crossing a to)) → StepLaw links x a
 unfolding lines_of
-resume_asked links x a v ram back entry more to form cpu g s c can is runs apart went pc answer ahead =
+resume_asked links x a v ram back entry more to form cpu g s c can is runs own apart went pc answer ahead =
     let k = x.kernel in
     let image = image_held k in
     let kc = asked x ram back entry in
@@ -147,7 +195,7 @@ resume_asked links x a v ram back entry more to form cpu g s c can is runs apart
     let P : ℕ → Type 0 = λ to. (s c : ℕ) → tried (program k) (state_at k a s c) ≡ Goes g.line (state_at end.kernel to (s + 1) (crossings_over a to c)) in
     let goes : P cpu.pc = λ n m.
     ap (tried (program k)) (sym (c.state.sees a n m))
-    ∙ guarded_goes _ (memory_of kc) g (core_of kc a) cpu n m form c.state.can.paged refl is runs apart went
+    ∙ guarded_goes _ _ (memory_of kc) g (core_of kc a) cpu n m form c.state.can.paged refl is runs own apart went
     ∙ ap (Goes g.line) (sym (flat_put kc cpu g (wrapping_sum back 1) (n + 1) (crossings_over a cpu.pc m) size') ∙ sym (flat_same z1.kernel end.kernel cpu.pc (n + 1) (crossings_over a cpu.pc m) on.left.same)) in
     let ms = Serve g.line false ∷ on.moves in
     record {
@@ -163,6 +211,7 @@ resume_asked links x a v ram back entry more to form cpu g s c can is runs apart
       lines = plains_lines more ms ∙ ap (line_before g.line) on.silent;
       keeps = record {
         layout = on.left.layout;
+        part = on.left.part;
         quantum = on.left.quantum;
         flash = on.left.same.flash;
         slots = ap length on.left.same.swap ∙ kept.slots;

@@ -42,7 +42,7 @@ use Rattle.kernel_entry.specs.Parts.{core_of, memory_of, image_held}
 use Rattle.kernel_entry.specs.Services.{served, stop_of}
 use Rattle.kernel_entry.specs.Conditions.{CanServe}
 use Rattle.step_laws.proofs.Executed.{executed_at, returned}
-use Rattle.kernel_entry.proofs.ShapeLaws.{is_service_jump, by_service_jump}
+use Rattle.kernel_entry.proofs.ShapeLaws.{is_service_jump, by_service_jump, reads_by_mem}
 
 -- where a call leads
 call_goes : (k : Kernel) (a : ℕ) (form : Form) (n : ℕ) (answer : Answer) → shape_of_form a form ≡ Call → (finish_of form (core_of k a) n answer).pc ≡ target_of a (Some form)
@@ -83,10 +83,10 @@ call_by links x a v t form (WentOn cpu g) done s c can is shape target template 
     (answer_of guarded_calls (memory_of kc) (ask_of form (core_of kc a))) t cpu g
     (λ answer. call_goes kc a form (next_size image a) answer shape ∙ target)
     (sym (exec_by_ask guarded_calls form (core_of kc a) (memory_of kc) (next_size image a)) ∙ done) in
-    resume_law links x a v push_return_entry t form cpu g s c can is runs apart done pc (resumed_is kc (v + 2) a form (WentOn cpu g) c.back c.behind is done)
+    resume_law links x a v push_return_entry t form cpu g s c can is runs (reads_by_mem a form (λ e. let e' = sym shape ∙ e in cc)) apart done pc (resumed_is kc (v + 2) a form (WentOn cpu g) c.back c.behind is done)
     (λ free fit. by_way 0 links z t _ _ (stub_law links z a t (v + 3) false free (stretch_behind k.layout words v 3 (size way) row (omega arith) (omega arith)) stands' marks' fit at begins))
 call_by links x a v t form (StoppedOn stop) done s c can is shape target template runs apart =
-    stop_law links x a v push_return_entry (stop_of a stop) s c can (resumed_is (called x v push_return_entry) (v + 2) a form (StoppedOn stop) c.back c.behind is done) (bus_stops links x a v push_return_entry form stop s c is runs apart done)
+    stop_law links x a v push_return_entry (stop_of a stop) s c can (resumed_is (called x v push_return_entry) (v + 2) a form (StoppedOn stop) c.back c.behind is done) (bus_stops links x a v push_return_entry form stop s c is runs (reads_by_mem a form (λ e. let e' = sym shape ∙ e in cc)) apart done)
 
 pub call_law : ShapeLaw Call
 unfolding template_by

@@ -33,6 +33,8 @@ use Rattle.kernel_entry.specs.Services.{fault_of, is_sleep}
 use Rattle.step_laws.proofs.ShapeTests.{not_chosen, chosen_other}
 use Rattle.kernel_entry.specs.Seen.{program, state_at, end_of}
 use Rattle.kernel_entry.proofs.FaultLaws.{io_class, reads_not, six_right, six_left, low_left, own_read, own_write}
+use Rattle.step_laws.proofs.AskedLaw.{owns_by}
+use Rattle.mem_guard.proofs.ReadLaws.{reads_program}
 
 -- a register that isn't allowed stops the program
 refused_load : (g : Guarded) (a : ℕ) → a < 256 → is_own a ≡ false → can_read a ≡ false → answer_of guarded_calls g (load_of a) ≡ StoppedOn (bus.Io a)
@@ -68,10 +70,10 @@ fault_io false false is = (refl, refl)
 abbrev Tries : Kernel → ℕ → Option Form → Type 0
 Tries k a form = is_sleep form ≡ false → (s c : ℕ) → tried (program k) (state_at k a s c) ≡ Stops (end_of (fault_of a form))
 
-io_stops : (k : Kernel) (a b : ℕ) (form : Form) → IsPaged k.mote.sram k.mote.swap → instruction_at (image_held k) a ≡ Some form → is_executed form ≡ true → jumps_to_itself a form ≡ false
+io_stops : (k : Kernel) (a b : ℕ) (form : Form) → IsPaged k.mote.sram k.mote.swap → instruction_at (image_held k) a ≡ Some form → is_executed form ≡ true → reads_program form ≡ false → jumps_to_itself a form ≡ false
     → answer_of guarded_calls (memory_of k) (ask_of form (core_of k a)) ≡ StoppedOn (bus.Io b) → (s c : ℕ) → tried (program k) (state_at k a s c) ≡ Stops (flat_ends.Io a b)
-io_stops k a b form paged is runs apart stopped s c =
-    guarded_stops _ (memory_of k) (core_of k a) s c form (bus.Io b) paged refl is runs (ap (λ b. b && not (has_bit k.mote.cpu.sreg interrupts)) apart) (exec_stopped guarded_calls form (core_of k a) (memory_of k) (next_size (image_held k) a) (bus.Io b) stopped)
+io_stops k a b form paged is runs reads apart stopped s c =
+    guarded_stops _ _ (memory_of k) (core_of k a) s c form (bus.Io b) paged refl is runs (owns_by k a form reads) (ap (λ b. b && not (has_bit k.mote.cpu.sreg interrupts)) apart) (exec_stopped guarded_calls form (core_of k a) (memory_of k) (next_size (image_held k) a) (bus.Io b) stopped)
 
 some_tries : (k : Kernel) (a : ℕ) (form : Form) → IsPaged k.mote.sram k.mote.swap → instruction_at (image_held k) a ≡ Some form → IsTrue (is_valid form) → shape_of_form a form ≡ Fault → Tries k a (Some form)
 unfolding shape_of_form is_executed ask_of is_valid fields_in_range is_undefined
@@ -80,21 +82,21 @@ some_tries k a forms.Spm paged is valid shape = λ none s c. tried_spm (program 
 some_tries k a (forms.InIo d q) paged is valid shape =
     let t = fault_io (is_stack_pointer q) (can_read (io_address q)) shape in
     let low = six_right d q valid in
-    λ none. io_stops k a (q + 0x20) (forms.InIo d q) paged is refl refl (refused_load (memory_of k) (q + 0x20) (omega arith) (own_read q _ refl low t.0 t.1) t.1)
+    λ none. io_stops k a (q + 0x20) (forms.InIo d q) paged is refl refl refl (refused_load (memory_of k) (q + 0x20) (omega arith) (own_read q _ refl low t.0 t.1) t.1)
 some_tries k a (forms.OutIo q r) paged is valid shape =
     let t = fault_io (is_stack_pointer q) (can_write (io_address q)) shape in
     let low = six_left q r valid in
-    λ none. io_stops k a (q + 0x20) (forms.OutIo q r) paged is refl refl (refused_store (memory_of k) (q + 0x20) (register (core_of k a) r) (omega arith) (own_write q _ refl low t.0 t.1) t.1)
+    λ none. io_stops k a (q + 0x20) (forms.OutIo q r) paged is refl refl refl (refused_store (memory_of k) (q + 0x20) (register (core_of k a) r) (omega arith) (own_write q _ refl low t.0 t.1) t.1)
 some_tries k a (forms.Cbi q b) paged is valid shape =
-    λ none. io_stops k a (q + 0x20) (forms.Cbi q b) paged is refl refl (refused_modify (memory_of k) (q + 0x20) (2 ^ b) 0 (chosen_other (can_modify (io_address q)) Native Fault Fault (λ e. cc) shape))
+    λ none. io_stops k a (q + 0x20) (forms.Cbi q b) paged is refl refl refl (refused_modify (memory_of k) (q + 0x20) (2 ^ b) 0 (chosen_other (can_modify (io_address q)) Native Fault Fault (λ e. cc) shape))
 some_tries k a (forms.Sbi q b) paged is valid shape =
-    λ none. io_stops k a (q + 0x20) (forms.Sbi q b) paged is refl refl (refused_modify (memory_of k) (q + 0x20) 0 (2 ^ b) (chosen_other (can_modify (io_address q)) Native Fault Fault (λ e. cc) shape))
+    λ none. io_stops k a (q + 0x20) (forms.Sbi q b) paged is refl refl refl (refused_modify (memory_of k) (q + 0x20) 0 (2 ^ b) (chosen_other (can_modify (io_address q)) Native Fault Fault (λ e. cc) shape))
 some_tries k a (forms.Sbic q b) paged is valid shape =
     let low = low_left q b valid in
-    λ none. io_stops k a (q + 0x20) (forms.Sbic q b) paged is refl refl (refused_load (memory_of k) (q + 0x20) (omega arith) (low_field q _ valid) (chosen_other (can_read (io_address q)) Skip Fault Fault (λ e. cc) shape))
+    λ none. io_stops k a (q + 0x20) (forms.Sbic q b) paged is refl refl refl (refused_load (memory_of k) (q + 0x20) (omega arith) (low_field q _ valid) (chosen_other (can_read (io_address q)) Skip Fault Fault (λ e. cc) shape))
 some_tries k a (forms.Sbis q b) paged is valid shape =
     let low = low_left q b valid in
-    λ none. io_stops k a (q + 0x20) (forms.Sbis q b) paged is refl refl (refused_load (memory_of k) (q + 0x20) (omega arith) (low_field q _ valid) (chosen_other (can_read (io_address q)) Skip Fault Fault (λ e. cc) shape))
+    λ none. io_stops k a (q + 0x20) (forms.Sbis q b) paged is refl refl refl (refused_load (memory_of k) (q + 0x20) (omega arith) (low_field q _ valid) (chosen_other (can_read (io_address q)) Skip Fault Fault (λ e. cc) shape))
 some_tries k a (forms.Rjmp d) paged is valid shape = absurd (not_chosen (relative a d == a) SelfJump Jump Fault (λ e. cc) (λ e. cc) shape)
 some_tries k a (forms.Jmp t) paged is valid shape = absurd (not_chosen (t == a) SelfJump Jump Fault (λ e. cc) (λ e. cc) shape)
 some_tries k a _ paged is valid shape = absurd (cc)

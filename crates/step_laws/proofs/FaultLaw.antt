@@ -80,6 +80,7 @@ wake_law links x a v devices s c can is on wakes =
       lines = refl;
       keeps = record {
         layout = refl;
+        part = refl;
         quantum = refl;
         flash = refl;
         slots = refl;

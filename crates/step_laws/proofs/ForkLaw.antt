@@ -114,6 +114,7 @@ step_on links y p t c crosses first on =
       left = record {
         going = on.left.going;
         layout = on.left.layout;
+        part = on.left.part;
         quantum = on.left.quantum;
         same = record { registers = same.registers; status = same.status; top = same.top; size = same.size; bytes = same.bytes; flash = same.flash; devices = same.devices; swap = same.swap };
         count = on.left.count;

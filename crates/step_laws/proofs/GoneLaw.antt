@@ -25,7 +25,7 @@ use Rattle.preempt_count.specs.Counting.{crossed, count_over, is_checkpoint}
 use Rattle.kernel_entry.specs.declared.kernel.Kernel.{Kernel}
 use Rattle.kernel_entry.specs.declared.kernel.Served.TheVariants as answers
 use Rattle.step_laws.proofs.ServiceLaw.{Called, bus_stops, called, called_by, stop_law}
-use Rattle.step_laws.proofs.AskedLaw.{RunsOn, runs_on}
+use Rattle.step_laws.proofs.AskedLaw.{RunsOn, runs_on, owns_by}
 use Rattle.step_laws.specs.Settings.{IsSetting}
 use Rattle.step_laws.specs.Links.{Links}
 use Rattle.step_laws.specs.Walks.{Makes}
@@ -49,6 +49,8 @@ use Rattle.mem_guard.proofs.LineLaws.{transfer_line}
 use Rattle.kernel_entry.specs.Seen.{program}
 use Rattle.kernel_entry.proofs.ShapeLaws.{is_service_jump}
 use Rattle.kernel_entry.proofs.TriedLaws.{transfers}
+use Rattle.avr_isa.specs.declared.form.Form.TheVariants as forms
+use Rattle.mem_guard.proofs.ReadLaws.{reads_program}
 
 -- the answer, by the outcome of the execution
 abbrev pub gone_to : Kernel → ℕ → Outcome Guarded Cpu → Served × Kernel
@@ -57,10 +59,10 @@ gone_to k a (StoppedOn stop) = (answers.Stopped (stop_of a stop), rested k)
 
 -- the service owes an arrival
 pub go_law : (links : Links) (x : State) (a v entry : ℕ) (form : Form) (cpu : Cpu) (g : Guarded) → (entry == quantum_entry) ≡ false → IsSetting links x a v → Called x a v entry → CanServe (called x v entry)
-    → instruction_at (image_held x.kernel) a ≡ Some form → is_executed form ≡ true → RunsOn x.kernel a form → executed_at (called x v entry) a form ≡ WentOn cpu g → g.line ≡ None
+    → instruction_at (image_held x.kernel) a ≡ Some form → is_executed form ≡ true → reads_program form ≡ false → RunsOn x.kernel a form → executed_at (called x v entry) a form ≡ WentOn cpu g → g.line ≡ None
     → served (called x v entry) ≡ gone_to (called x v entry) a (WentOn cpu g) → StepLaw links x a
 unfolding lines_of crossed moved
-go_law links x a v entry form cpu g other s c can is runs apart went quiet answer =
+go_law links x a v entry form cpu g other s c can is runs reads apart went quiet answer =
     let k = x.kernel in
     let image = image_held k in
     let kc = called x v entry in
@@ -97,6 +99,7 @@ go_law links x a v entry form cpu g other s c can is runs apart went quiet answe
       lines = refl;
       keeps = record {
         layout = refl;
+        part = refl;
         quantum = refl;
         flash = refl;
         slots = kept.slots;
@@ -117,7 +120,7 @@ go_law links x a v entry form cpu g other s c can is runs apart went quiet answe
         going = refl;
         original = λ n p.
             ap (tried (program k)) (sym (flat_same k (rested kc) a n p c.same))
-            ∙ guarded_goes _ (memory_of kc) g (core_of kc a) cpu n p form c.can.paged refl is runs apart went
+            ∙ guarded_goes _ _ (memory_of kc) g (core_of kc a) cpu n p form c.can.paged refl is runs (owns_by kc a form reads) apart went
             ∙ ap (λ l. Goes l (state_of g cpu (n + 1) (crossings_over a cpu.pc p))) quiet
             ∙ ap (Goes None) (sym (flat_put kc cpu g entry (n + 1) (crossings_over a cpu.pc p) size') ∙ sym (flat_same put k2 cpu.pc (n + 1) (crossings_over a cpu.pc p) same2));
         reaches = subst (λ d. Reaches links cpu.pc d z) due' (Reaches.Owing None (λ e. refl) refl tt);
@@ -127,7 +130,16 @@ go_law links x a v entry form cpu g other s c can is runs apart went quiet answe
       });
     }
 
--- what transfers control writes no line
+-- what transfers control reads no word of the program
+transfer_reads : (form : Form) → is_transfer form ≡ true → reads_program form ≡ false
+unfolding is_transfer
+transfer_reads forms.Lpm0 is = absurd (cc)
+transfer_reads forms.Elpm0 is = absurd (cc)
+transfer_reads (forms.Lpm d inc) is = absurd (cc)
+transfer_reads (forms.Elpm d inc) is = absurd (cc)
+transfer_reads _ is = refl
+
+-- and writes no line
 gone_quiet : (k : Kernel) (a : ℕ) (form : Form) (cpu : Cpu) (g : Guarded) → is_transfer form ≡ true → executed_at k a form ≡ WentOn cpu g → g.line ≡ None
 gone_quiet k a form cpu g transfers went = transfer_line form (core_of k a) cpu (memory_of k) g (next_size (image_held k) a) transfers went
 
@@ -145,9 +157,9 @@ gone_is k a form o behind is done =
 pub gone_law : (links : Links) (x : State) (a v entry : ℕ) (form : Form) (o : Outcome Guarded Cpu) → (entry == quantum_entry) ≡ false → executed_at (called x v entry) a form ≡ o → IsSetting links x a v → Called x a v entry → CanServe (called x v entry)
     → instruction_at (image_held x.kernel) a ≡ Some form → is_executed form ≡ true → RunsOn x.kernel a form → is_transfer form ≡ true → served (called x v entry) ≡ gone (called x v entry) → StepLaw links x a
 gone_law links x a v entry form (WentOn cpu g) other done s c can is runs apart h serves =
-    go_law links x a v entry form cpu g other s c can is runs apart done (gone_quiet (called x v entry) a form cpu g h done) (serves ∙ gone_is (called x v entry) a form (WentOn cpu g) c.behind is done)
+    go_law links x a v entry form cpu g other s c can is runs (transfer_reads form h) apart done (gone_quiet (called x v entry) a form cpu g h done) (serves ∙ gone_is (called x v entry) a form (WentOn cpu g) c.behind is done)
 gone_law links x a v entry form (StoppedOn stop) other done s c can is runs apart h serves =
-    stop_law links x a v entry (stop_of a stop) s c can (serves ∙ gone_is (called x v entry) a form (StoppedOn stop) c.behind is done) (bus_stops links x a v entry form stop s c is runs apart done)
+    stop_law links x a v entry (stop_of a stop) s c can (serves ∙ gone_is (called x v entry) a form (StoppedOn stop) c.behind is done) (bus_stops links x a v entry form stop s c is runs (transfer_reads form h) apart done)
 
 pub ret_law : ShapeLaw Ret
 unfolding template_by served

@@ -37,7 +37,7 @@ use Rattle.step_laws.specs.Settings.{IsIdle, IsRunning, IsSetting}
 use Rattle.step_laws.specs.States.{InPool, State, mote_of, with_mote}
 use Rattle.step_laws.specs.StepLaws.{Reaches, StepLaw, Outcome as StepOutcome, crossings_over}
 use Rattle.step_laws.specs.Walks.{Makes, Walk}
-use Rattle.step_laws.proofs.AskedLaw.{Asked, IsAsked, asked}
+use Rattle.step_laws.proofs.AskedLaw.{Asked, IsAsked, asked, owns_by}
 use Rattle.step_laws.proofs.Executed.{executed_at, kept_of}
 use Rattle.step_laws.proofs.InlineSeen.{core_after, memory_after, seen_alike}
 use Rattle.step_laws.proofs.InlineSteps.{passes_walk}
@@ -49,6 +49,7 @@ use Rattle.step_laws.proofs.PlainRuns.{plains_inner, plains_counted, plains_leng
 use Rattle.step_laws.proofs.SameProgram.{flat_same, paged_after}
 use Rattle.step_laws.proofs.Stretches.{stretch_of}
 use Rattle.step_laws.proofs.Ways.{walk_on}
+use Rattle.mem_guard.proofs.ReadLaws.{reads_program}
 
 -- the walk of the steps, from the place of the template on
 pub inline_walk : (links : Links) (x : State) (a v n more : ℕ) (last : Mote) → IsSetting links x a v → size (template_at (image_held x.kernel) a) ≡ n → IsQuiet (placed (mote_of x) v) (begun (mote_of x) v)
@@ -65,6 +66,7 @@ inline_walk links x a v n more last s is first passes =
 pub record Inside (x : State) (a v n more : ℕ) (form : Form) (r sram sram' : List ℕ) (sp : ℕ) : Type 0 where
   pub few : more ≤ 20
   pub walk : Walk x (Plain true None ∷ plains more) (with_mote x (held (mote_of x) r (mote_of x).cpu.sreg (v + n) sram'))
+  pub reads : reads_program form ≡ false
   pub went : executed_at x.kernel a form ≡ WentOn (core_after x.kernel a r sp) (memory_after x.kernel sram)
   pub same : SameButCells sram sram'
   pub pointer : data_word_at sram' vsp_cell ≡ sp
@@ -77,7 +79,7 @@ pub inside_goes : (x : State) (a v n more : ℕ) (form : Form) (r sram sram' : L
 inside_goes x a v n more form r sram sram' sp f paged g s c =
     let k = x.kernel in
     let y = with_mote x (held (mote_of x) r (mote_of x).cpu.sreg (v + n) sram') in
-    guarded_goes _ (memory_of k) (memory_after k sram) (core_of k a) (core_after k a r sp) s c form paged refl g.is g.runs g.apart f.went
+    guarded_goes _ _ (memory_of k) (memory_after k sram) (core_of k a) (core_after k a r sp) s c form paged refl g.is g.runs (owns_by k a form f.reads) g.apart f.went
     ∙ ap (Goes None) (sym (seen_alike k y.kernel sram sp (wrapping_sum a 1) (s + 1) (crossings_over a (wrapping_sum a 1) c) f.pointer f.same.size (λ b from. f.same.bytes b (omega arith)) refl refl))
 
 pub inside_law : (links : Links) (x : State) (a v n more : ℕ) (form : Form) (r sram sram' : List ℕ) (sp : ℕ) → IsSetting links x a v → Inside x a v n more form r sram sram' sp → IsReached x a form
@@ -119,6 +121,7 @@ inside_law links x a v n more form r sram sram' sp s f g next width some =
       lines = plains_lines more on.moves ∙ on.silent;
       keeps = record {
         layout = on.left.layout;
+        part = on.left.part;
         quantum = on.left.quantum;
         flash = on.left.same.flash;
         slots = ap length on.left.same.swap;
@@ -186,6 +189,7 @@ pub record IsInline (x : State) (a v n address steps lower upper : ℕ) (form : 
   pub width : size (template_at (image_held x.kernel) a) ≡ n + 1
   pub word_there : flash_word (mote_of x).flash.words (v + n) ≡ a
   pub one : size_of form ≡ 1
+  pub reads : reads_program form ≡ false
   pub few : (steps ≤ 20) × (lower ≤ 20) × (upper ≤ 20)
   pub went : 0x0D00 ≤ address → address ≤ 0x10FF → executed_at x.kernel a form ≡ WentOn (core_after x.kernel a r sp) (memory_after x.kernel sram)
   pub same : 0x0D00 ≤ address → address ≤ 0x10FF → SameButCells sram sram'
@@ -206,6 +210,7 @@ pub inside_of : (links : Links) (x : State) (a v n address steps lower upper : �
 inside_of links x a v n address steps lower upper form r sram sram' sp s t from to = record {
   few = t.few.0;
   walk = inline_walk links x a v (n + 1) steps (held (mote_of x) r (mote_of x).cpu.sreg (v + (n + 1)) sram') s t.width t.ways.first (t.ways.inside from to);
+  reads = t.reads;
   went = t.went from to;
   same = t.same from to;
   pointer = t.pointer from;
@@ -228,7 +233,7 @@ pub inline_law : (links : Links) (x : State) (a v n address steps lower upper : 
 inline_law links x a v n address steps lower upper form r sram sram' sp s f t =
     let outside : (more : ℕ) → more ≤ 20 → Passes (v + 1) (v + (n + 1)) more (begun (mote_of x) v) (trapped (mote_of x) (v + (n + 1) - 1) (saved_of (mote_of x))) → StepLaw links x a = λ more few passes.
     let c = outside_of links x a v n more s t.width t.word_there few t.ways.first passes in
-    served_by links x a v (saved_of (mote_of x)) (v + n) more form _ refl s c (CanServe.AtMem refl (c.state.shape ∙ f.shape) c.state.can) f (let width = t.width in omega arith) in
+    served_by links x a v (saved_of (mote_of x)) (v + n) more form s c (CanServe.AtMem refl (c.state.shape ∙ f.shape) c.state.can) f (let width = t.width in omega arith) in
     elim (cases_lt address 0x0D00) [
       | inl under ↦ outside lower t.few.1 (t.ways.below under)
       | inr from ↦ elim (cases_lt 0x10FF address) [

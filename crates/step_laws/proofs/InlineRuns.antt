@@ -25,7 +25,7 @@ use Rattle.kernel_entry.specs.declared.kernel.Served.TheVariants as answers
 use Rattle.kernel_entry.specs.Conditions.{CanServe}
 use Rattle.kernel_entry.specs.Parts.{core_of, descriptor, memory_of, return_address, image_held}
 use Rattle.kernel_entry.specs.Seen.{program, state_at}
-use Rattle.kernel_entry.specs.Services.{served, served_at}
+use Rattle.kernel_entry.specs.Services.{foreign_read, served, served_at}
 use Rattle.inline_laws.specs.InlineWays.{Passes, begun, trapped, saved_of}
 use Rattle.inline_laws.proofs.Cells.{saved_same}
 use Rattle.step_laws.specs.InlineLaws.{Inline, inline_of, IsAsMem, AsksMem, CallsMem, HasInlineRun, RunInline}
@@ -33,7 +33,8 @@ use Rattle.step_laws.specs.Links.{Links}
 use Rattle.step_laws.specs.Settings.{IsSetting}
 use Rattle.step_laws.specs.States.{State, mote_of, with_mote}
 use Rattle.step_laws.specs.StepLaws.{tried_at, crossings_over, links_at}
-use Rattle.step_laws.proofs.AskedLaw.{IsAsked, RunsOn, asked, resumed_is, runs_on}
+use Rattle.step_laws.proofs.AskedLaw.{IsAsked, RunsOn, Owns, foreign_at, foreign_is, accessed_own, asked, resumed_is, runs_on}
+use Rattle.mem_guard.proofs.MachineLaws.{tried_read}
 use Rattle.step_laws.proofs.EveryShape.{entry_setting}
 use Rattle.step_laws.proofs.Executed.{executed_at, flat_put, kept_of, returned}
 use Rattle.step_laws.proofs.InlineLaw.{IsInline, can_pass, inside_goes, inside_of, outside_of, trap_asks}
@@ -53,24 +54,33 @@ paged_at k (CanServe.AtSelf at shape can counts) is = can.paged
 paged_at k (CanServe.AtFault at shape can) is = absurd (omega arith)
 
 -- MEM's answer, by what the execution comes to
-mem_goes : (k : Kernel) (a to : ℕ) (form : Form) (end : Kernel) (crossings : ℕ) (o : Outcome Guarded Cpu) → executed_at k a form ≡ o → IsPaged k.mote.sram k.mote.swap → k.mote.cpu.pc ≡ mem_entry → descriptor k ≡ a
-    → instruction_at (image_held k) a ≡ Some form → is_executed form ≡ true → RunsOn k a form → tried (program k) (state_at k a 0 0) ≡ Goes None (state_at end to 1 crossings)
+mem_executes : (k : Kernel) (a to : ℕ) (form : Form) (end : Kernel) (crossings : ℕ) (o : Outcome Guarded Cpu) → executed_at k a form ≡ o → IsPaged k.mote.sram k.mote.swap → k.mote.cpu.pc ≡ mem_entry → descriptor k ≡ a
+    → instruction_at (image_held k) a ≡ Some form → is_executed form ≡ true → foreign_read k ≡ None → Owns k a form → RunsOn k a form → tried (program k) (state_at k a 0 0) ≡ Goes None (state_at end to 1 crossings)
     → ((served k).0 ≡ answers.Resume None) × ((s c : ℕ) → state_at (served k).1 to s c ≡ state_at end to s c)
 unfolding served
-mem_goes k a to form end crossings (WentOn cpu g) done paged at behind is runs apart goes =
-    let tries = guarded_goes _ (memory_of k) g (core_of k a) cpu 0 0 form paged refl is runs apart done in
+mem_executes k a to form end crossings (WentOn cpu g) done paged at behind is runs none own apart goes =
+    let tries = guarded_goes _ _ (memory_of k) g (core_of k a) cpu 0 0 form paged refl is runs own apart done in
     let both = sym tries ∙ goes in
     let silent : g.line ≡ None = cc in
     let same : state_of g cpu 1 (crossings_over a cpu.pc 0) ≡ state_at end to 1 crossings = cc in
     let there : cpu.pc ≡ to = ap (λ (f : FlatState). f.cpu.pc) same in
     let k' = returned k cpu g (wrapping_sum (return_address k) 1) in
     let size = (kept_of k a form cpu g paged done).paged.sized.sram in
-    let answer : served k ≡ (answers.Resume g.line, k') = ap (λ pc. served_at pc k) at ∙ resumed_is k (return_address k) a form (WentOn cpu g) refl behind is done in
+    let answer : served k ≡ (answers.Resume g.line, k') = ap (λ pc. served_at pc k) at ∙ accessed_own k none ∙ resumed_is k (return_address k) a form (WentOn cpu g) refl behind is done in
     let P : ℕ → Type 0 = λ pc. (s c : ℕ) → state_at k' pc s c ≡ state_at end to s c in
     let sees : P cpu.pc = λ s c. flat_put k cpu g (wrapping_sum (return_address k) 1) s c size ∙ ap (λ (f : FlatState). record f { steps = s; crossings = c }) same in
     (ap (λ o. o.0) answer ∙ ap (λ l. answers.Resume l) silent, λ s c. ap (λ o. state_at o.1 to s c) answer ∙ subst P there sees s c)
-mem_goes k a to form end crossings (StoppedOn stop) done paged at behind is runs apart goes =
-    let both = sym (guarded_stops _ (memory_of k) (core_of k a) 0 0 form stop paged refl is runs apart done) ∙ goes in
+mem_executes k a to form end crossings (StoppedOn stop) done paged at behind is runs none own apart goes =
+    let both = sym (guarded_stops _ _ (memory_of k) (core_of k a) 0 0 form stop paged refl is runs own apart done) ∙ goes in
+    absurd (cc)
+
+-- it executes, since the original program goes on
+mem_goes : (k : Kernel) (a to : ℕ) (form : Form) (end : Kernel) (crossings : ℕ) (foreign : Option ℕ) → foreign_at k a form ≡ foreign → IsPaged k.mote.sram k.mote.swap → k.mote.cpu.pc ≡ mem_entry → descriptor k ≡ a
+    → instruction_at (image_held k) a ≡ Some form → is_executed form ≡ true → RunsOn k a form → tried (program k) (state_at k a 0 0) ≡ Goes None (state_at end to 1 crossings)
+    → ((served k).0 ≡ answers.Resume None) × ((s c : ℕ) → state_at (served k).1 to s c ≡ state_at end to s c)
+mem_goes k a to form end crossings None none paged at behind is runs apart goes = mem_executes k a to form end crossings _ refl paged at behind is runs (foreign_is k a form behind is ∙ none) none apart goes
+mem_goes k a to form end crossings (Some w) foreign paged at behind is runs apart goes =
+    let both = sym (tried_read (program k) (state_at k a 0 0) form w is runs foreign) ∙ goes in
     absurd (cc)
 
 as_mem : (x : State) (a to : ℕ) (form : Form) (end : Kernel) → IsReached x a form → ((s c : ℕ) → tried_at x a s c ≡ Goes None (state_at end to (s + 1) (crossings_over a to c))) → IsAsMem x a to end

@@ -24,7 +24,7 @@ use Rattle.nat_template.specs.Stubs.{stub}
 use Rattle.nat_template.specs.Templates.{template_by, target_of}
 use Rattle.nat_page.specs.Standing.{Stands, size}
 use Rattle.nat_page.specs.Runs.{template_at, size_at}
-use Rattle.mem_guard.specs.FlatMachine.{Goes, tried, next_size, jumps_to_itself}
+use Rattle.mem_guard.specs.FlatMachine.{Goes, tried, next_size, jumps_to_itself, if_foreign, word_asked}
 use Rattle.mem_guard.specs.Guarded.{guarded_calls}
 use Rattle.mem_guard.proofs.GuardedStep.{guarded_goes}
 use Rattle.kernel_entry.specs.declared.kernel.Kernel.{Kernel}
@@ -43,6 +43,7 @@ use Rattle.kernel_entry.specs.Parts.{core_of, memory_of, image_held}
 use Rattle.preempt_count.specs.Counting.{count_over}
 use Rattle.step_laws.proofs.ShapeTests.{not_chosen, not_io, chosen_other}
 use Rattle.kernel_entry.specs.Seen.{program, state_at}
+use Rattle.mote_devices.specs.State.{stored, rampz_address}
 
 -- the forms of this shape
 data IsJump (pc : ℕ) (form : Form) : Type 0 where
@@ -66,13 +67,14 @@ pub jump_tried : (k : Kernel) (a t : ℕ) (form : Form) → IsPaged k.mote.sram 
     → finish_of form (core_of k a) (next_size (image_held k) a) Done ≡ core_of k t → (s c : ℕ)
     → tried (program k) (state_at k a s c) ≡ Goes None (state_at k t (s + 1) (crossings_over a t c))
 jump_tried k a t form paged is runs apart asks after s c =
-    guarded_goes _ (memory_of k) (memory_of k) (core_of k a) (core_of k t) s c form paged refl is runs (ap (λ b. b && not (has_bit k.mote.cpu.sreg interrupts)) apart)
+    guarded_goes _ _ (memory_of k) (memory_of k) (core_of k a) (core_of k t) s c form paged refl is runs (ap (λ ask. if_foreign k.part (word_asked (stored k.mote.devices rampz_address) ask)) asks) (ap (λ b. b && not (has_bit k.mote.cpu.sreg interrupts)) apart)
     (exec_nothing guarded_calls form (core_of k a) (memory_of k) (next_size (image_held k) a) asks ∙ ap (λ cpu. WentOn cpu (memory_of k)) after)
 
 -- the step from the way through the stub
 keeps_by : (links : Links) (x z : State) (t c : ℕ) (b : Bool) → IsPaged (mote_of x).sram (mote_of x).swap → byte_at (mote_of x).sram 0x0103 < 256 → Reached links x t c b z → Keeps x z
 keeps_by links x z t c b paged pointer left = record {
   layout = left.layout;
+  part = left.part;
   quantum = left.quantum;
   flash = left.same.flash;
   slots = ap length left.same.swap;

@@ -42,6 +42,7 @@ pub mod EveryShape
 pub mod InlineRuns
 pub mod Joining
 pub mod MoveLaws
+pub mod ServiceMoves
 pub mod WorkedNumbers
 pub mod NumberLaws
 pub mod BoundLaws

@@ -1,6 +1,6 @@
 -- The service MEM: asked at once, or at the trap of an inline template.
 use Rattle.std.proofs.Common.{ℕ, ◌≡◌, ◌+◌, ◌%◌, ◌∙◌, true, false, [], List, refl, sym, ap, arith}
-use Rattle.std.specs.Prelude.{Some, None}
+use Rattle.std.specs.Prelude.{Option, Some, None}
 use Rattle.avr_isa.specs.declared.form.Form.{Form}
 use Rattle.avr_isa.specs.Instruction.{size_of}
 use Rattle.avr_isa.specs.Image.{word}
@@ -22,7 +22,8 @@ use Rattle.step_laws.specs.Settings.{IsSetting}
 use Rattle.step_laws.specs.Links.{Links}
 use Rattle.step_laws.specs.StepLaws.{StepLaw}
 use Rattle.step_laws.specs.States.{State, mote_of}
-use Rattle.step_laws.proofs.AskedLaw.{Asked, RunsOn, asked, bus_stops_asked, resume_asked, resumed_is, runs_on, stop_asked}
+use Rattle.step_laws.proofs.AskedLaw.{Asked, RunsOn, foreign_at, foreign_is, accessed_own, accessed_foreign, asked, bus_stops_asked, read_stops_asked, resume_asked, resumed_is, runs_on, stop_asked}
+use Rattle.kernel_entry.specs.declared.kernel.Stop.TheVariants.{Read}
 use Rattle.step_laws.proofs.ServiceLaw.{asked_by, called_by}
 use Rattle.step_laws.proofs.Onward.{onward}
 use Rattle.step_laws.proofs.Executed.{straight_next, executed_at, returned}
@@ -45,11 +46,11 @@ pub record IsReached (x : State) (a : ℕ) (form : Form) : Type 0 where
   pub apart : RunsOn x.kernel a form
   pub next : wrapping_sum a (size_of form) ≡ next_of (image_held x.kernel) a
 
--- MEM is asked, and its call is the last of the template
-pub served_by : (links : Links) (x : State) (a v : ℕ) (ram : List ℕ) (back more : ℕ) (form : Form) (o : Outcome Guarded Cpu) → executed_at (asked x ram back mem_entry) a form ≡ o → IsSetting links x a v → Asked x a ram back mem_entry more
-    → CanServe (asked x ram back mem_entry) → IsReached x a form → back + 1 ≡ v + size (template_at (image_held x.kernel) a) → StepLaw links x a
+-- MEM is asked, and its call is the last of the template; what it may not read, if anything, decides
+served_own : (links : Links) (x : State) (a v : ℕ) (ram : List ℕ) (back more : ℕ) (form : Form) (o : Outcome Guarded Cpu) → executed_at (asked x ram back mem_entry) a form ≡ o → IsSetting links x a v → Asked x a ram back mem_entry more
+    → CanServe (asked x ram back mem_entry) → IsReached x a form → foreign_at (asked x ram back mem_entry) a form ≡ None → back + 1 ≡ v + size (template_at (image_held x.kernel) a) → StepLaw links x a
 unfolding served
-served_by links x a v ram back more form (WentOn cpu g) done s c can f behind =
+served_own links x a v ram back more form (WentOn cpu g) done s c can f own behind =
     let image = image_held x.kernel in
     let kc = asked x ram back mem_entry in
     let z : State = record { kernel = returned kc cpu g (wrapping_sum back 1); owed = None; end = None; torn = None } in
@@ -58,17 +59,30 @@ served_by links x a v ram back more form (WentOn cpu g) done s c can f behind =
     let there : wrapping_sum back 1 ≡ v + size (template_at image a) = omega arith in
     let some = template_size (shape_at image a) a (word image a) (instruction_at image a) (size_at image (a + 1)) in
     let bound = stub_bound a (next_of image a) in
-    resume_asked links x a v ram back mem_entry more (next_of image a) form cpu g s c can f.is f.runs f.apart done (straight_next kc a form cpu g f.straight done ∙ f.next) (resumed_is kc back a form (WentOn cpu g) c.state.address c.state.behind f.is done)
+    resume_asked links x a v ram back mem_entry more (next_of image a) form cpu g s c can f.is f.runs own f.apart done (straight_next kc a form cpu g f.straight done ∙ f.next) (accessed_own kc (foreign_is kc a form c.state.behind f.is ∙ own) ∙ resumed_is kc back a form (WentOn cpu g) c.state.address c.state.behind f.is done)
     (λ free fit. onward links z image a v free fit s.ready.bounded.right s.code some.0 (omega arith) (ap is_closed f.shape) there)
-served_by links x a v ram back more form (StoppedOn stop) done s c can f behind =
-    stop_asked links x a v ram back mem_entry more (stop_of a stop) s c can (resumed_is (asked x ram back mem_entry) back a form (StoppedOn stop) c.state.address c.state.behind f.is done) (bus_stops_asked x a ram back mem_entry more form stop c f.is f.runs f.apart done)
+served_own links x a v ram back more form (StoppedOn stop) done s c can f own behind =
+    let kc = asked x ram back mem_entry in
+    stop_asked links x a v ram back mem_entry more (stop_of a stop) s c can (accessed_own kc (foreign_is kc a form c.state.behind f.is ∙ own) ∙ resumed_is (asked x ram back mem_entry) back a form (StoppedOn stop) c.state.address c.state.behind f.is done) (bus_stops_asked x a ram back mem_entry more form stop c f.is f.runs own f.apart done)
+
+served_so : (links : Links) (x : State) (a v : ℕ) (ram : List ℕ) (back more : ℕ) (form : Form) (foreign : Option ℕ) → foreign_at (asked x ram back mem_entry) a form ≡ foreign → IsSetting links x a v → Asked x a ram back mem_entry more
+    → CanServe (asked x ram back mem_entry) → IsReached x a form → back + 1 ≡ v + size (template_at (image_held x.kernel) a) → StepLaw links x a
+unfolding served
+served_so links x a v ram back more form None own s c can f behind = served_own links x a v ram back more form _ refl s c can f own behind
+served_so links x a v ram back more form (Some w) foreign s c can f behind =
+    let kc = asked x ram back mem_entry in
+    stop_asked links x a v ram back mem_entry more (Read a w) s c can (accessed_foreign kc a w c.state.behind (foreign_is kc a form c.state.behind f.is ∙ foreign)) (read_stops_asked x a w ram back mem_entry more form c f.is f.runs foreign)
+
+pub served_by : (links : Links) (x : State) (a v : ℕ) (ram : List ℕ) (back more : ℕ) (form : Form) → IsSetting links x a v → Asked x a ram back mem_entry more
+    → CanServe (asked x ram back mem_entry) → IsReached x a form → back + 1 ≡ v + size (template_at (image_held x.kernel) a) → StepLaw links x a
+served_by links x a v ram back more form s c can f behind = served_so links x a v ram back more form _ refl s c can f behind
 
 -- the template is the call
 pub called_law : (links : Links) (x : State) (a v : ℕ) (form : Form) → IsSetting links x a v → IsReached x a form → template_at (image_held x.kernel) a ≡ service mem_entry a → StepLaw links x a
 called_law links x a v form s f template =
     let c = called_by links x a v mem_entry [] s template in
     let three : size (template_at (image_held x.kernel) a) ≡ 3 = ap size template in
-    served_by links x a v (mote_of x).sram (v + 2) 0 form _ refl s (asked_by x a v mem_entry s.ready.idle c) (CanServe.AtMem refl (c.shape ∙ f.shape) c.can) f (omega arith)
+    served_by links x a v (mote_of x).sram (v + 2) 0 form s (asked_by x a v mem_entry s.ready.idle c) (CanServe.AtMem refl (c.shape ∙ f.shape) c.can) f (omega arith)
 
 -- an instruction that the image has, of this shape, and its template
 pub reached_by : (links : Links) (x : State) (a v : ℕ) (form : Form) → IsSetting links x a v → instruction_at (image_held x.kernel) a ≡ Some form → shape_of_form a form ≡ Mem → IsReached x a form

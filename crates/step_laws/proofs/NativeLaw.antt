@@ -60,6 +60,7 @@ use Rattle.kernel_entry.specs.Parts.{core_of, memory_of, image_held}
 use Rattle.mem_guard.proofs.DeviceAnswers.{answers_alike}
 use Rattle.mote_core.proofs.DeviceAsks.{can_step_device}
 use Rattle.kernel_entry.specs.Seen.{program, state_at}
+use Rattle.step_laws.proofs.AskedLaw.{device_owns}
 
 -- what a plain step shows for this line
 abbrev shown_of : Option Line → Plain
@@ -187,6 +188,6 @@ native_law links x a v s shape =
     let long : size_at image a ≡ 1 = ap (λ b. if b then 2 else 1) short' in
     let next : e.cpu.pc ≡ next_of image a = e.pc ∙ omega arith in
     let goes : (s c : ℕ) → tried (program k) (state_at k a s c) ≡ Goes e.line (state_at y.kernel (next_of image a) (s + 1) (crossings_over a (next_of image a) c)) = λ s c.
-    guarded_goes _ (memory_of k) (record (memory_of k) { devices = e.devices; line = e.line }) (core_of k a) e.cpu s c form paged refl instr native.runs (ap (λ b. b && not (has_bit m.cpu.sreg interrupts)) (straight_goes a form native.transfer)) e.original
+    guarded_goes _ _ (memory_of k) (record (memory_of k) { devices = e.devices; line = e.line }) (core_of k a) e.cpu s c form paged refl instr native.runs (device_owns k a form native.asks) (ap (λ b. b && not (has_bit m.cpu.sreg interrupts)) (straight_goes a form native.transfer)) e.original
     ∙ ap₂ (λ p q. Goes e.line (record { cpu = record { r = e.cpu.r; sreg = e.cpu.sreg; sp = q; pc = p }; memory = vmem m.sram m.swap; devices = e.devices; pages = pages m.sram; steps = s + 1; crossings = crossings_over a p c })) next e.sp in
     plain_law links x a (next_of image a) e.line y.kernel.mote 0 (omega arith) paged (record { first = first; flash = refl; sram = refl; swap = refl; registers = registers; polls = e.polls; pointer = fit.pointer; goes = goes }) on

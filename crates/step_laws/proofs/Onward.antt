@@ -71,6 +71,7 @@ onward_by links y image a v free fit right pool (Next next) some some' closed at
   left = record {
     going = free.going;
     layout = refl;
+    part = refl;
     quantum = refl;
     same = same_program (mote_of y) fit.top;
     count = sym (ap (λ b. if b then count_after y.kernel.quantum (byte_at (mote_of y).sram 0x0100) else byte_at (mote_of y).sram 0x0100) next.uncounted);

@@ -48,6 +48,7 @@ plain_law links x a to line n more low paged f on =
       lines = ap (line_before line) on.silent;
       keeps = record {
         layout = on.left.layout;
+        part = on.left.part;
         quantum = on.left.quantum;
         flash = on.left.same.flash ∙ f.flash;
         slots = ap length (on.left.same.swap ∙ f.swap);

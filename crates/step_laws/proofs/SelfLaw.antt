@@ -27,8 +27,9 @@ use Rattle.kernel_entry.specs.Parts.{rested, descriptor, image_held}
 use Rattle.kernel_entry.specs.Services.{gone, halted_or_gone, served}
 use Rattle.kernel_entry.specs.Conditions.{CanServe}
 use Rattle.kernel_entry.specs.Seen.{program, state_at}
-use Rattle.kernel_entry.proofs.ShapeLaws.{self_jumps, by_self_form}
+use Rattle.kernel_entry.proofs.ShapeLaws.{self_jumps, by_self_form, reads_by_mem}
 use Rattle.avr_exec.specs.Likeness.{is_transfer}
+use Rattle.step_laws.proofs.AskedLaw.{owns_by}
 
 halted_is : (k : Kernel) (b : Bool) → has_bit k.mote.cpu.sreg interrupts ≡ b → halted_or_gone k ≡ (if b then gone k else (answers.Stopped (stops.Halted (descriptor k)), rested k))
 unfolding halted_or_gone
@@ -42,7 +43,7 @@ self_by links x a v form true on s c can is runs shape =
 self_by links x a v form false off s c can is runs shape =
     let k = x.kernel in
     let kc = called x v self_entry in
-    stop_law links x a v self_entry (stops.Halted a) s c can (halted_is kc false off ∙ ap (λ w. (answers.Stopped (stops.Halted w), rested kc)) c.behind) (λ n m. tried_halt (program k) (state_at k a n m) form is runs (self_jumps a form shape) off)
+    stop_law links x a v self_entry (stops.Halted a) s c can (halted_is kc false off ∙ ap (λ w. (answers.Stopped (stops.Halted w), rested kc)) c.behind) (λ n m. tried_halt (program k) (state_at k a n m) form is runs (owns_by k a form (reads_by_mem a form (λ e. let e' = sym shape ∙ e in cc))) (self_jumps a form shape) off)
 
 pub self_law : ShapeLaw SelfJump
 unfolding template_by

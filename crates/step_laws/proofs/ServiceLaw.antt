@@ -1,5 +1,5 @@
 -- A template that is a call of the kernel, and what follows from the service's answer.
-use Rattle.std.proofs.Common.{ℕ, ◌≡◌, ◌+◌, ◌≤◌, ◌∷◌, ◌∙◌, true, List, refl, sym, ap, arith, subst}
+use Rattle.std.proofs.Common.{false, ℕ, ◌≡◌, ◌+◌, ◌≤◌, ◌∷◌, ◌∙◌, true, List, refl, sym, ap, arith, subst}
 use Rattle.std.specs.Prelude.{Some, None}
 use Rattle.avr_isa.specs.Crossing.{is_crossing}
 use Rattle.avr_isa.specs.declared.form.Form.{Form}
@@ -30,7 +30,7 @@ use Rattle.step_laws.proofs.Onward.{Onward}
 use Rattle.step_laws.specs.Moves.{Plain}
 use Rattle.step_laws.proofs.SameProgram.{SameProgram, flat_same, paged_after}
 use Rattle.step_laws.specs.StepLaws.{StepLaw}
-use Rattle.step_laws.proofs.AskedLaw.{Asked, RunsOn, bus_stops_asked, resume_asked, stop_asked}
+use Rattle.step_laws.proofs.AskedLaw.{Asked, RunsOn, bus_stops_asked, resume_asked, stop_asked, owns_by}
 use Rattle.step_laws.proofs.KernelCalls.{call_move, called_of, pushed_address, pushed_kept, pushed_size}
 use Rattle.step_laws.proofs.Executed.{executed_at, returned}
 use Rattle.avr_decode.specs.Program.{instruction_at}
@@ -40,6 +40,7 @@ use Rattle.kernel_entry.specs.Services.{served, stop_of}
 use Rattle.kernel_entry.specs.Conditions.{CanExecute, CanServe, shape_behind, CanCount}
 use Rattle.preempt_count.specs.Counting.{count_over}
 use Rattle.kernel_entry.specs.Seen.{program, state_at, end_of}
+use Rattle.mem_guard.proofs.ReadLaws.{reads_program}
 
 -- the mote after the CALL at an entry's place
 abbrev pub called : State → ℕ → ℕ → Kernel
@@ -118,13 +119,13 @@ pub stop_law : (links : Links) (x : State) (a v entry : ℕ) (stop : Stop) → I
     → served (called x v entry) ≡ (answers.Stopped stop, rested (called x v entry)) → ((s c : ℕ) → tried (program x.kernel) (state_at x.kernel a s c) ≡ Stops (end_of stop)) → StepLaw links x a
 stop_law links x a v entry stop s c can is stops = stop_asked links x a v (mote_of x).sram (v + 2) entry 0 stop s (asked_by x a v entry s.ready.idle c) can is stops
 
-pub bus_stops : (links : Links) (x : State) (a v entry : ℕ) (form : Form) (stop : BusStop) → IsSetting links x a v → Called x a v entry → instruction_at (image_held x.kernel) a ≡ Some form → is_executed form ≡ true → RunsOn x.kernel a form
+pub bus_stops : (links : Links) (x : State) (a v entry : ℕ) (form : Form) (stop : BusStop) → IsSetting links x a v → Called x a v entry → instruction_at (image_held x.kernel) a ≡ Some form → is_executed form ≡ true → reads_program form ≡ false → RunsOn x.kernel a form
     → executed_at (called x v entry) a form ≡ StoppedOn stop → (s c : ℕ) → tried (program x.kernel) (state_at x.kernel a s c) ≡ Stops (end_of (stop_of a stop))
-bus_stops links x a v entry form stop s c is runs apart stopped = bus_stops_asked x a (mote_of x).sram (v + 2) entry 0 form stop (asked_by x a v entry s.ready.idle c) is runs apart stopped
+bus_stops links x a v entry form stop s c is runs reads apart stopped = bus_stops_asked x a (mote_of x).sram (v + 2) entry 0 form stop (asked_by x a v entry s.ready.idle c) is runs (owns_by (called x v entry) a form reads) apart stopped
 
 pub resume_law : (links : Links) (x : State) (a v entry to : ℕ) (form : Form) (cpu : Cpu) (g : Guarded) → IsSetting links x a v → Called x a v entry → CanServe (called x v entry)
-    → instruction_at (image_held x.kernel) a ≡ Some form → is_executed form ≡ true → RunsOn x.kernel a form → executed_at (called x v entry) a form ≡ WentOn cpu g → cpu.pc ≡ to
+    → instruction_at (image_held x.kernel) a ≡ Some form → is_executed form ≡ true → reads_program form ≡ false → RunsOn x.kernel a form → executed_at (called x v entry) a form ≡ WentOn cpu g → cpu.pc ≡ to
     → served (called x v entry) ≡ (answers.Resume g.line, returned (called x v entry) cpu g (wrapping_sum (v + 2) 1))
     → (let z : State = record { kernel = returned (called x v entry) cpu g (wrapping_sum (v + 2) 1); owed = None; end = None; torn = None } in IsRunning z → IsIdle z.kernel → Onward 0 links z to (count_over x.kernel.quantum a to (byte_at (mote_of z).sram 0x0100)) (is_crossing a to)) → StepLaw links x a
-resume_law links x a v entry to form cpu g s c can is runs apart went pc answer ahead =
-    resume_asked links x a v (mote_of x).sram (v + 2) entry 0 to form cpu g s (asked_by x a v entry s.ready.idle c) can is runs apart went pc answer ahead
+resume_law links x a v entry to form cpu g s c can is runs reads apart went pc answer ahead =
+    resume_asked links x a v (mote_of x).sram (v + 2) entry 0 to form cpu g s (asked_by x a v entry s.ready.idle c) can is runs (owns_by (called x v entry) a form reads) apart went pc answer ahead

@@ -46,6 +46,7 @@ use Rattle.kernel_entry.specs.Parts.{core_of, memory_of, image_held}
 use Rattle.mem_guard.proofs.DeviceAnswers.{answers_alike}
 use Rattle.mem_guard.proofs.LineLaws.{transfer_line}
 use Rattle.mote_core.proofs.DeviceAsks.{can_step_device}
+use Rattle.step_laws.proofs.AskedLaw.{device_owns}
 
 short_word : (c : Bool) → is_long (0xC000 + cond c 22 3) ≡ false
 unfolding is_long
@@ -109,7 +110,7 @@ skip_by links x a v form s shape is skips =
         swap = refl;
       };
       polls = ag.polls;
-      goes = λ s' c. guarded_goes _ (memory_of k) g core (core_of k (if far then t else next_of image a)) s' c form s.ready.paged refl instr skips.runs (ap (λ b. b && not (has_bit m.cpu.sreg interrupts)) (skips.apart a)) original;
+      goes = λ s' c. guarded_goes _ _ (memory_of k) g core (core_of k (if far then t else next_of image a)) s' c form s.ready.paged refl instr skips.runs (device_owns k a form skips.reads) (ap (λ b. b && not (has_bit m.cpu.sreg interrupts)) (skips.apart a)) original;
     })
 
 pub skip_law : ShapeLaw Skip

@@ -12,6 +12,7 @@ use Rattle.step_laws.specs.Walks.{Walk}
 pub record Reached (links : Links) (x : State) (t c : ℕ) (crosses : Bool) (z : State) : Type 0 where
   pub going : z.end ≡ None
   pub layout : z.kernel.layout ≡ x.kernel.layout
+  pub part : z.kernel.part ≡ x.kernel.part
   pub quantum : z.kernel.quantum ≡ x.kernel.quantum
   pub same : SameProgram (mote_of x) (mote_of z)
   pub count : byte_at (mote_of z).sram 0x0100 ≡ c

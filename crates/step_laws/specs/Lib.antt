@@ -9,3 +9,4 @@ pub mod StepLaws
 pub mod InlineLaws
 pub mod Joining
 pub mod Bounds
+pub mod ServiceRows

@@ -1,20 +1,31 @@
 -- Where control may go on from rewritten code, and which exit stubs lead there (docs/RUN.md, "Links").
-use Rattle.std.specs.Prelude.{◌≡◌, ℕ, ◌+◌, List, Option, Some, None}
+use Rattle.std.specs.Prelude.{◌≡◌, ℕ, ◌+◌, ◌/◌, Bool, true, false, List, Option, Some, None}
 use Rattle.flash_model.specs.Pages.{word_at}
 use Rattle.flash_model.specs.declared.layout.Layout.{Layout}
 use Rattle.flash_model.specs.Layouts.{image_of}
-use Rattle.page_index.specs.Entries.{IsEntry}
 use Rattle.nat_template.specs.Stubs.{call_word, bridge_entry}
-use Rattle.nat_page.specs.Links.{IsLinkIn}
+use Rattle.nat_page.specs.Parts.{EntersPart, IsLinkFrom}
+use Rattle.mem_guard.specs.declared.part.Part.{Part}
 
 -- `enters t v`: control may go on to address t at place v. `marks s t`: a link to t stands at s.
 pub record Links : Type 1 where
   pub enters : ℕ → ℕ → Type 0
   pub marks : ℕ → ℕ → Type 0
 
--- in a code pool control goes on at entries, and the links are those of its pages
-abbrev pub links_of : Layout → List ℕ → Links
-links_of layout words = record { enters = IsEntry layout words; marks = IsLinkIn layout (image_of layout words) words }
+-- Programs that are shut in their parts have a quarter of the image each, of 4,096 words; else all is one part.
+abbrev pub part_number : (shut : Bool) → ℕ → ℕ
+part_number true a = a / 4096
+part_number false a = 0
+
+abbrev pub number_of : Part → ℕ
+number_of part = part_number part.shut part.first
+
+-- in a code pool control goes on at entries of the program's part, and the links are those of its pages
+abbrev pub links_of : Part → Layout → List ℕ → Links
+links_of part layout words = record {
+  enters = EntersPart layout words (part_number part.shut) (number_of part);
+  marks = IsLinkFrom layout (image_of layout words) words (part_number part.shut) (number_of part);
+}
 
 -- the link to t at s is unresolved: it calls the bridge
 pub record IsBridge (links : Links) (words : List ℕ) (s t : ℕ) : Type 0 where

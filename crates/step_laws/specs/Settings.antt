@@ -11,7 +11,8 @@ use Rattle.nat_page.specs.Entered.{StandsIn}
 use Rattle.nat_page.specs.Faithful.{IsFaithful}
 use Rattle.kernel_entry.specs.declared.kernel.Kernel.{Kernel}
 use Rattle.step_laws.specs.States.{State, mote_of}
-use Rattle.step_laws.specs.Links.{Links}
+use Rattle.nat_page.specs.Parts.{IsParted}
+use Rattle.step_laws.specs.Links.{Links, part_number, number_of}
 use Rattle.kernel_entry.specs.Parts.{image_held}
 
 -- nothing is owed, the program has not ended, and a poll can be counted
@@ -52,8 +53,11 @@ pub record IsSetting (links : Links) (x : State) (a v : ℕ) : Type 0 where
   pub at : (mote_of x).cpu.pc ≡ v
   pub code : StandsIn links.enters links.marks x.kernel.layout (image_held x.kernel) (mote_of x).flash.words a v
 
--- The machine stands at an entry of a, and flash holds the image and rewritten code of it.
+-- The machine stands at an entry of a, which is of the program's part; flash holds the image and rewritten code of it,
+-- whose links keep to the parts.
 pub record IsAtEntry (x : State) (a : ℕ) : Type 0 where
   pub ready : CanBegin x
   pub code : IsFaithful x.kernel.layout (image_held x.kernel) (mote_of x).flash.words
+  pub parted : IsParted x.kernel.layout (image_held x.kernel) (mote_of x).flash.words (part_number x.kernel.part.shut)
+  pub own : part_number x.kernel.part.shut a ≡ number_of x.kernel.part
   pub entry : IsEntry x.kernel.layout (mote_of x).flash.words a (mote_of x).cpu.pc

@@ -1,6 +1,7 @@
 -- The states that moves lead between, and what a service, an interrupt and an arrival leave (docs/RUN.md, "Moves").
-use Rattle.std.specs.Prelude.{ℕ, ◌/◌, ◌&&◌, Bool, true, false, List, Option, Some, None}
-use Rattle.avr_isa.specs.Image.{is_inside}
+use Rattle.std.specs.Prelude.{ℕ, ◌/◌, ◌&&◌, ◌||◌, not, Bool, true, false, List, Option, Some, None}
+use Rattle.mem_guard.specs.declared.part.Part.{Part}
+use Rattle.mem_guard.specs.FlatMachine.{is_own}
 use Rattle.flash_model.specs.Pages.{page_words}
 use Rattle.flash_model.specs.declared.layout.Layout.{Layout}
 use Rattle.page_index.specs.Maps.{IsPool}
@@ -18,7 +19,6 @@ use Rattle.kernel_entry.specs.declared.kernel.Served.{Served}
 use Rattle.kernel_entry.specs.declared.kernel.Served.TheVariants as answers
 use Rattle.kernel_entry.specs.declared.kernel.Taken.{Taken}
 use Rattle.kernel_entry.specs.declared.kernel.Taken.TheVariants as interrupted
-use Rattle.kernel_entry.specs.Parts.{image_held}
 use Rattle.kernel_entry.specs.Interrupts.{is_wanted}
 use Rattle.step_laws.specs.declared.moves.End.{End}
 use Rattle.step_laws.specs.declared.moves.End.TheVariants as ends
@@ -67,9 +67,13 @@ after_service due (answers.Goto target stub, k) = record { kernel = k; owed = So
 after_service due (answers.Woke target, k) = record { kernel = k; owed = Some (record { target = target; stub = None; due = due }); end = None; torn = None }
 after_service due (answers.Stopped stop, k) = record { kernel = k; owed = None; end = Some (ends.Stopped stop); torn = None }
 
--- an interrupt is to be taken before the arrival: it is due, the arrival is inside the image, and one is wanted
+-- an interrupt is to be taken before the arrival: it is due, the arrival is inside the program's part, and one is wanted
 abbrev pub is_taken_at : State → Awaited → Bool
-is_taken_at x owed = owed.due && (is_inside (image_held x.kernel) owed.target && is_wanted x.kernel)
+is_taken_at x owed = owed.due && (is_own x.kernel.part owed.target && is_wanted x.kernel)
+
+-- a program that is shut in its part comes to its own words alone
+abbrev pub admits : Part → ℕ → Bool
+admits part a = not part.shut || is_own part a
 
 -- one that is taken leads to its vector, where no further one is due; or it stops the program
 abbrev pub after_taking : State → Taken × Kernel → State

@@ -40,11 +40,12 @@ pub data Reaches (links : Links) (t : ℕ) (due : Bool) (z : State) : Type 0 whe
   Owing : (stub : Option ℕ) → (due ≡ true → stub ≡ None) → z.owed ≡ Some (record { target = t; stub = stub; due = due })
       → OfStub links (mote_of z).flash.words stub t → Reaches links t due z
 
--- what every step leaves: the layout and the quantum, flash, the number of slots and of registers, a heap
+-- what every step leaves: the layout, the program's part and the quantum, flash, the number of slots and of registers, a heap
 -- in order, the kernel's stack empty, one poll more at most, or as many as an event's number may be, and SRAM from
 -- 0x0142 to 0x03FF, the tables
 pub record Keeps (x z : State) : Type 0 where
   pub layout : z.kernel.layout ≡ x.kernel.layout
+  pub part : z.kernel.part ≡ x.kernel.part
   pub quantum : z.kernel.quantum ≡ x.kernel.quantum
   pub flash : (mote_of z).flash ≡ (mote_of x).flash
   pub slots : length (mote_of z).swap ≡ length (mote_of x).swap
@@ -113,7 +114,7 @@ ShapeLaw shape = (links : Links) → (x : State) → (a v : ℕ) → IsSetting l
 
 -- the links of the pool that a machine runs in
 abbrev pub links_at : State → Links
-links_at x = links_of x.kernel.layout (mote_of x).flash.words
+links_at x = links_of x.kernel.part x.kernel.layout (mote_of x).flash.words
 
 -- Each shape has its law in the pool that the machine runs in. A contract can say no more, since no clause
 -- ranges over relations; the lemma `shape_law` has the law for all links.

@@ -11,7 +11,7 @@ use Rattle.heap_frames.specs.Paged.{IsPaged}
 use Rattle.branch_bridge.specs.declared.through.Arrival.{Arrival}
 use Rattle.branch_bridge.specs.Arrivals.{Store, ArrivesFrom}
 use Rattle.step_laws.specs.Moves.{Move, Plain, Serve, Arrive, Take}
-use Rattle.step_laws.specs.States.{State, mote_of, with_mote, Awaited, is_taken_at, after_taking, stops_taking, Begins, InPool, line_served, is_stop, after_service, store_of, arrived}
+use Rattle.step_laws.specs.States.{State, mote_of, with_mote, Awaited, is_taken_at, admits, after_taking, stops_taking, Begins, InPool, line_served, is_stop, after_service, store_of, arrived}
 use Rattle.kernel_entry.specs.Services.{served, is_due}
 use Rattle.kernel_entry.specs.Interrupts.{taken}
 use Rattle.kernel_entry.specs.Conditions.{CanServe}
@@ -42,14 +42,16 @@ pub record MakesServe (x : State) (line : Option Line) (stops : Bool) (y : State
   pub halts : is_stop (served x.kernel).0 ≡ stops
   pub result : y ≡ after_service (is_due x.kernel) (served x.kernel)
 
--- An arrival: it is the one that is owed, from the stub that asked for it, with no interrupt to be taken before it,
--- and makes a page and tries so many operations on flash as the move says, a refused one included.
+-- An arrival: it is the one that is owed, from the stub that asked for it, with no interrupt to be taken before it. A
+-- program that is shut in its part makes none outside. It makes a page and tries so many operations on flash as the
+-- move says, a refused one included.
 pub record MakesArrive (x : State) (target : ℕ) (made : Bool) (ops : ℕ) (y : State) : Type 0 where
   pub owed : Awaited
   pub owes : x.owed ≡ Some owed
   pub going : x.end ≡ None
   pub untaken : is_taken_at x owed ≡ false
   pub at : target ≡ owed.target
+  pub own : admits x.kernel.part target ≡ true
   pub store : Store
   pub arrival : Arrival
   pub arrives : ArrivesFrom x.kernel.layout (store_of x) store target owed.stub arrival

@@ -2,6 +2,7 @@
 ghost use Rattle.step_laws.specs.StepLaws.{HasShapeLaws, HasEntryLaws};
 ghost use Rattle.step_laws.specs.InlineLaws.{RunInline};
 ghost use Rattle.step_laws.specs.Joining.{Joins};
+ghost use Rattle.step_laws.specs.ServiceRows.{ServicesHaveRows};
 ghost use Rattle.step_laws.specs.Bounds.{KeepBounds, EndBounds};
 
 /// One law for each of the ten shapes of template: from where a template stands, the moves make exactly
@@ -23,6 +24,11 @@ pub fn every_entry_has_its_law()
 #[tactic(auto, using(crate::proofs::InlineRuns::runs_inline))]
 pub fn stack_instructions_run_inline()
     ensures runs { RunInline }
+{}
+
+/// A service that is made as a move does what the row of its entry says, and leaves what a service leaves.
+pub fn each_service_has_its_row()
+    ensures rows { ServicesHaveRows }
 {}
 
 /// Walks that follow one another are one walk, with the lines one after the other and the numbers added.

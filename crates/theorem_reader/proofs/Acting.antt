@@ -12,10 +12,7 @@ use Rattle.mote_core.specs.Step.{stepped}
 use Rattle.mote_core.specs.Shown.{line_shown}
 use Rattle.branch_bridge.specs.Arrivals.{Store}
 use Rattle.kernel_entry.specs.declared.kernel.Kernel.{Kernel}
-use Rattle.kernel_entry.specs.declared.kernel.Served.{Served}
-use Rattle.kernel_entry.specs.declared.kernel.Served.TheVariants as answers
 use Rattle.kernel_entry.specs.Conditions.{CanServe, AtBridge, AtQuantum, AtMem, AtPushReturn, AtReturn, AtIndirect, AtSelf, AtFault}
-use Rattle.kernel_entry.specs.Services.{served, is_due}
 use Rattle.kernel_entry.specs.Parts.{virtual_sp}
 use Rattle.kernel_entry.specs.Interrupts as interrupts
 use Rattle.kernel_entry.specs.declared.kernel.Taken.{Taken}
@@ -26,7 +23,9 @@ use Rattle.heap_frames.proofs.MemoryLaws.{stack_from}
 use Rattle.avr_exec.specs.Registers.{wrapping_difference}
 use Rattle.sram_layout.specs.Cells.{vsp_cell}
 use Rattle.sram_layout.proofs.Laws.{byte_other, byte_out_of_word}
-use Rattle.kernel_entry.proofs.ServedLaws.{served_leaves}
+use Rattle.kernel_entry.specs.Left.{Leaves, LeavesHeap}
+use Rattle.kernel_entry.proofs.ServedLaws.{served_leaves, served_leaves_heap}
+use Rattle.step_laws.proofs.ServiceMoves.{kernel_served}
 use Rattle.step_laws.specs.Moves.{Move, Plain, Serve, Arrive, Take}
 use Rattle.step_laws.specs.Numbers.{Numbers, one_if}
 use Rattle.step_laws.specs.States.{State, mote_of, store_of, after_service, after_taking}
@@ -72,12 +71,6 @@ step_is from x y begins line pool makes =
     } in
     subst (λ (s : State). IsStep from (mote_of x) (mote_of s)) (sym makes.result) is
 
-kernel_after : (due : Bool) (p : Served × Kernel) → (after_service due p).kernel ≡ p.1
-kernel_after due (answers.Resume line, k) = refl
-kernel_after due (answers.Goto target stub, k) = refl
-kernel_after due (answers.Woke target, k) = refl
-kernel_after due (answers.Stopped stop, k) = refl
-
 at_an_entry : (k : Kernel) → CanServe k → (0xF000 ≤ k.mote.cpu.pc) × (k.mote.cpu.pc ≤ 0xF00F)
 at_an_entry k (AtBridge at) = (omega (arith, at), omega (arith, at))
 at_an_entry k (AtQuantum at) = (omega (arith, at), omega (arith, at))
@@ -88,13 +81,20 @@ at_an_entry k (AtIndirect at shape can count) = (omega (arith, at), omega (arith
 at_an_entry k (AtSelf at shape can count) = (omega (arith, at), omega (arith, at))
 at_an_entry k (AtFault at shape can) = (omega (arith, at), omega (arith, at))
 
-served_kernel : (x y : State) (line : Option Line) (stops : Bool) → MakesServe x line stops y → y.kernel ≡ (served x.kernel).1
-served_kernel x y line stops makes = ap (λ (s : State). s.kernel) makes.result ∙ kernel_after (is_due x.kernel) (served x.kernel)
-
 pub service_is : (x y : State) (line : Option Line) (stops : Bool) → MakesServe x line stops y → IsService (mote_of x) (mote_of y)
+unfolding byte_at
 service_is x y line stops makes =
     let at = at_an_entry x.kernel makes.can in
-    record { low = at.0; high = at.1; flash = ap (λ (k : Kernel). k.mote.flash) (served_kernel x y line stops makes) ∙ (served_leaves x.kernel makes.can).flash }
+    let leaves = subst (Leaves x.kernel) (sym (kernel_served x y line stops makes)) (served_leaves x.kernel makes.can) in
+    let heap : x.kernel.mote.cpu.pc ≢ 0xF004 → LeavesHeap x.kernel y.kernel = λ other. subst (LeavesHeap x.kernel) (sym (kernel_served x y line stops makes)) (served_leaves_heap x.kernel makes.can other) in
+    record {
+      low = at.0;
+      high = at.1;
+      flash = leaves.flash;
+      tables = λ a low high. leaves.tables a low high;
+      swap = λ other. (heap other).swap;
+      heap = λ a other low high. (heap other).frames a low high;
+    }
 
 one_most : (b : Bool) → one_if b ≤ 1
 one_most true = omega arith
@@ -185,7 +185,7 @@ follow from x (Plain begins line ∷ moves) z walk pool =
     let layout : walk.0.kernel.layout ≡ x.kernel.layout = ap (λ (s : State). s.kernel.layout) walk.1.result in
     (refl, step_is from x walk.0 begins line pool walk.1, follow from walk.0 moves z walk.2 (subst (Begins from) (sym layout) pool))
 follow from x (Serve line stops ∷ moves) z walk pool =
-    let layout : walk.0.kernel.layout ≡ x.kernel.layout = ap (λ (k : Kernel). k.layout) (served_kernel x walk.0 line stops walk.1) ∙ (served_leaves x.kernel walk.1.can).layout in
+    let layout : walk.0.kernel.layout ≡ x.kernel.layout = ap (λ (k : Kernel). k.layout) (kernel_served x walk.0 line stops walk.1) ∙ (served_leaves x.kernel walk.1.can).layout in
     (refl, service_is x walk.0 line stops walk.1, follow from walk.0 moves z walk.2 (subst (Begins from) (sym layout) pool))
 follow from x (Arrive target made ops ∷ moves) z walk pool =
     let layout : walk.0.kernel.layout ≡ x.kernel.layout = (after_arrived x walk.0 walk.1.store walk.1.arrival walk.1.after).layout in

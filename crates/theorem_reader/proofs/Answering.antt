@@ -6,29 +6,30 @@ use Rattle.sram_layout.specs.Bytes.{byte_at, data_word_at}
 use Rattle.list_parts.specs.Lists.{many}
 use Rattle.flash_model.specs.Memory.{loaded}
 use Rattle.input_script.specs.Script.{Schedule}
-use Rattle.mem_guard.specs.FlatMachine.{Moment, Run, at_reset}
+use Rattle.mem_guard.specs.FlatMachine.{Moment, Run}
 use Rattle.step_laws.specs.Numbers.{Numbers}
 use Rattle.step_laws.specs.States.{mote_of}
 use Rattle.program_steps.specs.Machines.{Machine, state_of, numbers_of}
 use Rattle.tk_run.specs.Booted.{booted}
-use Rattle.tk_run.specs.WholeRuns.{Path, program_at}
+use Rattle.tk_run.specs.WholeRuns.{Path}
 use Rattle.tkernel_cli.specs.declared.command.Command.TheVariants.{Run as RunCommand}
 use Rattle.tkernel_cli.specs.declared.status.Status.{Status}
 use Rattle.tkernel_cli.specs.declared.status.Status.TheVariants as status
 use Rattle.tkernel_cli.specs.declared.top.Exit.{Exit}
 use Rattle.tkernel_cli.specs.Status.{number_of}
 use Rattle.tkernel_cli.specs.Reading.{Good}
-use Rattle.tkernel_cli.specs.Runs.{Stream, Says, Runs, HasRun, Follows, status_of_end}
+use Rattle.tkernel_cli.specs.Runs.{Stream, Says, Runs, RunsToTheEnd, RunsIntoAFault, HasRun, Follows, status_of_end}
 use Rattle.tkernel_cli.specs.Runs as whole
 use Rattle.tkernel_cli.specs.Answer.{IsExact, IsWarranted}
 use Rattle.theorem_reader.specs.Acts.{HasActs, IsBoot, pool_from, Act}
-use Rattle.theorem_reader.specs.Runs.{Asked, Asks, original_of, Stands, ToTheEnd, IntoAFault, IsRun, NoMemory, Ended, Failed, text_of}
+use Rattle.theorem_reader.specs.Runs.{Asked, Asks, original_of, Stands, EndsWell, EndsInAFault, ToTheEnd, IntoAFault, IsRun, NoMemory, Ended, Failed, text_of}
+use Rattle.theorem_reader.specs.Memory.{HasMemory}
+use Rattle.theorem_reader.proofs.Holding.{has_memory}
 use Rattle.theorem_reader.proofs.Acting.{acts_of, follow, pool_begins}
 use Rattle.theorem_reader.proofs.Bounding.{natural_of, entries_of, pages_of, ops_of, longest_of, longest_in, no_longer, last_arrives, same_last, arrives_last, last_refuses}
-use Rattle.theorem_reader.proofs.StepCount.{run_within}
 use Rattle.theorem_reader.proofs.SameTexts.{ended_same, failed_same, status_same}
 
-abbrev script_of : Asked → Schedule
+abbrev pub script_of : Asked → Schedule
 script_of asked = record { events = asked.events; failing = asked.failing }
 
 abbrev boot_of : Asked → Machine
@@ -76,6 +77,7 @@ stands asked n m follows within =
       status = ap (λ (s : Moment). s.now.cpu.sreg) same;
       pointer = ap (λ (s : Moment). s.now.cpu.sp) same;
       pc = ap (λ (s : Moment). s.now.cpu.pc) same;
+      memory = subst (HasMemory m.kernel.mote) (ap (λ (s : Moment). s.now.memory) same) (has_memory m.kernel.mote follows.ready.sound.order.paged);
       devices = ap (λ (s : Moment). s.now.devices) same;
       steps = ap (λ (s : Moment). s.now.steps) same;
       crossings = ap (λ (s : Moment). s.now.crossings) same;
@@ -86,7 +88,7 @@ stands asked n m follows within =
     }
 
 -- the bytes that a new sink took
-taken_is : (before now : Option (List ℕ)) (taken text : List ℕ) → before ≡ Some [] → now ≡ Some taken → Appends before now text → taken ≡ text
+pub taken_is : (before now : Option (List ℕ)) (taken text : List ℕ) → before ≡ Some [] → now ≡ Some taken → Appends before now text → taken ≡ text
 taken_is None now taken text first last appended = absurd (cc)
 taken_is (Some xs) None taken text first last appended = absurd appended
 taken_is (Some xs) (Some ys) taken text first last appended =
@@ -94,23 +96,37 @@ taken_is (Some xs) (Some ys) taken text first last appended =
     let same : ys ≡ taken = cc in
     sym same ∙ appended ∙ ap (λ z. z ++ text) empty
 
-said_is : (own told : Status) (text taken : List ℕ) (before now : Stream) → (Rose before.faults now.faults → ⊥) → before.told ≡ Some [] → now.told ≡ Some taken → Says own text before now told → (told ≡ own) × (taken ≡ text)
+pub said_is : (own told : Status) (text taken : List ℕ) (before now : Stream) → (Rose before.faults now.faults → ⊥) → before.told ≡ Some [] → now.told ≡ Some taken → Says own text before now told → (told ≡ own) × (taken ≡ text)
 said_is own told text taken before now well first last said = elim said [
   | inl is ↦ (is.0, taken_is before.told now.told taken text first last is.1)
   | inr cut ↦ absurd (well cut.1)
 ]
+
+pub ends_well : (asked : Asked) (before now : Stream) (told : Status) (m : Machine)
+    → RunsToTheEnd (record { image = asked.image; script = script_of asked; options = record { steps = asked.steps; quantum = asked.quantum; swap = asked.slots } }) before now told m → EndsWell asked m
+ends_well asked before now told m run = record { stands = stands asked asked.steps m run.follows run.within; none_failed = run.unlisted }
+
+pub ends_in_a_fault : (asked : Asked) (before now : Stream) (told : Status) (m : Machine)
+    → (run : RunsIntoAFault (record { image = asked.image; script = script_of asked; options = record { steps = asked.steps; quantum = asked.quantum; swap = asked.slots } }) before now told m) → EndsInAFault asked run.op m
+ends_in_a_fault asked before now told m run = record {
+  stands = stands asked m.steps m run.follows (omega (arith, run.fewer));
+  fewer = run.fewer;
+  going = run.spent;
+  last = sym run.last;
+  listed = run.listed;
+  first = run.first;
+  end = run.end;
+}
 
 ran : (asked : Asked) (before now : Stream) (exit : Exit) (taken : List ℕ) (m : Machine) → (Rose before.faults now.faults → ⊥) → before.told ≡ Some [] → now.told ≡ Some taken → exit.kept ≡ Some m
     → Runs (record { image = asked.image; script = script_of asked; options = record { steps = asked.steps; quantum = asked.quantum; swap = asked.slots } }) before now exit.status m → IsRun asked (number_of exit.status) taken exit.kept
 ran asked before now exit taken m well first last kept (Runs.Ended run) =
     let r = original_of asked asked.steps in
     let said = said_is _ exit.status _ taken before now well first last run.said in
-    let within : m.steps ≤ asked.steps = omega (arith, ap (λ (s : Moment). s.now.steps) run.follows.state, run_within (program_at asked.image asked.quantum asked.slots) (record { now = at_reset asked.events; due = false }) asked.steps) in
     Ended m kept (record {
       status_is = ap number_of said.0 ∙ status_same r.end;
       text_is = said.1 ∙ ended_same r asked.quantum m;
-      stands = stands asked asked.steps m run.follows within;
-      none_failed = run.unlisted;
+      run = ends_well asked before now exit.status m run;
     })
 ran asked before now exit taken m well first last kept (Runs.Failed run) =
     let r = original_of asked m.steps in
@@ -119,13 +135,7 @@ ran asked before now exit taken m well first last kept (Runs.Failed run) =
       op = run.op;
       status_is = ap number_of said.0;
       text_is = said.1 ∙ failed_same r run.op asked.quantum m (ap (λ (s : Moment). s.now.steps) run.follows.state);
-      stands = stands asked m.steps m run.follows (omega (arith, run.fewer));
-      fewer = run.fewer;
-      going = run.spent;
-      last = sym run.last;
-      listed = run.listed;
-      first = run.first;
-      end = run.end;
+      run = ends_in_a_fault asked before now exit.status m run;
     })
 ran asked before now exit taken m well first last kept (Runs.Cut run) = absurd (well run.rose)
 
@@ -133,8 +143,8 @@ pub answered : (words : List (List ℕ)) (source source' sink sink' : Stream) (e
     → source.told ≡ Some text → (Rose source.faults source'.faults → ⊥) → (Rose sink.faults sink'.faults → ⊥) → sink.told ≡ Some [] → sink'.told ≡ Some taken
     → Asks words text asked → IsExact words source source' sink sink' exit → IsRun asked (number_of exit.status) taken exit.kept
 answered words source source' sink sink' exit text taken asked told read written first last asks exact =
-    elim (exact text _ (record { told = told; read = read; written = written }) (inl (RunCommand (record { steps = asked.steps; quantum = asked.quantum; swap = asked.slots }), asks.command, inr (asks.short, Good (asked.image, asks.position) asks.hex (Good (script_of asked) asks.script refl))))) [
-      | inl none ↦ NoMemory (ap number_of none)
+    elim (exact _ (inl (RunCommand (record { steps = asked.steps; quantum = asked.quantum; swap = asked.slots }), asks.command, (text, record { told = told; read = read }, inr (asks.input.short, Good (asked.image, asks.input.position) asks.input.hex (Good (script_of asked) asks.input.script refl))))) written) [
+      | inl none ↦ NoMemory (ap number_of none.0) (taken_is sink.told sink'.told taken _ first last none.1) none.2
       | inr done ↦ ran asked sink sink' exit taken done.0.machine written first last done.0.kept done.0.runs
     ]
 

@@ -1,7 +1,9 @@
--- The acts of a walk, the original's steps, the texts, and the answer.
+-- The acts of a walk, the texts, and the answer.
 pub mod Acting
 pub mod Bounding
-pub mod StepCount
+pub mod Holding
 pub mod SameTexts
 pub mod Answering
 pub mod Plainly
+pub mod Checking
+pub mod Dumping

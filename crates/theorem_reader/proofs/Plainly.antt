@@ -1,6 +1,15 @@
 -- The word `run` alone asks for a plain run of the image that a text was written for.
-use Rattle.std.proofs.Common.{◌≡◌, ℕ, ◌≤◌, List, [], ◌∷◌, length, drop, codes, Some, None, refl, sym, ap, ◌∙◌, subst, arith}
-use Rattle.hex_image.specs.HexText.{HexText}
+use Rattle.std.proofs.Common.{◌≡◌, ℕ, ◌+◌, ◌*◌, ◌/◌, ◌≤◌, List, [], ◌∷◌, length, length-append, map, flat_map, take, drop, codes, Some, None, refl, sym, ap, ◌∙◌, subst, arith}
+use Rattle.std.specs.List.{range_with_len}
+use Rattle.std.proofs.lemmas.List.{length_push, length-take}
+use Rattle.std.proofs.lemmas.List.FromFn.{length-range_with_len, length-map-range_with_len}
+use Rattle.hex.specs.Hex.{upper_digits}
+use Rattle.hex.proofs.HexLemmas.{length-encode_with}
+use Rattle.text_lines.specs.Written.{fed}
+use Rattle.hex_image.specs.Places.{cells_of, extent, word_of_cells}
+use Rattle.hex_image.proofs.GrammarLemmas.{extent-small}
+use Rattle.hex_image.specs.Written.{bytes_of_words, checksum_of, fields_of, record_bytes, record_line, record_content, data_line, record_count, written}
+use Rattle.hex_image.specs.HexText.{HexText, meanings_of}
 use Rattle.input_script.specs.Script.{IsScript, nothing}
 use Rattle.tkernel_cli.specs.declared.command.Command.TheVariants.{Run as RunCommand}
 use Rattle.tkernel_cli.specs.Commands.{IsCommand}
@@ -41,10 +50,12 @@ nothing_behind (byte ∷ text) = nothing_behind text
 pub asks_plainly : (words : List (List ℕ)) (image text : List ℕ) → words ≡ codes "run" ∷ [] → HexText text image (length text) → length text ≤ 2097152 → Asks words text (plainly image)
 asks_plainly words image text is hex short = record {
   command = subst (λ w. IsCommand w (RunCommand (record { steps = 1000000; quantum = 255; swap = 128 }))) (sym is) the_word;
-  position = length text;
-  hex = hex;
-  script = subst (λ t. IsScript t nothing) (sym (nothing_behind text)) no_script;
-  short = short;
+  input = record {
+    position = length text;
+    hex = hex;
+    script = subst (λ t. IsScript t nothing) (sym (nothing_behind text)) no_script;
+    short = short;
+  };
 }
 
 pub told_plainly : (result : Result Told NoMemory) (words : List (List ℕ)) (image text : List ℕ) → Asks words text (plainly image)
@@ -52,3 +63,39 @@ pub told_plainly : (result : Result Told NoMemory) (words : List (List ℕ)) (im
     → IfOk result (λ told. told.out.faults ≡ 0 → IsRun (plainly image) told.status told.out.taken told.kept)
 told_plainly (Ok told) words image text asks run = run (plainly image) asks
 told_plainly (Err none) words image text asks run = run
+
+-- The text of an image is short: 44 bytes a line at most, of eight words.
+double : (words : List ℕ) → length (bytes_of_words words) ≡ 2 * length words
+double [] = refl
+double (word ∷ words) = omega (arith, double words)
+
+line_short : (words : List ℕ) (number : ℕ) → length (fed (data_line words number)) ≤ 44
+line_short words number =
+    let content = record_content words number in
+    let bytes = record_bytes 0 (16 * number) content in
+    omega (
+      arith,
+      length_push (data_line words number) 10,
+      length-encode_with upper_digits bytes,
+      length_push (fields_of 0 (16 * number) content) (checksum_of (fields_of 0 (16 * number) content)),
+      double (take 8 (drop (8 * number) words)),
+      length-take 8 (drop (8 * number) words),
+    )
+
+lines_short : (words numbers : List ℕ) → length (flat_map fed (map (data_line words) numbers)) ≤ 44 * length numbers
+lines_short words [] = omega arith
+lines_short words (number ∷ numbers) =
+    omega (arith, length-append (fed (data_line words number)) (flat_map fed (map (data_line words) numbers)), line_short words number, lines_short words numbers)
+
+last_line : length (fed (record_line 1 0 [])) ≤ 12
+last_line = omega (arith, length_push (record_line 1 0 []) 10, length-encode_with upper_digits (record_bytes 1 0 []))
+
+few_words : (image text : List ℕ) → HexText text image (length text) → length image ≤ 24576
+few_words image text hex =
+    let cells = cells_of (take hex.before (meanings_of text)) in
+    omega (arith, ap length hex.image, length-map-range_with_len (word_of_cells cells) 0 ((extent cells + 1) / 2), extent-small cells hex.small)
+
+pub text_short : (image text : List ℕ) → HexText text image (length text) → text ≡ written image → length text ≤ 2097152
+text_short image text hex same =
+    let front = flat_map fed (map (data_line image) (range_with_len 0 (record_count image))) in
+    omega (arith, ap length same, length-append front (fed (record_line 1 0 [])), last_line, lines_short image (range_with_len 0 (record_count image)), length-range_with_len 0 (record_count image), few_words image text hex)

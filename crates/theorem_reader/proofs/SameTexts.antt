@@ -4,7 +4,7 @@ use Rattle.mote_devices.specs.declared.line.Line.{Line}
 use Rattle.mote_devices.specs.declared.line.Port.{Port}
 use Rattle.mote_devices.specs.declared.line.Port.TheVariants.{PortA, PortB, PortC, PortD, DdrA, DdrB, DdrC, DdrD, Uart0}
 use Rattle.hex.specs.Hex.{encode_upper}
-use Rattle.mem_guard.specs.FlatMachine.{End, Spent, Wild, Illegal, SelfProgram, Asleep, Halted, Io, Stack, SwapFull, Run}
+use Rattle.mem_guard.specs.FlatMachine.{End, Spent, Wild, Illegal, SelfProgram, Asleep, Halted, Read, Io, Stack, SwapFull, Run}
 use Rattle.kernel_entry.specs.Texts.{line_text, stop_text, end_text, port_name}
 use Rattle.step_laws.specs.declared.moves.End.TheVariants as ends
 use Rattle.program_steps.specs.Machines.{Machine}
@@ -41,6 +41,7 @@ end_same (Illegal pc) = refl
 end_same (SelfProgram pc) = refl
 end_same (Asleep pc) = refl
 end_same (Halted pc) = refl
+end_same (Read pc a) = refl
 end_same (Io pc a) = refl
 end_same (Stack pc a) = refl
 end_same (SwapFull pc a) = refl
@@ -76,6 +77,7 @@ status_same (Illegal pc) = refl
 status_same (SelfProgram pc) = refl
 status_same (Asleep pc) = refl
 status_same (Halted pc) = refl
+status_same (Read pc a) = refl
 status_same (Io pc a) = refl
 status_same (Stack pc a) = refl
 status_same (SwapFull pc a) = refl

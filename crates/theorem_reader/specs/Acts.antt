@@ -1,5 +1,5 @@
 -- What a machine did, one act after another, told by the mote before and after each.
-use Rattle.std.specs.Prelude.{◌≡◌, ℕ, suc, ◌+◌, ◌-◌, ◌*◌, ◌%◌, ◌<◌, ◌≤◌, ◌⊎◌, Bool, nat_le, if◌then◌else◌, List, [], ◌∷◌, ◌++◌, slice_index, length, replicate, Option, Some, None}
+use Rattle.std.specs.Prelude.{◌≡◌, ◌≢◌, ℕ, suc, ◌+◌, ◌-◌, ◌*◌, ◌%◌, ◌<◌, ◌≤◌, ◌⊎◌, Bool, nat_le, if◌then◌else◌, List, [], ◌∷◌, ◌++◌, slice_index, length, replicate, Option, Some, None}
 use Rattle.std.specs.Option.{option_map}
 use Rattle.avr_isa.specs.declared.form.Form.{Form}
 use Rattle.avr_decode.specs.Decoding.{the_form, size_by_first_word}
@@ -40,11 +40,15 @@ pub record IsStep (from : ℕ) (before after : Mote) : Type 0 where
       (the_form (slice_index before.flash.words before.cpu.pc) (slice_index before.flash.words ((before.cpu.pc + 1) % 65536)))
       ≡ Some (Went after.cpu (record { sram = after.sram; devices = after.devices; words = after.flash.words; line = line }))
 
--- The pc is at one of the kernel's eight entries, 0xF000 to 0xF00F. All of flash stays.
+-- The pc is at one of the kernel's eight entries, 0xF000 to 0xF00F. All of flash stays, and the bytes of SRAM at 0x0142 to
+-- 0x03FF. At each entry but 0xF004, which reaches the program's memory, so does the swap area, and 0x0120 to 0x0CFF.
 pub record IsService (before after : Mote) : Type 0 where
   pub low : 0xF000 ≤ before.cpu.pc
   pub high : before.cpu.pc ≤ 0xF00F
   pub flash : after.flash ≡ before.flash
+  pub tables : (a : ℕ) → 0x0142 ≤ a → a ≤ 0x03FF → slice_index after.sram (a - 0x0100) ≡ slice_index before.sram (a - 0x0100)
+  pub swap : before.cpu.pc ≢ 0xF004 → after.swap ≡ before.swap
+  pub heap : (a : ℕ) → before.cpu.pc ≢ 0xF004 → 0x0120 ≤ a → a ≤ 0x0CFF → slice_index after.sram (a - 0x0100) ≡ slice_index before.sram (a - 0x0100)
 
 -- Registers, SREG, devices and swap stay, and flash counts the operations.
 pub record IsArrival (made ops : ℕ) (before after : Mote) : Type 0 where

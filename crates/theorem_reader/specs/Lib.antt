@@ -1,4 +1,7 @@
 -- What a user relies on, in lists and numbers.
 pub mod Acts
 pub mod Texts
+pub mod Memory
 pub mod Runs
+pub mod Checks
+pub mod Dumps

@@ -3,7 +3,7 @@ use Rattle.std.specs.Prelude.{ℕ, ◌/◌, ◌%◌, ◌<◌, nat_le, List, [], 
 use Rattle.mote_devices.specs.declared.line.Line.{Line}
 use Rattle.mote_devices.specs.declared.line.Port.{Port}
 use Rattle.mote_devices.specs.declared.line.Port.TheVariants.{PortA, PortB, PortC, PortD, DdrA, DdrB, DdrC, DdrD, Uart0}
-use Rattle.mem_guard.specs.FlatMachine.{End, Spent, Wild, Illegal, SelfProgram, Asleep, Halted, Io, Stack, SwapFull}
+use Rattle.mem_guard.specs.FlatMachine.{End, Spent, Wild, Illegal, SelfProgram, Asleep, Halted, Read, Io, Stack, SwapFull}
 use Rattle.hex.specs.Hex.{encode_upper}
 
 -- the bytes in upper-case hexadecimal digits, two each
@@ -37,6 +37,7 @@ end_words (Asleep pc) = codes "asleep " ++ address pc
 end_words (Wild pc) = codes "fault wild " ++ address pc
 end_words (Illegal pc) = codes "fault illegal " ++ address pc
 end_words (SelfProgram pc) = codes "fault selfprogram " ++ address pc
+end_words (Read pc a) = codes "fault read " ++ address pc ++ codes " address " ++ address a
 end_words (Io pc a) = codes "fault io " ++ address pc ++ codes " address " ++ address a
 end_words (Stack pc a) = codes "fault stack " ++ address pc ++ codes " address " ++ address a
 end_words (SwapFull pc a) = codes "fault swap " ++ address pc ++ codes " address " ++ address a

@@ -1,6 +1,20 @@
 //! The theorem of the whole program, held from above: runs over streams in memory, whose contracts say in lists and
 //! numbers what a user relies on. No definition of the crates below stands in what they conclude, but the original
 //! program's machine, the mote's instruction, and the types of both; so one that is weakened there is refused here.
+//!
+//! To read: `specs/Runs` (what a run leaves; begin at `IsRun`), `specs/Acts` (what the machine did), `specs/Memory` (where
+//! the program's bytes are), `specs/Texts` (the printed lines); then `specs/Dumps` (the flash that a run leaves) and
+//! `specs/Checks` (what is said of a flash). Names that stand there and come from elsewhere:
+//!
+//! - `original program events n`: the original program's first n steps, by itself on flat memory of 64 KiB. Of it: `end`,
+//!   `lines` (the writes to outputs), and `state`, where `now` has the core (r0 to r31, SREG, SP, pc), the memory, the
+//!   devices, and the numbers of steps and of crossings, which are steps back, onto themselves, or to another page of 128 words.
+//! - `HexText text image position`, `IsScript text schedule`, `IsCommand words command`: the text of a HEX file up to a
+//!   position, of a script, and the words of a command, as docs/FORMATS.md tells them.
+//! - `HasForm`, `HasLinks`: what a page of flash must be by itself, and what it owes to the others (docs/LOADER.md).
+//! - `Mote`: a modelled ATmega128, that is its core, SRAM, flash, devices, and a swap area beside it. `exec_of` is what an
+//!   instruction does, `the_form` what two words mean (docs/ATMEGA128.md).
+//! - `Machine`: a mote that runs a program, and what was counted (docs/MACHINE.md).
 #![tactic(auto)]
 
 mod reader;

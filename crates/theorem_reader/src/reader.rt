@@ -1,5 +1,7 @@
 //! Runs over streams in memory.
-ghost use Rattle.std.specs.Prelude.{◌≡◌, ◌*◌, IfOk, map, string_bytes};
+ghost use Rattle.std.specs.Prelude.{◌≡◌, ◌*◌, ℕ, List, IfOk, map, string_bytes};
+ghost use Rattle.theorem_reader.specs.Checks.{AsksCheck, IsJudged};
+ghost use Rattle.theorem_reader.specs.Dumps.{AsksDump, IsDumped};
 ghost use Rattle.theorem_reader.specs.Runs.{Asked, Asks, IsRun, plainly};
 
 use hex_image::{Image, write};
@@ -29,6 +31,10 @@ pub fn run_text(
 ) -> Result<Told, NoMemory>
     ensures run { IfOk result (λ told. (asked : Asked) → Asks (map string_bytes words.now) text.items asked
         → told.out.faults ≡ 0 → IsRun asked told.status told.out.taken told.kept) }
+    ensures dump { IfOk result (λ told. (asked : Asked) → AsksDump (map string_bytes words.now) text.items asked
+        → told.out.faults ≡ 0 → IsDumped asked told.status told.out.taken told.kept) }
+    ensures check { IfOk result (λ told. (image flash : List ℕ) → AsksCheck (map string_bytes words.now) text.items image flash
+        → told.out.faults ≡ 0 → IsJudged image flash told.status told.out.taken told.kept) }
 {
     let mut input = MemSource::new(text);
     let mut out = MemSink::new(alloc, room)?;
@@ -47,14 +53,18 @@ pub fn run_image(alloc: Global, image: &Image, room: usize) -> Result<Told, NoMe
         → IsRun (plainly image.now) told.status told.out.taken told.kept) }
 {
     let text = write(alloc, image)?;
-    if text.len() > 2_097_152 {
-        return Err(NoMemory);
-    }
-    let word = match String::from_str(alloc, "run") {
-        Ok(word) => word,
-        Err(_) => return Err(NoMemory),
-    };
+    let word = word_of(alloc, "run")?;
     run_text(alloc, &[word], text, room)
+}
+
+/// A word of a command line.
+fn word_of(alloc: Global, text: &str) -> Result<String, NoMemory>
+    ensures same { IfOk result (λ word. string_bytes word ≡ text.now) }
+{
+    match String::from_str(alloc, text) {
+        Ok(word) => Ok(word),
+        Err(_) => Err(NoMemory),
+    }
 }
 
 /// The most plain steps that a run of this quantum makes between two services.

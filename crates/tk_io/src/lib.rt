@@ -7,7 +7,7 @@
 //!
 //! [`MemSource`] and [`MemSink`] stand in memory, [`FlakySource`] and [`FlakySink`] fail at calls that
 //! are chosen beforehand, [`SlowSource`] and [`SlowSink`] move at most a chosen number of bytes at each
-//! call, and [`StdSource`] and [`StdSink`] are the process's own streams: each of their calls is one
+//! call, [`NullSink`] drops what it takes, and [`StdSource`] and [`StdSink`] are the process's own streams: each of their calls is one
 //! call of a [`Reader`] or a [`Writer`], whose errors they count.
 #![tactic(auto)]
 
@@ -15,6 +15,7 @@ mod edge;
 mod failure;
 mod flaky;
 mod memory;
+mod null;
 mod sink;
 mod slow;
 mod source;
@@ -24,6 +25,7 @@ pub use edge::{Reader, Writer};
 pub use failure::{Failed, NoMemory, ReadAll};
 pub use flaky::{FlakySink, FlakySource};
 pub use memory::{MemSink, MemSource};
+pub use null::NullSink;
 pub use sink::{Sink, put};
 pub use slow::{SlowSink, SlowSource};
 pub use source::{Source, read_all};

@@ -6,11 +6,9 @@ use Rattle.std.specs.Io.KnownBytes.{Appends}
 use Rattle.tk_io.specs.Streams.{CutShort}
 use Rattle.tk_io.proofs.KnownBytes.{appends-both, appends-nothing}
 use Rattle.tk_io.specs.declared.failure.Failed.{Failed}
-use Rattle.avr_isa.specs.Image.{is_inside}
 use Rattle.mote_devices.specs.declared.line.Line.{Line}
-use Rattle.mem_guard.specs.FlatMachine.{Program, Moment, Run, run, ended, is_taken}
+use Rattle.mem_guard.specs.FlatMachine.{Program, is_own, is_inside, Moment, Run, run, ended, is_taken}
 use Rattle.mem_guard.specs.FlatMachine as flat_ends
-use Rattle.kernel_entry.specs.Parts.{image_held}
 use Rattle.step_laws.specs.declared.moves.End.{End}
 use Rattle.step_laws.specs.declared.moves.End.TheVariants as ends
 use Rattle.step_laws.specs.Moves.{Move, lines_of, line_before}
@@ -22,7 +20,7 @@ use Rattle.program_steps.specs.Stepping.{Goes, Stays, IsFault, ends_in_arrive, H
 use Rattle.tk_run.specs.Running.{Leads, original_from, run_of, Answers, IsBroken, HasAdvanced}
 use Rattle.program_steps.proofs.Bounds.{bounded_counted}
 use Rattle.tk_run.proofs.Leading.{goes_on, last_on, stays_on, stays_self}
-use Rattle.tk_run.proofs.RunSoFar.{Ran, IsBetween, none_ran, nothing, made_step, lines_text_on, ran_enter, ran_step, spent_at, wild_at, stop_at}
+use Rattle.tk_run.proofs.RunSoFar.{Ran, IsBetween, unshut_on, none_ran, nothing, made_step, lines_text_on, ran_enter, ran_step, spent_at, wild_at, stop_at}
 
 abbrev pub leads_by : (old new : Machine) (moves : List Move) (lines : List Line) → Goes old new moves lines → (new.end ≡ None → ends_in_arrive moves ≡ false) → old.end ≡ None → old.broken ≡ false → Leads old lines new
 leads_by old new moves lines goes last going whole = record {
@@ -43,18 +41,18 @@ difference i n below = (n - i, omega arith)
 bounds_ready : (m : Machine) → IsGoing m → HasBounds m
 bounds_ready m ready = bounded_counted (numbers_of m) m.crossings m.kernel.quantum (count_in m) m.at m.kernel.mote.devices.polls m.owed ready.counted ready.arrivals ready.polls
 
-kept_ended : (m : Machine) → m.steps ≤ 10 ^ 12 → IsEnded m → IsKept m
-kept_ended m few over =
+kept_ended : (m : Machine) → m.steps ≤ 10 ^ 12 → m.kernel.part.shut ≡ false → IsEnded m → IsKept m
+kept_ended m few unshut over =
     let sound : IsSound m = record { order = over.order; bounded = over.bounded; steps = few } in
-    record { sound = sound; ready = λ e. record { sound = sound; exact = over.exact; going = λ going. absurd (over.ended going); quiet = λ going. absurd (over.ended going) } }
+    record { sound = sound; unshut = unshut; ready = λ e. record { sound = sound; exact = over.exact; going = λ going. absurd (over.ended going); quiet = λ going. absurd (over.ended going) } }
 
-pub kept_ready : (m : Machine) → m.steps ≤ 10 ^ 12 → IsGoing m → IsQuiet m → IsKept m
-kept_ready m few ready quiet =
+pub kept_ready : (m : Machine) → m.steps ≤ 10 ^ 12 → m.kernel.part.shut ≡ false → IsGoing m → IsQuiet m → IsKept m
+kept_ready m few unshut ready quiet =
     let sound : IsSound m = record { order = ready.order; bounded = bounds_ready m ready; steps = few } in
-    record { sound = sound; ready = λ e. record { sound = sound; exact = ready.exact; going = λ going. ready; quiet = λ going. quiet } }
+    record { sound = sound; unshut = unshut; ready = λ e. record { sound = sound; exact = ready.exact; going = λ going. ready; quiet = λ going. quiet } }
 
 by_wild : (old now new : Machine) (i n t : ℕ) (before after : Option (List ℕ)) → old.end ≡ None → old.broken ≡ false → i ≤ n → t ≡ now.at
-    → Ran old now i before after → is_inside (image_held now.kernel) now.at ≡ false → HasEntered now new (Some (ends.Wild t))
+    → Ran old now i before after → is_own now.kernel.part now.at ≡ false → HasEntered now new (Some (ends.Wild t))
     → new.end ≡ Some (ends.Wild t) → IsEnded new
     → HasAdvanced old new n before after (Ok (ends.Wild t))
 unfolding ran_enter
@@ -79,12 +77,12 @@ by_wild old now new i n t before after going whole below same ran outside entere
         made = later.made;
         answers = record { ran = all ∙ ap₂ (λ a s. run_of (flat_ends.Wild a) ran.lines s) (sym same) (sym entered.flat); kept = kept; ended = over };
       };
-      keeps = λ few before'. kept_ended new (omega (arith, later.steps, below, few)) over;
+      keeps = λ few before'. kept_ended new (omega (arith, later.steps, below, few)) (unshut_on old new later.stays before'.unshut) over;
       kept = λ end is. absurd (no_end old end is going);
     }
 
 by_failed : (old now new : Machine) (i n op : ℕ) (before after : Option (List ℕ)) → old.end ≡ None → old.broken ≡ false → i < n
-    → Ran old now i before after → is_inside (image_held now.kernel) now.at ≡ true → HasEntered now new (Some (ends.Flash op))
+    → Ran old now i before after → is_own now.kernel.part now.at ≡ true → HasEntered now new (Some (ends.Flash op))
     → new.end ≡ Some (ends.Flash op) → IsEnded new → IsFault new op → HasAdvanced old new n before after (Ok (ends.Flash op))
 unfolding ran_enter
 by_failed old now new i n op before after going whole below ran inside entered kept over fault =
@@ -105,7 +103,7 @@ by_failed old now new i n op before after going whole below ran inside entered k
         made = later.made;
         answers = record { fewer = below; ran = part ∙ ap (λ s. run_of flat_ends.Spent ran.lines s) (sym entered.flat); kept = kept; ended = over; fault = fault };
       };
-      keeps = λ few before'. kept_ended new (omega (arith, later.steps, below, few)) over;
+      keeps = λ few before'. kept_ended new (omega (arith, later.steps, below, few)) (unshut_on old new later.stays before'.unshut) over;
       kept = λ end is. absurd (no_end old end is going);
     }
 
@@ -126,17 +124,17 @@ advanced_enter old now new i n before after result end going whole below between
 -- in the middle of a turn
 pub record IsIn (old now : Machine) (i : ℕ) (before after : Option (List ℕ)) : Type 0 where
   pub ran : Ran old now i before after
-  pub inside : is_inside (image_held now.kernel) now.at ≡ true
+  pub inside : is_own now.kernel.part now.at ≡ true
 
 -- behind an arrival a step can begin
 pub record CanStep (m : Machine) : Type 0 where
   pub ready : IsGoing m
   pub placed : m.owed ≡ None
   pub untaken : is_taken (flat_of m) ≡ false
-  pub inside : is_inside (image_held m.kernel) m.at ≡ true
+  pub inside : is_own m.kernel.part m.at ≡ true
 
 entered_in : (now new : Machine) (result : Option End) → Stays now new → flat_of new ≡ flat_of now → Entering now new result → result ≡ None → CanStep new
-entered_in now new result stays flat (Entering.In ready free inside untaken) is = record { ready = ready; placed = free; untaken = untaken; inside = ap₂ (λ (p : Program) a. is_inside p.image a) stays.program (ap (λ (s : Moment). s.now.cpu.pc) flat) ∙ inside }
+entered_in now new result stays flat (Entering.In ready free inside untaken) is = record { ready = ready; placed = free; untaken = untaken; inside = ap₂ (λ (p : Program) a. is_inside p a) stays.program (ap (λ (s : Moment). s.now.cpu.pc) flat) ∙ inside }
 entered_in now new result stays flat (Entering.Out over kept outside) is = absurd (cc)
 entered_in now new result stays flat (Entering.Failed op over kept inside fault) is = absurd (cc)
 
@@ -196,7 +194,7 @@ stopped_by old now new i n line end before after later going whole below now' st
         made = made_step old i ran.moves step.moves ran.made step.none_made;
         answers = record { ran = all ∙ ap (λ s. run_of (end_of stop) ran.lines s) (sym left); kept = kept; ended = over };
       };
-      keeps = λ few before'. kept_ended new (omega (arith, steps, ran.steps, below, few)) over;
+      keeps = λ few before'. kept_ended new (omega (arith, steps, ran.steps, below, few)) (unshut_on old new (stays_on old now new ran.stays step.stays) before'.unshut) over;
       kept = λ end is. absurd (no_end old end is going);
     })
 
@@ -206,7 +204,7 @@ pub advanced_stop : (old now new : Machine) (i n : ℕ) (line : Option Line) (en
 advanced_stop old now new i n line end before after later going whole below now' step put ended' = stopped_by old now new i n line end before after later going whole below now' step step.way put ended'
 
 bound_by : (old now new : Machine) (n : ℕ) (before after : Option (List ℕ)) (result : Option End) → old.end ≡ None → old.broken ≡ false
-    → IsBetween old now n before after → HasEntered now new result → is_inside (image_held now.kernel) now.at ≡ false → Entering now new result
+    → IsBetween old now n before after → HasEntered now new result → is_own now.kernel.part now.at ≡ false → Entering now new result
     → result ≡ Some (ends.Wild now.at) → HasAdvanced old new n before after (Ok (ends.Wild now.at))
 bound_by old now new n before after result going whole between entered outside (Entering.In ready free inside untaken) is = absurd (cc)
 bound_by old now new n before after result going whole between entered outside (Entering.Out over kept out) is = by_wild old now new n n now.at before after going whole (omega arith) refl between.ran outside entered kept over
@@ -232,7 +230,7 @@ advanced_bound old now new n before after end going whole between (HasBound.Wait
         made = ran.made;
         answers = record { all = refl; ran = part; ready = between.ready; quiet = between.quiet };
       };
-      keeps = λ few before'. kept_ready now (omega (arith, ran.steps, few)) between.ready between.quiet;
+      keeps = λ few before'. kept_ready now (omega (arith, ran.steps, few)) (unshut_on old now ran.stays before'.unshut) between.ready between.quiet;
       kept = λ end is. absurd (no_end old end is going);
     })
 advanced_bound old now new n before after end going whole between (HasBound.Leaves entered outside) = bound_by old now new n before after (Some (ends.Wild now.at)) going whole between entered outside entered.way refl
@@ -263,6 +261,8 @@ order_broken m order = record {
   layout = order.layout;
   right = order.right;
   faithful = order.faithful;
+  part = order.part;
+  parted = order.parted;
   tables = order.tables;
   paged = order.paged;
   whole = order.whole;
@@ -278,7 +278,7 @@ sound_broken : (m : Machine) → IsSound m → IsSound (record m { broken = true
 sound_broken m sound = record { order = order_broken m sound.order; bounded = bounds_broken m sound.bounded; steps = sound.steps }
 
 kept_broken : (m : Machine) → IsKept m → IsKept (record m { broken = true })
-kept_broken m kept = record { sound = sound_broken m kept.sound; ready = λ e. absurd (cc) }
+kept_broken m kept = record { sound = sound_broken m kept.sound; unshut = kept.unshut; ready = λ e. absurd (cc) }
 
 -- Between two steps the lines so far could not be put.
 pub advanced_cut : (old now : Machine) (i n : ℕ) (e : Failed) (text : List ℕ) (before after : Option (List ℕ)) → old.end ≡ None → old.broken ≡ false → i ≤ n → IsBetween old now i (Some []) (Some text) → CutShort before after text
@@ -302,7 +302,7 @@ advanced_cut old now i n e text before after going whole below between cut =
         made = ran.made;
         answers = record { broken = refl; order = order_broken now between.ready.order; bounded = bounds_broken now (bounds_ready now between.ready) };
       };
-      keeps = λ few before'. kept_broken now (kept_ready now (omega (arith, ran.steps, few, below)) between.ready between.quiet);
+      keeps = λ few before'. kept_broken now (kept_ready now (omega (arith, ran.steps, few, below)) (unshut_on old now ran.stays before'.unshut) between.ready between.quiet);
       kept = λ end is. absurd (no_end old end is going);
     }
 

@@ -26,7 +26,10 @@ use Rattle.swap_store.specs.Slots.{zero_slots}
 use Rattle.swap_store.proofs.Laws.{length-zero_slots}
 use Rattle.std.proofs.Math.Nat.{zero-mod}
 use Rattle.list_parts.proofs.ManyLaws.{length-many}
-use Rattle.mem_guard.specs.FlatMachine.{run, original, at_reset as flat_at_reset}
+use Rattle.mem_guard.specs.declared.part.Part.{Part}
+use Rattle.page_index.specs.Entries.{IsEntry}
+use Rattle.nat_page.proofs.StayLaws.{held_used}
+use Rattle.mem_guard.specs.FlatMachine.{whole_part, run, original, at_reset as flat_at_reset}
 use Rattle.mem_guard.proofs.AtReset.{memory_at_reset, pages_at_reset}
 use Rattle.step_laws.specs.StepLaws.{Reaches}
 use Rattle.kernel_entry.specs.Seen.{program as program_of}
@@ -86,6 +89,9 @@ order_boot image script quantum slots is low few whole =
       layout = refl;
       right = right;
       faithful = new_flash_held layout image (loaded image) right refl refl;
+      part = record { whole = λ e. (refl, refl); quarter = λ e. absurd (cc) };
+      parted = λ s t link jump. absurd (held_used (IsEntry layout (loaded image)) (take (length image) (loaded image)) (loaded image) link.page link.first link.last (omega (arith, (new_flash_held layout image (loaded image) right refl refl).image_length, is.few)) link.holds
+          (new_flash_free layout image link.page right (omega arith) link.pool));
       tables = tables_kept layout at_boot (with_byte at_boot count_cell quantum) (loaded image) (loaded image) (λ b from to. byte_other at_boot count_cell b quantum (omega arith) (omega arith) (λ e. omega arith)) (λ t v entry. entry) (boot_tables layout (loaded image));
       paged = paged_after (boot_mote image script slots) (booted image script quantum slots).kernel.mote (same_boot image script quantum slots) (boot_paged slots few);
       whole = whole;
@@ -122,7 +128,7 @@ stack_boot = ap₂ (λ low high. low + 256 * high) (boot_zero vsp_cell (omega ar
 -- the original's machine at reset
 flat_boot : (image : List ℕ) (script : Schedule) (quantum slots : ℕ) → flat_of (booted image script quantum slots) ≡ record { now = flat_at_reset script.events; due = false }
 flat_boot image script quantum slots =
-    ap (λ s. record { now = s; due = false }) (flat_same (record { mote = boot_mote image script slots; layout = layout_of (length image); quantum = quantum }) (booted image script quantum slots).kernel 0 0 0 (same_boot image script quantum slots)
+    ap (λ s. record { now = s; due = false }) (flat_same (record { mote = boot_mote image script slots; layout = layout_of (length image); part = whole_part image; quantum = quantum }) (booted image script quantum slots).kernel 0 0 0 (same_boot image script quantum slots)
     ∙ flat_parts _ _ _ _ _ _ 0 0 0 _ _ _ _ _ _ refl refl stack_boot (memory_at_reset (zero_slots slots)) refl pages_at_reset)
 
 -- the program is the image's
@@ -130,30 +136,32 @@ held_boot : (image : List ℕ) → IsImage image → take (length image) (loaded
 held_boot image is = (new_flash_faithful (layout_of (length image)) image (right_at image is.few) refl).held
 
 pub program_boot : (image : List ℕ) (script : Schedule) (quantum slots : ℕ) → IsImage image → program_of (booted image script quantum slots).kernel ≡ program_at image quantum slots
-program_boot image script quantum slots is = ap₂ (λ i n. record { image = i; page_limit = n; quantum = quantum }) (held_boot image is) (length-zero_slots slots)
+program_boot image script quantum slots is = ap₂ (λ i n. record { image = i; part = whole_part image; page_limit = n; quantum = quantum }) (held_boot image is) (length-zero_slots slots)
 
 -- and its run the original program's
 pub run_boot : (image : List ℕ) (script : Schedule) (quantum slots n : ℕ) → IsImage image → original_from (booted image script quantum slots) n ≡ original (program_at image quantum slots) script.events n
 run_boot image script quantum slots n is = ap₂ (λ p s. run p s n) (program_boot image script quantum slots is) (flat_boot image script quantum slots)
 
 pub kept_boot : (image : List ℕ) (script : Schedule) (quantum slots : ℕ) → IsGoing (booted image script quantum slots) → IsKept (booted image script quantum slots)
-kept_boot image script quantum slots going = kept_ready (booted image script quantum slots) (omega arith) going (λ free. refl)
+kept_boot image script quantum slots going = kept_ready (booted image script quantum slots) (omega arith) refl going (λ free. refl)
 
 -- what the call makes is the machine at boot
-booted_by : (image : List ℕ) (script : Schedule) (quantum slots : ℕ) (mote : Mote) (sram : List ℕ) (layout : Layout) → IsAtReset image script slots mote → sram ≡ with_byte mote.sram count_cell quantum → layout ≡ layout_of (length image)
-    → ◌≡◌ {A = Machine} (record (booted image script quantum slots) { kernel = record { mote = record mote { sram = sram }; layout = layout; quantum = quantum } }) (booted image script quantum slots)
-booted_by image script quantum slots mote sram layout reset is same =
-    let m : Cpu → List ℕ → Memory → Devices → List (List ℕ) → Layout → Machine = λ c r f d w l. record (booted image script quantum slots) { kernel = record { mote = record { cpu = c; sram = r; flash = f; devices = d; swap = w }; layout = l; quantum = quantum } } in
-    ap (λ c. m c sram mote.flash mote.devices mote.swap layout) reset.cpu
+booted_by : (image : List ℕ) (script : Schedule) (quantum slots : ℕ) (mote : Mote) (sram : List ℕ) (layout : Layout) (part : Part) → IsAtReset image script slots mote → sram ≡ with_byte mote.sram count_cell quantum → layout ≡ layout_of (length image) → part ≡ record { first = 0; count = layout.image_words; shut = false }
+    → ◌≡◌ {A = Machine} (record (booted image script quantum slots) { kernel = record { mote = record mote { sram = sram }; layout = layout; part = part; quantum = quantum } }) (booted image script quantum slots)
+booted_by image script quantum slots mote sram layout part reset is same whole =
+    let of : Layout → Part = λ l. record { first = 0; count = l.image_words; shut = false } in
+    let m : Cpu → List ℕ → Memory → Devices → List (List ℕ) → Layout → Machine = λ c r f d w l. record (booted image script quantum slots) { kernel = record { mote = record { cpu = c; sram = r; flash = f; devices = d; swap = w }; layout = l; part = of l; quantum = quantum } } in
+    ap (λ p. record (booted image script quantum slots) { kernel = record { mote = record mote { sram = sram }; layout = layout; part = p; quantum = quantum } }) whole
+    ∙ ap (λ c. m c sram mote.flash mote.devices mote.swap layout) reset.cpu
     ∙ ap (λ r. m cpu_at_reset r mote.flash mote.devices mote.swap layout) (is ∙ ap (λ b. with_byte b count_cell quantum) reset.sram)
     ∙ ap (λ f. m cpu_at_reset (with_byte at_boot count_cell quantum) f mote.devices mote.swap layout) reset.flash
     ∙ ap (λ d. m cpu_at_reset (with_byte at_boot count_cell quantum) (new_flash image script.failing) d mote.swap layout) reset.devices
     ∙ ap (λ w. m cpu_at_reset (with_byte at_boot count_cell quantum) (new_flash image script.failing) (at_reset script.events) w layout) reset.swap
     ∙ ap (λ l. m cpu_at_reset (with_byte at_boot count_cell quantum) (new_flash image script.failing) (at_reset script.events) (zero_slots slots) l) same
 
-pub boot_is_kept : (image : List ℕ) (script : Schedule) (quantum slots : ℕ) (mote : Mote) (sram : List ℕ) (layout : Layout) → IsImage image
+pub boot_is_kept : (image : List ℕ) (script : Schedule) (quantum slots : ℕ) (mote : Mote) (sram : List ℕ) (layout : Layout) (part : Part) → IsImage image
     → 1 ≤ quantum → quantum < 256 → slots ≤ 251 → IsAtReset image script slots mote → IsWhole mote.flash
-    → sram ≡ with_byte mote.sram count_cell quantum → layout ≡ layout_of (length image)
-    → IsKept (record (booted image script quantum slots) { kernel = record { mote = record mote { sram = sram }; layout = layout; quantum = quantum } })
-boot_is_kept image script quantum slots mote sram layout is some low few reset whole set same =
-    subst IsKept (sym (booted_by image script quantum slots mote sram layout reset set same)) (kept_boot image script quantum slots (going_boot image script quantum slots is some low few (subst IsWhole reset.flash whole)))
+    → sram ≡ with_byte mote.sram count_cell quantum → layout ≡ layout_of (length image) → part ≡ record { first = 0; count = layout.image_words; shut = false }
+    → IsKept (record (booted image script quantum slots) { kernel = record { mote = record mote { sram = sram }; layout = layout; part = part; quantum = quantum } })
+boot_is_kept image script quantum slots mote sram layout part is some low few reset whole set same all =
+    subst IsKept (sym (booted_by image script quantum slots mote sram layout part reset set same all)) (kept_boot image script quantum slots (going_boot image script quantum slots is some low few (subst IsWhole reset.flash whole)))

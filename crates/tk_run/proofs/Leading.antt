@@ -32,27 +32,6 @@ last_on [] ns n = refl
 last_on (m ∷ []) ns n = last_cons m ns n
 last_on (m ∷ m' ∷ ms) ns n = last_cons m (ms ++ n ∷ ns) m' ∙ last_on (m' ∷ ms) ns n
 
--- where nothing follows, the machine has the end that it had
-pub last_of : (x y z : Machine) (ms ns : List Move) → Walk (state_of y) ns (state_of z) → (y.end ≡ None → ends_in_arrive ms ≡ false) → (z.end ≡ None → ends_in_arrive ns ≡ false) → z.end ≡ None → ends_in_arrive (ms ++ ns) ≡ false
-last_of x y z ms [] walk first then going = ap ends_in_arrive (append-nil ms) ∙ first (ap (λ (s : State). s.end) walk ∙ going)
-last_of x y z ms (n ∷ ns) walk first then going = last_on ms ns n ∙ then going
-
--- from x to y and from y to z
-pub leads_on : (x y z : Machine) (a b : List Line) → Leads x a y → Leads y b z → Leads x (a ++ b) z
-leads_on x y z a b first then = record {
-  moves = first.moves ++ then.moves;
-  goes = goes_on x y z first.moves then.moves a b first.goes then.goes;
-  last = last_of x y z first.moves then.moves then.goes.walk first.last then.last;
-  ended = λ over.
-      let same = first.ended over in
-      let later = then.ended (λ going. over (ap (λ (m : Machine). m.end) (sym same.0) ∙ going)) in
-      (later.0 ∙ same.0, ap₂ (λ p q. p ++ q) same.1 later.1);
-  broken = λ is.
-      let same = first.broken is in
-      let later = then.broken (ap (λ (m : Machine). m.broken) same.0 ∙ is) in
-      (later.0 ∙ same.0, ap₂ (λ p q. p ++ q) same.1 later.1);
-}
-
 pub stays_on : (x y z : Machine) → Stays x y → Stays y z → Stays x z
 stays_on x y z first then = record { program = then.program ∙ first.program; layout = then.layout ∙ first.layout; quantum = then.quantum ∙ first.quantum; failing = then.failing ∙ first.failing }
 

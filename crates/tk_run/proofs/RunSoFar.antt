@@ -5,13 +5,11 @@ use Rattle.std.proofs.lemmas.List.{append-nil}
 use Rattle.std.proofs.lemmas.Grind.{flat_map-append}
 use Rattle.std.specs.Io.KnownBytes.{Appends}
 use Rattle.tk_io.proofs.KnownBytes.{appends-both, appends-nothing}
-use Rattle.avr_isa.specs.Image.{is_inside}
 use Rattle.mote_devices.specs.declared.line.Line.{Line}
-use Rattle.mem_guard.specs.FlatMachine.{Program, Moment, End as FlatEnd, Run, run, with_line, ended, next_of}
+use Rattle.mem_guard.specs.FlatMachine.{Program, is_own, is_inside, Moment, End as FlatEnd, Run, run, with_line, ended, next_of}
 use Rattle.mem_guard.specs.FlatMachine as flat_ends
 use Rattle.mem_guard.proofs.MachineLaws.{run_wild, run_spent, run_stops, run_goes}
 use Rattle.mem_guard.proofs.RunLaws.{behind}
-use Rattle.kernel_entry.specs.Parts.{image_held}
 use Rattle.step_laws.specs.declared.moves.End.{End}
 use Rattle.step_laws.specs.Moves.{Move, lines_of, line_before}
 use Rattle.kernel_entry.specs.Seen.{program as program_of}
@@ -54,12 +52,12 @@ behind_line lines (Some l) r = ap (λ k. record r { lines = k }) (sym (append_as
 pub behind_ended : (lines : List Line) (end : FlatEnd) (s : Moment) → behind lines (ended end s) ≡ run_of end lines s
 behind_ended lines end s = ap (λ l. run_of end l s) (append-nil lines)
 
-none_by : (program : Program) (s : Moment) (b : Bool) → is_inside program.image s.now.cpu.pc ≡ b → ((run program s 0).lines ≡ []) × ((run program s 0).state ≡ s)
+none_by : (program : Program) (s : Moment) (b : Bool) → is_inside program s.now.cpu.pc ≡ b → ((run program s 0).lines ≡ []) × ((run program s 0).state ≡ s)
 none_by program s true inside = let is = run_spent program s inside in (ap (λ (r : Run). r.lines) is, ap (λ (r : Run). r.state) is)
 none_by program s false outside = let is = run_wild program s 0 outside in (ap (λ (r : Run). r.lines) is, ap (λ (r : Run). r.state) is)
 
 pub none_ran : (program : Program) (s : Moment) → ((run program s 0).lines ≡ []) × ((run program s 0).state ≡ s)
-none_ran program s = none_by program s (is_inside program.image s.now.cpu.pc) refl
+none_ran program s = none_by program s (is_inside program s.now.cpu.pc) refl
 
 pub nothing : (i : ℕ) → 0 + i ≡ i
 nothing i = omega arith
@@ -118,10 +116,14 @@ lines_text_on a b = flat_map-append line_text a b
 pub tried_same : (old now : Machine) (t : flat_ends.Next) → Stays old now → next_of (program_of now.kernel) (flat_of now) ≡ t → next_of (program_of old.kernel) (flat_of now) ≡ t
 tried_same old now t stays is = ap (λ p. next_of p (flat_of now)) (sym stays.program) ∙ is
 
-pub inside_same : (old now : Machine) → Stays old now → is_inside (image_held now.kernel) now.at ≡ true → is_inside (image_held old.kernel) now.at ≡ true
-inside_same old now stays is = ap (λ (p : Program). is_inside p.image now.at) (sym stays.program) ∙ is
+pub inside_same : (old now : Machine) → Stays old now → is_own now.kernel.part now.at ≡ true → is_own old.kernel.part now.at ≡ true
+inside_same old now stays is = ap (λ (p : Program). is_inside p now.at) (sym stays.program) ∙ is
 
-unfoldable pub ran_step : (old now new : Machine) (i : ℕ) (line : Option Line) (before after later : Option (List ℕ)) → Ran old now i before after → is_inside (image_held now.kernel) now.at ≡ true → (step : HasStepped now new line) → new.steps ≡ now.steps + 1
+-- the program has the whole image still
+pub unshut_on : (old new : Machine) → Stays old new → old.kernel.part.shut ≡ false → new.kernel.part.shut ≡ false
+unshut_on old new stays is = ap (λ (p : Program). p.part.shut) stays.program ∙ is
+
+unfoldable pub ran_step : (old now new : Machine) (i : ℕ) (line : Option Line) (before after later : Option (List ℕ)) → Ran old now i before after → is_own now.kernel.part now.at ≡ true → (step : HasStepped now new line) → new.steps ≡ now.steps + 1
     → next_of (program_of now.kernel) (flat_of now) ≡ flat_ends.On line (flat_of new) → Appends after later (lines_text (line_before line [])) → Ran old new (i + 1) before later
 ran_step old now new i line before after later ran inside step steps is put =
     let program = program_of old.kernel in
@@ -141,17 +143,17 @@ ran_step old now new i line before after later ran inside step steps is put =
     }
 
 -- what the run is where it ends
-pub spent_at : (old now : Machine) (i : ℕ) (before after : Option (List ℕ)) → (ran : Ran old now i before after) → is_inside (image_held now.kernel) now.at ≡ true → original_from old i ≡ run_of flat_ends.Spent ran.lines (flat_of now)
+pub spent_at : (old now : Machine) (i : ℕ) (before after : Option (List ℕ)) → (ran : Ran old now i before after) → is_own now.kernel.part now.at ≡ true → original_from old i ≡ run_of flat_ends.Spent ran.lines (flat_of now)
 spent_at old now i before after ran inside =
     ap (original_from old) (sym (nothing i)) ∙ ran.run 0 ∙ ap (behind ran.lines) (run_spent (program_of old.kernel) (flat_of now) (inside_same old now ran.stays inside)) ∙ behind_ended ran.lines flat_ends.Spent (flat_of now)
 
 -- with any bound that isn't less
-pub wild_at : (old now : Machine) (i k : ℕ) (before after : Option (List ℕ)) → (ran : Ran old now i before after) → is_inside (image_held now.kernel) now.at ≡ false → original_from old (k + i) ≡ run_of (flat_ends.Wild now.at) ran.lines (flat_of now)
+pub wild_at : (old now : Machine) (i k : ℕ) (before after : Option (List ℕ)) → (ran : Ran old now i before after) → is_own now.kernel.part now.at ≡ false → original_from old (k + i) ≡ run_of (flat_ends.Wild now.at) ran.lines (flat_of now)
 wild_at old now i k before after ran outside =
-    ran.run k ∙ ap (behind ran.lines) (run_wild (program_of old.kernel) (flat_of now) k (ap (λ (p : Program). is_inside p.image now.at) (sym ran.stays.program) ∙ outside)) ∙ behind_ended ran.lines (flat_ends.Wild now.at) (flat_of now)
+    ran.run k ∙ ap (behind ran.lines) (run_wild (program_of old.kernel) (flat_of now) k (ap (λ (p : Program). is_inside p now.at) (sym ran.stays.program) ∙ outside)) ∙ behind_ended ran.lines (flat_ends.Wild now.at) (flat_of now)
 
 pub stop_at : (old now : Machine) (i k : ℕ) (before after : Option (List ℕ)) (end : FlatEnd) → (ran : Ran old now i before after)
-    → is_inside (image_held now.kernel) now.at ≡ true → next_of (program_of now.kernel) (flat_of now) ≡ flat_ends.Ends end
+    → is_own now.kernel.part now.at ≡ true → next_of (program_of now.kernel) (flat_of now) ≡ flat_ends.Ends end
     → original_from old (suc k + i) ≡ run_of end ran.lines (flat_of now)
 stop_at old now i k before after end ran inside is =
     ran.run (suc k) ∙ ap (behind ran.lines) (run_stops (program_of old.kernel) (flat_of now) k end (inside_same old now ran.stays inside) (tried_same old now _ ran.stays is)) ∙ behind_ended ran.lines end (flat_of now)

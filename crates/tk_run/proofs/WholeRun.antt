@@ -60,6 +60,7 @@ exact_by image script quantum slots n before after end m is kept advanced run ra
     let done : run.done ≡ m.steps = omega (arith, run.steps) in
     let tried = kept.sound.order.tried in
     record {
+      within = omega (arith, run.within);
       put = subst (λ l. Appends before after (lines_text l)) lines advanced.put;
       same = sym (ap (λ (r : Run). r.end) same);
       state = sym (ap (λ (r : Run). r.state) same);
@@ -124,6 +125,7 @@ stop_kept (stops.Halted pc) m is = is
 stop_kept (stops.Asleep pc) m is = is
 stop_kept (stops.Illegal pc) m is = is
 stop_kept (stops.SelfProgram pc) m is = is
+stop_kept (stops.Read pc a) m is = is
 stop_kept (stops.Io pc a) m is = is
 stop_kept (stops.Stack pc a) m is = is
 stop_kept (stops.SwapFull pc a) m is = is

@@ -9,9 +9,10 @@ use Rattle.input_script.specs.Script.{Schedule}
 use Rattle.mote_devices.specs.State.{at_reset}
 use Rattle.mote_core.specs.Step.{cpu_at_reset}
 use Rattle.swap_store.specs.Slots.{zero_slots}
+use Rattle.mem_guard.specs.FlatMachine.{whole_part}
 use Rattle.program_steps.specs.Machines.{Machine}
 
--- A mote at reset, with COUNT set to the quantum. An arrival at 0 is owed, and nothing was counted.
+-- A mote at reset, with COUNT set to the quantum, whose program has the whole image. An arrival at 0 is owed, and nothing was counted.
 abbrev pub booted : (image : List ℕ) (script : Schedule) (quantum slots : ℕ) → Machine
 booted image script quantum slots = record {
   kernel = record {
@@ -23,6 +24,7 @@ booted image script quantum slots = record {
       swap = zero_slots slots;
     };
     layout = layout_of (length image);
+    part = whole_part image;
     quantum = quantum;
   };
   at = 0;

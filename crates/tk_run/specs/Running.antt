@@ -60,7 +60,7 @@ pub record IsFailed (old new : Machine) (n done : ℕ) (lines : List Line) (op :
   pub ended : IsEnded new
   pub fault : IsFault new op
 
--- a line could not be put
+-- gathered lines could not be put
 pub record IsBroken (new : Machine) : Type 0 where
   pub broken : new.broken ≡ true
   pub order : IsInOrder new

@@ -4,7 +4,7 @@ use Rattle.std.specs.Io.KnownBytes.{Appends}
 use Rattle.input_script.specs.Script.{Schedule}
 use Rattle.flash_model.specs.Operations.{is_listed}
 use Rattle.mote_devices.specs.declared.line.Line.{Line}
-use Rattle.mem_guard.specs.FlatMachine.{Program, End as FlatEnd, original}
+use Rattle.mem_guard.specs.FlatMachine.{Program, whole_part, End as FlatEnd, original}
 use Rattle.mem_guard.specs.FlatMachine as flat_ends
 use Rattle.tk_io.specs.declared.failure.Failed.{Failed}
 use Rattle.tk_io.specs.Streams.{CutShort}
@@ -19,7 +19,7 @@ use Rattle.tk_run.specs.Booted.{booted}
 
 -- the original program, which may store to as many pages of heap as there are slots
 abbrev pub program_at : (image : List ℕ) (quantum slots : ℕ) → Program
-program_at image quantum slots = record { image = image; page_limit = slots; quantum = quantum }
+program_at image quantum slots = record { image = image; part = whole_part image; page_limit = slots; quantum = quantum }
 
 -- moves lead from boot to the machine, and write these lines
 abbrev pub Path : (image : List ℕ) (script : Schedule) (quantum slots : ℕ) → List Line → Machine → Type 0
@@ -34,9 +34,10 @@ IsKeptEnd _ end kept = kept ≡ Some end
 abbrev pub StandsAt : (image : List ℕ) (script : Schedule) (quantum slots done t : ℕ) → Type 0
 StandsAt image script quantum slots done t = (k : ℕ) × (k ≤ done) × ((original (program_at image quantum slots) script.events k).state.now.cpu.pc ≡ t)
 
--- The run ended as the original program's n steps do, and all their lines were put. No operation on flash that was
--- tried was to fail, and each page was made at an address where the original program stands.
+-- The run ended as the original program's n steps do, with no more steps done, and all their lines were put. No
+-- operation on flash that was tried was to fail, and each page was made at an address where the original program stands.
 pub record IsExactRun (image : List ℕ) (script : Schedule) (quantum slots n : ℕ) (before after : Option (List ℕ)) (end : End) (m : Machine) : Type 0 where
+  pub within : m.steps ≤ n
   pub put : Appends before after (lines_text (original (program_at image quantum slots) script.events n).lines)
   pub same : flat_end end ≡ (original (program_at image quantum slots) script.events n).end
   pub state : flat_of m ≡ (original (program_at image quantum slots) script.events n).state
@@ -69,7 +70,7 @@ pub record IsFailedRun (image : List ℕ) (script : Schedule) (quantum slots n :
   pub first : (earlier : ℕ) → 1 ≤ earlier → earlier < op → is_listed script.failing earlier ≡ false
   pub refused : m.kernel.mote.flash.refused ≢ None
 
--- a line could not be put: what went out is cut short of the lines of the steps that were done
+-- gathered lines could not be put: what went out is cut short of the lines of the steps that were done
 pub record IsCutRun (image : List ℕ) (script : Schedule) (quantum slots n : ℕ) (before after : Option (List ℕ)) (m : Machine) : Type 0 where
   pub within : m.steps ≤ n
   pub put : CutShort before after (lines_text (original (program_at image quantum slots) script.events m.steps).lines)

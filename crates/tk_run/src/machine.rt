@@ -12,6 +12,7 @@ use flash_model::Layout;
 use hex_image::Image;
 use input_script::Script;
 use kernel_entry::Kernel;
+use mem_guard::Part;
 use mote_core::Mote;
 use program_steps::Progress;
 use std::alloc::Global;
@@ -31,7 +32,7 @@ pub struct Options {
 /// has no end.
 #[derive(Debug, Drop)]
 pub struct Machine {
-    /// The mote, the layout of its flash, and the quantum.
+    /// The mote, the layout of its flash, the program's part of the image, which is all of it, and the quantum.
     pub kernel: Kernel,
     /// The original address where the next step begins, or where the program stopped.
     pub at: u16,
@@ -86,10 +87,13 @@ impl Machine {
     {
         let mut mote = Mote::new(alloc, image.words(), script, options.swap)?;
         mote.sram.set_count(options.quantum);
+        let layout = Layout::of(image.len_words());
+        let part = whole_part(&layout);
         Ok(Machine {
             kernel: Kernel {
                 mote,
-                layout: Layout::of(image.len_words()),
+                layout,
+                part,
                 quantum: options.quantum,
             },
             at: 0,
@@ -153,5 +157,16 @@ impl Machine {
         self.since = p.since;
         self.longest = p.longest.max(p.since);
         result
+    }
+}
+
+/// The part of a program that has the whole image.
+fn whole_part(layout: &Layout) -> Part
+    ensures value { result ≡ record { first = 0; count = layout.now.image_words; shut = false } }
+{
+    Part {
+        first: 0,
+        count: layout.image_words,
+        shut: false,
     }
 }

@@ -25,6 +25,7 @@ pub(crate) fn run_on<K: Sink>(
     requires ready { p.old.end ≡ None → IsGoing (whole k.old p.old) }
     requires quiet { p.old.end ≡ None → IsQuiet (whole k.old p.old) }
     requires steps { p.old.steps + n ≤ 10 ^ 12 }
+    requires unshut { k.old.part.shut ≡ false }
     ensures advanced { HasAdvanced (whole k.old p.old) (whole k.new p.new) n (K.taken out.old) (K.taken out.new) result }
     ensures cause { HasCause (K.faults out.old) (K.faults out.new) result }
 {
@@ -47,6 +48,7 @@ fn put_steps<K: Sink>(k: &mut Kernel, p: &mut Progress, n: u64, out: &mut K) -> 
     requires ready { IsGoing (whole k.old p.old) }
     requires quiet { IsQuiet (whole k.old p.old) }
     requires steps { p.old.steps + n ≤ 10 ^ 12 }
+    requires unshut { k.old.part.shut ≡ false }
     ensures put { HasPut (whole k.old p.old) (whole k.new p.new) n (K.taken out.old) (K.taken out.new) result }
     ensures cause { HasCause (K.faults out.old) (K.faults out.new) result }
 {
@@ -69,6 +71,7 @@ fn all_steps<K: Sink>(
     requires ready { IsGoing (whole k.old p.old) }
     requires quiet { IsQuiet (whole k.old p.old) }
     requires steps { p.old.steps + n ≤ 10 ^ 12 }
+    requires unshut { k.old.part.shut ≡ false }
     requires empty { gathered.old.items ≡ [] }
     ensures gathered { HasGathered (whole k.old p.old) (whole k.new p.new) n gathered.new.items (K.taken out.old) (K.taken out.new) result }
     ensures cause { HasCause (K.faults out.old) (K.faults out.new) result }

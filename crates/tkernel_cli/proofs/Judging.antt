@@ -5,11 +5,14 @@ use Rattle.hex_image.specs.HexText.{HexText}
 use Rattle.text_lines.proofs.TextLaws.{front-short}
 use Rattle.tk_io.specs.Streams.{TakesAtMost}
 use Rattle.tkernel_cli.specs.declared.command.Command.{Command}
-use Rattle.tkernel_cli.specs.declared.command.Command.TheVariants.{Help, Run, Generate, Asm}
+use Rattle.tkernel_cli.specs.declared.command.Command.TheVariants.{Help, Run, Dump, Check, Generate, Asm}
 use Rattle.tkernel_cli.specs.declared.job.Job.{Job}
-use Rattle.tkernel_cli.specs.declared.job.Job.TheVariants as jobs
-use Rattle.tkernel_cli.specs.declared.request.Request.{Request}
 use Rattle.tkernel_cli.specs.declared.top.Exit.{Exit}
+use Rattle.tkernel_cli.specs.AsmCommand.{AsmAsks}
+use Rattle.tkernel_cli.specs.CheckCommand.{CheckAsks}
+use Rattle.tkernel_cli.specs.Commands.{RunsAProgram}
+use Rattle.tkernel_cli.specs.DumpCommand.{DumpAsks}
+use Rattle.tkernel_cli.specs.RunCommand.{RunAsks}
 use Rattle.tkernel_cli.specs.Printed.{no_memory}
 use Rattle.tkernel_cli.specs.Reading.{AsksByText, Gave, IsUnread, most_input}
 use Rattle.tkernel_cli.specs.Runs.{Stream}
@@ -24,30 +27,34 @@ pub judged_text : (Rule : List ℕ → Job → Type 0) (before now : Stream) (gi
 judged_text Rule before now given text job same gave (inl asks) = inr (text, gave, subst (λ t. Rule t job) same asks)
 judged_text Rule before now given text job same gave (inr none) = inl (IsUnread.NoMemory none (took before now text gave))
 
-unread_run : (before now : Stream) (request : Request) → IsUnread before now (jobs.Run request) → ⊥
-unread_run before now request (IsUnread.ReadFault is rose taken) = absurd (cc)
-unread_run before now request (IsUnread.TooLong is taken) = absurd (cc)
-unread_run before now request (IsUnread.NoMemory is taken) = absurd (cc)
+unread_run : (before now : Stream) (job : Job) → RunsAProgram job → IsUnread before now job → ⊥
+unread_run before now job runs (IsUnread.ReadFault is rose taken) = subst RunsAProgram is runs
+unread_run before now job runs (IsUnread.TooLong is taken) = subst RunsAProgram is runs
+unread_run before now job runs (IsUnread.NoMemory is taken) = subst RunsAProgram is runs
 
--- a command that asks for a run may want memory for it
-run_wants : (command : Command) (before now : Stream) (request : Request) → Asks command before now (jobs.Run request) → Asks command before now no_memory
-run_wants Help before now request asks = let is = asks.0 in absurd (cc)
-run_wants (Run options) before now request (inl unread) = absurd (unread_run before now request unread)
-run_wants (Run options) before now request (inr judged) = inl (IsUnread.NoMemory refl (took before now judged.0 judged.1))
-run_wants (Generate seed) before now request asks = (inr refl, asks.1)
-run_wants Asm before now request (inl unread) = absurd (unread_run before now request unread)
-run_wants Asm before now request (inr judged) = inl (IsUnread.NoMemory refl (took before now judged.0 judged.1))
+text_wants : (Rule : List ℕ → Job → Type 0) (before now : Stream) (job : Job) → RunsAProgram job → AsksByText Rule before now job → AsksByText Rule before now no_memory
+text_wants Rule before now job runs (inl unread) = absurd (unread_run before now job runs unread)
+text_wants Rule before now job runs (inr judged) = inl (IsUnread.NoMemory refl (took before now judged.0 judged.1))
 
-memory_asked : (words : List (List ℕ)) (before now : Stream) (request : Request) → IsAsked words before now (jobs.Run request) → IsAsked words before now no_memory
-memory_asked words before now request (inl asked) = inl (asked.0, asked.1, run_wants asked.0 before now request asked.2)
-memory_asked words before now request (inr none) = let is = none.1 in absurd (cc)
+-- a command that asks for a program's run may want memory for it
+run_wants : (command : Command) (before now : Stream) (job : Job) → RunsAProgram job → Asks command before now job → Asks command before now no_memory
+run_wants Help before now job runs asks = absurd (subst RunsAProgram asks.0 runs)
+run_wants (Run options) before now job runs asks = text_wants (RunAsks options) before now job runs asks
+run_wants (Dump options) before now job runs asks = text_wants (DumpAsks options) before now job runs asks
+run_wants Check before now job runs asks = text_wants CheckAsks before now job runs asks
+run_wants (Generate seed) before now job runs asks = (inr refl, asks.1)
+run_wants Asm before now job runs asks = text_wants AsmAsks before now job runs asks
+
+memory_asked : (words : List (List ℕ)) (before now : Stream) (job : Job) → RunsAProgram job → IsAsked words before now job → IsAsked words before now no_memory
+memory_asked words before now job runs (inl asked) = inl (asked.0, asked.1, run_wants asked.0 before now job runs asked.2)
+memory_asked words before now job runs (inr none) = absurd (subst RunsAProgram none.1 runs)
 
 -- a job that is asked for, and done or not for want of memory
 pub answer_of : (words : List (List ℕ)) (source source' sink sink' : Stream) (job : Job) (exit : Exit) → IsAsked words source source' job
-    → Does job sink sink' exit ⊎ ((request : Request) × (job ≡ jobs.Run request) × Does no_memory sink sink' exit) → IsAnswer words source source' sink sink' exit
+    → Does job sink sink' exit ⊎ (RunsAProgram job × Does no_memory sink sink' exit) → IsAnswer words source source' sink sink' exit
 answer_of words source source' sink sink' job exit asked (inl done) = record { job = job; asked = asked; done = done }
 answer_of words source source' sink sink' job exit asked (inr none) =
-    record { job = no_memory; asked = memory_asked words source source' none.0 (subst (IsAsked words source source') none.1 asked); done = none.2 }
+    record { job = no_memory; asked = memory_asked words source source' job none.0 asked; done = none.1 }
 
 -- what stands behind some lines of a text stands in it
 pub position_inside : (text words : List ℕ) (position : ℕ) → HexText text words position → position ≤ length text

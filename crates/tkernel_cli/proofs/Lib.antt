@@ -4,6 +4,7 @@ pub mod FirstWord
 pub mod NumberWords
 pub mod NumberChoices
 pub mod OneCommand
+pub mod ImageLength
 pub mod OneJob
 pub mod Judging
 pub mod Putting
@@ -11,3 +12,4 @@ pub mod BootedFlash
 pub mod RunEnds
 pub mod WholeRuns
 pub mod Exactly
+pub mod Checks

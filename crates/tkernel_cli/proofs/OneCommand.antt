@@ -4,7 +4,7 @@ use Rattle.std.specs.Prelude.{MatchOption, Option, Some, None}
 use Rattle.tkernel_cli.specs.declared.command.Command.{Command}
 use Rattle.tkernel_cli.specs.declared.command.Command.TheVariants as commands
 use Rattle.tkernel_cli.specs.declared.table.CommandName.{CommandName}
-use Rattle.tkernel_cli.specs.declared.table.CommandName.TheVariants.{Help, Run, Generate, Asm}
+use Rattle.tkernel_cli.specs.declared.table.CommandName.TheVariants.{Help, Run, Dump, Check, Generate, Asm}
 use Rattle.tkernel_cli.specs.declared.table.Row.{Row}
 use Rattle.tkernel_cli.specs.Options.{AreValues, Choose, IsWords, nothing, rows_of, word_of}
 use Rattle.tkernel_cli.specs.OptionReading.{stripped}
@@ -20,15 +20,20 @@ abbrev named_by : List CommandName → List ℕ → Option CommandName
 named_by [] word = None
 named_by (name ∷ names) word = or_found name (stripped (word_of name) word) (named_by names word)
 
-names_itself : (name : CommandName) → named_by (Help ∷ Run ∷ Generate ∷ Asm ∷ []) (word_of name) ≡ Some name
+abbrev all_names : List CommandName
+all_names = Help ∷ Run ∷ Dump ∷ Check ∷ Generate ∷ Asm ∷ []
+
+names_itself : (name : CommandName) → named_by all_names (word_of name) ≡ Some name
 names_itself Help = refl
 names_itself Run = refl
+names_itself Dump = refl
+names_itself Check = refl
 names_itself Generate = refl
 names_itself Asm = refl
 
 one_name : (a b : CommandName) → word_of a ≡ word_of b → a ≡ b
 one_name a b same =
-    let found = sym (names_itself a) ∙ ap (named_by (Help ∷ Run ∷ Generate ∷ Asm ∷ [])) same ∙ names_itself b in
+    let found = sym (names_itself a) ∙ ap (named_by all_names) same ∙ names_itself b in
     cc
 
 first_is : (a b : List ℕ) (xs ys : List (List ℕ)) → a ∷ xs ≡ b ∷ ys → (a ≡ b) × (xs ≡ ys)
@@ -68,6 +73,8 @@ one_asking name rest a b first second =
 abbrev made : CommandName → List ℕ → Option Command
 made Help values = Some commands.Help
 made Run (steps ∷ quantum ∷ swap ∷ []) = Some (commands.Run (record { steps = steps; quantum = quantum; swap = swap }))
+made Dump (steps ∷ quantum ∷ swap ∷ []) = Some (commands.Dump (record { steps = steps; quantum = quantum; swap = swap }))
+made Check values = Some commands.Check
 made Generate (seed ∷ []) = Some (commands.Generate seed)
 made Asm values = Some commands.Asm
 made _ _ = None
@@ -75,6 +82,8 @@ made _ _ = None
 is_made : (command : Command) → made (command_name command) (numbers_of command) ≡ Some command
 is_made commands.Help = refl
 is_made (commands.Run options) = refl
+is_made (commands.Dump options) = refl
+is_made commands.Check = refl
 is_made (commands.Generate seed) = refl
 is_made commands.Asm = refl
 

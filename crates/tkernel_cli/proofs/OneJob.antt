@@ -8,14 +8,24 @@ use Rattle.input_script.specs.declared.fault.ScriptFault.{ScriptFault}
 use Rattle.input_script.proofs.Judgement.{one_judgement}
 use Rattle.tkernel_cli.specs.declared.command.RunOptions.{RunOptions}
 use Rattle.tkernel_cli.specs.declared.job.Job.{Job}
-use Rattle.tkernel_cli.specs.Printed.{asm_word, bad_part, hex_word, script_word}
+use Rattle.tkernel_cli.specs.Printed.{asm_word, bad_part, dump_word, hex_word, script_word}
 use Rattle.tkernel_cli.specs.Reading.{IsJudged, Bad, Good}
 use Rattle.tkernel_cli.specs.AsmCommand.{AsmAsks}
-use Rattle.tkernel_cli.specs.RunCommand.{RunAsks}
+use Rattle.tkernel_cli.specs.RunCommand.{RequestThen, RunAsks}
 use Rattle.avr_asm.specs.AsmText.{AsmText, fault_of}
 use Rattle.avr_asm.specs.declared.fault.AsmFault.{AsmFault}
 use Rattle.avr_asm.proofs.OneImage.{same_words}
 use Rattle.std.specs.Prelude.{Option, Some, None}
+use Rattle.flash_model.specs.Layouts.{layout_of}
+use Rattle.flash_model.proofs.LayoutLaws.{layout_right}
+use Rattle.pool_check.specs.Dumps.{IsDump, IsNoDump}
+use Rattle.pool_check.specs.declared.dump_line.DumpFault.{DumpFault}
+use Rattle.pool_check.proofs.Judgement as dumps
+use Rattle.tkernel_cli.specs.declared.request.Request.{Request}
+use Rattle.tkernel_cli.specs.CheckCommand.{CheckAsks, verdict_line}
+use Rattle.tkernel_cli.specs.DumpCommand.{DumpAsks}
+use Rattle.tkernel_cli.specs.declared.job.Job.TheVariants as jobs
+use Rattle.tkernel_cli.proofs.ImageLength.{few_words}
 
 -- one job is asked for
 abbrev pub IsOne : (Job → Type 0) → Type 0
@@ -28,7 +38,7 @@ record IsOnePart (V : Type 0) (Is : V → Type 0) (IsBad : ℕ → List ℕ → 
   apart : (a : V) (line : ℕ) (word : List ℕ) → Is a → ¬ IsBad line word
 
 -- so it asks for one job, where each thing that it may be does
-one_judged : (V : Type 0) (part : List ℕ) (Is : V → Type 0) (IsFaulty : ℕ → List ℕ → Type 0) (Then : V → Job → Type 0) → IsOnePart V Is IsFaulty → ((value : V) → IsOne (Then value)) → IsOne (IsJudged V part Is IsFaulty Then)
+one_judged : (V : Type 0) (part : List ℕ) (Is : V → Type 0) (IsFaulty : ℕ → List ℕ → Type 0) (Then : V → Job → Type 0) → IsOnePart V Is IsFaulty → ((value : V) → Is value → IsOne (Then value)) → IsOne (IsJudged V part Is IsFaulty Then)
 one_judged V part Is IsFaulty Then part_is then_is a b first second = elim first [
   | Bad line word bad is ↦ elim second [
     | Bad line' word' bad' is' ↦ let same = part_is.one_fault line line' word word' bad bad' in is ∙ ap₂ (bad_part part) same.0 same.1 ∙ sym is'
@@ -36,7 +46,7 @@ one_judged V part Is IsFaulty Then part_is then_is a b first second = elim first
   ]
   | Good value good asks ↦ elim second [
     | Bad line word bad is ↦ absurd (part_is.apart value line word good bad)
-    | Good value' good' asks' ↦ then_is value' a b (subst (λ v. Then v a) (part_is.one value value' good good') asks) asks'
+    | Good value' good' asks' ↦ then_is value' good' a b (subst (λ v. Then v a) (part_is.one value value' good good') asks) asks'
   ]
 ]
 
@@ -59,6 +69,17 @@ one_script text = record {
     first.2 ∙ ap script_word ((one_judgement text).one_fault line other first.0 second.0 first.1 second.1) ∙ sym second.2,
   );
   apart = λ schedule line word good bad. (one_judgement text).apart schedule line bad.0 good bad.1;
+}
+
+-- A dump. ------------------------------------------------------------------------------------------------
+
+one_flash : (text : List ℕ) → IsOnePart (List ℕ) (IsDump text) (λ line word. (fault : DumpFault) × IsNoDump text line fault × (word ≡ dump_word fault))
+one_flash text = record {
+  one = λ a b first second. dumps.one_dump text a b first second;
+  one_fault = λ line other word word' first second.
+      let same = dumps.one_fault text line other first.0 second.0 first.1 second.1 in
+      (same.0, first.2 ∙ ap dump_word same.1 ∙ sym second.2);
+  apart = λ words line word good bad. dumps.never_both text words line bad.0 good bad.1;
 }
 
 -- A source. -----------------------------------------------------------------------------------------------
@@ -84,10 +105,22 @@ one_assembled text = record {
 }
 
 -- the commands that read
-pub one_run : (options : RunOptions) (text : List ℕ) → IsOne (RunAsks options text)
-one_run options text =
+one_request : (options : RunOptions) (text : List ℕ) (asked : Request → Job) → IsOne (RequestThen options text asked)
+one_request options text asked =
     one_judged _ _ _ _ _ (one_hex text)
-    (λ hex. one_judged _ _ _ _ _ (one_script (drop hex.1 text)) (λ schedule a b first second. first ∙ sym second))
+    (λ hex is. one_judged _ _ _ _ _ (one_script (drop hex.1 text)) (λ schedule is' a b first second. first ∙ sym second))
+
+pub one_run : (options : RunOptions) (text : List ℕ) → IsOne (RunAsks options text)
+one_run options text = one_request options text jobs.Run
+
+pub one_dump : (options : RunOptions) (text : List ℕ) → IsOne (DumpAsks options text)
+one_dump options text = one_request options text jobs.Dump
+
+pub one_check : (text : List ℕ) → IsOne (CheckAsks text)
+one_check text =
+    one_judged _ _ _ _ _ (one_hex text)
+    (λ hex is. one_judged _ _ _ _ _ (one_flash (drop hex.1 text)) (λ words is' a b first second.
+    first.2 ∙ ap verdict_line (dumps.one_verdict _ hex.0 words first.0 second.0 (layout_right _ (few_words text hex.0 hex.1 is)) first.1 second.1) ∙ sym second.2))
 
 pub one_source : (text : List ℕ) → IsOne (AsmAsks text)
-one_source text = one_judged _ _ _ _ _ (one_assembled text) (λ words a b first second. first ∙ sym second)
+one_source text = one_judged _ _ _ _ _ (one_assembled text) (λ words is a b first second. first ∙ sym second)

@@ -1,12 +1,12 @@
 -- A whole run, with its last two lines, as the answer tells it.
 use Rattle.std.proofs.Common.{◌≡◌, ℕ, ◌/◌, ◌≤◌, ◌<◌, List, ◌++◌, append_assoc, refl, sym, ap, ap₂, ◌∙◌, subst, arith, inl, inr}
-use Rattle.std.specs.Prelude.{Result, Ok, Err, OnErr, ◌^◌, codes, decimal}
+use Rattle.std.specs.Prelude.{None, Result, Ok, Err, OnErr, ◌^◌, codes, decimal}
 use Rattle.std.specs.Io.KnownBytes.{Appends}
 use Rattle.tk_io.specs.declared.failure.Failed.{Failed}
 use Rattle.tk_io.specs.Faults.{Rose, HasCause}
 use Rattle.tk_io.proofs.KnownBytes.{appends-both}
 use Rattle.hex_image.specs.Image.{IsImage}
-use Rattle.mem_guard.specs.FlatMachine.{End, Spent, Wild, Illegal, SelfProgram, Asleep, Halted, Io, Stack, SwapFull, Run}
+use Rattle.mem_guard.specs.FlatMachine.{End, Spent, Wild, Illegal, SelfProgram, Asleep, Halted, Read, Io, Stack, SwapFull, Run}
 use Rattle.kernel_entry.specs.Texts.{stop_text, end_text}
 use Rattle.step_laws.specs.declared.moves.End.{End as MachineEnd}
 use Rattle.step_laws.specs.declared.moves.End.TheVariants as ends
@@ -19,6 +19,7 @@ use Rattle.tk_run.proofs.WholeRun.{whole_run as whole_of}
 use Rattle.tkernel_cli.specs.declared.request.Request.{Request}
 use Rattle.tkernel_cli.specs.declared.status.Status.{Status}
 use Rattle.tkernel_cli.specs.declared.status.Status.TheVariants as status
+use Rattle.tkernel_cli.specs.DumpCommand.{silent}
 use Rattle.tkernel_cli.specs.Text.{end_line, how_text, count_text}
 use Rattle.tkernel_cli.specs.Runs.{Stream, Says, Runs, KeepsEnd, original_of, whole_run, checkpoints_of, run_text, status_of_end, status_of_stop}
 use Rattle.tkernel_cli.proofs.BootedFlash.{boot_kept}
@@ -60,6 +61,7 @@ keeps_end (Illegal pc) end m same kept = (end, kept, same)
 keeps_end (SelfProgram pc) end m same kept = (end, kept, same)
 keeps_end (Asleep pc) end m same kept = (end, kept, same)
 keeps_end (Halted pc) end m same kept = (end, kept, same)
+keeps_end (Read pc a) end m same kept = (end, kept, same)
 keeps_end (Io pc a) end m same kept = (end, kept, same)
 keeps_end (Stack pc a) end m same kept = (end, kept, same)
 keeps_end (SwapFull pc a) end m same kept = (end, kept, same)
@@ -83,6 +85,7 @@ ended request before mid now told end m status how run later said =
     let own : status_of_stop end ≡ status_of_end r.end = status ∙ ap status_of_end run.same in
     Runs.Ended (record {
       said = subst (λ s. Says s (run_text r (stop_text r.end r.state.now.steps (checkpoints_of request r)) m) before now told) own (subst (λ l. Says (status_of_stop end) (run_text r l m) before now told) stop whole);
+      within = run.within;
       end = subst (λ e. KeepsEnd e m) run.same (keeps_end (flat_end end) end m refl run.kept);
       unlisted = run.unlisted;
       unrefused = run.unrefused;
@@ -148,3 +151,12 @@ pub answered_cut : (request : Request) (before now : Stream) (result : Result Ma
 answered_cut request before now result failed m image some low few bound advanced is cause =
     let run = whole_of request.image request.script request.options.quantum request.options.swap request.options.steps before.told now.told result m image (boot_kept request image some low few) (omega arith) advanced in
     ran_until_cut request before now failed m (subst (λ r. HasWhole request.image request.script request.options.quantum request.options.swap request.options.steps before.told now.told r m) is run) (err_rose result failed before.faults now.faults is cause.failed)
+
+-- a run into a sink that takes everything and tells nothing
+pub ran_silently : (request : Request) (result : Result MachineEnd Failed) (m : Machine) → IsImage request.image → 1 ≤ request.options.quantum → request.options.quantum < 256 → request.options.swap ≤ 251 → request.options.steps ≤ 10 ^ 9
+    → HasAdvanced (booted request.image request.script request.options.quantum request.options.swap) m request.options.steps None None result → HasCause 0 0 result
+    → (ended : Status) × Runs request silent silent ended m
+ran_silently request (Ok end) m image some low few bound advanced cause =
+    (status_of_stop end, answered request silent silent silent (status_of_stop end) (Ok end) end m image some low few bound advanced refl cause (inl (refl, tt)))
+ran_silently request (Err failed) m image some low few bound advanced cause =
+    (status.WriteFault, answered_cut request silent silent (Err failed) failed m image some low few bound advanced refl cause)

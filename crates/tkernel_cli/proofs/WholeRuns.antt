@@ -2,7 +2,7 @@
 use Rattle.std.proofs.Common.{◌≡◌, ℕ, List, sym, ◌∙◌, inl, inr}
 use Rattle.std.specs.Io.KnownBytes.{Appends}
 use Rattle.tk_io.specs.Faults.{Rose}
-use Rattle.mem_guard.specs.FlatMachine.{End, Spent, Wild, Illegal, SelfProgram, Asleep, Halted, Io, Stack, SwapFull}
+use Rattle.mem_guard.specs.FlatMachine.{End, Spent, Wild, Illegal, SelfProgram, Asleep, Halted, Read, Io, Stack, SwapFull}
 use Rattle.program_steps.specs.Machines.{Machine}
 use Rattle.tkernel_cli.specs.declared.request.Request.{Request}
 use Rattle.tkernel_cli.specs.declared.status.Status.{Status}
@@ -21,6 +21,7 @@ end_is_no_fault (Asleep pc) is = absurd (cc)
 end_is_no_fault (Wild pc) is = absurd (cc)
 end_is_no_fault (Illegal pc) is = absurd (cc)
 end_is_no_fault (SelfProgram pc) is = absurd (cc)
+end_is_no_fault (Read pc a) is = absurd (cc)
 end_is_no_fault (Io pc a) is = absurd (cc)
 end_is_no_fault (Stack pc a) is = absurd (cc)
 end_is_no_fault (SwapFull pc a) is = absurd (cc)

@@ -8,6 +8,8 @@ pub mod Printed
 pub mod Runs
 pub mod Reading
 pub mod RunCommand
+pub mod DumpCommand
+pub mod CheckCommand
 pub mod GenerateCommand
 pub mod AsmCommand
 pub mod Answer

@@ -5,7 +5,7 @@ use Rattle.std.specs.Prelude.{◌≡◌, ℕ, ◌≤◌, ◌⊎◌, ◌==◌, if
 use Rattle.std.specs.Option.{option_or}
 use Rattle.input_script.specs.Grammar.{IsNumber}
 use Rattle.tkernel_cli.specs.declared.table.CommandName.{CommandName}
-use Rattle.tkernel_cli.specs.declared.table.CommandName.TheVariants.{Help, Run, Generate, Asm}
+use Rattle.tkernel_cli.specs.declared.table.CommandName.TheVariants.{Help, Run, Dump, Check, Generate, Asm}
 use Rattle.tkernel_cli.specs.declared.table.Parameter.{Parameter}
 use Rattle.tkernel_cli.specs.declared.table.Parameter.TheVariants.{Seed, Steps, Quantum, Swap}
 use Rattle.tkernel_cli.specs.declared.table.Row.{Row}
@@ -15,6 +15,8 @@ use Rattle.tkernel_cli.specs.declared.options.Choice.{Choice}
 abbrev pub word_of : CommandName → List ℕ
 word_of Help = codes "help"
 word_of Run = codes "run"
+word_of Dump = codes "dump"
+word_of Check = codes "check"
 word_of Generate = codes "generate"
 word_of Asm = codes "asm"
 
@@ -32,15 +34,21 @@ place_of Steps = 1
 place_of Quantum = 2
 place_of Swap = 3
 
--- what a command takes: each parameter with its least and its greatest value, and the one that it has
--- where the words give none
-abbrev pub rows_of : CommandName → List Row
-rows_of Help = []
-rows_of Run =
+-- What a command takes: each parameter with its least and its greatest value, and the one that it has
+-- where the words give none. This is what a command takes that runs a program
+abbrev pub run_rows : List Row
+run_rows =
     record { parameter = Steps; least = 0; most = 1000000000; default = Some 1000000 }
     ∷ record { parameter = Quantum; least = 1; most = 255; default = Some 255 }
     ∷ record { parameter = Swap; least = 0; most = 251; default = Some 128 }
     ∷ []
+
+-- and this each command
+abbrev pub rows_of : CommandName → List Row
+rows_of Help = []
+rows_of Run = run_rows
+rows_of Dump = run_rows
+rows_of Check = []
 rows_of Generate = record { parameter = Seed; least = 0; most = 4294967295; default = None } ∷ []
 rows_of Asm = []
 

@@ -6,6 +6,8 @@ use Rattle.hex_image.specs.declared.fault.HexFault.{HexFault}
 use Rattle.hex_image.specs.declared.fault.HexFault.TheVariants as hex_faults
 use Rattle.input_script.specs.declared.fault.ScriptFault.{ScriptFault}
 use Rattle.input_script.specs.declared.fault.ScriptFault.TheVariants as script_faults
+use Rattle.pool_check.specs.declared.dump_line.DumpFault.{DumpFault}
+use Rattle.pool_check.specs.declared.dump_line.DumpFault.TheVariants as dump_faults
 use Rattle.tkernel_cli.specs.declared.job.Job.{Job}
 use Rattle.tkernel_cli.specs.declared.job.Job.TheVariants.{Print}
 use Rattle.tkernel_cli.specs.declared.status.Status.{Status}
@@ -28,6 +30,11 @@ script_word script_faults.Form = codes "form"
 script_word script_faults.Order = codes "order"
 script_word script_faults.Range = codes "range"
 script_word script_faults.TooMany = codes "events"
+
+abbrev pub dump_word : DumpFault → List ℕ
+dump_word dump_faults.Form = codes "form"
+dump_word dump_faults.Order = codes "order"
+dump_word dump_faults.Range = codes "range"
 
 abbrev pub asm_word : AsmFault → List ℕ
 asm_word asm_faults.Form = codes "form"

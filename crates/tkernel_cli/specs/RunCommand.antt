@@ -7,6 +7,7 @@ use Rattle.input_script.specs.declared.fault.ScriptFault.{ScriptFault}
 use Rattle.tkernel_cli.specs.declared.command.RunOptions.{RunOptions}
 use Rattle.tkernel_cli.specs.declared.job.Job.{Job}
 use Rattle.tkernel_cli.specs.declared.job.Job.TheVariants.{Run}
+use Rattle.tkernel_cli.specs.declared.request.Request.{Request}
 use Rattle.tkernel_cli.specs.Printed.{hex_word, script_word}
 use Rattle.tkernel_cli.specs.Reading.{IsJudged}
 
@@ -24,7 +25,11 @@ ScriptThen text Then =
     (λ line word. (fault : ScriptFault) × IsBad text line fault × (word ≡ script_word fault))
     Then
 
--- a HEX text and a script behind it ask for a run of the image with this schedule
+-- a HEX text and a script behind it, and what is asked with the image and this schedule
+abbrev pub RequestThen : RunOptions → List ℕ → (Request → Job) → Job → Type 0
+RequestThen options text asked =
+    HexThen text (λ words behind. ScriptThen behind (λ schedule job. job ≡ asked (record { image = words; script = schedule; options = options })))
+
+-- `run` asks for a run of that
 abbrev pub RunAsks : RunOptions → List ℕ → Job → Type 0
-RunAsks options text =
-    HexThen text (λ words behind. ScriptThen behind (λ schedule job. job ≡ Run (record { image = words; script = schedule; options = options })))
+RunAsks options text = RequestThen options text Run

@@ -91,10 +91,11 @@ abbrev pub KeepsEnd : End → Machine → Type 0
 KeepsEnd Spent m = m.end ≡ None
 KeepsEnd end m = (kept : MachineEnd) × (m.end ≡ Some kept) × (flat_end kept ≡ end)
 
--- The run ended as the original program's first steps do. No operation on flash that was tried is one that the
--- script lists.
+-- The run ended as the original program's first steps do, with no more steps done than were asked for. No operation on
+-- flash that was tried is one that the script lists.
 pub record RunsToTheEnd (request : Request) (before now : Stream) (told : Status) (m : Machine) : Type 0 where
   pub said : Says (status_of_end (whole_run request).end) (ended_text request m) before now told
+  pub within : m.steps ≤ request.options.steps
   pub end : KeepsEnd (whole_run request).end m
   pub unlisted : (op : ℕ) → 1 ≤ op → op ≤ m.kernel.mote.flash.ops → is_listed request.script.failing op ≡ false
   pub unrefused : m.kernel.mote.flash.refused ≡ None
@@ -114,7 +115,7 @@ pub record RunsIntoAFault (request : Request) (before now : Stream) (told : Stat
   pub refused : m.kernel.mote.flash.refused ≢ None
   pub follows : Follows request m.steps m
 
--- the line of a step could not be put: what went out is cut short of the lines up to that step
+-- gathered lines could not be put: what went out is cut short of the lines up to the step where the machine stands
 pub record RunsUntilCut (request : Request) (before now : Stream) (told : Status) (m : Machine) : Type 0 where
   pub status_is : told ≡ status.WriteFault
   pub rose : Rose before.faults now.faults

@@ -1,7 +1,7 @@
 //! What a command line asks for.
 ghost use Rattle.std.specs.Prelude.{◌≡◌, ℕ, List, map, string_bytes, MatchOption, IfSome};
-ghost use Rattle.tkernel_cli.specs.Commands.{IsCommand, IsNoCommand, IsPossible, command_name, numbers_of};
-ghost use Rattle.tkernel_cli.specs.Options.{AreValues, rows_of};
+ghost use Rattle.tkernel_cli.specs.Commands.{AreOptions, IsCommand, IsNoCommand, IsPossible, command_name, numbers_of, run_numbers};
+ghost use Rattle.tkernel_cli.specs.Options.{AreValues, rows_of, run_rows};
 
 use crate::options::{Chosen, chosen_in};
 use crate::table::{CommandName, Parameter};
@@ -13,6 +13,10 @@ pub enum Command {
     Help,
     /// A run of the program that the input tells.
     Run(RunOptions),
+    /// The dump of the flash that such a run leaves.
+    Dump(RunOptions),
+    /// Whether a flash holds the program and faithful rewritten code of it, both of which the input tells.
+    Check,
     /// A run of the test program of this seed.
     Generate(u32),
     /// The HEX text of the source that the input tells.
@@ -52,15 +56,27 @@ fn command_with(name: CommandName, chosen: Chosen) -> Option<Command>
 {
     match name {
         CommandName::Help => Some(Command::Help),
-        CommandName::Run => Some(Command::Run(RunOptions {
-            steps: chosen.value(CommandName::Run, Parameter::Steps)?,
-            quantum: chosen.value(CommandName::Run, Parameter::Quantum)? as u8,
-            swap: chosen.value(CommandName::Run, Parameter::Swap)? as u8,
-        })),
+        CommandName::Run => Some(Command::Run(run_options(chosen)?)),
+        CommandName::Dump => Some(Command::Dump(run_options(chosen)?)),
+        CommandName::Check => Some(Command::Check),
         CommandName::Generate => {
             let seed = chosen.value(CommandName::Generate, Parameter::Seed)?;
             Some(Command::Generate(seed as u32))
         }
         CommandName::Asm => Some(Command::Asm),
     }
+}
+
+/// The options of a run, from the numbers of a command that takes those of `run`.
+fn run_options(chosen: Chosen) -> Option<RunOptions>
+    ensures cases { MatchOption result
+        ((values : List ℕ) → ¬ AreValues run_rows chosen.values values)
+        (λ options. AreValues run_rows chosen.values (run_numbers options)) }
+    ensures possible { IfSome result AreOptions }
+{
+    Some(RunOptions {
+        steps: chosen.value(CommandName::Run, Parameter::Steps)?,
+        quantum: chosen.value(CommandName::Run, Parameter::Quantum)? as u8,
+        swap: chosen.value(CommandName::Run, Parameter::Swap)? as u8,
+    })
 }

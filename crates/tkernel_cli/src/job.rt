@@ -1,12 +1,12 @@
 //! What is asked for, once the words and the input are judged.
 ghost use Rattle.std.specs.Prelude.{◌≡◌, ◌⊎◌};
-ghost use Rattle.tkernel_cli.specs.declared.job.Job.TheVariants.{Print, Run, Write};
-ghost use Rattle.tkernel_cli.specs.declared.request.Request.{Request};
+ghost use Rattle.tkernel_cli.specs.declared.job.Job.TheVariants.{Dump, Print, Run, Write};
 ghost use Rattle.tkernel_cli.specs.Answer.{Does};
-ghost use Rattle.tkernel_cli.specs.Commands.{IsPossibleJob};
+ghost use Rattle.tkernel_cli.specs.Commands.{IsPossibleJob, RunsAProgram};
 ghost use Rattle.tkernel_cli.specs.Printed.{no_memory};
-ghost use Rattle.tkernel_cli.specs.Runs.{stream};
+ghost use Rattle.tkernel_cli.specs.Runs.{Says, stream};
 
+use crate::dumping::dump_request;
 use crate::output::Output;
 use crate::request::Request;
 use crate::running::run_request;
@@ -23,6 +23,8 @@ pub(crate) enum Job {
     Print(Status, Text),
     /// A run.
     Run(Request),
+    /// The dump of the flash that a run leaves.
+    Dump(Request),
     /// A text of any length.
     Write(Output),
 }
@@ -30,14 +32,15 @@ pub(crate) enum Job {
 /// Does a job.
 pub(crate) fn do_job<K: Sink>(alloc: Global, job: Job, out: &mut K) -> Exit
     requires possible { IsPossibleJob job }
-    // A run is done, or memory is wanted for it.
+    // What runs a program is done, or memory is wanted for it.
     ensures done { Does job (stream K.taken K.faults out.old) (stream K.taken K.faults out.new) result
-        ⊎ ((request : Request) × (job ≡ Run request)
+        ⊎ (RunsAProgram job
         × Does no_memory (stream K.taken K.faults out.old) (stream K.taken K.faults out.new) result) }
 {
     match job {
         Job::Print(status, line) => tell(status, &line, out),
         Job::Run(request) => run_request(alloc, request, out),
+        Job::Dump(request) => dump_request(alloc, request, out),
         Job::Write(text) => write(&text, out),
     }
 }
@@ -48,10 +51,7 @@ pub(crate) fn tell<K: Sink>(own: Status, line: &Text, out: &mut K) -> Exit
         (stream K.taken K.faults out.old) (stream K.taken K.faults out.new)
         result }
 {
-    let status = match put(out, line) {
-        Ok(()) => own,
-        Err(_) => Status::WriteFault,
-    };
+    let status = say(own, line, out);
     Exit { status, kept: None }
 }
 
@@ -61,9 +61,16 @@ fn write<K: Sink>(text: &Output, out: &mut K) -> Exit
         (stream K.taken K.faults out.old) (stream K.taken K.faults out.new)
         result }
 {
-    let status = match put(out, text.bytes()) {
-        Ok(()) => Status::Done,
-        Err(_) => Status::WriteFault,
-    };
+    let status = say(Status::Done, text.bytes(), out);
     Exit { status, kept: None }
+}
+
+/// Puts a text, and gives its status, or that of a failed write.
+pub(crate) fn say<K: Sink>(own: Status, text: &[u8], out: &mut K) -> Status
+    ensures said { Says own text.now (stream K.taken K.faults out.old) (stream K.taken K.faults out.new) result }
+{
+    match put(out, text) {
+        Ok(()) => own,
+        Err(_) => Status::WriteFault,
+    }
 }

@@ -1,9 +1,15 @@
 //! The command line of tkernel as a library: words and an input in, lines and a status out.
 //!
-//! [`tkernel`] is the whole program but for the process around it. It judges the words, which are one of
-//! four commands: `run` reads and judges a program, runs it, and prints its lines; `generate SEED` does so
-//! with the test program of crate `program_generator`, and reads nothing; `asm` reads a source, and prints the HEX text
-//! of its image (crate `avr_asm`); `help` prints the usage line. The run is made by crate `tk_run`, in rewritten code; what is printed is what the original program would do.
+//! [`tkernel`] is the whole program but for the process around it. It judges the words, which are one of six commands:
+//!
+//! - `run` reads and judges a program, runs it, and prints its lines;
+//! - `dump` does so without them, and prints the dump of the flash that the run leaves (crate `pool_check`);
+//! - `check` reads an image and a dump, whoever made it, and prints what `pool_check` says of that flash;
+//! - `generate SEED` runs the test program of crate `program_generator`, and reads nothing;
+//! - `asm` reads a source, and prints the HEX text of its image (crate `avr_asm`);
+//! - `help` prints the usage line.
+//!
+//! The run is made by crate `tk_run`, in rewritten code; what is printed is what the original program would do.
 //!
 //! ```rust
 //! let mut input = MemSource::new(b":060000000FE00BBBFFCF77\n:00000001FF\n".to_vec(alloc)?);
@@ -16,7 +22,10 @@
 #![tactic(auto)]
 
 mod asm_command;
+mod check_command;
 mod command;
+mod dump_command;
+mod dumping;
 mod generate_command;
 mod job;
 mod options;

@@ -1,14 +1,16 @@
 //! The jobs that print one line.
 ghost use Rattle.std.specs.Prelude.{◌≡◌, ◌≤◌, length, codes};
 ghost use Rattle.tkernel_cli.specs.declared.job.Job.TheVariants.{Print};
-ghost use Rattle.tkernel_cli.specs.Printed.{asm_word, bad_part, hex_word, no_memory, read_fault, script_word, too_long, usage};
+ghost use Rattle.tkernel_cli.specs.CheckCommand.{verdict_line};
+ghost use Rattle.tkernel_cli.specs.Printed.{asm_word, bad_part, dump_word, hex_word, no_memory, read_fault, script_word, too_long, usage};
 
 use crate::job::Job;
 use crate::status::Status;
-use crate::text::{bad_line, whole};
+use crate::text::{bad_line, verdict_text, whole};
 use avr_asm::AsmFault;
 use hex_image::HexFault;
 use input_script::ScriptFault;
+use pool_check::{DumpFault, Verdict};
 
 /// A line that stands as it is.
 fn line(status: Status, line: &[u8]) -> Job
@@ -75,6 +77,24 @@ pub(crate) fn bad_script(line: u32, fault: ScriptFault) -> Job
     bad_part(b"bad script line ", line, word_of_script(fault))
 }
 
+/// The dump is broken.
+pub(crate) fn bad_dump(line: u32, fault: DumpFault) -> Job
+    ensures job { result ≡ bad_part (codes "bad dump line ") line (dump_word fault) }
+{
+    bad_part(b"bad dump line ", line, word_of_dump(fault))
+}
+
+/// What a checker says.
+pub(crate) fn verdict_line(verdict: Verdict) -> Job
+    ensures job { result ≡ verdict_line verdict }
+{
+    let status = match verdict {
+        Verdict::Faithful { .. } => Status::Done,
+        Verdict::Form { .. } | Verdict::Links { .. } => Status::Fault,
+    };
+    Job::Print(status, verdict_text(verdict))
+}
+
 /// The source is broken.
 pub(crate) fn bad_asm(line: u32, fault: AsmFault) -> Job
     ensures job { result ≡ bad_part (codes "bad asm line ") line (asm_word fault) }
@@ -108,6 +128,17 @@ fn word_of_script(fault: ScriptFault) -> &'static [u8]
         ScriptFault::Order => b"order",
         ScriptFault::Range => b"range",
         ScriptFault::TooMany => b"events",
+    }
+}
+
+fn word_of_dump(fault: DumpFault) -> &'static [u8]
+    ensures word { result.now ≡ dump_word fault }
+    ensures short { length result.now ≤ 8 }
+{
+    match fault {
+        DumpFault::Form => b"form",
+        DumpFault::Order => b"order",
+        DumpFault::Range => b"range",
     }
 }
 

@@ -1,10 +1,12 @@
 //! The command `run`.
-ghost use Rattle.std.specs.Prelude.{◌≡◌, ◌⊎◌, ◌≤◌, length};
+ghost use Rattle.std.specs.Prelude.{◌≡◌, ◌⊎◌, ◌≤◌, length, MatchResult};
 ghost use Rattle.tkernel_cli.specs.declared.command.Command.TheVariants.{Run};
-ghost use Rattle.tkernel_cli.specs.Commands.{IsPossible, IsPossibleJob};
+ghost use Rattle.tkernel_cli.specs.declared.job.Job.{Job};
+ghost use Rattle.tkernel_cli.specs.declared.request.Request.{Request};
+ghost use Rattle.tkernel_cli.specs.Commands.{AreOptions, IsPossible, IsPossibleJob};
 ghost use Rattle.tkernel_cli.specs.Printed.{no_memory};
 ghost use Rattle.tkernel_cli.specs.Reading.{AsksByText, most_input};
-ghost use Rattle.tkernel_cli.specs.RunCommand.{RunAsks};
+ghost use Rattle.tkernel_cli.specs.RunCommand.{RequestThen, RunAsks};
 ghost use Rattle.tkernel_cli.specs.Runs.{stream};
 
 use crate::command::RunOptions;
@@ -38,17 +40,34 @@ fn text_job(alloc: Global, options: RunOptions, text: &[u8]) -> Job
     ensures asks { RunAsks options text.now result ⊎ (result ≡ no_memory) }
     ensures possible { IsPossibleJob result }
 {
+    match request_in(alloc, options, text) {
+        Ok(request) => Job::Run(request),
+        Err(job) => job,
+    }
+}
+
+/// The program of a text, which is a HEX text and a script behind it, with options; where there is none, what is
+/// printed instead.
+pub(crate) fn request_in(alloc: Global, options: RunOptions, text: &[u8]) -> Result<Request, Job>
+    requires possible { AreOptions options }
+    requires short { length text.now ≤ most_input }
+    // Whatever is asked with it.
+    ensures judged { (asked : Request → Job) → MatchResult result
+        (λ request. RequestThen options text.now asked (asked request))
+        (λ job. RequestThen options text.now asked job ⊎ (job ≡ no_memory)) }
+    ensures possible { MatchResult result (λ request. AreOptions request.options) IsPossibleJob }
+{
     let (image, position) = match hex_image::read(alloc, text) {
         Ok(read) => read,
-        Err(HexError::Bad { line, fault }) => return bad_hex(line, fault),
-        Err(HexError::NoMemory) => return no_memory(),
+        Err(HexError::Bad { line, fault }) => return Err(bad_hex(line, fault)),
+        Err(HexError::NoMemory) => return Err(no_memory()),
     };
     let script = match input_script::read(alloc, &text[position..]) {
         Ok(script) => script,
-        Err(ScriptError::Bad { line, fault }) => return bad_script(line, fault),
-        Err(ScriptError::NoMemory) => return no_memory(),
+        Err(ScriptError::Bad { line, fault }) => return Err(bad_script(line, fault)),
+        Err(ScriptError::NoMemory) => return Err(no_memory()),
     };
-    Job::Run(Request {
+    Ok(Request {
         image,
         script,
         options,

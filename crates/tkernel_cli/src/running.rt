@@ -1,10 +1,13 @@
 //! A whole run, and its printed lines.
-ghost use Rattle.std.specs.Prelude.{◌≡◌, ◌⊎◌, ◌≤◌, ◌++◌, ◌/◌, ◌^◌};
+ghost use Rattle.std.specs.Prelude.{◌≡◌, ◌⊎◌, ◌≤◌, ◌++◌, ◌/◌, ◌^◌, IfOk};
 ghost use Rattle.tk_io.specs.Faults.{HasCause};
 ghost use Rattle.tk_io.specs.Streams.{Puts};
 ghost use Rattle.tkernel_cli.specs.Answer.{Does};
+ghost use Rattle.tkernel_cli.specs.Commands.{AreOptions};
+ghost use Rattle.tkernel_cli.specs.declared.status.Status.{Status as StatusValue};
+ghost use Rattle.tkernel_cli.specs.DumpCommand.{silent};
 ghost use Rattle.tkernel_cli.specs.Printed.{no_memory};
-ghost use Rattle.tkernel_cli.specs.Runs.{stream, HasRun, Says, status_of_stop};
+ghost use Rattle.tkernel_cli.specs.Runs.{stream, HasRun, Runs, Says, status_of_stop};
 ghost use Rattle.tkernel_cli.specs.Text.{count_text, end_line};
 
 use crate::job::tell;
@@ -15,7 +18,7 @@ use crate::text::{counts, stop_line, whole};
 use crate::top::Exit;
 use kernel_entry::Stop;
 use std::alloc::Global;
-use tk_io::{Failed, Sink, put};
+use tk_io::{Failed, NoMemory, NullSink, Sink, put};
 use tk_run::{End, Machine, Options};
 
 /// Runs a request to its end, and puts its lines.
@@ -47,6 +50,25 @@ pub(crate) fn run_request<K: Sink>(alloc: Global, request: Request, out: &mut K)
         status,
         kept: Some(machine),
     }
+}
+
+/// Runs a request to its end; its lines go nowhere.
+pub(crate) fn run_silently(alloc: Global, request: Request) -> Result<Machine, NoMemory>
+    requires possible { AreOptions request.options }
+    ensures ran { IfOk result (λ machine. (ended : StatusValue) × Runs request silent silent ended machine) }
+{
+    let Request {
+        image,
+        script,
+        options,
+    } = request;
+    let asked = Options {
+        quantum: options.quantum,
+        swap: options.swap,
+    };
+    let mut machine = Machine::boot(alloc, &image, script, asked)?;
+    let _end = machine.advance(options.steps, &mut NullSink);
+    Ok(machine)
 }
 
 /// Puts the stop line and the count line. The status is the end's own, unless they can't be put.

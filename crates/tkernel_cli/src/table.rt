@@ -10,6 +10,10 @@ pub(crate) enum CommandName {
     Help,
     /// A run of the program that the input tells.
     Run,
+    /// The flash that such a run leaves.
+    Dump,
+    /// What a checker says of a flash.
+    Check,
     /// A run of a test program.
     Generate,
     /// A source turned into a HEX text.
@@ -51,6 +55,10 @@ impl CommandName {
             Some(CommandName::Help)
         } else if word == "run" {
             Some(CommandName::Run)
+        } else if word == "dump" {
+            Some(CommandName::Dump)
+        } else if word == "check" {
+            Some(CommandName::Check)
         } else if word == "generate" {
             Some(CommandName::Generate)
         } else if word == "asm" {
@@ -65,11 +73,21 @@ impl CommandName {
         ensures row { result ≡ row_in (rows_of self) parameter }
     {
         match (self, parameter) {
-            (CommandName::Run, Parameter::Steps) => {
+            (CommandName::Run | CommandName::Dump, Parameter::Steps) => {
                 Some(Row::new(parameter, 0, 1_000_000_000, Some(1_000_000)))
             }
-            (CommandName::Run, Parameter::Quantum) => Some(Row::new(parameter, 1, 255, Some(255))),
-            (CommandName::Run, Parameter::Swap) => Some(Row::new(parameter, 0, 251, Some(128))),
+            (CommandName::Run | CommandName::Dump, Parameter::Quantum) => Some(Row::new(
+                parameter,
+                1,
+                255,
+                Some(255),
+            )),
+            (CommandName::Run | CommandName::Dump, Parameter::Swap) => Some(Row::new(
+                parameter,
+                0,
+                251,
+                Some(128),
+            )),
             (CommandName::Generate, Parameter::Seed) => {
                 Some(Row::new(parameter, 0, 4_294_967_295, None))
             }

@@ -1,12 +1,14 @@
-//! The printed lines of a run.
+//! The printed lines.
 ghost use Rattle.std.specs.Prelude.{◌≡◌, ◌+◌, ◌≤◌, ◌++◌, codes, decimal, length};
 ghost use Rattle.arrayvec.specs.ArrayVec.{array_vec_len};
+ghost use Rattle.tkernel_cli.specs.CheckCommand.{verdict_text};
 ghost use Rattle.tkernel_cli.specs.Printed.{bad_line_text};
 ghost use Rattle.kernel_entry.specs.Texts.{address_text};
 ghost use Rattle.tkernel_cli.specs.Text.{end_line, how_text, count_text};
 
 use kernel_entry::Stop;
 use line_text::{Text, push, push_address, push_number};
+use pool_check::Verdict;
 use tk_run::End;
 
 /// A line that stands as it is.
@@ -49,6 +51,29 @@ pub(crate) fn stop_line(end: End, steps: u64, checkpoints: u64) -> Text
     text
 }
 
+/// The line of a checker's verdict.
+#[tactic(auto, unfolding(crate::specs::CheckCommand::verdict_text))]
+pub(crate) fn verdict_text(verdict: Verdict) -> Text
+    ensures text { result.items ≡ verdict_text verdict }
+{
+    match verdict {
+        Verdict::Faithful { pages } => numbered(b"faithful pages ", pages, b"\n"),
+        Verdict::Form { page } => numbered(b"not faithful page ", page, b" form\n"),
+        Verdict::Links { page } => numbered(b"not faithful page ", page, b" links\n"),
+    }
+}
+
+/// A line with a number in it.
+fn numbered(front: &[u8], number: u16, behind: &[u8]) -> Text
+    requires front { length front.now ≤ 20 }
+    requires behind { length behind.now ≤ 20 }
+    ensures text { result.items ≡ front.now ++ decimal number ++ behind.now }
+{
+    let mut text = with_number(front, u64::from(number));
+    push(&mut text, behind);
+    text
+}
+
 /// How the run ended.
 fn how(end: End) -> Text
     ensures text { result.items ≡ how_text end }
@@ -62,13 +87,14 @@ fn how(end: End) -> Text
         End::Stopped(Stop::Asleep(at)) => at_address(b"asleep ", at),
         End::Stopped(Stop::Illegal(at)) => at_address(b"fault illegal ", at),
         End::Stopped(Stop::SelfProgram(at)) => at_address(b"fault selfprogram ", at),
+        End::Stopped(Stop::Read(at, word)) => with_address(b"fault read ", at, word),
         End::Stopped(Stop::Io(at, address)) => with_address(b"fault io ", at, address),
         End::Stopped(Stop::Stack(at, address)) => with_address(b"fault stack ", at, address),
         End::Stopped(Stop::SwapFull(at, address)) => with_address(b"fault swap ", at, address),
     }
 }
 
-/// A word for an end, and the number of it.
+/// A word, and a number behind it.
 fn with_number(word: &[u8], number: u64) -> Text
     requires word { length word.now ≤ 20 }
     ensures text { result.items ≡ word.now ++ decimal number }
@@ -92,7 +118,7 @@ fn at_address(word: &[u8], at: u16) -> Text
     text
 }
 
-/// The same, with a data address.
+/// The same, with a data address, or that of a word.
 fn with_address(word: &[u8], at: u16, address: u16) -> Text
     requires word { length word.now ≤ 20 }
     ensures text { result.items ≡ word.now ++ address_text at ++ codes " address " ++ address_text address }

@@ -5,7 +5,9 @@ ghost use Rattle.tkernel_cli.specs.Commands.{IsPossibleJob};
 ghost use Rattle.tkernel_cli.specs.Runs.{stream};
 
 use crate::asm_command::asm_job;
+use crate::check_command::check_job;
 use crate::command::{Command, command_of};
+use crate::dump_command::dump_job;
 use crate::generate_command::generated_job;
 use crate::job::{Job, do_job};
 use crate::printed::usage;
@@ -23,11 +25,14 @@ pub struct Exit {
     pub kept: Option<Machine>,
 }
 
-/// Answers a command line. `words` are those after the program's name, and make one of four commands:
+/// Answers a command line. `words` are those after the program's name, and make one of six commands:
 ///
 /// - `help` prints the usage line;
 /// - `run` reads a program as a HEX text and a script behind it from `input`, runs it, and prints its lines
 ///   to `out`;
+/// - `dump` reads and runs the same, prints none of its lines, and prints the dump of the flash that is left;
+/// - `check` reads a HEX text and a dump behind it from `input`, and prints whether the dump's flash holds the image
+///   and faithful rewritten code of it, and if not the page where it doesn't;
 /// - `generate SEED` runs the test program of that seed, and reads nothing;
 /// - `asm` reads a source from `input`, and prints the HEX text of its image to `out`.
 ///
@@ -42,7 +47,8 @@ pub fn tkernel<S: Source, K: Sink>(
         (stream S.left S.faults input.old) (stream S.left S.faults input.new)
         (stream K.taken K.faults out.old) (stream K.taken K.faults out.new)
         result }
-    // Where the source tells its text, and neither stream fails, the words and the text alone decide.
+    // Where the sink doesn't fail, the words alone decide, and for a command that reads the text of a source that tells
+    // it and doesn't fail; or memory is wanted.
     ensures exact { IsExact (map string_bytes words.now)
         (stream S.left S.faults input.old) (stream S.left S.faults input.new)
         (stream K.taken K.faults out.old) (stream K.taken K.faults out.new)
@@ -62,6 +68,8 @@ fn job_of<S: Source>(alloc: Global, words: &[String], input: &mut S) -> Job
     match command_of(words) {
         Some(Command::Help) => usage(Status::Done),
         Some(Command::Run(options)) => run_job(alloc, options, input),
+        Some(Command::Dump(options)) => dump_job(alloc, options, input),
+        Some(Command::Check) => check_job(alloc, input),
         Some(Command::Generate(seed)) => generated_job(alloc, seed),
         Some(Command::Asm) => asm_job(alloc, input),
         None => usage(Status::Usage),

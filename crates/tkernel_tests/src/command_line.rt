@@ -123,8 +123,26 @@ const ACCEPTED: [(&[&str], RunOptions); 16] = [
 ];
 
 /// The words of the other commands.
-const OTHER_COMMANDS: [(&[&str], Command); 5] = [
+const OTHER_COMMANDS: [(&[&str], Command); 10] = [
     (&["help"], Command::Help),
+    (&["asm"], Command::Asm),
+    (&["check"], Command::Check),
+    (&["dump"], Command::Dump(DEFAULTS)),
+    (
+        &["dump", "--swap=3", "--steps", "9"],
+        Command::Dump(RunOptions {
+            steps: 9,
+            swap: 3,
+            ..DEFAULTS
+        }),
+    ),
+    (
+        &["dump", "--quantum=1"],
+        Command::Dump(RunOptions {
+            quantum: 1,
+            ..DEFAULTS
+        }),
+    ),
     (&["generate", "7"], Command::Generate(7)),
     (&["generate", "0"], Command::Generate(0)),
     (&["generate", "0000000007"], Command::Generate(7)),
@@ -135,7 +153,7 @@ const OTHER_COMMANDS: [(&[&str], Command); 5] = [
 ];
 
 /// Words that are refused, `run` included.
-const REFUSED: [&[&str]; 41] = [
+const REFUSED: [&[&str]; 48] = [
     &[],
     &[""],
     &["Run"],
@@ -151,6 +169,13 @@ const REFUSED: [&[&str]; 41] = [
     &["generate", "+7"],
     &["generate=7"],
     &["generate", "--seed", "7"],
+    &["asm", ""],
+    &["asm", "asm"],
+    &["check", ""],
+    &["check", "--steps", "1"],
+    &["dump", "run"],
+    &["dump", "--swap", "252"],
+    &["dump", "--swap=1", "--swap=1"],
     &["--help"],
     &["--version"],
     &["run", ""],

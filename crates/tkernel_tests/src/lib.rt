@@ -4,6 +4,8 @@
 #[cfg(test)]
 mod command_line;
 #[cfg(test)]
+mod dumps;
+#[cfg(test)]
 mod failing_flash;
 #[cfg(test)]
 mod first_program;

@@ -1,10 +1,12 @@
-use Rattle.std.proofs.Common.{arith, ◌≡◌, ℕ, List, Option, Some, None, false, refl, sym, ap, ◌∙◌, subst}
+use Rattle.std.proofs.Common.{arith, ◌≡◌, ℕ, List, Option, Some, None, Ok, Err, false, refl, sym, ap, ◌∙◌, subst}
 use Rattle.flash_model.specs.Layouts.{image_of}
 use Rattle.nat_page.specs.Links.{IsUnresolved}
 use Rattle.branch_bridge.specs.declared.arrival.Refused.{Refused}
 use Rattle.branch_bridge.specs.declared.through.Arrival.{Arrival}
-use Rattle.branch_bridge.specs.Operating.{stop_of, mended, with_torn}
-use Rattle.branch_bridge.specs.Arrivals.{Store, CameThrough, ArrivesFrom, Stopped, Went, Resolved, torn_by}
+use Rattle.branch_bridge.specs.Operating.{Performed, stop_of, mended, with_torn}
+use Rattle.branch_bridge.specs.Arrivals.{Store, CameThrough, ArrivesFrom, Stopped, Went, Resolved, torn_by, IsOwnStub}
+use Rattle.nat_page.specs.Parts.{IsLinkFrom, IsParted}
+use Rattle.branch_bridge.proofs.PartLaws.{arrives_parted, resolved_parted}
 use Rattle.nat_page.specs.Used.{used_pages}
 use Rattle.branch_bridge.proofs.ArrivalLaws.{flash_left}
 use Rattle.branch_bridge.proofs.ThroughLaws.{IsToResolve, is_to_resolve, mended_is}
@@ -24,6 +26,7 @@ returns-in-Err c =
     let kept = c.in-Err.ensures.kept in
     record {
       arrives = arrives;
+      parts = λ part parted own. (arrives_parted layout old new part c.args.t (Err c.in-Err.refused) c.requires.right c.requires.code c.requires.ring c.in-Err.ensures.arrives parted).0;
       kept = record {
         used = c.in-Err.ensures.used;
         tried = left.tried;
@@ -70,7 +73,19 @@ returns-in-Some c =
     let code : IsFaithful layout (image_of layout mid.flash.words) left = subst (IsFaithful layout (image_of layout mid.flash.words)) (sym is) c.resolve.ensures.code in
     let arrives : ArrivesFrom layout old new c.args.t c.args.stub (told c.refusal-refused.result) = Resolved mid c.in-Ok.moved c.in-Some.stub c.in-Ok.ensures.arrives (sym c.to_resolve.ensures.value ∙ c.in-Some.is) (stop_of c.resolve.result) c.resolve.ensures.performed refl (ap told c.refusal-refused.ensures.value) in
     let left_flash = flash_left layout old new c.args.t c.args.stub (told c.refusal-refused.result) c.requires.right c.requires.code.whole c.requires.ring c.requires.stub arrives in
+    let image = image_of layout old.flash.words in
+    let place = c.in-Ok.moved.place in
+    let s = c.in-Some.stub in
     record {
+      parts = λ part parted own.
+          let to_own : IsToResolve c.in-Ok.moved.recycled c.args.stub s = is_to_resolve c.in-Ok.moved.recycled c.args.stub s (sym c.to_resolve.ensures.value ∙ c.in-Some.is) in
+          let stub : IsUnresolved layout image old.flash.words s c.args.t = subst (λ stub. CameThrough layout old.flash.words stub c.args.t) to_own.same c.requires.stub in
+          let from : IsLinkFrom layout image old.flash.words part (part c.args.t) s c.args.t = subst (λ stub. IsOwnStub layout old.flash.words part stub c.args.t) to_own.same own in
+          let gone = arrives_parted layout old mid part c.args.t (Ok c.in-Ok.moved) c.requires.right c.requires.code c.requires.ring c.in-Ok.ensures.arrives parted in
+          let P : Performed → Type 0 = λ p. IsParted layout image (mended p.memory.words p.stop) part in
+          subst (λ w. IsParted layout image w part) (sym is)
+          (subst P c.resolve.ensures.performed (resolved_parted layout image mid.flash part s c.args.t place c.requires.right kept.code
+          (kept.stubs s c.args.t to_own.apart stub) (kept.entered c.requires.tables) (gone.1 (part c.args.t) s c.args.t to_own.apart from) gone.0));
       kept = record {
         used = ap (used_pages layout) is ∙ c.resolve.ensures.used ∙ c.in-Ok.ensures.used;
         tried = left_flash.tried;
@@ -98,6 +113,7 @@ returns-in-None c =
     let kept = c.in-Ok.ensures.kept in
     record {
       arrives = arrives;
+      parts = λ part parted own. (arrives_parted layout old new part c.args.t (Ok c.in-Ok.moved) c.requires.right c.requires.code c.requires.ring c.in-Ok.ensures.arrives parted).0;
       kept = record {
         used = c.in-Ok.ensures.used;
         tried = left.tried;

@@ -3,8 +3,11 @@ use Rattle.kernel_entry.specs.Conditions.{executes, counts}
 use Rattle.kernel_entry.proofs.Answering.{called, counted}
 use Rattle.kernel_entry.proofs.services.serve_at.Goals as goal
 
+pub access-requires-clause-called : goal.access-requires-clause-called
+access-requires-clause-called c = called c.args.k.now c.requires.can (ap executes c.in-61444.is)
+
 pub resume-requires-clause-called : goal.resume-requires-clause-called
-resume-requires-clause-called c = called c.args.k.now c.requires.can (elim c.in-61444.is [ inl is ↦ ap executes is | inr is ↦ ap executes is ])
+resume-requires-clause-called c = called c.args.k.now c.requires.can (ap executes c.in-61446.is)
 
 pub go-requires-clause-called : goal.go-requires-clause-called
 go-requires-clause-called c = called c.args.k.now c.requires.can (elim c.in-61448.is [ inl is ↦ ap executes is | inr is ↦ ap executes is ])

@@ -7,8 +7,9 @@ use Rattle.nat_page.proofs.unlinking.page_words.Goals as goal
 pub returns : goal.returns
 returns c =
     let words = c.args.flash.now.words in
-    let inside : page_words * c.args.page + page_words ≤ length words = omega (arith, c.words.invariant.whole (omega arith)) in
+    let inside : page_words * c.args.page + page_words ≤ length words = omega (arith, (c.words.invariant.whole (omega arith)).words) in
     record {
       words = same_number_lists c.words.words (page_of words c.args.page) (c.words.invariant.long ∙ sym (length-page_of words c.args.page inside)) (λ k within.
           c.words.invariant.done k (omega (arith, c.words.invariant.long)) ∙ sym (page_word words c.args.page k (omega (arith, c.words.invariant.long))));
+      whole = c.words.invariant.whole (omega arith);
     }

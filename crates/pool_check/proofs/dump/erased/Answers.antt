@@ -1,12 +1,13 @@
-use Rattle.std.proofs.Common.{arith}
-use Rattle.pool_check.proofs.DumpLaws.{erased_start, erased_more, erased_whole}
+use Rattle.std.proofs.Common.{◌≡◌, ap}
+use Rattle.std.specs.Prelude.{Result, Ok, Err, IfOk}
+use Rattle.flash_model.specs.Memory.{Memory, erased_flash}
+use Rattle.pool_check.specs.Dumps.{IsOpen, erased}
+use Rattle.pool_check.proofs.DumpLaws.{erased_open}
 use Rattle.pool_check.proofs.dump.erased.Goals as goal
 
-pub kernel-init : goal.kernel-init
-kernel-init c = record { is = erased_start c.in_ok-flash.flash c.in_ok-flash.ensures.new }
-
-pub kernel-preserved : goal.kernel-preserved
-kernel-preserved c = record { is = erased_more c.kernel.page c.kernel.flash c.erase.new.flash (omega (arith, c.kernel-test.true)) c.kernel.invariant.is c.erase.ensures.after }
+opened : {E : Type 0} (result : Result Memory E) → IfOk result (λ flash. flash ≡ erased_flash) → IfOk result (λ flash. (flash.words ≡ erased) × IsOpen flash 0)
+opened (Ok flash) new = (ap (λ (m : Memory). m.words) new, erased_open flash new)
+opened (Err e) new = tt
 
 pub returns : goal.returns
-returns c = record { words = erased_whole c.kernel.flash c.kernel.page (omega (arith, c.kernel-test.false)) (omega arith) c.kernel.invariant.is }
+returns c = record { words = opened c.erased.result c.erased.ensures.new }

@@ -1,16 +1,15 @@
-use Rattle.branch_bridge.specs.Arrivals.{Store}
-use Rattle.program_steps.proofs.Arriving.{has_arrived, unchanged}
+use Rattle.std.proofs.Common.{◌≡◌, ◌+◌, None, arith, refl, ap}
+use Rattle.branch_bridge.specs.Arrivals.{Store, went_on}
+use Rattle.program_steps.specs.declared.progress.Progress.{Progress}
+use Rattle.program_steps.proofs.Arriving.{has_arrived}
 use Rattle.program_steps.proofs.arrival.arrive_owed.Goals as goal
 
-pub returns-clause-arrived : goal.returns-clause-arrived
-returns-clause-arrived c =
-    let store : Store = record { flash = c.arrive_from-arrival.new.flash; sram = c.arrive_from-arrival.new.sram } in
-    has_arrived c.args.k.now c.args.p.now c.note_arrival.new.p c.args.owed store c.arrive_from-arrival.result c.unwrap_or-k.result c.requires.owed c.requires.going c.requires.untorn c.requires.untaken
-    c.arrive_from-arrival.ensures.arrives c.arrive_from-arrival.ensures.kept c.unwrap_or-k.ensures c.note_arrival.ensures.noted
-
-pub returns-clause-unchanged : goal.returns-clause-unchanged
-returns-clause-unchanged c = λ is.
-    let old : Store = record { flash = c.args.k.now.mote.flash; sram = c.args.k.now.mote.sram } in
-    let new : Store = record { flash = c.arrive_from-arrival.new.flash; sram = c.arrive_from-arrival.new.sram } in
-    let none = c.may_have_changed.ensures.neither is in
-    unchanged c.args.k.now.layout old new c.args.owed.target c.args.owed.stub c.arrive_from-arrival.result none.0 none.1 none.2 c.arrive_from-arrival.ensures.arrives
+pub returns-in-Some-clause-arrived : goal.returns-in-Some-clause-arrived
+returns-in-Some-clause-arrived c =
+    let p = c.args.p.now in
+    let store : Store = record { flash = c.args.k.now.mote.flash; sram = c.arrive_known-found.new.sram } in
+    let place = c.in-Some.place in
+    let none : p.pages ≡ p.pages + 0 = omega arith in
+    let q : Progress = record p { owed = None } in
+    has_arrived c.args.k.now p q c.args.owed store (went_on place) place c.requires.owed c.requires.going c.requires.untorn c.requires.untaken c.requires.admitted
+    c.in-Some.ensures.arrives c.in-Some.ensures.kept (λ part parted own. parted) refl (ap (λ n. record p { owed = None; pages = n }) none)

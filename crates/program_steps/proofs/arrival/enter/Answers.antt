@@ -1,4 +1,7 @@
+use Rattle.std.proofs.Common.{ap, ◌∙◌}
+use Rattle.step_laws.specs.States.{admits}
 use Rattle.program_steps.specs.Wholes.{whole}
+use Rattle.program_steps.proofs.Arrived.{owed_at}
 use Rattle.program_steps.proofs.Arriving.{owed_came}
 use Rattle.program_steps.proofs.Entered.{entered_none, entered_some, few_pages}
 use Rattle.program_steps.proofs.Laws.{faithful_going, tables_going}
@@ -13,7 +16,7 @@ arrive_owed-changed-requires c =
     let m = whole c.args.k.now c.args.p.now in
     let ready = c.requires.ready in
     let few = few_pages m ready c.requires.steps in
-    record { owed = c.in-Some.is; going = ready.going; untorn = ready.untorn; untaken = c.requires.untaken; right = ready.order.right; faithful = faithful_going m ready; tables = tables_going m ready; stub = owed_came m _ ready c.in-Some.is; ring = ready.order.ring; room = few.1; few = few.0 }
+    record { owed = c.in-Some.is; going = ready.going; untorn = ready.untorn; untaken = c.requires.untaken; admitted = ap (admits c.args.k.now.part) (owed_at m _ ready c.in-Some.is) ∙ c.requires.admitted; right = ready.order.right; faithful = faithful_going m ready; tables = tables_going m ready; stub = owed_came m _ ready c.in-Some.is; ring = ready.order.ring; room = few.1; few = few.0 }
 
 pub returns-in-Some-clause-entered : goal.returns-in-Some-clause-entered
 returns-in-Some-clause-entered c = entered_some (whole c.args.k.now c.args.p.now) (whole c.arrive_owed-changed.new.k c.arrive_owed-changed.new.p) c.arrive_owed-changed.ensures.arrived c.is_whole.ensures.whole c.requires.ready

@@ -7,7 +7,8 @@ use Rattle.std.specs.Prelude.{Some, None}
 use Rattle.program_steps.specs.Stepping.{lines_text}
 use Rattle.step_laws.specs.Moves.{line_before}
 use Rattle.program_steps.specs.Wholes.{whole}
-use Rattle.tk_run.proofs.RunSoFar.{IsBetween}
+use Rattle.tk_run.proofs.RunSoFar.{IsBetween, unshut_on}
+use Rattle.program_steps.proofs.Owning.{open_admits}
 use Rattle.tk_run.proofs.Advancing.{can_step, advanced_enter, is_in, advanced_stop, advanced_bound, advanced_cut, advanced_failed}
 use Rattle.tk_run.proofs.Gathered.{take_in, take_on, sent_on, cut_on, under_way, turn_on, turn_cut}
 use Rattle.tk_run.proofs.Several.{last_in, last_below, steps_on}
@@ -144,3 +145,10 @@ enter-requires-clause-steps g c = omega (arith, c.steps.invariant.way.between.ra
 
 pub at_bound-requires-clause-steps : goal.at_bound-requires-clause-steps
 at_bound-requires-clause-steps g c = omega (arith, c.steps.invariant.way.between.ran.steps, c.steps.invariant.within, c.requires.steps)
+
+pub enter-requires-clause-admitted : goal.enter-requires-clause-admitted
+enter-requires-clause-admitted g c =
+    open_admits c.steps.k.part c.steps.p.at (unshut_on (whole c.args.k.now c.args.p.now) (whole c.steps.k c.steps.p) c.steps.invariant.way.between.ran.stays c.requires.unshut)
+
+pub at_bound-requires-clause-unshut : goal.at_bound-requires-clause-unshut
+at_bound-requires-clause-unshut g c = unshut_on (whole c.args.k.now c.args.p.now) (whole c.steps.k c.steps.p) c.steps.invariant.way.between.ran.stays c.requires.unshut

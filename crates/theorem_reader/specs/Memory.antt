@@ -1,0 +1,32 @@
+-- Where the mote keeps the 65,536 bytes that the program sees. Each page of 256 bytes has a number, its address / 256.
+use Rattle.std.specs.Prelude.{◌≡◌, ◌≢◌, ℕ, ◌+◌, ◌-◌, ◌*◌, ◌/◌, ◌%◌, ◌<◌, ◌≤◌, List, [], length, slice_index, slice_index_or}
+use Rattle.mote_core.specs.declared.mote.Mote.{Mote}
+
+-- the byte of SRAM at a data address
+abbrev pub sram_byte : Mote → ℕ → ℕ
+sram_byte m a = slice_index m.sram (a - 0x0100)
+
+-- SRAM has eight frames, 0 to 7, and a table that says of each which page it holds, and whether it holds one
+pub record Holds (m : Mote) (page frame : ℕ) : Type 0 where
+  pub frame_is : frame < 8
+  pub page_is : sram_byte m (0x0120 + 4 * frame) ≡ page
+  pub used : sram_byte m (0x0120 + 4 * frame + 1) ≢ 0
+
+-- the slot of a page in the swap area, 0xFF for none
+abbrev pub slot_of : Mote → ℕ → ℕ
+slot_of m page = sram_byte m (0x0400 + page)
+
+-- the heap: all from 0x0100 on but the stack window
+pub data IsHeap (a : ℕ) : Type 0 where
+  Below : 0x0100 ≤ a → a ≤ 0x0CFF → IsHeap a
+  Above : 0x1100 ≤ a → a ≤ 0xFFFF → IsHeap a
+
+-- The stack window is SRAM's own; a page of the heap is in the frame that holds it, else in its slot, else all 0.
+pub record HasMemory (m : Mote) (memory : List ℕ) : Type 0 where
+  pub size : length memory ≡ 65536
+  pub registers : (a : ℕ) → a < 0x0100 → slice_index memory a ≡ 0
+  pub window : (a : ℕ) → 0x0D00 ≤ a → a ≤ 0x10FF → slice_index memory a ≡ sram_byte m a
+  pub framed : (a frame : ℕ) → IsHeap a → Holds m (a / 256) frame → slice_index memory a ≡ sram_byte m (0x0500 + 256 * frame + a % 256)
+  pub swapped : (a : ℕ) → IsHeap a → ((frame : ℕ) → ¬ Holds m (a / 256) frame) → slot_of m (a / 256) ≢ 0xFF
+      → slice_index memory a ≡ slice_index (slice_index_or m.swap (slot_of m (a / 256)) []) (a % 256)
+  pub untouched : (a : ℕ) → IsHeap a → slot_of m (a / 256) ≡ 0xFF → slice_index memory a ≡ 0

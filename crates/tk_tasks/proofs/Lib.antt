@@ -1,0 +1,9 @@
+mod OwnLines
+mod OwnTexts
+mod FirstLines
+mod FirstFaults
+mod Parkings
+mod Booting
+mod WorkedTurns
+mod Isolation
+mod Ending

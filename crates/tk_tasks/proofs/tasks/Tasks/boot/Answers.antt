@@ -1,0 +1,36 @@
+use Rattle.std.proofs.Common.{◌≡◌, ◌<◌, ◌+◌, ◌∷◌, [], ◌++◌, length, ap, ◌∙◌, subst, arith, None}
+use Rattle.std.specs.Prelude.{All}
+use Rattle.std.proofs.lemmas.Grind.{common_steps}
+use Rattle.std.proofs.lemmas.List.Elements.{All-head}
+use Rattle.flash_model.specs.Layouts.{layout_of}
+use Rattle.mote_core.specs.Step.{IsAtReset}
+use Rattle.tk_tasks.specs.Booted.{at_start, waiting_from}
+use Rattle.tk_tasks.proofs.Booting.{first_of, waiting_more, waiting_done, booted_by}
+use Rattle.tk_tasks.proofs.tasks.Tasks.boot.Goals as goal
+
+pub waiting-preserved : goal.waiting-preserved
+waiting-preserved c =
+    let pushed : c.push-in-waiting.new.self.items ≡ c.waiting.tasks.items ++ c.at_start-in-waiting.result ∷ [] = grind (arith, common_steps) in
+    let some : 0 < length c.waiting.scripts.items = omega (arith, c.waiting.invariant.left, c.waiting-test.true) in
+    record {
+      so_far = λ first others is. waiting_more c.waiting.task c.args.quantum c.args.swap c.waiting.scripts.items c.remove-in-waiting.new.self.items c.remove-in-waiting.result c.waiting.tasks.items c.push-in-waiting.new.self.items
+          c.in_ok-parked.parked c.at_start-in-waiting.result (at_start 0 None ∷ waiting_from 1 others c.args.quantum c.args.swap)
+          some c.remove-in-waiting.ensures.value c.remove-in-waiting.ensures.items c.in_ok-parked.ensures.parked c.at_start-in-waiting.ensures.value pushed (c.waiting.invariant.so_far first others is);
+      left = omega (arith, c.waiting.invariant.left, c.waiting-test.true, c.remove-in-waiting.ensures.len);
+    }
+
+pub returns : goal.returns
+returns c = record {
+  booted = λ first others is.
+      let image = c.args.image.now in
+      let words = c.in_ok-whole.whole in
+      let same = first_of c.args.scripts.items others first c.remove.result is c.remove.ensures.value in
+      let none = All-head (λ s. s.failing ≡ []) first others (subst (All (λ s. s.failing ≡ [])) is c.requires.unfailing) in
+      let size : length c.args.scripts.items ≡ length (first ∷ others) = ap length is in
+      let counted : c.len-count.result ≡ length others + 1 = omega (arith, size, c.len-count.ensures) in
+      let all_done : length c.waiting.scripts.items ≡ 0 = omega (arith, c.waiting.invariant.left, c.waiting-test.false) in
+      let so = waiting_done c.waiting.task c.args.quantum c.args.swap c.waiting.scripts.items c.waiting.tasks.items (at_start 0 None ∷ waiting_from 1 others c.args.quantum c.args.swap) all_done (c.waiting.invariant.so_far first others is) in
+      booted_by image words first c.remove.result others c.len-count.result c.args.quantum c.args.swap c.in_ok-mote.mote c.set_count.new.self c.of.result c.quarter_of.result c.waiting.tasks.items
+      (subst (λ i. IsAtReset i c.remove.result c.args.swap c.in_ok-mote.mote) c.words.ensures.words c.in_ok-mote.ensures.reset)
+      counted c.in_ok-whole.ensures.words same none c.set_count.ensures.after (c.of.ensures.value ∙ ap layout_of c.len_words.ensures.words) c.quarter_of.ensures.value so;
+}

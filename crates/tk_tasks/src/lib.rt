@@ -1,0 +1,30 @@
+//! Up to four tasks on one mote: their script, their image, their boot, and what a change of the task exchanges.
+//!
+//! ```rust
+//! let scripts = read_scripts(alloc, text, 2)?; // lines such as `task 1 at 5 uart 0x41`
+//! if let Some(address) = misplaced_word(&image, 2) { .. } // a word that no task has
+//! let tasks = Tasks::boot(alloc, &image, scripts, 255, 32)?;
+//! ```
+//!
+//! Task i has the words 4096·i to 4096·i + 4095 of the image. The tasks share flash, with its pool of code pages,
+//! and the kernel's tables of places; each has SRAM, core, swap and devices of its own, which are parked while
+//! another task has the mote ([`Parked::exchange`]).
+//!
+//! docs/TASKS.md tells all of it. `specs/Scripts` is what a script of several tasks says, `specs/Images` which words may not
+//! stand, `specs/Parking` what is exchanged, and `specs/Booted` the tasks at boot. `specs/Turns` is what the tasks'
+//! programs come to in turn, without a mote; [`tasks_are_apart`] and [`every_task_ends`] are its laws, and no run
+//! on a mote speaks of it yet.
+#![tactic(auto)]
+
+mod image;
+mod laws;
+mod lines;
+mod parked;
+mod script;
+mod tasks;
+
+pub use image::{QUARTER, misplaced_word, task_image};
+pub use laws::{every_task_ends, tasks_are_apart};
+pub use parked::Parked;
+pub use script::read_scripts;
+pub use tasks::{Task, TaskEnd, Tasks};

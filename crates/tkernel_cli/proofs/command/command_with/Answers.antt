@@ -1,0 +1,14 @@
+use Rattle.std.proofs.Common.{ℕ, List, sym, subst}
+use Rattle.tkernel_cli.specs.declared.table.CommandName.{CommandName}
+use Rattle.tkernel_cli.specs.Options.{AreValues, rows_of}
+use Rattle.tkernel_cli.proofs.command.command_with.Goals as goal
+
+pub returns-in_err-run_options-in-Run-clause-cases : goal.returns-in_err-run_options-in-Run-clause-cases
+returns-in_err-run_options-in-Run-clause-cases c =
+    let None' : CommandName → Type 0 = λ name. (values : List ℕ) → ¬ AreValues (rows_of name) c.args.chosen.values values in
+    rw c.from_residual.ensures (subst None' (sym c.in-Run.is) c.in_err-run_options-in-Run.ensures.cases)
+
+pub returns-in_err-run_options-in-Dump-clause-cases : goal.returns-in_err-run_options-in-Dump-clause-cases
+returns-in_err-run_options-in-Dump-clause-cases c =
+    let None' : CommandName → Type 0 = λ name. (values : List ℕ) → ¬ AreValues (rows_of name) c.args.chosen.values values in
+    rw c.from_residual-in_err-run_options-in-Dump.ensures (subst None' (sym c.in-Dump.is) c.in_err-run_options-in-Dump.ensures.cases)

@@ -1,0 +1,50 @@
+//! The dump of the flash that a run leaves.
+ghost use Rattle.std.specs.Prelude.{◌≡◌, ◌⊎◌, ◌≤◌, codes, IfOk};
+ghost use Rattle.pool_check.specs.WrittenDumps.{written};
+ghost use Rattle.tkernel_cli.specs.Answer.{Does};
+ghost use Rattle.tkernel_cli.specs.Commands.{AreOptions};
+ghost use Rattle.tkernel_cli.specs.declared.status.Status.{Status};
+ghost use Rattle.tkernel_cli.specs.declared.status.Status.TheVariants.{Done, NoMemory};
+ghost use Rattle.tkernel_cli.specs.DumpCommand.{HasDumped};
+ghost use Rattle.tkernel_cli.specs.Printed.{no_memory};
+ghost use Rattle.tkernel_cli.specs.Runs.{Says, stream};
+
+use crate::job::{say, tell};
+use crate::printed::NO_MEMORY;
+use crate::request::Request;
+use crate::running::run_silently;
+use crate::status::Status;
+use crate::text::whole;
+use crate::top::Exit;
+use flash_model::Flash;
+use pool_check::write_dump;
+use std::alloc::Global;
+use tk_io::Sink;
+
+/// Runs a request to its end without a line, and puts the dump of its flash.
+pub(crate) fn dump_request<K: Sink>(alloc: Global, request: Request, out: &mut K) -> Exit
+    requires possible { AreOptions request.options }
+    ensures done { HasDumped request (stream K.taken K.faults out.old) (stream K.taken K.faults out.new) result
+        ⊎ Does no_memory (stream K.taken K.faults out.old) (stream K.taken K.faults out.new) result }
+{
+    let machine = match run_silently(alloc, request) {
+        Ok(machine) => machine,
+        Err(_) => return tell(Status::NoMemory, &whole(NO_MEMORY), out),
+    };
+    let status = put_dump(alloc, &machine.kernel.mote.flash, out);
+    Exit {
+        status,
+        kept: Some(machine),
+    }
+}
+
+/// Puts the dump of a flash, or that there was no memory for its text.
+fn put_dump<K: Sink>(alloc: Global, flash: &Flash, out: &mut K) -> Status
+    ensures said { Says Done (written flash.now.words) (stream K.taken K.faults out.old) (stream K.taken K.faults out.new) result
+        ⊎ Says NoMemory (codes "no memory\n") (stream K.taken K.faults out.old) (stream K.taken K.faults out.new) result }
+{
+    match write_dump(alloc, flash) {
+        Ok(text) => say(Status::Done, &text, out),
+        Err(_) => say(Status::NoMemory, NO_MEMORY, out),
+    }
+}
