@@ -10,7 +10,7 @@ use avr_isa::{Base, Ptr};
 use text_lines::split_once;
 
 /// A pointer as LD, ST, LPM and ELPM name it.
-#[derive(Clone, Copy, Debug, PartialEq, Eq)]
+#[derive(Clone, Copy)]
 pub(crate) enum Pointer {
     /// X, or a pointer that the access changes.
     At(Ptr),

@@ -5,17 +5,14 @@
 //! use avr_isa::Form;
 //!
 //! let jump = decode(0x940C, 0x1234).ok_or("an instruction")?;
-//! assert_eq!(rt; *jump.form(), Form::Jmp(0x1234));
+//! assert!(rt; matches!(jump.form(), Form::Jmp(0x1234)));
 //! ```
 //!
-//! What words mean is defined in `avr_isa` by one row for each instruction (`IsDecoded` of its
-//! `Encoding`). `specs/Decoding` has the same meaning as a function that computes, `the_form`, for the
-//! proofs above. Public laws: `Decoded` (the two are the same) and `Lengths` (the first word tells the
-//! number of words).
+//! `specs/Decoding` has the meaning of words as a function that computes, `the_form`. That it is the meaning
+//! by the manual's table, which goes from instructions to words, is shown in `decode_laws`.
 #![tactic(auto)]
 
-ghost use Rattle.std.specs.Prelude.{◌≡◌, ◌≤◌, ◌↔◌, IsTrue};
-ghost use Rattle.avr_isa.specs.Encoding.{BeginsTwoWords, IsDecoded};
+ghost use Rattle.std.specs.Prelude.{◌≡◌, ◌≤◌};
 ghost use Rattle.avr_decode.specs.Decoding.{is_absolute, is_direct, is_long, size_by_first_word as size_by_first_word_of, the_form};
 
 use avr_isa::Instr;
@@ -29,7 +26,6 @@ mod rows;
 #[tactic(auto, unfolding(crate::specs::Decoding::the_form, crate::specs::Decoding::defined_form, crate::specs::Decoding::if_defined))]
 pub fn decode(w0: u16, w1: u16) -> Option<Instr>
     ensures value { result ≡ the_form w0 w1 }
-    ensures decoded { IsDecoded w0 w1 result }
 {
     if two_words(w0) {
         Instr::new(rows::two_word(w0, w1))
@@ -42,7 +38,6 @@ pub fn decode(w0: u16, w1: u16) -> Option<Instr>
 #[tactic(auto, unfolding(crate::specs::Decoding::is_long))]
 pub fn two_words(w: u16) -> bool
     ensures value { result ≡ is_long w }
-    ensures rows { IsTrue result ↔ BeginsTwoWords w }
 {
     is_direct(w) | is_absolute(w)
 }

@@ -8,7 +8,7 @@ use crate::register::{EvenReg, HighReg, MidReg, PairReg, Reg};
 ///
 /// Targets `Jmp` and `Call` name a word of flash; a relative target is pc + 1 + k. Addresses of `Lds`
 /// and `Sts` are data addresses.
-#[derive(Clone, Copy, Debug, PartialEq, Eq)]
+#[derive(Clone, Copy)]
 pub enum Form {
     /// NOP
     Nop,

@@ -9,7 +9,7 @@ use std::marker::Model;
 
 /// An instruction whose effect the manual defines: any `Form` but the undefined pairs, in which a
 /// load or store changes the pointer that its data register is part of.
-#[derive(Clone, Copy, Debug, PartialEq, Eq)]
+#[derive(Clone, Copy)]
 pub struct Instr {
     form: Form,
 }

@@ -3,7 +3,7 @@ ghost use Rattle.std.specs.Prelude.{◌≡◌};
 ghost use Rattle.avr_isa.specs.IoTable.{can_read, can_write};
 
 /// The directions in which a program may access an I/O register.
-#[derive(Clone, Copy, Debug, PartialEq, Eq)]
+#[derive(Clone, Copy)]
 pub struct IoAccess {
     pub read: bool,
     pub write: bool,

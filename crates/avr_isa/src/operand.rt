@@ -5,7 +5,7 @@ ghost use Rattle.avr_isa.specs.IoTable.{io_address};
 use std::marker::Model;
 
 /// The number of a bit of a register or of SREG, 0 (the least significant) to 7.
-#[derive(Clone, Copy, Debug, PartialEq, Eq)]
+#[derive(Clone, Copy)]
 pub struct Bit {
     v: u8,
 }
@@ -38,7 +38,7 @@ impl Bit {
 }
 
 /// An operand of six bits: the constant of ADIW and SBIW, and the displacement q of LDD and STD.
-#[derive(Clone, Copy, Debug, PartialEq, Eq)]
+#[derive(Clone, Copy)]
 pub struct Six {
     v: u8,
 }
@@ -71,7 +71,7 @@ impl Six {
 }
 
 /// The field A of IN and OUT, 0 to 63. The data address of the I/O register is A + 0x20.
-#[derive(Clone, Copy, Debug, PartialEq, Eq)]
+#[derive(Clone, Copy)]
 pub struct IoAddr {
     v: u8,
 }
@@ -112,7 +112,7 @@ impl IoAddr {
 }
 
 /// The field A of SBI, CBI, SBIS and SBIC, 0 to 31. The data address is A + 0x20.
-#[derive(Clone, Copy, Debug, PartialEq, Eq)]
+#[derive(Clone, Copy)]
 pub struct LowIo {
     v: u8,
 }
@@ -153,7 +153,7 @@ impl LowIo {
 }
 
 /// The distance of a conditional branch, in words from the next instruction, -64 to 63.
-#[derive(Clone, Copy, Debug, PartialEq, Eq)]
+#[derive(Clone, Copy)]
 pub struct Rel7 {
     k: i16,
 }
@@ -190,7 +190,7 @@ impl Rel7 {
 }
 
 /// The distance of RJMP and RCALL, in words from the next instruction, -2048 to 2047.
-#[derive(Clone, Copy, Debug, PartialEq, Eq)]
+#[derive(Clone, Copy)]
 pub struct Rel12 {
     k: i16,
 }

@@ -1,7 +1,7 @@
 //! The operations that share a form, in the order of their codes, and the pointers.
 
 /// The multiplications of two registers of r16 to r23.
-#[derive(Clone, Copy, Debug, PartialEq, Eq)]
+#[derive(Clone, Copy)]
 pub enum ProductOp {
     /// Signed by unsigned.
     Mulsu,
@@ -14,7 +14,7 @@ pub enum ProductOp {
 }
 
 /// The operations on two registers of r0 to r31.
-#[derive(Clone, Copy, Debug, PartialEq, Eq)]
+#[derive(Clone, Copy)]
 pub enum TwoOp {
     Cpc,
     Sbc,
@@ -30,7 +30,7 @@ pub enum TwoOp {
 }
 
 /// The operations on a register of r16 to r31 and a constant.
-#[derive(Clone, Copy, Debug, PartialEq, Eq)]
+#[derive(Clone, Copy)]
 pub enum ImmOp {
     Cpi,
     Sbci,
@@ -41,14 +41,14 @@ pub enum ImmOp {
 }
 
 /// The operations on a register pair and a constant.
-#[derive(Clone, Copy, Debug, PartialEq, Eq)]
+#[derive(Clone, Copy)]
 pub enum WordOp {
     Adiw,
     Sbiw,
 }
 
 /// The operations on one register.
-#[derive(Clone, Copy, Debug, PartialEq, Eq)]
+#[derive(Clone, Copy)]
 pub enum OneOp {
     Com,
     Neg,
@@ -61,14 +61,14 @@ pub enum OneOp {
 }
 
 /// The base of a load or store with displacement: Y is r29:r28, Z is r31:r30.
-#[derive(Clone, Copy, Debug, PartialEq, Eq)]
+#[derive(Clone, Copy)]
 pub enum Base {
     Y,
     Z,
 }
 
 /// How a load or store uses its pointer: X is r27:r26, Y is r29:r28, Z is r31:r30.
-#[derive(Clone, Copy, Debug, PartialEq, Eq)]
+#[derive(Clone, Copy)]
 pub enum Ptr {
     /// `Z+`: Z is raised by one after the access.
     ZInc,

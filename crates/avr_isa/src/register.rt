@@ -4,7 +4,7 @@ ghost use Rattle.std.specs.Prelude.{◌≡◌, ℕ, ◌<◌, ◌≤◌, ◌%◌,
 use std::marker::Model;
 
 /// One of the 32 general purpose registers, r0 to r31.
-#[derive(Clone, Copy, Debug, PartialEq, Eq)]
+#[derive(Clone, Copy)]
 pub struct Reg {
     v: u8,
 }
@@ -37,7 +37,7 @@ impl Reg {
 }
 
 /// The low register of a pair that MOVW copies: r0, r2, .. or r30.
-#[derive(Clone, Copy, Debug, PartialEq, Eq)]
+#[derive(Clone, Copy)]
 pub struct EvenReg {
     v: u8,
 }
@@ -74,7 +74,7 @@ impl EvenReg {
 }
 
 /// An upper register, r16 to r31, as the instructions with an immediate operand and MULS take it.
-#[derive(Clone, Copy, Debug, PartialEq, Eq)]
+#[derive(Clone, Copy)]
 pub struct HighReg {
     v: u8,
 }
@@ -111,7 +111,7 @@ impl HighReg {
 }
 
 /// One of r16 to r23, the operands of MULSU and of the fractional multiplications.
-#[derive(Clone, Copy, Debug, PartialEq, Eq)]
+#[derive(Clone, Copy)]
 pub struct MidReg {
     v: u8,
 }
@@ -148,7 +148,7 @@ impl MidReg {
 }
 
 /// The low register of a pair that ADIW and SBIW change: r24, r26, r28 or r30.
-#[derive(Clone, Copy, Debug, PartialEq, Eq)]
+#[derive(Clone, Copy)]
 pub struct PairReg {
     v: u8,
 }

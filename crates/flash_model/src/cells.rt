@@ -29,7 +29,7 @@ pub(crate) const BLANK: u16 = 0xFFFF;
 const RET: u16 = 0x9508;
 
 /// The program memory, by word addresses.
-#[derive(Debug, Drop)]
+#[derive(Drop)]
 pub(crate) struct Cells {
     words: Vec<u16>,
     /// How often each page was erased.

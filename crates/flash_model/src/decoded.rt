@@ -8,7 +8,7 @@ use avr_decode::{decode, size_by_first_word};
 use avr_isa::{Form, Instr};
 
 /// What is decoded at a word address.
-#[derive(Clone, Copy, Debug)]
+#[derive(Clone, Copy)]
 pub struct Decoded {
     /// The instruction that begins there; NOP also where the words are none.
     pub instr: Instr,

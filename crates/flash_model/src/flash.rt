@@ -15,7 +15,7 @@ use std::marker::Model;
 use tk_io::NoMemory;
 
 /// The program memory, by word addresses.
-#[derive(Debug, Drop)]
+#[derive(Drop)]
 pub struct Flash {
     cells: Cells,
     /// What is decoded at each word address.

@@ -7,4 +7,4 @@ pub mod Judgement
 pub mod EventLines
 mod Done
 mod Answered
-mod WorkedLines
+pub mod WorkedLines

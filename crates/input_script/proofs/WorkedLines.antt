@@ -1,9 +1,12 @@
--- Worked values: a line with a value of each width, and values of other widths.
-use Rattle.std.proofs.Common.{◌≡◌, ℕ, ◌+◌, ◌≤◌, List, [], ◌∷◌, ◌++◌, length, length-append, codes, ap, ◌∙◌, arith, refl}
+-- Worked values: a line with a value of each width, values of other widths, and a text of three lines.
+use Rattle.std.proofs.Common.{◌≡◌, ℕ, zero, suc, ◌+◌, ◌≤◌, List, [], ◌∷◌, ◌++◌, length, length-append, codes, ap, ◌∙◌, arith, refl, inr}
+use Rattle.std.specs.Prelude.{All}
 use Rattle.input_script.specs.declared.input.Kind.TheVariants.{PinC, Serial, Analog, Interrupt}
 use Rattle.input_script.specs.declared.input.Input.TheVariants.{Pin, Uart, Adc, Int}
-use Rattle.input_script.specs.declared.line.Statement.TheVariants.{At, FailFlash}
+use Rattle.input_script.specs.declared.input.Event.{Event}
+use Rattle.input_script.specs.declared.line.Statement.TheVariants.{Nothing, At, FailFlash}
 use Rattle.input_script.specs.Grammar.{IsStatement, IsValue}
+use Rattle.input_script.specs.Script.{IsInRange, IsScript, nothing}
 
 pin : IsStatement (codes "at 1 pinc 0x0f") (At 1 (Pin 2 15))
 pin = record {
@@ -57,3 +60,30 @@ three_digits value is = let long : 5 ≡ 2 + length is.number = ap length is.wri
 
 two_of_an_interrupt : (value : ℕ) → ¬ IsValue Interrupt (codes "07") value
 two_of_an_interrupt value is = let long : 2 ≡ length is.number = ap length is.written in omega (arith, is.width, long)
+
+-- an event, a fail line and a comment, and what they schedule
+event_in_range : All (λ (event : Event). IsInRange (At event.at event.input)) (record { at = 22; input = Uart 65 } ∷ [])
+event_in_range zero d below = (omega arith, tt)
+event_in_range (suc k) d below = absurd (omega (arith, below))
+
+fail_in_range : All (λ number. IsInRange (FailFlash number)) (12 ∷ [])
+fail_in_range zero d below = (omega arith, omega arith)
+fail_in_range (suc k) d below = absurd (omega (arith, below))
+
+pub three_lines : IsScript (codes "at 22 uart 0x41\nfail flash 0012\n# end\n") (record { events = record { at = 22; input = Uart 65 } ∷ []; failing = 12 ∷ [] })
+three_lines = record {
+  spelled = (
+    At 22 (Uart 65),
+    record { events = []; failing = 12 ∷ [] },
+    serial,
+    (FailFlash 12, nothing, fail, (Nothing, nothing, inr (codes " end", refl), refl, refl), refl),
+    refl,
+  );
+  in_order = record {
+    ordered = λ i j d less below. absurd (omega (arith, less, below));
+    in_range = event_in_range;
+    failing_ordered = λ i j d less below. absurd (omega (arith, less, below));
+    failing_in_range = fail_in_range;
+    few = omega arith;
+  };
+}

@@ -6,7 +6,7 @@ use Rattle.avr_isa.specs.Instruction.{is_valid, fields_in_range, is_undefined}
 use Rattle.avr_isa.specs.IoTable.{can_read, can_write, io_address}
 use Rattle.avr_isa.specs.declared.form.Form.{Form}
 use Rattle.avr_isa.specs.declared.form.Form.TheVariants as forms
-use Rattle.avr_decode.proofs.Decoded.{valid_at}
+use Rattle.decode_laws.proofs.Decoded.{valid_at}
 use Rattle.avr_flags.specs.Status.{has_bit, interrupts}
 use Rattle.avr_exec.specs.declared.ask.Ask.TheVariants.{Nothing, Load, Store, Modify}
 use Rattle.avr_exec.specs.declared.answer.Answer.TheVariants.{Done, Byte}

@@ -6,7 +6,7 @@ use mote_core::Mote;
 use mote_devices::Line;
 
 /// The mote, with what the kernel knows of it.
-#[derive(Debug, Drop)]
+#[derive(Drop)]
 pub struct Kernel {
     pub mote: Mote,
     pub layout: Layout,

@@ -5,6 +5,7 @@ use input_script::{Event, Input, ScriptError, ScriptFault};
 use std::alloc::Global;
 use std::process::Abort;
 use std::test::Fail;
+use tk_io::MemSink;
 use tk_tasks::{Tasks, misplaced_word, read_scripts, task_image};
 
 /// The answer to a script of two tasks that is refused.
@@ -158,5 +159,62 @@ fn a_task_comes_back_as_it_was(rt: HostRuntime) -> Result<(), Fail> {
     assert_eq!(rt; mote.cpu.r[0], 9);
     assert_eq!(rt; mote.sram.byte(0x0141), 1);
     assert_eq!(rt; mote.sram.byte(0x0D00), 7);
+    Ok(())
+}
+
+/// An image of two tasks that have these words.
+fn image_of_two(alloc: Global, first: &[u16; 5], second: &[u16; 5]) -> Result<Image, Fail> {
+    let mut words = [0xFFFF; 4101];
+    for i in 0..5usize {
+        words[i] = first[i];
+        words[4096 + i] = second[i];
+    }
+    image_of(alloc, &words)
+}
+
+/// What two tasks print, and the tasks behind their run.
+fn run_two(alloc: Global, image: &Image, quantum: u8) -> Result<(MemSink, Tasks), Fail> {
+    let scripts = read_scripts(alloc, b"", 2)
+        .ok()
+        .ok_or("the script is good")?;
+    if quantum == 0 || misplaced_word(image, 2).is_some() {
+        return Err("no tasks can run".into());
+    }
+    let mut tasks = Tasks::boot(alloc, image, scripts, quantum, 32)?;
+    let mut out = MemSink::new(alloc, 4096)?;
+    if tasks.run(1_000_000, &mut out).is_err() {
+        return Err("the lines have room".into());
+    }
+    Ok((out, tasks))
+}
+
+#[test]
+fn two_tasks_one_behind_the_other(rt: HostRuntime) -> Result<(), Fail> {
+    let first = [0xE00F, 0xBB0B, 0xCFFF, 0xFFFF, 0xFFFF];
+    let second = [0xE10F, 0xBB0B, 0xCFFF, 0xFFFF, 0xFFFF];
+    let image = image_of_two(rt.alloc(), &first, &second)?;
+    let (out, tasks) = run_two(rt.alloc(), &image, 255)?;
+    let text =
+        b"task 0 PORTA 0x0F\ntask 0 halted 0x0002 steps 2 checkpoints 0\ntask 1 PORTA 0x1F\ntask 1 halted 0x1002 steps 2 checkpoints 0\n";
+    assert_eq!(rt; out.taken(), text.as_slice());
+    assert_eq!(rt;
+        (tasks.natural, tasks.entries, tasks.pages, tasks.switches),
+        (6, 2, 2, 1)
+    );
+    Ok(())
+}
+
+#[test]
+fn two_tasks_in_turn(rt: HostRuntime) -> Result<(), Fail> {
+    let words = [0xE002, 0xBB0B, 0x950A, 0xF7E9, 0xCFFF];
+    let image = image_of_two(rt.alloc(), &words, &words)?;
+    let (out, tasks) = run_two(rt.alloc(), &image, 1)?;
+    let text =
+        b"task 0 PORTA 0x02\ntask 1 PORTA 0x02\ntask 0 PORTA 0x01\ntask 0 halted 0x0004 steps 7 checkpoints 1\ntask 1 PORTA 0x01\ntask 1 halted 0x1004 steps 7 checkpoints 1\n";
+    assert_eq!(rt; out.taken(), text.as_slice());
+    assert_eq!(rt;
+        (tasks.natural, tasks.entries, tasks.pages, tasks.switches),
+        (34, 4, 2, 3)
+    );
     Ok(())
 }

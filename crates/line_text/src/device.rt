@@ -1,5 +1,6 @@
 //! The line of a write to an output of a device.
 ghost use Rattle.std.specs.Prelude.{◌≡◌, ◌≤◌, codes, length};
+ghost use Rattle.arrayvec.specs.ArrayVec.{array_vec_len};
 ghost use Rattle.kernel_entry.specs.Texts.{line_text, port_name};
 
 use crate::pieces::{Text, push, push_byte};
@@ -9,6 +10,7 @@ use mote_devices::{Line, Port};
 #[tactic(auto, unfolding(kernel_entry::specs::Texts::line_text))]
 pub fn device_line(line: Line) -> Text
     ensures text { result.items ≡ line_text line }
+    ensures short { array_vec_len result ≤ 14 }
 {
     let mut text = Text::new();
     push(&mut text, name(line.port));

@@ -11,6 +11,17 @@ pub type Text = ArrayVec<u8, 160>;
 
 const DIGITS: &[u8; 16] = b"0123456789ABCDEF";
 
+/// A text that stands as it is.
+pub fn whole(bytes: &[u8]) -> Text
+    requires fits { length bytes.now ≤ 160 }
+    ensures text { result.items ≡ bytes.now }
+    ensures size { array_vec_len result ≡ length bytes.now }
+{
+    let mut text = Text::new();
+    push(&mut text, bytes);
+    text
+}
+
 /// Adds bytes.
 pub fn push(text: &mut Text, more: &[u8])
     requires { array_vec_len text.old + length more.now ≤ 160 }
@@ -42,11 +53,11 @@ pub fn push_address(text: &mut Text, address: u16)
     push_digits(text, low);
 }
 
-/// Adds a number in decimal digits, 40 at most.
+/// Adds a number in decimal digits, 20 at most.
 pub fn push_number(text: &mut Text, number: u64)
-    requires { array_vec_len text.old + 40 ≤ 160 }
+    requires { array_vec_len text.old + 20 ≤ 160 }
     ensures text { text.new.items ≡ text.old.items ++ decimal number }
-    ensures longer { array_vec_len text.new ≤ array_vec_len text.old + 40 }
+    ensures longer { array_vec_len text.new ≤ array_vec_len text.old + 20 }
 {
     let mut buffer = Buffer::new();
     push(text, buffer.format(number).as_bytes());

@@ -29,7 +29,7 @@ pub enum Plain {
 }
 
 /// The physical mote.
-#[derive(Debug, Drop)]
+#[derive(Drop)]
 pub struct Mote {
     /// The core's registers. The stack pointer is the physical one.
     pub cpu: Cpu,
@@ -44,20 +44,32 @@ impl Mote {
     ghost use Rattle.std.specs.Prelude.{◌≡◌, ◌<◌, ◌≤◌, ◌^◌, true, length, IfOk};
     ghost use Rattle.flash_model.specs.Memory.{IsWhole};
     ghost use Rattle.swap_store.specs.Slots.{most_slots};
-    ghost use Rattle.mote_core.specs.Step.{IsAtReset, form_at, IsPlainStep};
+    ghost use Rattle.mote_core.specs.Step.{IsAtReset, cpu_at_reset, form_at, IsPlainStep};
+    ghost use Rattle.mote_devices.specs.State.{at_reset};
+    ghost use Rattle.sram_layout.specs.Boot.{at_boot};
     ghost use Rattle.mote_core.specs.Conditions.{can_step};
 
     /// A mote at reset, with the image in flash, the kernel's memory as at boot, and this many swap slots, at
     /// most 251. The operations of flash that the script lists are to fail. The stack pointer is at the top of
     /// the kernel's own stack.
-    #[tactic(auto, unfolding(flash_model::specs::Pages::many))]
     pub fn new(alloc: Global, image: &[u16], script: Script, slots: u8) -> Result<Mote, NoMemory>
         requires image { length image.now ≤ 24576 }
         requires slots { slots ≤ most_slots }
         ensures reset { IfOk result (IsAtReset image.now script slots) }
         ensures whole { IfOk result (λ mote. IsWhole mote.flash) }
     {
-        Ok(Mote {
+        let flash = Flash::new(alloc, image, script.failing())?;
+        let swap = Swap::new(alloc, slots)?;
+        Ok(Mote::over(flash, script, swap))
+    }
+
+    /// A mote at reset over this flash and these swap slots, with the kernel's memory as at boot. Of the script the
+    /// events alone are taken. The stack pointer is at the top of the kernel's own stack.
+    #[tactic(auto, unfolding(flash_model::specs::Pages::many))]
+    pub fn over(flash: Flash, script: Script, swap: Swap) -> Mote
+        ensures reset { result ≡ record { cpu = cpu_at_reset; sram = at_boot; flash = flash; devices = at_reset script.events; swap = swap } }
+    {
+        Mote {
             cpu: Cpu {
                 r: [0; 32],
                 sreg: 0,
@@ -65,10 +77,10 @@ impl Mote {
                 pc: 0,
             },
             sram: Sram::new(),
-            flash: Flash::new(alloc, image, script.failing())?,
+            flash,
             devices: Devices::new(script),
-            swap: Swap::new(alloc, slots)?,
-        })
+            swap,
+        }
     }
 
     /// Executes the instruction of flash at the pc.

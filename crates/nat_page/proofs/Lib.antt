@@ -23,3 +23,4 @@ pub mod UnlinkLaws
 mod PatchLaws
 mod RemakeLaws
 pub mod WalkLaws
+mod CountLaws

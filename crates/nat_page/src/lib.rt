@@ -12,7 +12,7 @@
 //! [`prepare`] gives the words of that page without making it. [`remade`] makes the pieces of a page anew, for any
 //! image ([`ImageWords`]), from its first address and the number of its instructions, which the page tells. On it
 //! stands [`without_links`]: the words of a page in which the links that a [`LinkTest`] picks call the kernel's
-//! bridge again.
+//! bridge again. [`pages_in_use`] counts the pages that are used.
 //!
 //! `specs/Runs` says what a run is and what stands in its place, `specs/CodePages` which words its page
 //! has, `specs/Links` where it leads to original addresses, `specs/Entered` what stands at an entry,
@@ -33,6 +33,7 @@ mod making;
 mod pieces;
 mod remaking;
 mod unlinking;
+mod using;
 mod words;
 
 pub use making::{NatStop, Prepared, naturalise, prepare};
@@ -41,4 +42,5 @@ pub use remaking::remade;
 pub use unlinking::{
     LeadsInto, LinkTest, Unlinked, may_have_stubs_into, page_words, without_links,
 };
+pub use using::pages_in_use;
 pub use words::{FlashImage, ImageWords};

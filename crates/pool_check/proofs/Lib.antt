@@ -4,7 +4,6 @@ mod FormLaws
 pub mod MovedLaws
 pub mod CheckedLaws
 mod LinkTests
-mod CountLaws
 mod DumpLineLaws
 mod DumpLaws
 mod WrittenLaws

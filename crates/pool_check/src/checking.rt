@@ -2,17 +2,16 @@
 
 ghost use Rattle.std.specs.Prelude.{◌≡◌, length, MatchOption};
 ghost use Rattle.flash_model.specs.Layouts.{IsRight};
-ghost use Rattle.flash_model.specs.Memory.{IsWhole};
 ghost use Rattle.nat_page.specs.Faithful.{IsFaithful};
 ghost use Rattle.nat_page.specs.Used.{used_pages};
 ghost use Rattle.pool_check.specs.Links.{HaveForms, HaveLinks};
 ghost use Rattle.pool_check.specs.Verdicts.{IsFirstUnlinked, IsVerdict};
 ghost use Rattle.pool_check.specs.declared.checking.Verdict.TheVariants.{Faithful};
 
-use crate::form::{BLANK, PAGE_WORDS, page_form};
+use crate::form::page_form;
 use crate::links::has_links;
 use flash_model::{Flash, Layout};
-use nat_page::page_words;
+use nat_page::{page_words, pages_in_use};
 
 /// What a checker says of a flash.
 #[derive(Clone, Copy, Debug, PartialEq, Eq)]
@@ -51,7 +50,7 @@ pub fn check(flash: &Flash, image: &[u16], layout: &Layout) -> Verdict
     match first_unlinked(flash, image, layout) {
         Some(page) => Verdict::Links { page },
         None => Verdict::Faithful {
-            pages: used(flash, layout),
+            pages: pages_in_use(flash, layout),
         },
     }
 }
@@ -69,19 +68,4 @@ fn first_unlinked(flash: &Flash, image: &[u16], layout: &Layout) -> Option<u16>
         }
     }
     None
-}
-
-/// How many pages of the pool are used.
-fn used(flash: &Flash, layout: &Layout) -> u16
-    requires right { IsRight layout.now }
-    ensures value { result ≡ used_pages layout.now flash.now.words }
-    ensures whole { IsWhole flash.now }
-{
-    let mut pages = 0;
-    for i in 0..layout.pool_pages {
-        if flash.word(PAGE_WORDS * (layout.pool_first + i)) != BLANK {
-            pages += 1;
-        }
-    }
-    pages
 }

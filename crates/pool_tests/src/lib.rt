@@ -12,6 +12,8 @@ mod pool_pages;
 #[cfg(test)]
 mod recycling;
 #[cfg(test)]
+mod restarts;
+#[cfg(test)]
 mod runs;
 #[cfg(test)]
 mod support;

@@ -14,7 +14,7 @@ use sram_layout::Sram;
 use std::test::Fail;
 
 /// RJMP 2; NOP; RJMP 0; RJMP to itself.
-const ROUND: [u16; 4] = [0xC001, 0x0000, 0xCFFD, 0xCFFF];
+pub(crate) const ROUND: [u16; 4] = [0xC001, 0x0000, 0xCFFD, 0xCFFF];
 
 /// Where the jump back to 0 calls the bridge, if it does.
 fn jump_back(flash: &Flash, layout: &Layout) -> Option<u16>
@@ -55,7 +55,11 @@ fn resolve_back(flash: &mut Flash, layout: &Layout) -> Result<(), ResolveStop>
 }
 
 /// Arrivals at 0 and at 2, the jump back to 0 resolved, and an arrival at 3, up to the first that is refused.
-fn go_round(sram: &mut Sram, flash: &mut Flash, layout: &Layout) -> Result<Moved, Refused>
+pub(crate) fn go_round(
+    sram: &mut Sram,
+    flash: &mut Flash,
+    layout: &Layout,
+) -> Result<Moved, Refused>
     requires right { IsRight layout.now }
     requires faithful { IsFaithful layout.now (image_of layout.now flash.old.words) flash.old.words }
     requires image { image_of layout.now flash.old.words ≡ 0xC001 ∷ 0x0000 ∷ 0xCFFD ∷ 0xCFFF ∷ [] }
@@ -74,12 +78,13 @@ fn go_round(sram: &mut Sram, flash: &mut Flash, layout: &Layout) -> Result<Moved
 }
 
 /// A pool of so many pages.
-fn small(image_words: u16, pool_pages: u16) -> Layout
+pub(crate) fn small(image_words: u16, pool_pages: u16) -> Layout
     requires image { image_words ≤ 16384 }
     requires some { 1 ≤ pool_pages }
     requires fits { pool_pages ≤ 352 }
     ensures right { IsRight result }
     ensures image { result.image_words ≡ image_words }
+    ensures first { result.pool_first ≡ 128 }
     ensures pool { result.pool_pages ≡ pool_pages }
 {
     Layout {
@@ -213,7 +218,7 @@ fn a_torn_page_lacks_its_new_words(rt: HostRuntime) -> Result<(), Fail> {
 
 /// Jumps to the next address have a page each: the pages are used in turn.
 #[test]
-fn small_pools_go_round(rt: HostRuntime) -> Result<(), Fail> {
+pub(crate) fn small_pools_go_round(rt: HostRuntime) -> Result<(), Fail> {
     for pages in 1..6u16 {
         let layout = small(12, pages);
         let mut flash = loaded(&rt, &layout, &[0xC000; 12])?;

@@ -13,7 +13,7 @@ use tk_run::{End, Machine, Options};
 /// Writes 0 to PORTA, and jumps to itself.
 const PORT: [u16; 2] = [0xBB0B, 0xCFFF];
 
-fn boot(rt: &HostRuntime, words: &[u16], quantum: u8) -> Result<Machine, Fail>
+pub(crate) fn boot(rt: &HostRuntime, words: &[u16], quantum: u8) -> Result<Machine, Fail>
     requires quantum { 1 ≤ quantum }
     requires few { length words.now ≤ 24576 }
 {
@@ -24,7 +24,7 @@ fn boot(rt: &HostRuntime, words: &[u16], quantum: u8) -> Result<Machine, Fail>
 }
 
 /// Runs a machine that can run on.
-fn run(m: &mut Machine, n: u64, out: &mut MemSink) -> Result<End, &'static str> {
+pub(crate) fn run(m: &mut Machine, n: u64, out: &mut MemSink) -> Result<End, &'static str> {
     if m.broken || m.steps > 1000 || n > 1000 {
         return Err("the machine can't run on");
     }
@@ -35,7 +35,7 @@ fn run(m: &mut Machine, n: u64, out: &mut MemSink) -> Result<End, &'static str> 
 }
 
 /// Steps, crossings, plain steps, services, pages.
-fn counts(m: &Machine) -> [u64; 5] {
+pub(crate) fn counts(m: &Machine) -> [u64; 5] {
     [m.steps, m.crossings, m.natural, m.entries, m.pages]
 }
 

@@ -75,8 +75,8 @@ fn push_chosen(words: &mut Vec<u16>, seed: u32, n: u32) -> Result<(), AllocError
     Ok(())
 }
 
-// The number that follows `x`.
-fn next(x: u32) -> u32
+/// The number that follows `x`: x times 1,664,525 plus 1,013,904,223, modulo 2 to the 32.
+pub fn next(x: u32) -> u32
     ensures value { result ≡ next x }
 {
     x.wrapping_mul(1_664_525).wrapping_add(1_013_904_223)

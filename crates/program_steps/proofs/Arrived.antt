@@ -10,6 +10,7 @@ use Rattle.flash_model.specs.declared.layout.Layout.{Layout}
 use Rattle.heap_frames.specs.Paged.{IsPaged}
 use Rattle.heap_frames.specs.Memory.{vmem}
 use Rattle.heap_frames.specs.Frames.{pages}
+use Rattle.page_index.specs.Maps.{IsPool}
 use Rattle.nat_page.specs.Faithful.{IsFaithful}
 use Rattle.nat_page.specs.Used.{used_pages}
 use Rattle.nat_page.proofs.EnteredLaws.{entry_law}
@@ -17,7 +18,6 @@ use Rattle.addr_tables.specs.Tables.{IsTables}
 use Rattle.mote_devices.specs.State.{State as Devices}
 use Rattle.mem_guard.specs.FlatMachine.{FlatState}
 use Rattle.branch_bridge.specs.declared.arrival.Refused.{Refused}
-use Rattle.branch_bridge.specs.declared.arrival.ArriveStop.TheVariants as refusals
 use Rattle.branch_bridge.specs.declared.rewriting.ResolveStop.{ResolveStop}
 use Rattle.branch_bridge.specs.declared.rewriting.Torn.{Torn}
 use Rattle.branch_bridge.specs.declared.through.Arrival.{Arrival}
@@ -42,6 +42,7 @@ use Rattle.mem_guard.specs.FlatMachine.{is_own}
 use Rattle.step_laws.specs.Links.{part_number, number_of}
 use Rattle.step_laws.specs.States.{admits}
 use Rattle.nat_page.specs.Parts.{IsParted}
+use Rattle.program_steps.proofs.ReadyLaws.{no_refusal}
 use Rattle.program_steps.proofs.OutsideTables.{outside_paged, outside_memory, outside_pages, outside_pointer, outside_stack}
 use Rattle.program_steps.proofs.Awaiting.{awaits_some, awaits_none, free_of, some_same}
 use Rattle.program_steps.proofs.Laws.{faithful_going, parted_going, used_going}
@@ -150,6 +151,8 @@ pub record IsMoved (n n' : Numbers) (made : Bool) : Type 0 where
   pub pages : n'.pages ≡ n.pages + one_if made
   pub since : n'.since ≡ n.since
   pub longest : n'.longest ≡ n.longest
+  pub began : n'.began ≡ n.began
+  pub others : n'.others ≡ n.others
 
 moved_numbers : (n n' : Numbers) (t ops : ℕ) (made made' : Bool) → n' ≡ moved (Arrive t made ops) n → made' ≡ made → IsMoved n n' made'
 unfolding moved
@@ -160,6 +163,8 @@ moved_numbers n n' t ops made made' is same = record {
   pages = ap (λ (k : Numbers). k.pages) is ∙ ap (λ b. n.pages + one_if b) (sym same);
   since = ap (λ (k : Numbers). k.since) is;
   longest = ap (λ (k : Numbers). k.longest) is;
+  began = ap (λ (k : Numbers). k.began) is;
+  others = ap (λ (k : Numbers). k.others) is;
 }
 
 -- what holds of the machine after an arrival, whatever its answer
@@ -242,6 +247,9 @@ tried_quiet old new tried torn ready = record {
   refused = λ some.
       let fault = ready.order.tried.refused (λ none. some (tried.unrefused refl ∙ none)) in
       absurd (let e : Some (ends.Flash fault.0) ≡ None = sym fault.1 ∙ ready.going in cc);
+  pool = no_refusal new.kernel.mote.flash.refused new.kernel.layout (λ some.
+      let fault = ready.order.tried.refused (λ none. some (tried.unrefused refl ∙ none)) in
+      let e : Some (ends.Flash fault.0) ≡ None = sym fault.1 ∙ ready.going in cc);
   torn = subst (λ t. IfSome t (λ torn. IsTorn new.kernel.layout new.kernel.mote.flash.words torn × HasFault new)) (sym torn) tt;
 }
 
@@ -258,6 +266,7 @@ tried_failed old new stop layout tried end torn ready = record {
         | inr below ↦ absurd (never_before old op ready from below listed)
       ]);
   refused = λ some. (stop.op, end);
+  pool = subst (λ r. IfSome r (IsPool new.kernel.layout)) (sym tried.refused.told) (subst (λ k. IsPool k tried.refused.page) (sym layout) tried.refused.pool);
   torn = subst (λ t. IfSome t (λ torn. IsTorn new.kernel.layout new.kernel.mote.flash.words torn × HasFault new)) (sym torn)
       (some_both stop.torn new.kernel.layout new.kernel.mote.flash.words new
       (subst (λ k. IfSome stop.torn (IsTorn k new.kernel.mote.flash.words)) (sym layout) tried.refused.torn) (stop.op, end));

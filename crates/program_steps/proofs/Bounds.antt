@@ -9,7 +9,7 @@ use Rattle.step_laws.specs.declared.moves.Owed.{Owed}
 use Rattle.program_steps.specs.Ready.{IsWithin, IsCounted, IsBounded, AreArrivals, most_arrivals}
 use Rattle.step_laws.specs.Moves.{count_plain, count_serve, count_stop}
 use Rattle.step_laws.specs.StepLaws.{crossings_over}
-use Rattle.step_laws.proofs.NumberLaws.{natural_is, entries_is, since_bound, longest_bound, pages_inner, ops_inner}
+use Rattle.step_laws.proofs.NumberLaws.{natural_is, entries_is, since_bound, longest_bound, pages_inner, ops_inner, began_is, others_is}
 use Rattle.step_laws.specs.Moves.{are_inner}
 use Rattle.step_laws.proofs.BoundLaws.{not_crossing, not_one, at_most_one}
 use Rattle.mote_devices.specs.declared.line.Line.{Line}
@@ -95,7 +95,17 @@ pub ops_first : (first : Option Line) (rest : List Move) (n : Numbers) → are_i
 unfolding moved
 ops_first first rest n inner = ops_inner rest (moved (Plain true first) n) inner
 
-most_owed : (owed : Option Owed) (n : ℕ) → most_arrivals owed n ≤ n + 1
+-- nor does it change how many pages there were at the beginning
+pub began_first : (first : Option Line) (rest : List Move) (n : Numbers) → (numbered (Plain true first ∷ rest) n).began ≡ n.began
+unfolding moved
+began_first first rest n = began_is rest (moved (Plain true first) n)
+
+-- nor how many arrivals others may have made
+pub others_first : (first : Option Line) (rest : List Move) (n : Numbers) → (numbered (Plain true first ∷ rest) n).others ≡ n.others
+unfolding moved
+others_first first rest n = others_is rest (moved (Plain true first) n)
+
+pub most_owed : (owed : Option Owed) (n : ℕ) → most_arrivals owed n ≤ n + 1
 most_owed (Some a) n = omega arith
 most_owed None n = omega arith
 
@@ -119,6 +129,8 @@ bounded_stop n crossings quantum count at polls polls' owed first rest counted a
     let tried = arrivals.ops in
     let pages = pages_first first rest n inner in
     let ops = ops_first first rest n inner in
+    let began = began_first first rest n in
+    let others = others_first first rest n in
     let n1 = moved (Plain true first) n in
     let a = counted.natural in
     let b = counted.entries in

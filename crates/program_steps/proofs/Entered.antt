@@ -11,11 +11,9 @@ use Rattle.step_laws.specs.Links.{part_number, number_of}
 use Rattle.program_steps.proofs.Owning.{beyond_own, admitted_own, admitted_number, open_admits}
 use Rattle.flash_model.specs.Memory.{IsWhole}
 use Rattle.flash_model.specs.declared.layout.Layout.{Layout}
-use Rattle.heap_frames.specs.Frames.{pages}
 use Rattle.page_index.specs.Entries.{IsEntry}
 use Rattle.mote_devices.specs.State.{State as Devices}
 use Rattle.branch_bridge.specs.declared.arrival.Refused.{Refused}
-use Rattle.branch_bridge.specs.declared.arrival.ArriveStop.TheVariants as refusals
 use Rattle.branch_bridge.specs.declared.rewriting.ResolveStop.{ResolveStop}
 use Rattle.branch_bridge.specs.declared.through.Arrival.{Arrival}
 use Rattle.branch_bridge.specs.Operating.{with_torn}
@@ -33,17 +31,15 @@ use Rattle.step_laws.specs.Walks.{MakesArrive}
 use Rattle.step_laws.specs.StepLaws.{Reaches}
 use Rattle.program_steps.specs.Machines.{Machine, awaited, state_of, numbers_of, flat_of}
 use Rattle.program_steps.specs.Ready.{count_in, IsGoing, IsQuiet, IsEnded, IsCounted, AreArrivals, most_arrivals, IsExact}
-use Rattle.program_steps.specs.Stepping.{AreMadeAt, Goes, Stays, IsFault, Entering, HasEntered, HasBound}
+use Rattle.program_steps.specs.Stepping.{AreMadeAt, Goes, IsFault, Entering, HasEntered, HasBound}
 use Rattle.program_steps.specs.Interrupts.{IsUntaken}
 use Rattle.program_steps.specs.Loop.{HasArrived}
 use Rattle.program_steps.proofs.Arriving.{Answered}
 use Rattle.program_steps.proofs.Arrived.{place_inside, owed_at, awaited_at, flat_parts, IsMoved, Arrived, arrived_by, order_arrived}
+use Rattle.program_steps.proofs.Leading.{stays_self}
 use Rattle.program_steps.proofs.OutsideTables.{outside_count}
 use Rattle.program_steps.proofs.ReadyLaws.{counted_same}
 use Rattle.program_steps.proofs.Bounds.{bounded_counted}
-
-stays_self : (m : Machine) → Stays m m
-stays_self m = record { program = refl; layout = refl; quantum = refl; failing = refl }
 
 pub entered_none : (m : Machine) → IsGoing m → IsQuiet m → m.owed ≡ None → HasEntered m m None
 unfolding lines_of
@@ -92,7 +88,13 @@ arrivals_arrived old new arrival told ready =
     let first = right.pool_first in
     let last = right.pool_below_kernel in
     let more = told.kept.ops in
-    record { pages = omega (arith, told.numbers.pages, told.numbers.steps, one_most arrival.made); ops = omega (arith, told.numbers.steps) }
+    let few = before.few in
+    let one = one_most arrival.made in
+    record {
+      pages = omega (arith, told.numbers.pages, told.numbers.began, told.numbers.others, told.numbers.steps);
+      ops = omega (arith, told.numbers.others, told.numbers.steps);
+      few = omega (arith, told.numbers.began, told.numbers.others);
+    }
 
 polls_arrived : (old new : Machine) (arrival : Arrival) → Arrived old new arrival → IsGoing old → new.kernel.mote.devices.polls ≤ new.steps + 2 ^ 32
 polls_arrived old new arrival told ready =
@@ -250,4 +252,5 @@ few_pages m ready steps =
     let most = most_steps m.owed m.steps in
     let pages = ready.arrivals.pages in
     let ops = ready.arrivals.ops in
+    let few = ready.arrivals.few in
     (omega arith, omega arith)

@@ -17,3 +17,5 @@ pub mod SameFlash
 pub mod MadeAt
 pub mod OneBehindOther
 pub mod Undue
+pub mod Leading
+pub mod Waiting

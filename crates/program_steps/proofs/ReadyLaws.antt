@@ -11,6 +11,7 @@ use Rattle.flash_model.specs.Layouts.{IsRight, image_of}
 use Rattle.flash_model.specs.declared.layout.Layout.{Layout}
 use Rattle.flash_model.specs.Layouts.{layout_of}
 use Rattle.sram_layout.specs.Bytes.{byte_at, data_word_at}
+use Rattle.page_index.specs.Maps.{IsPool}
 use Rattle.nat_page.specs.Faithful.{IsFaithful}
 use Rattle.branch_bridge.specs.declared.rewriting.Torn.{Torn}
 use Rattle.branch_bridge.specs.Operating.{with_torn}
@@ -34,12 +35,17 @@ use Rattle.step_laws.specs.StepLaws.{StepLaw, Reaches, Keeps, IsReset, crossings
 use Rattle.program_steps.specs.Machines.{Machine, state_of, numbers_of, awaits}
 use Rattle.program_steps.specs.Ready.{IsRightPart, count_in, HasFault, AreTried, IsInOrder, IsGoing, IsCounted, AreArrivals, most_arrivals}
 use Rattle.program_steps.specs.Loop.{Taken}
-use Rattle.program_steps.proofs.Bounds.{counted_on, steps_goes, pages_first}
+use Rattle.program_steps.proofs.Bounds.{counted_on, steps_goes, pages_first, began_first, others_first}
 use Rattle.program_steps.proofs.Laws.{tables_going}
 
 pub ring_kept : (m n : List ℕ) → ((b : ℕ) → 0x0142 ≤ b → b < 0x0400 → byte_at n b ≡ byte_at m b) → ring_of n ≡ ring_of m
 unfolding data_word_at
 ring_kept m n same = ap₂ (λ low high. low + 256 * high) (same 0x0142 (omega arith) (omega arith)) (same 0x0143 (omega arith) (omega arith))
+
+-- where no operation was refused, none was outside the pool
+pub no_refusal : (refused : Option ℕ) (layout : Layout) → (refused ≢ None → ⊥) → IfSome refused (IsPool layout)
+no_refusal None layout never = tt
+no_refusal (Some page) layout never = absurd (never (λ none. let e : Some page ≡ None = none in cc))
 
 -- no operation on flash is tried in a step
 pub tried_on : (old new : Machine) → new.kernel.mote.flash ≡ old.kernel.mote.flash → new.torn ≡ None → IsGoing old → AreTried new
@@ -51,6 +57,7 @@ tried_on old new flash torn ready =
           let L : Memory → Type 0 = λ f. op ≤ f.ops → is_listed f.failing op ≡ true → old.end ≡ Some (ends.Flash op) in
           absurd (never (op, subst L (sym flash) (before.listed op from) to there));
       refused = λ some. absurd (never (before.refused (subst (λ (f : Memory). f.refused ≢ None) flash some)));
+      pool = no_refusal new.kernel.mote.flash.refused new.kernel.layout (λ some. never (before.refused (subst (λ (f : Memory). f.refused ≢ None) flash some)));
       torn = subst (λ t. IfSome t (λ torn. IsTorn new.kernel.layout new.kernel.mote.flash.words torn × HasFault new)) (sym torn) tt;
     }
 
@@ -153,12 +160,13 @@ most_owed (Some a) None n = omega arith
 most_owed None (Some b) n = omega arith
 most_owed None None n = omega arith
 
-arrivals_on : (n n' : Numbers) (owed owed' : Option Owed) → n'.pages ≡ n.pages → n'.ops ≡ n.ops → n'.steps ≡ n.steps + 1 → AreArrivals n (most_arrivals owed n.steps) → AreArrivals n' (most_arrivals owed' n'.steps)
-arrivals_on n n' owed owed' pages ops steps before =
+arrivals_on : (n n' : Numbers) (owed owed' : Option Owed) → n'.pages ≡ n.pages → n'.began ≡ n.began → n'.others ≡ n.others → n'.ops ≡ n.ops → n'.steps ≡ n.steps + 1 → AreArrivals n (most_arrivals owed n.steps) → AreArrivals n' (most_arrivals owed' n'.steps)
+arrivals_on n n' owed owed' pages began others ops steps before =
     let more : most_arrivals owed n.steps ≤ most_arrivals owed' n'.steps = subst (λ k. most_arrivals owed n.steps ≤ most_arrivals owed' k) (sym steps) (most_owed owed owed' n.steps) in
     let few = before.pages in
     let tried = before.ops in
-    record { pages = omega arith; ops = omega arith }
+    let room = before.few in
+    record { pages = omega arith; ops = omega arith; few = omega arith }
 
 -- the step that goes on
 pub ready_on : (old new : Machine) (law : StepLaw (links_at (state_of old)) (state_of old) old.at) (to : ℕ) (due : Bool) → IsGoing old → Taken old new law
@@ -176,6 +184,8 @@ ready_on old new law to due ready taken at crossings going where' count counted 
     let polls = ready.polls in
     let polls' = keeps.polls in
     let pages = ap (λ (k : Numbers). k.pages) taken.numbers ∙ pages_first law.first law.rest (numbers_of old) law.inner in
+    let began = ap (λ (k : Numbers). k.began) taken.numbers ∙ began_first law.first law.rest (numbers_of old) in
+    let others = ap (λ (k : Numbers). k.others) taken.numbers ∙ others_first law.first law.rest (numbers_of old) in
     record {
       order = order_on old new keeps torn pages ready;
       going = ap (λ (s : State). s.end) taken.state ∙ going;
@@ -190,7 +200,7 @@ ready_on old new law to due ready taken at crossings going where' count counted 
           (subst (W part old.kernel.layout old.kernel.mote.flash to) (sym taken.state)
           (subst (λ d. Reaches (links_at (state_of old)) to d law.end) (sym (due_reached new (links_at (state_of old)) to due law.end taken.state where')) where')))));
       counted = counted_same (numbers_of new) _ new.crossings _ new.kernel.quantum _ (count_in new) _ new.at to taken.numbers crossings keeps.quantum same at counted;
-      arrivals = arrivals_on (numbers_of old) (numbers_of new) old.owed new.owed pages (ap (λ (f : Memory). f.ops) keeps.flash) steps ready.arrivals;
+      arrivals = arrivals_on (numbers_of old) (numbers_of new) old.owed new.owed pages began others (ap (λ (f : Memory). f.ops) keeps.flash) steps ready.arrivals;
       polls = omega arith;
       fresh = λ on. fresh (sym (due_reached new (links_at (state_of old)) to due law.end taken.state where') ∙ on);
       exact = same ∙ exact_on old.kernel.quantum old.at to old.crossings (count_in old) (omega (arith, ready.some, ready.most)) ready.exact ∙ ap₂ (λ q c. q - c % q) (sym keeps.quantum) (sym crossings);

@@ -29,11 +29,11 @@ use Rattle.step_laws.specs.Links.{links_of}
 use Rattle.step_laws.specs.StepLaws.{tried_as, StepLaw, Outcome, GoesTo, StopsAt, Reaches, Keeps, crossings_over}
 use Rattle.kernel_entry.specs.Seen.{state_at, program}
 use Rattle.program_steps.specs.Machines.{Machine, state_of, numbers_of, flat_of}
-use Rattle.program_steps.specs.Ready.{count_in, IsGoing, IsQuiet, IsBounded, HasBounds}
+use Rattle.program_steps.specs.Ready.{count_in, IsGoing, IsQuiet, IsBounded, HasBounds, AreArrivals, most_arrivals}
 use Rattle.program_steps.specs.Loop.{is_small, Taken, Took, HasTaken}
 use Rattle.program_steps.specs.Stepping.{links_in, settled, HasSettled, HasStepped, StepWay, Stays, AreMadeAt, ends_in_arrive}
 use Rattle.program_steps.proofs.Told.{mapped_same}
-use Rattle.program_steps.proofs.Bounds.{steps_goes, pages_first, bounded_stop}
+use Rattle.program_steps.proofs.Bounds.{steps_goes, pages_first, began_first, others_first, most_owed, bounded_stop}
 use Rattle.program_steps.proofs.ReadyLaws.{ready_went, order_on, last_on}
 use Rattle.program_steps.proofs.Laws.{law_of, mapped_going}
 
@@ -127,6 +127,7 @@ went_by old mid line law to ready untaken torn took goes =
     (crossings_over old.at to old.crossings) ≡ (flat_of new).now = flat_same law.end.kernel mid.kernel to to (old.steps + 1) mid.steps
     (crossings_over old.at to old.crossings) (crossings_over mid.at to mid.crossings) (sym (ap (λ (s : State). s.kernel) took.taken.state)) refl
     (sym steps) (sym crossed) in
+    let on = ready_went old new law to _ ready taken refl crossed goes.going goes.reaches goes.count goes.unstopped goes.reset torn (fresh_by old.at to (count_in old) goes.wakes law.rest goes.fresh goes.reset) in
     record {
       moves = Plain true law.first ∷ law.rest;
       goes = record { walk = subst (λ s. Walk (state_of old) (Plain true law.first ∷ law.rest) s) (sym state) law.walk; told = law.lines ∙ ap (λ l. line_before l []) (sym took.written); numbers = took.taken.numbers };
@@ -136,13 +137,30 @@ went_by old mid line law to ready untaken torn took goes =
       stays = stays_by old new (subst (Keeps (state_of old)) (sym state) law.keeps);
       broken = took.broken;
       flash = ap (λ (s : State). (mote_of s).flash) took.taken.state ∙ law.keeps.flash;
-      way = StepWay.On (ready_went old new law to _ ready taken refl crossed goes.going goes.reaches goes.count goes.unstopped goes.reset torn (fresh_by old.at to (count_in old) goes.wakes law.rest goes.fresh goes.reset)) (λ free. ap (λ o. is_some o && mid.due) free) steps
+      arrivals = on.arrivals;
+      way = StepWay.On on (λ free. ap (λ o. is_some o && mid.due) free) steps
           (next_as old new line goes.wakes ready untaken (λ w. took.written ∙ goes.silent w) (goes.original old.steps old.crossings ∙ ap₂ (tried_as goes.wakes) (sym took.written) same) crossed due);
     }
 
 bounded_to : (m : Machine) (n : Numbers) (c q : ℕ) → numbers_of m ≡ n → m.crossings ≡ c → m.kernel.quantum ≡ q → IsBounded n c q m.kernel.mote.devices.polls → HasBounds m
 bounded_to m n c q numbers crossings quantum bounded =
     subst (λ x. IsBounded x m.crossings m.kernel.quantum m.kernel.mote.devices.polls) (sym numbers) (subst (λ x. IsBounded n x m.kernel.quantum m.kernel.mote.devices.polls) (sym crossings) (subst (λ x. IsBounded n c x m.kernel.mote.devices.polls) (sym quantum) bounded))
+
+-- a step that stops makes no page, and is none
+arrivals_stopped : (old mid : Machine) (law : StepLaw (links_in old) (state_of old) old.at) → IsGoing old → numbers_of mid ≡ numbered (Plain true law.first ∷ law.rest) (numbers_of old) → mid.steps ≡ old.steps → mid.owed ≡ None → Keeps (state_of old) (state_of mid)
+    → AreArrivals (numbers_of mid) (most_arrivals mid.owed mid.steps)
+arrivals_stopped old mid law ready is steps free keeps =
+    let n = numbers_of old in
+    let before = ready.arrivals in
+    let pages : mid.pages ≡ old.pages = ap (λ (k : Numbers). k.pages) is ∙ pages_first law.first law.rest n law.inner in
+    let began : mid.began ≡ old.began = ap (λ (k : Numbers). k.began) is ∙ began_first law.first law.rest n in
+    let others : mid.others ≡ old.others = ap (λ (k : Numbers). k.others) is ∙ others_first law.first law.rest n in
+    let ops : mid.kernel.mote.flash.ops ≡ old.kernel.mote.flash.ops = ap (λ (f : Memory). f.ops) keeps.flash in
+    let most = most_owed old.owed old.steps in
+    let made = before.pages in
+    let tried = before.ops in
+    let few = before.few in
+    subst (λ o. AreArrivals (numbers_of mid) (most_arrivals o mid.steps)) (sym free) (record { pages = omega arith; ops = omega arith; few = omega arith })
 
 -- the step that stops the program
 stopped_by : (old mid : Machine) (line : Option Line) (law : StepLaw (links_in old) (state_of old) old.at) (stop : Stop) → IsGoing old → is_taken (flat_of old) ≡ false → mid.torn ≡ old.torn → Took old mid line law → StopsAt (state_of old) old.at law.line law.rest stop law.end → HasStepped old mid line
@@ -159,6 +177,7 @@ stopped_by old mid line law stop ready untaken torn took stops =
       stays = stays_by old mid keeps;
       broken = took.broken;
       flash = ap (λ (s : State). (mote_of s).flash) took.taken.state ∙ law.keeps.flash;
+      arrivals = arrivals_stopped old mid law ready took.taken.numbers steps (free_of mid (ap (λ (s : State). s.owed) took.taken.state ∙ stops.free)) keeps;
       way = StepWay.Stopped stop (record {
         order = order_on old mid keeps torn (ap (λ (k : Numbers). k.pages) took.taken.numbers ∙ pages_first law.first law.rest (numbers_of old) law.inner) ready;
         bounded = bounded_to mid (numbered (Plain true law.first ∷ law.rest) (numbers_of old)) old.crossings old.kernel.quantum took.taken.numbers took.crossings keeps.quantum

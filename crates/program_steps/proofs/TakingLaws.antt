@@ -1,6 +1,6 @@
 -- An interrupt that is taken is a step of the program.
 use Rattle.std.proofs.Common.{◌≡◌, ℕ, ◌+◌, ◌<◌, Bool, true, false, [], ◌∷◌, length, refl, sym, ap, ap₂, ◌∙◌, arith, subst}
-use Rattle.std.specs.Prelude.{◌^◌, ◌&&◌, ◌-◌, ◌%◌, is_some, min, List, Some, None, Option}
+use Rattle.std.specs.Prelude.{◌^◌, ◌&&◌, ◌-◌, ◌%◌, is_some, min, Some, None, Option}
 use Rattle.mem_guard.specs.FlatMachine.{is_own}
 use Rattle.mem_guard.specs.declared.part.Part.{Part}
 use Rattle.nat_page.specs.Parts.{IsParted}
@@ -134,6 +134,7 @@ going_taken m v k fresh same ready =
     let most = most_steps m.owed m.steps in
     let pages = ready.arrivals.pages in
     let ops = ready.arrivals.ops in
+    let few = ready.arrivals.few in
     record {
       order = order_taken m v k same ready;
       going = ready.going;
@@ -143,7 +144,7 @@ going_taken m v k fresh same ready =
       most = omega (arith, same.count, ready.most, same.quantum);
       stands = Reaches.Owing None (λ e. absurd (cc)) refl tt;
       counted = record { natural = omega arith; entries = omega arith; since = c; longest = d; crossed = omega arith; within = omega arith; most = omega (arith, same.quantum) };
-      arrivals = record { pages = omega arith; ops = omega (arith, ap (λ (f : Memory). f.ops) same.flash) };
+      arrivals = record { pages = omega arith; ops = omega (arith, ap (λ (f : Memory). f.ops) same.flash); few = few };
       polls = omega (arith, same.polls);
       exact = same.count ∙ ready.exact ∙ ap (λ q. q - m.crossings % q) (sym same.quantum);
       fresh = λ e. fresh;
@@ -164,6 +165,7 @@ taken_vector m owed v k ready owes few wanted is =
     let same = interrupt_keeps m.kernel owed.target v k w.on w.some ready.order.paged (sym is) in
     let fresh : m.since ≡ 0 = ready.fresh (ap₂ (λ o d. is_some o && d) owes w.due) in
     let at = owed_at m owed ready owes in
+    let goes = going_taken m v k fresh same ready in
     let on : next_of (program m.kernel) (record { now = state_at m.kernel owed.target m.steps m.crossings; due = true }) ≡ flat_ends.On None (record { now = state_at k v (m.steps + 1) m.crossings; due = false }) =
     subst (AsTaken m.kernel owed.target) (sym is) (interrupt_taken m.kernel owed.target w.on w.some ready.order.paged) m.steps m.crossings in
     record {
@@ -180,7 +182,8 @@ taken_vector m owed v k ready owes few wanted is =
       };
       broken = refl;
       flash = same.flash;
-      way = StepWay.On (going_taken m v k fresh same ready) (λ free. absurd (cc)) refl
+      arrivals = goes.arrivals;
+      way = StepWay.On goes (λ free. absurd (cc)) refl
           (ap₂ (λ a d. next_of (program m.kernel) (record { now = state_at m.kernel a m.steps m.crossings; due = d })) (sym at) w.due ∙ on);
     }
 
@@ -203,6 +206,7 @@ taken_stopped m owed stop k ready owes few wanted is =
       stays = record { program = refl; layout = refl; quantum = refl; failing = refl };
       broken = refl;
       flash = refl;
+      arrivals = ready.arrivals;
       way = StepWay.Stopped stop (record {
         order = record {
           layout = ready.order.layout;

@@ -12,7 +12,6 @@ use Rattle.kernel_entry.specs.declared.kernel.Kernel.{Kernel}
 use Rattle.kernel_entry.specs.declared.kernel.Served.{Served}
 use Rattle.kernel_entry.specs.Services.{served, is_due}
 use Rattle.branch_bridge.specs.declared.rewriting.Torn.{Torn}
-use Rattle.step_laws.specs.declared.moves.Owed.{Owed}
 use Rattle.step_laws.specs.declared.moves.End.{End}
 use Rattle.step_laws.specs.Moves.{Move, Plain as PlainMove, Serve, Arrive, Take}
 use Rattle.step_laws.specs.Numbers.{Numbers, moved, one_if}

@@ -44,7 +44,7 @@ order_due m d order = record {
   quantum = order.quantum;
   pages = order.pages;
   ring = order.ring;
-  tried = record { listed = order.tried.listed; refused = order.tried.refused; torn = order.tried.torn };
+  tried = record { listed = order.tried.listed; refused = order.tried.refused; pool = order.tried.pool; torn = order.tried.torn };
 }
 
 pub going_undue : (m : Machine) → IsGoing m → m.owed ≡ None → IsGoing (undue m)
@@ -82,6 +82,7 @@ step_on m z line free untaken going step = record {
   stays = record { program = step.stays.program; layout = step.stays.layout; quantum = step.stays.quantum; failing = step.stays.failing };
   broken = step.broken;
   flash = step.flash;
+  arrivals = step.arrivals;
   way = way_on m z line untaken going step.way;
 }
 
@@ -106,6 +107,7 @@ step_over m z line free untaken ended nothing step = record {
   stays = record { program = step.stays.program; layout = step.stays.layout; quantum = step.stays.quantum; failing = step.stays.failing };
   broken = step.broken;
   flash = step.flash;
+  arrivals = step.arrivals;
   way = way_over m z line untaken ended step.way;
 }
 

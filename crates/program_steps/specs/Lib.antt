@@ -6,3 +6,4 @@ pub mod Loop
 pub mod Interrupts
 pub mod Stepping
 pub mod Several
+pub mod Waiting

@@ -9,7 +9,7 @@ use Rattle.step_laws.specs.Numbers.{Numbers}
 use Rattle.step_laws.specs.States.{Awaited, State}
 use Rattle.kernel_entry.specs.Seen.{state_at}
 
--- the fields of the type `Machine`
+-- the fields of the type `Machine`, and how many arrivals other programs on the same mote may have made
 pub record Machine : Type 0 where
   pub kernel : Kernel
   pub at : ℕ
@@ -25,6 +25,8 @@ pub record Machine : Type 0 where
   pub pages : ℕ
   pub since : ℕ
   pub longest : ℕ
+  pub began : ℕ
+  pub others : ℕ
 
 -- the arrival that is owed, and whether an interrupt is due at it
 abbrev pub awaited : Option Owed → Bool → Option Awaited
@@ -40,7 +42,7 @@ abbrev pub awaits : Machine → Bool
 awaits m = is_some m.owed && m.due
 
 abbrev pub numbers_of : Machine → Numbers
-numbers_of m = record { steps = m.steps; natural = m.natural; entries = m.entries; pages = m.pages; since = m.since; longest = m.longest; ops = m.kernel.mote.flash.ops }
+numbers_of m = record { steps = m.steps; natural = m.natural; entries = m.entries; pages = m.pages; since = m.since; longest = m.longest; began = m.began; others = m.others; ops = m.kernel.mote.flash.ops }
 
 -- the state of the original program that it stands for
 abbrev pub flat_of : Machine → Moment

@@ -5,6 +5,7 @@ use Rattle.sram_layout.specs.Cells.{vsp_cell, kernel_stack_top}
 use Rattle.heap_frames.specs.Paged.{IsPaged}
 use Rattle.flash_model.specs.Layouts.{IsRight, layout_of}
 use Rattle.flash_model.specs.Memory.{IsWhole}
+use Rattle.page_index.specs.Maps.{IsPool}
 use Rattle.nat_page.specs.Faithful.{IsFaithful}
 use Rattle.nat_page.specs.Used.{used_pages}
 use Rattle.nat_page.specs.Parts.{IsParted}
@@ -36,10 +37,11 @@ abbrev pub HasFault : Machine → Type 0
 HasFault m = (op : ℕ) × (m.end ≡ Some (ends.Flash op))
 
 -- Of the operations on flash that were tried, none is listed to fail and none was refused, but for the last of a
--- run that this ended. Only then a page may be torn.
+-- run that this ended; it concerns a page of the pool. Only then a page may be torn.
 pub record AreTried (m : Machine) : Type 0 where
   pub listed : (op : ℕ) → 1 ≤ op → op ≤ m.kernel.mote.flash.ops → is_listed m.kernel.mote.flash.failing op ≡ true → m.end ≡ Some (ends.Flash op)
   pub refused : m.kernel.mote.flash.refused ≢ None → HasFault m
+  pub pool : IfSome m.kernel.mote.flash.refused (IsPool m.kernel.layout)
   pub torn : IfSome m.torn (λ torn. IsTorn m.kernel.layout m.kernel.mote.flash.words torn × HasFault m)
 
 -- The program's part is all of the image; or, where it is shut, a quarter that lies in the image.
@@ -67,7 +69,8 @@ pub record IsInOrder (m : Machine) : Type 0 where
   pub tried : AreTried m
 
 -- How far the numbers go, also in a machine that stopped in the midst of a step. No more than 5120 plain
--- steps for each crossing of a quantum run without a service, and no arrival tries more than 1,000 operations.
+-- steps for each crossing of a quantum run without a service, and no arrival, also of other programs on the same mote, tries
+-- more than 1,000 operations.
 pub record IsBounded (n : Numbers) (crossings quantum polled : ℕ) : Type 0 where
   pub natural : n.natural ≤ 40 * (n.steps + 1)
   pub entries : n.entries ≤ 2 * (n.steps + 1)
@@ -76,8 +79,8 @@ pub record IsBounded (n : Numbers) (crossings quantum polled : ℕ) : Type 0 whe
   pub crossed : crossings ≤ n.steps
   pub most : n.longest ≤ 5120 * quantum
   pub polls : polled ≤ n.steps + (2 ^ 32 + 1)
-  pub pages : n.pages ≤ n.steps + 1
-  pub ops : n.ops ≤ 1000 * (n.steps + 1)
+  pub pages : n.pages ≤ n.began + n.others + n.steps + 1
+  pub ops : n.ops ≤ 1000 * (n.others + n.steps + 1)
 
 abbrev pub HasBounds : Machine → Type 0
 HasBounds m = IsBounded (numbers_of m) m.crossings m.kernel.quantum m.kernel.mote.devices.polls
@@ -107,10 +110,12 @@ abbrev pub most_arrivals : Option Owed → ℕ → ℕ
 most_arrivals (Some owed) steps = steps
 most_arrivals None steps = steps + 1
 
--- each makes one page at most, and tries at most 1,000 operations on flash
+-- Each, and each of other programs on the same mote, makes one page at most, beside those of the beginning, and tries at
+-- most 1,000 operations on flash.
 pub record AreArrivals (n : Numbers) (most : ℕ) : Type 0 where
-  pub pages : n.pages ≤ most
-  pub ops : n.ops ≤ 1000 * most
+  pub pages : n.pages ≤ n.began + n.others + most
+  pub ops : n.ops ≤ 1000 * (n.others + most)
+  pub few : n.began + n.others ≤ 10 ^ 13
 
 -- COUNT is what the crossings leave of the quantum
 abbrev pub IsExact : Machine → Type 0

@@ -15,7 +15,7 @@ use Rattle.step_laws.specs.Links.{Links}
 use Rattle.step_laws.specs.StepLaws.{Reaches, links_at, crossings_over}
 use Rattle.kernel_entry.specs.Seen.{program as program_of, end_of}
 use Rattle.program_steps.specs.Machines.{Machine, state_of, numbers_of, flat_of, awaits}
-use Rattle.program_steps.specs.Ready.{IsGoing, IsQuiet, IsEnded}
+use Rattle.program_steps.specs.Ready.{IsGoing, IsQuiet, IsEnded, AreArrivals, most_arrivals}
 
 -- the text of device lines, one after another
 abbrev pub lines_text : List Line → List ℕ
@@ -83,6 +83,7 @@ pub record HasStepped (old new : Machine) (line : Option Line) : Type 0 where
   pub stays : Stays old new
   pub broken : new.broken ≡ old.broken
   pub flash : new.kernel.mote.flash ≡ old.kernel.mote.flash
+  pub arrivals : AreArrivals (numbers_of new) (most_arrivals new.owed new.steps)
   pub way : StepWay old new line
 
 -- the operation of this number is the last that was tried; it was to fail, and was refused

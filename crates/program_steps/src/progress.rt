@@ -24,6 +24,10 @@ pub struct Progress {
     pub pages: u64,
     pub since: u64,
     pub longest: u64,
+    /// How many of `pages` there were when the run began.
+    pub began: u64,
+    /// How many arrivals other programs on the same mote may have made.
+    pub others: u64,
     /// The device line of the step, once one was written.
     pub line: Option<Line>,
 }

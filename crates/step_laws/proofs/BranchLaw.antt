@@ -8,8 +8,8 @@ use Rattle.avr_isa.specs.declared.form.Form.{Form}
 use Rattle.avr_isa.specs.declared.form.Form.TheVariants as forms
 use Rattle.avr_isa.specs.IoTable.{can_read, can_write, io_address}
 use Rattle.avr_decode.specs.Decoding.{the_form}
-use Rattle.avr_decode.proofs.Decoded.{the_form_only, valid_at}
-use Rattle.avr_decode.proofs.Lengths.{the_form-size}
+use Rattle.decode_laws.proofs.Decoded.{the_form_only, valid_at}
+use Rattle.decode_laws.proofs.Lengths.{the_form-size}
 use Rattle.avr_flags.specs.Status.{has_bit}
 use Rattle.avr_exec.specs.declared.ask.Ask.TheVariants as asks
 use Rattle.avr_exec.specs.declared.answer.Answer.TheVariants.{Done}

@@ -5,7 +5,7 @@ use Rattle.std.specs.Prelude.{Option, Some, None}
 use Rattle.avr_isa.specs.Image.{word}
 use Rattle.avr_flags.specs.Status.{has_bit, interrupts}
 use Rattle.avr_exec.specs.Registers.{wrapping_sum}
-use Rattle.avr_decode.proofs.Decoded.{valid_at}
+use Rattle.decode_laws.proofs.Decoded.{valid_at}
 use Rattle.avr_decode.specs.Program.{instruction_at}
 use Rattle.sram_layout.specs.Bytes.{byte_at}
 use Rattle.mote_devices.specs.State.{State as Devices}

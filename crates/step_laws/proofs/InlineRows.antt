@@ -5,7 +5,7 @@ use Rattle.std.proofs.lemmas.List.{length-append}
 use Rattle.avr_isa.specs.declared.form.Form.{Form}
 use Rattle.avr_isa.specs.Encoding.{first_word, second_word, IsRow}
 use Rattle.avr_isa.specs.Instruction.{is_valid}
-use Rattle.avr_decode.proofs.Decoded.{the_form_only}
+use Rattle.decode_laws.proofs.Decoded.{the_form_only}
 use Rattle.avr_exec.specs.Registers.{wrapping_sum}
 use Rattle.flash_model.specs.Pages.{word_at}
 use Rattle.nat_template.specs.declared.piece.Piece.{Piece}

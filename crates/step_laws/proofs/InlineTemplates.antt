@@ -25,7 +25,7 @@ use Rattle.step_laws.specs.Links.{Links}
 use Rattle.step_laws.specs.StepLaws.{StepLaw}
 use Rattle.step_laws.specs.States.{State, mote_of}
 use Rattle.step_laws.proofs.CodeLaws.{image_words}
-use Rattle.avr_decode.proofs.Decoded.{valid_at}
+use Rattle.decode_laws.proofs.Decoded.{valid_at}
 use Rattle.step_laws.proofs.InlineForms.{other_than_z, push_valid, pop_valid, frame_load_valid, frame_store_valid}
 use Rattle.step_laws.proofs.InlineRows.{inline_row}
 use Rattle.step_laws.proofs.InlineSeen.{push_executed, pop_executed, load_executed, store_executed}

@@ -29,7 +29,7 @@ use Rattle.step_laws.proofs.Onward.{onward}
 use Rattle.step_laws.proofs.Executed.{straight_next, executed_at, returned}
 use Rattle.step_laws.proofs.Stretches.{stretch_of}
 use Rattle.nat_template.proofs.Sizes.{stub_bound, template_size}
-use Rattle.avr_decode.proofs.Lengths.{the_form-size}
+use Rattle.decode_laws.proofs.Lengths.{the_form-size}
 use Rattle.avr_isa.proofs.Laws.{size_of-range}
 use Rattle.nat_template.specs.Shapes.{shape_of, shape_of_form}
 use Rattle.nat_template.specs.Templates.{template_by, mem_pieces}

@@ -25,7 +25,7 @@ use Rattle.mote_core.specs.Conditions.{can_step, is_device_ask}
 use Rattle.mote_core.specs.Shown.{line_shown}
 use Rattle.mote_core.specs.Step.{space_of, stepped, IsPlainStep, next_size as mote_next_size, form_at as form_at_mote}
 use Rattle.avr_decode.specs.Decoding.{the_form, is_long}
-use Rattle.avr_decode.proofs.Lengths.{the_form-second, the_form-size}
+use Rattle.decode_laws.proofs.Lengths.{the_form-second, the_form-size}
 use Rattle.avr_flags.specs.Status.{has_bit, interrupts}
 use Rattle.flash_model.specs.Pages.{word_at}
 use Rattle.heap_frames.specs.Frames.{pages}

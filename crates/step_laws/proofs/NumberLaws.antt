@@ -65,3 +65,21 @@ ops_inner (Plain false line ∷ moves) n inner = ops_inner moves (moved (Plain f
 ops_inner (Serve line stops ∷ moves) n inner = ops_inner moves (moved (Serve line stops) n) inner
 ops_inner (Arrive target made ops ∷ moves) n inner = absurd (cc)
 ops_inner (Take stops ∷ moves) n inner = absurd (cc)
+
+-- no move changes how many pages there were at the beginning
+pub began_is : (moves : List Move) (n : Numbers) → (numbered moves n).began ≡ n.began
+unfolding moved
+began_is [] n = refl
+began_is (Plain begins line ∷ moves) n = began_is moves (moved (Plain begins line) n)
+began_is (Serve line stops ∷ moves) n = began_is moves (moved (Serve line stops) n)
+began_is (Arrive target made ops ∷ moves) n = began_is moves (moved (Arrive target made ops) n)
+began_is (Take stops ∷ moves) n = began_is moves (moved (Take stops) n)
+
+-- nor how many arrivals others may have made
+pub others_is : (moves : List Move) (n : Numbers) → (numbered moves n).others ≡ n.others
+unfolding moved
+others_is [] n = refl
+others_is (Plain begins line ∷ moves) n = others_is moves (moved (Plain begins line) n)
+others_is (Serve line stops ∷ moves) n = others_is moves (moved (Serve line stops) n)
+others_is (Arrive target made ops ∷ moves) n = others_is moves (moved (Arrive target made ops) n)
+others_is (Take stops ∷ moves) n = others_is moves (moved (Take stops) n)

@@ -7,7 +7,7 @@ use Rattle.avr_isa.specs.Image.{word}
 use Rattle.avr_isa.specs.Instruction.{size_of}
 use Rattle.avr_isa.specs.declared.form.Form.{Form}
 use Rattle.avr_decode.specs.Decoding.{the_form, is_long, size_by_first_word}
-use Rattle.avr_decode.proofs.Lengths.{the_form-second, the_form-size}
+use Rattle.decode_laws.proofs.Lengths.{the_form-second, the_form-size}
 use Rattle.avr_flags.specs.Status.{has_bit, interrupts}
 use Rattle.avr_exec.specs.declared.cpu.Cpu.{Cpu}
 use Rattle.avr_exec.specs.Registers.{wrapping_sum}
@@ -39,7 +39,7 @@ use Rattle.step_laws.proofs.SkipForms.{Skips, skip_form}
 use Rattle.step_laws.specs.States.{State}
 use Rattle.step_laws.proofs.ForkLaw.{fork_law}
 use Rattle.step_laws.proofs.CodeLaws.{form_of_shape, one_by, setting_short, image_words}
-use Rattle.avr_decode.proofs.Decoded.{valid_at}
+use Rattle.decode_laws.proofs.Decoded.{valid_at}
 use Rattle.avr_decode.specs.Program.{instruction_at}
 use Rattle.step_laws.proofs.Stretches.{stretch_of}
 use Rattle.kernel_entry.specs.Parts.{core_of, memory_of, image_held}

@@ -7,7 +7,7 @@ use Rattle.step_laws.specs.Moves.{Move, Plain, Serve, Arrive, lines_of, plains}
 use Rattle.step_laws.specs.Numbers.{Numbers, moved, numbered}
 
 abbrev nothing : Numbers
-nothing = record { steps = 0; natural = 0; entries = 0; pages = 0; since = 0; longest = 0; ops = 0 }
+nothing = record { steps = 0; natural = 0; entries = 0; pages = 0; since = 0; longest = 0; began = 0; others = 0; ops = 0 }
 
 -- LDI r16, 15; OUT PORTA, r16; RJMP to itself (E00F BB0B CFFF): one page, and the jump calls the kernel
 abbrev fifteen : Line
@@ -16,7 +16,7 @@ fifteen = record { port = PortA; value = 15 }
 abbrev first_program : List Move
 first_program = Arrive 0 true 1 ∷ Plain true None ∷ Plain true (Some fifteen) ∷ Plain true None ∷ Serve None true ∷ []
 
-first_numbers : numbered first_program nothing ≡ record { steps = 2; natural = 3; entries = 1; pages = 1; since = 0; longest = 3; ops = 1 }
+first_numbers : numbered first_program nothing ≡ record { steps = 2; natural = 3; entries = 1; pages = 1; since = 0; longest = 3; began = 0; others = 0; ops = 1 }
 unfolding moved
 first_numbers = refl
 
@@ -35,6 +35,6 @@ by_the_jump = Plain true None ∷ Plain true None ∷ plains 11
 abbrev countdown : List Move
 countdown = Arrive 0 true 1 ∷ Plain true None ∷ over_the_bridge ++ (by_the_jump ++ (Plain true None ∷ Plain true None ∷ Plain false None ∷ Plain true None ∷ Serve None true ∷ []))
 
-countdown_numbers : numbered countdown nothing ≡ record { steps = 7; natural = 31; entries = 2; pages = 1; since = 0; longest = 17; ops = 3 }
+countdown_numbers : numbered countdown nothing ≡ record { steps = 7; natural = 31; entries = 2; pages = 1; since = 0; longest = 17; began = 0; others = 0; ops = 3 }
 unfolding moved
 countdown_numbers = refl

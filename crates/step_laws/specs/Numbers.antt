@@ -3,7 +3,8 @@ use Rattle.std.specs.Prelude.{ℕ, ◌+◌, ◌-◌, max, not, Bool, if◌then�
 use Rattle.step_laws.specs.Moves.{Move, Plain, Serve, Arrive, Take}
 
 -- steps of the original program; plain steps; services; pages made; plain steps since the last service;
--- the most plain steps without a service between them; and operations on flash that were tried
+-- the most plain steps without a service between them; pages that were there at the beginning, and arrivals that other
+-- programs on the same mote may have made, both of which no move changes; and operations on flash that were tried
 pub record Numbers : Type 0 where
   pub steps : ℕ
   pub natural : ℕ
@@ -11,6 +12,8 @@ pub record Numbers : Type 0 where
   pub pages : ℕ
   pub since : ℕ
   pub longest : ℕ
+  pub began : ℕ
+  pub others : ℕ
   pub ops : ℕ
 
 abbrev pub one_if : Bool → ℕ

@@ -1,10 +1,8 @@
 -- The acts of a walk, and what each of them is.
-use Rattle.std.proofs.Common.{◌≡◌, ◌≢◌, ℕ, ◌+◌, ◌*◌, ◌/◌, ◌<◌, ◌≤◌, Bool, true, false, ◌%◌, ◌-◌, slice_index, nat_le, if◌then◌else◌, cond, List, [], ◌∷◌, ◌++◌, length, Option, Some, None, refl, sym, ap, ap₂, ◌∙◌, subst, arith, inl, inr, ◌⊎◌}
+use Rattle.std.proofs.Common.{◌≡◌, ◌≢◌, ℕ, ◌+◌, ◌*◌, ◌/◌, ◌≤◌, Bool, true, false, ◌%◌, ◌-◌, slice_index, nat_le, if◌then◌else◌, cond, List, [], ◌∷◌, length, Option, Some, None, refl, sym, ap, ◌∙◌, subst, arith}
 use Rattle.sram_layout.specs.Bytes.{byte_at, with_byte}
 use Rattle.flash_model.specs.declared.layout.Layout.{Layout}
 use Rattle.flash_model.specs.Layouts.{layout_of}
-use Rattle.flash_model.specs.Memory.{loaded}
-use Rattle.list_parts.specs.Lists.{many}
 use Rattle.mote_devices.specs.declared.line.Line.{Line}
 use Rattle.mote_core.specs.declared.mote.Mote.{Mote}
 use Rattle.mote_core.specs.QuietSteps.{BelowStack, AboveStack}
@@ -27,8 +25,8 @@ use Rattle.kernel_entry.specs.Left.{Leaves, LeavesHeap}
 use Rattle.kernel_entry.proofs.ServedLaws.{served_leaves, served_leaves_heap}
 use Rattle.step_laws.proofs.ServiceMoves.{kernel_served}
 use Rattle.step_laws.specs.Moves.{Move, Plain, Serve, Arrive, Take}
-use Rattle.step_laws.specs.Numbers.{Numbers, one_if}
-use Rattle.step_laws.specs.States.{State, mote_of, store_of, after_service, after_taking}
+use Rattle.step_laws.specs.Numbers.{one_if}
+use Rattle.step_laws.specs.States.{State, mote_of, after_taking}
 use Rattle.step_laws.specs.Walks.{Walk, MakesPlain, MakesServe, MakesArrive, MakesTake}
 use Rattle.program_steps.proofs.Arrived.{after_arrived}
 use Rattle.theorem_reader.specs.Acts.{Act, Step, Service, Arrival, Interrupt, IsStep, IsService, IsArrival, IsInterrupt, Follow, pool_from}

@@ -1,28 +1,30 @@
 -- What is answered, in lists and numbers.
-use Rattle.std.proofs.Common.{◌≡◌, ◌≢◌, ℕ, ◌+◌, ◌*◌, ◌≤◌, ◌<◌, ◌^◌, ◌/◌, Bool, true, false, List, [], ◌∷◌, ◌++◌, length, Option, Some, None, refl, sym, ap, ◌∙◌, subst, arith, zero-add, inl, inr, ◌⊎◌}
+use Rattle.std.proofs.Common.{◌≡◌, ℕ, ◌+◌, ◌*◌, ◌≤◌, true, false, List, [], ◌++◌, Option, Some, None, refl, sym, ap, ◌∙◌, subst, arith, zero-add, inl, inr}
 use Rattle.std.specs.Io.KnownBytes.{Appends}
 use Rattle.tk_io.specs.Faults.{Rose}
 use Rattle.sram_layout.specs.Bytes.{byte_at, data_word_at}
 use Rattle.list_parts.specs.Lists.{many}
-use Rattle.flash_model.specs.Memory.{loaded}
+use Rattle.flash_model.specs.Memory.{Memory, loaded, new_flash}
 use Rattle.input_script.specs.Script.{Schedule}
-use Rattle.mem_guard.specs.FlatMachine.{Moment, Run}
+use Rattle.mem_guard.specs.FlatMachine.{Moment}
 use Rattle.step_laws.specs.Numbers.{Numbers}
-use Rattle.step_laws.specs.States.{mote_of}
-use Rattle.program_steps.specs.Machines.{Machine, state_of, numbers_of}
-use Rattle.tk_run.specs.Booted.{booted}
-use Rattle.tk_run.specs.WholeRuns.{Path}
+use Rattle.mote_core.specs.declared.mote.Mote.{Mote}
+use Rattle.mote_devices.specs.declared.line.Line.{Line}
+use Rattle.program_steps.specs.Machines.{Machine, state_of, numbers_of, flat_of}
+use Rattle.program_steps.specs.Ready.{IsReady}
+use Rattle.step_laws.specs.Numbers.{Numbers}
+use Rattle.step_laws.proofs.NumberLaws.{others_is}
+use Rattle.tk_run.specs.Booted.{started}
+use Rattle.tk_run.specs.Running.{Leads}
 use Rattle.tkernel_cli.specs.declared.command.Command.TheVariants.{Run as RunCommand}
 use Rattle.tkernel_cli.specs.declared.status.Status.{Status}
-use Rattle.tkernel_cli.specs.declared.status.Status.TheVariants as status
 use Rattle.tkernel_cli.specs.declared.top.Exit.{Exit}
 use Rattle.tkernel_cli.specs.Status.{number_of}
 use Rattle.tkernel_cli.specs.Reading.{Good}
-use Rattle.tkernel_cli.specs.Runs.{Stream, Says, Runs, RunsToTheEnd, RunsIntoAFault, HasRun, Follows, status_of_end}
-use Rattle.tkernel_cli.specs.Runs as whole
-use Rattle.tkernel_cli.specs.Answer.{IsExact, IsWarranted}
-use Rattle.theorem_reader.specs.Acts.{HasActs, IsBoot, pool_from, Act}
-use Rattle.theorem_reader.specs.Runs.{Asked, Asks, original_of, Stands, EndsWell, EndsInAFault, ToTheEnd, IntoAFault, IsRun, NoMemory, Ended, Failed, text_of}
+use Rattle.tkernel_cli.specs.Runs.{Stream, Says, Runs, RunsToTheEnd, RunsIntoAFault, Follows}
+use Rattle.tkernel_cli.specs.Answer.{IsExact}
+use Rattle.theorem_reader.specs.Acts.{HasActs, IsBoot, pool_from, tried_in}
+use Rattle.theorem_reader.specs.Runs.{Asked, Asks, original_of, StandsFrom, Stands, EndsWell, EndsInAFault, IsRun, NoMemory, Ended, Failed}
 use Rattle.theorem_reader.specs.Memory.{HasMemory}
 use Rattle.theorem_reader.proofs.Holding.{has_memory}
 use Rattle.theorem_reader.proofs.Acting.{acts_of, follow, pool_begins}
@@ -32,31 +34,31 @@ use Rattle.theorem_reader.proofs.SameTexts.{ended_same, failed_same, status_same
 abbrev pub script_of : Asked → Schedule
 script_of asked = record { events = asked.events; failing = asked.failing }
 
-abbrev boot_of : Asked → Machine
-boot_of asked = booted asked.image (script_of asked) asked.quantum asked.slots
+-- a machine that has done nothing yet, over a flash whose pool has so many pages
+abbrev pub start_of : Asked → Memory → (pages : ℕ) → Machine
+start_of asked flash pages = started asked.image flash (script_of asked) asked.quantum asked.slots pages
 
-is_boot : (asked : Asked) → IsBoot asked.image (boot_of asked).kernel.mote
+is_boot : (asked : Asked) → IsBoot asked.image (start_of asked (new_flash asked.image asked.failing) 0).kernel.mote
 unfolding loaded many
 is_boot asked = record { words = refl; ops = refl }
 
-has_acts : (asked : Asked) (n : ℕ) (m : Machine) → Follows (record { image = asked.image; script = script_of asked; options = record { steps = asked.steps; quantum = asked.quantum; swap = asked.slots } }) n m → HasActs asked.image asked.quantum m.natural m.entries m.pages m.end m.kernel.mote
-has_acts asked n m follows =
-    let path = follows.path in
-    let x = state_of (boot_of asked) in
+has_acts : (IsFirst : Mote → Type 0) (asked : Asked) (flash : Memory) (pages : ℕ) (lines : List Line) (m : Machine) → IsFirst (start_of asked flash pages).kernel.mote → flash.ops ≡ 0
+    → Leads (start_of asked flash pages) lines m → m.longest ≤ 5120 * asked.quantum → HasActs IsFirst pages asked.image asked.quantum m.natural m.entries m.pages m.end m.kernel.mote
+has_acts IsFirst asked flash pages lines m begins untried path bound =
+    let x = state_of (start_of asked flash pages) in
     let moves = path.moves in
     let walk = path.goes.walk in
-    let counts = numbers_of (boot_of asked) in
+    let counts = numbers_of (start_of asked flash pages) in
     let acts = acts_of x moves (state_of m) walk in
-    let bound : m.longest ≤ 5120 * asked.quantum = subst (λ q. m.longest ≤ 5120 * q) follows.quantum follows.longest in
     record {
       acts = acts;
-      first = (boot_of asked).kernel.mote;
-      boot = is_boot asked;
+      first = (start_of asked flash pages).kernel.mote;
+      begins = begins;
       follow = follow (pool_from asked.image) x moves (state_of m) walk (pool_begins asked.image);
       natural_is = ap (λ (k : Numbers). k.natural) path.goes.numbers ∙ natural_of x moves (state_of m) walk counts ∙ zero-add (_);
       entries_is = ap (λ (k : Numbers). k.entries) path.goes.numbers ∙ entries_of x moves (state_of m) walk counts ∙ zero-add (_);
-      pages_is = ap (λ (k : Numbers). k.pages) path.goes.numbers ∙ pages_of x moves (state_of m) walk counts ∙ zero-add (_);
-      tried = ap (λ (k : Numbers). k.ops) path.goes.numbers ∙ ops_of x moves (state_of m) walk counts ∙ zero-add (_);
+      pages_is = ap (λ (k : Numbers). k.pages) path.goes.numbers ∙ pages_of x moves (state_of m) walk counts;
+      tried = ap (λ (k : Numbers). k.ops) path.goes.numbers ∙ ops_of x moves (state_of m) walk counts ∙ ap (λ n. n + tried_in acts) untried ∙ zero-add (_);
       few = λ front between back is none.
           let longest : m.longest ≡ longest_in 0 0 acts = ap (λ (k : Numbers). k.longest) path.goes.numbers ∙ longest_of x moves (state_of m) walk counts in
           omega (arith, bound, longest, ap (longest_in 0 0) is, no_longer 0 0 front between back none);
@@ -68,24 +70,34 @@ has_acts asked n m follows =
           ];
     }
 
-stands : (asked : Asked) (n : ℕ) (m : Machine) → Follows (record { image = asked.image; script = script_of asked; options = record { steps = asked.steps; quantum = asked.quantum; swap = asked.slots } }) n m → m.steps ≤ asked.steps → Stands asked (original_of asked n) m
+-- no other program's arrivals are counted
+runs_alone : (asked : Asked) (flash : Memory) (pages n : ℕ) (m : Machine) → Leads (start_of asked flash pages) (original_of asked n).lines m → m.others ≡ 0
+runs_alone asked flash pages n m path = ap (λ (k : Numbers). k.others) path.goes.numbers ∙ others_is path.moves (numbers_of (start_of asked flash pages))
+
+-- where moves lead from such a start
+pub stands_from : (IsFirst : Mote → Type 0) (asked : Asked) (flash : Memory) (pages n : ℕ) (m : Machine) → IsFirst (start_of asked flash pages).kernel.mote → flash.ops ≡ 0
+    → flat_of m ≡ (original_of asked n).state → IsReady m → Leads (start_of asked flash pages) (original_of asked n).lines m → m.kernel.quantum ≡ asked.quantum → m.longest ≤ 5120 * m.kernel.quantum → m.steps ≤ asked.steps
+    → StandsFrom IsFirst pages asked (original_of asked n) m
 unfolding data_word_at byte_at
-stands asked n m follows within =
-    let same = follows.state in
+stands_from IsFirst asked flash pages n m begins untried same ready path quantum longest within =
     record {
       registers = ap (λ (s : Moment). s.now.cpu.r) same;
       status = ap (λ (s : Moment). s.now.cpu.sreg) same;
       pointer = ap (λ (s : Moment). s.now.cpu.sp) same;
       pc = ap (λ (s : Moment). s.now.cpu.pc) same;
-      memory = subst (HasMemory m.kernel.mote) (ap (λ (s : Moment). s.now.memory) same) (has_memory m.kernel.mote follows.ready.sound.order.paged);
+      memory = subst (HasMemory m.kernel.mote) (ap (λ (s : Moment). s.now.memory) same) (has_memory m.kernel.mote ready.sound.order.paged);
       devices = ap (λ (s : Moment). s.now.devices) same;
       steps = ap (λ (s : Moment). s.now.steps) same;
       crossings = ap (λ (s : Moment). s.now.crossings) same;
       due = ap (λ (s : Moment). s.due) same;
       most_steps = within;
-      most_operations = follows.ready.sound.bounded.ops;
-      acts = has_acts asked n m follows;
+      most_operations = omega (arith, ready.sound.bounded.ops, runs_alone asked flash pages n m path);
+      acts = has_acts IsFirst asked flash pages (original_of asked n).lines m begins untried path (subst (λ q. m.longest ≤ 5120 * q) quantum longest);
     }
+
+stands : (asked : Asked) (n : ℕ) (m : Machine) → Follows (record { image = asked.image; script = script_of asked; options = record { steps = asked.steps; quantum = asked.quantum; swap = asked.slots } }) n m → m.steps ≤ asked.steps → Stands asked (original_of asked n) m
+stands asked n m follows within =
+    stands_from (IsBoot asked.image) asked (new_flash asked.image asked.failing) 0 n m (is_boot asked) refl follows.state follows.ready follows.path follows.quantum follows.longest within
 
 -- the bytes that a new sink took
 pub taken_is : (before now : Option (List ℕ)) (taken text : List ℕ) → before ≡ Some [] → now ≡ Some taken → Appends before now text → taken ≡ text
@@ -144,7 +156,7 @@ pub answered : (words : List (List ℕ)) (source source' sink sink' : Stream) (e
     → Asks words text asked → IsExact words source source' sink sink' exit → IsRun asked (number_of exit.status) taken exit.kept
 answered words source source' sink sink' exit text taken asked told read written first last asks exact =
     elim (exact _ (inl (RunCommand (record { steps = asked.steps; quantum = asked.quantum; swap = asked.slots }), asks.command, (text, record { told = told; read = read }, inr (asks.input.short, Good (asked.image, asks.input.position) asks.input.hex (Good (script_of asked) asks.input.script refl))))) written) [
-      | inl none ↦ NoMemory (ap number_of none.0) (taken_is sink.told sink'.told taken _ first last none.1) none.2
+      | inl none ↦ NoMemory (ap number_of none.0) (taken_is sink.told sink'.told taken _ first last none.1) none.2.0
       | inr done ↦ ran asked sink sink' exit taken done.0.machine written first last done.0.kept done.0.runs
     ]
 

@@ -1,14 +1,12 @@
 -- The numbers of a walk, as its acts count them; and its last act.
-use Rattle.std.proofs.Common.{◌≡◌, ◌≢◌, ℕ, suc, ◌+◌, ◌*◌, ◌<◌, ◌≤◌, max, Bool, true, false, List, [], ◌∷◌, ◌++◌, Option, Some, None, refl, sym, ap, ap₂, ◌∙◌, subst, arith, inl, inr, ◌⊎◌}
+use Rattle.std.proofs.Common.{◌≡◌, ℕ, ◌+◌, ◌≤◌, max, Bool, true, false, List, [], ◌∷◌, ◌++◌, Option, Some, None, refl, sym, ◌∙◌, subst, arith, inl, inr, ◌⊎◌}
 use Rattle.mote_core.specs.declared.mote.Mote.{Mote}
-use Rattle.step_laws.specs.declared.moves.End.{End}
-use Rattle.step_laws.specs.declared.moves.End.TheVariants as ends
 use Rattle.branch_bridge.specs.declared.arrival.Refused.{Refused}
 use Rattle.branch_bridge.specs.declared.arrival.ArriveStop.{ArriveStop}
 use Rattle.branch_bridge.specs.declared.arrival.ArriveStop.TheVariants as refusals
 use Rattle.step_laws.specs.Moves.{Move, Plain, Serve, Arrive, Take}
-use Rattle.step_laws.specs.Numbers.{Numbers, one_if, moved, numbered}
-use Rattle.step_laws.specs.States.{State, mote_of, end_by, settled_by, placed, with_store}
+use Rattle.step_laws.specs.Numbers.{Numbers, moved, numbered}
+use Rattle.step_laws.specs.States.{State, end_by, settled_by, placed, with_store}
 use Rattle.step_laws.specs.Walks.{Walk}
 use Rattle.program_steps.specs.Stepping.{ends_in_arrive}
 use Rattle.theorem_reader.specs.Acts.{Act, Step, Service, Arrival, Interrupt, steps_in, services_in, made_in, tried_in, IsRefusal}

@@ -1,5 +1,5 @@
 -- What `check` answers.
-use Rattle.std.proofs.Common.{◌≡◌, ℕ, zero, suc, ◌+◌, ◌-◌, ◌*◌, ◌/◌, ◌≤◌, ◌<◌, ◌==◌, Bool, true, false, nat_le, not, if◌then◌else◌, List, [], ◌∷◌, ◌++◌, length, length-append, append-nil, take, drop, slice_index, Option, Some, None, codes, decimal, refl, sym, ap, ap₂, ◌∙◌, subst, arith, inl, inr, ◌⊎◌}
+use Rattle.std.proofs.Common.{◌≡◌, ℕ, zero, suc, ◌+◌, ◌-◌, ◌*◌, ◌/◌, ◌==◌, Bool, true, false, nat_le, not, if◌then◌else◌, List, [], ◌++◌, length, slice_index, Some, codes, decimal, refl, ap, ap₂, ◌∙◌, arith}
 use Rattle.tk_io.specs.Faults.{Rose}
 use Rattle.flash_model.specs.Layouts.{layout_of, IsRight}
 use Rattle.flash_model.specs.Pages.{page_of}
@@ -19,17 +19,17 @@ use Rattle.tkernel_cli.specs.Answer.{IsAnswer}
 use Rattle.tkernel_cli.proofs.Checks.{Wanting, Verdicts, check_answers}
 use Rattle.tkernel_cli.proofs.ImageLength.{few_words}
 use Rattle.theorem_reader.specs.Acts.{pool_from}
-use Rattle.theorem_reader.specs.Checks.{AsksCheck, IsInPool, AreFaithful, IsMisshapen, IsUnlinked, IsChecked, NoMemory, Faithful, Misshapen, Unlinked, IsJudged, used_of}
-use Rattle.theorem_reader.proofs.Acting.{Begins, pool_begins}
+use Rattle.theorem_reader.specs.Checks.{AsksCheck, IsInPool, IsChecked, NoMemory, Faithful, Misshapen, Unlinked, IsJudged, used_of}
+use Rattle.theorem_reader.proofs.Acting.{pool_begins}
 use Rattle.theorem_reader.proofs.Answering.{taken_is}
 
 -- the pool by its numbers
-in_pool : (image : List ℕ) (page : ℕ) → IsInPool image page → IsPool (layout_of (length image)) page
+pub in_pool : (image : List ℕ) (page : ℕ) → IsInPool image page → IsPool (layout_of (length image)) page
 in_pool image page inside =
     let begins = pool_begins image in
     record { from = omega (arith, begins.first, inside.low); to = omega (arith, begins.end, inside.high) }
 
-from_pool : (image : List ℕ) (page : ℕ) → IsPool (layout_of (length image)) page → IsInPool image page
+pub from_pool : (image : List ℕ) (page : ℕ) → IsPool (layout_of (length image)) page → IsInPool image page
 from_pool image page pool =
     let begins = pool_begins image in
     record { low = omega (arith, begins.first, pool.from); high = omega (arith, begins.end, pool.to) }
@@ -38,7 +38,7 @@ used_one : (b : Bool) (n m : ℕ) → n ≡ m → (if not b then 1 else 0) + n �
 used_one true n m same = ap (λ k. 0 + k) same
 used_one false n m same = ap (λ k. 1 + k) same
 
-used_same : (flash : List ℕ) (first n : ℕ) → used_among flash first n ≡ used_of flash first n
+pub used_same : (flash : List ℕ) (first n : ℕ) → used_among flash first n ≡ used_of flash first n
 unfolding used_among
 used_same flash first zero = refl
 used_same flash first (suc n) =
@@ -46,7 +46,7 @@ used_same flash first (suc n) =
     ap (λ a. (if not (slice_index flash a == 0xFFFF) then 1 else 0) + used_among flash first n) at
     ∙ used_one (slice_index flash (128 * (first + n)) == 0xFFFF) _ _ (used_same flash first n)
 
-pool_numbers : (image : List ℕ) → ((layout_of (length image)).pool_first ≡ pool_from image / 128) × ((layout_of (length image)).pool_pages ≡ 480 - pool_from image / 128)
+pub pool_numbers : (image : List ℕ) → ((layout_of (length image)).pool_first ≡ pool_from image / 128) × ((layout_of (length image)).pool_pages ≡ 480 - pool_from image / 128)
 pool_numbers image = elim (nat_le (length image) 16384) as (λ b. ((if b then 128 else 192) ≡ (if b then 0x4000 else 0x6000) / 128) × ((if b then 352 else 288) ≡ 480 - (if b then 0x4000 else 0x6000) / 128)) [
   | true ↦ (refl, refl)
   | false ↦ (refl, refl)
@@ -82,7 +82,7 @@ pub check_told : (words : List (List ℕ)) (source source' sink sink' : Stream) 
     → AsksCheck words text image flash → IsAnswer words source source' sink sink' exit → IsJudged image flash (number_of exit.status) taken exit.kept
 check_told words source source' sink sink' exit text taken image flash told read written first last asks answer =
     elim (check_answers words image flash text asks.position source source' sink sink' exit asks.command (record { told = told; read = read }) asks.short asks.hex asks.dump written answer) [
-      | Wanting none ↦ record { checked = NoMemory (ap number_of none.0) (taken_is sink.told sink'.told taken _ first last none.1); none = none.2 }
+      | Wanting none ↦ record { checked = NoMemory (ap number_of none.0) (taken_is sink.told sink'.told taken _ first last none.1); none = none.2.0 }
       | Verdicts verdict is own said none ↦ record {
         checked = judged image flash taken verdict exit.status (layout_right (length image) (few_words text image asks.position asks.hex)) is own (taken_is sink.told sink'.told taken _ first last said);
         none = none;

@@ -1,6 +1,6 @@
 -- What `dump` answers.
-use Rattle.std.proofs.Common.{◌≡◌, ℕ, ◌+◌, ◌*◌, ◌/◌, ◌%◌, ◌==◌, Bool, true, false, if◌then◌else◌, List, [], ◌∷◌, ◌++◌, codes, flat_map, drop, take, Option, Some, None, refl, sym, ap, ◌∙◌, inl, inr, ◌⊎◌}
-use Rattle.std.specs.List.{list_all, range_with_len}
+use Rattle.std.proofs.Common.{◌≡◌, ℕ, Bool, true, false, if◌then◌else◌, List, [], ◌∷◌, ◌++◌, flat_map, Some, refl, ap, ◌∙◌, inl, inr}
+use Rattle.std.specs.List.{range_with_len}
 use Rattle.tk_io.specs.Faults.{Rose}
 use Rattle.flash_model.specs.Pages.{page_of}
 use Rattle.text_lines.specs.Written.{fed}
@@ -12,7 +12,6 @@ use Rattle.tkernel_cli.specs.declared.top.Exit.{Exit}
 use Rattle.tkernel_cli.specs.Status.{number_of}
 use Rattle.tkernel_cli.specs.Reading.{Good}
 use Rattle.tkernel_cli.specs.Runs.{Stream, Runs}
-use Rattle.tkernel_cli.specs.Runs as whole
 use Rattle.tkernel_cli.specs.DumpCommand.{HasDumped, silent}
 use Rattle.tkernel_cli.specs.Answer.{IsExact}
 use Rattle.theorem_reader.specs.Runs.{Asked}
@@ -33,7 +32,7 @@ pages_same flash (page ∷ pages) =
 dump_same : (flash : List ℕ) → written flash ≡ dump_text flash
 dump_same flash = pages_same flash (range_with_len 0 512)
 
-has_ended : (asked : Asked) (told : Status) (m : Machine)
+pub has_ended : (asked : Asked) (told : Status) (m : Machine)
     → Runs (record { image = asked.image; script = script_of asked; options = record { steps = asked.steps; quantum = asked.quantum; swap = asked.slots } }) silent silent told m → HasEnded asked m
 has_ended asked told m (Runs.Ended run) = Well (ends_well asked silent silent told m run)
 has_ended asked told m (Runs.Failed run) = InAFault run.op (ends_in_a_fault asked silent silent told m run)
@@ -57,6 +56,6 @@ pub dump_told : (words : List (List ℕ)) (source source' sink sink' : Stream) (
     → AsksDump words text asked → IsExact words source source' sink sink' exit → IsDumped asked (number_of exit.status) taken exit.kept
 dump_told words source source' sink sink' exit text taken asked told read written first last asks exact =
     elim (exact _ (inl (Dump (record { steps = asked.steps; quantum = asked.quantum; swap = asked.slots }), asks.command, (text, record { told = told; read = read }, inr (asks.input.short, Good (asked.image, asks.input.position) asks.input.hex (Good (script_of asked) asks.input.script refl))))) written) [
-      | inl none ↦ NoMemory (ap number_of none.0) (taken_is sink.told sink'.told taken _ first last none.1) none.2
+      | inl none ↦ NoMemory (ap number_of none.0) (taken_is sink.told sink'.told taken _ first last none.1) none.2.0
       | inr done ↦ dumped asked sink sink' exit taken written first last done.0
     ]

@@ -1,10 +1,10 @@
 -- Where the bytes of the program's memory are.
-use Rattle.std.proofs.Common.{◌≡◌, ◌≢◌, ℕ, ◌+◌, ◌-◌, ◌*◌, ◌/◌, ◌%◌, ◌<◌, ◌≤◌, Bool, true, false, List, [], length, slice_index, refl, sym, ap, ◌∙◌, arith, Some, None}
+use Rattle.std.proofs.Common.{◌≡◌, ℕ, ◌/◌, ◌%◌, ◌<◌, true, slice_index, ◌∙◌, arith, None}
 use Rattle.std.proofs.lemmas.Bool.Decides.{nat_tests}
 use Rattle.sram_layout.specs.Bytes.{byte_at}
 use Rattle.swap_store.specs.Slots.{page_in}
 use Rattle.mote_core.specs.declared.mote.Mote.{Mote}
-use Rattle.heap_frames.specs.Addresses.{is_stack, is_heap}
+use Rattle.heap_frames.specs.Addresses.{is_heap}
 use Rattle.heap_frames.specs.Frames.{frame_of, holds}
 use Rattle.heap_frames.specs.Memory.{vmem, heap_byte}
 use Rattle.heap_frames.specs.Paged.{IsPaged}

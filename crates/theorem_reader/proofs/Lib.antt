@@ -5,5 +5,8 @@ pub mod Holding
 pub mod SameTexts
 pub mod Answering
 pub mod Plainly
+pub mod Exampled
 pub mod Checking
 pub mod Dumping
+pub mod Restarting
+pub mod Sharing

@@ -1,5 +1,5 @@
 -- The word `run` alone asks for a plain run of the image that a text was written for.
-use Rattle.std.proofs.Common.{◌≡◌, ℕ, ◌+◌, ◌*◌, ◌/◌, ◌≤◌, List, [], ◌∷◌, length, length-append, map, flat_map, take, drop, codes, Some, None, refl, sym, ap, ◌∙◌, subst, arith}
+use Rattle.std.proofs.Common.{◌≡◌, ℕ, ◌+◌, ◌*◌, ◌/◌, ◌≤◌, List, [], ◌∷◌, length, length-append, map, flat_map, take, drop, codes, refl, sym, ap, subst, arith}
 use Rattle.std.specs.List.{range_with_len}
 use Rattle.std.proofs.lemmas.List.{length_push, length-take}
 use Rattle.std.proofs.lemmas.List.FromFn.{length-range_with_len, length-map-range_with_len}
@@ -58,11 +58,12 @@ asks_plainly words image text is hex short = record {
   };
 }
 
-pub told_plainly : (result : Result Told NoMemory) (words : List (List ℕ)) (image text : List ℕ) → Asks words text (plainly image)
+-- what is told of one that was asked
+pub told_of : (result : Result Told NoMemory) (words : List (List ℕ)) (text : List ℕ) (one : Asked) → Asks words text one
     → IfOk result (λ told. (asked : Asked) → Asks words text asked → told.out.faults ≡ 0 → IsRun asked told.status told.out.taken told.kept)
-    → IfOk result (λ told. told.out.faults ≡ 0 → IsRun (plainly image) told.status told.out.taken told.kept)
-told_plainly (Ok told) words image text asks run = run (plainly image) asks
-told_plainly (Err none) words image text asks run = run
+    → IfOk result (λ told. told.out.faults ≡ 0 → IsRun one told.status told.out.taken told.kept)
+told_of (Ok told) words text one asks run = run one asks
+told_of (Err none) words text one asks run = run
 
 -- The text of an image is short: 44 bytes a line at most, of eight words.
 double : (words : List ℕ) → length (bytes_of_words words) ≡ 2 * length words

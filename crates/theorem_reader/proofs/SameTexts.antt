@@ -1,17 +1,18 @@
 -- The texts are those of the crates below, letter by letter.
-use Rattle.std.proofs.Common.{◌≡◌, ℕ, ◌/◌, List, [], ◌∷◌, ◌++◌, flat_map, codes, decimal, refl, sym, ap, ap₂, ◌∙◌, subst}
+use Rattle.std.proofs.Common.{◌≡◌, ℕ, ◌/◌, List, [], ◌∷◌, ◌++◌, flat_map, codes, decimal, refl, ap, ap₂, ◌∙◌}
 use Rattle.mote_devices.specs.declared.line.Line.{Line}
 use Rattle.mote_devices.specs.declared.line.Port.{Port}
 use Rattle.mote_devices.specs.declared.line.Port.TheVariants.{PortA, PortB, PortC, PortD, DdrA, DdrB, DdrC, DdrD, Uart0}
 use Rattle.hex.specs.Hex.{encode_upper}
 use Rattle.mem_guard.specs.FlatMachine.{End, Spent, Wild, Illegal, SelfProgram, Asleep, Halted, Read, Io, Stack, SwapFull, Run}
 use Rattle.kernel_entry.specs.Texts.{line_text, stop_text, end_text, port_name}
+use Rattle.line_text.specs.StopLines.{end_line}
 use Rattle.step_laws.specs.declared.moves.End.TheVariants as ends
 use Rattle.program_steps.specs.Machines.{Machine}
 use Rattle.program_steps.specs.Stepping.{lines_text}
 use Rattle.tkernel_cli.specs.Runs.{status_of_end}
 use Rattle.tkernel_cli.specs.Status.{number_of}
-use Rattle.tkernel_cli.specs.Text.{end_line, count_text}
+use Rattle.tkernel_cli.specs.Text.{count_text}
 use Rattle.theorem_reader.specs.Texts.{port_word, device_line, end_words, stop_line, count_line, end_status}
 use Rattle.theorem_reader.specs.Runs.{text_of}
 
@@ -26,7 +27,7 @@ port_same DdrC = refl
 port_same DdrD = refl
 port_same Uart0 = refl
 
-line_same : (line : Line) → line_text line ≡ device_line line
+pub line_same : (line : Line) → line_text line ≡ device_line line
 unfolding line_text
 line_same line = ap (λ p. p ++ codes " " ++ (codes "0x" ++ encode_upper (line.value ∷ [])) ++ codes "\n") (port_same line.port)
 
@@ -46,7 +47,7 @@ end_same (Io pc a) = refl
 end_same (Stack pc a) = refl
 end_same (SwapFull pc a) = refl
 
-stop_same : (end : End) (steps checkpoints : ℕ) → stop_text end steps checkpoints ≡ stop_line (end_words end) steps checkpoints
+pub stop_same : (end : End) (steps checkpoints : ℕ) → stop_text end steps checkpoints ≡ stop_line (end_words end) steps checkpoints
 unfolding stop_text
 stop_same end steps checkpoints = ap (λ how. stop_line how steps checkpoints) (end_same end)
 

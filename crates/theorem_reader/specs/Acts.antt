@@ -1,5 +1,5 @@
 -- What a machine did, one act after another, told by the mote before and after each.
-use Rattle.std.specs.Prelude.{◌≡◌, ◌≢◌, ℕ, suc, ◌+◌, ◌-◌, ◌*◌, ◌%◌, ◌<◌, ◌≤◌, ◌⊎◌, Bool, nat_le, if◌then◌else◌, List, [], ◌∷◌, ◌++◌, slice_index, length, replicate, Option, Some, None}
+use Rattle.std.specs.Prelude.{◌≡◌, ◌≢◌, ℕ, suc, ◌+◌, ◌-◌, ◌*◌, ◌%◌, ◌≤◌, ◌⊎◌, nat_le, if◌then◌else◌, List, [], ◌∷◌, ◌++◌, slice_index, length, replicate, Option, Some, None}
 use Rattle.std.specs.Option.{option_map}
 use Rattle.avr_isa.specs.declared.form.Form.{Form}
 use Rattle.avr_decode.specs.Decoding.{the_form, size_by_first_word}
@@ -105,16 +105,17 @@ pub record IsBoot (image : List ℕ) (m : Mote) : Type 0 where
   pub words : m.flash.words ≡ image ++ replicate (0xF000 - length image) 0xFFFF ++ replicate 0x1000 0x9508
   pub ops : m.flash.ops ≡ 0
 
--- Acts lead from boot to a mote, and these are all: so many steps, services and pages. No more than 5,120 steps for each
--- crossing of the quantum stand between two services. The last act is an arrival only where that was refused.
-pub record HasActs (image : List ℕ) (quantum natural entries pages : ℕ) (end : Option End) (last : Mote) : Type 0 where
+-- Acts lead to a mote from one of which this is so, whose pool had so many pages, and these are all: so many steps,
+-- services and pages. No more than 5,120 steps for each crossing of the quantum stand between two services. The last act is
+-- an arrival only where that was refused.
+pub record HasActs (IsFirst : Mote → Type 0) (began : ℕ) (image : List ℕ) (quantum natural entries pages : ℕ) (end : Option End) (last : Mote) : Type 0 where
   pub acts : List Act
   pub first : Mote
-  pub boot : IsBoot image first
+  pub begins : IsFirst first
   pub follow : Follow (pool_from image) first acts last
   pub natural_is : natural ≡ steps_in acts
   pub entries_is : entries ≡ services_in acts
-  pub pages_is : pages ≡ made_in acts
+  pub pages_is : pages ≡ began + made_in acts
   pub tried : last.flash.ops ≡ tried_in acts
   pub few : (front between back : List Act) → acts ≡ front ++ (between ++ back) → services_in between ≡ 0 → steps_in between ≤ 5120 * quantum
   pub ends : (front : List Act) (made ops : ℕ) (before after : Mote) → acts ≡ front ++ (Arrival made ops before after ∷ []) → IsRefusal end

@@ -5,3 +5,5 @@ pub mod Memory
 pub mod Runs
 pub mod Checks
 pub mod Dumps
+pub mod Restarts
+pub mod Tasks

@@ -1,15 +1,17 @@
 -- What a run leaves that the sink didn't cut short.
-use Rattle.std.specs.Prelude.{◌≡◌, ℕ, ◌+◌, ◌-◌, ◌*◌, ◌/◌, ◌<◌, ◌≤◌, ◌⊎◌, List, [], ◌∷◌, ◌++◌, codes, decimal, flat_map, slice_index, length, drop, Bool, true, false, ◌==◌, Option, Some, None}
+use Rattle.std.specs.Prelude.{◌≡◌, ℕ, ◌+◌, ◌*◌, ◌/◌, ◌<◌, ◌≤◌, List, [], ◌∷◌, ◌++◌, codes, decimal, flat_map, slice_index, length, drop, Bool, true, false, ◌==◌, Option, Some, None}
 use Rattle.std.specs.List.{list_any}
 use Rattle.input_script.specs.declared.input.Event.{Event}
+use Rattle.input_script.specs.declared.input.Input.TheVariants.{Uart}
 use Rattle.mem_guard.specs.FlatMachine.{Spent, Run, whole_part, original}
+use Rattle.mote_core.specs.declared.mote.Mote.{Mote}
 use Rattle.step_laws.specs.declared.moves.End.TheVariants as ends
 use Rattle.program_steps.specs.Machines.{Machine}
 use Rattle.hex_image.specs.HexText.{HexText}
 use Rattle.input_script.specs.Script.{IsScript}
 use Rattle.tkernel_cli.specs.declared.command.Command.TheVariants.{Run as RunCommand}
 use Rattle.tkernel_cli.specs.Commands.{IsCommand}
-use Rattle.theorem_reader.specs.Acts.{HasActs}
+use Rattle.theorem_reader.specs.Acts.{HasActs, IsBoot}
 use Rattle.theorem_reader.specs.Memory.{HasMemory}
 use Rattle.theorem_reader.specs.Texts.{device_line, end_words, stop_line, count_line, end_status}
 
@@ -32,8 +34,9 @@ text_of r how quantum m =
     flat_map device_line r.lines ++ stop_line how r.state.now.steps (r.state.now.crossings / quantum) ++ count_line m.natural m.entries m.pages
 
 -- The machine stands where the original program stands: registers, SREG, stack pointer, pc, the 65,536 bytes, devices,
--- the counts of steps and crossings, and whether an interrupt is due. It did so by these acts.
-pub record Stands (asked : Asked) (r : Run) (m : Machine) : Type 0 where
+-- the counts of steps and crossings, and whether an interrupt is due. It came there by acts, from a mote of which this is so
+-- and whose pool had so many pages.
+pub record StandsFrom (IsFirst : Mote → Type 0) (began : ℕ) (asked : Asked) (r : Run) (m : Machine) : Type 0 where
   pub registers : m.kernel.mote.cpu.r ≡ r.state.now.cpu.r
   pub status : m.kernel.mote.cpu.sreg ≡ r.state.now.cpu.sreg
   pub pointer : slice_index m.kernel.mote.sram 3 + 256 * slice_index m.kernel.mote.sram 4 ≡ r.state.now.cpu.sp
@@ -45,7 +48,11 @@ pub record Stands (asked : Asked) (r : Run) (m : Machine) : Type 0 where
   pub due : m.due ≡ r.state.due
   pub most_steps : m.steps ≤ asked.steps
   pub most_operations : m.kernel.mote.flash.ops ≤ 1000 * (m.steps + 1)
-  pub acts : HasActs asked.image asked.quantum m.natural m.entries m.pages m.end m.kernel.mote
+  pub acts : HasActs IsFirst began asked.image asked.quantum m.natural m.entries m.pages m.end m.kernel.mote
+
+-- .. from boot, where the pool has none
+abbrev pub Stands : Asked → Run → Machine → Type 0
+Stands asked r m = StandsFrom (IsBoot asked.image) 0 asked r m
 
 -- the operation of this number is to fail
 abbrev pub is_to_fail : Asked → ℕ → Bool
@@ -102,3 +109,14 @@ pub record Asks (words : List (List ℕ)) (text : List ℕ) (asked : Asked) : Ty
 -- a program without inputs, run by the word `run` alone
 abbrev pub plainly : List ℕ → Asked
 plainly image = record { image = image; events = []; failing = []; steps = 1000000; quantum = 255; slots = 128 }
+
+-- an example: `ldi r16, 0x0F`, `out 0x1B, r16`, `rjmp .-2`, with an input, an operation that is to fail, and options
+abbrev pub example : Asked
+example = record {
+  image = 0xE00F ∷ 0xBB0B ∷ 0xCFFF ∷ [];
+  events = record { at = 22; input = Uart 0x41 } ∷ [];
+  failing = 12 ∷ [];
+  steps = 100;
+  quantum = 7;
+  slots = 0;
+}

@@ -3,7 +3,8 @@
 //! program's machine, the mote's instruction, and the types of both; so one that is weakened there is refused here.
 //!
 //! To read: `specs/Runs` (what a run leaves; begin at `IsRun`), `specs/Acts` (what the machine did), `specs/Memory` (where
-//! the program's bytes are), `specs/Texts` (the printed lines); then `specs/Dumps` (the flash that a run leaves) and
+//! the program's bytes are), `specs/Texts` (the printed lines); then `specs/Dumps` (the flash that a run leaves),
+//! `specs/Restarts` (what is kept of a flash behind a loss of power), `specs/Tasks` (several programs on one mote) and
 //! `specs/Checks` (what is said of a flash). Names that stand there and come from elsewhere:
 //!
 //! - `original program events n`: the original program's first n steps, by itself on flat memory of 64 KiB. Of it: `end`,
@@ -11,12 +12,16 @@
 //!   devices, and the numbers of steps and of crossings, which are steps back, onto themselves, or to another page of 128 words.
 //! - `HexText text image position`, `IsScript text schedule`, `IsCommand words command`: the text of a HEX file up to a
 //!   position, of a script, and the words of a command, as docs/FORMATS.md tells them.
+//! - `Schedules count lines schedules`, `IsMisplaced count image address`: the script of so many programs, and that a word
+//!   stands in their image where none may, as docs/TASKS.md tells them.
 //! - `HasForm`, `HasLinks`: what a page of flash must be by itself, and what it owes to the others (docs/LOADER.md).
 //! - `Mote`: a modelled ATmega128, that is its core, SRAM, flash, devices, and a swap area beside it. `exec_of` is what an
 //!   instruction does, `the_form` what two words mean (docs/ATMEGA128.md).
 //! - `Machine`: a mote that runs a program, and what was counted (docs/MACHINE.md).
 #![tactic(auto)]
 
+mod example;
 mod reader;
 
+pub use example::run_example;
 pub use reader::{Told, longest_wait, run_image, run_text};

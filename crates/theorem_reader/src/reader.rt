@@ -2,7 +2,9 @@
 ghost use Rattle.std.specs.Prelude.{◌≡◌, ◌*◌, ℕ, List, IfOk, map, string_bytes};
 ghost use Rattle.theorem_reader.specs.Checks.{AsksCheck, IsJudged};
 ghost use Rattle.theorem_reader.specs.Dumps.{AsksDump, IsDumped};
+ghost use Rattle.theorem_reader.specs.Restarts.{AsksRestart, IsRestarted};
 ghost use Rattle.theorem_reader.specs.Runs.{Asked, Asks, IsRun, plainly};
+ghost use Rattle.theorem_reader.specs.Tasks.{AreRun, AskedTasks, AsksTasks};
 
 use hex_image::{Image, write};
 use preempt_count::BOUND_PER_Q;
@@ -33,6 +35,10 @@ pub fn run_text(
         → told.out.faults ≡ 0 → IsRun asked told.status told.out.taken told.kept) }
     ensures dump { IfOk result (λ told. (asked : Asked) → AsksDump (map string_bytes words.now) text.items asked
         → told.out.faults ≡ 0 → IsDumped asked told.status told.out.taken told.kept) }
+    ensures restart { IfOk result (λ told. (asked : Asked) → AsksRestart (map string_bytes words.now) text.items asked
+        → told.out.faults ≡ 0 → IsRestarted asked told.status told.out.taken told.kept) }
+    ensures tasks { IfOk result (λ told. (asked : AskedTasks) → AsksTasks (map string_bytes words.now) text.items asked
+        → told.out.faults ≡ 0 → AreRun asked told.status told.out.taken told.kept) }
     ensures check { IfOk result (λ told. (image flash : List ℕ) → AsksCheck (map string_bytes words.now) text.items image flash
         → told.out.faults ≡ 0 → IsJudged image flash told.status told.out.taken told.kept) }
 {
@@ -58,7 +64,7 @@ pub fn run_image(alloc: Global, image: &Image, room: usize) -> Result<Told, NoMe
 }
 
 /// A word of a command line.
-fn word_of(alloc: Global, text: &str) -> Result<String, NoMemory>
+pub(crate) fn word_of(alloc: Global, text: &str) -> Result<String, NoMemory>
     ensures same { IfOk result (λ word. string_bytes word ≡ text.now) }
 {
     match String::from_str(alloc, text) {

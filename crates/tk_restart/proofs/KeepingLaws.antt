@@ -50,11 +50,11 @@ kept_page layout image old new kept stray page right whole keeps pool is =
     }
 
 -- it lists what it listed
-kept_lists : (layout : Layout) (image old new : List ℕ) (kept : ℕ → Bool) (page i t v : ℕ) → length image ≤ 24576 → KeptPage layout image old new kept page → Lists old page i t v → Lists new page i t v
+pub kept_lists : (layout : Layout) (image old new : List ℕ) (kept : ℕ → Bool) (page i t v : ℕ) → length image ≤ 24576 → KeptPage layout image old new kept page → Lists old page i t v → Lists new page i t v
 kept_lists layout image old new kept page i t v short own lists =
     lists_again Anywhere (λ t v. IsKeptEntry layout old kept t v) image old new page own.first own.last i t v short own.before own.behind lists
 
-lists_before : (layout : Layout) (image old new : List ℕ) (kept : ℕ → Bool) (page i t v : ℕ) → length image ≤ 24576 → KeptPage layout image old new kept page → Lists new page i t v → Lists old page i t v
+pub lists_before : (layout : Layout) (image old new : List ℕ) (kept : ℕ → Bool) (page i t v : ℕ) → length image ≤ 24576 → KeptPage layout image old new kept page → Lists new page i t v → Lists old page i t v
 lists_before layout image old new kept page i t v short own lists =
     lists_again (λ t v. IsKeptEntry layout old kept t v) Anywhere image new old page own.first own.last i t v short own.behind own.before lists
 

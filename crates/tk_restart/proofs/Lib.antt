@@ -1,6 +1,7 @@
 -- Laws of a restart.
 mod CountLaws
 mod BlankLaws
+pub mod AroundLaws
 mod StrayLaws
 mod SweepLaws
 mod PageLaws

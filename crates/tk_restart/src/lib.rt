@@ -12,7 +12,7 @@
 //!
 //! `specs/Keeping` says which pages are kept, and what flash holds then, and `specs/Restarting` what the call answers
 //! and which operations it makes. That a pool is then faithful to the image, and that the rules leave no choice, are
-//! clauses of [`restart`].
+//! clauses of [`restart`]. [`tear`] gives a page any words, to try a restart on.
 #![tactic(auto)]
 
 mod judging;
@@ -20,7 +20,9 @@ mod operating;
 mod restarting;
 mod strays;
 mod sweeping;
+mod tearing;
 mod unlinking;
 
 pub use restarting::restart;
 pub use sweeping::Kept;
+pub use tearing::tear;

@@ -1,6 +1,6 @@
 -- The answers of a run.
 use Rattle.std.proofs.Common.{◌≡◌, ℕ, suc, ◌+◌, ◌-◌, ◌<◌, ◌≤◌, true, false, List, [], ◌∷◌, ◌++◌, refl, sym, ap, ap₂, ◌∙◌, arith, subst}
-use Rattle.std.specs.Prelude.{◌^◌, ◌≢◌, Option, Some, None, Ok, Err}
+use Rattle.std.specs.Prelude.{◌^◌, ◌≢◌, Option, Some, None, Result, Ok, Err}
 use Rattle.std.proofs.lemmas.List.{append-nil}
 use Rattle.std.specs.Io.KnownBytes.{Appends}
 use Rattle.tk_io.specs.Streams.{CutShort}
@@ -12,6 +12,8 @@ use Rattle.mem_guard.specs.FlatMachine as flat_ends
 use Rattle.step_laws.specs.declared.moves.End.{End}
 use Rattle.step_laws.specs.declared.moves.End.TheVariants as ends
 use Rattle.step_laws.specs.Moves.{Move, lines_of, line_before}
+use Rattle.step_laws.specs.Numbers.{Numbers}
+use Rattle.step_laws.proofs.NumberLaws.{others_is}
 use Rattle.kernel_entry.specs.Seen.{end_of, program as program_of}
 use Rattle.program_steps.specs.Machines.{Machine, numbers_of, flat_of}
 use Rattle.program_steps.specs.Ready.{count_in, AreTried, IsGoing, IsQuiet, IsInOrder, IsSound, IsEnded, IsKept, HasBounds}
@@ -19,7 +21,7 @@ use Rattle.program_steps.specs.Stepping.{lines_text}
 use Rattle.program_steps.specs.Stepping.{Goes, Stays, IsFault, ends_in_arrive, HasStepped, StepWay, HasEntered, Entering, HasBound}
 use Rattle.tk_run.specs.Running.{Leads, original_from, run_of, Answers, IsBroken, HasAdvanced}
 use Rattle.program_steps.proofs.Bounds.{bounded_counted}
-use Rattle.tk_run.proofs.Leading.{goes_on, last_on, stays_on, stays_self}
+use Rattle.program_steps.proofs.Leading.{goes_on, last_on, stays_on, stays_self}
 use Rattle.tk_run.proofs.RunSoFar.{Ran, IsBetween, unshut_on, none_ran, nothing, made_step, lines_text_on, ran_enter, ran_step, spent_at, wild_at, stop_at}
 
 abbrev pub leads_by : (old new : Machine) (moves : List Move) (lines : List Line) → Goes old new moves lines → (new.end ≡ None → ends_in_arrive moves ≡ false) → old.end ≡ None → old.broken ≡ false → Leads old lines new
@@ -254,7 +256,7 @@ bounds_broken : (m : Machine) → HasBounds m → HasBounds (record m { broken =
 bounds_broken m bounded = bounded
 
 tried_broken : (m : Machine) → AreTried m → AreTried (record m { broken = true })
-tried_broken m tried = record { listed = tried.listed; refused = tried.refused; torn = tried.torn }
+tried_broken m tried = record { listed = tried.listed; refused = tried.refused; pool = tried.pool; torn = tried.torn }
 
 order_broken : (m : Machine) → IsInOrder m → IsInOrder (record m { broken = true })
 order_broken m order = record {
@@ -362,3 +364,10 @@ advanced_unput old new n end e text before after going whole advanced cut =
       keeps = λ few before'. kept_broken new (advanced.keeps few before');
       kept = λ other is. absurd (no_end old other is going);
     }
+
+-- no move changes how many arrivals others may have made
+pub others_led : (start m : Machine) (lines : List Line) → Leads start lines m → m.others ≡ start.others
+others_led start m lines leads = ap (λ (k : Numbers). k.others) leads.goes.numbers ∙ others_is leads.moves (numbers_of start)
+
+pub others_kept : (old new : Machine) (n : ℕ) (before after : Option (List ℕ)) (result : Result End Failed) → HasAdvanced old new n before after result → new.others ≡ old.others
+others_kept old new n before after result advanced = others_led old new advanced.lines advanced.leads

@@ -1,10 +1,10 @@
--- Lines that are gathered before they go out.
-use Rattle.std.proofs.Common.{true, ◌≡◌, ℕ, ◌+◌, List, [], ◌++◌, refl, sym, ap, ◌∙◌, subst, append_assoc}
+-- A run whose last lines are gathered before they go out.
+use Rattle.std.proofs.Common.{true, ◌≡◌, ℕ, ◌+◌, List, [], ◌++◌, refl, sym, subst}
 use Rattle.std.specs.Prelude.{Option, Some, None}
 use Rattle.std.proofs.lemmas.List.{append-nil}
-use Rattle.std.specs.Io.KnownBytes.{Appends}
 use Rattle.tk_io.specs.Streams.{CutShort, IsSent}
-use Rattle.tk_io.proofs.KnownBytes.{appends-both, nothing_sent, cut_behind}
+use Rattle.tk_io.proofs.KnownBytes.{nothing_sent}
+use Rattle.line_text.proofs.Gathered.{sent_on, cut_on}
 use Rattle.mote_devices.specs.declared.line.Line.{Line}
 use Rattle.step_laws.specs.Moves.{line_before}
 use Rattle.program_steps.specs.Machines.{Machine}
@@ -14,27 +14,6 @@ use Rattle.program_steps.specs.Interrupts.{is_to_be_taken}
 use Rattle.program_steps.proofs.TakingLaws.{taken_inside}
 use Rattle.tk_run.proofs.RunSoFar.{IsBetween, between_start}
 use Rattle.tk_run.proofs.Advancing.{IsIn, between_on}
-
--- some bytes went out, and then others
-pub sent_on : (text gathered more left : List ℕ) (before after later : Option (List ℕ)) → IsSent text gathered before after → IsSent (gathered ++ more) left after later → IsSent (text ++ more) left before later
-sent_on text gathered more left before after later first second = record {
-  sent = first.sent ++ second.sent;
-  parts = ap (λ z. z ++ more) first.parts ∙ append_assoc first.sent gathered more ∙ ap (λ z. first.sent ++ z) second.parts ∙ sym (append_assoc first.sent second.sent left);
-  appended = appends-both before after later first.sent second.sent first.appended second.appended;
-}
-
--- some bytes went out, and then the sink failed
-pub cut_on : (text gathered more : List ℕ) (before after later : Option (List ℕ)) → IsSent text gathered before after → CutShort after later (gathered ++ more) → CutShort before later (text ++ more)
-cut_on text gathered more before after later first cut =
-    let parts : text ++ more ≡ first.sent ++ (gathered ++ more) = ap (λ z. z ++ more) first.parts ∙ append_assoc first.sent gathered more in
-    subst (CutShort before later) (sym parts) (cut_behind before after later first.sent (gathered ++ more) first.appended cut)
-
--- the rest went out, or the sink failed
-pub all_on : (text gathered : List ℕ) (before after later : Option (List ℕ)) → IsSent text gathered before after → Appends after later gathered → Appends before later text
-all_on text gathered before after later first rest = subst (Appends before later) (sym first.parts) (appends-both before after later first.sent gathered first.appended rest)
-
-pub rest_cut : (text gathered : List ℕ) (before after later : Option (List ℕ)) → IsSent text gathered before after → CutShort after later gathered → CutShort before later text
-rest_cut text gathered before after later first cut = subst (CutShort before later) (sym first.parts) (cut_behind before after later first.sent gathered first.appended cut)
 
 -- between two steps, with some of the text gathered
 pub record IsUnderWay (old now : Machine) (i : ℕ) (gathered : List ℕ) (before after : Option (List ℕ)) : Type 0 where

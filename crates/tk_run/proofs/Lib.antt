@@ -1,5 +1,4 @@
 -- What the run loop leaves, from one step to a whole run.
-pub mod Leading
 mod RunSoFar
 mod Advancing
 mod Gathered

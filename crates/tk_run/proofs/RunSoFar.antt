@@ -20,7 +20,7 @@ use Rattle.program_steps.specs.Stepping.{lines_text}
 use Rattle.program_steps.specs.Stepping.{Goes, Stays, AreMadeAt, ends_in_arrive, HasStepped, HasEntered}
 use Rattle.program_steps.proofs.MadeAt.{made_map, made_both}
 use Rattle.tk_run.specs.Running.{original_from, run_of, Visits}
-use Rattle.tk_run.proofs.Leading.{goes_on, stays_on, stays_self}
+use Rattle.program_steps.proofs.Leading.{goes_on, stays_on, stays_self}
 
 -- the run so far, over i steps: behind its lines the original's runs on from where the machine is now
 pub record Ran (old now : Machine) (i : ℕ) (before after : Option (List ℕ)) : Type 0 where

@@ -1,16 +1,10 @@
--- Lines that are gathered before they go out. This serves private functions alone.
-use Rattle.std.specs.Prelude.{ℕ, ◌++◌, true, List, [], Option, Some, Result, Ok, Err}
-use Rattle.tk_io.specs.Streams.{CutShort, IsSent}
+-- A run whose last lines are still gathered. This serves private functions alone.
+use Rattle.std.specs.Prelude.{ℕ, true, List, [], Option, Some, Result, Ok, Err}
+use Rattle.tk_io.specs.Streams.{IsSent}
 use Rattle.tk_io.specs.declared.failure.Failed.{Failed}
 use Rattle.step_laws.specs.declared.moves.End.{End}
 use Rattle.program_steps.specs.Machines.{Machine}
 use Rattle.tk_run.specs.Running.{HasAdvanced}
-
--- Bytes were gathered behind others. Of all of these some went out, from the front, and the rest is gathered;
--- or the sink failed, and what went out is a shorter part of them.
-abbrev pub Gathers : {T : Type 0} → (old new : List ℕ) → (before after : Option (List ℕ)) → Result T Failed → List ℕ → Type 0
-Gathers old new before after (Ok x) bytes = IsSent (old ++ bytes) new before after
-Gathers old new before after (Err e) bytes = CutShort before after (old ++ bytes)
 
 -- what the run leaves once the machine is marked as broken
 abbrev pub IsCut : (old new : Machine) → ℕ → (before after : Option (List ℕ)) → Failed → Type 0

@@ -1,22 +1,28 @@
 //! The machine: a mote that runs a program, how far it has come, and what was counted.
 
-ghost use Rattle.std.specs.Prelude.{◌≡◌, ◌≤◌, ◌+◌, ◌^◌, false, IfOk};
+ghost use Rattle.std.specs.Prelude.{◌≡◌, ◌≤◌, ◌+◌, ◌^◌, false, length, IfOk};
 ghost use Rattle.tk_io.specs.Faults.{HasCause};
 ghost use Rattle.tk_run.specs.Running.{HasAdvanced};
-ghost use Rattle.tk_run.specs.Booted.{booted};
+ghost use Rattle.flash_model.specs.Layouts.{layout_of};
+ghost use Rattle.nat_page.specs.Faithful.{IsFaithful};
+ghost use Rattle.swap_store.specs.Slots.{zero_slots};
+ghost use Rattle.program_steps.specs.Ready.{IsKept};
+ghost use Rattle.tk_run.specs.Booted.{begun as begun_by, booted, started_over};
 
 use crate::run::run_on;
 use crate::{End, Owed};
 use branch_bridge::Torn;
-use flash_model::Layout;
+use flash_model::{Flash, Layout};
 use hex_image::Image;
 use input_script::Script;
 use kernel_entry::Kernel;
 use mem_guard::Part;
 use mote_core::Mote;
+use nat_page::pages_in_use;
 use program_steps::Progress;
 use std::alloc::Global;
 use std::marker::Model;
+use swap_store::Swap;
 use tk_io::{Failed, NoMemory, Sink};
 
 /// How a machine is to run its program.
@@ -30,7 +36,7 @@ pub struct Options {
 
 /// A mote that runs a program. Its type keeps it sound, and ready to go on where it isn't broken and
 /// has no end.
-#[derive(Debug, Drop)]
+#[derive(Drop)]
 pub struct Machine {
     /// The mote, the layout of its flash, the program's part of the image, which is all of it, and the quantum.
     pub kernel: Kernel,
@@ -54,12 +60,14 @@ pub struct Machine {
     pub natural: u64,
     /// Kernel services.
     pub entries: u64,
-    /// Code pages that were made.
+    /// Code pages that were made, and those that the pool had when the run began.
     pub pages: u64,
     /// Plain steps after the last service.
     pub since: u64,
     /// The greatest value that `since` had.
     pub longest: u64,
+    /// How many of `pages` the pool had when the run began.
+    pub began: u64,
 }
 
 impl Model for Machine {
@@ -68,9 +76,9 @@ impl Model for Machine {
 
     ghost Value = { MachineValue };
 
-    ghost view = { λ m. record { kernel = m.kernel; at = m.at; owed = m.owed; end = m.end; due = m.due; torn = m.torn; broken = m.broken; steps = m.steps; crossings = m.crossings; natural = m.natural; entries = m.entries; pages = m.pages; since = m.since; longest = m.longest } };
+    ghost view = { λ m. record { kernel = m.kernel; at = m.at; owed = m.owed; end = m.end; due = m.due; torn = m.torn; broken = m.broken; steps = m.steps; crossings = m.crossings; natural = m.natural; entries = m.entries; pages = m.pages; since = m.since; longest = m.longest; began = m.began; others = 0 } };
 
-    ghost invariant = { λ m. IsKept (record { kernel = m.kernel; at = m.at; owed = m.owed; end = m.end; due = m.due; torn = m.torn; broken = m.broken; steps = m.steps; crossings = m.crossings; natural = m.natural; entries = m.entries; pages = m.pages; since = m.since; longest = m.longest }) };
+    ghost invariant = { λ m. IsKept (record { kernel = m.kernel; at = m.at; owed = m.owed; end = m.end; due = m.due; torn = m.torn; broken = m.broken; steps = m.steps; crossings = m.crossings; natural = m.natural; entries = m.entries; pages = m.pages; since = m.since; longest = m.longest; began = m.began; others = 0 }) };
 }
 
 impl Machine {
@@ -88,13 +96,45 @@ impl Machine {
         let mut mote = Mote::new(alloc, image.words(), script, options.swap)?;
         mote.sram.set_count(options.quantum);
         let layout = Layout::of(image.len_words());
-        let part = whole_part(&layout);
-        Ok(Machine {
+        Ok(Machine::begun(mote, layout, options.quantum, 0))
+    }
+
+    /// A machine over a flash whose pool may have pages, which are counted; it has done nothing yet, and owes an arrival
+    /// at 0. Operations on flash are counted from 1, and none is to fail: of the script the events alone are taken.
+    pub fn over(flash: Flash, image: &Image, script: Script, swap: Swap, quantum: u8) -> Machine
+        requires faithful { IsFaithful (layout_of (length image.now)) image.now flash.words }
+        requires quantum { 1 ≤ quantum }
+        requires swap { swap ≡ zero_slots (length swap) }
+        requires slots { length swap ≤ 251 }
+        ensures over { result ≡ started_over image.now flash script quantum (length swap) }
+        ensures kept { IsKept result }
+    {
+        let layout = Layout::of(image.len_words());
+        let pages = pages_in_use(&flash, &layout);
+        let mut flash = flash;
+        flash.renew();
+        let mut mote = Mote::over(flash, script, swap);
+        mote.sram.set_count(quantum);
+        Machine::begun(mote, layout, quantum, u64::from(pages))
+    }
+
+    /// A machine of this mote that has done nothing yet, whose program has the whole image, and which has these pages in
+    /// its pool.
+    fn begun(mote: Mote, layout: Layout, quantum: u8, pages: u64) -> Machine
+        requires kept { IsKept (begun_by mote layout quantum pages) }
+        ensures begun { result ≡ begun_by mote layout quantum pages }
+    {
+        let part = Part {
+            first: 0,
+            count: layout.image_words,
+            shut: false,
+        };
+        Machine {
             kernel: Kernel {
                 mote,
                 layout,
                 part,
-                quantum: options.quantum,
+                quantum,
             },
             at: 0,
             owed: Some(Owed {
@@ -109,10 +149,11 @@ impl Machine {
             crossings: 0,
             natural: 0,
             entries: 0,
-            pages: 0,
+            pages,
             since: 0,
             longest: 0,
-        })
+            began: pages,
+        }
     }
 
     /// Does up to n further steps, and puts their device lines to `out`: where 4,096 bytes were gathered,
@@ -140,6 +181,8 @@ impl Machine {
             pages: self.pages,
             since: self.since,
             longest: self.longest,
+            began: self.began,
+            others: 0,
             line: None,
         };
         let result = run_on(&mut self.kernel, &mut p, n, out);
@@ -156,17 +199,7 @@ impl Machine {
         self.pages = p.pages;
         self.since = p.since;
         self.longest = p.longest.max(p.since);
+        self.began = p.began;
         result
-    }
-}
-
-/// The part of a program that has the whole image.
-fn whole_part(layout: &Layout) -> Part
-    ensures value { result ≡ record { first = 0; count = layout.now.image_words; shut = false } }
-{
-    Part {
-        first: 0,
-        count: layout.image_words,
-        shut: false,
     }
 }

@@ -8,8 +8,9 @@ ghost use Rattle.tk_run.specs.Running.{HasAdvanced};
 ghost use Rattle.program_steps.specs.Wholes.{whole};
 
 use crate::End;
-use crate::lines::{Gathered, gather, send, send_in_turn, up_to_turn};
+use crate::lines::gather;
 use kernel_entry::Kernel;
+use line_text::{Gathered, send, send_in_turn, up_to_turn};
 use page_index::Cursor;
 use program_steps::{Progress, at_bound, enter, must_take, steps, take};
 use tk_io::{Failed, Sink};
@@ -27,6 +28,7 @@ pub(crate) fn run_on<K: Sink>(
     requires steps { p.old.steps + n ≤ 10 ^ 12 }
     requires unshut { k.old.part.shut ≡ false }
     ensures advanced { HasAdvanced (whole k.old p.old) (whole k.new p.new) n (K.taken out.old) (K.taken out.new) result }
+    ensures others { p.new.others ≡ p.old.others }
     ensures cause { HasCause (K.faults out.old) (K.faults out.new) result }
 {
     if let Some(end) = p.end {

@@ -47,16 +47,22 @@ waiting_done task quantum slots [] tasks whole none so_far = sym (append-nil tas
 waiting_done task quantum slots (script ∷ scripts) tasks whole none so_far = absurd (omega arith)
 
 -- all of them together
+-- the flash that it makes
+pub flash_by : (image words : List ℕ) (first script : Schedule) (others : List Schedule) (count : ℕ) (flash : Memory) → flash ≡ new_flash words script.failing → count ≡ length others + 1 → words ≡ task_words count image → script ≡ first → first.failing ≡ []
+    → flash ≡ new_flash (task_words (length others + 1) image) []
+flash_by image words first script others count flash reset counted is same none =
+    reset ∙ ap (λ s. new_flash words s.failing) same ∙ ap (λ f. new_flash words f) none ∙ ap (λ l. new_flash l []) (is ∙ ap (λ n. task_words n image) counted)
+
 pub booted_by : (image words : List ℕ) (first script : Schedule) (others : List Schedule) (count quantum slots : ℕ) (mote : Mote) (sram : List ℕ) (layout : Layout) (part : Part) (tasks : List Task)
     → IsAtReset words script slots mote → count ≡ length others + 1 → words ≡ task_words count image → script ≡ first → first.failing ≡ [] → sram ≡ with_byte mote.sram count_cell quantum → layout ≡ layout_of (length words) → part ≡ quarter_part 0
     → tasks ≡ at_start 0 None ∷ waiting_from 1 others quantum slots
-    → ◌≡◌ {A = Tasks} (record { kernel = record { mote = record mote { sram = sram }; layout = layout; part = part; quantum = quantum }; running = 0; tasks = tasks; broken = false; natural = 0; entries = 0; pages = 0; switches = 0 }) (booted image first others quantum slots)
+    → ◌≡◌ {A = Tasks} (record { kernel = record { mote = record mote { sram = sram }; layout = layout; part = part; quantum = quantum }; running = 0; stub = None; tasks = tasks; broken = false; natural = 0; entries = 0; pages = 0; switches = 0 }) (booted image first others quantum slots)
 booted_by image words first script others count quantum slots mote sram layout part tasks reset counted is same none set laid own so =
     let whole = task_words (length others + 1) image in
     let word_list : words ≡ whole = is ∙ ap (λ n. task_words n image) counted in
-    let make : Cpu → List ℕ → Memory → Devices → List (List ℕ) → Layout → Part → List Task → Tasks = λ c r f d w l p t. record { kernel = record { mote = record { cpu = c; sram = r; flash = f; devices = d; swap = w }; layout = l; part = p; quantum = quantum }; running = 0; tasks = t; broken = false; natural = 0; entries = 0; pages = 0; switches = 0 } in
+    let make : Cpu → List ℕ → Memory → Devices → List (List ℕ) → Layout → Part → List Task → Tasks = λ c r f d w l p t. record { kernel = record { mote = record { cpu = c; sram = r; flash = f; devices = d; swap = w }; layout = l; part = p; quantum = quantum }; running = 0; stub = None; tasks = t; broken = false; natural = 0; entries = 0; pages = 0; switches = 0 } in
     let boot = with_byte at_boot count_cell quantum in
-    let flash : mote.flash ≡ new_flash whole [] = reset.flash ∙ ap (λ s. new_flash words s.failing) same ∙ ap (λ f. new_flash words f) none ∙ ap (λ l. new_flash l []) word_list in
+    let flash : mote.flash ≡ new_flash whole [] = flash_by image words first script others count mote.flash reset.flash counted is same none in
     ap (λ c. make c sram mote.flash mote.devices mote.swap layout part tasks) reset.cpu
     ∙ ap (λ r. make cpu_at_reset r mote.flash mote.devices mote.swap layout part tasks) (set ∙ ap (λ b. with_byte b count_cell quantum) reset.sram)
     ∙ ap (λ f. make cpu_at_reset boot f mote.devices mote.swap layout part tasks) flash

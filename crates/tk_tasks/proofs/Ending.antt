@@ -18,7 +18,7 @@ find_by : (test : Bool) (x k : ℕ) (rest : Option ℕ) → cond test (Some x) r
 find_by true x k rest is = inl (refl, cc)
 find_by false x k rest is = inr is
 
-found_holds : (P : ℕ → Type 0) (f : ℕ → Bool) (xs : List ℕ) (k : ℕ) → All P xs → find f xs ≡ Some k → P k × (f k ≡ true)
+pub found_holds : (P : ℕ → Type 0) (f : ℕ → Bool) (xs : List ℕ) (k : ℕ) → All P xs → find f xs ≡ Some k → P k × (f k ≡ true)
 found_holds P f [] k all is = absurd (cc)
 found_holds P f (x ∷ xs) k all is = elim (find_by (f x) x k (find f xs) is) [
   | inl both ↦ (subst P both.1 (All-head P x xs all), ap f (sym both.1) ∙ both.0)
@@ -40,13 +40,13 @@ none_behind f [] (y ∷ ys) zero is below = (none_by (f y) y (find f ys) is).0
 none_behind f [] (y ∷ ys) (suc k) is below = none_behind f [] ys k (none_by (f y) y (find f ys) is).1 (omega arith)
 none_behind f (x ∷ xs) ys k is below = none_behind f xs ys k (none_by (f x) x (find f (xs ++ ys)) is).1 below
 
-in_range : (a n m : ℕ) → a + n ≤ m → All (λ k. k < m) (range_with_len a n)
+pub in_range : (a n m : ℕ) → a + n ≤ m → All (λ k. k < m) (range_with_len a n)
 in_range a n m fits = λ k d below.
     let inside : k < n = omega (arith, length-range_with_len a n) in
     let at : get_or (range_with_len a n) k d ≡ a + k = get_or-range_with_len a n k d inside in
     omega arith
 
-not_true : (b : Bool) → not b ≡ true → b ≡ false
+pub not_true : (b : Bool) → not b ≡ true → b ≡ false
 not_true true is = absurd (cc)
 not_true false is = refl
 
@@ -59,12 +59,12 @@ ended_at t k p there =
     ap is_some (get_or-map (λ (q : Player). q.end) t.players k p None (slice_get_within t.players k p there) ∙ ap (λ (q : Player). q.end) (get_or_from_slice_get t.players k p p there))
 
 -- the task that is stepped is one of them, and has ended only where all have
-record Ready (t : Turns) : Type 0 where
-  p : Player
-  there : slice_get t.players t.running ≡ Some p
-  over : is_some p.end ≡ true → HaveEnded t
+pub record Ready (t : Turns) : Type 0 where
+  pub p : Player
+  pub there : slice_get t.players t.running ≡ Some p
+  pub over : is_some p.end ≡ true → HaveEnded t
 
-all_by : (t : Turns) (p : Player) → slice_get t.players t.running ≡ Some p → find (λ task. not (has_ended (ends_of t) task)) (others t) ≡ None → is_some p.end ≡ true → HaveEnded t
+all_by : (t : Turns) (p : Player) → slice_get t.players t.running ≡ Some p → find (λ task. not (has_ended (ends_of t) task)) (others t.running (length t.players)) ≡ None → is_some p.end ≡ true → HaveEnded t
 all_by t p there none over = λ k q here.
     let f : ℕ → Bool = λ task. not (has_ended (ends_of t) task) in
     let n = length t.players in
@@ -95,13 +95,13 @@ all_by t p there none over = λ k q here.
 true_false : (b : Bool) → b ≡ true → b ≡ false → ⊥
 true_false b holds fails = let both : ◌≡◌ {A = Bool} true false = sym holds ∙ fails in absurd (cc)
 
-ready_by : (t : Turns) (p : Player) (found : Option ℕ) → slice_get t.players t.running ≡ Some p → find (λ task. not (has_ended (ends_of t) task)) (others t) ≡ found → Ready (changed_to t found)
+ready_by : (t : Turns) (p : Player) (found : Option ℕ) → slice_get t.players t.running ≡ Some p → find (λ task. not (has_ended (ends_of t) task)) (others t.running (length t.players)) ≡ found → Ready (changed_to t found)
 ready_by t p None there is = record { p = p; there = there; over = λ ended. all_by t p there is ended }
 ready_by t p (Some k) there is =
     let n = length t.players in
     let inside = slice_get_within t.players t.running p there in
-    let all : All (λ j. j < n) (others t) = All-append (λ j. j < n) (range_with_len (t.running + 1) (n - (t.running + 1))) (range_with_len 0 t.running) (in_range (t.running + 1) (n - (t.running + 1)) n (omega arith)) (in_range 0 t.running n (omega arith)) in
-    let holds = found_holds (λ j. j < n) (λ task. not (has_ended (ends_of t) task)) (others t) k all is in
+    let all : All (λ j. j < n) (others t.running (length t.players)) = All-append (λ j. j < n) (range_with_len (t.running + 1) (n - (t.running + 1))) (range_with_len 0 t.running) (in_range (t.running + 1) (n - (t.running + 1)) n (omega arith)) (in_range 0 t.running n (omega arith)) in
+    let holds = found_holds (λ j. j < n) (λ task. not (has_ended (ends_of t) task)) (others t.running (length t.players)) k all is in
     let q = get_or t.players k p in
     let here : slice_get t.players k ≡ Some q = slice_get-get_or t.players k p holds.0 in
     record {
@@ -113,13 +113,13 @@ ready_by t p (Some k) there is =
     }
 
 ready_changed : (t : Turns) (p : Player) → slice_get t.players t.running ≡ Some p → Ready (changed t)
-ready_changed t p there = ready_by t p (find (λ task. not (has_ended (ends_of t) task)) (others t)) there refl
+ready_changed t p there = ready_by t p (find (λ task. not (has_ended (ends_of t) task)) (others t.running (length t.players))) there refl
 
 none_ended : (e : Option End) → e ≡ None → is_some e ≡ true → ⊥
 none_ended None is ended = cc
 none_ended (Some end) is ended = cc
 
-ready_once : (t : Turns) (p : Player) (a : After) → slice_get t.players t.running ≡ Some p → (one : IsOnce t p a) → Ready a.turns
+pub ready_once : (t : Turns) (p : Player) (a : After) → slice_get t.players t.running ≡ Some p → (one : IsOnce t p a) → Ready a.turns
 ready_once t p a there one =
     let here : slice_get (with_player t one.q).players t.running ≡ Some one.q = set_here t.players t.running p one.q there in
     elim one.next [
@@ -129,11 +129,11 @@ ready_once t p a there one =
 
 -- ---- how many tries there may be
 
-still : List Player → ℕ
+unfoldable pub still : List Player → ℕ
 still [] = 0
 still (p ∷ players) = weight p + still players
 
-still_set : (players : List Player) (r : ℕ) (p q : Player) → slice_get players r ≡ Some p → weight q + 1 ≤ weight p → still (slice_set players r q) + 1 ≤ still players
+pub still_set : (players : List Player) (r : ℕ) (p q : Player) → slice_get players r ≡ Some p → weight q + 1 ≤ weight p → still (slice_set players r q) + 1 ≤ still players
 unfolding still
 still_set [] r p q is less = absurd (cc)
 still_set (y ∷ players) zero p q is less =
@@ -146,7 +146,7 @@ weight_none : (p : Player) (end : Option End) → p.end ≡ end → weight p ≤
 weight_none p None is none = absurd (omega (arith, weight_going p is))
 weight_none p (Some end) is none = refl
 
-still_none : (players : List Player) (k : ℕ) (p : Player) → still players ≤ 0 → slice_get players k ≡ Some p → is_some p.end ≡ true
+pub still_none : (players : List Player) (k : ℕ) (p : Player) → still players ≤ 0 → slice_get players k ≡ Some p → is_some p.end ≡ true
 unfolding still
 still_none [] k p none is = absurd (cc)
 still_none (y ∷ players) zero p none is =
@@ -180,7 +180,7 @@ weight_most : (p : Player) (end : Option End) → p.end ≡ end → weight p ≤
 weight_most p None is = omega (arith, weight_going p is)
 weight_most p (Some end) is = omega (arith, weight_ended p end is)
 
-still_sum : (players : List Player) → still players ≤ sum_by (λ p. p.left + 1) players
+pub still_sum : (players : List Player) → still players ≤ sum_by (λ p. p.left + 1) players
 unfolding still
 still_sum [] = omega arith
 still_sum (p ∷ players) =

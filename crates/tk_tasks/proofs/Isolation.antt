@@ -180,7 +180,7 @@ set_here [] r p x is = absurd (cc)
 set_here (y ∷ players) zero p x is = refl
 set_here (y ∷ players) (suc r) p x is = set_here players r p x is
 
-set_elsewhere : (players : List Player) (i r : ℕ) (x : Player) → i ≢ r → slice_get (slice_set players r x) i ≡ slice_get players i
+pub set_elsewhere : (players : List Player) (i r : ℕ) (x : Player) → i ≢ r → slice_get (slice_set players r x) i ≡ slice_get players i
 set_elsewhere [] i r x apart = refl
 set_elsewhere (y ∷ players) zero zero x apart = absurd (apart refl)
 set_elsewhere (y ∷ players) (suc i) zero x apart = refl

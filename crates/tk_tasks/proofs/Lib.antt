@@ -1,9 +1,20 @@
 mod OwnLines
 mod OwnTexts
 mod FirstLines
-mod FirstFaults
+pub mod FirstFaults
 mod Parkings
 mod Booting
 mod WorkedTurns
-mod Isolation
+pub mod Isolation
 mod Ending
+mod Paths
+mod Crossings
+mod Trials
+mod Changing
+mod Starting
+mod Keeping
+mod Playing
+mod Telling
+mod Sums
+mod Runs
+pub mod OwnPrograms

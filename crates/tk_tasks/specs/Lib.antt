@@ -2,6 +2,10 @@ pub mod Scripts
 pub mod Reading
 pub mod Images
 pub mod Parking
+pub mod Turns
 pub mod States
 pub mod Booted
-pub mod Turns
+pub mod Changes
+pub mod Plays
+pub mod Trying
+pub mod Running

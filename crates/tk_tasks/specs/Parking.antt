@@ -21,6 +21,10 @@ high_first = 0x0400
 abbrev pub high_count : ℕ
 high_count = 3328
 
+-- its bytes of SRAM are as many
+abbrev pub IsSized : Parked → Type 0
+IsSized parked = (length parked.low ≡ low_count) × (length parked.high ≡ high_count)
+
 -- what is parked of a mote
 abbrev pub parked_of : Mote → Parked
 parked_of m = record {

@@ -58,13 +58,17 @@ tried_by p None = played_by p (next_of p.program p.moment)
 abbrev pub played : Player → Played
 played p = tried_by p (rests p)
 
--- the tasks behind this one, in turn, and then those before it
-abbrev pub others : Turns → List ℕ
-others t = range_with_len (t.running + 1) (length t.players - (t.running + 1)) ++ range_with_len 0 t.running
+-- of so many tasks those behind this one, in turn, and then those before it
+abbrev pub others : (running count : ℕ) → List ℕ
+others running count = range_with_len (running + 1) (count - (running + 1)) ++ range_with_len 0 running
 
 -- a task has ended, where these are their ends
 abbrev pub has_ended : List (Option End) → ℕ → Bool
 has_ended ends task = is_some (slice_index_or ends task None)
+
+-- the next in turn that has not
+abbrev pub next_in : (running count : ℕ) → List (Option End) → Option ℕ
+next_in running count ends = find (λ task. not (has_ended ends task)) (others running count)
 
 abbrev pub ends_of : Turns → List (Option End)
 ends_of t = map (λ p. p.end) t.players
@@ -75,7 +79,7 @@ changed_to t None = t
 changed_to t (Some next) = record t { running = next; switches = t.switches + 1 }
 
 abbrev pub changed : Turns → Turns
-changed t = changed_to t (find (λ task. not (has_ended (ends_of t) task)) (others t))
+changed t = changed_to t (next_in t.running (length t.players) (ends_of t))
 
 abbrev pub with_player : Turns → Player → Turns
 with_player t p = record t { players = slice_set t.players t.running p }

@@ -3,7 +3,8 @@
 ghost use Rattle.std.specs.Prelude.{◌≡◌, ◌≤◌, ◌<◌, ◌+◌, ◌∷◌, ℕ, [], List, All, IfOk, length};
 ghost use Rattle.input_script.specs.Script.{Schedule};
 ghost use Rattle.tk_tasks.specs.Images.{IsMisplaced, quarter_part};
-ghost use Rattle.tk_tasks.specs.Booted.{booted, at_start};
+ghost use Rattle.tk_tasks.specs.States.{AreSound, turns_of};
+ghost use Rattle.tk_tasks.specs.Booted.{IsUnstarted, booted, at_start, turns_at_reset};
 
 use crate::image::{QUARTER, task_image};
 use crate::parked::Parked;
@@ -47,10 +48,18 @@ pub struct Task {
     pub steps: u64,
     /// Steps that went backward, stayed, or left their page of 128 words.
     pub crossings: u64,
+    /// Plain AVR steps in code pages.
+    pub natural: u64,
+    /// Kernel services.
+    pub entries: u64,
+    /// Plain steps after the last service.
+    pub since: u64,
+    /// The greatest value that `since` had.
+    pub longest: u64,
 }
 
 /// The words of the image that a task has for its own, and out of which it may not read.
-fn quarter_of(task: u8) -> Part
+pub(crate) fn quarter_of(task: u8) -> Part
     requires { task < 4 }
     ensures value { result ≡ quarter_part task }
 {
@@ -76,23 +85,29 @@ impl Task {
             end: None,
             steps: 0,
             crossings: 0,
+            natural: 0,
+            entries: 0,
+            since: 0,
+            longest: 0,
         }
     }
 }
 
 /// Up to four tasks that share a mote, its flash and its pool of code pages.
-#[derive(Debug, Drop)]
+#[derive(Drop)]
 pub struct Tasks {
     /// The mote, as the running task has it, the layout of its flash, and the quantum.
     pub kernel: Kernel,
     /// The task that has the mote.
     pub running: u8,
+    /// The stub that asked for the arrival that the running task owes, where one did.
+    pub stub: Option<u16>,
     pub tasks: Vec<Task>,
     /// Whether a line could not be put: then no task goes further.
     pub broken: bool,
-    /// Plain AVR steps in code pages.
+    /// Plain AVR steps in code pages, of all tasks.
     pub natural: u64,
-    /// Kernel services.
+    /// Kernel services, of all tasks.
     pub entries: u64,
     /// Code pages that were made.
     pub pages: u64,
@@ -105,7 +120,7 @@ impl Model for Tasks {
 
     ghost Value = { TasksValue };
 
-    ghost view = { λ t. record { kernel = t.kernel; running = t.running; tasks = t.tasks.items; broken = t.broken; natural = t.natural; entries = t.entries; pages = t.pages; switches = t.switches } };
+    ghost view = { λ t. record { kernel = t.kernel; running = t.running; stub = t.stub; tasks = t.tasks.items; broken = t.broken; natural = t.natural; entries = t.entries; pages = t.pages; switches = t.switches } };
 }
 
 impl Tasks {
@@ -125,6 +140,9 @@ impl Tasks {
         requires swap { swap ≤ 62 }
         ensures booted { (first : Schedule) → (others : List Schedule) → scripts.items ≡ first ∷ others
             → IfOk result (λ tasks. tasks ≡ booted image.now first others quantum swap) }
+        ensures sound { IfOk result (λ tasks. AreSound tasks) }
+        ensures unstarted { IfOk result (λ tasks. IsUnstarted tasks) }
+        ensures turns { IfOk result (λ tasks. (n : ℕ) → turns_of n tasks ≡ turns_at_reset image.now scripts.items quantum swap n) }
     {
         let mut scripts = scripts;
         let count = scripts.len() as u8;
@@ -147,6 +165,7 @@ impl Tasks {
                 quantum,
             },
             running: 0,
+            stub: None,
             tasks,
             broken: false,
             natural: 0,

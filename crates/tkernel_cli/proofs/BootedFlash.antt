@@ -1,16 +1,16 @@
 -- The machine that a run begins with is kept by its type.
-use Rattle.std.proofs.Common.{ℕ, ◌<◌, ◌≤◌, List, length, arith, inl, inr}
+use Rattle.std.proofs.Common.{ℕ, ◌<◌, ◌≤◌, List, length, arith, refl, inl, inr}
 use Rattle.std.proofs.lemmas.Bool.{cases_lt}
 use Rattle.std.proofs.lemmas.List.{get_or_past}
 use Rattle.hex_image.specs.Image.{IsImage}
 use Rattle.flash_model.specs.Pages.{page_count}
-use Rattle.flash_model.specs.Memory.{AreWords, IsWhole}
+use Rattle.flash_model.specs.Memory.{AreWords, IsWhole, new_flash}
 use Rattle.flash_model.proofs.LoadedLaws.{length-loaded}
 use Rattle.list_parts.proofs.ManyLaws.{length-many}
 use Rattle.flash_model.proofs.WordLaws.{loaded_fits}
 use Rattle.tk_run.specs.Booted.{booted}
 use Rattle.program_steps.specs.Ready.{IsKept}
-use Rattle.tk_run.proofs.Booting.{going_boot, kept_boot}
+use Rattle.tk_run.proofs.Booting.{begun_boot, start_is_kept}
 use Rattle.tkernel_cli.specs.declared.request.Request.{Request}
 
 -- an image's words have 16 bits
@@ -29,5 +29,5 @@ whole_boot request is = record {
 
 pub boot_kept : (request : Request) → IsImage request.image → 1 ≤ request.options.quantum → request.options.quantum < 256 → request.options.swap ≤ 251 → IsKept (booted request.image request.script request.options.quantum request.options.swap)
 boot_kept request is some low few =
-    kept_boot request.image request.script request.options.quantum request.options.swap
-    (going_boot request.image request.script request.options.quantum request.options.swap is some low few (whole_boot request is))
+    let flash = new_flash request.image request.script.failing in
+    start_is_kept request.image flash request.script request.options.quantum request.options.swap 0 (booted request.image request.script request.options.quantum request.options.swap) refl is some low few (begun_boot request.image request.script is (whole_boot request is))

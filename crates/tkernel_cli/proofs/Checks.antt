@@ -53,7 +53,7 @@ pub data Answers (image flash : List ℕ) (sink sink' : Stream) (exit : Exit) : 
 line_told : (image flash : List ℕ) (sink sink' : Stream) (exit : Exit) (job : Job) → (Rose sink.faults sink'.faults → ⊥) → Does job sink sink' exit → IsLine image flash job → Answers image flash sink sink' exit
 line_told image flash sink sink' exit job well done line =
     let whole = done_whole (verdict_line line.verdict) sink sink' exit well (subst (λ j. Does j sink sink' exit) line.line done) in
-    Verdicts line.verdict line.is whole.0 whole.1 whole.2
+    Verdicts line.verdict line.is whole.0 whole.1 whole.2.0
 
 by_source : (image flash text : List ℕ) (position : ℕ) (source source' sink sink' : Stream) (exit : Exit) (job : Job) → Tells source source' text → length text ≤ most_input → HexText text image position → IsDump (drop position text) flash
     → (Rose sink.faults sink'.faults → ⊥) → Does job sink sink' exit → AsksByText CheckAsks source source' job → Answers image flash sink sink' exit

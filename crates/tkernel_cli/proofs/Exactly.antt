@@ -5,7 +5,7 @@ use Rattle.std.specs.Io.KnownBytes.{Consumes, IsAtEnd}
 use Rattle.tk_io.specs.Faults.{Rose}
 use Rattle.tk_io.specs.Streams.{Takes}
 use Rattle.tkernel_cli.specs.declared.command.Command.{Command}
-use Rattle.tkernel_cli.specs.declared.command.Command.TheVariants.{Help, Run, Dump, Check, Generate, Asm}
+use Rattle.tkernel_cli.specs.declared.command.Command.TheVariants.{Help, Run, Dump, Restart, Tasks, Check, Generate, Asm}
 use Rattle.tkernel_cli.specs.declared.job.Job.{Job}
 use Rattle.tkernel_cli.specs.declared.job.Job.TheVariants as jobs
 use Rattle.tkernel_cli.specs.declared.status.Status.TheVariants as status
@@ -15,8 +15,8 @@ use Rattle.tkernel_cli.specs.Reading.{AsksByText, IsUnread, Limited, most_input}
 use Rattle.tkernel_cli.specs.Runs.{Says, Stream}
 use Rattle.tkernel_cli.specs.Answer.{Asks, AsksWith, Does, DoesWhole, IsAnswer, IsAsked, IsExact, IsWarranted, Tells}
 use Rattle.tkernel_cli.proofs.OneCommand.{one_command}
-use Rattle.tkernel_cli.proofs.OneJob.{IsOne, one_check, one_dump, one_run, one_source}
-use Rattle.tkernel_cli.proofs.WholeRuns.{run_is_whole, said_whole}
+use Rattle.tkernel_cli.proofs.OneJob.{IsOne, one_check, one_dump, one_restart, one_run, one_source, one_tasks}
+use Rattle.tkernel_cli.proofs.WholeRuns.{run_is_whole, restart_is_whole, said_whole, tasks_are_whole}
 
 -- what a source that told its text gave is that text
 pub all_taken : (told now : Option (List ℕ)) (text given : List ℕ) → told ≡ Some text → Consumes told now given → IsAtEnd now → given ≡ text
@@ -57,6 +57,8 @@ reason_of : (command : Command) (before now : Stream) (job whole : Job) → Asks
 reason_of Help before now job whole asks is = Same (asks.0 ∙ sym is)
 reason_of (Run options) before now job whole asks by = by_text _ before now by.0 job whole (one_run options) by.1 asks by.2
 reason_of (Dump options) before now job whole asks by = by_text _ before now by.0 job whole (one_dump options) by.1 asks by.2
+reason_of (Restart options) before now job whole asks by = by_text _ before now by.0 job whole (one_restart options) by.1 asks by.2
+reason_of (Tasks options) before now job whole asks by = by_text _ before now by.0 job whole (one_tasks options) by.1 asks by.2
 reason_of Check before now job whole asks by = by_text _ before now by.0 job whole one_check by.1 asks by.2
 reason_of (Generate seed) before now job whole (inl made, read) is = Same (made ∙ sym is)
 reason_of (Generate seed) before now job whole (inr none, read) is = Wanting none
@@ -88,6 +90,8 @@ done_whole (jobs.Print own line) sink sink' exit well done =
     (whole.0, whole.1, done.1)
 done_whole (jobs.Run request) sink sink' exit well done = (done, run_is_whole request sink sink' exit well done)
 done_whole (jobs.Dump request) sink sink' exit well done = (done, dumped_whole sink sink' exit _ well done.said)
+done_whole (jobs.Restart request again) sink sink' exit well done = (done, restart_is_whole request sink sink' exit well done)
+done_whole (jobs.Tasks request) sink sink' exit well done = (done, tasks_are_whole request sink sink' exit well done)
 done_whole (jobs.Write text) sink sink' exit well done =
     let whole = said_whole status.Done exit.status text sink sink' well done.0 in
     (whole.0, whole.1, done.1)

@@ -5,14 +5,16 @@ use Rattle.hex_image.specs.HexText.{HexText}
 use Rattle.text_lines.proofs.TextLaws.{front-short}
 use Rattle.tk_io.specs.Streams.{TakesAtMost}
 use Rattle.tkernel_cli.specs.declared.command.Command.{Command}
-use Rattle.tkernel_cli.specs.declared.command.Command.TheVariants.{Help, Run, Dump, Check, Generate, Asm}
+use Rattle.tkernel_cli.specs.declared.command.Command.TheVariants.{Help, Run, Dump, Restart, Tasks, Check, Generate, Asm}
 use Rattle.tkernel_cli.specs.declared.job.Job.{Job}
 use Rattle.tkernel_cli.specs.declared.top.Exit.{Exit}
 use Rattle.tkernel_cli.specs.AsmCommand.{AsmAsks}
 use Rattle.tkernel_cli.specs.CheckCommand.{CheckAsks}
 use Rattle.tkernel_cli.specs.Commands.{RunsAProgram}
 use Rattle.tkernel_cli.specs.DumpCommand.{DumpAsks}
+use Rattle.tkernel_cli.specs.RestartCommand.{RestartAsks}
 use Rattle.tkernel_cli.specs.RunCommand.{RunAsks}
+use Rattle.tkernel_cli.specs.TasksCommand.{TasksAsks}
 use Rattle.tkernel_cli.specs.Printed.{no_memory}
 use Rattle.tkernel_cli.specs.Reading.{AsksByText, Gave, IsUnread, most_input}
 use Rattle.tkernel_cli.specs.Runs.{Stream}
@@ -41,6 +43,8 @@ run_wants : (command : Command) (before now : Stream) (job : Job) → RunsAProgr
 run_wants Help before now job runs asks = absurd (subst RunsAProgram asks.0 runs)
 run_wants (Run options) before now job runs asks = text_wants (RunAsks options) before now job runs asks
 run_wants (Dump options) before now job runs asks = text_wants (DumpAsks options) before now job runs asks
+run_wants (Restart options) before now job runs asks = text_wants (RestartAsks options) before now job runs asks
+run_wants (Tasks options) before now job runs asks = text_wants (TasksAsks options) before now job runs asks
 run_wants Check before now job runs asks = text_wants CheckAsks before now job runs asks
 run_wants (Generate seed) before now job runs asks = (inr refl, asks.1)
 run_wants Asm before now job runs asks = text_wants AsmAsks before now job runs asks

@@ -10,6 +10,11 @@ pub mod Judging
 pub mod Putting
 pub mod BootedFlash
 pub mod RunEnds
+pub mod TornWords
+pub mod LostFlash
+pub mod RestartEnds
+mod TasksEnds
 pub mod WholeRuns
 pub mod Exactly
 pub mod Checks
+pub mod WorkedWords

@@ -8,7 +8,7 @@ use Rattle.std.specs.Str.Parse.{digits_value}
 use Rattle.input_script.specs.Grammar.{IsNumber}
 use Rattle.tkernel_cli.specs.declared.table.Row.{Row}
 use Rattle.tkernel_cli.specs.declared.table.Parameter.{Parameter}
-use Rattle.tkernel_cli.specs.declared.table.Parameter.TheVariants.{Seed, Steps, Quantum, Swap}
+use Rattle.tkernel_cli.specs.declared.table.Parameter.TheVariants.{Seed, Count, Steps, Quantum, Swap}
 use Rattle.tkernel_cli.specs.declared.options.Choice.{Choice}
 use Rattle.tkernel_cli.specs.Options.{BeginsWith, IsWritten, name_of, row_in}
 use Rattle.tkernel_cli.specs.OptionReading.{Found, behind, named_in, number_in, stripped, value_at}
@@ -29,6 +29,8 @@ unnamed (c ∷ digits) value number =
 -- words that write digits of a parameter are read so
 pub is_read : (parameter : Parameter) (digits : List ℕ) (value : ℕ) (words rest : List (List ℕ)) → IsNumber digits value → IsWritten (name_of parameter) digits words rest → number_in words ≡ Some (parameter, digits, rest)
 is_read Seed digits value words rest number is = ap number_in is ∙ ap (λ named. option_map_or (λ (n : Parameter × List ℕ). value_at n.0 n.1 rest) named (Some (Seed, digits, rest))) (unnamed digits value number)
+is_read Count digits value words rest number (inl is) = ap number_in is
+is_read Count digits value words rest number (inr is) = ap number_in is
 is_read Steps digits value words rest number (inl is) = ap number_in is
 is_read Steps digits value words rest number (inr is) = ap number_in is
 is_read Quantum digits value words rest number (inl is) = ap number_in is
@@ -62,7 +64,8 @@ named_is : (word : List ℕ) → IsNamed word (named_in word)
 named_is word =
     either_named word _ _ (behind_named Steps (codes "--steps") word _ refl (stripped_is (codes "--steps") word))
     (either_named word _ _ (behind_named Quantum (codes "--quantum") word _ refl (stripped_is (codes "--quantum") word))
-    (behind_named Swap (codes "--swap") word _ refl (stripped_is (codes "--swap") word)))
+    (either_named word _ _ (behind_named Swap (codes "--swap") word _ refl (stripped_is (codes "--swap") word))
+    (behind_named Count (codes "--tasks") word _ refl (stripped_is (codes "--tasks") word))))
 
 value_written : (found parameter : Parameter) (name word behind digits : List ℕ) (later rest : List (List ℕ)) → name_of found ≡ Some name → word ≡ name ++ behind → value_at found behind later ≡ Some (parameter, digits, rest) → IsWritten (name_of parameter) digits (word ∷ later) rest
 value_written found parameter name word [] digits [] rest has is read = absurd (cc)

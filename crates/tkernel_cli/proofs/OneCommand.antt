@@ -4,7 +4,7 @@ use Rattle.std.specs.Prelude.{MatchOption, Option, Some, None}
 use Rattle.tkernel_cli.specs.declared.command.Command.{Command}
 use Rattle.tkernel_cli.specs.declared.command.Command.TheVariants as commands
 use Rattle.tkernel_cli.specs.declared.table.CommandName.{CommandName}
-use Rattle.tkernel_cli.specs.declared.table.CommandName.TheVariants.{Help, Run, Dump, Check, Generate, Asm}
+use Rattle.tkernel_cli.specs.declared.table.CommandName.TheVariants.{Help, Run, Dump, Restart, Tasks, Check, Generate, Asm}
 use Rattle.tkernel_cli.specs.declared.table.Row.{Row}
 use Rattle.tkernel_cli.specs.Options.{AreValues, Choose, IsWords, nothing, rows_of, word_of}
 use Rattle.tkernel_cli.specs.OptionReading.{stripped}
@@ -21,12 +21,14 @@ named_by [] word = None
 named_by (name ∷ names) word = or_found name (stripped (word_of name) word) (named_by names word)
 
 abbrev all_names : List CommandName
-all_names = Help ∷ Run ∷ Dump ∷ Check ∷ Generate ∷ Asm ∷ []
+all_names = Help ∷ Run ∷ Dump ∷ Restart ∷ Tasks ∷ Check ∷ Generate ∷ Asm ∷ []
 
 names_itself : (name : CommandName) → named_by all_names (word_of name) ≡ Some name
 names_itself Help = refl
 names_itself Run = refl
 names_itself Dump = refl
+names_itself Restart = refl
+names_itself Tasks = refl
 names_itself Check = refl
 names_itself Generate = refl
 names_itself Asm = refl
@@ -74,6 +76,8 @@ abbrev made : CommandName → List ℕ → Option Command
 made Help values = Some commands.Help
 made Run (steps ∷ quantum ∷ swap ∷ []) = Some (commands.Run (record { steps = steps; quantum = quantum; swap = swap }))
 made Dump (steps ∷ quantum ∷ swap ∷ []) = Some (commands.Dump (record { steps = steps; quantum = quantum; swap = swap }))
+made Restart (steps ∷ quantum ∷ swap ∷ []) = Some (commands.Restart (record { steps = steps; quantum = quantum; swap = swap }))
+made Tasks (count ∷ steps ∷ quantum ∷ swap ∷ []) = Some (commands.Tasks (record { count = count; steps = steps; quantum = quantum; swap = swap }))
 made Check values = Some commands.Check
 made Generate (seed ∷ []) = Some (commands.Generate seed)
 made Asm values = Some commands.Asm
@@ -83,6 +87,8 @@ is_made : (command : Command) → made (command_name command) (numbers_of comman
 is_made commands.Help = refl
 is_made (commands.Run options) = refl
 is_made (commands.Dump options) = refl
+is_made (commands.Restart options) = refl
+is_made (commands.Tasks options) = refl
 is_made commands.Check = refl
 is_made (commands.Generate seed) = refl
 is_made commands.Asm = refl

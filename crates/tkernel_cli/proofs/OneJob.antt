@@ -1,12 +1,16 @@
 -- What a text asks for is one thing.
-use Rattle.std.proofs.Common.{◌≡◌, ℕ, List, drop, sym, ap, ap₂, ◌∙◌, subst}
+use Rattle.std.proofs.Common.{◌≡◌, ℕ, List, drop, arith, sym, ap, ap₂, ◌∙◌, subst}
 use Rattle.hex_image.specs.HexText.{HexBad, HexText}
 use Rattle.hex_image.proofs.LawLemmas.{never_both, same_fault, same_image}
 use Rattle.hex_image.specs.declared.fault.HexFault.{HexFault}
 use Rattle.input_script.specs.Script.{Schedule, IsBad, IsScript}
 use Rattle.input_script.specs.declared.fault.ScriptFault.{ScriptFault}
 use Rattle.input_script.proofs.Judgement.{one_judgement}
+use Rattle.text_lines.specs.Lines.{lines_of}
+use Rattle.tk_tasks.specs.Scripts.{IsFirst, Schedules}
+use Rattle.tk_tasks.proofs.FirstFaults.{first_one, schedules_apart, schedules_one}
 use Rattle.tkernel_cli.specs.declared.command.RunOptions.{RunOptions}
+use Rattle.tkernel_cli.specs.declared.command.TaskOptions.{TaskOptions}
 use Rattle.tkernel_cli.specs.declared.job.Job.{Job}
 use Rattle.tkernel_cli.specs.Printed.{asm_word, bad_part, dump_word, hex_word, script_word}
 use Rattle.tkernel_cli.specs.Reading.{IsJudged, Bad, Good}
@@ -24,6 +28,8 @@ use Rattle.pool_check.proofs.Judgement as dumps
 use Rattle.tkernel_cli.specs.declared.request.Request.{Request}
 use Rattle.tkernel_cli.specs.CheckCommand.{CheckAsks, verdict_line}
 use Rattle.tkernel_cli.specs.DumpCommand.{DumpAsks}
+use Rattle.tkernel_cli.specs.RestartCommand.{RestartAsks}
+use Rattle.tkernel_cli.specs.TasksCommand.{IsPlaced, Refused, Placed, bad_image, TasksAsks}
 use Rattle.tkernel_cli.specs.declared.job.Job.TheVariants as jobs
 use Rattle.tkernel_cli.proofs.ImageLength.{few_words}
 
@@ -71,6 +77,25 @@ one_script text = record {
   apart = λ schedule line word good bad. (one_judgement text).apart schedule line bad.0 good bad.1;
 }
 
+-- A script of several tasks, and an image that is placed. ----------------------------------------------------
+
+one_scripts : (count : ℕ) (text : List ℕ) → IsOnePart (List Schedule) (Schedules count (lines_of text)) (λ line word. (fault : ScriptFault) × IsFirst count (lines_of text) line fault × (word ≡ script_word fault))
+one_scripts count text = record {
+  one = λ a b first second. schedules_one count text a b first second;
+  one_fault = λ line other word word' first second.
+      let same = first_one count text line other first.0 second.0 first.1 second.1 in
+      (same.0, first.2 ∙ ap script_word same.1 ∙ sym second.2);
+  apart = λ schedules line word good bad. schedules_apart count text schedules line bad.0 good bad.1.is;
+}
+
+one_placed : (count : ℕ) (image : List ℕ) (asked : Job) → IsOne (IsPlaced count image asked)
+one_placed count image asked a b (Refused address first is) (Refused other first' is') =
+    let same : address ≡ other = omega (arith, first.least other first'.is, first'.least address first.is) in
+    is ∙ ap bad_image same ∙ sym is'
+one_placed count image asked a b (Refused address first is) (Placed none is') = absurd (none address first.is)
+one_placed count image asked a b (Placed none is) (Refused address first is') = absurd (none address first.is)
+one_placed count image asked a b (Placed none is) (Placed none' is') = is ∙ sym is'
+
 -- A dump. ------------------------------------------------------------------------------------------------
 
 one_flash : (text : List ℕ) → IsOnePart (List ℕ) (IsDump text) (λ line word. (fault : DumpFault) × IsNoDump text line fault × (word ≡ dump_word fault))
@@ -116,6 +141,14 @@ one_run options text = one_request options text jobs.Run
 pub one_dump : (options : RunOptions) (text : List ℕ) → IsOne (DumpAsks options text)
 one_dump options text = one_request options text jobs.Dump
 
+pub one_restart : (options : RunOptions) (text : List ℕ) → IsOne (RestartAsks options text)
+one_restart options text = one_request options text (λ request. jobs.Restart request request.script)
+
+pub one_tasks : (options : TaskOptions) (text : List ℕ) → IsOne (TasksAsks options text)
+one_tasks options text =
+    one_judged _ _ _ _ _ (one_hex text)
+    (λ hex is. one_judged _ _ _ _ _ (one_scripts options.count (drop hex.1 text)) (λ schedules is'. one_placed options.count hex.0 _))
+
 pub one_check : (text : List ℕ) → IsOne (CheckAsks text)
 one_check text =
     one_judged _ _ _ _ _ (one_hex text)
@@ -124,3 +157,10 @@ one_check text =
 
 pub one_source : (text : List ℕ) → IsOne (AsmAsks text)
 one_source text = one_judged _ _ _ _ _ (one_assembled text) (λ words is a b first second. first ∙ sym second)
+
+-- two readings of a text are one
+request_is : (a b : Request) → jobs.Run a ≡ jobs.Run b → a ≡ b
+request_is a b same = cc
+
+pub same_request : (options : RunOptions) (text : List ℕ) (a b : Request) → RunAsks options text (jobs.Run a) → RunAsks options text (jobs.Run b) → a ≡ b
+same_request options text a b first second = request_is a b (one_run options text (jobs.Run a) (jobs.Run b) first second)

@@ -1,5 +1,5 @@
 -- A whole run, with its last two lines, as the answer tells it.
-use Rattle.std.proofs.Common.{◌≡◌, ℕ, ◌/◌, ◌≤◌, ◌<◌, List, ◌++◌, append_assoc, refl, sym, ap, ap₂, ◌∙◌, subst, arith, inl, inr}
+use Rattle.std.proofs.Common.{◌≡◌, ℕ, ◌+◌, ◌/◌, ◌≤◌, ◌<◌, List, ◌++◌, append_assoc, refl, sym, ap, ap₂, ◌∙◌, subst, arith, inl, inr}
 use Rattle.std.specs.Prelude.{None, Result, Ok, Err, OnErr, ◌^◌, codes, decimal}
 use Rattle.std.specs.Io.KnownBytes.{Appends}
 use Rattle.tk_io.specs.declared.failure.Failed.{Failed}
@@ -8,9 +8,12 @@ use Rattle.tk_io.proofs.KnownBytes.{appends-both}
 use Rattle.hex_image.specs.Image.{IsImage}
 use Rattle.mem_guard.specs.FlatMachine.{End, Spent, Wild, Illegal, SelfProgram, Asleep, Halted, Read, Io, Stack, SwapFull, Run}
 use Rattle.kernel_entry.specs.Texts.{stop_text, end_text}
+use Rattle.line_text.specs.StopLines.{end_line, how_text}
+use Rattle.line_text.proofs.StopLines.{line_of}
 use Rattle.step_laws.specs.declared.moves.End.{End as MachineEnd}
 use Rattle.step_laws.specs.declared.moves.End.TheVariants as ends
 use Rattle.program_steps.specs.Machines.{Machine}
+use Rattle.program_steps.specs.Ready.{IsSound}
 use Rattle.program_steps.specs.Stepping.{lines_text}
 use Rattle.tk_run.specs.Running.{HasAdvanced, flat_end}
 use Rattle.tk_run.specs.Booted.{booted}
@@ -20,7 +23,7 @@ use Rattle.tkernel_cli.specs.declared.request.Request.{Request}
 use Rattle.tkernel_cli.specs.declared.status.Status.{Status}
 use Rattle.tkernel_cli.specs.declared.status.Status.TheVariants as status
 use Rattle.tkernel_cli.specs.DumpCommand.{silent}
-use Rattle.tkernel_cli.specs.Text.{end_line, how_text, count_text}
+use Rattle.tkernel_cli.specs.Text.{count_text}
 use Rattle.tkernel_cli.specs.Runs.{Stream, Says, Runs, KeepsEnd, original_of, whole_run, checkpoints_of, run_text, status_of_end, status_of_stop}
 use Rattle.tkernel_cli.proofs.BootedFlash.{boot_kept}
 use Rattle.tk_io.proofs.KnownBytes.{cut_behind}
@@ -29,7 +32,7 @@ use Rattle.tk_io.proofs.KnownBytes.{cut_behind}
 rose_on : (before mid now : ℕ) → before ≤ mid → Rose mid now → Rose before now
 rose_on before mid now later rose = omega arith
 
-said_on : (own told : Status) (before mid now : Stream) (lines text : List ℕ) → Appends before.told mid.told lines → before.faults ≤ mid.faults → Says own text mid now told → Says own (lines ++ text) before now told
+pub said_on : (own told : Status) (before mid now : Stream) (lines text : List ℕ) → Appends before.told mid.told lines → before.faults ≤ mid.faults → Says own text mid now told → Says own (lines ++ text) before now told
 said_on own told before mid now lines text put later said = elim said [
   | inl whole ↦ inl (whole.0, appends-both before.told mid.told now.told lines text put whole.1)
   | inr cut ↦ inr (cut.0, rose_on before.faults mid.faults now.faults later cut.1, cut_behind before.told mid.told now.told lines text put cut.2)
@@ -43,7 +46,7 @@ last_lines end m steps crossings quantum s c q =
     ∙ ap₂ (λ x y. end_line end steps (x / y) ++ count_text m.natural m.entries m.pages) c q
 
 -- what is said, as the text of the run
-said_run : (request : Request) (end : MachineEnd) (r : Run) (own told : Status) (before mid now : Stream) (m : Machine) → m.steps ≡ r.state.now.steps → m.crossings ≡ r.state.now.crossings → m.kernel.quantum ≡ request.options.quantum
+pub said_run : (request : Request) (end : MachineEnd) (r : Run) (own told : Status) (before mid now : Stream) (m : Machine) → m.steps ≡ r.state.now.steps → m.crossings ≡ r.state.now.crossings → m.kernel.quantum ≡ request.options.quantum
     → Appends before.told mid.told (lines_text r.lines) → before.faults ≤ mid.faults
     → Says own (end_line end m.steps (m.crossings / m.kernel.quantum) ++ count_text m.natural m.entries m.pages) mid now told
     → Says own (run_text r (end_line end r.state.now.steps (checkpoints_of request r)) m) before now told
@@ -54,7 +57,7 @@ said_run request end r own told before mid now m steps crossings quantum put lat
     ∙ sym (append_assoc (lines_text r.lines) (end_line end r.state.now.steps (checkpoints_of request r)) (count_text m.natural m.entries m.pages)) in
     subst (λ t. Says own t before now told) text whole
 
-keeps_end : (e : End) (end : MachineEnd) (m : Machine) → flat_end end ≡ e → IsKeptEnd e end m.end → KeepsEnd e m
+pub keeps_end : (e : End) (end : MachineEnd) (m : Machine) → flat_end end ≡ e → IsKeptEnd e end m.end → KeepsEnd e m
 keeps_end Spent end m same kept = kept
 keeps_end (Wild pc) end m same kept = (end, kept, same)
 keeps_end (Illegal pc) end m same kept = (end, kept, same)
@@ -66,14 +69,16 @@ keeps_end (Io pc a) end m same kept = (end, kept, same)
 keeps_end (Stack pc a) end m same kept = (end, kept, same)
 keeps_end (SwapFull pc a) end m same kept = (end, kept, same)
 
--- the stop line of an end that is the original's too
-line_of : (end : MachineEnd) (steps checkpoints : ℕ) → how_text end ≡ end_text (flat_end end) → end_line end steps checkpoints ≡ stop_text (flat_end end) steps checkpoints
-unfolding end_line stop_text
-line_of end steps checkpoints how = ap (λ h. h ++ codes " steps " ++ decimal steps ++ codes " checkpoints " ++ decimal checkpoints ++ codes "\n") how
+-- a machine that runs alone has no more pages than one for each step, and one, beside those that it began with
+pub few_pages : (m : Machine) (began : ℕ) → IsSound m → m.began ≡ began → m.others ≡ 0 → m.pages ≤ began + m.steps + 1
+few_pages m began sound first alone = let most = sound.bounded.pages in omega (arith, most, first, alone)
+
+few_of_run : (m : Machine) → IsSound m → m.began ≡ 0 → m.others ≡ 0 → m.pages ≤ m.steps + 1
+few_of_run m sound none alone = let most = few_pages m 0 sound none alone in omega (arith, most)
 
 -- a run to the original's end
 ended : (request : Request) (before mid now : Stream) (told : Status) (end : MachineEnd) (m : Machine) → status_of_stop end ≡ status_of_end (flat_end end) → how_text end ≡ end_text (flat_end end)
-    → IsExactRun request.image request.script request.options.quantum request.options.swap request.options.steps before.told mid.told end m → before.faults ≤ mid.faults
+    → IsExactRun (booted request.image request.script request.options.quantum request.options.swap) request.image request.script request.options.quantum request.options.swap request.options.steps before.told mid.told end m → before.faults ≤ mid.faults
     → Says (status_of_stop end) (end_line end m.steps (m.crossings / m.kernel.quantum) ++ count_text m.natural m.entries m.pages) mid now told
     → Runs request before now told m
 ended request before mid now told end m status how run later said =
@@ -81,7 +86,7 @@ ended request before mid now told end m status how run later said =
     let steps : m.steps ≡ r.state.now.steps = ap (λ s. s.now.steps) run.state in
     let crossings : m.crossings ≡ r.state.now.crossings = ap (λ s. s.now.crossings) run.state in
     let whole = said_run request end r (status_of_stop end) told before mid now m steps crossings run.quantum_is run.put later said in
-    let stop : end_line end r.state.now.steps (checkpoints_of request r) ≡ stop_text r.end r.state.now.steps (checkpoints_of request r) = line_of end r.state.now.steps (checkpoints_of request r) how ∙ ap (λ e. stop_text e r.state.now.steps (checkpoints_of request r)) run.same in
+    let stop : end_line end r.state.now.steps (checkpoints_of request r) ≡ stop_text r.end r.state.now.steps (checkpoints_of request r) = line_of end (flat_end end) r.state.now.steps (checkpoints_of request r) how ∙ ap (λ e. stop_text e r.state.now.steps (checkpoints_of request r)) run.same in
     let own : status_of_stop end ≡ status_of_end r.end = status ∙ ap status_of_end run.same in
     Runs.Ended (record {
       said = subst (λ s. Says s (run_text r (stop_text r.end r.state.now.steps (checkpoints_of request r)) m) before now told) own (subst (λ l. Says (status_of_stop end) (run_text r l m) before now told) stop whole);
@@ -89,12 +94,12 @@ ended request before mid now told end m status how run later said =
       end = subst (λ e. KeepsEnd e m) run.same (keeps_end (flat_end end) end m refl run.kept);
       unlisted = run.unlisted;
       unrefused = run.unrefused;
-      follows = record { state = run.state; program = run.program; quantum = run.quantum_is; unbroken = run.unbroken; ready = run.ready; path = run.path; made = run.made; longest = run.ready.sound.bounded.most };
+      follows = record { state = run.state; program = run.program; quantum = run.quantum_is; unbroken = run.unbroken; ready = run.ready; path = run.path; made = run.made; longest = run.ready.sound.bounded.most; pages = few_of_run m run.ready.sound run.began run.others };
     })
 
 -- a run that flash ended
 failed : (request : Request) (before mid now : Stream) (told : Status) (op : ℕ) (m : Machine)
-    → IsFailedRun request.image request.script request.options.quantum request.options.swap request.options.steps before.told mid.told op m → before.faults ≤ mid.faults
+    → IsFailedRun (booted request.image request.script request.options.quantum request.options.swap) request.image request.script request.options.quantum request.options.swap request.options.steps before.told mid.told op m → before.faults ≤ mid.faults
     → Says status.FlashFault (end_line (ends.Flash op) m.steps (m.crossings / m.kernel.quantum) ++ count_text m.natural m.entries m.pages) mid now told
     → Runs request before now told m
 failed request before mid now told op m run later said =
@@ -112,7 +117,7 @@ failed request before mid now told op m run later said =
       listed = run.listed;
       first = run.first;
       refused = run.refused;
-      follows = record { state = run.state; program = run.program; quantum = run.quantum_is; unbroken = run.unbroken; ready = run.ready; path = run.path; made = run.made; longest = run.ready.sound.bounded.most };
+      follows = record { state = run.state; program = run.program; quantum = run.quantum_is; unbroken = run.unbroken; ready = run.ready; path = run.path; made = run.made; longest = run.ready.sound.bounded.most; pages = few_of_run m run.ready.sound run.began run.others };
     })
 
 -- a run whose last two lines were said, or not
@@ -130,7 +135,7 @@ ran_until_cut : (request : Request) (before now : Stream) (failed : Failed) (m :
     → HasWhole request.image request.script request.options.quantum request.options.swap request.options.steps before.told now.told (Err failed) m → Rose before.faults now.faults
     → Runs request before now status.WriteFault m
 ran_until_cut request before now failed m run rose =
-    Runs.Cut (record { status_is = refl; rose = rose; put = run.put; broken = run.broken; within = run.within; sound = run.sound; path = run.path; made = run.made })
+    Runs.Cut (record { status_is = refl; rose = rose; put = run.put; broken = run.broken; within = run.within; sound = run.sound; pages = few_of_run m run.sound run.began run.others; path = run.path; made = run.made })
 
 -- the last two lines were said, or the sink failed
 pub answered : (request : Request) (before mid now : Stream) (told : Status) (result : Result MachineEnd Failed) (end : MachineEnd) (m : Machine) → IsImage request.image → 1 ≤ request.options.quantum → request.options.quantum < 256 → request.options.swap ≤ 251 → request.options.steps ≤ 10 ^ 9
@@ -141,7 +146,7 @@ answered request before mid now told result end m image some low few bound advan
     let run = whole_of request.image request.script request.options.quantum request.options.swap request.options.steps before.told mid.told result m image (boot_kept request image some low few) (omega arith) advanced in
     ran_to request before mid now told end m (subst (λ r. HasWhole request.image request.script request.options.quantum request.options.swap request.options.steps before.told mid.told r m) is run) cause.later said
 
-err_rose : (result : Result MachineEnd Failed) (failed : Failed) (before now : ℕ) → result ≡ Err failed → OnErr result (Rose before now) → Rose before now
+pub err_rose : (result : Result MachineEnd Failed) (failed : Failed) (before now : ℕ) → result ≡ Err failed → OnErr result (Rose before now) → Rose before now
 err_rose (Ok end) failed before now is rose = absurd (cc)
 err_rose (Err e) failed before now is rose = rose
 

@@ -25,6 +25,7 @@ silent = record { told = None; faults = 0 }
 pub record HasDumped (request : Request) (before now : Stream) (exit : Exit) : Type 0 where
   pub machine : Machine
   pub kept : exit.kept ≡ Some machine
+  pub alone : exit.tasks ≡ None
   pub ended : Status
   pub runs : Runs request silent silent ended machine
   pub said : Says status.Done (written machine.kernel.mote.flash.words) before now exit.status

@@ -9,6 +9,9 @@ pub mod Runs
 pub mod Reading
 pub mod RunCommand
 pub mod DumpCommand
+pub mod RestartCommand
+pub mod TasksRuns
+pub mod TasksCommand
 pub mod CheckCommand
 pub mod GenerateCommand
 pub mod AsmCommand

@@ -3,7 +3,7 @@ use Rattle.std.specs.Prelude.{ℕ, ◌==◌, if◌then◌else◌, List, [], ◌�
 use Rattle.std.specs.Option.{option_map_or, option_or}
 use Rattle.tkernel_cli.specs.declared.table.Row.{Row}
 use Rattle.tkernel_cli.specs.declared.table.Parameter.{Parameter}
-use Rattle.tkernel_cli.specs.declared.table.Parameter.TheVariants.{Seed, Steps, Quantum, Swap}
+use Rattle.tkernel_cli.specs.declared.table.Parameter.TheVariants.{Seed, Count, Steps, Quantum, Swap}
 use Rattle.tkernel_cli.specs.Options.{Choose, name_of, nothing}
 
 -- a parameter, the digits of its value, and the words behind them
@@ -21,7 +21,7 @@ abbrev pub behind : Parameter → List ℕ → Option (Parameter × List ℕ)
 behind parameter word = option_map (λ text. (parameter, text)) (stripped (unwrap_or (name_of parameter) []) word)
 
 abbrev pub named_in : List ℕ → Option (Parameter × List ℕ)
-named_in word = option_or (behind Steps word) (option_or (behind Quantum word) (behind Swap word))
+named_in word = option_or (behind Steps word) (option_or (behind Quantum word) (option_or (behind Swap word) (behind Count word)))
 
 -- the digits behind a name, in the next word or behind `=` (61)
 abbrev pub value_at : Parameter → (behind : List ℕ) → (later : List (List ℕ)) → Option Found

@@ -5,9 +5,9 @@ use Rattle.std.specs.Prelude.{◌≡◌, ℕ, ◌≤◌, ◌⊎◌, ◌==◌, if
 use Rattle.std.specs.Option.{option_or}
 use Rattle.input_script.specs.Grammar.{IsNumber}
 use Rattle.tkernel_cli.specs.declared.table.CommandName.{CommandName}
-use Rattle.tkernel_cli.specs.declared.table.CommandName.TheVariants.{Help, Run, Dump, Check, Generate, Asm}
+use Rattle.tkernel_cli.specs.declared.table.CommandName.TheVariants.{Help, Run, Dump, Restart, Tasks, Check, Generate, Asm}
 use Rattle.tkernel_cli.specs.declared.table.Parameter.{Parameter}
-use Rattle.tkernel_cli.specs.declared.table.Parameter.TheVariants.{Seed, Steps, Quantum, Swap}
+use Rattle.tkernel_cli.specs.declared.table.Parameter.TheVariants.{Seed, Count, Steps, Quantum, Swap}
 use Rattle.tkernel_cli.specs.declared.table.Row.{Row}
 use Rattle.tkernel_cli.specs.declared.options.Choice.{Choice}
 
@@ -16,6 +16,8 @@ abbrev pub word_of : CommandName → List ℕ
 word_of Help = codes "help"
 word_of Run = codes "run"
 word_of Dump = codes "dump"
+word_of Restart = codes "restart"
+word_of Tasks = codes "tasks"
 word_of Check = codes "check"
 word_of Generate = codes "generate"
 word_of Asm = codes "asm"
@@ -23,6 +25,7 @@ word_of Asm = codes "asm"
 -- the name of a parameter, where it has one
 abbrev pub name_of : Parameter → Option (List ℕ)
 name_of Seed = None
+name_of Count = Some (codes "--tasks")
 name_of Steps = Some (codes "--steps")
 name_of Quantum = Some (codes "--quantum")
 name_of Swap = Some (codes "--swap")
@@ -33,21 +36,32 @@ place_of Seed = 0
 place_of Steps = 1
 place_of Quantum = 2
 place_of Swap = 3
+place_of Count = 4
 
 -- What a command takes: each parameter with its least and its greatest value, and the one that it has
--- where the words give none. This is what a command takes that runs a program
-abbrev pub run_rows : List Row
-run_rows =
+-- where the words give none. This is what a command takes that runs a program, with as many swap slots at most, and
+-- with these where the words give none
+abbrev pub rows_of_run : (most_swap default_swap : ℕ) → List Row
+rows_of_run most_swap default_swap =
     record { parameter = Steps; least = 0; most = 1000000000; default = Some 1000000 }
     ∷ record { parameter = Quantum; least = 1; most = 255; default = Some 255 }
-    ∷ record { parameter = Swap; least = 0; most = 251; default = Some 128 }
+    ∷ record { parameter = Swap; least = 0; most = most_swap; default = Some default_swap }
     ∷ []
+
+abbrev pub run_rows : List Row
+run_rows = rows_of_run 251 128
+
+-- this one that runs several, which share the swap
+abbrev pub tasks_rows : List Row
+tasks_rows = record { parameter = Count; least = 1; most = 4; default = None } ∷ rows_of_run 62 32
 
 -- and this each command
 abbrev pub rows_of : CommandName → List Row
 rows_of Help = []
 rows_of Run = run_rows
 rows_of Dump = run_rows
+rows_of Restart = run_rows
+rows_of Tasks = tasks_rows
 rows_of Check = []
 rows_of Generate = record { parameter = Seed; least = 0; most = 4294967295; default = None } ∷ []
 rows_of Asm = []
@@ -81,7 +95,7 @@ Choose rows words before after = (choices : List Choice) × MakeChoices rows cho
 
 -- no parameter has a value yet
 abbrev pub nothing : List (Option ℕ)
-nothing = None ∷ None ∷ None ∷ None ∷ []
+nothing = None ∷ None ∷ None ∷ None ∷ None ∷ []
 
 -- the value of a parameter: the chosen one, or else the default
 pub record IsValue (chosen : List (Option ℕ)) (row : Row) (value : ℕ) : Type 0 where

@@ -1,5 +1,5 @@
 -- A program that is run: what was printed, what is kept, and how both follow the original program.
-use Rattle.std.specs.Prelude.{◌≡◌, ◌≢◌, ◌⊎◌, ℕ, ◌*◌, ◌/◌, ◌<◌, ◌≤◌, ◌++◌, true, false, List, Option, Some, None}
+use Rattle.std.specs.Prelude.{◌≡◌, ◌≢◌, ◌⊎◌, ℕ, ◌+◌, ◌*◌, ◌/◌, ◌<◌, ◌≤◌, ◌++◌, true, false, List, Option, Some, None}
 use Rattle.std.specs.Io.KnownBytes.{Appends}
 use Rattle.tk_io.specs.Faults.{Rose}
 use Rattle.tk_io.specs.Streams.{CutShort}
@@ -7,6 +7,7 @@ use Rattle.flash_model.specs.Operations.{is_listed}
 use Rattle.mem_guard.specs.FlatMachine.{End, Spent, Halted, Asleep, Run, original}
 use Rattle.kernel_entry.specs.Seen.{program}
 use Rattle.kernel_entry.specs.Texts.{stop_text}
+use Rattle.line_text.specs.StopLines.{end_line}
 use Rattle.step_laws.specs.declared.moves.End.{End as MachineEnd}
 use Rattle.step_laws.specs.declared.moves.End.TheVariants as ends
 use Rattle.program_steps.specs.Machines.{Machine, flat_of}
@@ -18,7 +19,7 @@ use Rattle.tkernel_cli.specs.declared.request.Request.{Request}
 use Rattle.tkernel_cli.specs.declared.status.Status.{Status}
 use Rattle.tkernel_cli.specs.declared.status.Status.TheVariants as status
 use Rattle.tkernel_cli.specs.declared.top.Exit.{Exit}
-use Rattle.tkernel_cli.specs.Text.{end_line, count_text}
+use Rattle.tkernel_cli.specs.Text.{count_text}
 
 -- a stream at a moment: the bytes that it tells, and how often it failed
 pub record Stream : Type 0 where
@@ -75,7 +76,7 @@ failed_text request op m = run_text (original_of request m.steps) (end_line (end
 -- devices, and the counts of steps and crossings. It has the image, the slots and the quantum that were
 -- asked for. Moves lead to it from boot, and write the original's lines; each page that they make is made at an
 -- address where the original program stands, and between two services there were at most 5120 plain steps for
--- each crossing of a quantum.
+-- each crossing of a quantum. Each step made one page at most, and the arrival behind the last one.
 pub record Follows (request : Request) (n : ℕ) (m : Machine) : Type 0 where
   pub state : flat_of m ≡ (original_of request n).state
   pub program : program m.kernel ≡ program_at request.image request.options.quantum request.options.swap
@@ -85,6 +86,7 @@ pub record Follows (request : Request) (n : ℕ) (m : Machine) : Type 0 where
   pub path : Path request.image request.script request.options.quantum request.options.swap (original_of request n).lines m
   pub made : AreMadeAt (StandsAt request.image request.script request.options.quantum request.options.swap m.steps) path.moves
   pub longest : m.longest ≤ 5120 * m.kernel.quantum
+  pub pages : m.pages ≤ m.steps + 1
 
 -- the end that the machine keeps is the original's, and none where the bound of steps was reached
 abbrev pub KeepsEnd : End → Machine → Type 0
@@ -123,6 +125,7 @@ pub record RunsUntilCut (request : Request) (before now : Stream) (told : Status
   pub broken : m.broken ≡ true
   pub within : m.steps ≤ request.options.steps
   pub sound : IsSound m
+  pub pages : m.pages ≤ m.steps + 1
   pub path : Path request.image request.script request.options.quantum request.options.swap (original_of request m.steps).lines m
   pub made : AreMadeAt (StandsAt request.image request.script request.options.quantum request.options.swap m.steps) path.moves
 
@@ -135,4 +138,5 @@ pub data Runs (request : Request) (before now : Stream) (told : Status) (m : Mac
 pub record HasRun (request : Request) (before now : Stream) (exit : Exit) : Type 0 where
   pub machine : Machine
   pub kept : exit.kept ≡ Some machine
+  pub alone : exit.tasks ≡ None
   pub runs : Runs request before now exit.status machine

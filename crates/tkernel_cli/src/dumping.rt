@@ -14,9 +14,9 @@ use crate::printed::NO_MEMORY;
 use crate::request::Request;
 use crate::running::run_silently;
 use crate::status::Status;
-use crate::text::whole;
 use crate::top::Exit;
 use flash_model::Flash;
+use line_text::whole;
 use pool_check::write_dump;
 use std::alloc::Global;
 use tk_io::Sink;
@@ -27,7 +27,12 @@ pub(crate) fn dump_request<K: Sink>(alloc: Global, request: Request, out: &mut K
     ensures done { HasDumped request (stream K.taken K.faults out.old) (stream K.taken K.faults out.new) result
         ⊎ Does no_memory (stream K.taken K.faults out.old) (stream K.taken K.faults out.new) result }
 {
-    let machine = match run_silently(alloc, request) {
+    let Request {
+        image,
+        script,
+        options,
+    } = request;
+    let machine = match run_silently(alloc, &image, script, options) {
         Ok(machine) => machine,
         Err(_) => return tell(Status::NoMemory, &whole(NO_MEMORY), out),
     };
@@ -35,6 +40,7 @@ pub(crate) fn dump_request<K: Sink>(alloc: Global, request: Request, out: &mut K
     Exit {
         status,
         kept: Some(machine),
+        tasks: None,
     }
 }
 

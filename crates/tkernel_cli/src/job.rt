@@ -1,6 +1,6 @@
 //! What is asked for, once the words and the input are judged.
 ghost use Rattle.std.specs.Prelude.{◌≡◌, ◌⊎◌};
-ghost use Rattle.tkernel_cli.specs.declared.job.Job.TheVariants.{Dump, Print, Run, Write};
+ghost use Rattle.tkernel_cli.specs.declared.job.Job.TheVariants.{Dump, Print, Restart, Run, Tasks, Write};
 ghost use Rattle.tkernel_cli.specs.Answer.{Does};
 ghost use Rattle.tkernel_cli.specs.Commands.{IsPossibleJob, RunsAProgram};
 ghost use Rattle.tkernel_cli.specs.Printed.{no_memory};
@@ -8,10 +8,13 @@ ghost use Rattle.tkernel_cli.specs.Runs.{Says, stream};
 
 use crate::dumping::dump_request;
 use crate::output::Output;
-use crate::request::Request;
+use crate::request::{Request, TaskRequest};
+use crate::restarting::restart_request;
 use crate::running::run_request;
 use crate::status::Status;
+use crate::tasking::run_tasks;
 use crate::top::Exit;
+use input_script::Script;
 use line_text::Text;
 use std::alloc::Global;
 use tk_io::{Sink, put};
@@ -25,6 +28,10 @@ pub(crate) enum Job {
     Run(Request),
     /// The dump of the flash that a run leaves.
     Dump(Request),
+    /// A run, a loss of power, and a second run with the same events over what is kept of its flash.
+    Restart(Request, Script),
+    /// A run of several programs on one mote.
+    Tasks(TaskRequest),
     /// A text of any length.
     Write(Output),
 }
@@ -41,6 +48,8 @@ pub(crate) fn do_job<K: Sink>(alloc: Global, job: Job, out: &mut K) -> Exit
         Job::Print(status, line) => tell(status, &line, out),
         Job::Run(request) => run_request(alloc, request, out),
         Job::Dump(request) => dump_request(alloc, request, out),
+        Job::Restart(request, again) => restart_request(alloc, request, again, out),
+        Job::Tasks(request) => run_tasks(alloc, request, out),
         Job::Write(text) => write(&text, out),
     }
 }
@@ -52,7 +61,11 @@ pub(crate) fn tell<K: Sink>(own: Status, line: &Text, out: &mut K) -> Exit
         result }
 {
     let status = say(own, line, out);
-    Exit { status, kept: None }
+    Exit {
+        status,
+        kept: None,
+        tasks: None,
+    }
 }
 
 /// Puts a text. The status is Done, unless it can't be put.
@@ -62,7 +75,11 @@ fn write<K: Sink>(text: &Output, out: &mut K) -> Exit
         result }
 {
     let status = say(Status::Done, text.bytes(), out);
-    Exit { status, kept: None }
+    Exit {
+        status,
+        kept: None,
+        tasks: None,
+    }
 }
 
 /// Puts a text, and gives its status, or that of a failed write.

@@ -1,9 +1,11 @@
 //! The command line of tkernel as a library: words and an input in, lines and a status out.
 //!
-//! [`tkernel`] is the whole program but for the process around it. It judges the words, which are one of six commands:
+//! [`tkernel`] is the whole program but for the process around it. It judges the words, which are one of eight commands:
 //!
 //! - `run` reads and judges a program, runs it, and prints its lines;
 //! - `dump` does so without them, and prints the dump of the flash that the run leaves (crate `pool_check`);
+//! - `restart` runs it, loses power, and runs it again over what is kept of its flash (crate `tk_restart`);
+//! - `tasks` reads and judges up to four programs, runs them in turn on one mote (crate `tk_tasks`), and prints their lines;
 //! - `check` reads an image and a dump, whoever made it, and prints what `pool_check` says of that flash;
 //! - `generate SEED` runs the test program of crate `program_generator`, and reads nothing;
 //! - `asm` reads a source, and prints the HEX text of its image (crate `avr_asm`);
@@ -33,13 +35,17 @@ mod output;
 mod printed;
 mod reading;
 mod request;
+mod restart_command;
+mod restarting;
 mod run_command;
 mod running;
 mod status;
 mod table;
+mod tasking;
+mod tasks_command;
 mod text;
 mod top;
 
-pub use command::{Command, RunOptions, command_of};
+pub use command::{Command, RunOptions, TaskOptions, command_of};
 pub use status::Status;
 pub use top::{Exit, tkernel};

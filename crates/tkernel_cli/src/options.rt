@@ -30,6 +30,8 @@ fn named_parameter(word: &str) -> Option<(Parameter, &str)>
         Some((Parameter::Quantum, behind))
     } else if let Some(behind) = word.strip_prefix("--swap") {
         Some((Parameter::Swap, behind))
+    } else if let Some(behind) = word.strip_prefix("--tasks") {
+        Some((Parameter::Count, behind))
     } else {
         None
     }

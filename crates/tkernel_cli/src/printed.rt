@@ -2,14 +2,16 @@
 ghost use Rattle.std.specs.Prelude.{◌≡◌, ◌≤◌, length, codes};
 ghost use Rattle.tkernel_cli.specs.declared.job.Job.TheVariants.{Print};
 ghost use Rattle.tkernel_cli.specs.CheckCommand.{verdict_line};
+ghost use Rattle.tkernel_cli.specs.TasksCommand.{bad_image};
 ghost use Rattle.tkernel_cli.specs.Printed.{asm_word, bad_part, dump_word, hex_word, no_memory, read_fault, script_word, too_long, usage};
 
 use crate::job::Job;
 use crate::status::Status;
-use crate::text::{bad_line, verdict_text, whole};
+use crate::text::{bad_image_text, bad_line, verdict_text};
 use avr_asm::AsmFault;
 use hex_image::HexFault;
 use input_script::ScriptFault;
+use line_text::whole;
 use pool_check::{DumpFault, Verdict};
 
 /// A line that stands as it is.
@@ -75,6 +77,13 @@ pub(crate) fn bad_script(line: u32, fault: ScriptFault) -> Job
     ensures job { result ≡ bad_part (codes "bad script line ") line (script_word fault) }
 {
     bad_part(b"bad script line ", line, word_of_script(fault))
+}
+
+/// A word stands in the image where no task has one.
+pub(crate) fn bad_image(address: u16) -> Job
+    ensures job { result ≡ bad_image address }
+{
+    Job::Print(Status::BadInput, bad_image_text(address))
 }
 
 /// The dump is broken.

@@ -1,5 +1,7 @@
 //! A whole run, and its printed lines.
-ghost use Rattle.std.specs.Prelude.{◌≡◌, ◌⊎◌, ◌≤◌, ◌++◌, ◌/◌, ◌^◌, IfOk};
+ghost use Rattle.std.specs.Prelude.{◌≡◌, ◌⊎◌, ◌≤◌, ◌++◌, ◌/◌, ◌^◌, length, IfOk};
+ghost use Rattle.flash_model.specs.Layouts.{layout_of};
+ghost use Rattle.hex_image.specs.Image.{IsImage};
 ghost use Rattle.tk_io.specs.Faults.{HasCause};
 ghost use Rattle.tk_io.specs.Streams.{Puts};
 ghost use Rattle.tkernel_cli.specs.Answer.{Does};
@@ -8,15 +10,20 @@ ghost use Rattle.tkernel_cli.specs.declared.status.Status.{Status as StatusValue
 ghost use Rattle.tkernel_cli.specs.DumpCommand.{silent};
 ghost use Rattle.tkernel_cli.specs.Printed.{no_memory};
 ghost use Rattle.tkernel_cli.specs.Runs.{stream, HasRun, Runs, Says, status_of_stop};
-ghost use Rattle.tkernel_cli.specs.Text.{count_text, end_line};
+ghost use Rattle.line_text.specs.StopLines.{end_line};
+ghost use Rattle.tkernel_cli.specs.Text.{count_text};
 
+use crate::command::RunOptions;
 use crate::job::tell;
 use crate::printed::NO_MEMORY;
 use crate::request::Request;
 use crate::status::Status;
-use crate::text::{counts, stop_line, whole};
+use crate::text::counts;
 use crate::top::Exit;
+use hex_image::Image;
+use input_script::Script;
 use kernel_entry::Stop;
+use line_text::{stop_line, whole};
 use std::alloc::Global;
 use tk_io::{Failed, NoMemory, NullSink, Sink, put};
 use tk_run::{End, Machine, Options};
@@ -49,30 +56,33 @@ pub(crate) fn run_request<K: Sink>(alloc: Global, request: Request, out: &mut K)
     Exit {
         status,
         kept: Some(machine),
+        tasks: None,
     }
 }
 
-/// Runs a request to its end; its lines go nowhere.
-pub(crate) fn run_silently(alloc: Global, request: Request) -> Result<Machine, NoMemory>
-    requires possible { AreOptions request.options }
-    ensures ran { IfOk result (λ machine. (ended : StatusValue) × Runs request silent silent ended machine) }
+/// Runs a program to its end; its lines go nowhere.
+pub(crate) fn run_silently(
+    alloc: Global,
+    image: &Image,
+    script: Script,
+    options: RunOptions,
+) -> Result<Machine, NoMemory>
+    requires image { IsImage image.now }
+    requires possible { AreOptions options }
+    ensures ran { IfOk result (λ machine. (ended : StatusValue) × Runs (record { image = image.now; script = script; options = options }) silent silent ended machine) }
+    ensures layout { IfOk result (λ machine. machine.kernel.layout ≡ layout_of (length image.now)) }
 {
-    let Request {
-        image,
-        script,
-        options,
-    } = request;
     let asked = Options {
         quantum: options.quantum,
         swap: options.swap,
     };
-    let mut machine = Machine::boot(alloc, &image, script, asked)?;
+    let mut machine = Machine::boot(alloc, image, script, asked)?;
     let _end = machine.advance(options.steps, &mut NullSink);
     Ok(machine)
 }
 
 /// Puts the stop line and the count line. The status is the end's own, unless they can't be put.
-fn tell_end<K: Sink>(machine: &Machine, end: End, out: &mut K) -> Status
+pub(crate) fn tell_end<K: Sink>(machine: &Machine, end: End, out: &mut K) -> Status
     requires quantum { 1 ≤ machine.now.kernel.quantum }
     ensures said { Says (status_of_stop end)
         (end_line end machine.now.steps (machine.now.crossings / machine.now.kernel.quantum)

@@ -1,7 +1,7 @@
 //! The commands and the numbers that each of them takes, as a table.
 ghost use Rattle.std.specs.Prelude.{◌≡◌, ◌≢◌, ◌<◌, MatchOption};
 ghost use Rattle.tkernel_cli.specs.declared.table.CommandName.{CommandName};
-ghost use Rattle.tkernel_cli.specs.Options.{place_of, row_in, rows_of, word_of};
+ghost use Rattle.tkernel_cli.specs.Options.{place_of, row_in, rows_of, rows_of_run, word_of};
 
 /// The name of a command.
 #[derive(Clone, Copy, Debug, PartialEq, Eq)]
@@ -12,6 +12,10 @@ pub(crate) enum CommandName {
     Run,
     /// The flash that such a run leaves.
     Dump,
+    /// A run, a loss of power, and a second run over what is kept of its flash.
+    Restart,
+    /// Several programs on one mote, in turn.
+    Tasks,
     /// What a checker says of a flash.
     Check,
     /// A run of a test program.
@@ -25,6 +29,8 @@ pub(crate) enum CommandName {
 pub(crate) enum Parameter {
     /// Which test program; it has no name.
     Seed,
+    /// How many tasks there are.
+    Count,
     /// How many steps may be done.
     Steps,
     /// How many crossings make a checkpoint.
@@ -34,7 +40,7 @@ pub(crate) enum Parameter {
 }
 
 /// How many parameters there are.
-pub(crate) const PARAMETERS: usize = 4;
+pub(crate) const PARAMETERS: usize = 5;
 
 /// What a command takes for a parameter.
 #[derive(Clone, Copy, Debug, PartialEq, Eq)]
@@ -57,6 +63,10 @@ impl CommandName {
             Some(CommandName::Run)
         } else if word == "dump" {
             Some(CommandName::Dump)
+        } else if word == "restart" {
+            Some(CommandName::Restart)
+        } else if word == "tasks" {
+            Some(CommandName::Tasks)
         } else if word == "check" {
             Some(CommandName::Check)
         } else if word == "generate" {
@@ -73,26 +83,28 @@ impl CommandName {
         ensures row { result ≡ row_in (rows_of self) parameter }
     {
         match (self, parameter) {
-            (CommandName::Run | CommandName::Dump, Parameter::Steps) => {
-                Some(Row::new(parameter, 0, 1_000_000_000, Some(1_000_000)))
-            }
-            (CommandName::Run | CommandName::Dump, Parameter::Quantum) => Some(Row::new(
-                parameter,
-                1,
-                255,
-                Some(255),
-            )),
-            (CommandName::Run | CommandName::Dump, Parameter::Swap) => Some(Row::new(
-                parameter,
-                0,
-                251,
-                Some(128),
-            )),
+            (CommandName::Run | CommandName::Dump | CommandName::Restart, _) => run_row(
+                parameter, 251, 128,
+            ),
+            (CommandName::Tasks, Parameter::Count) => Some(Row::new(parameter, 1, 4, None)),
+            (CommandName::Tasks, _) => run_row(parameter, 62, 32),
             (CommandName::Generate, Parameter::Seed) => {
                 Some(Row::new(parameter, 0, 4_294_967_295, None))
             }
             _ => None,
         }
+    }
+}
+
+/// The row of a parameter of a run, which may have so many swap slots, and has these by default.
+fn run_row(parameter: Parameter, most_swap: u64, default_swap: u64) -> Option<Row>
+    ensures row { result ≡ row_in (rows_of_run most_swap default_swap) parameter }
+{
+    match parameter {
+        Parameter::Steps => Some(Row::new(parameter, 0, 1_000_000_000, Some(1_000_000))),
+        Parameter::Quantum => Some(Row::new(parameter, 1, 255, Some(255))),
+        Parameter::Swap => Some(Row::new(parameter, 0, most_swap, Some(default_swap))),
+        Parameter::Seed | Parameter::Count => None,
     }
 }
 
@@ -120,6 +132,7 @@ impl Parameter {
             Parameter::Steps => 1,
             Parameter::Quantum => 2,
             Parameter::Swap => 3,
+            Parameter::Count => 4,
         }
     }
 }

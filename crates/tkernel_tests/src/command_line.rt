@@ -3,7 +3,7 @@ use crate::support::{behind_run, words_of};
 use clap::{Arg, ArgAction};
 use std::alloc::Global;
 use std::test::Fail;
-use tkernel_cli::{Command, RunOptions, command_of};
+use tkernel_cli::{Command, RunOptions, TaskOptions, command_of};
 
 /// What `run` is told by itself.
 const DEFAULTS: RunOptions = RunOptions {
@@ -123,7 +123,7 @@ const ACCEPTED: [(&[&str], RunOptions); 16] = [
 ];
 
 /// The words of the other commands.
-const OTHER_COMMANDS: [(&[&str], Command); 10] = [
+const OTHER_COMMANDS: [(&[&str], Command); 12] = [
     (&["help"], Command::Help),
     (&["asm"], Command::Asm),
     (&["check"], Command::Check),
@@ -143,6 +143,32 @@ const OTHER_COMMANDS: [(&[&str], Command); 10] = [
             ..DEFAULTS
         }),
     ),
+    (
+        &["tasks", "--tasks", "2"],
+        Command::Tasks(TaskOptions {
+            count: 2,
+            steps: 1_000_000,
+            quantum: 255,
+            swap: 32,
+        }),
+    ),
+    (
+        &[
+            "tasks",
+            "--swap=62",
+            "--quantum",
+            "1",
+            "--tasks=4",
+            "--steps",
+            "9",
+        ],
+        Command::Tasks(TaskOptions {
+            count: 4,
+            steps: 9,
+            quantum: 1,
+            swap: 62,
+        }),
+    ),
     (&["generate", "7"], Command::Generate(7)),
     (&["generate", "0"], Command::Generate(0)),
     (&["generate", "0000000007"], Command::Generate(7)),
@@ -153,7 +179,7 @@ const OTHER_COMMANDS: [(&[&str], Command); 10] = [
 ];
 
 /// Words that are refused, `run` included.
-const REFUSED: [&[&str]; 48] = [
+const REFUSED: [&[&str]; 54] = [
     &[],
     &[""],
     &["Run"],
@@ -176,6 +202,12 @@ const REFUSED: [&[&str]; 48] = [
     &["dump", "run"],
     &["dump", "--swap", "252"],
     &["dump", "--swap=1", "--swap=1"],
+    &["tasks"],
+    &["tasks", "2"],
+    &["tasks", "--tasks", "0"],
+    &["tasks", "--tasks", "5"],
+    &["tasks", "--tasks", "2", "--swap", "63"],
+    &["run", "--tasks", "1"],
     &["--help"],
     &["--version"],
     &["run", ""],

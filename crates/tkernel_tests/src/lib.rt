@@ -22,6 +22,10 @@ mod programs;
 #[cfg(test)]
 mod programs_with_options;
 #[cfg(test)]
+mod restarts;
+#[cfg(test)]
+mod several_programs;
+#[cfg(test)]
 mod sources;
 #[cfg(test)]
 mod stack_instructions;

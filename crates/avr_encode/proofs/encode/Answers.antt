@@ -4,7 +4,7 @@ use Rattle.std.specs.Bool.{⊤}
 use Rattle.avr_isa.specs.declared.form.Form.{Form}
 use Rattle.avr_isa.specs.Instruction.{is_valid}
 use Rattle.avr_isa.specs.Encoding.{first_word, second_word, IsRow}
-use Rattle.avr_decode.proofs.Decoded.{the_form_only}
+use Rattle.decode_laws.proofs.Decoded.{the_form_only}
 use Rattle.avr_encode.specs.declared.Words.{Words}
 use Rattle.avr_encode.specs.Words.{BeginWith}
 use Rattle.avr_encode.proofs.encode.Goals as goal

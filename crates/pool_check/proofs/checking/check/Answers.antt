@@ -18,6 +18,6 @@ returns-in-Some-clause-faithful c = λ code.
 
 pub returns-in-None-clause-verdict : goal.returns-in-None-clause-verdict
 returns-in-None-clause-verdict c = (
-  checked_code c.args.layout.now c.args.image.now c.args.flash.now.words c.requires.right c.used.ensures.whole.words c.requires.length (record { forms = λ page low. c.loop-page.invariant page (omega (arith, c.loop-page-test.false)); links = c.in-None.ensures.first }),
-  c.used.ensures.value,
+  checked_code c.args.layout.now c.args.image.now c.args.flash.now.words c.requires.right c.pages_in_use.ensures.whole.words c.requires.length (record { forms = λ page low. c.loop-page.invariant page (omega (arith, c.loop-page-test.false)); links = c.in-None.ensures.first }),
+  c.pages_in_use.ensures.value,
 )

@@ -3,7 +3,6 @@ use Rattle.std.proofs.Common.{true, false, refl, sym, ap, ◌∙◌, arith}
 use Rattle.std.specs.Option.{option_or}
 use Rattle.flash_model.specs.Memory.{Memory}
 use Rattle.program_steps.specs.Wholes.{whole}
-use Rattle.step_laws.specs.declared.moves.End.TheVariants as ends
 use Rattle.step_laws.specs.States.{after_service, line_served, is_stop}
 use Rattle.program_steps.specs.Machines.{state_of, numbers_of}
 use Rattle.program_steps.specs.Loop.{IsHalted}

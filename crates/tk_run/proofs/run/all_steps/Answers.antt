@@ -7,10 +7,11 @@ use Rattle.std.specs.Prelude.{Some, None}
 use Rattle.program_steps.specs.Stepping.{lines_text}
 use Rattle.step_laws.specs.Moves.{line_before}
 use Rattle.program_steps.specs.Wholes.{whole}
+use Rattle.line_text.proofs.Gathered.{sent_on, cut_on}
 use Rattle.tk_run.proofs.RunSoFar.{IsBetween, unshut_on}
 use Rattle.program_steps.proofs.Owning.{open_admits}
 use Rattle.tk_run.proofs.Advancing.{can_step, advanced_enter, is_in, advanced_stop, advanced_bound, advanced_cut, advanced_failed}
-use Rattle.tk_run.proofs.Gathered.{take_in, take_on, sent_on, cut_on, under_way, turn_on, turn_cut}
+use Rattle.tk_run.proofs.Gathered.{take_in, take_on, under_way, turn_on, turn_cut}
 use Rattle.tk_run.proofs.Several.{last_in, last_below, steps_on}
 use Rattle.tk_run.proofs.run.all_steps.Goals as goal
 

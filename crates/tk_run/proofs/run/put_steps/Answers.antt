@@ -1,7 +1,7 @@
 use Rattle.std.proofs.lemmas.Result.{err_from_is_err_and}
+use Rattle.line_text.proofs.Gathered.{all_on, rest_cut}
 use Rattle.program_steps.specs.Wholes.{whole}
 use Rattle.tk_run.proofs.Advancing.{advanced_whole, advanced_unput}
-use Rattle.tk_run.proofs.Gathered.{all_on, rest_cut}
 use Rattle.tk_run.proofs.run.put_steps.Goals as goal
 
 pub returns-in_err-send-clause-put : goal.returns-in_err-send-clause-put

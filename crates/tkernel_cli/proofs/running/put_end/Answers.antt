@@ -1,7 +1,8 @@
 use Rattle.std.proofs.Common.{◌/◌, ℕ, List, ◌++◌, ap, ap₂, ◌∙◌, subst}
 use Rattle.tk_io.specs.Streams.{Puts}
+use Rattle.line_text.specs.StopLines.{end_line}
 use Rattle.program_steps.specs.Machines.{Machine}
-use Rattle.tkernel_cli.specs.Text.{end_line, count_text}
+use Rattle.tkernel_cli.specs.Text.{count_text}
 use Rattle.tkernel_cli.proofs.Putting.{puts_behind}
 use Rattle.tkernel_cli.proofs.running.put_end.Goals as goal
 

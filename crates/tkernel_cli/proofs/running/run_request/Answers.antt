@@ -17,6 +17,7 @@ returns g c =
       done = inl (record {
         machine = c.advance.new.self;
         kept = refl;
+        alone = refl;
         runs = elim c.match-advance.branch [
           | in-Ok-advance w ↦ rw (w.out-is, w.status-is)
               (answered request before mid _ w.tell_end-status.result c.advance.result w.in-Ok-advance.end c.advance.new.self image c.requires.quantum (omega arith) c.requires.swap c.requires.steps advanced w.in-Ok-advance.is c.advance.ensures.cause w.tell_end-status.ensures.said)

@@ -1,13 +1,16 @@
-use Rattle.std.proofs.Common.{subst, arith, None}
-use Rattle.hex_image.specs.Image.{IsImage}
+use Rattle.std.proofs.Common.{subst, ap, ◌∙◌, arith, None}
+use Rattle.program_steps.specs.Machines.{Machine}
+use Rattle.tkernel_cli.specs.declared.request.Request.{Request}
 use Rattle.tk_run.specs.Running.{HasAdvanced}
 use Rattle.tkernel_cli.proofs.RunEnds.{ran_silently}
 use Rattle.tkernel_cli.proofs.running.run_silently.Goals as goal
 
 pub returns : goal.returns
 returns c =
-    let request = c.args.request in
+    let request : Request = record { image = c.args.image.now; script = c.args.script; options = c.args.options } in
     let may = c.requires.possible in
     let advanced = subst (λ m. HasAdvanced m c.advance-end.new.self request.options.steps None None c.advance-end.result) c.in_ok-machine.ensures.booted c.advance-end.ensures.advanced in
-    let image : IsImage request.image = subst IsImage (c.image.view_is) c.image.invariant in
-    record { ran = ran_silently request c.advance-end.result c.advance-end.new.self image may.0 (omega arith) may.1 (omega (arith, may.2)) advanced c.advance-end.ensures.cause }
+    record {
+      ran = ran_silently request c.advance-end.result c.advance-end.new.self c.requires.image may.0 (omega arith) may.1 (omega (arith, may.2)) advanced c.advance-end.ensures.cause;
+      layout = c.advance-end.ensures.advanced.stays.layout ∙ ap (λ (m : Machine). m.kernel.layout) c.in_ok-machine.ensures.booted;
+    }

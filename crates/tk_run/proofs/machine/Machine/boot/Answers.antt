@@ -4,9 +4,20 @@ use Rattle.mote_core.specs.Step.{IsAtReset}
 use Rattle.tk_run.proofs.Booting.{boot_is_kept}
 use Rattle.tk_run.proofs.machine.Machine.boot.Goals as goal
 
-pub invariant_of-result : goal.invariant_of-result
-invariant_of-result c =
+pub begun-requires : goal.begun-requires
+begun-requires c =
     let image = c.args.image.now in
-    boot_is_kept image c.args.script c.args.options.quantum c.args.options.swap c.in_ok-mote.mote c.set_count.new.self c.of-layout.result c.whole_part-part.result c.words.ensures.image c.requires.quantum (omega arith) c.requires.swap
-    (subst (λ i. IsAtReset i c.args.script c.args.options.swap c.in_ok-mote.mote) c.words.ensures.words c.in_ok-mote.ensures.reset) c.in_ok-mote.ensures.whole c.set_count.ensures.after
-    (c.of-layout.ensures.value ∙ ap layout_of c.len_words.ensures.words) c.whole_part-part.ensures.value
+    record {
+      kept = (boot_is_kept image c.args.script c.args.options.quantum c.args.options.swap c.in_ok-mote.mote c.set_count.new.self c.of-layout.result c.words.ensures.image c.requires.quantum (omega arith) c.requires.swap
+          (subst (λ i. IsAtReset i c.args.script c.args.options.swap c.in_ok-mote.mote) c.words.ensures.words c.in_ok-mote.ensures.reset) c.in_ok-mote.ensures.whole c.set_count.ensures.after
+          (c.of-layout.ensures.value ∙ ap layout_of c.len_words.ensures.words)).1;
+    }
+
+pub returns : goal.returns
+returns c =
+    let image = c.args.image.now in
+    record {
+      booted = c.begun.ensures.begun ∙ (boot_is_kept image c.args.script c.args.options.quantum c.args.options.swap c.in_ok-mote.mote c.set_count.new.self c.of-layout.result c.words.ensures.image c.requires.quantum (omega arith) c.requires.swap
+          (subst (λ i. IsAtReset i c.args.script c.args.options.swap c.in_ok-mote.mote) c.words.ensures.words c.in_ok-mote.ensures.reset) c.in_ok-mote.ensures.whole c.set_count.ensures.after
+          (c.of-layout.ensures.value ∙ ap layout_of c.len_words.ensures.words)).0;
+    }

@@ -1,0 +1,10 @@
+-- Lines that are gathered before they go out.
+use Rattle.std.specs.Prelude.{ℕ, ◌++◌, List, Option, Result, Ok, Err}
+use Rattle.tk_io.specs.Streams.{CutShort, IsSent}
+use Rattle.tk_io.specs.declared.failure.Failed.{Failed}
+
+-- Bytes were gathered behind others. Of all of these some went out, from the front, and the rest is gathered;
+-- or the sink failed, and what went out is a shorter part of them.
+abbrev pub Gathers : {T : Type 0} → (old new : List ℕ) → (before after : Option (List ℕ)) → Result T Failed → List ℕ → Type 0
+Gathers old new before after (Ok x) bytes = IsSent (old ++ bytes) new before after
+Gathers old new before after (Err e) bytes = CutShort before after (old ++ bytes)

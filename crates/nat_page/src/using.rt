@@ -1,0 +1,27 @@
+//! How many pages of the pool are used.
+
+ghost use Rattle.std.specs.Prelude.{◌≡◌};
+ghost use Rattle.flash_model.specs.Layouts.{IsRight};
+ghost use Rattle.flash_model.specs.Memory.{IsWhole};
+ghost use Rattle.nat_page.specs.Used.{used_pages};
+
+use crate::draft::PAGE_WORDS;
+use flash_model::{Flash, Layout};
+
+/// The first word of a page that is free.
+const BLANK: u16 = 0xFFFF;
+
+/// How many pages of the pool are used: those whose first word isn't erased.
+pub fn pages_in_use(flash: &Flash, layout: &Layout) -> u16
+    requires right { IsRight layout.now }
+    ensures value { result ≡ used_pages layout.now flash.now.words }
+    ensures whole { IsWhole flash.now }
+{
+    let mut pages = 0;
+    for i in 0..layout.pool_pages {
+        if flash.word(PAGE_WORDS * (layout.pool_first + i)) != BLANK {
+            pages += 1;
+        }
+    }
+    pages
+}

@@ -1,0 +1,101 @@
+-- What a run of several programs leaves, which take turns on one mote, where the sink didn't cut it short: each prints and
+-- ends as if it were alone.
+use Rattle.std.specs.Prelude.{◌≡◌, ℕ, ◌+◌, ◌*◌, ◌/◌, ◌<◌, ◌≤◌, max, List, [], ◌∷◌, ◌++◌, codes, decimal, flat_map, map, length, drop, slice_index_or, true, false, ◌==◌, if◌then◌else◌, All, Option, None}
+use Rattle.std.specs.List.{range_with_len}
+use Rattle.text_lines.specs.Lines.{lines_of}
+use Rattle.hex_image.specs.HexText.{HexText}
+use Rattle.input_script.specs.declared.input.Event.{Event}
+use Rattle.input_script.specs.Script.{Schedule}
+use Rattle.mem_guard.specs.FlatMachine.{Run, run, at_reset}
+use Rattle.program_steps.specs.Machines.{Machine}
+use Rattle.tk_tasks.specs.Images.{IsMisplaced}
+use Rattle.tk_tasks.specs.Scripts.{Schedules}
+use Rattle.tkernel_cli.specs.declared.command.Command.TheVariants.{Tasks as TasksCommand}
+use Rattle.tkernel_cli.specs.Commands.{IsCommand}
+use Rattle.theorem_reader.specs.Texts.{device_line, end_words, stop_line, end_status}
+
+-- the image of so many programs, the inputs of each, and how they are run
+pub record AskedTasks : Type 0 where
+  pub image : List ℕ
+  pub scripts : List Schedule
+  pub count : ℕ
+  pub steps : ℕ
+  pub quantum : ℕ
+  pub slots : ℕ
+
+-- the image of one program alone: each word outside its 4,096 is erased
+abbrev pub image_of : AskedTasks → ℕ → List ℕ
+image_of asked task = map (λ a. if a / 4096 == task then slice_index_or asked.image a 0xFFFF else 0xFFFF) (range_with_len 0 (4096 * asked.count))
+
+abbrev pub events_of : AskedTasks → ℕ → List Event
+events_of asked task = (slice_index_or asked.scripts task (record { events = []; failing = [] })).events
+
+-- That program's run, by itself on flat memory of 64 KiB, for the steps that each may do. It begins at the first of its
+-- words, and may read no others.
+abbrev pub alone_of : AskedTasks → ℕ → Run
+alone_of asked task =
+    let reset = at_reset (events_of asked task) in
+    run (record { image = image_of asked task; part = record { first = 4096 * task; count = 4096; shut = true }; page_limit = asked.slots; quantum = asked.quantum })
+    (record { now = record reset { cpu = record reset.cpu { pc = 4096 * task } }; due = false })
+    asked.steps
+
+-- its lines: those of its devices, and its stop line
+abbrev pub lines_alone : AskedTasks → ℕ → List (List ℕ)
+lines_alone asked task =
+    let r = alone_of asked task in
+    map device_line r.lines ++ stop_line (end_words r.end) r.state.now.steps (r.state.now.crossings / asked.quantum) ∷ []
+
+-- a line, and the program that it is of
+pub record Printed : Type 0 where
+  pub task : ℕ
+  pub line : List ℕ
+
+-- as they are printed, one behind the other: each begins with its program's number, as `task 1 `
+abbrev pub printed_text : List Printed → List ℕ
+printed_text printed = flat_map (λ one. codes "task " ++ (48 + one.task) ∷ codes " " ++ one.line) printed
+
+-- the lines of one program, in their order
+abbrev pub lines_of_task : ℕ → List Printed → List (List ℕ)
+lines_of_task task [] = []
+lines_of_task task (one ∷ others) = if one.task == task then one.line ∷ lines_of_task task others else lines_of_task task others
+
+-- the last line
+abbrev pub last_line : (natural entries pages switches : ℕ) → List ℕ
+last_line natural entries pages switches =
+    codes "natural " ++ decimal natural ++ codes " entries " ++ decimal entries ++ codes " pages " ++ decimal pages ++ codes " switches " ++ decimal switches ++ codes "\n"
+
+-- 2 where a program ended in a fault, else 1 where one did all its steps, else 0
+abbrev pub greatest : List ℕ → ℕ
+greatest [] = 0
+greatest (n ∷ numbers) = max n (greatest numbers)
+
+abbrev pub worst_status : AskedTasks → ℕ
+worst_status asked = greatest (map (λ task. end_status (alone_of asked task).end) (range_with_len 0 asked.count))
+
+-- What is printed is lines of the programs and a last line. Those of each program are just those of its run alone: none
+-- can change what another prints, or when and how it ends.
+pub record AreApart (asked : AskedTasks) (status : ℕ) (text : List ℕ) : Type 0 where
+  pub printed : List Printed
+  pub natural : ℕ
+  pub entries : ℕ
+  pub pages : ℕ
+  pub switches : ℕ
+  pub text_is : text ≡ printed_text printed ++ last_line natural entries pages switches
+  pub theirs : All (λ one. one.task < asked.count) printed
+  pub each : (task : ℕ) → task < asked.count → lines_of_task task printed ≡ lines_alone asked task
+  pub status_is : status ≡ worst_status asked
+
+-- memory was wanted, which is all that is told; or all programs were run; no machine is kept
+pub data AreRun (asked : AskedTasks) (status : ℕ) (text : List ℕ) (kept : Option Machine) : Type 0 where
+  NoMemory : status ≡ 8 → text ≡ codes "no memory\n" → kept ≡ None → AreRun asked status text kept
+  Ended : AreApart asked status text → kept ≡ None → AreRun asked status text kept
+
+-- The words are those of `tasks` with these options; the text is a HEX text of the image, in which only the programs have
+-- words, and behind it a script of theirs.
+pub record AsksTasks (words : List (List ℕ)) (text : List ℕ) (asked : AskedTasks) : Type 0 where
+  pub command : IsCommand words (TasksCommand (record { count = asked.count; steps = asked.steps; quantum = asked.quantum; swap = asked.slots }))
+  pub position : ℕ
+  pub hex : HexText text asked.image position
+  pub scripts : Schedules asked.count (lines_of (drop position text)) asked.scripts
+  pub placed : (a : ℕ) → ¬ IsMisplaced asked.count asked.image a
+  pub short : length text ≤ 2097152

@@ -1,0 +1,457 @@
+-- The change of the task that runs leaves what each task stands for.
+use Rattle.std.proofs.Common.{◌≡◌, ℕ, zero, suc, ◌+◌, ◌-◌, ◌<◌, ◌≤◌, ◌⊎◌, Bool, true, false, cond, not, List, [], ◌∷◌, length, get_or, refl, sym, ap, ap₂, ◌∙◌, arith, subst, inl, inr}
+use Rattle.std.specs.Prelude.{◌≢◌, ◌*◌, All, map, is_some, slice_get, slice_set, slice_index_or, sum_by, Option, Some, None, IfSome}
+use Rattle.std.specs.List.{range_with_len, find}
+use Rattle.std.specs.Option.{option_or}
+use Rattle.std.proofs.lemmas.Bool.{cases_eq}
+use Rattle.std.proofs.lemmas.List.{get_or-map, set-get_or}
+use Rattle.std.proofs.lemmas.List.Folds.{find-append}
+use Rattle.std.proofs.lemmas.List.Elements.{All-append}
+use Rattle.std.proofs.lemmas.List.FromFn.{get_or-range_with_len, length-range_with_len}
+use Rattle.std.proofs.lemmas.List.Sums.{sum_by-cons}
+use Rattle.std.proofs.lemmas.Option.{slice_get-get_or}
+use Rattle.sram_layout.specs.Bytes.{byte_count}
+use Rattle.flash_model.specs.Layouts.{layout_of}
+use Rattle.mote_core.specs.declared.mote.Mote.{Mote}
+use Rattle.kernel_entry.specs.Seen.{program as program_of}
+use Rattle.step_laws.specs.declared.moves.Owed.{Owed}
+use Rattle.program_steps.specs.Machines.{Machine, flat_of}
+use Rattle.program_steps.specs.Ready.{IsSound, IsGoing, IsQuiet}
+use Rattle.tk_tasks.specs.declared.parked.Parked.{Parked}
+use Rattle.tk_tasks.specs.declared.tasks.Task.{Task}
+use Rattle.tk_tasks.specs.declared.tasks.TaskEnd.{TaskEnd}
+use Rattle.tk_tasks.specs.Images.{quarter, quarter_part}
+use Rattle.tk_tasks.specs.Parking.{IsSized, parked_of, taken_up}
+use Rattle.tk_tasks.specs.Turns.{Player, others, has_ended, next_in, ends_of, changed, changed_to}
+use Rattle.tk_tasks.specs.States.{Tasks, owed_of, stub_of, arrivals_of, machine_of, mote_for, IsTask, AreSound, flat_end_of, player_of, players_from, turns_of}
+use Rattle.tk_tasks.specs.Changes.{parking, with_parked, parked_by, given_by, given_to, next_task, changed_tasks, IsFree}
+use Rattle.tk_tasks.proofs.Parkings.{taken_twice, taken_back, sized_of}
+use Rattle.tk_tasks.proofs.Ending.{found_holds}
+
+-- What is parked of one of the tasks. ---------------------------------------------------------------------
+
+parking_here : (tasks : List Task) (i : ℕ) (parked : Option Parked) (task : Task) → slice_get tasks i ≡ Some task → slice_get (parking tasks i parked (slice_get tasks i)) i ≡ Some (record task { parked = parked })
+parking_here [] i parked task is = absurd (cc)
+parking_here (t ∷ tasks) zero parked task is = let e : t ≡ task = cc in ap (λ (x : Task). Some (record x { parked = parked })) e
+parking_here (t ∷ tasks) (suc i) parked task is =
+    ap (λ o. slice_get (parking (t ∷ tasks) (suc i) parked o) (suc i)) is ∙ ap (λ o. slice_get (parking tasks i parked o) i) (sym is) ∙ parking_here tasks i parked task is
+
+pub elsewhere_by : (tasks : List Task) (i k : ℕ) (x : Task) → k ≢ i → slice_get (slice_set tasks i x) k ≡ slice_get tasks k
+elsewhere_by [] i k x apart = refl
+elsewhere_by (t ∷ tasks) zero zero x apart = absurd (apart refl)
+elsewhere_by (t ∷ tasks) zero (suc k) x apart = refl
+elsewhere_by (t ∷ tasks) (suc i) zero x apart = refl
+elsewhere_by (t ∷ tasks) (suc i) (suc k) x apart = elsewhere_by tasks i k x (λ e. apart (ap suc e))
+
+parking_elsewhere : (tasks : List Task) (i k : ℕ) (parked : Option Parked) (o : Option Task) → k ≢ i → slice_get (parking tasks i parked o) k ≡ slice_get tasks k
+parking_elsewhere tasks i k parked None apart = refl
+parking_elsewhere tasks i k parked (Some task) apart = elsewhere_by tasks i k (record task { parked = parked }) apart
+
+pub length_by : (tasks : List Task) (i : ℕ) (x : Task) → length (slice_set tasks i x) ≡ length tasks
+length_by [] i x = refl
+length_by (t ∷ tasks) zero x = refl
+length_by (t ∷ tasks) (suc i) x = ap (λ n. suc n) (length_by tasks i x)
+
+parking_length : (tasks : List Task) (i : ℕ) (parked : Option Parked) (o : Option Task) → length (parking tasks i parked o) ≡ length tasks
+parking_length tasks i parked None = refl
+parking_length tasks i parked (Some task) = length_by tasks i (record task { parked = parked })
+
+-- no arrival is counted with it
+sum_by_set : (tasks : List Task) (i : ℕ) (task : Task) (parked : Option Parked) → slice_get tasks i ≡ Some task → sum_by arrivals_of (slice_set tasks i (record task { parked = parked })) ≡ sum_by arrivals_of tasks
+sum_by_set [] i task parked is = refl
+sum_by_set (t ∷ tasks) zero task parked is =
+    let e : task ≡ t = cc in
+    sum_by-cons arrivals_of (record task { parked = parked }) tasks ∙ ap (λ (x : Task). arrivals_of x + sum_by arrivals_of tasks) e ∙ sym (sum_by-cons arrivals_of t tasks)
+sum_by_set (t ∷ tasks) (suc i) task parked is =
+    sum_by-cons arrivals_of t (slice_set tasks i (record task { parked = parked })) ∙ ap (λ n. arrivals_of t + n) (sum_by_set tasks i task parked is) ∙ sym (sum_by-cons arrivals_of t tasks)
+
+parking_sum : (tasks : List Task) (i : ℕ) (parked : Option Parked) (o : Option Task) → slice_get tasks i ≡ o → sum_by arrivals_of (parking tasks i parked o) ≡ sum_by arrivals_of tasks
+parking_sum tasks i parked None is = refl
+parking_sum tasks i parked (Some task) is = sum_by_set tasks i task parked is
+
+-- The next task. ------------------------------------------------------------------------------------------
+
+-- one of them has ended or not
+some_end : (end : Option TaskEnd) → is_some (flat_end_of end) ≡ is_some end
+some_end None = refl
+some_end (Some end) = refl
+
+abbrev goes_in : List Task → ℕ → Bool
+goes_in tasks i = not (has_ended (map (λ (x : Task). flat_end_of x.end) tasks) i)
+
+goes_by : (tasks : List Task) (i : ℕ) (x : Task) → i < length tasks → x ≡ slice_index_or tasks i x → goes_in tasks i ≡ not (is_some x.end)
+goes_by tasks i x below is = ap (λ e. not (is_some e)) (get_or-map (λ (y : Task). flat_end_of y.end) tasks i x None below ∙ ap (λ (y : Task). flat_end_of y.end) (sym is)) ∙ ap not (some_end x.end)
+
+range_step : (a n : ℕ) → a < n → range_with_len a (n - a) ≡ a ∷ range_with_len (a + 1) (n - (a + 1))
+range_step a n less = let more : n - a ≡ suc (n - (a + 1)) = omega arith in ap (range_with_len a) more
+
+range_done : (a n : ℕ) → n ≤ a → range_with_len a (n - a) ≡ []
+range_done a n less = let none : n - a ≡ 0 = omega arith in ap (range_with_len a) none
+
+cond_true : (test : Bool) (x : ℕ) (rest : Option ℕ) → test ≡ true → cond test (Some x) rest ≡ Some x
+cond_true true x rest is = refl
+cond_true false x rest is = absurd (cc)
+
+cond_false : (test : Bool) (x : ℕ) (rest : Option ℕ) → test ≡ false → cond test (Some x) rest ≡ rest
+cond_false true x rest is = absurd (cc)
+cond_false false x rest is = refl
+
+-- the first that goes on, from this one or from the next
+pub first_here : (tasks : List Task) (i n : ℕ) (x : Task) → i < n → n ≤ length tasks → x ≡ slice_index_or tasks i x → is_some x.end ≡ false → find (goes_in tasks) (range_with_len i (n - i)) ≡ Some i
+first_here tasks i n x less inside is going =
+    ap (find (goes_in tasks)) (range_step i n less) ∙ cond_true (goes_in tasks i) i (find (goes_in tasks) (range_with_len (i + 1) (n - (i + 1)))) (goes_by tasks i x (omega arith) is ∙ ap not going)
+
+pub first_later : (tasks : List Task) (i n : ℕ) (x : Task) → i < n → n ≤ length tasks → x ≡ slice_index_or tasks i x → is_some x.end ≡ true → find (goes_in tasks) (range_with_len i (n - i)) ≡ find (goes_in tasks) (range_with_len (i + 1) (n - (i + 1)))
+first_later tasks i n x less inside is over =
+    ap (find (goes_in tasks)) (range_step i n less) ∙ cond_false (goes_in tasks i) i (find (goes_in tasks) (range_with_len (i + 1) (n - (i + 1)))) (goes_by tasks i x (omega arith) is ∙ ap not over)
+
+pub first_none : (tasks : List Task) (i n : ℕ) → n ≤ i → find (goes_in tasks) (range_with_len i (n - i)) ≡ None
+first_none tasks i n less = ap (find (goes_in tasks)) (range_done i n less)
+
+-- of the others: those behind, and then those before
+pub first_of_others : (t : Tasks) (first then : Option ℕ) → first ≡ find (goes_in t.tasks) (range_with_len (t.running + 1) (length t.tasks - (t.running + 1))) → then ≡ find (goes_in t.tasks) (range_with_len 0 t.running) → option_or first then ≡ next_task t
+first_of_others t first then is is' =
+    ap₂ option_or is is' ∙ sym (find-append (goes_in t.tasks) (range_with_len (t.running + 1) (length t.tasks - (t.running + 1))) (range_with_len 0 t.running))
+
+-- a task of which nothing is parked
+pub given_nothing : (t : Tasks) (next : ℕ) (x : Task) → next < length t.tasks → x ≡ slice_index_or t.tasks next x → x.parked ≡ None → given_by t next (parked_by (slice_get t.tasks next)) ≡ t
+given_nothing t next x below is none = ap (λ o. given_by t next (parked_by o)) (slice_get-get_or t.tasks next x below ∙ ap Some (sym is)) ∙ ap (given_by t next) none
+
+pub same_items : (tasks : List Task) (next : ℕ) (x y : Task) → x ≡ slice_index_or tasks next x → y ≡ x → slice_set tasks next y ≡ tasks
+same_items tasks next x y is same = ap (slice_set tasks next) (same ∙ is) ∙ set-get_or tasks next x
+
+-- it is one of the others, and has not ended
+pub record IsNext (t : Tasks) (next : ℕ) : Type 0 where
+  pub below : next < length t.tasks
+  pub apart : next ≢ t.running
+
+pub is_next : (t : Tasks) (next : ℕ) → t.running < length t.tasks → next_task t ≡ Some next → IsNext t next
+is_next t next one is =
+    let n = length t.tasks in
+    let r = t.running in
+    let P : ℕ → Type 0 = λ j. (j < n) × (j ≢ r) in
+    let behind : All P (range_with_len (r + 1) (n - (r + 1))) = λ k d below.
+    let inside : k < n - (r + 1) = omega (arith, length-range_with_len (r + 1) (n - (r + 1))) in
+    let at = get_or-range_with_len (r + 1) (n - (r + 1)) k d inside in
+    (omega arith, λ e. omega arith) in
+    let before : All P (range_with_len 0 r) = λ k d below.
+    let inside : k < r = omega (arith, length-range_with_len 0 r) in
+    let at = get_or-range_with_len 0 r k d inside in
+    (omega arith, λ e. omega arith) in
+    let holds = found_holds P (λ task. not (has_ended (map (λ (x : Task). flat_end_of x.end) t.tasks) task)) (others r n) next (All-append P (range_with_len (r + 1) (n - (r + 1))) (range_with_len 0 r) behind before) is in
+    record { below = holds.0.0; apart = holds.0.1 }
+
+-- Each task. ----------------------------------------------------------------------------------------------
+
+-- A task behind the change: but for what is parked of it, it is what it was, and so is the machine that it is with the mote;
+-- a task that gives up the mote keeps no stub.
+pub record IsKept (t u : Tasks) (i : ℕ) (task' : Task) : Type 0 where
+  pub task : Task
+  pub was : slice_get t.tasks i ≡ Some task
+  pub is : task' ≡ record task { parked = task'.parked }
+  pub runs : i ≡ u.running → task'.parked ≡ None
+  pub waits : i ≢ u.running → task'.parked ≢ None
+  pub sized : IfSome task'.parked IsSized
+  pub machine : machine_of u i task' ≡ record (machine_of t i task) { owed = owed_of task.owed None }
+  pub alone : (i ≢ t.running) ⊎ (t.stub ≡ None) → machine_of u i task' ≡ machine_of t i task
+
+some_same : (a b : Task) → ◌≡◌ {A = Option Task} (Some a) (Some b) → a ≡ b
+some_same a b is = cc
+
+-- the machine by its mote, the arrivals of others, and the arrival that it owes
+abbrev machine_by : Tasks → ℕ → Task → Mote → (others : ℕ) → Option Owed → Machine
+machine_by t i task mote others owed = record (machine_of t i task) { kernel = record t.kernel { mote = mote; part = quarter_part i }; others = others; owed = owed }
+
+-- what was given to a task, and what it had
+record IsGiven (t : Tasks) (next : ℕ) (parked : Parked) : Type 0 where
+  last : Task
+  had : slice_get t.tasks t.running ≡ Some last
+  holds : last.parked ≡ None
+  first : Task
+  waits : slice_get t.tasks next ≡ Some first
+  gets : first.parked ≡ Some parked
+  apart : next ≢ t.running
+  size : length t.kernel.mote.sram ≡ byte_count
+  sized : IsSized parked
+
+pub here_is : (tasks : List Task) (k : ℕ) (task task' : Task) → slice_get tasks k ≡ Some task → slice_get tasks k ≡ Some task' → task ≡ task'
+here_is tasks k task task' is is' = some_same task task' (sym is ∙ is')
+
+-- the tasks behind the change
+first_of : (t : Tasks) (next : ℕ) (parked : Parked) → (given : IsGiven t next parked) → slice_get (given_by t next (Some parked)).tasks next ≡ Some (record given.first { parked = None })
+first_of t next parked given =
+    let tasks = with_parked t.tasks next None in
+    parking_elsewhere tasks t.running next (Some (parked_of t.kernel.mote)) (slice_get tasks t.running) given.apart ∙ parking_here t.tasks next None given.first given.waits
+
+last_of : (t : Tasks) (next : ℕ) (parked : Parked) → (given : IsGiven t next parked) → slice_get (given_by t next (Some parked)).tasks t.running ≡ Some (record given.last { parked = Some (parked_of t.kernel.mote) })
+last_of t next parked given =
+    let tasks = with_parked t.tasks next None in
+    parking_here tasks t.running (Some (parked_of t.kernel.mote)) given.last (parking_elsewhere t.tasks next t.running None (slice_get t.tasks next) (λ e. given.apart (sym e)) ∙ given.had)
+
+other_of : (t : Tasks) (next k : ℕ) (parked : Parked) → k ≢ next → k ≢ t.running → slice_get (given_by t next (Some parked)).tasks k ≡ slice_get t.tasks k
+other_of t next k parked apart apart' =
+    let tasks = with_parked t.tasks next None in
+    parking_elsewhere tasks t.running k (Some (parked_of t.kernel.mote)) (slice_get tasks t.running) apart' ∙ parking_elsewhere t.tasks next k None (slice_get t.tasks next) apart
+
+same_sum : (t : Tasks) (next : ℕ) (parked : Parked) → sum_by arrivals_of (given_by t next (Some parked)).tasks ≡ sum_by arrivals_of t.tasks
+same_sum t next parked =
+    let tasks = with_parked t.tasks next None in
+    parking_sum tasks t.running (Some (parked_of t.kernel.mote)) (slice_get tasks t.running) refl ∙ parking_sum t.tasks next None (slice_get t.tasks next) refl
+
+same_length : (t : Tasks) (next : ℕ) (parked : Parked) → length (given_by t next (Some parked)).tasks ≡ length t.tasks
+same_length t next parked =
+    let tasks = with_parked t.tasks next None in
+    parking_length tasks t.running (Some (parked_of t.kernel.mote)) (slice_get tasks t.running) ∙ parking_length t.tasks next None (slice_get t.tasks next)
+
+-- the machine of each, by the mote that it would have and the sum of arrivals
+machine_at : (t : Tasks) (i : ℕ) (task : Task) (mote : Mote) (sum : ℕ) → mote ≡ mote_for t.kernel.mote task.parked → sum ≡ sum_by arrivals_of t.tasks
+    → machine_by t i task mote (sum - arrivals_of task) (owed_of task.owed None) ≡ record (machine_of t i task) { owed = owed_of task.owed None }
+machine_at t i task mote sum same all =
+    ap (λ m. machine_by t i task m (sum - arrivals_of task) (owed_of task.owed None)) same ∙ ap (λ s. machine_by t i task (mote_for t.kernel.mote task.parked) (s - arrivals_of task) (owed_of task.owed None)) all
+
+alone_by : (t : Tasks) (i : ℕ) (task : Task) (m : Machine) → m ≡ record (machine_of t i task) { owed = owed_of task.owed None } → stub_of t task.parked ≡ None → m ≡ machine_of t i task
+alone_by t i task m is none = is ∙ ap (λ s. record (machine_of t i task) { owed = owed_of task.owed s }) (sym none)
+
+kept_first : (t : Tasks) (next : ℕ) (parked : Parked) → (given : IsGiven t next parked) → IsKept t (given_by t next (Some parked)) next (record given.first { parked = None })
+kept_first t next parked given =
+    let u = given_by t next (Some parked) in
+    let same : machine_of u next (record given.first { parked = None }) ≡ record (machine_of t next given.first) { owed = owed_of given.first.owed None } =
+    machine_at t next given.first (taken_up t.kernel.mote parked) (sum_by arrivals_of u.tasks) (sym (ap (mote_for t.kernel.mote) given.gets)) (same_sum t next parked) in
+    record {
+      task = given.first;
+      was = given.waits;
+      is = refl;
+      runs = λ e. refl;
+      waits = λ apart. absurd (apart refl);
+      sized = tt;
+      machine = same;
+      alone = λ free. alone_by t next given.first _ same (ap (stub_of t) given.gets);
+    }
+
+not_running : {P : Type 0} → (t : Tasks) → (t.running ≢ t.running) ⊎ P → P
+not_running t (inl apart) = absurd (apart refl)
+not_running t (inr none) = none
+
+kept_last : (t : Tasks) (next : ℕ) (parked : Parked) → (given : IsGiven t next parked) → IsKept t (given_by t next (Some parked)) t.running (record given.last { parked = Some (parked_of t.kernel.mote) })
+kept_last t next parked given =
+    let u = given_by t next (Some parked) in
+    let m = t.kernel.mote in
+    let same : machine_of u t.running (record given.last { parked = Some (parked_of m) }) ≡ record (machine_of t t.running given.last) { owed = owed_of given.last.owed None } =
+    machine_at t t.running given.last (taken_up (taken_up m parked) (parked_of m)) (sum_by arrivals_of u.tasks) (taken_back m parked given.size given.sized ∙ sym (ap (mote_for m) given.holds)) (same_sum t next parked) in
+    record {
+      task = given.last;
+      was = given.had;
+      is = refl;
+      runs = λ e. absurd (given.apart (sym e));
+      waits = λ apart none. (let e : Some (parked_of m) ≡ None = none in cc);
+      sized = sized_of m given.size;
+      machine = same;
+      alone = λ free. alone_by t t.running given.last _ same (ap (stub_of t) given.holds ∙ not_running t free);
+    }
+
+kept_other : (t : Tasks) (next i : ℕ) (parked : Parked) (task : Task) (has : Option Parked) → (given : IsGiven t next parked) → task.parked ≡ has → slice_get t.tasks i ≡ Some task → i ≢ next → i ≢ t.running → IsTask t i task → IsKept t (given_by t next (Some parked)) i task
+kept_other t next i parked task None given is there apart apart' stands = absurd (stands.waiting apart' is)
+kept_other t next i parked task (Some q) given is there apart apart' stands =
+    let u = given_by t next (Some parked) in
+    let m = t.kernel.mote in
+    let sized : IsSized q = subst (λ o. IfSome o IsSized) is stands.sized in
+    let same : machine_of u i task ≡ record (machine_of t i task) { owed = owed_of task.owed None } =
+    ap (λ s. record (machine_of u i task) { owed = owed_of task.owed s }) (ap (stub_of u) is)
+    ∙ machine_at t i task (mote_for (taken_up m parked) task.parked) (sum_by arrivals_of u.tasks) (ap (mote_for (taken_up m parked)) is ∙ taken_twice m parked q given.size given.sized sized ∙ sym (ap (mote_for m) is)) (same_sum t next parked) in
+    record {
+      task = task;
+      was = there;
+      is = refl;
+      runs = λ e. absurd (apart e);
+      waits = λ e. stands.waiting apart';
+      sized = stands.sized;
+      machine = same;
+      alone = λ free. alone_by t i task _ same (ap (stub_of t) is);
+    }
+
+kept_as : (t u : Tasks) (i k : ℕ) (task task' : Task) → i ≡ k → slice_get u.tasks k ≡ Some task → slice_get u.tasks i ≡ Some task' → IsKept t u k task → IsKept t u i task'
+kept_as t u i k task task' same is there kept =
+    let one : task ≡ task' = here_is u.tasks k task task' is (ap (slice_get u.tasks) (sym same) ∙ there) in
+    subst (IsKept t u i) one (subst (λ j. IsKept t u j task) (sym same) kept)
+
+kept_given : (t : Tasks) (next : ℕ) (parked : Parked) → AreSound t → IsGiven t next parked → (i : ℕ) (task : Task) → slice_get (given_by t next (Some parked)).tasks i ≡ Some task → IsKept t (given_by t next (Some parked)) i task
+kept_given t next parked sound given i task there =
+    let u = given_by t next (Some parked) in
+    elim (cases_eq i next) [
+      | inl same ↦ kept_as t u i next _ task same (first_of t next parked given) there (kept_first t next parked given)
+      | inr apart ↦ elim (cases_eq i t.running) [
+        | inl same ↦ kept_as t u i t.running _ task same (last_of t next parked given) there (kept_last t next parked given)
+        | inr apart' ↦
+            let was : slice_get t.tasks i ≡ Some task = sym (other_of t next i parked apart apart') ∙ there in
+            kept_other t next i parked task task.parked given refl was apart apart' (sound.each i task was)
+      ]
+    ]
+
+-- The tasks behind it. ------------------------------------------------------------------------------------
+
+-- what the change of sound tasks gives
+record HasChanged (t : Tasks) (next : ℕ) : Type 0 where
+  parked : Parked
+  given : IsGiven t next parked
+  is : changed_tasks t ≡ given_by t next (Some parked)
+
+running_size : (t : Tasks) (task : Task) → AreSound t → slice_get t.tasks t.running ≡ Some task → task.parked ≡ None → length t.kernel.mote.sram ≡ byte_count
+running_size t task sound there holds =
+    let stands = sound.each t.running task there in
+    subst (λ o. length (mote_for t.kernel.mote o).sram ≡ byte_count) holds stands.sound.order.paged.sized.sram
+
+given_at : (t : Tasks) (next : ℕ) (first last : Task) (has : Option Parked) → AreSound t → next_task t ≡ Some next → next ≢ t.running → slice_get t.tasks next ≡ Some first → slice_get t.tasks t.running ≡ Some last → first.parked ≡ has → HasChanged t next
+given_at t next first last None sound is apart there runs holds = absurd ((sound.each next first there).waiting apart holds)
+given_at t next first last (Some parked) sound is apart there runs holds =
+    let stands = sound.each next first there in
+    let has : last.parked ≡ None = (sound.each t.running last runs).running refl in
+    record {
+      parked = parked;
+      given = record { last = last; had = runs; holds = has; first = first; waits = there; gets = holds; apart = apart; size = running_size t last sound runs has; sized = subst (λ o. IfSome o IsSized) holds stands.sized };
+      is = ap (given_to t) is ∙ ap (λ o. given_by t next (parked_by o)) there ∙ ap (given_by t next) holds;
+    }
+
+has_changed : (t : Tasks) (next : ℕ) (last : Task) → AreSound t → slice_get t.tasks t.running ≡ Some last → next_task t ≡ Some next → HasChanged t next
+has_changed t next last sound runs is =
+    let found = is_next t next sound.one_runs is in
+    let first = get_or t.tasks next last in
+    let there : slice_get t.tasks next ≡ Some first = slice_get-get_or t.tasks next last found.below in
+    given_at t next first last first.parked sound is found.apart there runs refl
+
+-- the machine without the arrival that it owes is as sound
+sound_owing : (m : Machine) (owed : Option Owed) → IsSound m → IsSound (record m { owed = owed })
+sound_owing m owed sound =
+    let order = sound.order in
+    record {
+      order = record {
+        layout = order.layout;
+        right = order.right;
+        faithful = order.faithful;
+        part = order.part;
+        parted = order.parted;
+        tables = order.tables;
+        paged = order.paged;
+        whole = order.whole;
+        registers = order.registers;
+        pointer = order.pointer;
+        quantum = order.quantum;
+        pages = order.pages;
+        ring = order.ring;
+        tried = record { listed = order.tried.listed; refused = order.tried.refused; pool = order.tried.pool; torn = order.tried.torn };
+      };
+      bounded = sound.bounded;
+      steps = sound.steps;
+    }
+
+free_at : (t u : Tasks) (i : ℕ) (task' : Task) → IsFree t → (kept : IsKept t u i task') → task'.end ≡ None → (i ≢ t.running) ⊎ (t.stub ≡ None)
+free_at t u i task' free kept going = elim (cases_eq i t.running) [
+  | inl same ↦ inr (free kept.task (ap (slice_get t.tasks) (sym same) ∙ kept.was) (sym (ap (λ (x : Task). x.end) kept.is) ∙ going)).0
+  | inr apart ↦ inl apart
+]
+
+-- a task that waits owes its arrival
+owes_on : (t u : Tasks) (i : ℕ) (task' : Task) → AreSound t → IsFree t → (kept : IsKept t u i task') → task'.end ≡ None → task'.owed ≢ None
+owes_on t u i task' sound free kept going none =
+    let end : kept.task.end ≡ None = sym (ap (λ (x : Task). x.end) kept.is) ∙ going in
+    let owed : kept.task.owed ≡ None = sym (ap (λ (x : Task). x.owed) kept.is) ∙ none in
+    elim (cases_eq i t.running) [
+      | inl same ↦ (free kept.task (ap (slice_get t.tasks) (sym same) ∙ kept.was) end).1 owed
+      | inr apart ↦ (sound.each i kept.task kept.was).owes apart end owed
+    ]
+
+stands_on : (t u : Tasks) (i : ℕ) (task' : Task) → AreSound t → IsFree t → u.broken ≡ t.broken → IsKept t u i task' → IsTask u i task'
+stands_on t u i task' sound free broken kept =
+    let stands = sound.each i kept.task kept.was in
+    let end : task'.end ≡ kept.task.end = ap (λ (x : Task). x.end) kept.is in
+    record {
+      running = kept.runs;
+      waiting = kept.waits;
+      owes = λ apart. owes_on t u i task' sound free kept;
+      sized = kept.sized;
+      sound = subst IsSound (sym kept.machine) (sound_owing (machine_of t i kept.task) (owed_of kept.task.owed None) stands.sound);
+      going = λ whole going. subst IsGoing (sym (kept.alone (free_at t u i task' free kept going))) (stands.going (sym broken ∙ whole) (sym end ∙ going));
+      quiet = λ whole going. subst IsQuiet (sym (kept.alone (free_at t u i task' free kept going))) (stands.quiet (sym broken ∙ whole) (sym end ∙ going));
+    }
+
+sound_given : (t : Tasks) (next : ℕ) (parked : Parked) → AreSound t → IsFree t → next < length t.tasks → IsGiven t next parked → AreSound (given_by t next (Some parked))
+sound_given t next parked sound free below given =
+    let u = given_by t next (Some parked) in
+    let same = same_length t next parked in
+    record {
+      few = omega (arith, same, sound.few);
+      one_runs = omega (arith, same, below);
+      part = refl;
+      layout = sound.layout ∙ ap (λ n. layout_of (quarter * n)) (sym same);
+      unfailing = sound.unfailing;
+      each = λ i task there. stands_on t u i task sound free refl (kept_given t next parked sound given i task there);
+    }
+
+sound_to : (t : Tasks) (last : Task) (found : Option ℕ) → AreSound t → IsFree t → slice_get t.tasks t.running ≡ Some last → next_task t ≡ found → AreSound (changed_tasks t)
+sound_to t last None sound free runs is = subst AreSound (sym (ap (given_to t) is)) sound
+sound_to t last (Some next) sound free runs is =
+    let changed = has_changed t next last sound runs is in
+    subst AreSound (sym changed.is) (sound_given t next changed.parked sound free (is_next t next sound.one_runs is).below changed.given)
+
+-- In turn. ------------------------------------------------------------------------------------------------
+
+players_length : (n : ℕ) (t : Tasks) (i : ℕ) (tasks : List Task) → length (players_from n t i tasks) ≡ length tasks
+players_length n t i [] = refl
+players_length n t i (task ∷ tasks) = ap (λ k. suc k) (players_length n t (i + 1) tasks)
+
+players_ends : (n : ℕ) (t : Tasks) (i : ℕ) (tasks : List Task) → map (λ (p : Player). p.end) (players_from n t i tasks) ≡ map (λ (x : Task). flat_end_of x.end) tasks
+players_ends n t i [] = refl
+players_ends n t i (task ∷ tasks) = ap (λ l. flat_end_of task.end ∷ l) (players_ends n t (i + 1) tasks)
+
+-- the next player is that of the next task
+same_next : (n : ℕ) (t : Tasks) → next_in t.running (length (turns_of n t).players) (ends_of (turns_of n t)) ≡ next_task t
+same_next n t = ap₂ (next_in t.running) (players_length n t 0 t.tasks) (players_ends n t 0 t.tasks)
+
+pub players_same : (n : ℕ) (t u : Tasks) (i : ℕ) (xs ys : List Task) → length ys ≡ length xs → ((k : ℕ) (x y : Task) → slice_get xs k ≡ Some x → slice_get ys k ≡ Some y → player_of n u (i + k) y ≡ player_of n t (i + k) x) → players_from n u i ys ≡ players_from n t i xs
+players_same n t u i [] [] size same = refl
+players_same n t u i [] (y ∷ ys) size same = absurd (omega arith)
+players_same n t u i (x ∷ xs) [] size same = absurd (omega arith)
+players_same n t u i (x ∷ xs) (y ∷ ys) size same =
+    let zero_is : i + 0 ≡ i = omega arith in
+    let head : player_of n u i y ≡ player_of n t i x = subst (λ j. player_of n u j y ≡ player_of n t j x) zero_is (same 0 x y refl refl) in
+    let rest = players_same n t u (i + 1) xs ys (omega arith) (λ k a b is is'.
+    let at : i + suc k ≡ i + 1 + k = omega arith in
+    subst (λ j. player_of n u j b ≡ player_of n t j a) at (same (suc k) a b is is')) in
+    ap₂ (λ p l. p ∷ l) head rest
+
+player_on : (n : ℕ) (t u : Tasks) (i : ℕ) (task' : Task) → (kept : IsKept t u i task') → player_of n u i task' ≡ player_of n t i kept.task
+player_on n t u i task' kept =
+    ap (λ (m : Machine). record { program = program_of m.kernel; moment = flat_of m; left = n - task'.steps; end = flat_end_of task'.end }) kept.machine
+    ∙ ap (λ (x : Task). record { program = program_of (machine_of t i kept.task).kernel; moment = flat_of (machine_of t i kept.task); left = n - x.steps; end = flat_end_of x.end }) kept.is
+
+turns_given : (n : ℕ) (t : Tasks) (next : ℕ) (parked : Parked) → AreSound t → IsGiven t next parked → turns_of n (given_by t next (Some parked)) ≡ changed_to (turns_of n t) (Some next)
+turns_given n t next parked sound given =
+    let u = given_by t next (Some parked) in
+    ap (λ l. record { players = l; running = next; switches = t.switches + 1 }) (players_same n t u 0 t.tasks u.tasks (same_length t next parked) (λ k x y is is'.
+    let kept = kept_given t next parked sound given k y is' in
+    let zero_is : k ≡ 0 + k = omega arith in
+    subst (λ j. player_of n u j y ≡ player_of n t j x) zero_is (player_on n t u k y kept ∙ ap (player_of n t k) (here_is t.tasks k kept.task x kept.was is))))
+
+turns_to : (n : ℕ) (t : Tasks) (last : Task) (found : Option ℕ) → AreSound t → slice_get t.tasks t.running ≡ Some last → next_task t ≡ found → turns_of n (changed_tasks t) ≡ changed_to (turns_of n t) found
+turns_to n t last None sound runs is = ap (λ o. turns_of n (given_to t o)) is
+turns_to n t last (Some next) sound runs is =
+    let changed = has_changed t next last sound runs is in
+    ap (turns_of n) changed.is ∙ turns_given n t next changed.parked sound changed.given
+
+none_within : (tasks : List Task) (i : ℕ) → i < length tasks → slice_get tasks i ≡ None → ⊥
+none_within [] i below none = omega arith
+none_within (t ∷ tasks) zero below none = cc
+none_within (t ∷ tasks) (suc i) below none = none_within tasks i (omega arith) none
+
+pub running_task : (t : Tasks) (found : Option Task) → t.running < length t.tasks → slice_get t.tasks t.running ≡ found → (task : Task) × (slice_get t.tasks t.running ≡ Some task)
+running_task t (Some task) one is = (task, is)
+running_task t None one is = absurd (none_within t.tasks t.running one is)
+
+-- The change keeps the tasks sound, ..
+pub changed_sound : (t : Tasks) → AreSound t → IsFree t → AreSound (changed_tasks t)
+changed_sound t sound free = (let last = running_task t (slice_get t.tasks t.running) sound.one_runs refl in sound_to t last.0 (next_task t) sound free last.1 refl)
+
+-- .. and is that of the tasks in turn
+pub changed_turns : (n : ℕ) (t : Tasks) → AreSound t → turns_of n (changed_tasks t) ≡ changed (turns_of n t)
+changed_turns n t sound =
+    let last = running_task t (slice_get t.tasks t.running) sound.one_runs refl in
+    turns_to n t last.0 (next_task t) sound last.1 refl ∙ ap (changed_to (turns_of n t)) (sym (same_next n t))

@@ -1,0 +1,353 @@
+-- The run of the tasks, from one play to the next.
+use Rattle.std.proofs.Common.{◌≡◌, ℕ, zero, suc, ◌+◌, ◌-◌, ◌*◌, ◌<◌, ◌≤◌, Bool, true, false, cond, List, [], ◌∷◌, ◌++◌, length, refl, sym, ap, ap₂, ◌∙◌, arith, subst, inl, inr}
+use Rattle.std.specs.Prelude.{◌≢◌, ◌^◌, max, is_some, slice_get, slice_set, slice_index_or, sum_by, Option, Some, None, Result, Ok, Err}
+use Rattle.std.proofs.lemmas.List.{append-nil}
+use Rattle.std.proofs.lemmas.Option.{get_or_from_slice_get, slice_get-get_or}
+use Rattle.mote_core.specs.declared.mote.Mote.{Mote}
+use Rattle.flash_model.specs.declared.layout.Layout.{Layout}
+use Rattle.flash_model.specs.Memory.{Memory}
+use Rattle.page_index.specs.declared.cursor.Cursor.{Cursor}
+use Rattle.page_index.specs.Cursors.{IsCursor}
+use Rattle.mem_guard.specs.declared.part.Part.{Part}
+use Rattle.mem_guard.specs.FlatMachine.{End as FlatEnd}
+use Rattle.kernel_entry.specs.declared.kernel.Kernel.{Kernel}
+use Rattle.step_laws.specs.declared.moves.Owed.{Owed}
+use Rattle.step_laws.specs.declared.moves.End.{End}
+use Rattle.tk_io.specs.declared.failure.Failed.{Failed}
+use Rattle.tk_io.specs.Streams.{CutShort, IsSent, Puts}
+use Rattle.tk_io.proofs.KnownBytes.{nothing_sent, appends-nothing}
+use Rattle.line_text.proofs.Gathered.{sent_on, cut_on, all_on, rest_cut}
+use Rattle.program_steps.specs.declared.progress.Progress.{Progress}
+use Rattle.program_steps.specs.Machines.{Machine}
+use Rattle.program_steps.specs.Ready.{IsSound, IsGoing, IsQuiet}
+use Rattle.program_steps.specs.Wholes.{whole}
+use Rattle.tk_tasks.specs.declared.parked.Parked.{Parked}
+use Rattle.tk_tasks.specs.declared.tasks.Task.{Task}
+use Rattle.tk_tasks.specs.declared.tasks.TaskEnd.{TaskEnd}
+use Rattle.tk_tasks.specs.Images.{quarter_part}
+use Rattle.tk_tasks.specs.Turns.{Player, Turns, Told, next_in, ends_of, changed, changed_to, with_player, once, After, HaveEnded}
+use Rattle.tk_tasks.specs.States.{Tasks, arrivals_of, owed_of, stub_of, mote_for, machine_end, others_of, machine_of, IsTask, AreSound, flat_end_of, player_of, players_from, turns_of}
+use Rattle.tk_tasks.specs.Changes.{parked_by, given_by, given_to, next_task, changed_tasks}
+use Rattle.tk_tasks.specs.Plays.{Play, TaskPath, told_of, told_text, HaveRun, counted, is_failed, IfDone, HasRunTasks}
+use Rattle.tk_tasks.specs.Trying.{stub_in, kept_task, kept_tasks, HasPlayed}
+use Rattle.tk_tasks.specs.Running.{IsUnderWay, IsCut, HaveGathered, sum_to}
+use Rattle.tk_tasks.proofs.Sums.{to_all}
+use Rattle.tk_tasks.proofs.Isolation.{IsOnce, once_follows, weight, weight_going, weight_ended}
+use Rattle.tk_tasks.proofs.Ending.{Ready, still}
+use Rattle.tk_tasks.proofs.Paths.{player_here, path_still, path_ready, path_on, told_on, path_runs}
+use Rattle.tk_tasks.proofs.Changing.{running_task}
+use Rattle.tk_tasks.proofs.Keeping.{IsBefore, most_at}
+use Rattle.tk_tasks.proofs.Telling.{told_text_on}
+
+-- ---- reading a task
+
+pub is_at : (tasks : List Task) (i : ℕ) (x task : Task) → x ≡ slice_index_or tasks i x → slice_get tasks i ≡ Some task → x ≡ task
+is_at tasks i x task is there = is ∙ get_or_from_slice_get tasks i task x there
+
+pub get_at : (tasks : List Task) (i : ℕ) (x : Task) → i < length tasks → x ≡ slice_index_or tasks i x → slice_get tasks i ≡ Some x
+get_at tasks i x below is = slice_get-get_or tasks i x below ∙ ap (λ z. Some z) (sym is)
+
+-- ---- the machine of the running task
+
+max_left : (a b : ℕ) → b ≤ a → max a b ≡ a
+max_left a b below = omega arith
+
+pub progress_is : (t : Tasks) (task x : Task) (owed : Option Owed) (others pages : ℕ) → AreSound t → slice_get t.tasks t.running ≡ Some task → task.end ≡ None → x ≡ task → pages ≡ t.pages → owed ≡ owed_of x.owed t.stub → others ≡ others_of t task
+    → ◌≡◌ {A = Machine} (record { kernel = t.kernel; at = x.at; owed = owed; end = None; due = x.due; torn = None; broken = false; steps = x.steps; crossings = x.crossings; natural = x.natural - x.since + x.since; entries = x.entries; pages = pages; since = x.since; longest = max x.longest x.since; began = 0; others = others }) (machine_of t t.running task)
+progress_is t task x owed others pages sound here going same same_pages owes all =
+    let stands = sound.each t.running task here in
+    let alone = stands.running refl in
+    let bounded = stands.sound.bounded in
+    let since = bounded.since in
+    let longest = bounded.longest in
+    let natural : task.natural - task.since + task.since ≡ task.natural = omega arith in
+    let make : Kernel → Task → Option Owed → Option End → ℕ → ℕ → ℕ → ℕ → Machine = λ k y o e n g p h. record { kernel = k; at = y.at; owed = o; end = e; due = y.due; torn = None; broken = false; steps = y.steps; crossings = y.crossings; natural = n; entries = y.entries; pages = p; since = y.since; longest = g; began = 0; others = h } in
+    ap (λ y. make t.kernel y owed None (y.natural - y.since + y.since) (max y.longest y.since) pages others) same
+    ∙ ap (λ k. make k task owed None (task.natural - task.since + task.since) (max task.longest task.since) pages others) (ap₂ (λ m p. record t.kernel { mote = m; part = p }) (sym (ap (mote_for t.kernel.mote) alone)) sound.part)
+    ∙ ap (λ o. make (machine_of t t.running task).kernel task o None (task.natural - task.since + task.since) (max task.longest task.since) pages others) (owes ∙ ap (λ (y : Task). owed_of y.owed t.stub) same ∙ ap (owed_of task.owed) (sym (ap (stub_of t) alone)))
+    ∙ ap (λ e. make (machine_of t t.running task).kernel task (machine_of t t.running task).owed e (task.natural - task.since + task.since) (max task.longest task.since) pages others) (sym (ap machine_end going))
+    ∙ ap₂ (λ n g. make (machine_of t t.running task).kernel task (machine_of t t.running task).owed (machine_end task.end) n g pages others) natural (max_left task.longest task.since since)
+    ∙ ap₂ (λ p h. make (machine_of t t.running task).kernel task (machine_of t t.running task).owed (machine_end task.end) task.natural task.longest p h) same_pages all
+
+-- the running task, where it has not ended
+pub record Begins (t : Tasks) (k : Kernel) (p : Progress) : Type 0 where
+  pub task : Task
+  pub before : IsBefore t task
+  pub going : task.end ≡ None
+  pub machine : whole k p ≡ machine_of t t.running task
+  pub ready : IsGoing (whole k p)
+  pub quiet : IsQuiet (whole k p)
+  pub steps : p.steps ≡ task.steps
+  pub few : p.steps ≤ 10 ^ 12
+  pub quantum : 1 ≤ t.kernel.quantum
+  pub room : (machine_of t t.running task).kernel.part ≡ quarter_part t.running
+
+pub begins : (t : Tasks) (k : Kernel) (p : Progress) → AreSound t → t.broken ≡ false → ((task : Task) → slice_get t.tasks t.running ≡ Some task → task.end ≡ None) → k ≡ t.kernel
+    → ((task : Task) → slice_get t.tasks t.running ≡ Some task → task.end ≡ None → whole t.kernel p ≡ machine_of t t.running task) → Begins t k p
+begins t k p sound unbroken going same progress =
+    let one = running_task t (slice_get t.tasks t.running) sound.one_runs refl in
+    let task = one.0 in
+    let goes = going task one.1 in
+    let stands = sound.each t.running task one.1 in
+    let machine : whole k p ≡ machine_of t t.running task = ap (λ z. whole z p) same ∙ progress task one.1 goes in
+    let steps : p.steps ≡ task.steps = ap (λ (m : Machine). m.steps) machine in
+    let few = stands.sound.steps in
+    let ready = stands.going unbroken goes in
+    let some = ready.some in
+    let most = ready.most in
+    record {
+      task = task;
+      before = record { sound = sound; whole = unbroken; here = one.1 };
+      going = goes;
+      machine = machine;
+      ready = subst IsGoing (sym machine) ready;
+      quiet = subst IsQuiet (sym machine) (stands.quiet unbroken goes);
+      steps = steps;
+      few = omega arith;
+      quantum = omega arith;
+      room = refl;
+    }
+
+-- ---- the change of the task keeps flash, the layout and the quantum
+
+record Keeps (k k' : Kernel) : Type 0 where
+  layout : k'.layout ≡ k.layout
+  flash : k'.mote.flash ≡ k.mote.flash
+  quantum : k'.quantum ≡ k.quantum
+
+keeps_given : (t : Tasks) (next : ℕ) (parked : Option Parked) → Keeps t.kernel (given_by t next parked).kernel
+keeps_given t next None = record { layout = refl; flash = refl; quantum = refl }
+keeps_given t next (Some parked) = record { layout = refl; flash = refl; quantum = refl }
+
+keeps_to : (t : Tasks) (next : Option ℕ) → Keeps t.kernel (given_to t next).kernel
+keeps_to t None = record { layout = refl; flash = refl; quantum = refl }
+keeps_to t (Some next) = keeps_given t next (parked_by (slice_get t.tasks next))
+
+pub changed_layout : (t : Tasks) → (changed_tasks t).kernel.layout ≡ t.kernel.layout
+changed_layout t = (keeps_to t (next_task t)).layout
+
+pub changed_flash : (t : Tasks) → (changed_tasks t).kernel.mote.flash ≡ t.kernel.mote.flash
+changed_flash t = (keeps_to t (next_task t)).flash
+
+pub changed_quantum : (t : Tasks) → (changed_tasks t).kernel.quantum ≡ t.kernel.quantum
+changed_quantum t = (keeps_to t (next_task t)).quantum
+
+pub cursor_on : (new k : Kernel) (cursor : Cursor) → new.layout ≡ k.layout → new.mote.flash ≡ k.mote.flash → IsCursor k.layout k.mote.flash.words cursor → IsCursor new.layout new.mote.flash.words cursor
+cursor_on new k cursor layout flash is = subst (λ l. IsCursor l new.mote.flash.words cursor) (sym layout) (subst (λ (f : Memory). IsCursor k.layout f.words cursor) (sym flash) is)
+
+-- ---- what was kept
+
+pub kept_is : (t s : Tasks) (k : Kernel) (stub : Option ℕ) (i : ℕ) (task x y : Task) (m : Machine) (end : Option TaskEnd) (pages : ℕ) → s ≡ t → k ≡ m.kernel → stub ≡ stub_in m.owed → i ≡ s.running → x ≡ slice_index_or s.tasks i x → slice_get t.tasks t.running ≡ Some task → y ≡ kept_task x m end → pages ≡ m.pages
+    → ◌≡◌ {A = Tasks} (record { kernel = k; running = s.running; stub = stub; tasks = slice_set s.tasks i y; broken = s.broken; natural = s.natural; entries = s.entries; pages = pages; switches = s.switches }) (kept_tasks t task m end)
+kept_is t s k stub i task x y m end pages same kernels stubs at index here kept paged =
+    let its : x ≡ task = is_at t.tasks t.running x task (index ∙ ap (λ j. slice_index_or s.tasks j x) at ∙ ap (λ (u : Tasks). slice_index_or u.tasks u.running x) same) here in
+    let make : Tasks → Kernel → Option ℕ → ℕ → Task → ℕ → Tasks = λ u z b j w g. record u { kernel = z; stub = b; tasks = slice_set u.tasks j w; pages = g } in
+    ap (λ j. make s k stub j y pages) at
+    ∙ ap (λ (u : Tasks). make u k stub u.running y pages) same
+    ∙ ap₂ (λ z b. make t z b t.running y pages) kernels stubs
+    ∙ ap₂ (λ w g. make t m.kernel (stub_in m.owed) t.running w g) (kept ∙ ap (λ z. kept_task z m end) its) paged
+
+-- ---- plays one behind the other
+
+pub way_start : (n : ℕ) (t : Tasks) (gathered : List ℕ) (known : Option (List ℕ)) → gathered ≡ [] → IsUnderWay n t t gathered known known
+way_start n t gathered known empty = record {
+  plays = [];
+  path = refl;
+  sent = subst (λ z. IsSent [] z known known) (sym empty) (nothing_sent [] known);
+}
+
+pub way_cut_in_turn : (n : ℕ) (old now : Tasks) (gathered : List ℕ) (before after later : Option (List ℕ)) → IsUnderWay n old now gathered before after → CutShort after later (gathered ++ []) → IsCut n old now before later
+way_cut_in_turn n old now gathered before after later way cut =
+    let text = told_text old.kernel.quantum (told_of way.plays) in
+    record { plays = way.plays; path = way.path; cut = subst (CutShort before later) (append-nil text) (cut_on text gathered [] before after later way.sent cut) }
+
+sent_in_turn : (text gathered mid : List ℕ) (before after later : Option (List ℕ)) → IsSent text gathered before after → IsSent (gathered ++ []) mid after later → IsSent text mid before later
+sent_in_turn text gathered mid before after later first second = subst (λ z. IsSent z mid before later) (append-nil text) (sent_on text gathered [] mid before after later first second)
+
+text_on : (quantum : ℕ) (plays more : List Play) (told : List Told) → told_of more ≡ told → told_text quantum (told_of (plays ++ more)) ≡ told_text quantum (told_of plays) ++ told_text quantum told
+text_on quantum plays more told is = ap (told_text quantum) (told_on plays more) ∙ told_text_on quantum (told_of plays) (told_of more) ∙ ap (λ l. told_text quantum (told_of plays) ++ told_text quantum l) is
+
+pub way_on : (n : ℕ) (old now new : Tasks) (gathered mid left : List ℕ) (before after later last : Option (List ℕ)) (told : List Told) (quantum : ℕ) → IsUnderWay n old now gathered before after → IsSent (gathered ++ []) mid after later → HasPlayed n now new told → quantum ≡ old.kernel.quantum
+    → IsSent (mid ++ told_text quantum told) left later last → IsUnderWay n old new left before last
+way_on n old now new gathered mid left before after later last told quantum way turn played same sent =
+    let q = old.kernel.quantum in
+    let text = told_text q (told_of way.plays) in
+    let more = subst (λ k. IsSent (mid ++ told_text k told) left later last) same sent in
+    record {
+      plays = way.plays ++ played.plays;
+      path = path_on n old now new way.plays played.plays way.path played.path;
+      sent = subst (λ z. IsSent z left before last) (sym (text_on q way.plays played.plays told played.told)) (sent_on text mid (told_text q told) left before later last (sent_in_turn text gathered mid before after later way.sent turn) more);
+    }
+
+pub way_cut : (n : ℕ) (old now new : Tasks) (gathered mid : List ℕ) (before after later last : Option (List ℕ)) (told : List Told) (quantum : ℕ) → IsUnderWay n old now gathered before after → IsSent (gathered ++ []) mid after later → HasPlayed n now new told → quantum ≡ old.kernel.quantum
+    → CutShort later last (mid ++ told_text quantum told) → IsCut n old new before last
+way_cut n old now new gathered mid before after later last told quantum way turn played same cut =
+    let q = old.kernel.quantum in
+    let text = told_text q (told_of way.plays) in
+    let more = subst (λ k. CutShort later last (mid ++ told_text k told)) same cut in
+    record {
+      plays = way.plays ++ played.plays;
+      path = path_on n old now new way.plays played.plays way.path played.path;
+      cut = subst (CutShort before last) (sym (text_on q way.plays played.plays told played.told)) (cut_on text mid (told_text q told) before later last (sent_in_turn text gathered mid before after later way.sent turn) more);
+    }
+
+-- ---- how many there may be
+
+some_length : (plays : List Play) → plays ≢ [] → 1 ≤ length plays
+some_length [] some = absurd (some refl)
+some_length (play ∷ plays) some = omega arith
+
+pub still_less : (n : ℕ) (now new : Tasks) (told : List Told) → HasPlayed n now new told → still (turns_of n new).players < still (turns_of n now).players
+still_less n now new told played = omega (arith, path_still n now played.plays new played.path, some_length played.plays played.some)
+
+switches_to : (t : Turns) (found : Option ℕ) → (changed_to t found).switches ≤ t.switches + 1
+switches_to t None = omega arith
+switches_to t (Some next) = omega arith
+
+switches_once : (t : Turns) (p : Player) (a : After) → IsOnce t p a → a.turns.switches ≤ t.switches + 1
+switches_once t p a one = elim one.next [
+  | inl is ↦ (
+      let u = with_player t one.q in
+      let same : a.turns.switches ≡ (changed u).switches = ap (λ (z : Turns). z.switches) is in
+      omega (arith, same, switches_to u (next_in u.running (length u.players) (ends_of u))))
+  | inr both ↦ (let same : a.turns.switches ≡ t.switches = ap (λ (z : Turns). z.switches) both.0 in omega (arith, same))
+]
+
+path_switches : (n : ℕ) (t : Tasks) (plays : List Play) (new : Tasks) → TaskPath n t plays new → new.switches ≤ t.switches + length plays
+path_switches n t [] new is = let same : new.switches ≡ t.switches = ap (λ (z : Tasks). z.switches) (sym is) in omega (arith, same)
+path_switches n t (play ∷ plays) new (mid, one, rest) =
+    let p = player_of n t t.running one.task in
+    let t0 = turns_of n t in
+    let once_is = once_follows t0 p (ap flat_end_of one.going) in
+    let same : mid.switches ≡ (once t0 p).turns.switches = ap (λ (z : Turns). z.switches) one.in_turn in
+    omega (arith, same, switches_once t0 p (once t0 p) once_is, path_switches n mid plays new rest)
+
+weight_most : (p : Player) (end : Option FlatEnd) → p.end ≡ end → weight p ≤ p.left + 1
+weight_most p None is = omega (arith, weight_going p is)
+weight_most p (Some end) is = omega (arith, weight_ended p end is)
+
+still_most : (n : ℕ) (t : Tasks) (k : ℕ) (tasks : List Task) → still (players_from n t k tasks) ≤ (n + 1) * length tasks
+unfolding still
+still_most n t k [] = omega arith
+still_most n t k (task ∷ tasks) =
+    let p = player_of n t k task in
+    let less : p.left ≤ n = omega arith in
+    omega (arith, still_most n t (k + 1) tasks, weight_most p p.end refl, less)
+
+mul_most : (a n k : ℕ) → n ≤ k → a * n ≤ a * k
+mul_most a n k below = grind (arith)
+
+pub room_of : (n : ℕ) (old now : Tasks) (gathered : List ℕ) (before after : Option (List ℕ)) → IsUnderWay n old now gathered before after → AreSound old → old.switches ≡ 0 → n ≤ 10 ^ 9 → now.switches < 2 ^ 63
+room_of n old now gathered before after way sound none few =
+    let four = sound.few in
+    let most : (n + 1) * length old.tasks ≤ (n + 1) * 4 = mul_most (n + 1) (length old.tasks) 4 four in
+    omega (arith, path_switches n old way.plays now way.path, path_still n old way.plays now way.path, still_most n old 0 old.tasks, most, none, few)
+
+-- ---- where all have ended
+
+pub starts : (n : ℕ) (t : Tasks) → AreSound t → ((i : ℕ) (task : Task) → slice_get t.tasks i ≡ Some task → task.end ≡ None) → Ready (turns_of n t)
+starts n t sound going =
+    let one = running_task t (slice_get t.tasks t.running) sound.one_runs refl in
+    let p = player_of n t t.running one.0 in
+    let none : p.end ≡ None = ap flat_end_of (going t.running one.0 one.1) in
+    record { p = p; there = player_here n t t.running one.0 one.1; over = λ ended. absurd (let e : ◌≡◌ {A = Bool} false true = sym (ap is_some none) ∙ ended in cc) }
+
+some_end : (end : Option TaskEnd) → end ≢ None → is_some (flat_end_of end) ≡ true
+some_end None some = absurd (some refl)
+some_end (Some end) some = refl
+
+pub all_ended : (n : ℕ) (old now : Tasks) (gathered : List ℕ) (before after : Option (List ℕ)) → IsUnderWay n old now gathered before after → AreSound old → AreSound now → ((i : ℕ) (task : Task) → slice_get old.tasks i ≡ Some task → task.end ≡ None)
+    → ((task : Task) → slice_get now.tasks now.running ≡ Some task → task.end ≢ None) → HaveEnded (turns_of n now)
+all_ended n old now gathered before after way sound still_sound going over =
+    let ready = path_ready n old way.plays now way.path (starts n old sound going) in
+    let one = running_task now (slice_get now.tasks now.running) still_sound.one_runs refl in
+    let here = player_here n now now.running one.0 one.1 in
+    let same : Some ready.p ≡ Some (player_of n now now.running one.0) = sym ready.there ∙ here in
+    let its : ready.p ≡ player_of n now now.running one.0 = cc in
+    ready.over (ap (λ (p : Player). is_some p.end) its ∙ some_end one.0.end (over one.0 one.1))
+
+-- ---- what was put
+
+pub sent_all : (result : Result (Unit {0}) Failed) (n : ℕ) (old now : Tasks) (gathered : List ℕ) (before after later : Option (List ℕ)) → IsUnderWay n old now gathered before after × HaveEnded (turns_of n now) → Puts after later result gathered → HaveGathered n old now [] before later result
+sent_all (Ok done) n old now gathered before after later (way, ended) put =
+    let text = told_text old.kernel.quantum (told_of way.plays) in
+    ((record { plays = way.plays; path = way.path; sent = record { sent = text; parts = sym (append-nil text); appended = all_on text gathered before after later way.sent put } }), ended)
+sent_all (Err e) n old now gathered before after later (way, ended) put =
+    record { plays = way.plays; path = way.path; cut = rest_cut (told_text old.kernel.quantum (told_of way.plays)) gathered before after later way.sent put }
+
+pub has_run : (result : Result (Unit {0}) Failed) (n : ℕ) (old last new : Tasks) (before after : Option (List ℕ)) → HaveGathered n old last [] before after result → new ≡ counted last (is_failed result) → HasRunTasks n old new before after result
+has_run (Ok done) n old last new before after (way, ended) counts = record {
+  plays = way.plays;
+  last = last;
+  path = way.path;
+  counts = counts;
+  put = all_on (told_text old.kernel.quantum (told_of way.plays)) [] before after after way.sent (appends-nothing after);
+  run = path_runs n old way.plays last way.path ended;
+}
+has_run (Err e) n old last new before after cut counts = record {
+  plays = cut.plays;
+  last = last;
+  path = cut.path;
+  counts = counts;
+  put = cut.cut;
+  run = tt;
+}
+
+-- ---- the counts of all tasks
+
+-- of the tasks but for what is counted of all of them
+pub sound_counts : (t : Tasks) (broken : Bool) (natural entries : ℕ) → t.broken ≡ false → AreSound t → AreSound (record t { broken = broken; natural = natural; entries = entries })
+sound_counts t broken natural entries unbroken sound = record {
+  few = sound.few;
+  one_runs = sound.one_runs;
+  part = sound.part;
+  layout = sound.layout;
+  unfailing = sound.unfailing;
+  each = λ i task there. (
+      let stands = sound.each i task there in
+      record {
+        running = stands.running;
+        waiting = stands.waiting;
+        owes = stands.owes;
+        sized = stands.sized;
+        sound = stands.sound;
+        going = λ whole going. stands.going unbroken going;
+        quiet = λ whole going. stands.quiet unbroken going;
+      });
+}
+
+pub natural_most : (t : Tasks) → AreSound t → (i : ℕ) (task : Task) → slice_get t.tasks i ≡ Some task → task.natural ≤ 10 ^ 14
+natural_most t sound i task there =
+    let stands = (sound.each i task there).sound in
+    let steps = stands.steps in
+    let natural = stands.bounded.natural in
+    omega arith
+
+pub entries_most : (t : Tasks) → AreSound t → (i : ℕ) (task : Task) → slice_get t.tasks i ≡ Some task → task.entries ≤ 10 ^ 14
+entries_most t sound i task there =
+    let stands = (sound.each i task there).sound in
+    let steps = stands.steps in
+    let entries = stands.bounded.entries in
+    omega arith
+
+-- ---- sums over tasks
+
+pub arrivals_few : (tasks : List Task) → ((i : ℕ) (task : Task) → slice_get tasks i ≡ Some task → task.steps ≤ 10 ^ 12) → (i : ℕ) (task : Task) → slice_get tasks i ≡ Some task → arrivals_of task ≤ 10 ^ 12 + 1
+arrivals_few tasks few i task there = omega (arith, few i task there, most_at (owed_of task.owed None) task.steps)
+
+pub all_here : (tasks : List Task) (k sum : ℕ) → sum ≡ sum_to arrivals_of k tasks → k ≡ length tasks → sum ≡ sum_by arrivals_of tasks
+all_here tasks k sum is all = is ∙ ap (λ j. sum_to arrivals_of j tasks) all ∙ to_all arrivals_of tasks
+
+pub quantum_some : (t : Tasks) → AreSound t → t.broken ≡ false → ((task : Task) → slice_get t.tasks t.running ≡ Some task → task.end ≡ None) → 1 ≤ t.kernel.quantum
+quantum_some t sound unbroken going =
+    let one = running_task t (slice_get t.tasks t.running) sound.one_runs refl in
+    let ready = (sound.each t.running one.0 one.1).going unbroken (going one.0 one.1) in
+    let some = ready.some in
+    let most = ready.most in
+    omega arith
+
+-- the counts that are written down
+pub counts_as : (t new : Tasks) (failed : Bool) (natural entries : ℕ) (result : Result (Unit {0}) Failed) → failed ≡ is_failed result → natural ≡ sum_by (λ (task : Task). task.natural) t.tasks → entries ≡ sum_by (λ (task : Task). task.entries) t.tasks
+    → record t { broken = failed; natural = natural; entries = entries } ≡ counted t (is_failed result)
+counts_as t new failed natural entries result is plain served =
+    ap (λ b. record t { broken = b; natural = natural; entries = entries }) is ∙ ap₂ (λ n e. record t { broken = is_failed result; natural = n; entries = e }) plain served

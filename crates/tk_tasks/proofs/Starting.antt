@@ -1,0 +1,356 @@
+-- Each task at boot is ready to go on.
+use Rattle.std.proofs.Common.{true, false, ◌≡◌, ℕ, zero, suc, ◌+◌, ◌-◌, ◌*◌, ◌%◌, ◌<◌, ◌≤◌, List, [], ◌∷◌, length, refl, sym, ap, ap₂, ◌∙◌, arith, subst, inl}
+use Rattle.std.specs.Prelude.{◌≢◌, ◌^◌, Option, Some, None, IfSome, sum_by, slice_get}
+use Rattle.std.proofs.Math.Nat.{zero-mod}
+use Rattle.std.proofs.lemmas.List.Sums.{sum_by-cons}
+use Rattle.std.proofs.lemmas.List.FromFn.{length-map-range_with_len}
+use Rattle.avr_isa.specs.Image.{word}
+use Rattle.sram_layout.specs.Boot.{at_boot}
+use Rattle.sram_layout.specs.Bytes.{byte_count, byte_at, with_byte, data_word_at}
+use Rattle.sram_layout.specs.Cells.{count_cell, vsp_cell}
+use Rattle.sram_layout.proofs.Laws.{byte_same, byte_other, length-with_byte}
+use Rattle.sram_layout.proofs.BootLaws.{length-at_boot, boot_zero}
+use Rattle.list_parts.specs.Lists.{many}
+use Rattle.list_parts.proofs.ManyLaws.{length-many}
+use Rattle.flash_model.specs.Memory.{loaded, new_flash, IsWhole}
+use Rattle.flash_model.specs.Layouts.{IsRight, layout_of}
+use Rattle.flash_model.specs.declared.layout.Layout.{Layout}
+use Rattle.flash_model.proofs.LayoutLaws.{layout_right}
+use Rattle.page_index.specs.Entries.{IsEntry}
+use Rattle.page_index.proofs.ChangeLaws.{new_flash_free}
+use Rattle.nat_page.specs.Faithful.{IsFaithful}
+use Rattle.nat_page.specs.Parts.{IsParted}
+use Rattle.nat_page.specs.Used.{used_pages}
+use Rattle.nat_page.proofs.FaithfulLaws.{new_flash_faithful}
+use Rattle.nat_page.proofs.StayLaws.{held_used}
+use Rattle.nat_page.proofs.UsedLaws.{none_used}
+use Rattle.addr_tables.proofs.TableLaws.{boot_tables, tables_kept}
+use Rattle.heap_frames.specs.SamePaging.{SamePaging}
+use Rattle.heap_frames.proofs.SamePagingLaws.{paged_same}
+use Rattle.heap_frames.proofs.BootLaws.{boot_paged}
+use Rattle.input_script.specs.Script.{Schedule}
+use Rattle.branch_bridge.specs.Arrivals.{ring_of}
+use Rattle.swap_store.specs.Slots.{zero_slots}
+use Rattle.swap_store.proofs.Laws.{length-zero_slots}
+use Rattle.mem_guard.specs.FlatMachine.{at_reset as flat_at_reset}
+use Rattle.mem_guard.proofs.AtReset.{memory_at_reset, pages_at_reset}
+use Rattle.step_laws.proofs.SameProgram.{SameProgram, flat_same, flat_parts}
+use Rattle.kernel_entry.specs.Seen.{program as program_of}
+use Rattle.step_laws.specs.Links.{part_number}
+use Rattle.step_laws.specs.StepLaws.{Reaches}
+use Rattle.kernel_entry.specs.declared.kernel.Kernel.{Kernel}
+use Rattle.program_steps.specs.Machines.{Machine, numbers_of, flat_of}
+use Rattle.program_steps.specs.Ready.{count_in, IsGoing, IsInOrder, IsSound}
+use Rattle.program_steps.proofs.Bounds.{bounded_counted}
+use Rattle.tk_tasks.specs.declared.parked.Parked.{Parked}
+use Rattle.tk_tasks.specs.declared.tasks.Task.{Task}
+use Rattle.tk_tasks.specs.Images.{quarter, quarter_part, task_words}
+use Rattle.tk_tasks.specs.Parking.{IsSized, taken_up}
+use Rattle.tk_tasks.specs.Turns.{Player, Turns, at_reset_in, from_start}
+use Rattle.tk_tasks.specs.States.{Tasks, arrivals_of, others_of, machine_of, IsTask, AreSound, players_from, turns_of}
+use Rattle.tk_tasks.specs.Booted.{IsUnstarted, mote_at_boot, at_start, parked_at_boot, waiting_from, booted, players_at_reset, turns_at_reset}
+use Rattle.tk_tasks.proofs.Parkings.{both_own, sized_of}
+
+-- the machine that a task is at boot, with these words in flash
+abbrev pub first_kernel : (words : List ℕ) (script : Schedule) (quantum slots i : ℕ) → Kernel
+first_kernel words script quantum slots i = record { mote = mote_at_boot words script quantum slots; layout = layout_of (length words); part = quarter_part i; quantum = quantum }
+
+abbrev pub first_machine : (words : List ℕ) (script : Schedule) (quantum slots i others : ℕ) → Machine
+first_machine words script quantum slots i others = record {
+  kernel = first_kernel words script quantum slots i;
+  at = quarter * i;
+  owed = Some (record { target = quarter * i; stub = None });
+  end = None;
+  due = false;
+  torn = None;
+  broken = false;
+  steps = 0;
+  crossings = 0;
+  natural = 0;
+  entries = 0;
+  pages = 0;
+  since = 0;
+  longest = 0;
+  began = 0;
+  others = others;
+}
+
+-- SRAM with COUNT set, as far as the machine looks at it
+abbrev boot_bytes : ℕ → List ℕ
+boot_bytes quantum = with_byte at_boot count_cell quantum
+
+count_at_boot : (quantum : ℕ) → byte_at (boot_bytes quantum) count_cell ≡ quantum
+count_at_boot quantum = byte_same at_boot count_cell quantum (omega arith) (omega (arith, length-at_boot))
+
+pointer_at_boot : (quantum : ℕ) → byte_at (boot_bytes quantum) vsp_cell ≡ 0
+pointer_at_boot quantum = byte_other at_boot count_cell vsp_cell quantum (omega arith) (omega arith) (λ e. omega arith) ∙ boot_zero vsp_cell (omega arith) (omega arith) (inl (omega arith))
+
+ring_at_boot : (quantum : ℕ) → ring_of (boot_bytes quantum) ≡ 0
+unfolding data_word_at
+ring_at_boot quantum = ap₂ (λ low high. low + 256 * high)
+    (byte_other at_boot count_cell 0x0142 quantum (omega arith) (omega arith) (λ e. omega arith) ∙ boot_zero 0x0142 (omega arith) (omega arith) (inl (omega arith)))
+    (byte_other at_boot count_cell 0x0143 quantum (omega arith) (omega arith) (λ e. omega arith) ∙ boot_zero 0x0143 (omega arith) (omega arith) (inl (omega arith)))
+
+paging_at_boot : (quantum : ℕ) → SamePaging at_boot (boot_bytes quantum)
+paging_at_boot quantum = record {
+  size = length-with_byte at_boot count_cell quantum;
+  cells = λ b from to. byte_other at_boot count_cell b quantum (omega arith) (omega arith) (λ e. omega arith);
+  tables = λ b from to. byte_other at_boot count_cell b quantum (omega arith) (omega arith) (λ e. omega arith);
+}
+
+-- a new flash has no links
+parted_at_boot : (layout : Layout) (image : List ℕ) (part : ℕ → ℕ) → IsRight layout → length image ≡ layout.image_words → IsParted layout image (loaded image) part
+parted_at_boot layout image part right long s t link jump =
+    absurd (held_used (IsEntry layout (loaded image)) image (loaded image) link.page link.first link.last (omega (arith, long, right.image_fits)) link.holds (new_flash_free layout image link.page right (omega (arith, long)) link.pool))
+
+order_at_boot : (words : List ℕ) (script : Schedule) (quantum slots i others count : ℕ) → length words ≡ quarter * count → count ≤ 4 → i < count → quantum < 256 → slots ≤ 251 → IsWhole (new_flash words []) → IsInOrder (first_machine words script quantum slots i others)
+order_at_boot words script quantum slots i others count long few below low room whole =
+    let layout : Layout = layout_of (length words) in
+    let right : IsRight layout = layout_right (length words) (omega arith) in
+    let faithful : IsFaithful layout words (loaded words) = new_flash_faithful layout words right refl in
+    let P : List ℕ → Type 0 = λ held. IsFaithful layout held (loaded words) in
+    let I : List ℕ → Type 0 = λ held. IsParted layout held (loaded words) (part_number true) in
+    let none : used_pages layout (loaded words) ≡ 0 = none_used layout (loaded words) (λ p pool. new_flash_free layout words p right (omega arith) pool) in
+    let registers : length (many 32 0) ≡ 32 = length-many 32 0 in
+    record {
+      layout = refl;
+      right = right;
+      faithful = subst P (sym faithful.held) faithful;
+      part = record { whole = λ e. absurd (cc); quarter = λ e. (i, refl, refl, omega arith) };
+      parted = subst I (sym faithful.held) (parted_at_boot layout words (part_number true) right refl);
+      tables = tables_kept layout at_boot (boot_bytes quantum) (loaded words) (loaded words) (λ b from to. byte_other at_boot count_cell b quantum (omega arith) (omega arith) (λ e. omega arith)) (λ t v entry. entry) (boot_tables layout (loaded words));
+      paged = paged_same at_boot (boot_bytes quantum) (zero_slots slots) (paging_at_boot quantum) (boot_paged slots room);
+      whole = whole;
+      registers = omega (arith, registers);
+      pointer = omega (arith, pointer_at_boot quantum);
+      quantum = low;
+      pages = omega (arith, none);
+      ring = omega (arith, ring_at_boot quantum, right.pool_pages);
+      tried = record { listed = λ op from to there. absurd (omega (arith, from, to)); refused = λ some. absurd (some refl); pool = tt; torn = tt };
+    }
+
+none_off : (q : ℕ) → q ≡ q - 0 % q
+none_off q = let z : 0 % q ≡ 0 = zero-mod q in omega arith
+
+pub going_at_boot : (words : List ℕ) (script : Schedule) (quantum slots i others count : ℕ) → length words ≡ quarter * count → count ≤ 4 → i < count → 1 ≤ quantum → quantum < 256 → slots ≤ 251 → others ≤ 10 ^ 13 → IsWhole (new_flash words [])
+    → IsGoing (first_machine words script quantum slots i others)
+going_at_boot words script quantum slots i others count long few below some low room little whole =
+    let at = count_at_boot quantum in
+    record {
+      order = order_at_boot words script quantum slots i others count long few below low room whole;
+      going = refl;
+      untorn = refl;
+      top = refl;
+      some = omega (arith, at);
+      most = omega (arith, at);
+      stands = Reaches.Owing None (λ e. absurd (cc)) refl tt;
+      counted = record { natural = omega arith; entries = omega arith; since = omega arith; longest = omega arith; crossed = omega arith; within = omega arith; most = omega arith };
+      arrivals = record { pages = omega arith; ops = omega arith; few = omega arith };
+      polls = omega arith;
+      exact = at ∙ none_off quantum;
+      fresh = λ e. refl;
+    }
+
+-- Its program is at reset. --------------------------------------------------------------------------------
+
+-- COUNT is set in the memory of boot, and the program sees nothing of it
+same_at_boot : (words : List ℕ) (script : Schedule) (quantum slots : ℕ) → SameProgram (record (mote_at_boot words script quantum slots) { sram = at_boot }) (mote_at_boot words script quantum slots)
+same_at_boot words script quantum slots = record {
+  registers = refl;
+  status = refl;
+  top = refl;
+  size = length-with_byte at_boot count_cell quantum;
+  bytes = λ b from apart apart'. byte_other at_boot count_cell b quantum (omega arith) (omega arith) (λ e. omega arith);
+  flash = refl;
+  devices = refl;
+  swap = refl;
+}
+
+stack_at_boot : data_word_at at_boot vsp_cell ≡ 0
+unfolding data_word_at
+stack_at_boot = ap₂ (λ low high. low + 256 * high) (boot_zero vsp_cell (omega arith) (omega arith) (inl (omega arith))) (boot_zero (vsp_cell + 1) (omega arith) (omega arith) (inl (omega arith)))
+
+flat_at_boot : (words : List ℕ) (script : Schedule) (quantum slots i others : ℕ) → flat_of (first_machine words script quantum slots i others) ≡ record { now = record (flat_at_reset script.events) { cpu = record (flat_at_reset script.events).cpu { pc = quarter * i } }; due = false }
+flat_at_boot words script quantum slots i others =
+    let k = first_kernel words script quantum slots i in
+    ap (λ s. record { now = s; due = false }) (flat_same (record k { mote = record k.mote { sram = at_boot } }) k (quarter * i) 0 0 (same_at_boot words script quantum slots)
+    ∙ flat_parts _ _ _ _ _ _ (quarter * i) 0 0 _ _ _ _ _ _ refl refl stack_at_boot (memory_at_reset (zero_slots slots)) refl pages_at_reset)
+
+program_at_boot : (words : List ℕ) (script : Schedule) (quantum slots i : ℕ) → length words ≤ 24576 → program_of (first_kernel words script quantum slots i) ≡ record { image = words; part = quarter_part i; page_limit = slots; quantum = quantum }
+program_at_boot words script quantum slots i few =
+    let faithful = new_flash_faithful (layout_of (length words)) words (layout_right (length words) few) refl in
+    ap₂ (λ w n. record { image = w; part = quarter_part i; page_limit = n; quantum = quantum }) faithful.held (length-zero_slots slots)
+
+player_by : (words : List ℕ) (script : Schedule) (quantum slots i others n : ℕ) → length words ≤ 24576
+    → ◌≡◌ {A = Player} (record { program = program_of (first_machine words script quantum slots i others).kernel; moment = flat_of (first_machine words script quantum slots i others); left = n - 0; end = None })
+    (at_reset_in (record { image = words; part = quarter_part i; page_limit = slots; quantum = quantum }) (quarter * i) script.events n)
+player_by words script quantum slots i others n few =
+    let all : n - 0 ≡ n = omega arith in
+    ap₂ (λ p m. record { program = p; moment = m; left = n - 0; end = None }) (program_at_boot words script quantum slots i few) (flat_at_boot words script quantum slots i others)
+    ∙ ap (λ l. at_reset_in (record { image = words; part = quarter_part i; page_limit = slots; quantum = quantum }) (quarter * i) script.events l) all
+
+-- The tasks at boot. --------------------------------------------------------------------------------------
+
+size_at_boot : (quantum : ℕ) → length (boot_bytes quantum) ≡ byte_count
+size_at_boot quantum = length-with_byte at_boot count_cell quantum ∙ length-at_boot
+
+-- the mote that a waiting task would have is that of boot with its own script
+taken_at_boot : (words : List ℕ) (first script : Schedule) (quantum slots : ℕ) → taken_up (mote_at_boot words first quantum slots) (parked_at_boot script quantum slots) ≡ mote_at_boot words script quantum slots
+taken_at_boot words first script quantum slots = ap (λ s. record (mote_at_boot words script quantum slots) { sram = s }) (both_own (boot_bytes quantum) (size_at_boot quantum))
+
+first_is : (t : Tasks) (words : List ℕ) (first script : Schedule) (quantum slots i : ℕ) → t.kernel ≡ first_kernel words first quantum slots 0 → t.pages ≡ 0
+    → machine_of t i (at_start i (Some (parked_at_boot script quantum slots))) ≡ first_machine words script quantum slots i (others_of t (at_start i (Some (parked_at_boot script quantum slots))))
+first_is t words first script quantum slots i kernel pages =
+    let task = at_start i (Some (parked_at_boot script quantum slots)) in
+    let others = others_of t task in
+    let M : Kernel → ℕ → Machine = λ k n. record (first_machine words script quantum slots i others) { kernel = record k { mote = taken_up k.mote (parked_at_boot script quantum slots); part = quarter_part i }; pages = n } in
+    ap₂ M kernel pages ∙ ap (λ m. record (first_machine words script quantum slots i others) { kernel = record (first_kernel words first quantum slots 0) { mote = m; part = quarter_part i } }) (taken_at_boot words first script quantum slots)
+
+-- one of the waiting tasks
+record IsWaiting (task : ℕ) (scripts : List Schedule) (quantum slots k : ℕ) (its : Task) : Type 0 where
+  script : Schedule
+  is : its ≡ at_start (task + k) (Some (parked_at_boot script quantum slots))
+  below : k < length scripts
+
+some_task : (a b : Task) → ◌≡◌ {A = Option Task} (Some a) (Some b) → a ≡ b
+some_task a b is = cc
+
+waiting_at : (task : ℕ) (scripts : List Schedule) (quantum slots k : ℕ) (its : Task) → slice_get (waiting_from task scripts quantum slots) k ≡ Some its → IsWaiting task scripts quantum slots k its
+waiting_at task [] quantum slots k its is = absurd (cc)
+waiting_at task (script ∷ scripts) quantum slots zero its is =
+    let at : task ≡ task + 0 = omega arith in
+    record { script = script; is = sym (some_task _ _ is) ∙ ap (λ i. at_start i (Some (parked_at_boot script quantum slots))) at; below = omega arith }
+waiting_at task (script ∷ scripts) quantum slots (suc k) its is =
+    let rest = waiting_at (task + 1) scripts quantum slots k its is in
+    let at : task + 1 + k ≡ task + suc k = omega arith in
+    let below = rest.below in
+    record { script = rest.script; is = rest.is ∙ ap (λ i. at_start i (Some (parked_at_boot rest.script quantum slots))) at; below = omega arith }
+
+waiting_length : (task : ℕ) (scripts : List Schedule) (quantum slots : ℕ) → length (waiting_from task scripts quantum slots) ≡ length scripts
+waiting_length task [] quantum slots = refl
+waiting_length task (script ∷ scripts) quantum slots = ap (λ n. suc n) (waiting_length (task + 1) scripts quantum slots)
+
+-- no arrival was made
+waiting_sum : (task : ℕ) (scripts : List Schedule) (quantum slots : ℕ) → sum_by arrivals_of (waiting_from task scripts quantum slots) ≡ 0
+waiting_sum task [] quantum slots = refl
+waiting_sum task (script ∷ scripts) quantum slots =
+    let one : 0 + sum_by arrivals_of (waiting_from (task + 1) scripts quantum slots) ≡ 0 = omega (arith, waiting_sum (task + 1) scripts quantum slots) in
+    sum_by-cons arrivals_of (at_start task (Some (parked_at_boot script quantum slots))) (waiting_from (task + 1) scripts quantum slots) ∙ one
+
+booted_sum : (image : List ℕ) (first : Schedule) (others : List Schedule) (quantum slots : ℕ) → sum_by arrivals_of (booted image first others quantum slots).tasks ≡ 0
+booted_sum image first others quantum slots =
+    let all : 0 + sum_by arrivals_of (waiting_from 1 others quantum slots) ≡ 0 = omega (arith, waiting_sum 1 others quantum slots) in
+    sum_by-cons arrivals_of (at_start 0 None) (waiting_from 1 others quantum slots) ∙ all
+
+-- what is so of the words, and of the options
+pub record CanStart (words : List ℕ) (count quantum slots : ℕ) : Type 0 where
+  pub long : length words ≡ quarter * count
+  pub some : 1 ≤ count
+  pub few : count ≤ 4
+  pub quantum_some : 1 ≤ quantum
+  pub quantum_low : quantum < 256
+  pub room : slots ≤ 251
+  pub whole : IsWhole (new_flash words [])
+
+sound_going : (m : Machine) → m.steps ≤ 10 ^ 12 → IsGoing m → IsSound m
+sound_going m few ready = record {
+  order = ready.order;
+  bounded = bounded_counted (numbers_of m) m.crossings m.kernel.quantum (count_in m) m.at m.kernel.mote.devices.polls m.owed ready.counted ready.arrivals ready.polls;
+  steps = few;
+}
+
+task_at_boot : (t : Tasks) (words : List ℕ) (script : Schedule) (count quantum slots i : ℕ) (parked : Option Parked) → CanStart words count quantum slots → i < count → sum_by arrivals_of t.tasks ≡ 0
+    → machine_of t i (at_start i parked) ≡ first_machine words script quantum slots i (others_of t (at_start i parked))
+    → (i ≡ t.running → parked ≡ None) → (i ≢ t.running → parked ≢ None) → IfSome parked IsSized → IsTask t i (at_start i parked)
+task_at_boot t words script count quantum slots i parked can below sum is runs waits sized =
+    let others = others_of t (at_start i parked) in
+    let little : others ≤ 10 ^ 13 = omega (arith, sum) in
+    let going = going_at_boot words script quantum slots i others count can.long can.few below can.quantum_some can.quantum_low can.room little can.whole in
+    let m = first_machine words script quantum slots i others in
+    record {
+      running = runs;
+      waiting = waits;
+      owes = λ apart goes none. (let e : Some (quarter * i) ≡ None = none in cc);
+      sized = sized;
+      sound = subst IsSound (sym is) (sound_going m (omega arith) going);
+      going = λ whole goes. subst IsGoing (sym is) going;
+      quiet = λ whole goes free. refl;
+    }
+
+each_at_boot : (image : List ℕ) (first : Schedule) (others : List Schedule) (quantum slots i : ℕ) (task : Task) → CanStart (task_words (length others + 1) image) (length others + 1) quantum slots
+    → slice_get (booted image first others quantum slots).tasks i ≡ Some task → IsTask (booted image first others quantum slots) i task
+each_at_boot image first others quantum slots zero task can there =
+    let t = booted image first others quantum slots in
+    subst (IsTask t 0) (some_task _ _ there)
+    (task_at_boot t (task_words (length others + 1) image) first (length others + 1) quantum slots 0 None can (omega arith) (booted_sum image first others quantum slots) refl (λ e. refl) (λ apart. absurd (apart refl)) tt)
+each_at_boot image first others quantum slots (suc k) task can there =
+    let t = booted image first others quantum slots in
+    let words = task_words (length others + 1) image in
+    let one = waiting_at 1 others quantum slots k task there in
+    let at : 1 + k ≡ suc k = omega arith in
+    let below = one.below in
+    let parked = parked_at_boot one.script quantum slots in
+    let is : at_start (suc k) (Some parked) ≡ task = ap (λ i. at_start i (Some parked)) (sym at) ∙ sym one.is in
+    subst (IsTask t (suc k)) is
+    (task_at_boot t words one.script (length others + 1) quantum slots (suc k) (Some parked) can (omega arith) (booted_sum image first others quantum slots)
+    (first_is t words first one.script quantum slots (suc k) refl refl) (λ e. absurd (omega arith)) (λ apart none. (let e : Some parked ≡ None = none in cc)) (sized_of (mote_at_boot [] one.script quantum slots) (size_at_boot quantum)))
+
+pub sound_at_boot : (image : List ℕ) (first : Schedule) (others : List Schedule) (quantum slots : ℕ) → CanStart (task_words (length others + 1) image) (length others + 1) quantum slots → AreSound (booted image first others quantum slots)
+sound_at_boot image first others quantum slots can =
+    let words = task_words (length others + 1) image in
+    let size = waiting_length 1 others quantum slots in
+    let few = can.few in
+    let count : length others + 1 ≡ length (booted image first others quantum slots).tasks = omega arith in
+    record {
+      few = omega arith;
+      one_runs = omega arith;
+      part = refl;
+      layout = ap layout_of (can.long ∙ ap (λ n. quarter * n) count);
+      unfailing = refl;
+      each = λ i task there. each_at_boot image first others quantum slots i task can there;
+    }
+
+-- a list of scripts that is not empty
+pub some_scripts : (scripts : List Schedule) → 1 ≤ length scripts → (first : Schedule) × (others : List Schedule) × (scripts ≡ first ∷ others)
+some_scripts [] some = absurd (omega arith)
+some_scripts (first ∷ others) some = (first, others, refl)
+
+pub words_at_boot : (count : ℕ) (image : List ℕ) → length (task_words count image) ≡ quarter * count
+words_at_boot count image = length-map-range_with_len (word image) 0 (quarter * count)
+
+-- The tasks in turn are at reset. -------------------------------------------------------------------------
+
+waiting_players : (n : ℕ) (t : Tasks) (words : List ℕ) (first : Schedule) (scripts : List Schedule) (quantum slots task : ℕ) → t.kernel ≡ first_kernel words first quantum slots 0 → t.pages ≡ 0 → length words ≤ 24576
+    → players_from n t task (waiting_from task scripts quantum slots) ≡ players_at_reset words task scripts quantum slots n
+waiting_players n t words first [] quantum slots task kernel pages few = refl
+waiting_players n t words first (script ∷ scripts) quantum slots task kernel pages few =
+    let parked = Some (parked_at_boot script quantum slots) in
+    ap₂ (λ p l. p ∷ l) (ap (λ (m : Machine). record { program = program_of m.kernel; moment = flat_of m; left = n - 0; end = None }) (first_is t words first script quantum slots task kernel pages) ∙ player_by words script quantum slots task (others_of t (at_start task parked)) n few)
+    (waiting_players n t words first scripts quantum slots (task + 1) kernel pages few)
+
+abbrev turns_from : (words : List ℕ) (scripts : List Schedule) (quantum slots n : ℕ) → Turns
+turns_from words scripts quantum slots n = from_start (players_at_reset words 0 scripts quantum slots n)
+
+pub turns_at_boot : (n : ℕ) (image : List ℕ) (first : Schedule) (others : List Schedule) (quantum slots : ℕ) → CanStart (task_words (length others + 1) image) (length others + 1) quantum slots
+    → turns_of n (booted image first others quantum slots) ≡ turns_at_reset image (first ∷ others) quantum slots n
+turns_at_boot n image first others quantum slots can =
+    let t = booted image first others quantum slots in
+    let words = task_words (length others + 1) image in
+    let few : length words ≤ 24576 = omega (arith, can.long, can.few) in
+    let count : length others + 1 ≡ length (first ∷ others) = omega arith in
+    ap (λ l. record { players = l; running = 0; switches = 0 })
+    (ap₂ (λ p l. p ∷ l) (player_by words first quantum slots 0 (others_of t (at_start 0 None)) n few) (waiting_players n t words first others quantum slots 1 refl refl few))
+    ∙ ap (λ c. turns_from (task_words c image) (first ∷ others) quantum slots n) count
+
+waiting_going : (task : ℕ) (scripts : List Schedule) (quantum slots i : ℕ) (x : Task) → slice_get (waiting_from task scripts quantum slots) i ≡ Some x → x.end ≡ None
+waiting_going task [] quantum slots i x is = absurd (cc)
+waiting_going task (script ∷ scripts) quantum slots zero x is = let its : at_start task (Some (parked_at_boot script quantum slots)) ≡ x = cc in ap (λ (z : Task). z.end) (sym its)
+waiting_going task (script ∷ scripts) quantum slots (suc i) x is = waiting_going (task + 1) scripts quantum slots i x is
+
+each_going : (others : List Schedule) (quantum slots i : ℕ) (x : Task) → slice_get (at_start 0 None ∷ waiting_from 1 others quantum slots) i ≡ Some x → x.end ≡ None
+each_going others quantum slots zero x is = let its : at_start 0 None ≡ x = cc in ap (λ (z : Task). z.end) (sym its)
+each_going others quantum slots (suc i) x is = waiting_going 1 others quantum slots i x is
+
+-- at boot no task was run
+pub unstarted_at_boot : (image : List ℕ) (first : Schedule) (others : List Schedule) (quantum slots : ℕ) → IsUnstarted (booted image first others quantum slots)
+unstarted_at_boot image first others quantum slots = record { going = each_going others quantum slots; unchanged = refl; whole = refl }

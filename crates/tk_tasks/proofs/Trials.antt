@@ -1,0 +1,264 @@
+-- A try of the running task, as its machine makes it: an arrival and a step, or an interrupt.
+use Rattle.std.proofs.Common.{◌≡◌, ℕ, zero, suc, ◌+◌, ◌-◌, ◌<◌, ◌≤◌, Bool, true, false, cond, List, [], ◌∷◌, ◌++◌, refl, sym, ap, ap₂, ◌∙◌, arith, subst, inl, inr}
+use Rattle.std.specs.Prelude.{◌≢◌, ◌==◌, not, ◌||◌, ◌&&◌, Option, Some, None}
+use Rattle.std.proofs.lemmas.Bool.Decides.{nat_tests}
+use Rattle.mote_devices.specs.declared.line.Line.{Line}
+use Rattle.flash_model.specs.Operations.{is_listed}
+use Rattle.mem_guard.specs.declared.part.Part.{Part}
+use Rattle.mem_guard.specs.FlatMachine.{Program, Moment, Next, On, Ends, is_own, is_taken, next_of}
+use Rattle.kernel_entry.specs.declared.kernel.Stop.{Stop}
+use Rattle.kernel_entry.specs.Seen.{program as program_of}
+use Rattle.avr_flags.specs.Status.{has_bit, interrupts}
+use Rattle.mote_devices.specs.Waking.{is_enabled}
+use Rattle.step_laws.specs.declared.moves.Owed.{Owed}
+use Rattle.step_laws.specs.declared.moves.End.{End}
+use Rattle.step_laws.specs.declared.moves.End.TheVariants as ends
+use Rattle.step_laws.specs.Moves.{Move, lines_of, line_before}
+use Rattle.step_laws.specs.States.{admits}
+use Rattle.program_steps.specs.Machines.{Machine, numbers_of, flat_of}
+use Rattle.program_steps.specs.Ready.{IsGoing, IsQuiet}
+use Rattle.program_steps.specs.Stepping.{HasStepped, StepWay, HasEntered, Entering, Stays, AreMadeAt, ends_in_arrive}
+use Rattle.program_steps.specs.Interrupts.{is_wanted_at, is_to_be_taken}
+use Rattle.program_steps.specs.Several.{Silently, HasDone}
+use Rattle.program_steps.proofs.MadeAt.{made_map, made_both}
+use Rattle.program_steps.proofs.Arrived.{place_inside}
+use Rattle.program_steps.proofs.Undue.{undue_untaken}
+use Rattle.program_steps.proofs.Leading.{goes_on, last_on, stays_on, stays_self}
+use Rattle.program_steps.proofs.Waiting.{left_stepped, entered_own}
+use Rattle.tk_tasks.specs.declared.tasks.TaskEnd.{TaskEnd}
+use Rattle.tk_tasks.specs.declared.tasks.TaskEnd.TheVariants.{Spent, Stopped, Wild, Read}
+use Rattle.tk_tasks.specs.declared.trying.Tried.{Tried}
+use Rattle.tk_tasks.specs.Trying.{rest_at, rest_if, task_end, ended_by, Went, checks_by, checks, Quietly, IsBehind, HasMade, HasTried}
+use Rattle.tk_tasks.proofs.Crossings.{same_unchecked, taken_counts, undue_unchecked, Passes, pass_on, last_checks}
+
+-- ---- an arrival, and a step
+
+last_by : (ms ns : List Move) → ns ≢ [] → ends_in_arrive (ms ++ ns) ≡ ends_in_arrive ns
+last_by ms [] some = absurd (some refl)
+last_by ms (n ∷ ns) some = last_on ms ns n
+
+next_same : (x m : Machine) (next : Next) → program_of m.kernel ≡ program_of x.kernel → flat_of m ≡ flat_of x → next_of (program_of m.kernel) (flat_of m) ≡ next → next_of (program_of x.kernel) (flat_of x) ≡ next
+next_same x m next program flat is = ap₂ next_of (sym program) (sym flat) ∙ is
+
+way_behind : (x m y : Machine) (line : Option Line) → program_of m.kernel ≡ program_of x.kernel → flat_of m ≡ flat_of x → m.steps ≡ x.steps → StepWay m y line → StepWay x y line
+way_behind x m y line program flat same (StepWay.On ready quiet steps is) = StepWay.On ready quiet (omega (arith, steps, same)) (next_same x m _ program flat is)
+way_behind x m y line program flat same (StepWay.Stopped stop over kept none steps is left) = StepWay.Stopped stop over kept none (steps ∙ same) (next_same x m _ program flat is) (left ∙ flat)
+
+pub went_entered : (x m y : Machine) (line : Option Line) → HasEntered x m None → HasStepped m y line → Went x y line
+went_entered x m y line entered step = record {
+  moves = entered.moves ++ step.moves;
+  goes = goes_on x m y entered.moves step.moves [] (line_before line []) entered.goes step.goes;
+  last = last_by entered.moves step.moves step.some ∙ step.last;
+  made = made_both (λ a. a ≡ x.at) entered.moves step.moves entered.made (made_map (λ a. ⊥) (λ a. a ≡ x.at) step.moves (λ a never. absurd never) step.none_made);
+  stays = stays_on x m y entered.stays step.stays;
+  broken = step.broken ∙ entered.broken;
+  left = left_stepped m y line step;
+  way = way_behind x m y line entered.stays.program entered.flat entered.steps step.way;
+}
+
+pub went_stepped : (x y : Machine) (line : Option Line) → HasStepped x y line → Went x y line
+went_stepped x y line step = record {
+  moves = step.moves;
+  goes = step.goes;
+  last = step.last;
+  made = made_map (λ a. ⊥) (λ a. a ≡ x.at) step.moves (λ a never. absurd never) step.none_made;
+  stays = step.stays;
+  broken = step.broken;
+  left = left_stepped x y line step;
+  way = step.way;
+}
+
+-- an arrival that is none
+entered_self : (m : Machine) → IsGoing m → m.owed ≡ None → is_taken (flat_of m) ≡ false → HasEntered m m None
+unfolding lines_of
+entered_self m ready free untaken = record {
+  moves = [];
+  goes = record { walk = refl; told = refl; numbers = refl };
+  stays = stays_self m;
+  broken = refl;
+  steps = refl;
+  flat = refl;
+  made = tt;
+  way = Entering.In ready free (place_inside m ready free) untaken;
+}
+
+-- ---- several steps
+
+-- what a step without an interrupt behind it says
+record Quiet (x m : Machine) : Type 0 where
+  next : next_of (program_of x.kernel) (flat_of x) ≡ On None (flat_of m)
+  undue : m.due ≡ false
+
+quiet_by : (x m : Machine) → StepWay x m None → IsGoing m → m.owed ≡ None → Quiet x m
+quiet_by x m (StepWay.On ready quiet steps is) going free = record { next = is; undue = quiet free }
+quiet_by x m (StepWay.Stopped stop over kept none steps is left) going free = absurd (let e : Some (ends.Stopped stop) ≡ None = sym kept ∙ going.going in cc)
+
+silently_passes : (n : ℕ) (a m : Machine) → Silently n a m → Passes a.kernel.quantum a.crossings m.crossings × (m.kernel.quantum ≡ a.kernel.quantum)
+silently_passes zero a m same = (inl (ap (λ (z : Machine). z.crossings) (sym same)), ap (λ (z : Machine). z.kernel.quantum) (sym same))
+silently_passes (suc n) a m (w, before, step, going, free) =
+    let so_far = silently_passes n a w before in
+    let quiet = quiet_by w m step.way going free in
+    let here : Passes w.kernel.quantum a.crossings w.crossings = subst (λ q. Passes q a.crossings w.crossings) (sym so_far.1) so_far.0 in
+    (subst (λ q. Passes q a.crossings m.crossings) so_far.1 (pass_on (program_of w.kernel) a.crossings (flat_of w) (flat_of m) None here quiet.next quiet.undue), step.stays.quantum ∙ so_far.1)
+
+-- plays that write nothing lead to where the last step begins
+pub record Stands (n : ℕ) (x m : Machine) : Type 0 where
+  pub y : Machine
+  pub quietly : Quietly n x y
+  pub entered : HasEntered y m None
+
+pub silently_stands : (n : ℕ) (x a m : Machine) → HasEntered x a None → Silently n a m → Stands n x m
+silently_stands zero x a m entered same = record { y = x; quietly = refl; entered = subst (λ z. HasEntered x z None) same entered }
+silently_stands (suc n) x a m entered (w, before, step, going, free) =
+    let so_far = silently_stands n x a w entered before in
+    let went = went_entered so_far.y w m None so_far.entered step in
+    let quiet = quiet_by so_far.y m went.way going free in
+    record {
+      y = m;
+      quietly = (so_far.y, so_far.quietly, went, going, free, undue_unchecked (program_of so_far.y.kernel) (flat_of so_far.y) (flat_of m) None quiet.next quiet.undue);
+      entered = entered_self m going free (undue_untaken m quiet.undue);
+    }
+
+-- ---- what they leave
+
+checks_same : (x m y : Machine) → HasEntered x m None → checks m y ≡ checks x y
+checks_same x m y entered = ap₂ (λ q c. checks_by q c y.crossings) entered.stays.quantum (ap (λ (z : Moment). z.now.crossings) entered.flat)
+
+behind_same : (x m y : Machine) (left : ℕ) (tried : Tried) → HasEntered x m None → IsBehind m y left tried → IsBehind x y left tried
+behind_same x m y left tried entered (IsBehind.On ready changes end) =
+    let same = checks_same x m y entered in
+    IsBehind.On ready (changes ∙ same) (end ∙ ap (λ c. rest_if c y.kernel.part y.at left) same)
+behind_same x m y left tried entered (IsBehind.Over stop kept changes end) = IsBehind.Over stop kept changes end
+
+pub tried_steps : (x a y : Machine) (left : ℕ) (tried : Tried) → rest_at x.kernel.part x.at left ≡ None → HasEntered x a None → HasMade a y left tried → HasTried x y left tried
+tried_steps x a y left tried none entered made =
+    let stands = silently_stands made.earlier x a made.last entered made.silently in
+    HasTried.Steps made.earlier stands.y none made.few stands.quietly (went_entered stands.y made.last y tried.line stands.entered made.step)
+    (behind_same stands.y made.last y (left - (made.earlier + 1)) tried stands.entered made.behind)
+
+-- a task that does not rest has a step left, and is in its part
+rests_not : (own : Bool) (at left : ℕ) → cond own (cond (left == 0) (Some Spent) None) (Some (Wild at)) ≡ None → (own ≡ true) × (1 ≤ left)
+rests_not false at left none = absurd (cc)
+rests_not true at zero none = absurd (cc)
+rests_not true at (suc n) none = (refl, omega arith)
+
+pub unrested : (part : Part) (at left : ℕ) → rest_at part at left ≡ None → (is_own part at ≡ true) × (1 ≤ left)
+unrested part at left none = rests_not (is_own part at) at left none
+
+pub tried_taken : (x y : Machine) (left : ℕ) (tried : Tried) → rest_at x.kernel.part x.at left ≡ None → HasStepped x y tried.line → ((left : ℕ) → IsBehind x y left tried) → HasTried x y left tried
+tried_taken x y left tried none step behind =
+    let some = unrested x.kernel.part x.at left none in
+    HasTried.Steps 0 x none (omega (arith, some.1)) refl (went_stepped x y tried.line step) (behind (left - (0 + 1)))
+
+or_true : (b : Bool) → b || true ≡ true
+or_true true = refl
+or_true false = refl
+
+pub own_admits : (part : Part) (at : ℕ) → is_own part at ≡ true → admits part at ≡ true
+own_admits part at own = ap (λ b. not part.shut || b) own ∙ or_true (not part.shut)
+
+-- ---- the machine behind an arrival, and behind steps
+
+entered_untaken : (x a : Machine) (result : Option End) → result ≡ None → Entering x a result → is_taken (flat_of a) ≡ false
+entered_untaken x a result none (Entering.In ready free inside untaken) = untaken
+entered_untaken x a result none (Entering.Out over kept outside) = absurd (cc)
+entered_untaken x a result none (Entering.Failed op over kept inside fault) = absurd (cc)
+
+pub enters_untaken : (x a : Machine) (result : Option End) → result ≡ None → HasEntered x a result → is_taken (flat_of a) ≡ false
+enters_untaken x a result none entered = entered_untaken x a result none entered.way
+
+pub unfailing_on : (x y : Machine) → Stays x y → x.kernel.mote.flash.failing ≡ [] → (op : ℕ) → is_listed y.kernel.mote.flash.failing op ≡ false
+unfailing_on x y stays none op = ap (λ l. is_listed l op) (stays.failing ∙ none)
+
+-- what `behind` tells is what stands behind the last of several steps
+behind_by : (a last y : Machine) (n left : ℕ) (tried : Tried) → Silently n a last → y.kernel.quantum ≡ a.kernel.quantum
+    → (y.end ≡ None → (tried.changes ≡ checks_by y.kernel.quantum a.crossings y.crossings) × (tried.end ≡ rest_if (checks_by y.kernel.quantum a.crossings y.crossings) y.kernel.part y.at left))
+    → ((end : End) → y.end ≡ Some end → (tried.changes ≡ true) × (tried.end ≡ Some (task_end end))) → StepWay last y tried.line → IsBehind last y left tried
+behind_by a last y n left tried before quantum on over (StepWay.On ready quiet steps is) =
+    let told = on ready.going in
+    let passed = silently_passes n a last before in
+    let here : Passes last.kernel.quantum a.crossings last.crossings = subst (λ q. Passes q a.crossings last.crossings) (sym passed.1) passed.0 in
+    let all : checks_by y.kernel.quantum a.crossings y.crossings ≡ checks last y = ap (λ q. checks_by q a.crossings y.crossings) (quantum ∙ sym passed.1) ∙ last_checks (program_of last.kernel) a.crossings (flat_of last) (flat_of y) tried.line here is in
+    IsBehind.On ready (told.0 ∙ all) (told.1 ∙ ap (λ c. rest_if c y.kernel.part y.at left) all)
+behind_by a last y n left tried before quantum on over (StepWay.Stopped stop ended kept none steps is stays) =
+    let told = over (ends.Stopped stop) kept in
+    IsBehind.Over stop kept told.0 told.1
+
+pub made_done : (a y : Machine) (left count : ℕ) (line : Option Line) (tried : Tried) → HasDone a y count line → count ≤ left → tried.line ≡ line
+    → (y.end ≡ None → (tried.changes ≡ checks_by y.kernel.quantum a.crossings y.crossings) × (tried.end ≡ rest_if (checks_by y.kernel.quantum a.crossings y.crossings) y.kernel.part y.at (left - count)))
+    → ((end : End) → y.end ≡ Some end → (tried.changes ≡ true) × (tried.end ≡ Some (task_end end))) → HasMade a y left tried
+made_done a y left count line tried done within lines on over =
+    let step : HasStepped done.last y tried.line = subst (HasStepped done.last y) (sym lines) done.step in
+    let passed = silently_passes done.earlier a done.last done.silently in
+    let quantum : y.kernel.quantum ≡ a.kernel.quantum = step.stays.quantum ∙ passed.1 in
+    let left_is : left - count ≡ left - (done.earlier + 1) = ap (λ k. left - k) done.counted in
+    record {
+      earlier = done.earlier;
+      last = done.last;
+      few = omega (arith, done.counted, within);
+      silently = done.silently;
+      step = step;
+      behind = subst (λ k. IsBehind done.last y k tried) left_is (behind_by a done.last y done.earlier (left - count) tried done.silently quantum on over step.way);
+    }
+
+-- ---- an interrupt
+
+and_both : (b c : Bool) → b && c ≡ true → (b ≡ true) × (c ≡ true)
+and_both true true is = (refl, refl)
+and_both true false is = absurd (cc)
+and_both false c is = absurd (cc)
+
+taken_owed : (m : Machine) (owed : Option Owed) → m.due && is_wanted_at m.kernel owed ≡ true → is_taken (flat_of m) ≡ true
+taken_owed m None is = absurd (let both = and_both m.due false is in let e : ◌≡◌ {A = Bool} false true = both.1 in cc)
+taken_owed m (Some owed) is =
+    let both = and_both m.due (is_own m.kernel.part owed.target && (has_bit m.kernel.mote.cpu.sreg interrupts && is_enabled m.kernel.mote.devices)) is in
+    let wanted = and_both (is_own m.kernel.part owed.target) (has_bit m.kernel.mote.cpu.sreg interrupts && is_enabled m.kernel.mote.devices) both.1 in
+    ap₂ (λ b c. b && c) both.0 wanted.1
+
+taken_way : (x y : Machine) (tried : Tried) → is_taken (flat_of x) ≡ true → StepWay x y None → y.end ≡ None → tried.changes ≡ false → tried.end ≡ None → (left : ℕ) → IsBehind x y left tried
+taken_way x y tried taken (StepWay.On ready quiet steps is) going changes end left =
+    let none : checks x y ≡ false = same_unchecked x.kernel.quantum x.crossings y.crossings (taken_counts (program_of x.kernel) (flat_of x) (flat_of y) None taken is) in
+    IsBehind.On ready (changes ∙ sym none) (end ∙ ap (λ c. rest_if c y.kernel.part y.at left) (sym none))
+taken_way x y tried taken (StepWay.Stopped stop over kept none steps is stays) going changes end left = absurd (let e : Some (ends.Stopped stop) ≡ None = sym kept ∙ going in cc)
+
+pub taken_on : (x y : Machine) (tried : Tried) → is_to_be_taken x ≡ true → HasStepped x y None → y.end ≡ None → tried.changes ≡ false → tried.end ≡ None → (left : ℕ) → IsBehind x y left tried
+taken_on x y tried wanted step going changes end left = taken_way x y tried (taken_owed x x.owed wanted) step.way going changes end left
+
+over_way : (x y : Machine) (end : End) (tried : Tried) → StepWay x y None → y.end ≡ Some end → tried.changes ≡ true → tried.end ≡ Some (task_end end) → (left : ℕ) → IsBehind x y left tried
+over_way x y end tried (StepWay.On ready quiet steps is) over changes ended left = absurd (let e : Some end ≡ None = sym over ∙ ready.going in cc)
+over_way x y end tried (StepWay.Stopped stop over' kept none steps is stays) over changes ended left =
+    let same : Some end ≡ Some (ends.Stopped stop) = sym over ∙ kept in
+    let its : end ≡ ends.Stopped stop = cc in
+    IsBehind.Over stop kept changes (ended ∙ ap (λ e. Some (task_end e)) its)
+
+pub taken_over : (x y : Machine) (end : End) (tried : Tried) → HasStepped x y None → y.end ≡ Some end → tried.changes ≡ true → tried.end ≡ Some (task_end end) → (left : ℕ) → IsBehind x y left tried
+taken_over x y end tried step over changes ended left = over_way x y end tried step.way over changes ended left
+
+pub done_quantum : (a y : Machine) (count : ℕ) (line : Option Line) → IsGoing a → HasDone a y count line → 1 ≤ y.kernel.quantum
+done_quantum a y count line ready done =
+    let passed = silently_passes done.earlier a done.last done.silently in
+    let same : y.kernel.quantum ≡ a.kernel.quantum = done.step.stays.quantum ∙ passed.1 in
+    let some = ready.some in
+    let most = ready.most in
+    omega arith
+
+-- ---- an arrival of a task that does not rest
+
+pub record Enters (x a : Machine) : Type 0 where
+  pub entered : HasEntered x a None
+  pub ready : IsGoing a
+  pub placed : a.owed ≡ None
+  pub untaken : is_taken (flat_of a) ≡ false
+  pub left : (left : ℕ) → rest_at x.kernel.part x.at left ≡ None → 1 ≤ left
+
+pub entered_in : (x a : Machine) (result : Option End) (left : ℕ) → rest_at x.kernel.part x.at left ≡ None → x.kernel.mote.flash.failing ≡ [] → HasEntered x a result → Enters x a
+entered_in x a result left none unfailing entered =
+    let own = unrested x.kernel.part x.at left none in
+    let all = entered_own x a result own.0 (unfailing_on x a entered.stays unfailing) entered in
+    record {
+      entered = subst (HasEntered x a) all.0 entered;
+      ready = all.1;
+      placed = all.2;
+      untaken = enters_untaken x a result all.0 entered;
+      left = λ k rest. (unrested x.kernel.part x.at k rest).1;
+    }

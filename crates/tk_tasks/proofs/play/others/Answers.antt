@@ -1,0 +1,49 @@
+use Rattle.std.proofs.Common.{◌≡◌, ◌+◌, ◌*◌, ◌≤◌, ◌^◌, length, sym, ap, ◌∙◌, arith, subst}
+use Rattle.std.specs.Prelude.{slice_get, slice_index_or, sum_by, Some}
+use Rattle.tk_tasks.specs.declared.tasks.Task.{Task}
+use Rattle.tk_tasks.specs.States.{arrivals_of}
+use Rattle.tk_tasks.specs.Running.{sum_to}
+use Rattle.tk_tasks.proofs.Sums.{to_next, to_all, to_most}
+use Rattle.tk_tasks.proofs.Keeping.{sum_has}
+use Rattle.tk_tasks.proofs.Runs.{is_at, get_at, arrivals_few, all_here}
+use Rattle.tk_tasks.proofs.play.others.Goals as goal
+
+pub overflow_add-sum : goal.overflow_add-sum
+overflow_add-sum c =
+    let tasks = c.args.tasks.now in
+    let x = c.index-tasks-i.result in
+    let here = get_at tasks c.tasks.i x (omega (arith, c.tasks-test.true)) c.index-tasks-i.is in
+    let few = arrivals_few tasks c.requires.steps in
+    let so_far = to_most arrivals_of c.tasks.i tasks (10 ^ 12 + 1) few in
+    omega (arith, c.tasks.invariant, so_far, few c.tasks.i x here, c.arrivals-sum.ensures.value, c.tasks-test.true, c.requires.few)
+
+pub tasks-preserved : goal.tasks-preserved
+tasks-preserved c =
+    let tasks = c.args.tasks.now in
+    let x = c.index-tasks-i.result in
+    let here = get_at tasks c.tasks.i x (omega (arith, c.tasks-test.true)) c.index-tasks-i.is in
+    omega (arith, c.tasks.invariant, to_next arrivals_of c.tasks.i tasks x here, c.arrivals-sum.ensures.value)
+
+pub arrivals-requires : goal.arrivals-requires
+arrivals-requires c =
+    let x = c.index-tasks-from.result in
+    record { steps = c.requires.steps c.from.result x (get_at c.args.tasks.now c.from.result x (omega (arith, c.from.ensures, c.requires.one_runs)) c.index-tasks-from.is) }
+
+pub overflow_sub-result : goal.overflow_sub-result
+overflow_sub-result c =
+    let tasks = c.args.tasks.now in
+    let x = c.index-tasks-from.result in
+    let here = get_at tasks c.from.result x (omega (arith, c.from.ensures, c.requires.one_runs)) c.index-tasks-from.is in
+    let all : c.tasks.sum ≡ sum_by arrivals_of tasks = all_here tasks c.tasks.i c.tasks.sum c.tasks.invariant (omega (arith, c.tasks-test.false, c.tasks.auto)) in
+    omega (arith, all, c.arrivals.ensures.value, sum_has tasks c.from.result x here)
+
+pub returns : goal.returns
+returns c =
+    let tasks = c.args.tasks.now in
+    let x = c.index-tasks-from.result in
+    let all : c.tasks.sum ≡ sum_by arrivals_of tasks = all_here tasks c.tasks.i c.tasks.sum c.tasks.invariant (omega (arith, c.tasks-test.false, c.tasks.auto)) in
+    record {
+      value = λ task there.
+          let its = is_at tasks c.from.result x task c.index-tasks-from.is (ap (slice_get tasks) c.from.ensures ∙ there) in
+          omega (arith, all, c.arrivals.ensures.value, ap arrivals_of its);
+    }

@@ -1,0 +1,69 @@
+use Rattle.std.proofs.Common.{◌≡◌, ◌≢◌, ◌≤◌, ◌<◌, false, true, Bool, refl, sym, ap, ◌∙◌, arith, subst}
+use Rattle.std.specs.Prelude.{slice_get, Some, None, Ok}
+use Rattle.std.proofs.lemmas.Result.{err_from_is_err_and}
+use Rattle.tk_tasks.specs.declared.tasks.Task.{Task}
+use Rattle.tk_tasks.specs.States.{Tasks}
+use Rattle.tk_tasks.specs.Trying.{tried_told}
+use Rattle.tk_tasks.proofs.Runs.{way_start, way_cut_in_turn, way_on, way_cut, still_less, room_of, quantum_some, all_ended}
+use Rattle.tk_tasks.proofs.run.all_plays.Goals as goal
+
+pub plays-init : goal.plays-init
+plays-init g c = record {
+  way = way_start c.args.n c.args.t.now c.args.gathered.now.items (g.K.Sink.taken c.args.out.now) c.requires.empty;
+  sound = c.requires.sound;
+  whole = c.requires.whole;
+  quantum = refl;
+  cursor = c.new-cursor.ensures.right c.args.t.now.kernel.layout c.args.t.now.kernel.mote.flash.words;
+  turn = omega arith;
+  faults = omega arith;
+}
+
+pub returns-in_err-send_in_turn-clause-gathered : goal.returns-in_err-send_in_turn-clause-gathered
+returns-in_err-send_in_turn-clause-gathered g c =
+    let failed = err_from_is_err_and c.from_residual.result c.from_residual.ensures.1 in
+    rw failed.1 (way_cut_in_turn c.args.n c.args.t.now c.plays.t c.plays.gathered.items (g.K.Sink.taken c.args.out.now) (g.K.Sink.taken c.plays.out) (g.K.Sink.taken c.send_in_turn.new.out) c.plays.invariant.way c.in_err-send_in_turn.ensures.text)
+
+pub play-shown-requires-clause-room : goal.play-shown-requires-clause-room
+play-shown-requires-clause-room g c = room_of c.args.n c.args.t.now c.plays.t c.plays.gathered.items _ _ c.plays.invariant.way c.requires.sound c.requires.switches c.requires.steps
+
+pub put_shown-requires-clause-quantum : goal.put_shown-requires-clause-quantum
+put_shown-requires-clause-quantum g c =
+    let some = quantum_some c.plays.t c.plays.invariant.sound c.plays.invariant.whole (λ task here. (c.goes_on.ensures.going task here).0 c.plays-test.true) in
+    omega (arith, some, c.play-shown.ensures.quantum, ap (λ (u : Tasks). u.kernel.quantum) c.t.view_is)
+
+pub plays-smaller : goal.plays-smaller
+plays-smaller g c = still_less c.args.n c.plays.t c.play-shown.new.self _ c.play-shown.ensures.played
+
+pub plays-preserved : goal.plays-preserved
+plays-preserved g c =
+    let r = c.play-shown.result in
+    let told = tried_told r.task r.line r.end r.steps r.crossings in
+    let new = c.play-shown.new.self in
+    let quantum = c.play-shown.ensures.quantum ∙ c.plays.invariant.quantum in
+    record {
+      way = way_on c.args.n c.args.t.now c.plays.t new c.plays.gathered.items c.send_in_turn.new.gathered.items c.put_shown.new.gathered.items (g.K.Sink.taken c.args.out.now) (g.K.Sink.taken c.plays.out) (g.K.Sink.taken c.send_in_turn.new.out) (g.K.Sink.taken c.put_shown.new.out)
+          told c.t.inside.kernel.quantum c.plays.invariant.way c.in_ok-send_in_turn.ensures.text c.play-shown.ensures.played (ap (λ (u : Tasks). u.kernel.quantum) c.t.view_is ∙ quantum) c.in_ok-put_shown.ensures.text;
+      sound = c.play-shown.ensures.sound;
+      whole = c.play-shown.ensures.whole;
+      quantum = quantum;
+      cursor = c.play-shown.ensures.cursor;
+      turn = omega arith;
+      faults = omega (arith, c.plays.invariant.faults, c.in_ok-send_in_turn.ensures.cause.later, c.in_ok-put_shown.ensures.cause.later);
+    }
+
+pub returns-in_err-put_shown-clause-gathered : goal.returns-in_err-put_shown-clause-gathered
+returns-in_err-put_shown-clause-gathered g c =
+    let r = c.play-shown.result in
+    let told = tried_told r.task r.line r.end r.steps r.crossings in
+    let new = c.play-shown.new.self in
+    let quantum = c.play-shown.ensures.quantum ∙ c.plays.invariant.quantum in
+    let failed = err_from_is_err_and c.from_residual-in_err-put_shown.result c.from_residual-in_err-put_shown.ensures.1 in
+    rw failed.1 (way_cut c.args.n c.args.t.now c.plays.t new c.plays.gathered.items c.send_in_turn.new.gathered.items (g.K.Sink.taken c.args.out.now) (g.K.Sink.taken c.plays.out) (g.K.Sink.taken c.send_in_turn.new.out) (g.K.Sink.taken c.put_shown.new.out)
+    told c.t.inside.kernel.quantum c.plays.invariant.way c.in_ok-send_in_turn.ensures.text c.play-shown.ensures.played (ap (λ (u : Tasks). u.kernel.quantum) c.t.view_is ∙ quantum) c.in_err-put_shown.ensures.text)
+
+pub returns-clause-gathered : goal.returns-clause-gathered
+returns-clause-gathered g c = (
+  c.plays.invariant.way,
+  all_ended c.args.n c.args.t.now c.plays.t c.plays.gathered.items (g.K.Sink.taken c.args.out.now) (g.K.Sink.taken c.plays.out) c.plays.invariant.way c.requires.sound c.plays.invariant.sound c.requires.going
+      (λ task here going. let e : ◌≡◌ {A = Bool} false true = sym c.plays-test.false ∙ (c.goes_on.ensures.going task here).1 going in cc),
+)

@@ -1,0 +1,21 @@
+use Rattle.std.proofs.Common.{◌≡◌, ◌≤◌, ◌<◌, false}
+use Rattle.page_index.specs.Cursors.{IsCursor}
+use Rattle.tk_tasks.specs.States.{AreSound, turns_of}
+use Rattle.tk_tasks.specs.Running.{IsUnderWay}
+use Rattle.tk_tasks.proofs.Ending.{still}
+use Rattle.tk_tasks.proofs.run.all_plays.Given as goal
+
+-- plays led to where the tasks are now
+abbrev pub invariant-plays : goal.invariant-plays
+invariant-plays g l = record {
+  way : IsUnderWay l.n l.fn.t l.t l.gathered.items (g.K.Sink.taken l.fn.out) (g.K.Sink.taken l.out);
+  sound : AreSound l.t;
+  whole : l.t.broken ≡ false;
+  quantum : l.t.kernel.quantum ≡ l.fn.t.kernel.quantum;
+  cursor : IsCursor l.t.kernel.layout l.t.kernel.mote.flash.words l.cursor;
+  turn : l.done < 65536;
+  faults : g.K.Sink.faults l.fn.out ≤ g.K.Sink.faults l.out;
+}
+
+abbrev pub decreases-plays : goal.decreases-plays
+decreases-plays g l = still (turns_of l.n l.t).players

@@ -1,0 +1,6 @@
+use Rattle.tk_tasks.proofs.Runs.{sent_all}
+use Rattle.tk_tasks.proofs.run.put_plays.Goals as goal
+
+pub returns-clause-gathered : goal.returns-clause-gathered
+returns-clause-gathered g c =
+    sent_all c.send.result c.args.n c.args.t.now c.all_plays.new.t c.all_plays.new.gathered.items (g.K.Sink.taken c.args.out.now) (g.K.Sink.taken c.all_plays.new.out) (g.K.Sink.taken c.send.new.out) c.in_ok-all_plays.ensures.gathered c.send.ensures.text

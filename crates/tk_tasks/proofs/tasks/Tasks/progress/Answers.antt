@@ -1,0 +1,44 @@
+use Rattle.std.proofs.Common.{◌≡◌, ◌<◌, length, sym, ap, ◌∙◌, arith, subst}
+use Rattle.std.specs.Prelude.{slice_get, slice_index_or, Some}
+use Rattle.tk_tasks.specs.declared.tasks.Task.{Task}
+use Rattle.tk_tasks.specs.States.{Tasks, owed_of, others_of}
+use Rattle.tk_tasks.proofs.Runs.{is_at, get_at, progress_is}
+use Rattle.tk_tasks.proofs.tasks.Tasks.progress.Goals as goal
+
+pub overflow_sub-result : goal.overflow_sub-result
+overflow_sub-result c =
+    let t = c.args.self.now in
+    let s = c.self.inside in
+    let x = c.index-task.result.now in
+    let seen = c.self.view_is in
+    let at : c.from.result ≡ t.running = c.from.ensures ∙ ap (λ (u : Tasks). u.running) seen in
+    let all : s.tasks.items ≡ t.tasks = ap (λ (u : Tasks). u.tasks) seen in
+    let is : x ≡ slice_index_or t.tasks t.running x = c.index-task.ensures ∙ ap (λ l. slice_index_or l c.from.result x) all ∙ ap (λ i. slice_index_or t.tasks i x) at in
+    let bounded = (c.requires.sound.each t.running x (get_at t.tasks t.running x c.requires.sound.one_runs is)).sound.bounded in
+    let since = bounded.since in
+    let longest = bounded.longest in
+    omega arith
+
+pub others-requires-clause-steps : goal.others-requires-clause-steps
+others-requires-clause-steps c = λ i task there.
+    let all = ap (λ (u : Tasks). u.tasks) c.self.view_is in
+    (c.requires.sound.each i task (ap (λ l. slice_get l i) (sym (c.deref.ensures.value ∙ all)) ∙ there)).sound.steps
+
+pub returns : goal.returns
+returns c =
+    let t = c.args.self.now in
+    let s = c.self.inside in
+    let x = c.index-task.result.now in
+    let seen = c.self.view_is in
+    let at : c.from.result ≡ t.running = c.from.ensures ∙ ap (λ (u : Tasks). u.running) seen in
+    let all : s.tasks.items ≡ t.tasks = ap (λ (u : Tasks). u.tasks) seen in
+    let is : x ≡ slice_index_or t.tasks t.running x = c.index-task.ensures ∙ ap (λ l. slice_index_or l c.from.result x) all ∙ ap (λ i. slice_index_or t.tasks i x) at in
+    record {
+      progress = λ task here going.
+          let same = is_at t.tasks t.running x task is here in
+          let listed = c.deref.ensures.value ∙ all in
+          let runs : s.running ≡ t.running = ap (λ (u : Tasks). u.running) seen in
+          let found : slice_get c.deref.result.now s.running ≡ Some task = ap (λ l. slice_get l s.running) listed ∙ ap (slice_get t.tasks) runs ∙ here in
+          let others : c.others.result ≡ others_of t task = c.others.ensures.value task found ∙ ap (λ l. others_of (record t { tasks = l }) task) listed in
+          progress_is t task x c.owed_of.result c.others.result s.pages c.requires.sound here going same (ap (λ (u : Tasks). u.pages) seen) (c.owed_of.ensures.value ∙ ap (owed_of x.owed) (ap (λ (u : Tasks). u.stub) seen)) others;
+    }

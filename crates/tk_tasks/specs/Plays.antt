@@ -1,0 +1,110 @@
+-- A run of the tasks on the mote, play by play, beside the tasks in turn (docs/TASKS.md, "A run on the mote").
+use Rattle.std.specs.Prelude.{◌≡◌, ℕ, ◌+◌, ◌/◌, Bool, true, false, List, [], ◌∷◌, ◌++◌, flat_map, slice_get, slice_set, sum_by, is_some, Option, Some, None, Result, Ok, Err}
+use Rattle.mote_devices.specs.declared.line.Line.{Line}
+use Rattle.mem_guard.specs.FlatMachine.{Run}
+use Rattle.kernel_entry.specs.Texts.{line_text, stop_text}
+use Rattle.tk_io.specs.declared.failure.Failed.{Failed}
+use Rattle.tk_io.specs.Streams.{Puts}
+use Rattle.step_laws.specs.Moves.{Move}
+use Rattle.program_steps.specs.Machines.{flat_of}
+use Rattle.program_steps.specs.Stepping.{Goes, AreMadeAt, ends_in_arrive}
+use Rattle.tk_tasks.specs.declared.tasks.Task.{Task}
+use Rattle.tk_tasks.specs.Scripts.{named}
+use Rattle.tk_tasks.specs.Turns.{Player, Turns, Shown, Wrote, Stops, Told, After, once, turns, alone, shown_by, own_told, HaveEnded}
+use Rattle.tk_tasks.specs.States.{Tasks, machine_of, player_of, turns_of}
+use Rattle.tk_tasks.specs.Changes.{changed_tasks}
+
+-- one try of the running task: its moves, what is told of it, and whether the mote may be given to another behind it
+pub record Play : Type 0 where
+  pub moves : List Move
+  pub told : List Told
+  pub changes : Bool
+
+-- the device lines of what is told
+abbrev pub line_shown : Shown → List Line
+line_shown (Wrote line) = line ∷ []
+line_shown (Stops end steps crossings) = []
+
+abbrev pub lines_told : List Told → List Line
+lines_told told = flat_map (λ one. line_shown one.shown) told
+
+-- The running task's machine goes by these moves, of which the last is no arrival, and which make a page at most where it
+-- stands; a move counts for this task alone. The other tasks have what they had.
+pub record IsTry (t : Tasks) (task : Task) (play : Play) (new : Tasks) (next : Task) : Type 0 where
+  pub goes : Goes (machine_of t t.running task) (machine_of new t.running next) play.moves (lines_told play.told)
+  pub last : ends_in_arrive play.moves ≡ false
+  pub made : AreMadeAt (λ a. a ≡ task.at) play.moves
+  pub tasks : new.tasks ≡ slice_set t.tasks t.running next
+  pub running : new.running ≡ t.running
+  pub switches : new.switches ≡ t.switches
+
+-- behind it the mote may be given to another task, by no move of a task
+abbrev pub GoesOn : Bool → Tasks → Tasks → Type 0
+GoesOn true mid new = new ≡ changed_tasks mid
+GoesOn false mid new = new ≡ mid
+
+-- One play of a task that has not ended, where each task may do n steps: the tasks stand behind it, and of them is told,
+-- what one try in turn comes to.
+pub record IsPlay (n : ℕ) (t : Tasks) (play : Play) (new : Tasks) : Type 0 where
+  pub task : Task
+  pub here : slice_get t.tasks t.running ≡ Some task
+  pub going : task.end ≡ None
+  pub mid : Tasks
+  pub next : Task
+  pub tried : IsTry t task play mid next
+  pub behind : GoesOn play.changes mid new
+  pub in_turn : turns_of n new ≡ (once (turns_of n t) (player_of n t t.running task)).turns
+  pub told : play.told ≡ (once (turns_of n t) (player_of n t t.running task)).told
+
+-- plays one after another
+abbrev pub TaskPath : ℕ → Tasks → List Play → Tasks → Type 0
+TaskPath n t [] new = t ≡ new
+TaskPath n t (play ∷ plays) new = (mid : Tasks) × IsPlay n t play mid × TaskPath n mid plays new
+
+-- what is told of all of them
+abbrev pub told_of : List Play → List Told
+told_of [] = []
+told_of (play ∷ plays) = play.told ++ told_of plays
+
+-- what is told, as it is printed: each line names its task
+abbrev pub shown_text : (quantum : ℕ) → Shown → List ℕ
+shown_text quantum (Wrote line) = line_text line
+shown_text quantum (Stops end steps crossings) = stop_text end steps (crossings / quantum)
+
+abbrev pub told_text : (quantum : ℕ) → List Told → List ℕ
+told_text quantum told = flat_map (λ one. named one.task ++ shown_text quantum one.shown) told
+
+-- every task has ended, and told what it does alone; it ended as it does alone, and holds what it then holds
+abbrev pub EndsAsAlone : Run → ℕ → List Told → Player → Type 0
+EndsAsAlone r i told p = (own_told i told ≡ shown_by r) × (p.end ≡ Some r.end) × (p.moment ≡ r.state)
+
+-- All tasks have ended, and the run is the tasks' in turn. What each told, how it ended and what it holds is its own run's,
+-- whatever the others are.
+pub record HaveRun (n : ℕ) (old : Tasks) (told : List Told) (new : Tasks) : Type 0 where
+  pub ended : HaveEnded (turns_of n new)
+  pub in_turn : turns_of n new ≡ (turns (turns_of n old)).turns
+  pub tells : told ≡ (turns (turns_of n old)).told
+  pub alone : (i : ℕ) → (was task : Task) → slice_get old.tasks i ≡ Some was → was.end ≡ None → slice_get new.tasks i ≡ Some task
+      → EndsAsAlone (alone (player_of n old i was)) i told (player_of n new i task)
+
+-- what is counted of all tasks
+abbrev pub counted : Tasks → (broken : Bool) → Tasks
+counted t broken = record t { broken = broken; natural = sum_by (λ (task : Task). task.natural) t.tasks; entries = sum_by (λ (task : Task). task.entries) t.tasks }
+
+abbrev pub is_failed : Result (Unit {0}) Failed → Bool
+is_failed (Ok done) = false
+is_failed (Err e) = true
+
+abbrev pub IfDone : Result (Unit {0}) Failed → Type 0 → Type 0
+IfDone (Ok done) holds = holds
+IfDone (Err e) holds = Unit {0}
+
+-- What a run of the tasks leaves, where each may do n steps. What the plays told was put, or, where the sink failed, a
+-- shorter part of it from its front.
+pub record HasRunTasks (n : ℕ) (old new : Tasks) (before after : Option (List ℕ)) (result : Result (Unit {0}) Failed) : Type 0 where
+  pub plays : List Play
+  pub last : Tasks
+  pub path : TaskPath n old plays last
+  pub counts : new ≡ counted last (is_failed result)
+  pub put : Puts before after result (told_text old.kernel.quantum (told_of plays))
+  pub run : IfDone result (HaveRun n old (told_of plays) last)

@@ -1,0 +1,129 @@
+-- A run of several programs, with its last line, as the answer tells it.
+use Rattle.std.proofs.Common.{◌≡◌, ℕ, ◌*◌, ◌<◌, ◌≤◌, true, false, List, [], ◌∷◌, ◌++◌, length, Option, Some, None, refl, sym, ap, ◌∙◌, subst, arith}
+use Rattle.std.specs.Prelude.{Result, Ok, Err, OnErr, slice_get, slice_index_or}
+use Rattle.tk_io.specs.declared.failure.Failed.{Failed}
+use Rattle.tk_io.specs.Faults.{Rose}
+use Rattle.tk_io.specs.Streams.{CutShort}
+use Rattle.input_script.specs.Script.{Schedule, nothing}
+use Rattle.mem_guard.specs.FlatMachine.{Run}
+use Rattle.mem_guard.specs.Masked as masked
+use Rattle.tk_tasks.specs.declared.tasks.Task.{Task}
+use Rattle.tk_tasks.specs.Images.{quarter, IsMisplaced, task_words}
+use Rattle.tk_tasks.specs.Booted.{booted, turns_at_reset}
+use Rattle.tk_tasks.specs.States.{Tasks, AreSound, player_of, turns_of}
+use Rattle.tk_tasks.specs.Turns.{Player, Told, Turns, alone, at_reset_in, turns}
+use Rattle.tk_tasks.specs.Plays.{EndsAsAlone, HasRunTasks, HaveRun, TaskPath, counted, told_of, told_text}
+use Rattle.tk_tasks.proofs.OwnPrograms.{program_at, player_at, boot_player, each_first, each_last, first_going, own_run}
+use Rattle.tkernel_cli.specs.declared.request.TaskRequest.{TaskRequest}
+use Rattle.tkernel_cli.specs.declared.status.Status.{Status}
+use Rattle.tkernel_cli.specs.declared.status.Status.TheVariants as status
+use Rattle.tkernel_cli.specs.Commands.{AreTasks}
+use Rattle.tkernel_cli.specs.Runs.{Stream, Says}
+use Rattle.tkernel_cli.specs.TasksRuns.{RunsTasks, EachIsAlone, all_told, run_of_task, start_by, start_of, worst}
+use Rattle.tkernel_cli.specs.Text.{tasks_count_text}
+use Rattle.tkernel_cli.proofs.RunEnds.{said_on}
+
+-- the tasks in turn, as the request asks for them
+abbrev reset_of : TaskRequest → Turns
+reset_of request = turns_at_reset request.image request.scripts request.options.quantum request.options.swap request.options.steps
+
+-- what stands of the tasks at boot
+pub record Starts (request : TaskRequest) (start : Tasks) : Type 0 where
+  pub is : start ≡ start_of request
+  pub in_turn : turns_of request.options.steps start ≡ reset_of request
+
+started_quantum : (request : TaskRequest) (scripts : List Schedule) → (start_by request scripts).kernel.quantum ≡ request.options.quantum
+started_quantum request [] = refl
+started_quantum request (first ∷ others) = refl
+
+started_whole : (request : TaskRequest) (scripts : List Schedule) → (start_by request scripts).broken ≡ false
+started_whole request [] = refl
+started_whole request (first ∷ others) = refl
+
+started_same : (request : TaskRequest) (scripts : List Schedule) → (start_by request scripts).switches ≡ 0
+started_same request [] = refl
+started_same request (first ∷ others) = refl
+
+-- so the run may begin
+pub can_run : (request : TaskRequest) (start : Tasks) → Starts request start → (start.broken ≡ false) × (start.switches ≡ 0) × ((i : ℕ) → (task : Task) → slice_get start.tasks i ≡ Some task → task.end ≡ None)
+can_run request start starts = (
+  ap (λ (t : Tasks). t.broken) starts.is ∙ started_whole request request.scripts,
+  ap (λ (t : Tasks). t.switches) starts.is ∙ started_same request request.scripts,
+  λ i task there. first_going request.options.steps start request.image request.scripts request.options.quantum request.options.swap i task starts.in_turn there,
+)
+
+-- the tasks that boot made
+pub starts_of : (request : TaskRequest) (start : Tasks) → (scripts : List Schedule) → 1 ≤ length scripts → request.scripts ≡ scripts
+    → ((first : Schedule) (others : List Schedule) → request.scripts ≡ first ∷ others → start ≡ booted request.image first others request.options.quantum request.options.swap)
+    → turns_of request.options.steps start ≡ reset_of request → Starts request start
+starts_of request start [] some is made same = absurd (omega arith)
+starts_of request start (first ∷ others) some is made same = record { is = made first others is ∙ sym (ap (start_by request) is); in_turn = same }
+
+-- the run of a task alone is that of its player at boot
+own_alone : (request : TaskRequest) (i : ℕ) → AreTasks request → i < length request.scripts
+    → alone (player_at (task_words (length request.scripts) request.image) request.scripts request.options.quantum request.options.swap request.options.steps i) ≡ run_of_task request i
+own_alone request i may below =
+    let options = request.options in
+    let few : length request.scripts ≤ 4 = omega (arith, may.each_task, may.possible.1) in
+    let placed : (address : ℕ) → ¬ IsMisplaced (length request.scripts) request.image address = subst (λ c. (address : ℕ) → ¬ IsMisplaced c request.image address) (sym may.each_task) may.placed in
+    let Alone : ℕ → Run = λ c. alone (at_reset_in (masked.alone (program_at (task_words c request.image) options.quantum options.swap i)) (quarter * i) (slice_index_or request.scripts i nothing).events options.steps) in
+    sym (own_run (length request.scripts) request.image request.scripts options.quantum options.swap options.steps i below few placed) ∙ ap Alone may.each_task
+
+same_told : (request : TaskRequest) (start last : Tasks) (told : List Told) → Starts request start → HaveRun request.options.steps start told last → told ≡ all_told request
+same_told request start last told starts run = run.tells ∙ ap (λ (s : Turns). (turns s).told) starts.in_turn
+
+each_alone : (request : TaskRequest) (start last t : Tasks) (told : List Told) → AreTasks request → Starts request start → HaveRun request.options.steps start told last → t ≡ counted last false → EachIsAlone request t
+each_alone request start last t told may starts run is = λ i below.
+    let options = request.options in
+    let n = options.steps in
+    let inside : i < length request.scripts = omega (arith, below, may.each_task) in
+    let was = each_first n start request.image request.scripts options.quantum options.swap i starts.in_turn inside in
+    let now = each_last n last request.image request.scripts options.quantum options.swap i (run.in_turn ∙ ap (λ (s : Turns). (turns s).turns) starts.in_turn) inside in
+    let going = first_going n start request.image request.scripts options.quantum options.swap i was.0 starts.in_turn was.1 in
+    let ends = run.alone i was.0 now.0 was.1 going now.1 in
+    let boot = boot_player n start request.image request.scripts options.quantum options.swap i was.0 starts.in_turn was.1 inside in
+    let own : alone (player_of n start i was.0) ≡ run_of_task request i = ap alone boot ∙ own_alone request i may inside in
+    let Own : Run → Type 0 = λ r. EndsAsAlone r i told (player_of n last i now.0) in
+    let All : List Told → Type 0 = λ l. EndsAsAlone (run_of_task request i) i l (player_of n last i now.0) in
+    let whole = subst All (same_told request start last told starts run) (subst Own own ends) in
+    let There : Tasks → Type 0 = λ s. (task : Task) × (slice_get s.tasks i ≡ Some task) × EndsAsAlone (run_of_task request i) i (all_told request) (player_of n s i task) in
+    subst There (sym is) (now.0, now.1, whole)
+
+-- every task ended, and the last line was said, or not
+pub tasks_ended : (request : TaskRequest) (start t : Tasks) (before mid now : Stream) (told : Status) (done : Unit {0}) → AreTasks request → Starts request start → HasRunTasks request.options.steps start t before.told mid.told (Ok done) → AreSound t → before.faults ≤ mid.faults
+    → Says (worst status.Done t.tasks) (tasks_count_text t.natural t.entries t.pages t.switches) mid now told → RunsTasks request before now told t
+tasks_ended request start t before mid now told done may starts run sound later said =
+    let quantum : start.kernel.quantum ≡ request.options.quantum = ap (λ (s : Tasks). s.kernel.quantum) starts.is ∙ started_quantum request request.scripts in
+    let text : told_text start.kernel.quantum (told_of run.plays) ≡ told_text request.options.quantum (all_told request) =
+    ap (λ q. told_text q (told_of run.plays)) quantum ∙ ap (told_text request.options.quantum) (same_told request start run.last (told_of run.plays) starts run.run) in
+    let last = tasks_count_text t.natural t.entries t.pages t.switches in
+    let whole = said_on (worst status.Done t.tasks) told before mid now (told_text start.kernel.quantum (told_of run.plays)) last run.put later said in
+    RunsTasks.Ended (record {
+      said = subst (λ l. Says (worst status.Done t.tasks) (l ++ last) before now told) text whole;
+      alone = each_alone request start run.last t (told_of run.plays) may starts run.run run.counts;
+      sound = sound;
+      plays = run.plays;
+      last = run.last;
+      path = subst (λ s. TaskPath request.options.steps s run.plays run.last) starts.is run.path;
+      is = run.counts;
+    })
+
+-- a line could not be put
+pub tasks_cut : (request : TaskRequest) (start t : Tasks) (before now : Stream) (failed : Failed) → Starts request start → HasRunTasks request.options.steps start t before.told now.told (Err failed) → AreSound t → Rose before.faults now.faults
+    → RunsTasks request before now status.WriteFault t
+tasks_cut request start t before now failed starts run sound rose =
+    let quantum : start.kernel.quantum ≡ request.options.quantum = ap (λ (s : Tasks). s.kernel.quantum) starts.is ∙ started_quantum request request.scripts in
+    RunsTasks.Cut (record {
+      status_is = refl;
+      rose = rose;
+      plays = run.plays;
+      last = run.last;
+      path = subst (λ s. TaskPath request.options.steps s run.plays run.last) starts.is run.path;
+      is = run.counts;
+      put = subst (λ q. CutShort before.told now.told (told_text q (told_of run.plays))) quantum run.put;
+      sound = sound;
+    })
+
+pub rose_of : (result : Result (Unit {0}) Failed) (failed : Failed) (before now : ℕ) → result ≡ Err failed → OnErr result (Rose before now) → Rose before now
+rose_of (Ok done) failed before now is rose = absurd (cc)
+rose_of (Err e) failed before now is rose = rose

@@ -1,0 +1,154 @@
+//! A run, a loss of power, and a second run over what a restart keeps.
+ghost use Rattle.std.specs.Prelude.{◌≡◌, ◌⊎◌, ◌≤◌, ◌<◌, ◌+◌, ◌^◌, ℕ, List, false, length, [], IfSome};
+ghost use Rattle.flash_model.specs.Layouts.{IsRight, layout_of};
+ghost use Rattle.flash_model.specs.Memory.{Memory};
+ghost use Rattle.hex_image.specs.Image.{IsImage};
+ghost use Rattle.kernel_entry.specs.Parts.{image_held};
+ghost use Rattle.nat_page.specs.Faithful.{IsFaithful};
+ghost use Rattle.page_index.specs.Maps.{IsPool};
+ghost use Rattle.pool_check.specs.Links.{HaveFormsAround};
+ghost use Rattle.program_steps.specs.Ready.{IsKept};
+ghost use Rattle.tkernel_cli.specs.Answer.{Does};
+ghost use Rattle.tkernel_cli.specs.Commands.{AreOptions};
+ghost use Rattle.tkernel_cli.specs.declared.request.Request.{Request as RequestValue};
+ghost use Rattle.tkernel_cli.specs.Printed.{no_memory};
+ghost use Rattle.tkernel_cli.specs.RestartCommand.{HasRestarted, RunsOver, lost_flash as flash_lost, lost_in, refused_in, second_start, torn_words as words_torn};
+ghost use Rattle.tkernel_cli.specs.Runs.{stream};
+ghost use Rattle.tkernel_cli.specs.Text.{restart_text};
+
+use crate::job::tell;
+use crate::printed::NO_MEMORY;
+use crate::request::Request;
+use crate::running::{run_silently, tell_end};
+use crate::status::Status;
+use crate::text::restarted;
+use crate::top::Exit;
+use flash_model::{Flash, Layout};
+use input_script::Script;
+use line_text::whole;
+use program_generator::next;
+use std::alloc::Global;
+use swap_store::Swap;
+use tk_io::{Sink, put};
+use tk_restart::{Kept, restart, tear};
+use tk_run::{End, Machine};
+
+/// Runs a request without a line, loses power at the operation that is refused, if one is, restarts, and runs it again
+/// over what is kept.
+pub(crate) fn restart_request<K: Sink>(
+    alloc: Global,
+    request: Request,
+    again: Script,
+    out: &mut K,
+) -> Exit
+    requires possible { AreOptions request.options }
+    requires same { again ≡ request.script }
+    ensures done { HasRestarted request (stream K.taken K.faults out.old) (stream K.taken K.faults out.new) result
+        ⊎ Does no_memory (stream K.taken K.faults out.old) (stream K.taken K.faults out.new) result }
+{
+    let Request {
+        image,
+        script,
+        options,
+    } = request;
+    let swap = match Swap::new(alloc, options.swap) {
+        Ok(swap) => swap,
+        Err(_) => return tell(Status::NoMemory, &whole(NO_MEMORY), out),
+    };
+    let first = match run_silently(alloc, &image, script, options) {
+        Ok(machine) => machine,
+        Err(_) => return tell(Status::NoMemory, &whole(NO_MEMORY), out),
+    };
+    let layout = Layout::of(image.len_words());
+    let mut flash = lost_flash(first, &layout);
+    let told = restart(&mut flash, image.words(), &layout);
+    let mut machine = Machine::over(flash, &image, again, swap, options.quantum);
+    let status = run_again(&mut machine, told, options.steps, out);
+    Exit {
+        status,
+        kept: Some(machine),
+        tasks: None,
+    }
+}
+
+/// The flash of a machine after power was lost: where an operation was refused, its page has other words.
+fn lost_flash(machine: Machine, layout: &Layout) -> Flash
+    requires layout { layout.now ≡ machine.kernel.layout }
+    ensures lost { result ≡ flash_lost machine }
+    // The pages outside the pool have their form.
+    ensures around { HaveFormsAround layout.now (image_held machine.kernel) result.words }
+    ensures sound { result.failing ≡ [] }
+    ensures few { result.ops ≤ 2 }
+{
+    let op = refused_op(machine.end);
+    let mut flash = machine.kernel.mote.flash;
+    let page = flash.refused();
+    flash.renew();
+    lose(&mut flash, layout, op, page);
+    flash
+}
+
+/// The number of the operation on flash that ended a run.
+fn refused_op(end: Option<End>) -> Option<u64>
+    ensures value { result ≡ refused_in end }
+{
+    match end {
+        Some(End::Flash(op)) => Some(op),
+        Some(End::Spent | End::Stopped(_) | End::Wild(_)) | None => None,
+    }
+}
+
+/// Gives the page of a refused operation the words of a loss of power.
+fn lose(flash: &mut Flash, layout: &Layout, op: Option<u64>, page: Option<u16>)
+    requires right { IsRight layout.now }
+    requires pool { IfSome page (IsPool layout.now) }
+    requires sound { flash.old.failing ≡ [] }
+    requires few { flash.old.ops ≡ 0 }
+    ensures after { flash.new ≡ lost_in op page flash.old }
+    ensures around { (image : List ℕ) → HaveFormsAround layout.now image flash.old.words → HaveFormsAround layout.now image flash.new.words }
+    ensures sound { flash.new.failing ≡ [] }
+    ensures few { flash.new.ops ≤ 2 }
+{
+    let Some(op) = op else {
+        return;
+    };
+    let Some(page) = page else {
+        return;
+    };
+    tear(flash, layout, page, &torn_words(op));
+}
+
+/// The words of a page where power was lost in the operation of this number.
+#[tactic(auto, using(crate::proofs::TornWords::next_low, crate::proofs::TornWords::number_next))]
+fn torn_words(op: u64) -> [u16; 128]
+    ensures words { result ≡ words_torn op 128 }
+{
+    let mut words = [0; 128];
+    let mut x = (op % 0x1_0000_0000) as u32;
+    'words: for k in 0..128u16 {
+        x = next(x);
+        words[k as usize] = (x >> 16) as u16;
+    }
+    words
+}
+
+/// Puts the line of the restart, and runs the machine, which has done nothing yet.
+fn run_again<K: Sink>(machine: &mut Machine, told: Kept, steps: u64, out: &mut K) -> Status
+    requires kept { IsKept machine.old }
+    requires running { machine.old.broken ≡ false }
+    requires begins { machine.old.steps ≡ 0 }
+    requires quantum { 1 ≤ machine.old.kernel.quantum }
+    requires steps { steps ≤ 10 ^ 9 }
+    // Whatever request it is the second run of, over whatever flash.
+    ensures over { (request : RequestValue) (flash : Memory) → machine.old ≡ second_start request flash → IsFaithful (layout_of (length request.image)) request.image flash.words → request.options.steps ≡ steps
+        → RunsOver request flash (restart_text told.kept told.dropped) (stream K.taken K.faults out.old) (stream K.taken K.faults out.new) result machine.new }
+{
+    match put(out, &restarted(told)) {
+        Ok(()) => {}
+        Err(_) => return Status::WriteFault,
+    }
+    match machine.advance(steps, out) {
+        Ok(end) => tell_end(machine, end, out),
+        Err(_) => Status::WriteFault,
+    }
+}
