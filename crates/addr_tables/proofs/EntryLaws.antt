@@ -55,15 +55,6 @@ rest_written m k t place below = record {
   rest = λ a from outside. byte_not_written m (entry_cell k) a t place (omega arith) from (elim outside [ inl low ↦ inl (omega arith) | inr high ↦ inr (omega arith) ]);
 }
 
-pub rest_same : (m : List ℕ) → KeepsRest m m
-rest_same m = record { size = refl; rest = λ a from outside. refl }
-
-pub rest_then : (m m' m'' : List ℕ) → KeepsRest m m' → KeepsRest m' m'' → KeepsRest m m''
-rest_then m m' m'' one other = record {
-  size = other.size ∙ one.size;
-  rest = λ a from outside. other.rest a from outside ∙ one.rest a from outside;
-}
-
 -- what holds of each entry
 abbrev pub AllEntries : (ℕ × ℕ → Type 0) → List ℕ → Type 0
 AllEntries P m = (k : ℕ) → k < 160 → P (entry_at m (entry_cell k))

@@ -1,6 +1,7 @@
 -- What follows from an answer of the tables, and from an answer of a search.
 use Rattle.std.proofs.Common.{◌≡◌, ℕ, ◌%◌, ◌⊎◌, Bool, true, false, cond, List, [], ◌∷◌, length, arith, refl, ap, ap₂, subst, sym, ◌∙◌, inl, inr, eq-eqb}
-use Rattle.std.specs.Prelude.{◌≢◌, ◌==◌, ◌&&◌, ◌↔◌, not, Option, Some, None, IfSome}
+use Rattle.std.specs.Prelude.{◌≢◌, ◌==◌, ◌&&◌, ◌↔◌, not, Option, Some, None, IfSome, Result, Ok, Err, IfOk}
+use Rattle.std.specs.Result.{result_ok}
 use Rattle.std.proofs.lemmas.Map.Views.{exact_unsigned_eq}
 use Rattle.flash_model.specs.declared.layout.Layout.{Layout}
 use Rattle.sram_layout.specs.Bytes.{byte_count}
@@ -121,3 +122,8 @@ finds_entry layout words old new t result finds tables mapped v = (
   λ answer. (found_right layout words old new t v (subst (λ (r : Option ℕ). Finds layout words old new t r) answer finds) tables).0,
   λ entry. entry_found layout words old new t v result mapped finds tables entry,
 )
+
+-- a place that is told, told as an option
+pub if_ok : {E : Type 0} (P : ℕ → Type 0) (found : Result ℕ E) → IfOk found P → IfSome (result_ok found) P
+if_ok P (Ok place) holds = holds
+if_ok P (Err other) holds = tt

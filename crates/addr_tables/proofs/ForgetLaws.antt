@@ -9,7 +9,8 @@ use Rattle.sram_layout.specs.Cells.{entry_at, with_entry, way_cell}
 use Rattle.page_index.specs.Entries.{IsEntry}
 use Rattle.addr_tables.specs.Tables.{IsHeld, IsTables}
 use Rattle.addr_tables.specs.Changes.{entry_cell, KeepsRest, is_in, IsIn, without_entry, Forgets, HasNoneIn, StaysOutside}
-use Rattle.addr_tables.proofs.EntryLaws.{way_cell_is, apart_cells, written, byte_not_written, rest_written, rest_same, rest_then, tables_all, all_tables}
+use Rattle.sram_layout.proofs.RegionLaws.{outside_same, outside_then}
+use Rattle.addr_tables.proofs.EntryLaws.{way_cell_is, apart_cells, written, byte_not_written, rest_written, tables_all, all_tables}
 
 -- an entry, by its four bytes
 abbrev entry_of_bytes : ℕ → ℕ → ℕ → ℕ → ℕ × ℕ
@@ -68,7 +69,7 @@ without_rest : (m : List ℕ) (page k : ℕ) → k < 160 → KeepsRest m (withou
 unfolding without_entry
 without_rest m page k below = elim (is_in page (entry_at m (entry_cell k))) as (λ t. KeepsRest m (cond t (with_entry m (entry_cell k) 0 0) m)) [
   | true ↦ rest_written m k 0 0 below
-  | false ↦ rest_same m
+  | false ↦ outside_same m
 ]
 
 -- the first n entries of the row
@@ -81,7 +82,7 @@ pub forgets_none : (m : List ℕ) (page : ℕ) → ForgetsFirst page 0 m m
 forgets_none m page = record {
   first = λ k b before below near. absurd (omega arith);
   others = λ k b from below near. refl;
-  rest = rest_same m;
+  rest = outside_same m;
 }
 
 pub forgets_more : (page n : ℕ) (old mid : List ℕ) → length mid ≡ byte_count → n < 160 → ForgetsFirst page n old mid → ForgetsFirst page (n + 1) old (without_entry mid page (entry_cell n))
@@ -95,7 +96,7 @@ forgets_more page n old mid long room before =
         | inr apart ↦ without_there mid page n k b apart near ∙ before.first k b (omega arith) below near
       ];
       others = λ k b from below near. without_there mid page n k b (λ same. omega arith) near ∙ before.others k b (omega arith) below near;
-      rest = rest_then old mid _ before.rest (without_rest mid page n room);
+      rest = outside_then before.rest (without_rest mid page n room);
     }
 
 -- one more, as the loops number it

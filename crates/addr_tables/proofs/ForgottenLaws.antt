@@ -9,15 +9,16 @@ use Rattle.std.proofs.lemmas.Grind.{same_number_lists}
 use Rattle.flash_model.specs.Pages.{page_words}
 use Rattle.sram_layout.specs.Bytes.{byte_count, byte_at}
 use Rattle.sram_layout.specs.Cells.{entry_at}
-use Rattle.addr_tables.specs.Changes.{entry_cell, is_in, Forgets, in_tables, forgotten_byte, forgotten}
+use Rattle.sram_layout.specs.Regions.{place_tables, is_within}
+use Rattle.addr_tables.specs.Changes.{entry_cell, is_in, Forgets, forgotten_byte, forgotten}
 
-outside : (a : ℕ) → (a < 0x0180) ⊎ (0x0400 ≤ a) → in_tables a ≡ false
+outside : (a : ℕ) → (a < place_tables.first) ⊎ (place_tables.behind ≤ a) → is_within place_tables a ≡ false
 outside a where_it_is = elim where_it_is [
   | inl low ↦ grind (arith, nat_tests)
   | inr high ↦ grind (arith, nat_tests)
 ]
 
-inside : (a : ℕ) → 0x0180 ≤ a → a < 0x0400 → in_tables a ≡ true
+inside : (a : ℕ) → place_tables.first ≤ a → a < place_tables.behind → is_within place_tables a ≡ true
 inside a from to = grind (arith, nat_tests)
 
 -- a byte of entry k
@@ -30,13 +31,13 @@ entry_byte page k b old new below near forgets = elim (cases_eq ((entry_at old (
 forgets_byte : (page a : ℕ) (old new : List ℕ) → 0x0100 ≤ a → Forgets page old new → byte_at new a ≡ forgotten_byte old page a
 forgets_byte page a old new from forgets =
     let test = is_in page (entry_at old (4 * (a / 4))) in
-    let rest : (a < 0x0180) ⊎ (0x0400 ≤ a) → byte_at new a ≡ forgotten_byte old page a = λ apart. forgets.rest.rest a from apart ∙ sym (ap (λ t. cond (t && test) 0 (byte_at old a)) (outside a apart)) in
-    elim (cases_lt a 0x0180) [
+    let rest : (a < place_tables.first) ⊎ (place_tables.behind ≤ a) → byte_at new a ≡ forgotten_byte old page a = λ apart. forgets.rest.rest a from apart ∙ sym (ap (λ t. cond (t && test) 0 (byte_at old a)) (outside a apart)) in
+    elim (cases_lt a place_tables.first) [
       | inl low ↦ rest (inl low)
-      | inr above ↦ elim (cases_lt a 0x0400) [
+      | inr above ↦ elim (cases_lt a place_tables.behind) [
         | inl below ↦
-            let k = (a - 0x0180) / 4 in
-            let b = (a - 0x0180) % 4 in
+            let k = (a - place_tables.first) / 4 in
+            let b = (a - place_tables.first) % 4 in
             let here : entry_cell k + b ≡ a = omega arith in
             let cell : entry_cell k ≡ 4 * (a / 4) = omega arith in
             ap (byte_at new) (sym here)

@@ -10,7 +10,8 @@ use Rattle.page_index.specs.Entries.{IsEntry}
 use Rattle.addr_tables.specs.Tables.{IsHeld, IsTables}
 use Rattle.addr_tables.specs.Hits.{aside_of, way_of}
 use Rattle.addr_tables.specs.Changes.{is_pair, moved_to_front, noted_in_set, noted, entry_cell, KeepsRest, SetHas, Notes}
-use Rattle.addr_tables.proofs.EntryLaws.{way_cell_is, written, not_written, rest_written, rest_same, rest_then, AllEntries, all_written, tables_all, all_tables}
+use Rattle.sram_layout.proofs.RegionLaws.{outside_same, outside_then}
+use Rattle.addr_tables.proofs.EntryLaws.{way_cell_is, written, not_written, rest_written, AllEntries, all_written, tables_all, all_tables}
 
 -- the number of the first entry of t's set in the row
 abbrev first_of_set : ℕ → ℕ
@@ -50,7 +51,7 @@ rest_moved m t place =
     let k = first_of_set t in
     let near : k + 1 < 160 = omega arith in
     let first = entry_at m (entry_cell k) in
-    rest_then m (with_entry m (entry_cell (k + 1)) first.0 first.1) _ (rest_written m (k + 1) first.0 first.1 near) (rest_written _ k t place (omega arith))
+    outside_then (rest_written m (k + 1) first.0 first.1 near) (rest_written _ k t place (omega arith))
 
 -- what holds of a set that stays and of one that moves holds of the set with the pair noted
 set_by : (P : List ℕ → Type 0) (m : List ℕ) (t place : ℕ) → P m → P (moved m t place) → P (noted_in_set m t place)
@@ -79,7 +80,7 @@ all_noted P m t place long here all =
 pub rest_noted : (m : List ℕ) (t place : ℕ) → KeepsRest m (noted m t place)
 unfolding noted
 rest_noted m t place =
-    rest_then m (noted_in_set m t place) _ (set_by (KeepsRest m) m t place (rest_same m) (rest_moved m t place)) (rest_written (noted_in_set m t place) (t % 32) t place (omega arith))
+    outside_then (set_by (KeepsRest m) m t place (outside_same m) (rest_moved m t place)) (rest_written (noted_in_set m t place) (t % 32) t place (omega arith))
 
 -- the tables stay right where the place is that of t's entry
 pub noted_tables : (layout : Layout) (m words : List ℕ) (t place : ℕ) → length m ≡ byte_count → IsEntry layout words t place → IsTables layout m words → IsTables layout (noted m t place) words

@@ -1,10 +1,11 @@
 -- What the calls leave in SRAM (docs/LOADER.md, "The tables of places").
-use Rattle.std.specs.Prelude.{◌≡◌, ◌≢◌, ℕ, ◌+◌, ◌*◌, ◌/◌, ◌<◌, ◌≤◌, ◌⊎◌, ◌==◌, ◌&&◌, ◌||◌, nat_le, nat_lt, Bool, if◌then◌else◌, List, length, map, Option, Some, None}
+use Rattle.std.specs.Prelude.{◌≡◌, ◌≢◌, ℕ, ◌+◌, ◌*◌, ◌/◌, ◌<◌, ◌⊎◌, ◌==◌, ◌&&◌, ◌||◌, Bool, if◌then◌else◌, List, map, Option, Some, None}
 use Rattle.std.specs.List.{range_with_len}
 use Rattle.flash_model.specs.Pages.{page_words}
 use Rattle.flash_model.specs.declared.layout.Layout.{Layout}
 use Rattle.sram_layout.specs.Bytes.{first_address, byte_count, byte_at}
-use Rattle.sram_layout.specs.Cells.{entry_at, with_entry}
+use Rattle.sram_layout.specs.Cells.{aside_cell, entry_at, with_entry}
+use Rattle.sram_layout.specs.Regions.{place_tables, is_within, KeepsOutside}
 use Rattle.page_index.specs.Entries.{IsEntry}
 use Rattle.addr_tables.specs.Hits.{aside_of, way_of, hit}
 
@@ -30,12 +31,11 @@ noted sram t place = with_entry (noted_in_set sram t place) (aside_of t) t place
 
 -- entry k of the 160 of both tables, as they stand in SRAM: the 32 of the look-aside table, then the two of each set
 abbrev pub entry_cell : ℕ → ℕ
-entry_cell k = 0x0180 + 4 * k
+entry_cell k = aside_cell k
 
 -- only bytes of the two tables change
-pub record KeepsRest (old new : List ℕ) : Type 0 where
-  pub size : length new ≡ length old
-  pub rest : (a : ℕ) → 0x0100 ≤ a → (a < 0x0180) ⊎ (0x0400 ≤ a) → byte_at new a ≡ byte_at old a
+abbrev pub KeepsRest : (old new : List ℕ) → Type 0
+KeepsRest old new = KeepsOutside place_tables old new
 
 -- one of the two entries of t's set is (t, place)
 abbrev pub SetHas : List ℕ → ℕ → ℕ → Type 0
@@ -82,11 +82,8 @@ pub record Forgets (page : ℕ) (old new : List ℕ) : Type 0 where
   pub rest : KeepsRest old new
 
 -- the same as a function: a byte of an entry with a place in the page is 0. Entries stand at multiples of 4.
-abbrev pub in_tables : ℕ → Bool
-in_tables a = nat_le 0x0180 a && nat_lt a 0x0400
-
 abbrev pub forgotten_byte : List ℕ → ℕ → ℕ → ℕ
-forgotten_byte sram page a = if in_tables a && is_in page (entry_at sram (4 * (a / 4))) then 0 else byte_at sram a
+forgotten_byte sram page a = if is_within place_tables a && is_in page (entry_at sram (4 * (a / 4))) then 0 else byte_at sram a
 
 unfoldable pub forgotten : List ℕ → ℕ → List ℕ
 forgotten sram page = map (forgotten_byte sram page) (range_with_len first_address byte_count)

@@ -1,17 +1,19 @@
 //! The search, and what changes in the tables.
 
-ghost use Rattle.std.specs.Prelude.{◌≡◌, ℕ, ◌+◌, ◌*◌, ◌/◌, ◌<◌, ◌↔◌, ◌≢◌, List, Option, length, Some as Just, None as Nothing};
+ghost use Rattle.std.specs.Prelude.{◌≡◌, ℕ, ◌+◌, ◌*◌, ◌/◌, ◌<◌, ◌↔◌, ◌≢◌, List, Option, length, Some as Just, None as Nothing, IfErr};
+ghost use Rattle.std.specs.Result.{result_ok};
 ghost use Rattle.flash_model.specs.Layouts.{IsRight};
 ghost use Rattle.flash_model.specs.declared.layout.Layout.{Layout as LayoutOf};
 ghost use Rattle.sram_layout.specs.Bytes.{byte_count};
 ghost use Rattle.sram_layout.specs.Cells.{aside_cell, way_cell};
 ghost use Rattle.page_index.specs.Entries.{IsEntry, IsMapped};
+ghost use Rattle.page_index.specs.Surveys.{IsSurvey};
 ghost use Rattle.addr_tables.specs.Tables.{IsTables};
 ghost use Rattle.addr_tables.specs.Hits.{hit as hit_of, is_of as is_of_test};
 ghost use Rattle.addr_tables.specs.Changes.{is_pair as is_pair_test, is_in as is_in_test, noted_in_set, noted, noted_if, without_entry, forgotten, Finds, Notes, Forgets, HasNoneIn, StaysOutside};
 
 use flash_model::{Flash, Layout};
-use page_index::entry;
+use page_index::{Places, Survey};
 use sram_layout::Sram;
 
 /// How many entries the look-aside table has.
@@ -35,21 +37,93 @@ pub fn find(sram: &mut Sram, flash: &Flash, layout: &Layout, t: u16) -> Option<u
         → (v : ℕ) → (result ≡ Just v) ↔ IsEntry layout.now flash.now.words t v }
     ensures size { (length sram.old ≡ byte_count) × (length sram.new ≡ byte_count) }
 {
-    let place = look_up(sram, flash, layout, t)?;
+    find_known(sram, flash, layout, &mut Places::new(), t)
+}
+
+/// The same with hints at the places of the pool's entries.
+pub fn find_known(
+    sram: &mut Sram,
+    flash: &Flash,
+    layout: &Layout,
+    places: &mut Places,
+    t: u16,
+) -> Option<u16>
+    requires right { IsRight layout.now }
+    requires mapped { hit_of sram.old t ≡ Nothing → IsMapped layout.now flash.now.words }
+    ensures finds { Finds layout.now flash.now.words sram.old sram.new t result }
+    ensures tables { IsTables layout.now sram.old flash.now.words → IsTables layout.now sram.new flash.now.words }
+    ensures entry { IsTables layout.now sram.old flash.now.words → IsMapped layout.now flash.now.words
+        → (v : ℕ) → (result ≡ Just v) ↔ IsEntry layout.now flash.now.words t v }
+    ensures size { (length sram.old ≡ byte_count) × (length sram.new ≡ byte_count) }
+{
+    let place = known_place(sram, flash, layout, places, t)?;
     note(sram, t, place);
     Some(place)
 }
 
 /// The place, from the tables or from the pool.
-fn look_up(sram: &Sram, flash: &Flash, layout: &Layout, t: u16) -> Option<u16>
+fn known_place(
+    sram: &Sram,
+    flash: &Flash,
+    layout: &Layout,
+    places: &mut Places,
+    t: u16,
+) -> Option<u16>
     requires right { IsRight layout.now }
     requires mapped { hit_of sram.now t ≡ Nothing → IsMapped layout.now flash.now.words }
     ensures found { Finds layout.now flash.now.words sram.now (noted_if sram.now t result) t result }
     ensures size { length sram.now ≡ byte_count }
 {
     match hit(sram, t) {
-        None => entry(flash, layout, t),
+        None => places.known(flash, layout, t),
         Some(place) => Some(place),
+    }
+}
+
+/// The same for one who makes a page of `t` where it has none: where neither the tables nor the pool have a place, an
+/// `Err` tells what that page wants to know of the pool.
+pub fn find_by(
+    sram: &mut Sram,
+    flash: &Flash,
+    layout: &Layout,
+    places: &mut Places,
+    t: u16,
+) -> Result<u16, Survey>
+    requires right { IsRight layout.now }
+    requires mapped { hit_of sram.old t ≡ Nothing → IsMapped layout.now flash.now.words }
+    ensures finds { Finds layout.now flash.now.words sram.old sram.new t (result_ok result) }
+    ensures survey { IfErr result (IsSurvey layout.now flash.now.words (t / 128)) }
+    ensures tables { IsTables layout.now sram.old flash.now.words → IsTables layout.now sram.new flash.now.words }
+    ensures entry { IsTables layout.now sram.old flash.now.words → IsMapped layout.now flash.now.words
+        → (v : ℕ) → (result_ok result ≡ Just v) ↔ IsEntry layout.now flash.now.words t v }
+    ensures size { (length sram.old ≡ byte_count) × (length sram.new ≡ byte_count) }
+{
+    match look_up(sram, flash, layout, places, t) {
+        Ok(place) => {
+            note(sram, t, place);
+            Ok(place)
+        }
+        Err(survey) => Err(survey),
+    }
+}
+
+/// The place, or what a page of `t` wants to know.
+fn look_up(
+    sram: &Sram,
+    flash: &Flash,
+    layout: &Layout,
+    places: &mut Places,
+    t: u16,
+) -> Result<u16, Survey>
+    requires right { IsRight layout.now }
+    requires mapped { hit_of sram.now t ≡ Nothing → IsMapped layout.now flash.now.words }
+    ensures found { Finds layout.now flash.now.words sram.now (noted_if sram.now t (result_ok result)) t (result_ok result) }
+    ensures survey { IfErr result (IsSurvey layout.now flash.now.words (t / 128)) }
+    ensures size { length sram.now ≡ byte_count }
+{
+    match hit(sram, t) {
+        None => places.find(flash, layout, t),
+        Some(place) => Ok(place),
     }
 }
 

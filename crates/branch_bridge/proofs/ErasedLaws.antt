@@ -7,6 +7,7 @@ use Rattle.flash_model.specs.Operations.{erased_page}
 use Rattle.flash_model.specs.Layouts.{IsRight, image_of}
 use Rattle.flash_model.specs.declared.layout.Layout.{Layout}
 use Rattle.sram_layout.specs.Bytes.{byte_count}
+use Rattle.sram_layout.specs.Cells.{ring_cell}
 use Rattle.sram_layout.proofs.Laws.{byte_out_of_word}
 use Rattle.page_index.specs.Maps.{IsPool, IsFree}
 use Rattle.page_index.specs.Entries.{IsEntry}
@@ -19,7 +20,7 @@ use Rattle.branch_bridge.specs.declared.arrival.Refused.{Refused}
 use Rattle.branch_bridge.specs.declared.arrival.Moved.{Moved}
 use Rattle.branch_bridge.specs.Operating.{with_torn}
 use Rattle.branch_bridge.specs.Unresolving.{IsApart}
-use Rattle.branch_bridge.specs.Arrivals.{Store, Kept, ring_cell, ring_of, turned, torn_in}
+use Rattle.branch_bridge.specs.Arrivals.{Store, Kept, ring_of, turned, torn_in}
 use Rattle.nat_page.specs.Links.{IsUnresolved}
 use Rattle.sram_layout.proofs.Laws.{word_same}
 use Rattle.std.proofs.lemmas.Nat.{mod_below}

@@ -5,6 +5,7 @@ pub mod ResolveLaws
 pub mod RecycleLaws
 pub mod MakeLaws
 pub mod ErasedLaws
+mod SurveyLaws
 pub mod ThroughLaws
 mod KnownLaws
 pub mod TriedLaws

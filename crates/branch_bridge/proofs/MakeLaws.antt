@@ -6,6 +6,7 @@ use Rattle.flash_model.specs.declared.layout.Layout.{Layout}
 use Rattle.flash_model.specs.Memory.{Memory}
 use Rattle.flash_model.specs.Operations.{fails, left_by_refusal, programmed_page, next_op}
 use Rattle.sram_layout.specs.Bytes.{byte_count}
+use Rattle.sram_layout.specs.Cells.{ring_cell}
 use Rattle.page_index.specs.Maps.{IsPool, IsFree}
 use Rattle.nat_page.specs.Faithful.{IsFaithful}
 use Rattle.nat_page.specs.Making.{IsPrepared, MakesPage}
@@ -19,7 +20,7 @@ use Rattle.branch_bridge.specs.declared.rewriting.ResolveStop.{ResolveStop}
 use Rattle.branch_bridge.specs.declared.arrival.Refused.{Refused}
 use Rattle.branch_bridge.specs.declared.arrival.Moved.{Moved}
 use Rattle.branch_bridge.specs.Operating.{Program, Performed, perform, lacking, with_torn, stop_at}
-use Rattle.branch_bridge.specs.Arrivals.{Store, Makes, Made, NotMade, recycled_page, refused_by, torn_in, made_in, one_if, ring_of, ring_cell, Kept}
+use Rattle.branch_bridge.specs.Arrivals.{Store, Makes, Made, NotMade, recycled_page, refused_by, torn_in, made_in, one_if, ring_of, Kept}
 use Rattle.std.specs.Prelude.{if◌then◌else◌, IfOk, ◌||◌}
 use Rattle.nat_page.specs.Used.{used_pages}
 use Rattle.nat_page.proofs.UsedLaws.{used_made}

@@ -2,23 +2,16 @@
 use Rattle.std.proofs.Common.{◌≡◌, ℕ, ◌+◌, ◌%◌, ◌<◌, ◌≤◌, ◌⊎◌, List, arith, refl, ◌∙◌, inl, inr, ap₂, ◌*◌}
 use Rattle.sram_layout.specs.Bytes.{data_word_at}
 use Rattle.sram_layout.specs.Boot.{at_boot}
+use Rattle.sram_layout.specs.Cells.{ring_cell}
+use Rattle.sram_layout.specs.Regions.{place_cells, place_tables}
 use Rattle.sram_layout.proofs.BootLaws.{boot_zero}
 use Rattle.sram_layout.proofs.Laws.{length-with_word, byte_out_of_word}
 use Rattle.flash_model.specs.declared.layout.Layout.{Layout}
 use Rattle.addr_tables.specs.Changes.{KeepsRest}
-use Rattle.branch_bridge.specs.Arrivals.{ring_cell, ring_of, turned, KeepsOtherBytes}
-
-pub others_same : (m : List ℕ) → KeepsOtherBytes m m
-others_same m = record { size = refl; rest = λ a from apart. refl }
-
-pub others_then : (m m' m'' : List ℕ) → KeepsOtherBytes m m' → KeepsOtherBytes m' m'' → KeepsOtherBytes m m''
-others_then m m' m'' first second = record {
-  size = second.size ∙ first.size;
-  rest = λ a from apart. second.rest a from apart ∙ first.rest a from apart;
-}
+use Rattle.branch_bridge.specs.Arrivals.{ring_of, turned, KeepsOtherBytes}
 
 -- where the tables alone change, and where RING does
-beside_tables : (a : ℕ) → (a < 0x0142) ⊎ (0x0400 ≤ a) → (a < 0x0180) ⊎ (0x0400 ≤ a)
+beside_tables : (a : ℕ) → (a < place_cells.first) ⊎ (place_cells.behind ≤ a) → (a < place_tables.first) ⊎ (place_tables.behind ≤ a)
 beside_tables a apart = elim apart [
   | inl below ↦ inl (omega arith)
   | inr above ↦ inr above

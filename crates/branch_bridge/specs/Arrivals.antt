@@ -2,7 +2,9 @@
 -- (docs/LOADER.md, "An arrival"). An operation on flash that is refused ends it: what comes before is done, it and
 -- what comes after is not.
 use Rattle.std.specs.Prelude.{◌≡◌, ◌≢◌, ℕ, ◌+◌, ◌*◌, ◌/◌, ◌%◌, ◌<◌, ◌≤◌, ◌==◌, ◌⊎◌, Bool, true, false, if◌then◌else◌, List, length, [], ◌∷◌, min, Option, Some, None, Result, Ok, Err, IfOk, IfSome, MatchOption, ⊤}
-use Rattle.sram_layout.specs.Bytes.{byte_at, data_word_at, with_word}
+use Rattle.sram_layout.specs.Bytes.{data_word_at, with_word}
+use Rattle.sram_layout.specs.Cells.{ring_cell}
+use Rattle.sram_layout.specs.Regions.{place_cells, KeepsOutside}
 use Rattle.flash_model.specs.Memory.{Memory}
 use Rattle.flash_model.specs.Operations.{next_op, fails, left_by_refusal, erased_page}
 use Rattle.flash_model.specs.Layouts.{image_of}
@@ -38,20 +40,16 @@ pub record Store : Type 0 where
   pub flash : Memory
   pub sram : List ℕ
 
--- RING: the number within the pool of the page to recycle next
-abbrev pub ring_cell : ℕ
-ring_cell = 0x0142
-
+-- the number within the pool of the page to recycle next
 abbrev pub ring_of : List ℕ → ℕ
 ring_of sram = data_word_at sram ring_cell
 
 abbrev pub turned : Layout → List ℕ → List ℕ
 turned layout sram = with_word sram ring_cell ((ring_of sram + 1) % layout.pool_pages)
 
--- of SRAM's bytes only those of RING and of the two tables change
-pub record KeepsOtherBytes (old new : List ℕ) : Type 0 where
-  pub size : length new ≡ length old
-  pub rest : (a : ℕ) → 0x0100 ≤ a → (a < 0x0142) ⊎ (0x0400 ≤ a) → byte_at new a ≡ byte_at old a
+-- of SRAM's bytes only those of RING and of the tables of places change
+abbrev pub KeepsOtherBytes : (old new : List ℕ) → Type 0
+KeepsOtherBytes old new = KeepsOutside place_cells old new
 
 -- what is told of the page, where it was erased to be made again, and of an operation on flash that was refused
 abbrev pub recycled_page : Bool → ℕ → Option ℕ

@@ -1,9 +1,10 @@
 //! One arrival.
 
-ghost use Rattle.std.specs.Prelude.{◌≡◌, ◌+◌, ◌*◌, ◌<◌, ◌≤◌, ◌^◌, ◌↔◌, true, false, ◌||◌, min, IsErrOf, length, None as Nothing};
+ghost use Rattle.std.specs.Prelude.{◌≡◌, ◌+◌, ◌*◌, ◌/◌, ◌<◌, ◌≤◌, ◌^◌, ◌↔◌, true, false, ◌||◌, min, IsErrOf, length, None as Nothing};
 ghost use Rattle.sram_layout.specs.Bytes.{byte_count};
 ghost use Rattle.flash_model.specs.Layouts.{IsRight, image_of};
 ghost use Rattle.page_index.specs.Maps.{IsPool, IsFree};
+ghost use Rattle.page_index.specs.Entries.{AreKnown};
 ghost use Rattle.nat_page.specs.Faithful.{IsFaithful};
 ghost use Rattle.nat_page.specs.Making.{HasNoEntry, HasNoFree};
 ghost use Rattle.branch_bridge.specs.Operating.{Program, lacking as lacking_of, with_torn};
@@ -14,14 +15,14 @@ ghost use Rattle.branch_bridge.specs.declared.arrival.ArriveStop.TheVariants as 
 
 use crate::rewriting::Torn;
 use crate::unresolving::unresolve;
-use addr_tables::{find, forget_page, note};
+use addr_tables::{find_by, forget_page, note};
 use flash_model::{Flash, Layout};
-use nat_page::prepare;
-use page_index::free_page;
+use nat_page::prepare_with;
+use page_index::{Places, known_offsets};
 use sram_layout::Sram;
 
-/// Where RING stands.
-const RING: u16 = 0x0142;
+/// How many words a page of flash has.
+pub(crate) const PAGE_WORDS: u16 = 128;
 
 /// Why control can't go on at an original address.
 #[derive(Clone, Copy, Debug, PartialEq, Eq)]
@@ -77,21 +78,46 @@ pub fn arrive(sram: &mut Sram, flash: &mut Flash, layout: &Layout, t: u16) -> Re
     ensures rest { KeepsOtherBytes sram.old sram.new }
     ensures wild { IsErrOf result (record { why = stops.Wild t; torn = Nothing }) ↔ (layout.now.image_words ≤ t) }
 {
+    arrive_by(sram, flash, layout, &mut Places::new(), t)
+}
+
+/// The same with hints at the places of entries: the pool is searched only where neither the tables nor a hint have one.
+pub fn arrive_by(
+    sram: &mut Sram,
+    flash: &mut Flash,
+    layout: &Layout,
+    places: &mut Places,
+    t: u16,
+) -> Result<Moved, Refused>
+    requires right { IsRight layout.now }
+    requires code { IsFaithful layout.now (image_of layout.now flash.old.words) flash.old.words }
+    requires ring { ring_of sram.old < layout.now.pool_pages }
+    requires room { flash.old.ops < 2 ^ 61 }
+    ensures arrives { Arrives layout.now (record { flash = flash.old; sram = sram.old }) (record { flash = flash.new; sram = sram.new }) t result }
+    ensures kept { Kept layout.now (record { flash = flash.old; sram = sram.old }) (record { flash = flash.new; sram = sram.new }) t result }
+    ensures used { used_pages layout.now (with_torn flash.new.words (torn_in result)) ≡ min (used_pages layout.now flash.old.words + one_if (made_in result)) layout.now.pool_pages }
+    ensures tried { Tried layout.now flash.old flash.new (stopped_by (refusal_in result)) }
+    ensures rest { KeepsOtherBytes sram.old sram.new }
+    ensures wild { IsErrOf result (record { why = stops.Wild t; torn = Nothing }) ↔ (layout.now.image_words ≤ t) }
+{
     if t >= layout.image_words {
         return Err(Refused {
             why: ArriveStop::Wild { address: t },
             torn: None,
         });
     }
-    if let Some(place) = find(sram, flash, layout, t) {
-        return Ok(Moved {
-            place,
-            made: false,
-            recycled: None,
-        });
-    }
-    match free_page(flash, layout) {
-        Some(page) => make_page(sram, flash, layout, page, t, false),
+    let survey = match find_by(sram, flash, layout, places, t) {
+        Ok(place) => {
+            return Ok(Moved {
+                place,
+                made: false,
+                recycled: None,
+            });
+        }
+        Err(survey) => survey,
+    };
+    match survey.free {
+        Some(page) => make_page(sram, flash, layout, &survey.known, page, t, false),
         None => recycle(sram, flash, layout, t),
     }
 }
@@ -110,7 +136,7 @@ fn recycle(sram: &mut Sram, flash: &mut Flash, layout: &Layout, t: u16) -> Resul
     ensures rest { KeepsOtherBytes sram.old sram.new }
     ensures kept { Kept layout.now (record { flash = flash.old; sram = sram.old }) (record { flash = flash.new; sram = sram.new }) t result }
 {
-    let victim = layout.pool_first + ring(sram);
+    let victim = layout.pool_first + sram.ring();
     match unresolve(flash, layout, victim) {
         Ok(()) => {}
         Err(stop) => {
@@ -131,21 +157,24 @@ fn recycle(sram: &mut Sram, flash: &mut Flash, layout: &Layout, t: u16) -> Resul
         }
     }
     turn(sram, layout);
-    make_page(sram, flash, layout, victim, t, true)
+    let known = known_offsets(flash, layout, t / PAGE_WORDS);
+    make_page(sram, flash, layout, &known, victim, t, true)
 }
 
-/// Makes the page of `t` in this page, which is free, and notes its place. `again` says that it was erased for
-/// that.
+/// Makes the page of `t` in this page, which is free, and notes its place. `known` tells which addresses of `t`'s
+/// original page have entries, `again` that the page was erased for this.
 fn make_page(
     sram: &mut Sram,
     flash: &mut Flash,
     layout: &Layout,
+    known: &[bool; 128],
     page: u16,
     t: u16,
     again: bool,
 ) -> Result<Moved, Refused>
     requires right { IsRight layout.now }
     requires code { IsFaithful layout.now (image_of layout.now flash.old.words) flash.old.words }
+    requires known { AreKnown layout.now flash.old.words (t / 128) known.now }
     requires pool { IsPool layout.now page }
     requires free { IsFree flash.old.words page }
     requires inside { t < layout.now.image_words }
@@ -157,7 +186,7 @@ fn make_page(
     ensures used { used_pages layout.now (with_torn flash.new.words (torn_in result)) ≡ used_pages layout.now flash.old.words + one_if (again || made_in result) }
     ensures rest { KeepsOtherBytes sram.old sram.new }
 {
-    let prepared = prepare(flash, layout, page, t);
+    let prepared = prepare_with(flash, layout, known, page, t);
     match flash.program(page, &prepared.words) {
         Ok(()) => {
             note(sram, t, prepared.place);
@@ -195,23 +224,12 @@ fn lacking(again: bool, page: u16, words: &[u16; 128]) -> Option<Torn>
     }
 }
 
-/// The number within the pool of the page to recycle next.
-#[tactic(auto, unfolding(sram_layout::specs::Bytes::data_word_at))]
-fn ring(sram: &Sram) -> u16
-    ensures value { result ≡ ring_of sram.now }
-{
-    u16::from(sram.byte(RING)) + 256 * u16::from(sram.byte(RING + 1))
-}
-
-/// Goes on to the next.
-#[tactic(auto, unfolding(sram_layout::specs::Bytes::with_word))]
+/// Makes RING name the next page.
 fn turn(sram: &mut Sram, layout: &Layout)
     requires right { IsRight layout.now }
     requires ring { ring_of sram.old < layout.now.pool_pages }
     ensures after { sram.new ≡ turned layout.now sram.old }
     ensures size { (length sram.old ≡ byte_count) × (length sram.new ≡ byte_count) }
 {
-    let next = (ring(sram) + 1) % layout.pool_pages;
-    sram.set(RING, (next % 256) as u8);
-    sram.set(RING + 1, (next / 256) as u8);
+    sram.set_ring((sram.ring() + 1) % layout.pool_pages);
 }

@@ -9,11 +9,12 @@ ghost use Rattle.addr_tables.specs.Tables.{IsTables};
 ghost use Rattle.branch_bridge.specs.Arrivals.{ArrivesFrom, CameThrough, KeptThrough, KeepsParts, went_on, ring_of, to_resolve as to_resolve_of, refused_by};
 ghost use Rattle.branch_bridge.specs.Operating.{stop_of};
 
-use crate::arrival::{ArriveStop, Refused, arrive};
+use crate::arrival::{ArriveStop, Moved, PAGE_WORDS, Refused, arrive_by};
 use crate::resolving::resolve;
 use crate::rewriting::ResolveStop;
-use addr_tables::find;
+use addr_tables::find_known;
 use flash_model::{Flash, Layout};
+use page_index::Places;
 use sram_layout::Sram;
 
 /// How an arrival went.
@@ -27,12 +28,14 @@ pub struct Arrival {
     pub refused: Option<Refused>,
 }
 
-/// An arrival where the tables are right. `stub` is the word address of the call of the kernel's bridge through
-/// which control came, if it came so: that stub is resolved, unless its page was recycled for the arrival.
+/// An arrival where the tables are right, with hints at the places of entries. `stub` is the word address of the call of
+/// the kernel's bridge through which control came, if it came so: that stub is resolved, unless its page was recycled
+/// for the arrival.
 pub fn arrive_from(
     sram: &mut Sram,
     flash: &mut Flash,
     layout: &Layout,
+    places: &mut Places,
     t: u16,
     stub: Option<u16>,
 ) -> Arrival
@@ -46,7 +49,7 @@ pub fn arrive_from(
     ensures kept { KeptThrough layout.now (record { flash = flash.old; sram = sram.old }) (record { flash = flash.new; sram = sram.new }) t result }
     ensures parts { KeepsParts layout.now (record { flash = flash.old; sram = sram.old }) (record { flash = flash.new; sram = sram.new }) t stub result }
 {
-    let moved = match arrive(sram, flash, layout, t) {
+    let moved = match arrive_by(sram, flash, layout, places, t) {
         Ok(moved) => moved,
         Err(refused) => {
             return Arrival {
@@ -56,6 +59,7 @@ pub fn arrive_from(
             };
         }
     };
+    note_made(places, flash, moved);
     let refused = match to_resolve(moved.recycled, stub) {
         Some(stub) => refusal(resolve(flash, layout, stub, moved.place)),
         None => None,
@@ -74,6 +78,7 @@ pub fn arrive_known(
     sram: &mut Sram,
     flash: &Flash,
     layout: &Layout,
+    places: &mut Places,
     t: u16,
     stub: Option<u16>,
 ) -> Option<u16>
@@ -89,7 +94,14 @@ pub fn arrive_known(
     match stub {
         Some(_) => None,
         None if t >= layout.image_words => None,
-        None => find(sram, flash, layout, t),
+        None => find_known(sram, flash, layout, places, t),
+    }
+}
+
+/// Notes hints at the entries of the page that was made, if one was.
+fn note_made(places: &mut Places, flash: &Flash, moved: Moved) {
+    if moved.made {
+        places.note_page(flash, moved.place / PAGE_WORDS);
     }
 }
 
@@ -100,7 +112,13 @@ fn to_resolve(recycled: Option<u16>, stub: Option<u16>) -> Option<u16>
     match (recycled, stub) {
         (_, None) => None,
         (None, Some(stub)) => Some(stub),
-        (Some(page), Some(stub)) => { if page == stub / 128 { None } else { Some(stub) } }
+        (Some(page), Some(stub)) => {
+            if page == stub / PAGE_WORDS {
+                None
+            } else {
+                Some(stub)
+            }
+        }
     }
 }
 

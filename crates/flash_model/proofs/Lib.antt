@@ -1,5 +1,6 @@
 mod Programming
 mod Renewing
+mod PageSetLaws
 mod FailingLaws
 mod WorkedOperations
 pub mod PageLaws

@@ -4,3 +4,5 @@ pub mod Operations
 pub mod Failing
 pub mod Layouts
 pub mod Code
+pub mod Jumps
+pub mod Kept

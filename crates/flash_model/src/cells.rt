@@ -14,7 +14,7 @@ use tk_io::NoMemory;
 pub(crate) const WORDS: usize = 65536;
 
 /// The pages of flash.
-const PAGES: usize = 512;
+pub(crate) const PAGES: usize = 512;
 
 /// The words of a page.
 pub(crate) const PAGE_WORDS: usize = 128;

@@ -1,15 +1,16 @@
-//! Flash: its words, and what is decoded of them.
+//! Flash: its words, and what is kept beside them.
 
 ghost use Rattle.std.specs.Prelude.{◌≡◌, ◌≤◌, ◌<◌, ◌^◌, true, false, [], ◌∷◌, length, OnOk, OnErr, IfOk, IfErr, slice_index};
 ghost use Rattle.flash_model.specs.Pages.{page_count, word_at, page_of, blank, programmed};
 ghost use Rattle.flash_model.specs.Memory.{IsWhole, erased_flash, new_flash};
 ghost use Rattle.flash_model.specs.Operations.{next_op, fails, left_by_refusal, erased_page, programmed_page, renewed, Erase, Program, perform, refusal_of};
 ghost use Rattle.flash_model.specs.Code.{decoded_at};
+ghost use Rattle.flash_model.specs.Jumps.{HasNoJumpInto};
 
-use crate::cells::{Cells, PAGE_WORDS, WORDS};
-use crate::code::{no_code, renew, renew_blank, renew_changed, words_to_program};
+use crate::cells::{Cells, PAGE_WORDS};
 use crate::decoded::Decoded;
 use crate::failing::FlashStop;
+use crate::kept::{Kept, words_to_program};
 use std::alloc::Global;
 use std::marker::Model;
 use tk_io::NoMemory;
@@ -18,19 +19,18 @@ use tk_io::NoMemory;
 #[derive(Drop)]
 pub struct Flash {
     cells: Cells,
-    /// What is decoded at each word address.
-    code: Vec<Decoded>,
+    kept: Kept,
 }
 
 impl Model for Flash {
     ghost use Rattle.flash_model.specs.Memory.{Memory, IsWhole};
-    ghost use Rattle.flash_model.specs.Code.{IsDecoded};
+    ghost use Rattle.flash_model.specs.Kept.{IsKept};
 
     ghost Value = { Memory };
 
     ghost view = { λ f. f.cells };
 
-    ghost invariant = { λ f. IsWhole f.cells × IsDecoded f.cells.words f.code.items };
+    ghost invariant = { λ f. IsWhole f.cells × IsKept f.cells.words f.kept };
 }
 
 impl Flash {
@@ -42,9 +42,8 @@ impl Flash {
         ensures whole { IfOk result IsWhole }
     {
         let cells = Cells::new(alloc, image, failing)?;
-        let mut code = no_code(alloc)?;
-        renew(&cells, &mut code, 0, WORDS);
-        Ok(Flash { cells, code })
+        let kept = Kept::new(alloc, &cells)?;
+        Ok(Flash { cells, kept })
     }
 
     /// A flash whose words are all erased, the kernel's too, before any operation; none is to fail.
@@ -53,9 +52,8 @@ impl Flash {
         ensures whole { IfOk result IsWhole }
     {
         let cells = Cells::erased(alloc)?;
-        let mut code = no_code(alloc)?;
-        renew(&cells, &mut code, 0, WORDS);
-        Ok(Flash { cells, code })
+        let kept = Kept::new(alloc, &cells)?;
+        Ok(Flash { cells, kept })
     }
 
     /// The word at a word address.
@@ -82,7 +80,16 @@ impl Flash {
         ensures range { (1 ≤ result.now.next_size) × (result.now.next_size ≤ 2) }
         ensures whole { IsWhole self.now }
     {
-        &self.code[a as usize]
+        self.kept.decoded(a)
+    }
+
+    /// Whether the page may have a jump, a JMP, into the target. Where this is false it has none.
+    pub fn may_jump_into(&self, page: u16, target: u16) -> bool
+        requires { page < page_count }
+        ensures none { result ≡ false → HasNoJumpInto self.now.words page target }
+        ensures whole { IsWhole self.now }
+    {
+        self.kept.may_jump_into(page, target)
     }
 
     /// How often the page was erased, 4,294,967,295 for this many times or more.
@@ -135,7 +142,7 @@ impl Flash {
         ensures whole { IsWhole self.old × IsWhole self.new }
     {
         self.cells.erase(page)?;
-        renew_blank(&self.cells, &mut self.code, page);
+        self.kept.renew_blank(&self.cells, page);
         Ok(())
     }
 
@@ -160,12 +167,8 @@ impl Flash {
     {
         self.cells.program(page, words)?;
         let first = PAGE_WORDS * page as usize;
-        renew_changed(
-            &self.cells,
-            &mut self.code,
-            first,
-            first + words_to_program(words),
-        );
+        self.kept
+            .renew_changed(&self.cells, first, first + words_to_program(words));
         Ok(())
     }
 }

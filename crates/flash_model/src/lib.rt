@@ -20,11 +20,12 @@
 //! `proofs/WordLaws.antt` that words of 16 bits stay so, and `proofs/OperationLaws.antt` those of operations in
 //! a row.
 //!
-//! [`Flash::decoded`] gives what is kept decoded at a word address (`decoded.rt`). The words themselves
-//! are in `cells.rt`; behind each operation on a page, `code.rt` decodes anew what is read of the words that
-//! changed. That what is kept is what the words mean (`specs/Code.antt`) is an invariant of [`Flash`], and
-//! contracts see the words alone. `failing.rt` finds the next number that is listed, so an operation compares
-//! its own with one (`specs/Failing.antt`).
+//! [`Flash::decoded`] gives what is kept decoded at a word address (`decoded.rt`), and [`Flash::may_jump_into`] asks
+//! the set that is kept for a page (`page_set.rt`), which has each page that a jump in it leads into. The words
+//! themselves are in `cells.rt`; behind each operation on a page, `kept.rt` makes anew what is kept of the words that
+//! changed. That what is kept is what the words mean (`specs/Kept.antt`) is an invariant of [`Flash`], and contracts
+//! see the words alone. `failing.rt` finds the next number that is listed, so an operation compares its own with one
+//! (`specs/Failing.antt`).
 //!
 //! Each call ensures that the flash is whole: 65,536 words of 16 bits in 512 pages (`IsWhole`). So a
 //! caller has a word's range from any call, as `c.word.ensures.whole.words_fit a`.
@@ -34,12 +35,13 @@
 #![tactic(auto)]
 
 mod cells;
-mod code;
 mod decoded;
 mod failing;
 mod flash;
 mod image;
+mod kept;
 mod layout;
+mod page_set;
 
 pub use decoded::Decoded;
 pub use failing::FlashStop;

@@ -64,7 +64,7 @@ boot_frame page = no_frame at_boot page (λ i inside. not_true (holds at_boot pa
 boot_byte : (w : List (List ℕ)) (a : ℕ) (stack heap : Bool) → is_stack a ≡ stack → is_heap a ≡ heap → a < 65536 → virtual_byte at_boot w a ≡ 0
 boot_byte w a true heap in_stack in_heap below =
     let from = stack_from a in_stack in
-    stack_byte at_boot w a in_stack ∙ boot_zero a (omega arith) (stack_to a in_stack) (inr (omega arith))
+    stack_byte at_boot w a in_stack ∙ boot_zero a (omega arith) (let to = stack_to a in_stack in omega arith) (inr (omega arith))
 boot_byte w a false true in_stack in_heap below =
     page_byte at_boot w a in_heap ∙ byte_in_slot at_boot w (a / 256) (a % 256) (boot_frame (a / 256)) ∙ byte_of_no_slot at_boot w (a / 256) (a % 256) (boot_no_slot (a / 256) (omega arith))
 boot_byte w a false false in_stack in_heap below = no_byte at_boot w a in_stack in_heap

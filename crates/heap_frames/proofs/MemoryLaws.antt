@@ -3,6 +3,7 @@ use Rattle.std.proofs.Common.{◌≡◌, ℕ, ◌/◌, ◌%◌, ◌<◌, ◌≤�
 use Rattle.std.specs.Prelude.{◌≢◌, Bool, true, false, slice_index, slice_set}
 use Rattle.std.proofs.lemmas.Bool.Decides.{nat_tests}
 use Rattle.sram_layout.specs.Bytes.{byte_at}
+use Rattle.sram_layout.specs.Regions.{stack_window}
 use Rattle.heap_frames.specs.Addresses.{is_stack, is_heap}
 use Rattle.heap_frames.specs.Memory.{heap_byte, virtual_byte, vmem}
 use Rattle.heap_frames.proofs.Tables.{table_item, table_same, table_set, length-table}
@@ -12,13 +13,13 @@ use Rattle.heap_frames.proofs.EntryLaws.{page_below}
 pub heap_no_stack : (a : ℕ) → is_heap a ≡ true → is_stack a ≡ false
 heap_no_stack a heap = grind (arith, nat_tests)
 
-pub stack_from : (a : ℕ) → is_stack a ≡ true → 0x0D00 ≤ a
+pub stack_from : (a : ℕ) → is_stack a ≡ true → stack_window.first ≤ a
 stack_from a stack = grind (arith, nat_tests)
 
-pub stack_to : (a : ℕ) → is_stack a ≡ true → a ≤ 0x10FF
+pub stack_to : (a : ℕ) → is_stack a ≡ true → a < stack_window.behind
 stack_to a stack = grind (arith, nat_tests)
 
-pub in_window : (a : ℕ) → 0x0D00 ≤ a → a ≤ 0x10FF → is_stack a ≡ true
+pub in_window : (a : ℕ) → stack_window.first ≤ a → a < stack_window.behind → is_stack a ≡ true
 in_window a from to = grind (arith, nat_tests)
 
 pub heap_below : (a : ℕ) → is_heap a ≡ true → a < 65536

@@ -3,7 +3,9 @@ use Rattle.std.proofs.Common.{◌≡◌, ℕ, ◌+◌, ◌/◌, ◌%◌, ◌<◌
 use Rattle.std.specs.Prelude.{◌≢◌, Bool, true, Option, Some, None, if◌then◌else◌, slice_set}
 use Rattle.sram_layout.specs.Bytes.{byte_count, byte_at, with_byte, block_at, with_word}
 use Rattle.sram_layout.specs.Cells.{frame_cell, victim_cell, given_cell, slot_cell}
-use Rattle.sram_layout.proofs.Laws.{length-with_byte, length-with_word, byte_same, byte_other, byte_out_of_word, block_alike}
+use Rattle.sram_layout.specs.Regions.{frame_cells, swap_map, frames, stack_window, through, KeepsRegion}
+use Rattle.sram_layout.proofs.RegionLaws.{region_beside}
+use Rattle.sram_layout.proofs.Laws.{length-with_byte, byte_same, byte_other, byte_out_of_word, block_alike}
 use Rattle.heap_frames.specs.Frames.{frame_bytes, page_held, state_of, is_occupied, resident_pages, frame_of, victim, given, slot_of, has_slot, pages}
 use Rattle.heap_frames.specs.Memory.{heap_byte, vmem}
 use Rattle.heap_frames.specs.Paged.{IsPaged}
@@ -24,42 +26,34 @@ same_paging_trans l m n first second = record {
   tables = λ b from to. second.tables b from to ∙ first.tables b from to;
 }
 
--- an address outside
-apart_cells : (a b : ℕ) → (a < 0x0120) ⊎ ((0x0141 < a) × (a < 0x0400)) ⊎ (0x0D00 ≤ a) → 0x0120 ≤ b → b ≤ 0x0141 → b ≢ a
-apart_cells a b (inl low) from to = λ same. omega arith
-apart_cells a b (inr (inl (above, below))) from to = λ same. omega arith
-apart_cells a b (inr (inr high)) from to = λ same. omega arith
-
-apart_tables : (a b : ℕ) → (a < 0x0120) ⊎ ((0x0141 < a) × (a < 0x0400)) ⊎ (0x0D00 ≤ a) → 0x0400 ≤ b → b ≤ 0x0CFF → b ≢ a
-apart_tables a b (inl low) from to = λ same. omega arith
-apart_tables a b (inr (inl (above, below))) from to = λ same. omega arith
-apart_tables a b (inr (inr high)) from to = λ same. omega arith
+-- an address outside lies outside both regions
+beside : (a : ℕ) → (a < frame_cells.first) ⊎ ((frame_cells.behind ≤ a) × (a < swap_map.first)) ⊎ (stack_window.first ≤ a) → ((a < frame_cells.first) ⊎ (frame_cells.behind ≤ a)) × ((a < swap_map.first) ⊎ (frames.behind ≤ a))
+beside a (inl low) = (inl low, inl (omega arith))
+beside a (inr (inl (above, below))) = (inr above, inl below)
+beside a (inr (inr high)) = (inr (omega arith), inr high)
 
 -- a byte written outside
-pub same_paging_byte : (m : List ℕ) (a v : ℕ) → 0x0100 ≤ a → (a < 0x0120) ⊎ ((0x0141 < a) × (a < 0x0400)) ⊎ (0x0D00 ≤ a) → SamePaging m (with_byte m a v)
-same_paging_byte m a v from outside = record {
-  size = length-with_byte m a v;
-  cells = λ b low high. byte_other m a b v from (omega arith) (apart_cells a b outside low high);
-  tables = λ b low high. byte_other m a b v from (omega arith) (apart_tables a b outside low high);
-}
+pub same_paging_byte : (m : List ℕ) (a v : ℕ) → 0x0100 ≤ a → (a < frame_cells.first) ⊎ ((frame_cells.behind ≤ a) × (a < swap_map.first)) ⊎ (stack_window.first ≤ a) → SamePaging m (with_byte m a v)
+same_paging_byte m a v from outside =
+    let apart = beside a outside in
+    record { size = length-with_byte m a v; cells = region_beside frame_cells m a v from (omega arith) apart.0; tables = region_beside (through swap_map frames) m a v from (omega arith) apart.1 }
 
-one_more : (a : ℕ) → (a + 1 < 0x0120) ⊎ ((0x0141 < a) × (a + 1 < 0x0400)) ⊎ (0x0D00 ≤ a) → (a + 1 < 0x0120) ⊎ ((0x0141 < a + 1) × (a + 1 < 0x0400)) ⊎ (0x0D00 ≤ a + 1)
+one_more : (a : ℕ) → (a + 1 < frame_cells.first) ⊎ ((frame_cells.behind ≤ a) × (a + 1 < swap_map.first)) ⊎ (stack_window.first ≤ a) → (a + 1 < frame_cells.first) ⊎ ((frame_cells.behind ≤ a + 1) × (a + 1 < swap_map.first)) ⊎ (stack_window.first ≤ a + 1)
 one_more a (inl low) = inl low
 one_more a (inr (inl (above, below))) = inr (inl (omega arith, below))
 one_more a (inr (inr high)) = inr (inr (omega arith))
 
-one_less : (a : ℕ) → (a + 1 < 0x0120) ⊎ ((0x0141 < a) × (a + 1 < 0x0400)) ⊎ (0x0D00 ≤ a) → (a < 0x0120) ⊎ ((0x0141 < a) × (a < 0x0400)) ⊎ (0x0D00 ≤ a)
+one_less : (a : ℕ) → (a + 1 < frame_cells.first) ⊎ ((frame_cells.behind ≤ a) × (a + 1 < swap_map.first)) ⊎ (stack_window.first ≤ a) → (a < frame_cells.first) ⊎ ((frame_cells.behind ≤ a) × (a < swap_map.first)) ⊎ (stack_window.first ≤ a)
 one_less a (inl low) = inl (omega arith)
 one_less a (inr (inl (above, below))) = inr (inl (above, omega arith))
 one_less a (inr (inr high)) = inr (inr high)
 
 -- a word written outside
-pub same_paging_word : (m : List ℕ) (a w : ℕ) → 0x0100 ≤ a → (a + 1 < 0x0120) ⊎ ((0x0141 < a) × (a + 1 < 0x0400)) ⊎ (0x0D00 ≤ a) → SamePaging m (with_word m a w)
-same_paging_word m a w from outside = record {
-  size = length-with_word m a w;
-  cells = λ b low high. byte_out_of_word m a b w from (omega arith) (apart_cells a b (one_less a outside) low high) (apart_cells (a + 1) b (one_more a outside) low high);
-  tables = λ b low high. byte_out_of_word m a b w from (omega arith) (apart_tables a b (one_less a outside) low high) (apart_tables (a + 1) b (one_more a outside) low high);
-}
+pub same_paging_word : (m : List ℕ) (a w : ℕ) → 0x0100 ≤ a → (a + 1 < frame_cells.first) ⊎ ((frame_cells.behind ≤ a) × (a + 1 < swap_map.first)) ⊎ (stack_window.first ≤ a) → SamePaging m (with_word m a w)
+unfolding with_word
+same_paging_word m a w from outside =
+    let low = with_byte m a (w % 256) in
+    same_paging_trans m low (with_byte low (a + 1) (w / 256)) (same_paging_byte m a (w % 256) from (one_less a outside)) (same_paging_byte low (a + 1) (w / 256) (omega arith) (one_more a outside))
 
 pub victim_same : (m n : List ℕ) → SamePaging m n → victim n ≡ victim m
 victim_same m n same = same.cells victim_cell (omega arith) (omega arith)
@@ -137,23 +131,23 @@ pub heap_byte_same : (m n : List ℕ) (w : List (List ℕ)) (page offset : ℕ) 
 heap_byte_same m n w page offset same below inside = byte_by m n w page offset (frame_of m page) refl same below inside
 
 -- the whole memory, where the stack window stays too
-pub vmem_same : (m n : List ℕ) (w : List (List ℕ)) → SamePaging m n → ((a : ℕ) → 0x0D00 ≤ a → a ≤ 0x10FF → byte_at n a ≡ byte_at m a) → vmem n w ≡ vmem m w
+pub vmem_same : (m n : List ℕ) (w : List (List ℕ)) → SamePaging m n → KeepsRegion stack_window m n → vmem n w ≡ vmem m w
 vmem_same m n w same window = same_memory {m = m} {n = n} {w = w} {w' = w} (record {
   window = λ a stack always. window a (stack_from a stack) (stack_to a stack);
   heap = λ a below in_heap always. heap_byte_same m n w (a / 256) (a % 256) same (omega arith) (omega arith);
 })
 
 -- a byte of the kernel's other cells and tables is no byte of the memory
-pub vmem_cell : (m : List ℕ) (w : List (List ℕ)) (a v : ℕ) → 0x0100 ≤ a → (a < 0x0120) ⊎ ((0x0141 < a) × (a < 0x0400)) → vmem (with_byte m a v) w ≡ vmem m w
-vmem_cell m w a v from (inl low) = vmem_same m (with_byte m a v) w (same_paging_byte m a v from (inl low)) (λ b above to. byte_other m a b v from (omega arith) (λ same. omega arith))
-vmem_cell m w a v from (inr (above, below)) = vmem_same m (with_byte m a v) w (same_paging_byte m a v from (inr (inl (above, below)))) (λ b low to. byte_other m a b v from (omega arith) (λ same. omega arith))
+pub vmem_cell : (m : List ℕ) (w : List (List ℕ)) (a v : ℕ) → 0x0100 ≤ a → (a < frame_cells.first) ⊎ ((frame_cells.behind ≤ a) × (a < swap_map.first)) → vmem (with_byte m a v) w ≡ vmem m w
+vmem_cell m w a v from (inl low) = vmem_same m (with_byte m a v) w (same_paging_byte m a v from (inl low)) (region_beside stack_window m a v from (omega arith) (inl (omega arith)))
+vmem_cell m w a v from (inr (above, below)) = vmem_same m (with_byte m a v) w (same_paging_byte m a v from (inr (inl (above, below)))) (region_beside stack_window m a v from (omega arith) (inl (omega arith)))
 
-pub vmem_word_cell : (m : List ℕ) (w : List (List ℕ)) (a v : ℕ) → 0x0100 ≤ a → (a + 1 < 0x0120) ⊎ ((0x0141 < a) × (a + 1 < 0x0400)) → vmem (with_word m a v) w ≡ vmem m w
+pub vmem_word_cell : (m : List ℕ) (w : List (List ℕ)) (a v : ℕ) → 0x0100 ≤ a → (a + 1 < frame_cells.first) ⊎ ((frame_cells.behind ≤ a) × (a + 1 < swap_map.first)) → vmem (with_word m a v) w ≡ vmem m w
 vmem_word_cell m w a v from (inl low) = vmem_same m (with_word m a v) w (same_paging_word m a v from (inl low)) (λ b above to. byte_out_of_word m a b v from (omega arith) (λ same. omega arith) (λ same. omega arith))
 vmem_word_cell m w a v from (inr (above, below)) = vmem_same m (with_word m a v) w (same_paging_word m a v from (inr (inl (above, below)))) (λ b low to. byte_out_of_word m a b v from (omega arith) (λ same. omega arith) (λ same. omega arith))
 
 -- a byte of the stack window is the memory's byte at the same address
-pub vmem_window : (m : List ℕ) (w : List (List ℕ)) (a v : ℕ) → length m ≡ byte_count → 0x0D00 ≤ a → a ≤ 0x10FF → vmem (with_byte m a v) w ≡ slice_set (vmem m w) a v
+pub vmem_window : (m : List ℕ) (w : List (List ℕ)) (a v : ℕ) → length m ≡ byte_count → stack_window.first ≤ a → a < stack_window.behind → vmem (with_byte m a v) w ≡ slice_set (vmem m w) a v
 vmem_window m w a v size from to =
     let n = with_byte m a v in
     one_byte {m = m} {n = n} {w = w} {w' = w} a v (record {

@@ -1,10 +1,11 @@
 -- Which data addresses of a program are its stack window and which its heap (docs/MEMORY.md, "Address classes").
 -- The pages of the heap have 256 bytes; an address a lies in page a / 256.
 use Rattle.std.specs.Prelude.{ℕ, ◌/◌, Bool, ◌&&◌, ◌||◌, nat_le}
+use Rattle.sram_layout.specs.Regions.{stack_window, is_within}
 
--- the stack window is 0x0D00 to 0x10FF
+-- an address of the stack window
 abbrev pub is_stack : ℕ → Bool
-is_stack a = nat_le 0x0D00 a && nat_le a 0x10FF
+is_stack a = is_within stack_window a
 
 -- the pages of the heap are 0x01 to 0x0C and 0x11 to 0xFF
 abbrev pub is_heap_page : ℕ → Bool

@@ -1,6 +1,6 @@
 -- What a load and a store of the heap leave (docs/MEMORY.md, "How a page is found"). The heap is SRAM's bytes and the swap's pages.
-use Rattle.std.specs.Prelude.{◌≡◌, ◌≢◌, ℕ, ◌+◌, ◌/◌, ◌%◌, ◌<◌, ◌≤◌, true, false, is_some, Option, None, Some, List, length, slice_index, slice_set, slice_index_or}
-use Rattle.sram_layout.specs.Bytes.{byte_at}
+use Rattle.std.specs.Prelude.{◌≡◌, ◌≢◌, ℕ, ◌+◌, ◌/◌, ◌%◌, ◌<◌, true, false, is_some, Option, None, Some, List, length, slice_index, slice_set, slice_index_or}
+use Rattle.sram_layout.specs.Regions.{template_cells, kernel_stack, place_cells, stack_window, through, KeepsRegion}
 use Rattle.heap_frames.specs.Frames.{resident_pages, frame_of, victim, given, slot_of, has_slot, pages}
 use Rattle.heap_frames.specs.Memory.{vmem}
 use Rattle.heap_frames.specs.Paged.{IsPaged}
@@ -8,9 +8,9 @@ use Rattle.heap_frames.specs.Paging.{Store}
 
 -- SRAM's bytes stay, but for the cells of frames and slots, the swap map and the frames themselves
 pub record LeavesOthers (m n : List ℕ) : Type 0 where
-  pub cells : (b : ℕ) → 0x0100 ≤ b → b < 0x0120 → byte_at n b ≡ byte_at m b
-  pub tables : (b : ℕ) → 0x0141 < b → b < 0x0400 → byte_at n b ≡ byte_at m b
-  pub window : (b : ℕ) → 0x0D00 ≤ b → b ≤ 0x10FF → byte_at n b ≡ byte_at m b
+  pub cells : KeepsRegion (through template_cells kernel_stack) m n
+  pub tables : KeepsRegion place_cells m n
+  pub window : KeepsRegion stack_window m n
 
 -- a frame holds the page in n. Where one did in m, all frames stay; else the next frame was replaced, and it alone
 pub record TakesFrame (m n : List ℕ) (page : ℕ) : Type 0 where

@@ -3,6 +3,7 @@ use Rattle.std.specs.Prelude.{ℕ, ◌+◌, ◌*◌, Bool, ◌&&◌, not, ◌==�
 use Rattle.std.specs.List.{range_with_len, find}
 use Rattle.sram_layout.specs.Bytes.{byte_at}
 use Rattle.sram_layout.specs.Cells.{frame_cell, victim_cell, given_cell, slot_cell}
+use Rattle.sram_layout.specs.Regions.{frames}
 
 -- a list of n items, of which f gives item i
 unfoldable pub table : {A : Type 0} → ℕ → (ℕ → A) → List A
@@ -24,7 +25,7 @@ no_slot = 0xFF
 
 -- the address of frame i's 256 bytes, i from 0 to 7
 abbrev pub frame_bytes : ℕ → ℕ
-frame_bytes i = 0x0500 + 256 * i
+frame_bytes i = frames.first + 256 * i
 
 -- the page that frame i's table entry names, and the frame's state
 abbrev pub page_held : List ℕ → ℕ → ℕ

@@ -3,6 +3,7 @@ use Rattle.std.proofs.Common.{◌≡◌, ℕ, ◌+◌, ◌-◌, ◌*◌, ◌<◌
 use Rattle.std.specs.Prelude.{◌≢◌}
 use Rattle.std.proofs.lemmas.Bool.{cases_eq}
 use Rattle.sram_layout.specs.Bytes.{byte_at, with_byte, data_word_at}
+use Rattle.sram_layout.specs.Regions.{stack_window}
 use Rattle.sram_layout.proofs.Laws.{length-with_byte, byte_same, byte_other}
 use Rattle.inline_laws.specs.InlineWays.{saved, with_pointer, with_pushed}
 
@@ -54,7 +55,7 @@ saved_same m low high status =
     cell_written m two 0x0102 status (omega arith) (omega arith) (cell_written m one 0x0106 high (omega arith) (omega arith) (cell_written m m 0x0105 low (omega arith) (omega arith) (same_cells m)))
 
 -- a byte of the program's stack written in both
-pub stack_written : (m n : List ℕ) (a v : ℕ) → length m ≡ 4096 → 0x0D00 ≤ a → a ≤ 0x10FF → SameButCells m n → SameButCells (with_byte m a v) (with_byte n a v)
+pub stack_written : (m n : List ℕ) (a v : ℕ) → length m ≡ 4096 → stack_window.first ≤ a → a < stack_window.behind → SameButCells m n → SameButCells (with_byte m a v) (with_byte n a v)
 stack_written m n a v long from to same = record {
   size = length-with_byte n a v ∙ same.size ∙ sym (length-with_byte m a v);
   front = λ b low high. byte_other n a b v (omega arith) low (λ e. omega arith) ∙ same.front b low high ∙ sym (byte_other m a b v (omega arith) low (λ e. omega arith));
@@ -95,5 +96,5 @@ pointer_low m p long =
 pub pointer_same : (m n : List ℕ) (p : ℕ) → SameButCells m n → SameButCells m (with_pointer n p)
 pointer_same m n p same = cell_written m (with_byte n 0x0103 (p % 256)) 0x0104 (p / 256) (omega arith) (omega arith) (cell_written m n 0x0103 (p % 256) (omega arith) (omega arith) same)
 
-pub pushed_same : (m n : List ℕ) (p x : ℕ) → length m ≡ 4096 → 0x0D00 ≤ p → p ≤ 0x10FF → SameButCells m n → SameButCells (with_byte m p x) (with_pushed n p x)
+pub pushed_same : (m n : List ℕ) (p x : ℕ) → length m ≡ 4096 → stack_window.first ≤ p → p < stack_window.behind → SameButCells m n → SameButCells (with_byte m p x) (with_pushed n p x)
 pushed_same m n p x long from to same = pointer_same (with_byte m p x) (with_byte n p x) (p - 1) (stack_written m n p x long from to same)

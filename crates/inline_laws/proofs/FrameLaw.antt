@@ -10,7 +10,9 @@ use Rattle.avr_isa.specs.Encoding.{second_word}
 use Rattle.avr_flags.specs.Pairs.{adiw_of}
 use Rattle.avr_exec.specs.Registers.{wrapping_sum}
 use Rattle.sram_layout.specs.Bytes.{byte_at, with_byte}
-use Rattle.nat_template.specs.Inline.{save, restore, guard, trap, width_of, load_forms, store_forms}
+use Rattle.sram_layout.specs.Regions.{stack_window}
+use Rattle.nat_template.specs.Words.{width_of}
+use Rattle.nat_template.specs.Inline.{save, restore, guard, trap, load_forms, store_forms}
 use Rattle.mote_core.specs.declared.mote.Mote.{Mote}
 use Rattle.mote_core.specs.QuietSteps.{IsQuiet, held, flash_form, z_of, with_z}
 use Rattle.mote_core.proofs.StepsByAnswer.{keeps_above}
@@ -48,7 +50,7 @@ frame_points m v to q p access can fits is row =
     frame_block m (v + 1) to m.cpu.r m.cpu.sreg m.cpu.sreg (slice_index m.cpu.r 31) (v + 2 + 2 + 1 + 2) (saved_of m) q (y_of m) p (guard 11 9 ++ behind_guard access) can.registers refl is (omega arith) (omega arith) (omega arith) row.1.1.1.1
 
 -- an access of one step, inside the window: to these registers and bytes
-frame_inside : (m : Mote) (v q p : ℕ) (access : Form) (r : List ℕ) (sram : List ℕ) → CanPass m v → width_of access ≡ 1 → wrapping_sum (y_of m) q ≡ p → 0x0D00 ≤ p → p ≤ 0x10FF → Row m.flash.words v (frame_forms q access)
+frame_inside : (m : Mote) (v q p : ℕ) (access : Form) (r : List ℕ) (sram : List ℕ) → CanPass m v → width_of access ≡ 1 → wrapping_sum (y_of m) q ≡ p → stack_window.first ≤ p → p < stack_window.behind → Row m.flash.words v (frame_forms q access)
     → slice_index r 30 ≡ slice_index m.cpu.r 30 → slice_index r 31 ≡ slice_index m.cpu.r 31 → 31 < length r → Holds (slice_index m.cpu.r 30) (slice_index m.cpu.r 31) m.cpu.sreg sram
     → ((s pc : ℕ) → pc + 1 < 65536 → flash_form m pc ≡ Some access → IsQuiet (held m (with_z m.cpu.r p) s pc (saved_of m)) (held m (with_z r p) s (pc + 1) sram))
     → Passes (v + 1) (v + 32) 15 (begun m v) (held m r m.cpu.sreg (v + 32) sram)

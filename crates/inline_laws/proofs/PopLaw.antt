@@ -10,6 +10,7 @@ use Rattle.avr_isa.specs.Encoding.{second_word}
 use Rattle.avr_flags.specs.Pairs.{adiw_of}
 use Rattle.avr_exec.specs.Registers.{wrapping_sum}
 use Rattle.sram_layout.specs.Bytes.{byte_at, with_byte, data_word_at}
+use Rattle.sram_layout.specs.Regions.{stack_window}
 use Rattle.nat_template.specs.Inline.{restore, from_pointer, to_pointer, guarded, back, trap, pop_forms}
 use Rattle.mote_core.specs.declared.mote.Mote.{Mote}
 use Rattle.mote_core.specs.QuietSteps.{IsQuiet, held, flash_form, z_of, with_z}
@@ -27,13 +28,13 @@ abbrev access : ℕ → List Form
 access d = LoadOff d Z 0 ∷ to_pointer
 
 -- LD d, Z, where Z is p
-pub load_step : (m : Mote) (r : List ℕ) (s v : ℕ) (sram : List ℕ) (d p : ℕ) → 31 < length r → 0x0D00 ≤ p → p ≤ 0x10FF → d ≢ 30 → d ≢ 31 → v + 1 < 65536 → flash_form m v ≡ Some (LoadOff d Z 0)
+pub load_step : (m : Mote) (r : List ℕ) (s v : ℕ) (sram : List ℕ) (d p : ℕ) → 31 < length r → stack_window.first ≤ p → p < stack_window.behind → d ≢ 30 → d ≢ 31 → v + 1 < 65536 → flash_form m v ≡ Some (LoadOff d Z 0)
     → IsQuiet (held m (with_z r p) s v sram) (held m (with_z (slice_set r d (byte_at sram p)) p) s (v + 1) sram)
 load_step m r s v sram d p long bottom top apart apart' room is =
     let there : p % 256 + 256 * (p / 256) ≡ p = omega arith in
     quiet_ld_z m (with_z r p) (with_z (slice_set r d (byte_at sram p)) p) s v sram d p is (z_of_halves r (p % 256) (p / 256) long ∙ there) (stack_sram p bottom top) room (set_other r (p % 256) (p / 256) d (byte_at sram p) long apart apart')
 
-pop_access : (m : Mote) (from to : ℕ) (r : List ℕ) (s v : ℕ) (sram : List ℕ) (d p : ℕ) (rest : List Form) → 31 < length r → 0x0D00 ≤ p → p ≤ 0x10FF → d ≢ 30 → d ≢ 31
+pop_access : (m : Mote) (from to : ℕ) (r : List ℕ) (s v : ℕ) (sram : List ℕ) (d p : ℕ) (rest : List Form) → 31 < length r → stack_window.first ≤ p → p < stack_window.behind → d ≢ 30 → d ≢ 31
     → from ≤ v → v + 5 ≤ to → v + 16 < 65536 → Row m.flash.words v (access d ++ rest)
     → Passes from to 3 (held m (with_z r p) s v sram) (held m (with_z (slice_set r d (byte_at sram p)) p) s (v + 1 + 2 + 2) (with_pointer sram p))
 unfolding second_word
@@ -76,7 +77,7 @@ pop_points m v to d p can fits is row =
     (pointer_byte_saved m.sram a b s 0x0103 (omega arith) (omega arith)) (pointer_byte_saved m.sram a b s 0x0104 (omega arith) (omega arith)) (omega arith) (omega arith) (omega arith) row.1.1.1.1)
     (last, omega arith, omega arith, raise_step m m.cpu.r low high s (v1 + 2 + 2) (saved_of m) 1 p (guarded (access d)) can.registers is (omega arith) row.1.1.1.1.1.1, refl)
 
-pop_inside : (m : Mote) (v d p : ℕ) → CanPass m v → d ≢ 30 → d ≢ 31 → wrapping_sum (data_word_at m.sram 0x0103) 1 ≡ p → 0x0D00 ≤ p → p ≤ 0x10FF → Row m.flash.words v (pop_forms d)
+pop_inside : (m : Mote) (v d p : ℕ) → CanPass m v → d ≢ 30 → d ≢ 31 → wrapping_sum (data_word_at m.sram 0x0103) 1 ≡ p → stack_window.first ≤ p → p < stack_window.behind → Row m.flash.words v (pop_forms d)
     → Passes (v + 1) (v + 39) 18 (begun m v) (held m (slice_set m.cpu.r d (byte_at m.sram p)) m.cpu.sreg (v + 39) (with_pointer (saved_of m) p))
 unfolding second_word pop_forms
 pop_inside m v d p can apart apart' is bottom top row =

@@ -8,6 +8,7 @@ use Rattle.avr_isa.specs.declared.operation.Base.TheVariants.{Z}
 use Rattle.avr_isa.specs.Encoding.{second_word}
 use Rattle.avr_flags.specs.Pairs.{sbiw_of}
 use Rattle.sram_layout.specs.Bytes.{byte_at, with_byte, data_word_at}
+use Rattle.sram_layout.specs.Regions.{stack_window}
 use Rattle.nat_template.specs.Inline.{restore, from_pointer, to_pointer, guarded, back, trap, push_forms}
 use Rattle.mote_core.specs.declared.mote.Mote.{Mote}
 use Rattle.mote_core.specs.QuietSteps.{held, z_of, with_z}
@@ -30,7 +31,7 @@ lowered_z r low high p long is some fits =
     let value : (z_of (with_halves r low high) + 65536 - 1) % 65536 ≡ p - 1 = omega (arith, z_of_halves r low high long) in
     ap (with_z (with_halves r low high)) value ∙ set_halves r low high ((p - 1) % 256) ((p - 1) / 256) long
 
-push_access : (m : Mote) (from to : ℕ) (r : List ℕ) (low high s v : ℕ) (sram : List ℕ) (d p : ℕ) (rest : List Form) → 31 < length r → low + 256 * high ≡ p → 0x0D00 ≤ p → p ≤ 0x10FF → d ≢ 30 → d ≢ 31
+push_access : (m : Mote) (from to : ℕ) (r : List ℕ) (low high s v : ℕ) (sram : List ℕ) (d p : ℕ) (rest : List Form) → 31 < length r → low + 256 * high ≡ p → stack_window.first ≤ p → p < stack_window.behind → d ≢ 30 → d ≢ 31
     → from ≤ v → v + 6 ≤ to → v + 16 < 65536 → Row m.flash.words v (access d ++ rest)
     → Passes from to 4 (held m (with_halves r low high) s v sram) (held m (with_z r (p - 1)) (sbiw_of s (z_of (with_halves r low high)) 1).1 (v + 1 + 1 + 2 + 2) (with_pushed sram p (slice_index r d)))
 unfolding second_word
@@ -75,7 +76,7 @@ push_points m v to d can fits row =
     pointer_block m (v + 1) to m.cpu.r s b s (v + 2 + 2 + 1 + 2) (saved_of m) (byte_at m.sram 0x0103) (byte_at m.sram 0x0104) (guarded (access d)) can.registers
     (pointer_byte_saved m.sram a b s 0x0103 (omega arith) (omega arith)) (pointer_byte_saved m.sram a b s 0x0104 (omega arith) (omega arith)) (omega arith) (omega arith) (omega arith) row.1.1.1.1
 
-push_inside : (m : Mote) (v d p : ℕ) → CanPass m v → d ≢ 30 → d ≢ 31 → data_word_at m.sram 0x0103 ≡ p → 0x0D00 ≤ p → p ≤ 0x10FF → Row m.flash.words v (push_forms d)
+push_inside : (m : Mote) (v d p : ℕ) → CanPass m v → d ≢ 30 → d ≢ 31 → data_word_at m.sram 0x0103 ≡ p → stack_window.first ≤ p → p < stack_window.behind → Row m.flash.words v (push_forms d)
     → Passes (v + 1) (v + 39) 18 (begun m v) (held m m.cpu.r m.cpu.sreg (v + 39) (with_pushed (saved_of m) p (slice_index m.cpu.r d)))
 unfolding second_word push_forms data_word_at
 push_inside m v d p can apart apart' is bottom top row =

@@ -1,8 +1,9 @@
 -- The ways through an inline template (docs/LOADER.md, "Inline templates"): inside the stack window to the word behind it,
 -- and outside to the kernel's service MEM, with everything that the program sees as before.
 use Rattle.std.specs.Prelude.{◌≡◌, ◌≢◌, ℕ, zero, suc, ◌+◌, ◌-◌, ◌*◌, ◌/◌, ◌%◌, ◌<◌, ◌≤◌, List, length, slice_index, slice_set}
-use Rattle.sram_layout.specs.Bytes.{byte_at, with_byte, data_word_at}
-use Rattle.sram_layout.specs.Cells.{sreg_cell, vsp_cell, z_cell}
+use Rattle.sram_layout.specs.Bytes.{byte_count, byte_at, with_byte, data_word_at}
+use Rattle.sram_layout.specs.Cells.{sreg_cell, vsp_cell, z_cell, kernel_stack_top}
+use Rattle.sram_layout.specs.Regions.{stack_window}
 use Rattle.nat_template.specs.Stubs.{mem_entry}
 use Rattle.nat_template.specs.Inline.{push_forms, pop_forms, load_forms, store_forms}
 use Rattle.avr_exec.specs.Registers.{wrapping_sum}
@@ -39,14 +40,14 @@ begun m v = held m m.cpu.r m.cpu.sreg (v + 2) (with_byte m.sram z_cell (slice_in
 -- At the entry of MEM with these bytes of SRAM: registers and SREG are the program's, and the address behind
 -- the call is on the kernel's stack, its low byte at the higher address.
 abbrev pub trapped : Mote → (back : ℕ) → List ℕ → Mote
-trapped m back sram = record m { cpu = record m.cpu { sp = 0x011D; pc = mem_entry }; sram = with_byte (with_byte sram 0x011F (back % 256)) 0x011E (back / 256) }
+trapped m back sram = record m { cpu = record m.cpu { sp = kernel_stack_top - 2; pc = mem_entry }; sram = with_byte (with_byte sram kernel_stack_top (back % 256)) (kernel_stack_top - 1) (back / 256) }
 
 -- What a template at v needs: all registers and bytes, the program's stack pointer in bytes, the kernel's stack empty.
 pub record CanPass (m : Mote) (v : ℕ) : Type 0 where
   pub registers : 31 < length m.cpu.r
-  pub size : length m.sram ≡ 4096
+  pub size : length m.sram ≡ byte_count
   pub pointer : byte_at m.sram vsp_cell < 256
-  pub top : m.cpu.sp ≡ 0x011F
+  pub top : m.cpu.sp ≡ kernel_stack_top
   pub room : v + 128 < 65536
 
 -- The template of `size` words at v that reaches this address of the program's memory. After its first step, `steps`
@@ -54,9 +55,9 @@ pub record CanPass (m : Mote) (v : ℕ) : Type 0 where
 -- lead to MEM.
 pub record Ways (m : Mote) (v size address steps lower upper : ℕ) (r sram : List ℕ) : Type 0 where
   pub first : IsQuiet (placed m v) (begun m v)
-  pub inside : 0x0D00 ≤ address → address ≤ 0x10FF → Passes (v + 1) (v + size) steps (begun m v) (held m r m.cpu.sreg (v + size) sram)
-  pub below : address < 0x0D00 → Passes (v + 1) (v + size) lower (begun m v) (trapped m (v + size - 1) (saved_of m))
-  pub above : 0x10FF < address → Passes (v + 1) (v + size) upper (begun m v) (trapped m (v + size - 1) (saved_of m))
+  pub inside : stack_window.first ≤ address → address < stack_window.behind → Passes (v + 1) (v + size) steps (begun m v) (held m r m.cpu.sreg (v + size) sram)
+  pub below : address < stack_window.first → Passes (v + 1) (v + size) lower (begun m v) (trapped m (v + size - 1) (saved_of m))
+  pub above : stack_window.behind ≤ address → Passes (v + 1) (v + size) upper (begun m v) (trapped m (v + size - 1) (saved_of m))
 
 -- the addresses: the stack pointer, the byte above it, and q on from Y
 abbrev pub pointer_of : Mote → ℕ

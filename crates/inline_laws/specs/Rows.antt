@@ -4,7 +4,7 @@ use Rattle.avr_isa.specs.declared.form.Form.{Form}
 use Rattle.avr_decode.specs.Decoding.{the_form}
 use Rattle.avr_exec.specs.Registers.{wrapping_sum}
 use Rattle.flash_model.specs.Pages.{word_at}
-use Rattle.nat_template.specs.Inline.{width_of}
+use Rattle.nat_template.specs.Words.{width_of}
 
 -- the first at the word address a
 abbrev pub Row : List ℕ → ℕ → List Form → Type 0

@@ -9,6 +9,7 @@ use Rattle.avr_exec.specs.Spaces.{Outcome, Went, Stopped}
 use Rattle.avr_exec.specs.Likeness.{Leaves as LeavesSpace}
 use Rattle.sram_layout.specs.Bytes.{byte_at, with_word}
 use Rattle.sram_layout.specs.Cells.{vsp_cell}
+use Rattle.sram_layout.specs.Regions.{frame_cells, place_cells, frames, through, KeepsRegion}
 use Rattle.sram_layout.proofs.Laws.{byte_out_of_word, length-with_word}
 use Rattle.heap_frames.specs.Paged.{IsPaged}
 use Rattle.heap_frames.specs.SamePaging.{SamePaging}
@@ -36,7 +37,7 @@ kept k form paged = executed_leaves form (core_of k (descriptor k)) (memory_of k
 pub leaves_rested : (k : Kernel) → Leaves k (rested k)
 leaves_rested k = record { stack = refl; flash = refl; layout = refl; part = refl; quantum = refl; slots = refl; size = refl; tables = λ b from to. refl; polls = omega arith; polled = λ apart. omega arith; paged = λ paged. paged }
 
-pub leaves_sram : (k next : Kernel) (m : List ℕ) → Leaves k next → SamePaging next.mote.sram m → ((b : ℕ) → 0x0142 ≤ b → b ≤ 0x03FF → byte_at m b ≡ byte_at next.mote.sram b) → Leaves k (with_sram next m)
+pub leaves_sram : (k next : Kernel) (m : List ℕ) → Leaves k next → SamePaging next.mote.sram m → KeepsRegion place_cells next.mote.sram m → Leaves k (with_sram next m)
 leaves_sram k next m left same tables = record {
   stack = left.stack;
   flash = left.flash;
@@ -90,11 +91,11 @@ leaves_execution k ask (Went core memory) paged left = record {
 leaves_execution k ask (Stopped stop) paged left = leaves_rested k
 
 -- the heap, where the instruction asks nothing of it
-heap_from : (m n : List ℕ) → SamePaging m n → ((b : ℕ) → 0x0142 ≤ b → b ≤ 0x03FF → byte_at n b ≡ byte_at m b) → (b : ℕ) → 0x0120 ≤ b → b ≤ 0x0CFF → byte_at n b ≡ byte_at m b
+heap_from : (m n : List ℕ) → SamePaging m n → KeepsRegion place_cells m n → KeepsRegion (through frame_cells frames) m n
 heap_from m n same tables b from to =
-    elim (cases_lt b 0x0142) [
-      | inl low ↦ same.cells b from (omega arith)
-      | inr high ↦ elim (cases_lt b 0x0400) [ inl low ↦ tables b high (omega arith) | inr above ↦ same.tables b above to ]
+    elim (cases_lt b place_cells.first) [
+      | inl low ↦ same.cells b from low
+      | inr high ↦ elim (cases_lt b place_cells.behind) [ inl low ↦ tables b high low | inr above ↦ same.tables b above to ]
     ]
 
 pub leaves_heap : (k next : Kernel) → Leaves k next → SamePaging k.mote.sram next.mote.sram → next.mote.swap ≡ k.mote.swap → LeavesHeap k next

@@ -3,6 +3,7 @@ use Rattle.std.proofs.Common.{◌≡◌, ℕ, ◌+◌, ◌*◌, ◌≤◌, List,
 use Rattle.avr_exec.specs.declared.cpu.Cpu.{Cpu}
 use Rattle.sram_layout.specs.Bytes.{byte_at, with_word, data_word_at}
 use Rattle.sram_layout.specs.Cells.{vsp_cell}
+use Rattle.sram_layout.specs.Regions.{stack_window, KeepsRegion}
 use Rattle.sram_layout.proofs.Laws.{word_same, byte_out_of_word}
 use Rattle.heap_frames.specs.Memory.{vmem}
 use Rattle.heap_frames.specs.SamePaging.{SamePaging}
@@ -20,7 +21,7 @@ abbrev viewed : View → (stack : ℕ) → (memory : List ℕ) → View
 viewed v stack memory = record v { stack_pointer = stack; memory = memory }
 
 -- other bytes of SRAM, of which the program sees nothing
-pub view_sram : (k : Kernel) (m : List ℕ) → SamePaging k.mote.sram m → ((a : ℕ) → 0x0D00 ≤ a → a ≤ 0x10FF → byte_at m a ≡ byte_at k.mote.sram a) → data_word_at m vsp_cell ≡ data_word_at k.mote.sram vsp_cell
+pub view_sram : (k : Kernel) (m : List ℕ) → SamePaging k.mote.sram m → KeepsRegion stack_window k.mote.sram m → data_word_at m vsp_cell ≡ data_word_at k.mote.sram vsp_cell
     → view_of (with_sram k m) ≡ view_of k
 view_sram k m same window stack =
     ap (λ p. record (viewed (view_of k) (data_word_at m vsp_cell) (vmem m k.mote.swap)) { pages = p }) (pages_same k.mote.sram m same)

@@ -1,5 +1,5 @@
 -- What the kernel has of the program (docs/LOADER.md, "What a service does").
-use Rattle.std.specs.Prelude.{ℕ, ◌+◌, ◌*◌, List, Option, None}
+use Rattle.std.specs.Prelude.{ℕ, ◌+◌, ◌-◌, ◌*◌, List, Option, None}
 use Rattle.avr_isa.specs.declared.form.Form.{Form}
 use Rattle.avr_decode.specs.Program.{instruction_at}
 use Rattle.avr_exec.specs.declared.cpu.Cpu.{Cpu}
@@ -12,7 +12,7 @@ use Rattle.kernel_entry.specs.declared.kernel.Kernel.{Kernel}
 
 -- the address behind the call of the kernel, where the call left it: its high byte at the lower address
 abbrev pub return_address : Kernel → ℕ
-return_address k = byte_at k.mote.sram 0x011E * 256 + byte_at k.mote.sram 0x011F
+return_address k = byte_at k.mote.sram (kernel_stack_top - 1) * 256 + byte_at k.mote.sram kernel_stack_top
 
 -- the word there: an address of the program
 abbrev pub descriptor : Kernel → ℕ

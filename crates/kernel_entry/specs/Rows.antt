@@ -1,6 +1,6 @@
 -- What each service does, entry by entry (docs/LOADER.md, "What a service does"). The address that a stop
 -- names, and where a step begins, is the descriptor.
-use Rattle.std.specs.Prelude.{◌≡◌, ℕ, ◌+◌, ◌≤◌, true, false, if◌then◌else◌, slice_set, Option, Some, None}
+use Rattle.std.specs.Prelude.{◌≡◌, ℕ, ◌+◌, ◌<◌, true, false, if◌then◌else◌, slice_set, Option, Some, None}
 use Rattle.avr_isa.specs.declared.form.Form.{Form}
 use Rattle.avr_isa.specs.declared.form.Form.TheVariants as forms
 use Rattle.avr_isa.specs.Crossing.{is_crossing}
@@ -15,7 +15,7 @@ use Rattle.mote_devices.specs.declared.line.Line.{Line}
 use Rattle.mote_devices.specs.State.{State}
 use Rattle.mote_devices.specs.Waking.{wake}
 use Rattle.sram_layout.specs.Bytes.{byte_at}
-use Rattle.sram_layout.specs.Cells.{r24_cell, sreg_cell}
+use Rattle.sram_layout.specs.Cells.{count_cell, r24_cell, sreg_cell}
 use Rattle.mem_guard.specs.FlatSpace.{FlatSpace, flat_calls, push_return, pop_return}
 use Rattle.mem_guard.specs.FlatMachine.{next_size, tried, Goes as GoesOn, Stops, Wakes}
 use Rattle.preempt_count.specs.Counting.{count_over}
@@ -62,7 +62,7 @@ pub record EndsQuantum (old : Kernel) (result : Served) (new : Kernel) : Type 0 
     status = byte_at old.mote.sram sreg_cell;
   }
   pub count : count_of new ≡ old.quantum
-  pub others : (b : ℕ) → 0x0101 ≤ b → byte_at new.mote.sram b ≡ byte_at old.mote.sram b
+  pub others : (b : ℕ) → count_cell < b → byte_at new.mote.sram b ≡ byte_at old.mote.sram b
 
 -- MEM: the instruction executed over flat memory; the program goes on behind it
 pub record HasExecuted (old : Kernel) (result : Served) (new : Kernel) (form : Form) (core : Cpu) (space : FlatSpace) : Type 0 where

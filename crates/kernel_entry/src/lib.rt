@@ -30,4 +30,4 @@ mod services;
 
 pub use interrupts::interrupt;
 pub use kernel::{Kernel, Served, Stop, Taken};
-pub use services::{serve, serve_told};
+pub use services::{has_interrupts, serve, serve_told};

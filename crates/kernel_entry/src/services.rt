@@ -282,7 +282,7 @@ fn called_instruction(k: &Kernel, at: u16) -> Instr
 }
 
 /// Whether the program has interrupts on.
-pub(crate) fn has_interrupts(k: &Kernel) -> bool
+pub fn has_interrupts(k: &Kernel) -> bool
     ensures value { result ≡ has_bit k.now.mote.cpu.sreg interrupts }
 {
     k.mote.cpu.sreg / 0x80 % 2 == 1

@@ -1,8 +1,8 @@
 -- What an access through the guarded space leaves of the mote's own parts.
-use Rattle.std.specs.Prelude.{◌≡◌, ℕ, ◌+◌, ◌<◌, ◌≤◌, length, slice_index}
+use Rattle.std.specs.Prelude.{◌≡◌, ℕ, ◌+◌, ◌≤◌, length, slice_index}
 use Rattle.avr_exec.specs.declared.ask.Ask.{Ask}
 use Rattle.avr_exec.specs.declared.ask.Ask.TheVariants.{Load as LoadAsk, Store as StoreAsk, Modify}
-use Rattle.sram_layout.specs.Bytes.{byte_at}
+use Rattle.sram_layout.specs.Regions.{template_cells, kernel_stack, place_cells, through, KeepsRegion}
 use Rattle.heap_frames.specs.Changes.{Loaded, Stored}
 use Rattle.heap_frames.specs.Memory.{vmem}
 use Rattle.heap_frames.specs.Paged.{IsPaged}
@@ -16,8 +16,8 @@ use Rattle.mem_guard.specs.Guarded.{Guarded, heap_of}
 -- the image stay; and one poll was made at most
 pub record IsKept (g next : Guarded) : Type 0 where
   pub paged : IsPaged next.sram next.swap
-  pub cells : (b : ℕ) → 0x0100 ≤ b → b < 0x0120 → byte_at next.sram b ≡ byte_at g.sram b
-  pub tables : (b : ℕ) → 0x0141 < b → b < 0x0400 → byte_at next.sram b ≡ byte_at g.sram b
+  pub cells : KeepsRegion (through template_cells kernel_stack) g.sram next.sram
+  pub tables : KeepsRegion place_cells g.sram next.sram
   pub slots : length next.swap ≡ length g.swap
   pub words : next.words ≡ g.words
   pub image : next.layout ≡ g.layout

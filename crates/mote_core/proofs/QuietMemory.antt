@@ -14,6 +14,7 @@ use Rattle.avr_exec.specs.Effects.{finish_of, loaded, stored}
 use Rattle.avr_exec.specs.Execution.{answered_by, answer_of, is_executed}
 use Rattle.avr_exec.specs.Spaces.{Went as WentOn}
 use Rattle.sram_layout.specs.Bytes.{byte_at, with_byte}
+use Rattle.sram_layout.specs.Regions.{stack_window}
 use Rattle.mote_core.specs.declared.mote.Mote.{Mote}
 use Rattle.mote_core.specs.Physical.{Physical, is_sram, with_sram, from_device, to_device, load, store, push_return, physical_calls}
 use Rattle.mote_devices.specs.Accesses.{read, write}
@@ -131,5 +132,5 @@ quiet_call m r s pc sram target is top below =
     (ap cpu' top) (keeps_stack sram ((pc + 2) % 256) ((pc + 2) / 256))
 
 -- an address of the program's stack is SRAM's
-pub stack_sram : (a : ℕ) → 0x0D00 ≤ a → a ≤ 0x10FF → is_sram a ≡ true
+pub stack_sram : (a : ℕ) → stack_window.first ≤ a → a < stack_window.behind → is_sram a ≡ true
 stack_sram a from to = grind (arith, nat_tests)

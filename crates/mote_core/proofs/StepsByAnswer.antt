@@ -1,5 +1,5 @@
 -- A step from the one answer of the space, and quiet steps in a row.
-use Rattle.std.proofs.Common.{◌≡◌, ℕ, zero, suc, ◌+◌, ◌<◌, ◌≤◌, Bool, true, List, refl, sym, ap, subst, arith, ◌∙◌}
+use Rattle.std.proofs.Common.{◌≡◌, ℕ, ◌<◌, ◌≤◌, ◌⊎◌, Bool, true, List, refl, ap, subst, arith, ◌∙◌, inl, inr}
 use Rattle.std.specs.Prelude.{Some, None, Option, ◌&&◌}
 use Rattle.avr_isa.specs.declared.form.Form.{Form}
 use Rattle.avr_exec.specs.declared.cpu.Cpu.{Cpu}
@@ -9,8 +9,9 @@ use Rattle.avr_exec.specs.Effects.{finish_of}
 use Rattle.avr_exec.specs.Execution.{answer_of, is_executed}
 use Rattle.avr_exec.specs.Spaces.{Went as WentOn}
 use Rattle.avr_exec.proofs.OneAnswer.{exec_went}
-use Rattle.sram_layout.specs.Bytes.{byte_at, with_byte}
-use Rattle.sram_layout.proofs.Laws.{byte_other}
+use Rattle.sram_layout.specs.Bytes.{first_address, with_byte}
+use Rattle.sram_layout.specs.Regions.{template_cells, kernel_stack, frames, between}
+use Rattle.sram_layout.proofs.RegionLaws.{region_beside}
 use Rattle.mote_devices.specs.State.{State}
 use Rattle.mote_core.specs.declared.mote.Mote.{Mote}
 use Rattle.mote_core.specs.declared.mote.Plain.{Plain}
@@ -19,7 +20,7 @@ use Rattle.mote_core.specs.Physical.{physical_calls}
 use Rattle.mote_core.specs.Conditions.{is_mapped, can_step}
 use Rattle.mote_core.specs.Shown.{line_shown}
 use Rattle.mote_core.specs.Step.{form_at, next_size, space_of, IsPlainStep}
-use Rattle.mote_core.specs.QuietSteps.{BelowStack, AboveStack, KeepsKernel, IsQuiet, Leads}
+use Rattle.mote_core.specs.QuietSteps.{KeepsKernel, IsQuiet}
 use Rattle.mote_core.proofs.Steps.{stepped_is}
 use Rattle.mote_core.proofs.KnownSteps.{one_step}
 
@@ -56,45 +57,29 @@ quiet_by m form answer sram cpu is executed mapped answered finish keeps = recor
 pub quiet_goes : (m next after : Mote) (shown : Plain) → IsQuiet m next → IsPlainStep m shown after → (after ≡ next) × (shown ≡ Went)
 quiet_goes m next after shown quiet step = one_step m after next shown Went step quiet.step
 
--- one quiet step is a row, and two rows make one
-pub leads_one : (a b : Mote) → IsQuiet a b → Leads 1 a b
-leads_one a b quiet = (b, (quiet, refl))
-
-pub leads_join : (n k : ℕ) (a b c : Mote) → Leads n a b → Leads k b c → Leads (n + k) a c
-leads_join zero k a b c same rest =
-    let P : Mote → ℕ → Type 0 = λ m i. Leads i m c in
-    subst (P a) (omega arith) (let Q : Mote → Type 0 = λ m. Leads k m c in subst Q (sym same) rest)
-leads_join (suc n) k a b c (next, (quiet, leads)) rest =
-    let all : Leads (suc (n + k)) a c = (next, (quiet, leads_join n k next b c leads rest)) in
-    let same : suc (n + k) ≡ suc n + k = omega arith in
-    let P : ℕ → Type 0 = λ i. Leads i a c in
-    subst P same all
-
--- a row of quiet steps leaves what each of them leaves
-pub leads_keeps : (n : ℕ) (m last : Mote) → Leads n m last → KeepsKernel m.sram last.sram
-leads_keeps zero m last same a kernels = ap (λ (x : Mote). byte_at x.sram a) (sym same)
-leads_keeps (suc n) m last (next, (quiet, leads)) a kernels = leads_keeps n next last leads a kernels ∙ quiet.keeps a kernels
-
-pub leads_leaves : (n : ℕ) (m last : Mote) → Leads n m last → (last.devices ≡ m.devices) × (last.flash ≡ m.flash) × (last.swap ≡ m.swap)
-leads_leaves zero m last same = (ap (λ (x : Mote). x.devices) (sym same), ap (λ (x : Mote). x.flash) (sym same), ap (λ (x : Mote). x.swap) (sym same))
-leads_leaves (suc n) m last (next, (quiet, leads)) =
-    let rest = leads_leaves n next last leads in
-    (rest.0 ∙ quiet.devices, rest.1 ∙ quiet.step.flash, rest.2 ∙ quiet.step.swap)
-
--- what keeps the kernel's memory: nothing written, a cell of the templates, a byte above, the kernel's stack
+-- what keeps the kernel's memory: nothing written, one write after another, a cell of the templates, a byte above, the
+-- kernel's stack
 pub keeps_same : (sram : List ℕ) → KeepsKernel sram sram
-keeps_same sram a kernels = refl
+keeps_same sram = record { below = λ a low high. refl; above = λ a low high. refl }
 
-pub keeps_cell : (sram : List ℕ) (a v : ℕ) → 0x0100 ≤ a → a < 0x0108 → KeepsKernel sram (with_byte sram a v)
-keeps_cell sram a v from to b (BelowStack low high) = byte_other sram a b v from (omega arith) (λ same. omega arith)
-keeps_cell sram a v from to b (AboveStack low high) = byte_other sram a b v from (omega arith) (λ same. omega arith)
+keeps_then : {m m' m'' : List ℕ} → KeepsKernel m m' → KeepsKernel m' m'' → KeepsKernel m m''
+keeps_then first second = record {
+  below = λ a low high. second.below a low high ∙ first.below a low high;
+  above = λ a low high. second.above a low high ∙ first.above a low high;
+}
 
-pub keeps_above : (sram : List ℕ) (a v : ℕ) → 0x0500 ≤ a → KeepsKernel sram (with_byte sram a v)
-keeps_above sram a v from b (BelowStack low high) = byte_other sram a b v (omega arith) (omega arith) (λ same. omega arith)
-keeps_above sram a v from b (AboveStack low high) = byte_other sram a b v (omega arith) (omega arith) (λ same. omega arith)
+keeps_byte : (sram : List ℕ) (a v : ℕ) → first_address ≤ a → (a < template_cells.behind) ⊎ (kernel_stack.first ≤ a) → (a < kernel_stack.behind) ⊎ (frames.first ≤ a) → KeepsKernel sram (with_byte sram a v)
+keeps_byte sram a v from low high = record {
+  below = region_beside (between template_cells kernel_stack) sram a v from (omega arith) low;
+  above = region_beside (between kernel_stack frames) sram a v from (omega arith) high;
+}
+
+pub keeps_cell : (sram : List ℕ) (a v : ℕ) → template_cells.first ≤ a → a < template_cells.behind → KeepsKernel sram (with_byte sram a v)
+keeps_cell sram a v from to = keeps_byte sram a v from (inl to) (inl (omega arith))
+
+pub keeps_above : (sram : List ℕ) (a v : ℕ) → frames.first ≤ a → KeepsKernel sram (with_byte sram a v)
+keeps_above sram a v from = keeps_byte sram a v (omega arith) (inr (omega arith)) (inr from)
 
 pub keeps_stack : (sram : List ℕ) (v w : ℕ) → KeepsKernel sram (with_byte (with_byte sram 0x011F v) 0x011E w)
-keeps_stack sram v w b (BelowStack low high) =
-    byte_other (with_byte sram 0x011F v) 0x011E b w (omega arith) (omega arith) (λ same. omega arith) ∙ byte_other sram 0x011F b v (omega arith) (omega arith) (λ same. omega arith)
-keeps_stack sram v w b (AboveStack low high) =
-    byte_other (with_byte sram 0x011F v) 0x011E b w (omega arith) (omega arith) (λ same. omega arith) ∙ byte_other sram 0x011F b v (omega arith) (omega arith) (λ same. omega arith)
+keeps_stack sram v w =
+    keeps_then (keeps_byte sram 0x011F v (omega arith) (inr (omega arith)) (inl (omega arith))) (keeps_byte (with_byte sram 0x011F v) 0x011E w (omega arith) (inr (omega arith)) (inl (omega arith)))

@@ -3,7 +3,7 @@ use Rattle.std.specs.Prelude.{◌≡◌, ℕ, ◌+◌, ◌≤◌, Bool, true, fa
 use Rattle.avr_exec.specs.declared.ask.Ask.{Ask}
 use Rattle.avr_exec.specs.declared.ask.Ask.TheVariants.{Load, Store, Modify, PushByte, PushReturn, ExtendedProgramRaising}
 use Rattle.avr_exec.specs.Registers.{wrapping_difference}
-use Rattle.sram_layout.specs.Bytes.{byte_at}
+use Rattle.sram_layout.specs.Bytes.{first_address, byte_at}
 use Rattle.mote_core.specs.declared.mote.Mote.{Mote}
 use Rattle.mote_core.specs.declared.mote.Plain.{Plain}
 use Rattle.mote_core.specs.declared.mote.Plain.TheVariants.{Went}
@@ -27,7 +27,7 @@ reaches_devices _ = false
 -- The bytes of SRAM that aren't written stay, the number of registers, flash and swap; the devices are polled once at most,
 -- and stay where they aren't reached: then the step shows nothing.
 pub record LeavesRest (ask : Ask) (m : Mote) (shown : Plain) (next : Mote) : Type 0 where
-  pub bytes : (b : ℕ) → 0x0100 ≤ b → is_written ask b ≡ false → byte_at next.sram b ≡ byte_at m.sram b
+  pub bytes : (b : ℕ) → first_address ≤ b → is_written ask b ≡ false → byte_at next.sram b ≡ byte_at m.sram b
   pub size : length next.sram ≡ length m.sram
   pub registers : length next.cpu.r ≡ length m.cpu.r
   pub flash : next.flash ≡ m.flash

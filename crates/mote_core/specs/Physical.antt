@@ -1,11 +1,12 @@
 -- The physical data space: SRAM at its own addresses, the devices' registers, and nothing else
 -- (ATmega128 datasheet, "SRAM Data Memory"); and the program's bytes, which are those of flash.
-use Rattle.std.specs.Prelude.{ℕ, ◌/◌, ◌%◌, Bool, ◌&&◌, ◌==◌, nat_le, if◌then◌else◌, List, Option}
+use Rattle.std.specs.Prelude.{ℕ, ◌/◌, ◌%◌, Bool, ◌==◌, if◌then◌else◌, List, Option}
 use Rattle.avr_exec.specs.declared.stop.BusStop.TheVariants.{Io}
 use Rattle.avr_exec.specs.Spaces.{Outcome, Went, Calls}
 use Rattle.avr_exec.specs.StackRules.{StackRule, push_on, pop_from, push_return_on, pop_return_from}
 use Rattle.flash_model.specs.Pages.{word_at}
 use Rattle.sram_layout.specs.Bytes.{byte_at, with_byte}
+use Rattle.sram_layout.specs.Regions.{whole_sram, is_within}
 use Rattle.mote_devices.specs.declared.line.Line.{Line}
 use Rattle.mote_devices.specs.State.{State, stored, with_stored, rampz_address}
 use Rattle.mote_devices.specs.Accesses.{Asked, read, write, modify as modify_device}
@@ -20,7 +21,7 @@ pub record Physical : Type 0 where
 
 -- SRAM has a byte at this data address
 abbrev pub is_sram : ℕ → Bool
-is_sram a = nat_le 0x0100 a && nat_le a 0x10FF
+is_sram a = is_within whole_sram a
 
 -- with another byte at a data address of SRAM
 abbrev pub with_sram : Physical → ℕ → ℕ → Physical

@@ -1,26 +1,21 @@
 -- Steps that leave what the kernel keeps: those of the stubs and templates, which may write their own cells, the kernel's
 -- stack and the program's memory alone (ATmega128 datasheet, "SRAM Data Memory"; the kernel's memory: docs/MEMORY.md).
-use Rattle.std.specs.Prelude.{◌≡◌, ℕ, zero, suc, ◌+◌, ◌*◌, ◌/◌, ◌%◌, ◌<◌, ◌≤◌, true, List, Option, slice_index, slice_set}
+use Rattle.std.specs.Prelude.{◌≡◌, ℕ, ◌+◌, ◌*◌, ◌/◌, ◌%◌, true, List, Option, slice_index, slice_set}
 use Rattle.avr_isa.specs.declared.form.Form.{Form}
 use Rattle.avr_decode.specs.Decoding.{the_form}
 use Rattle.avr_exec.specs.declared.cpu.Cpu.{Cpu}
 use Rattle.avr_exec.specs.Registers.{wrapping_sum}
 use Rattle.flash_model.specs.Pages.{word_at}
-use Rattle.sram_layout.specs.Bytes.{byte_at}
+use Rattle.sram_layout.specs.Regions.{template_cells, kernel_stack, frames, between, KeepsRegion}
 use Rattle.mote_core.specs.declared.mote.Mote.{Mote}
 use Rattle.mote_core.specs.declared.mote.Plain.TheVariants.{Went}
 use Rattle.mote_core.specs.Conditions.{can_step}
 use Rattle.mote_core.specs.Step.{form_at, IsPlainStep}
 
--- the kernel's memory, 0x0100 to 0x04FF, without the templates' cells, 0x0100 to 0x0107, and without the kernel's stack,
--- 0x011E and 0x011F
-pub data IsKernels (a : ℕ) : Type 0 where
-  BelowStack : 0x0108 ≤ a → a < 0x011E → IsKernels a
-  AboveStack : 0x0120 ≤ a → a < 0x0500 → IsKernels a
-
--- these bytes stay
-abbrev pub KeepsKernel : List ℕ → List ℕ → Type 0
-KeepsKernel old new = (a : ℕ) → IsKernels a → byte_at new a ≡ byte_at old a
+-- the kernel's memory stays, but for the templates' cells and the kernel's own stack
+pub record KeepsKernel (old new : List ℕ) : Type 0 where
+  pub below : KeepsRegion (between template_cells kernel_stack) old new
+  pub above : KeepsRegion (between kernel_stack frames) old new
 
 -- The step may be made, its mote is `next` (a step has one result, by `one_step`), it shows nothing, and it leaves the
 -- kernel's memory, devices, flash and swap.
@@ -29,11 +24,6 @@ pub record IsQuiet (m next : Mote) : Type 0 where
   pub step : IsPlainStep m Went next
   pub keeps : KeepsKernel m.sram next.sram
   pub devices : next.devices ≡ m.devices
-
--- n such steps in a row
-abbrev pub Leads : ℕ → Mote → Mote → Type 0
-Leads zero m last = m ≡ last
-Leads (suc n) m last = (next : Mote) × (IsQuiet m next × Leads n next last)
 
 -- Z, the pair r31:r30, of a list of registers, and the registers with another Z
 abbrev pub z_of : List ℕ → ℕ

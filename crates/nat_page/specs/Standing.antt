@@ -1,13 +1,10 @@
 -- Pieces of rewritten code where they stand in flash.
 use Rattle.std.specs.Prelude.{◌≡◌, ℕ, ◌+◌, ◌⊎◌, List, [], ◌∷◌, length}
 use Rattle.flash_model.specs.Pages.{word_at}
+pub use Rattle.flash_model.specs.Jumps.{jump_word}
 use Rattle.nat_template.specs.declared.piece.Piece.{Piece}
 use Rattle.nat_template.specs.declared.piece.Piece.TheVariants.{Fixed, Link}
 use Rattle.nat_template.specs.Stubs.{call_word, bridge_entry, words_of}
-
--- JMP, the first of its two words (AVR Instruction Set Manual, "JMP")
-abbrev pub jump_word : ℕ
-jump_word = 0x940C
 
 -- The first two words of a link that leads to t: a call of the kernel's bridge, or, once it is resolved, a
 -- jump to a place where links to t may lead.

@@ -4,7 +4,7 @@ ghost use Rattle.std.specs.Prelude.{◌≡◌, ◌+◌, ◌-◌, ◌/◌, ◌<�
 ghost use Rattle.arrayvec.specs.ArrayVec.{array_vec_len};
 ghost use Rattle.flash_model.specs.Layouts.{IsRight, image_of};
 ghost use Rattle.nat_template.specs.declared.piece.Piece.TheVariants.{Fixed};
-ghost use Rattle.page_index.specs.Entries.{IsMapped, AreKnown};
+ghost use Rattle.page_index.specs.Entries.{AreKnown};
 ghost use Rattle.nat_page.specs.Standing.{size as size_of};
 ghost use Rattle.nat_page.specs.Making.{HasNoEntry};
 ghost use Rattle.nat_page.specs.Drafts.{Adds, IsRead, StopsBehind, GoesOn, IsDrafted, draft_pieces};
@@ -14,7 +14,6 @@ use crate::words::FlashImage;
 use arrayvec::ArrayVec;
 use flash_model::{Flash, Layout};
 use nat_template::Piece;
-use page_index::known_offsets;
 
 /// The words of a page.
 pub(crate) const PAGE_WORDS: u16 = 128;
@@ -96,25 +95,18 @@ impl Draft {
     }
 }
 
-/// The run from `t`, as far as it goes.
-pub(crate) fn draft_of(flash: &Flash, layout: &Layout, t: u16) -> Draft
+/// The run from `t`, as far as it goes. `known` tells of each address of its original page whether it has an entry.
+pub(crate) fn draft_of(flash: &Flash, layout: &Layout, known: &[bool; 128], t: u16) -> Draft
     requires right { IsRight layout.now }
-    requires mapped { IsMapped layout.now flash.now.words }
+    requires known { AreKnown layout.now flash.now.words (t / 128) known.now }
     requires image { length (image_of layout.now flash.now.words) ≡ layout.now.image_words }
     requires inside { t < layout.now.image_words }
     requires unknown { HasNoEntry layout.now flash.now.words t }
     ensures drafted { IsDrafted layout.now (image_of layout.now flash.now.words) flash.now.words t result }
 {
-    let known = known_offsets(flash, layout, t / PAGE_WORDS);
     let mut draft = Draft::new();
     let mut here = read(&FlashImage { flash, layout }, t);
-    'run: while let Some(next) = next_in_run(
-        flash,
-        layout,
-        &known,
-        draft.words_with(&here),
-        &here,
-    ) {
+    'run: while let Some(next) = next_in_run(flash, layout, known, draft.words_with(&here), &here) {
         draft.add(&here);
         here = next;
     }

@@ -9,7 +9,7 @@
 //! }
 //! ```
 //!
-//! [`prepare`] gives the words of that page without making it. [`remade`] makes the pieces of a page anew, for any
+//! [`prepare`] and [`prepare_with`] give the words of that page without making it. [`remade`] makes the pieces of a page anew, for any
 //! image ([`ImageWords`]), from its first address and the number of its instructions, which the page tells. On it
 //! stands [`without_links`]: the words of a page in which the links that a [`LinkTest`] picks call the kernel's
 //! bridge again. [`pages_in_use`] counts the pages that are used.
@@ -36,7 +36,7 @@ mod unlinking;
 mod using;
 mod words;
 
-pub use making::{NatStop, Prepared, naturalise, prepare};
+pub use making::{NatStop, Prepared, naturalise, prepare, prepare_with};
 pub use pieces::{size, width};
 pub use remaking::remade;
 pub use unlinking::{

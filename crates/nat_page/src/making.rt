@@ -1,11 +1,11 @@
 //! Making a page.
 
-ghost use Rattle.std.specs.Prelude.{◌≡◌, ℕ, List, ◌+◌, ◌*◌, ◌<◌, ◌^◌, true, false, IfOk, IfErr, OnOk, OnErr};
+ghost use Rattle.std.specs.Prelude.{◌≡◌, ℕ, List, ◌+◌, ◌*◌, ◌/◌, ◌<◌, ◌^◌, true, false, IfOk, IfErr, OnOk, OnErr};
 ghost use Rattle.flash_model.specs.Layouts.{IsRight, image_of};
 ghost use Rattle.flash_model.specs.Operations.{next_op, fails, left_by_refusal};
 ghost use Rattle.page_index.specs.Maps.{IsPool, IsFree};
 ghost use Rattle.nat_page.specs.declared.making.NatStop.TheVariants as stops;
-ghost use Rattle.page_index.specs.Entries.{IsEntry};
+ghost use Rattle.page_index.specs.Entries.{IsEntry, AreKnown};
 ghost use Rattle.nat_page.specs.Faithful.{IsFaithful};
 ghost use Rattle.nat_page.specs.Links.{IsUnresolved};
 ghost use Rattle.nat_page.specs.Used.{used_pages};
@@ -14,6 +14,7 @@ ghost use Rattle.nat_page.specs.Making.{HasNoEntry, IsPrepared, NaturalisesIn};
 use crate::draft::{PAGE_WORDS, draft_of};
 use crate::pieces::page_with;
 use flash_model::{Flash, Layout};
+use page_index::known_offsets;
 
 /// Why no page was made.
 #[derive(Clone, Copy, Debug, PartialEq, Eq)]
@@ -78,7 +79,30 @@ pub fn prepare(flash: &Flash, layout: &Layout, page: u16, t: u16) -> Prepared
     ensures only { (words : List ℕ) → (place : ℕ) → IsPrepared layout.now (image_of layout.now flash.now.words) flash.now.words page t words place
         → (words ≡ result.words) × (place ≡ result.place) }
 {
-    let draft = draft_of(flash, layout, t);
+    let known = known_offsets(flash, layout, t / PAGE_WORDS);
+    prepare_with(flash, layout, &known, page, t)
+}
+
+/// The same for one who knows which addresses of the original page have entries, by their offsets there.
+pub fn prepare_with(
+    flash: &Flash,
+    layout: &Layout,
+    known: &[bool; 128],
+    page: u16,
+    t: u16,
+) -> Prepared
+    requires right { IsRight layout.now }
+    requires code { IsFaithful layout.now (image_of layout.now flash.now.words) flash.now.words }
+    requires known { AreKnown layout.now flash.now.words (t / 128) known.now }
+    requires pool { IsPool layout.now page }
+    requires free { IsFree flash.now.words page }
+    requires inside { t < layout.now.image_words }
+    requires unknown { HasNoEntry layout.now flash.now.words t }
+    ensures prepared { IsPrepared layout.now (image_of layout.now flash.now.words) flash.now.words page t result.words result.place }
+    ensures only { (words : List ℕ) → (place : ℕ) → IsPrepared layout.now (image_of layout.now flash.now.words) flash.now.words page t words place
+        → (words ≡ result.words) × (place ≡ result.place) }
+{
+    let draft = draft_of(flash, layout, known, t);
     Prepared {
         words: page_with(&draft.pieces(t)),
         place: PAGE_WORDS * page + 2 + draft.entries.len() as u16,

@@ -80,7 +80,7 @@ pub fn without_links<L: LinkTest>(flash: &Flash, layout: &Layout, page: u16, lin
     patch
 }
 
-/// Whether the page may have a stub that jumps into the victim: some two of its words are such a jump. A page
+/// Whether the page may have a stub that jumps into the victim: flash keeps that it may have such a jump. A page
 /// of which this isn't so need not be walked along.
 pub fn may_have_stubs_into(flash: &Flash, layout: &Layout, victim: u16, page: u16) -> bool
     requires right { IsRight layout.now }
@@ -89,13 +89,7 @@ pub fn may_have_stubs_into(flash: &Flash, layout: &Layout, victim: u16, page: u1
     requires run { IsCodePage (image_of layout.now flash.now.words) flash.now.words page }
     ensures none { result ≡ false → are_some (stubs_into (image_of layout.now flash.now.words) flash.now.words victim page) ≡ false }
 {
-    // No early end and no branch: so the compiler compares several words at once.
-    let words = flash.page(page);
-    let mut found = false;
-    'words: for k in 0..127usize {
-        found |= (words[k] == JMP) & (words[k + 1] / PAGE_WORDS == victim);
-    }
-    found
+    flash.may_jump_into(page, victim)
 }
 
 /// Puts a call into each link of the page's pieces that the test picks.

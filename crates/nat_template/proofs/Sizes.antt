@@ -18,6 +18,7 @@ use Rattle.avr_isa.specs.Encoding.{second_word}
 use Rattle.avr_isa.specs.declared.operation.Base.TheVariants.{Y}
 
 size_by : (to : ℕ) (crosses : Bool) → length (words_of (cond crosses (crossing_stub to) (plain_stub to))) ≡ cond crosses 22 3
+unfolding second_word
 size_by to true = refl
 size_by to false = refl
 

@@ -5,7 +5,8 @@ use Rattle.avr_isa.specs.declared.operation.ImmOp.TheVariants.{Cpi}
 use Rattle.avr_isa.specs.declared.operation.WordOp.TheVariants.{Adiw, Sbiw}
 use Rattle.avr_isa.specs.declared.operation.Base.TheVariants.{Z}
 use Rattle.avr_isa.specs.Encoding.{first_word, second_word}
-use Rattle.nat_template.specs.Inline.{words_of_forms, push_forms, pop_forms, load_forms, store_forms}
+use Rattle.nat_template.specs.Words.{words_of_forms}
+use Rattle.nat_template.specs.Inline.{push_forms, pop_forms, load_forms, store_forms}
 
 -- PUSH of any register
 pub push_written : (r : ℕ) → push_forms r ≡

@@ -1,40 +1,16 @@
 -- Inline templates: instructions in the place of a call of MEM, for an address in the stack window 0x0D00 to
 -- 0x10FF; every other address is left to the call (docs/LOADER.md, "Inline templates").
-use Rattle.std.specs.Prelude.{ℕ, pos, ◌+◌, List, [], ◌∷◌, ◌++◌, length, Option, Some, None}
-use Rattle.std.specs.List.{flat_map}
+use Rattle.std.specs.Prelude.{ℕ, pos, ◌+◌, List, [], ◌∷◌, ◌++◌}
 use Rattle.avr_isa.specs.declared.form.Form.{Form}
 use Rattle.avr_isa.specs.declared.form.Form.TheVariants.{Movw, Imm, Word, LoadOff, StoreOff, Lds, Sts, InIo, OutIo, Brbs, Brbc, Rjmp, Call}
 use Rattle.avr_isa.specs.declared.operation.ImmOp.TheVariants.{Cpi}
 use Rattle.avr_isa.specs.declared.operation.WordOp.TheVariants.{Adiw, Sbiw}
 use Rattle.avr_isa.specs.declared.operation.Base.TheVariants.{Z}
-use Rattle.avr_isa.specs.Encoding.{first_word, second_word}
 use Rattle.sram_layout.specs.Cells.{sreg_cell, vsp_cell, z_cell}
+use Rattle.nat_template.specs.Words.{width_of_forms, sreg_field}
 use Rattle.nat_template.specs.Stubs.{mem_entry}
 
--- The words of instructions. ----------------------------------------------------------------------
-
-abbrev pub second_words : Option ℕ → List ℕ
-second_words None = []
-second_words (Some second) = second ∷ []
-
-abbrev pub words_of_form : Form → List ℕ
-words_of_form form = first_word form ∷ second_words (second_word form)
-
-abbrev pub words_of_forms : List Form → List ℕ
-words_of_forms forms = flat_map words_of_form forms
-
--- how many words an instruction has, and instructions have
-abbrev pub width_of : Form → ℕ
-width_of form = length (words_of_form form)
-
-abbrev pub width_of_forms : List Form → ℕ
-width_of_forms forms = length (words_of_forms forms)
-
 -- The parts. --------------------------------------------------------------------------------------
-
--- SREG as the field A of IN and OUT (ATmega128 datasheet, "Status Register")
-abbrev pub sreg_field : ℕ
-sreg_field = 0x3F
 
 -- Z and SREG into their cells: STS Z0, r30; STS Z1, r31; IN r30, SREG; STS SREG cell, r30
 abbrev pub save : List Form

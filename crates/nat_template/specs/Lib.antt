@@ -3,3 +3,4 @@ pub mod Shapes
 pub mod Stubs
 pub mod Inline
 pub mod Templates
+pub mod Words

@@ -1,7 +1,12 @@
 -- Stubs: what stands in a page in the place of a jump to an original address.
-use Rattle.std.specs.Prelude.{ℕ, if◌then◌else◌, List, [], ◌∷◌, ◌++◌, map}
+use Rattle.std.specs.Prelude.{ℕ, pos, if◌then◌else◌, List, [], ◌∷◌, ◌++◌, map}
 use Rattle.std.specs.List.{flat_map}
 use Rattle.avr_isa.specs.Crossing.{is_crossing}
+use Rattle.avr_isa.specs.declared.form.Form.{Form}
+use Rattle.avr_isa.specs.declared.form.Form.TheVariants.{One, Lds, Sts, InIo, OutIo, Brbs}
+use Rattle.avr_isa.specs.declared.operation.OneOp.TheVariants.{Dec}
+use Rattle.sram_layout.specs.Cells.{count_cell, r24_cell, sreg_cell}
+use Rattle.nat_template.specs.Words.{words_of_forms, sreg_field}
 use Rattle.nat_template.specs.declared.piece.Piece.{Piece}
 use Rattle.nat_template.specs.declared.piece.Piece.TheVariants.{Fixed, Link}
 
@@ -50,26 +55,19 @@ words_of_piece (Link target) = call_word ∷ bridge_entry ∷ target ∷ []
 abbrev pub words_of : List Piece → List ℕ
 words_of pieces = flat_map words_of_piece pieces
 
--- Before a crossing one is taken off COUNT, with r24 and SREG kept in their cells: at 0 the quantum is over.
-abbrev pub count_down : List ℕ
+-- Before a crossing one is taken off COUNT, with r24 and SREG kept in their cells: STS R24, r24; IN r24, SREG; STS SREG
+-- cell, r24; LDS r24, COUNT; DEC r24; STS COUNT, r24. At 0 the quantum is over: BREQ over the next eight words, of which
+-- the first five put both back: LDS r24, SREG cell; OUT SREG, r24; LDS r24, R24.
+abbrev pub count_down : List Form
 count_down =
-    0x9380 ∷ 0x0101  -- STS R24, r24
-    ∷ 0xB78F  -- IN r24, SREG
-    ∷ 0x9380 ∷ 0x0102  -- STS SREG cell, r24
-    ∷ 0x9180 ∷ 0x0100  -- LDS r24, COUNT
-    ∷ 0x958A  -- DEC r24
-    ∷ 0x9380 ∷ 0x0100  -- STS COUNT, r24
-    ∷ 0xF041  -- BREQ over the next eight words
-    ∷ 0x9180 ∷ 0x0102  -- LDS r24, SREG cell
-    ∷ 0xBF8F  -- OUT SREG, r24
-    ∷ 0x9180 ∷ 0x0101  -- LDS r24, R24
-    ∷ []
+    Sts r24_cell 24 ∷ InIo 24 sreg_field ∷ Sts sreg_cell 24 ∷ Lds 24 count_cell ∷ One Dec 24 ∷ Sts count_cell 24
+    ∷ Brbs 1 (pos 8) ∷ Lds 24 sreg_cell ∷ OutIo sreg_field 24 ∷ Lds 24 r24_cell ∷ []
 
 abbrev pub plain_stub : ℕ → List Piece
 plain_stub target = Link target ∷ []
 
 abbrev pub crossing_stub : ℕ → List Piece
-crossing_stub target = map (λ word. Fixed word) count_down ++ Link target ∷ service quantum_entry target
+crossing_stub target = map (λ word. Fixed word) (words_of_forms count_down) ++ Link target ∷ service quantum_entry target
 
 -- the stub for the step from an address to another
 unfoldable pub stub : ℕ → ℕ → List Piece

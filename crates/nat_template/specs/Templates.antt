@@ -11,7 +11,8 @@ use Rattle.nat_template.specs.declared.piece.Piece.{Piece}
 use Rattle.nat_template.specs.declared.piece.Piece.TheVariants.{Fixed}
 use Rattle.nat_template.specs.Shapes.{shape_of}
 use Rattle.nat_template.specs.Stubs.{service, stub, words_of, mem_entry, push_return_entry, return_entry, indirect_entry, self_entry, fault_entry}
-use Rattle.nat_template.specs.Inline.{words_of_forms, push_forms, pop_forms, load_forms, store_forms}
+use Rattle.nat_template.specs.Words.{words_of_forms}
+use Rattle.nat_template.specs.Inline.{push_forms, pop_forms, load_forms, store_forms}
 
 -- where a jump, branch or call leads, by its own word
 abbrev pub target_of : ℕ → Option Form → ℕ

@@ -1,7 +1,8 @@
 //! The words that do what a call of MEM does, for an address in the stack window.
 
 ghost use Rattle.std.specs.Prelude.{◌≡◌, ◌≤◌, ◌+◌, ◌++◌, ◌∷◌, [], length};
-ghost use Rattle.nat_template.specs.Inline.{back, guard as guard_of, load_forms, pop_forms, push_forms, save, store_forms, trap, words_of_forms};
+ghost use Rattle.nat_template.specs.Inline.{back, guard as guard_of, load_forms, pop_forms, push_forms, save, store_forms, trap};
+ghost use Rattle.nat_template.specs.Words.{words_of_forms};
 
 use arrayvec::ArrayVec;
 use avr_isa::{Form, Reg, Six, WordOp};

@@ -17,21 +17,21 @@ const QUANTUM: u16 = 0xF002;
 
 /// One is taken off COUNT, with r24 and SREG kept in their cells; a branch passes over what follows at 0.
 const COUNT_DOWN: [Piece; 16] = [
-    Piece::Fixed(0x9380),
+    Piece::Fixed(0x9380), // STS R24, r24
     Piece::Fixed(0x0101),
-    Piece::Fixed(0xB78F),
-    Piece::Fixed(0x9380),
+    Piece::Fixed(0xB78F), // IN r24, SREG
+    Piece::Fixed(0x9380), // STS SREG cell, r24
     Piece::Fixed(0x0102),
-    Piece::Fixed(0x9180),
+    Piece::Fixed(0x9180), // LDS r24, COUNT
     Piece::Fixed(0x0100),
-    Piece::Fixed(0x958A),
-    Piece::Fixed(0x9380),
+    Piece::Fixed(0x958A), // DEC r24
+    Piece::Fixed(0x9380), // STS COUNT, r24
     Piece::Fixed(0x0100),
-    Piece::Fixed(0xF041),
-    Piece::Fixed(0x9180),
+    Piece::Fixed(0xF041), // BREQ over the next eight words
+    Piece::Fixed(0x9180), // LDS r24, SREG cell
     Piece::Fixed(0x0102),
-    Piece::Fixed(0xBF8F),
-    Piece::Fixed(0x9180),
+    Piece::Fixed(0xBF8F), // OUT SREG, r24
+    Piece::Fixed(0x9180), // LDS r24, R24
     Piece::Fixed(0x0101),
 ];
 
@@ -77,6 +77,7 @@ pub fn stub(from: u16, to: u16) -> ArrayVec<Piece, 20>
 }
 
 /// The stub that counts a crossing.
+#[tactic(auto, unfolding(avr_isa::specs::Encoding::first_word, avr_isa::specs::Encoding::second_word))]
 fn push_crossing(pieces: &mut ArrayVec<Piece, 20>, to: u16)
     requires empty { array_vec_len pieces.old ≡ 0 }
     ensures pieces { pieces.new.items ≡ pieces.old.items ++ crossing_stub to }

@@ -5,6 +5,7 @@ ghost use Rattle.flash_model.specs.Layouts.{IsRight};
 ghost use Rattle.page_index.specs.Entries.{IsEntry, IsMapped};
 ghost use Rattle.page_index.specs.Cursors.{IsStretch, IsReached, IsCursor, IsCursorAnywhere};
 
+use crate::places::Places;
 use crate::stretch::Stretch;
 use flash_model::{Flash, Layout};
 
@@ -30,6 +31,8 @@ struct Reached {
 pub struct Cursor {
     stretch: Stretch,
     reached: [Reached; 1024],
+    /// Where entries of original addresses were seen last, in whatever state of flash.
+    pub places: Places,
 }
 
 impl Cursor {
@@ -44,6 +47,7 @@ impl Cursor {
         Cursor {
             stretch: Stretch::new(),
             reached: [none; 1024],
+            places: Places::new(),
         }
     }
 

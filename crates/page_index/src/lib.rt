@@ -4,22 +4,28 @@
 //! the original page, the number of entries, and one word an entry, which tells where in the original
 //! page an address lies and where in this page its code begins, its *place*. [`entry`] finds the place
 //! of an original address, [`origin`] the original address of a place, and [`free_page`] the lowest
-//! page that is free. Nothing has to be kept beside flash: each search reads the maps themselves. A
-//! [`Cursor`] keeps what was found, for one state of flash, and [`known_offsets`] tells of all addresses
-//! of one original page at once whether they have entries. Of one page, which is free or has a map whatever
+//! page that is free. Nothing has to be kept beside flash: each search reads the maps themselves.
+//! [`known_offsets`] tells of all addresses of one original page at once whether they have entries. [`Places`] keeps
+//! hints at entries, for any state of flash, and gives a [`Survey`] where an address has none; a [`Cursor`] keeps what
+//! was found at places, for one state of flash. Of one page, which is free or has a map whatever
 //! the others hold, [`is_free`], [`entries`], [`address_at`] and [`place_in`] tell what its map says.
 //!
 //! `specs/Maps.antt` says what a map is, and `specs/Entries.antt` what an entry of the pool is and when
-//! a pool is mapped, which every search asks for. Laws for the layers above: what a map says of its
-//! entries (`proofs/MapLaws.antt`), that an address has one place and a place one address
-//! (`proofs/EntryLaws.antt`), and what stays where a free page gets a map (`proofs/ChangeLaws.antt`).
+//! a pool is mapped, which every search asks for; `specs/Surveys.antt` says what a survey tells. Laws for the
+//! layers above: what a map says of its entries (`proofs/MapLaws.antt`), that an address has one place and a
+//! place one address (`proofs/EntryLaws.antt`), and what stays where a free page gets a map
+//! (`proofs/ChangeLaws.antt`).
 #![tactic(auto)]
 
 mod cursor;
 mod page;
+mod places;
 mod pool;
 mod stretch;
+mod survey;
 
 pub use cursor::Cursor;
 pub use page::{address_at, entries, is_free, place_in};
+pub use places::Places;
 pub use pool::{entry, free_page, known_offsets, origin};
+pub use survey::Survey;

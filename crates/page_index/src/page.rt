@@ -52,6 +52,27 @@ pub fn place_in(flash: &Flash, page: u16, t: u16) -> Option<u16>
     None
 }
 
+/// The place of the original address `t`, where the entry with this number is of `t`. The page may have fewer entries.
+pub(crate) fn place_if_listed(flash: &Flash, page: u16, i: u16, t: u16) -> Option<u16>
+    requires below_kernel { page < 480 }
+    requires mapped { IsFree flash.now.words page ⊎ IsMap flash.now.words page }
+    requires inside { i + 2 < 128 }
+    ensures found { IfSome result (λ v. Lists flash.now.words page i t v) }
+{
+    let original = word(flash, page, 0);
+    if original != t / PAGE_WORDS {
+        return None;
+    }
+    if i >= entries(flash, page) {
+        return None;
+    }
+    let entry = map_entry(flash, page, i);
+    if entry.offset != t % PAGE_WORDS {
+        return None;
+    }
+    Some(PAGE_WORDS * page + entry.place)
+}
+
 /// Marks the offsets of this page's entries, where it is of this original page.
 pub(crate) fn mark_offsets(flash: &Flash, page: u16, original: u16, known: &mut [bool; 128])
     requires below_kernel { page < 480 }

@@ -2,7 +2,7 @@
 -- page of a jump back to address 0: its stub calls the bridge 16 words behind its place.
 use Rattle.std.proofs.Common.{◌≡◌, ℕ, ◌+◌, List, [], ◌∷◌, arith, refl, subst}
 use Rattle.avr_decode.specs.Decoding.{the_form, if_defined, defined_form, one_word_form, form_1111, is_long}
-use Rattle.avr_isa.specs.Encoding.{first_word}
+use Rattle.avr_isa.specs.Encoding.{first_word, second_word}
 use Rattle.avr_isa.specs.Instruction.{is_undefined}
 use Rattle.avr_exec.specs.Registers.{relative}
 use Rattle.flash_model.specs.Layouts.{IsRight}
@@ -23,10 +23,11 @@ abbrev pub looped : List ℕ
 looped = 0xE003 ∷ 0x950A ∷ 0xF7F1 ∷ 0xCFFF ∷ []
 
 branch_template : template_at looped 2 ≡ Fixed 0xF409 ∷ Fixed 0xC016 ∷ crossing_stub 1
-unfolding the_form if_defined defined_form one_word_form form_1111 is_long is_undefined relative shape_of_form template_by stub first_word
+unfolding the_form if_defined defined_form one_word_form form_1111 is_long is_undefined relative shape_of_form template_by stub first_word second_word
 branch_template = refl
 
 pub branch_link : (layout : Layout) (words : List ℕ) (v : ℕ) → IsRight layout → IsFaithful layout looped words → IsEntry layout words 2 v → IsLinkIn layout looped words (v + 18) 1
+unfolding second_word
 branch_link layout words v right code entry =
     let Linked : List Piece → Type 0 = λ pieces. EachLink (λ s t. IsLinkIn layout looped words s t) v pieces in
     let linked = subst Linked branch_template (entry_law layout looped words 2 v right code entry).linked in
@@ -42,6 +43,7 @@ unfolding the_form if_defined defined_form one_word_form is_long is_undefined re
 back_template = refl
 
 pub back_link : (layout : Layout) (words : List ℕ) (v : ℕ) → IsRight layout → IsFaithful layout round words → IsEntry layout words 2 v → IsLinkIn layout round words (v + 16) 0
+unfolding second_word
 back_link layout words v right code entry =
     let Linked : List Piece → Type 0 = λ pieces. EachLink (λ s t. IsLinkIn layout round words s t) v pieces in
     let linked = subst Linked back_template (entry_law layout round words 2 v right code entry).linked in

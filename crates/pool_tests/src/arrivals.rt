@@ -11,7 +11,7 @@ use crate::support::{LOOP, arrived, has, loaded, loop_page, sram_at_boot};
 use addr_tables::note;
 use branch_bridge::{ArriveStop, Moved, Refused, arrive_from};
 use flash_model::{Flash, Layout};
-use page_index::entry;
+use page_index::{Places, entry};
 use sram_layout::Sram;
 use std::test::Fail;
 
@@ -38,7 +38,7 @@ fn came(
     ensures ring { OnOk result (ring_of sram.new < layout.now.pool_pages) }
     ensures room { flash.new.ops ≤ flash.old.ops + 1000 }
 {
-    let arrival = arrive_from(sram, flash, layout, t, stub);
+    let arrival = arrive_from(sram, flash, layout, &mut Places::new(), t, stub);
     match arrival.refused {
         None => Ok((arrival.place, arrival.made)),
         Some(refused) => Err(refused),

@@ -30,7 +30,7 @@ use Rattle.step_laws.specs.States.{Awaited, is_taken_at, store_of, placed, arriv
 use Rattle.step_laws.specs.Walks.{MakesArrive}
 use Rattle.step_laws.specs.StepLaws.{Reaches}
 use Rattle.program_steps.specs.Machines.{Machine, awaited, state_of, numbers_of, flat_of}
-use Rattle.program_steps.specs.Ready.{count_in, IsGoing, IsQuiet, IsEnded, IsCounted, AreArrivals, most_arrivals, IsExact}
+use Rattle.program_steps.specs.Ready.{count_in, IsGoing, IsQuiet, IsEnded, AreArrivals, most_arrivals, IsExact}
 use Rattle.program_steps.specs.Stepping.{AreMadeAt, Goes, IsFault, Entering, HasEntered, HasBound}
 use Rattle.program_steps.specs.Interrupts.{IsUntaken}
 use Rattle.program_steps.specs.Loop.{HasArrived}
@@ -39,6 +39,7 @@ use Rattle.program_steps.proofs.Arrived.{place_inside, owed_at, awaited_at, flat
 use Rattle.program_steps.proofs.Leading.{stays_self}
 use Rattle.program_steps.proofs.OutsideTables.{outside_count}
 use Rattle.program_steps.proofs.ReadyLaws.{counted_same}
+use Rattle.step_laws.specs.Bounds.{AreBounded}
 use Rattle.program_steps.proofs.Bounds.{bounded_counted}
 
 pub entered_none : (m : Machine) → IsGoing m → IsQuiet m → m.owed ≡ None → HasEntered m m None
@@ -49,7 +50,7 @@ exact_same : (old new : Machine) → KeepsOtherBytes old.kernel.mote.sram new.ke
 exact_same old new rest quantum crossings is = outside_count old.kernel.mote.sram new.kernel.mote.sram rest ∙ is ∙ ap₂ (λ q c. q - c % q) (sym quantum) (sym crossings)
 
 -- the numbers
-counted_by : (n n' : Numbers) (made : Bool) (c q k a : ℕ) → IsMoved n n' made → IsCounted n c q k a → IsCounted n' c q k a
+counted_by : (n n' : Numbers) (made : Bool) (c q k a : ℕ) → IsMoved n n' made → AreBounded n c q k a → AreBounded n' c q k a
 counted_by n n' made c q k a same counted =
     let natural = counted.natural in
     let entries = counted.entries in
@@ -68,7 +69,7 @@ counted_by n n' made c q k a same counted =
       most = omega (arith, same.longest);
     }
 
-counted_arrived : (old new : Machine) (arrival : Arrival) → Arrived old new arrival → IsGoing old → IsCounted (numbers_of new) new.crossings new.kernel.quantum (count_in new) new.at
+counted_arrived : (old new : Machine) (arrival : Arrival) → Arrived old new arrival → IsGoing old → AreBounded (numbers_of new) new.crossings new.kernel.quantum (count_in new) new.at
 counted_arrived old new arrival told ready =
     let count : count_in new ≡ count_in old = outside_count old.kernel.mote.sram new.kernel.mote.sram told.rest in
     counted_same (numbers_of new) (numbers_of new) new.crossings old.crossings new.kernel.quantum old.kernel.quantum (count_in new) (count_in old) new.at old.at refl told.crossings told.after.quantum count told.at
@@ -188,7 +189,7 @@ untaken_by m w owes ready untaken inside =
 -- one move
 made_at : (t at ops : ℕ) (made : Bool) → t ≡ at → AreMadeAt (λ a. a ≡ at) (Arrive t made ops ∷ [])
 made_at t at ops true is = (is, tt)
-made_at t at ops false is = tt
+made_at t at ops false is = (tt, tt)
 
 goes_arrived : (old new : Machine) (t ops : ℕ) (made : Bool) → MakesArrive (state_of old) t made ops (state_of new) → numbers_of new ≡ moved (Arrive t made ops) (numbers_of old) → Goes old new (Arrive t made ops ∷ []) []
 unfolding lines_of

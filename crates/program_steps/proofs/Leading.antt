@@ -1,23 +1,17 @@
 -- What leads from one machine to the next, and on.
-use Rattle.std.proofs.Common.{◌≡◌, List, [], ◌∷◌, ◌++◌, refl, sym, ap, ap₂, ◌∙◌}
+use Rattle.std.proofs.Common.{◌≡◌, List, [], ◌∷◌, ◌++◌, refl, ◌∙◌}
 use Rattle.mote_devices.specs.declared.line.Line.{Line}
-use Rattle.step_laws.specs.Moves.{Move, Plain, Serve, Arrive, Take}
-use Rattle.step_laws.specs.Numbers.{numbered}
-use Rattle.step_laws.proofs.Ways.{walk_on}
-use Rattle.step_laws.proofs.Joining.{lines_of-append, numbered-append}
-use Rattle.program_steps.specs.Machines.{Machine, state_of, numbers_of}
+use Rattle.step_laws.specs.Moves.{Move, Begin, Within, Arrive, Take}
+use Rattle.step_laws.proofs.Joining.{joins}
+use Rattle.program_steps.specs.Machines.{Machine, counted_of}
 use Rattle.program_steps.specs.Stepping.{Goes, Stays, ends_in_arrive}
 
 pub goes_on : (x y z : Machine) (ms ns : List Move) (a b : List Line) → Goes x y ms a → Goes y z ns b → Goes x z (ms ++ ns) (a ++ b)
-goes_on x y z ms ns a b first then = record {
-  walk = walk_on (state_of x) (state_of y) (state_of z) ms ns first.walk then.walk;
-  told = lines_of-append ms ns ∙ ap₂ (λ p q. p ++ q) first.told then.told;
-  numbers = then.numbers ∙ ap (numbered ns) first.numbers ∙ sym (numbered-append ms ns (numbers_of x));
-}
+goes_on x y z ms ns a b first then = joins (counted_of x) (counted_of y) (counted_of z) ms ns a b first then
 
 pub last_cons : (m : Move) (ns : List Move) (n : Move) → ends_in_arrive (m ∷ n ∷ ns) ≡ ends_in_arrive (n ∷ ns)
-last_cons (Plain b line) ns n = refl
-last_cons (Serve line stops) ns n = refl
+last_cons (Begin line) ns n = refl
+last_cons (Within inner) ns n = refl
 last_cons (Arrive target made ops) ns n = refl
 last_cons (Take stops) ns n = refl
 

@@ -1,9 +1,9 @@
 -- A step keeps the machine ready.
 use Rattle.program_steps.proofs.Awaiting.{due_reached}
-use Rattle.std.proofs.Common.{suc, ◌≡◌, ℕ, ◌+◌, ◌-◌, ◌*◌, ◌%◌, ◌<◌, ◌≤◌, ◌==◌, Bool, true, false, List, ◌∷◌, refl, sym, ap, ap₂, ◌∙◌, arith, subst}
+use Rattle.std.proofs.Common.{suc, ◌≡◌, ℕ, ◌+◌, ◌-◌, ◌*◌, ◌%◌, ◌<◌, ◌≤◌, ◌==◌, Bool, true, false, List, refl, sym, ap, ap₂, ◌∙◌, arith, subst}
 use Rattle.std.proofs.Math.Nat.{mod-lt, mod-eq_of_lt, mod_self, suc-mod}
 use Rattle.std.proofs.Math.Numerals.{suc-eq-add-one}
-use Rattle.std.specs.Prelude.{◌≢◌, ◌&&◌, min, Option, Some, None, IfSome, if◌then◌else◌}
+use Rattle.std.specs.Prelude.{◌≢◌, ◌&&◌, ◌||◌, min, Option, Some, None, IfSome, if◌then◌else◌}
 use Rattle.std.proofs.lemmas.Bool.Decides.{nat_tests}
 use Rattle.avr_isa.specs.Crossing.{is_crossing}
 use Rattle.flash_model.specs.Memory.{Memory, IsWhole}
@@ -25,17 +25,19 @@ use Rattle.addr_tables.specs.Tables.{IsTables}
 use Rattle.addr_tables.proofs.TableLaws.{tables_kept}
 use Rattle.preempt_count.specs.Counting.{count_over, is_checkpoint}
 use Rattle.kernel_entry.specs.Seen.{count_of}
-use Rattle.step_laws.specs.Moves.{Plain, count_stop}
+use Rattle.step_laws.specs.Moves.{Begin}
+use Rattle.step_laws.specs.Bounds.{AreBounded}
+use Rattle.step_laws.proofs.BoundLaws.{is_one, keep_bounds}
 use Rattle.step_laws.specs.Numbers.{Numbers, moved, numbered}
 use Rattle.step_laws.specs.States.{State}
 use Rattle.mem_guard.specs.declared.part.Part.{Part}
 use Rattle.nat_page.specs.Parts.{IsParted}
 use Rattle.step_laws.specs.Links.{links_of, part_number}
-use Rattle.step_laws.specs.StepLaws.{StepLaw, Reaches, Keeps, IsReset, crossings_over, links_at}
+use Rattle.step_laws.specs.StepLaws.{moves_of, GoesTo, Reaches, Keeps, crossings_over, links_at}
 use Rattle.program_steps.specs.Machines.{Machine, state_of, numbers_of, awaits}
-use Rattle.program_steps.specs.Ready.{IsRightPart, count_in, HasFault, AreTried, IsInOrder, IsGoing, IsCounted, AreArrivals, most_arrivals}
-use Rattle.program_steps.specs.Loop.{Taken}
-use Rattle.program_steps.proofs.Bounds.{counted_on, steps_goes, pages_first, began_first, others_first}
+use Rattle.program_steps.specs.Ready.{IsRightPart, count_in, HasFault, AreTried, IsInOrder, IsGoing, AreArrivals, most_arrivals}
+use Rattle.program_steps.specs.Loop.{LawOf, Taken}
+use Rattle.program_steps.proofs.Bounds.{arrivals_first}
 use Rattle.program_steps.proofs.Laws.{tables_going}
 
 pub ring_kept : (m n : List ℕ) → ((b : ℕ) → 0x0142 ≤ b → b < 0x0400 → byte_at n b ≡ byte_at m b) → ring_of n ≡ ring_of m
@@ -102,9 +104,9 @@ by true false q count some most more = let apart : count ≢ 1 = grind (arith, n
 count_range : (q from to count : ℕ) → 1 ≤ count → count ≤ q → (1 ≤ count_over q from to count) × (count_over q from to count ≤ q)
 count_range q from to count some most = by (is_crossing from to) (count == 1) q count some most refl
 
-pub counted_same : (n n' : Numbers) (c c' q q' k k' a a' : ℕ) → n ≡ n' → c ≡ c' → q ≡ q' → k ≡ k' → a ≡ a' → IsCounted n' c' q' k' a' → IsCounted n c q k a
+pub counted_same : (n n' : Numbers) (c c' q q' k k' a a' : ℕ) → n ≡ n' → c ≡ c' → q ≡ q' → k ≡ k' → a ≡ a' → AreBounded n' c' q' k' a' → AreBounded n c q k a
 counted_same n n' c c' q q' k k' a a' en ec eq ek ea counted =
-    subst (λ x. IsCounted x c q k a) (sym en) (subst (λ x. IsCounted n' x q k a) (sym ec) (subst (λ x. IsCounted n' c' x k a) (sym eq) (subst (λ x. IsCounted n' c' q' x a) (sym ek) (subst (λ x. IsCounted n' c' q' k' x) (sym ea) counted))))
+    subst (λ x. AreBounded x c q k a) (sym en) (subst (λ x. AreBounded n' x q k a) (sym ec) (subst (λ x. AreBounded n' c' x k a) (sym eq) (subst (λ x. AreBounded n' c' q' x a) (sym ek) (subst (λ x. AreBounded n' c' q' k' x) (sym ea) counted))))
 
 -- COUNT follows from the crossings
 mod_on : (q c : ℕ) → c % q + 1 < q → (c + 1) % q ≡ c % q + 1
@@ -150,9 +152,6 @@ last_by true false q c count some one most is last =
 pub last_on : (q from to c count : ℕ) → 1 ≤ count → count ≤ q → count ≡ q - c % q → is_crossing from to && (crossings_over from to c % q == 0) ≡ is_checkpoint from to count
 last_on q from to c count one most is = last_by (is_crossing from to) (count == 1) q c count (omega arith) one most is refl
 
-is_one : (count : ℕ) → (count == 1) ≡ true → count ≡ 1
-is_one count is = grind (arith, nat_tests)
-
 -- a step makes room for one arrival
 most_owed : (owed owed' : Option Owed) (n : ℕ) → most_arrivals owed n ≤ most_arrivals owed' (n + 1)
 most_owed (Some a) (Some b) n = omega arith
@@ -168,27 +167,41 @@ arrivals_on n n' owed owed' pages began others ops steps before =
     let room = before.few in
     record { pages = omega arith; ops = omega arith; few = omega arith }
 
+-- behind a checkpoint no plain step has been made since the last service
+both_true : (b c : Bool) → b && c ≡ true → (b ≡ true) × (c ≡ true)
+both_true true true is = (refl, refl)
+both_true true false is = absurd (cc)
+both_true false c is = absurd (cc)
+
+fresh_by : (from to count : ℕ) (wakes : Bool) (since : ℕ) → (wakes ≡ true → since ≡ 0) → (is_crossing from to ≡ true → count ≡ 1 → since ≡ 0) → (wakes || is_checkpoint from to count) ≡ true → since ≡ 0
+fresh_by from to count true since fresh reset on = fresh refl
+fresh_by from to count false since fresh reset on = let both = both_true (is_crossing from to) (count == 1) on in reset both.0 (is_one count both.1)
+
 -- the step that goes on
-pub ready_on : (old new : Machine) (law : StepLaw (links_at (state_of old)) (state_of old) old.at) (to : ℕ) (due : Bool) → IsGoing old → Taken old new law
-    → new.at ≡ to → new.crossings ≡ crossings_over old.at to old.crossings → law.end.end ≡ None → Reaches (links_at (state_of old)) to due law.end
-    → count_of law.end.kernel ≡ count_over old.kernel.quantum old.at to (count_in old)
-    → IsCounted (numbered (Plain true law.first ∷ law.rest) (numbers_of old)) (crossings_over old.at to old.crossings) old.kernel.quantum (count_over old.kernel.quantum old.at to (count_in old)) to
-    → (numbers_of new).steps ≡ old.steps + 1 → new.torn ≡ old.torn → (due ≡ true → new.since ≡ 0)
-    → IsGoing new
-ready_on old new law to due ready taken at crossings going where' count counted steps torn fresh =
+pub ready_on : (old new : Machine) (law : LawOf old) (to : ℕ) → IsGoing old → Taken old new law → new.at ≡ to → new.crossings ≡ crossings_over old.at to old.crossings
+    → GoesTo (links_at (state_of old)) (state_of old) old.at law.line law.rest to law.end → new.torn ≡ old.torn → IsGoing new
+unfolding moved
+ready_on old new law to ready taken at crossings goes torn =
+    let n = numbers_of old in
     let keeps : Keeps (state_of old) (state_of new) = subst (Keeps (state_of old)) (sym taken.state) law.keeps in
-    let same : count_in new ≡ count_over old.kernel.quantum old.at to (count_in old) = ap (λ (s : State). count_of s.kernel) taken.state ∙ count in
+    let bounds = keep_bounds (state_of old) old.at to old.crossings law n ready.some ready.most ready.counted goes in
+    let ended : count_in new ≡ count_of law.end.kernel = ap (λ (s : State). count_of s.kernel) taken.state in
+    let same : count_in new ≡ count_over old.kernel.quantum old.at to (count_in old) = ended ∙ goes.count in
     let range = count_range old.kernel.quantum old.at to (count_in old) ready.some ready.most in
     let W : Part → Layout → Memory → ℕ → State → Type 0 = λ p l f t s. Reaches (links_of p l f.words) t (awaits new) s in
     let part = old.kernel.part in
     let polls = ready.polls in
     let polls' = keeps.polls in
-    let pages = ap (λ (k : Numbers). k.pages) taken.numbers ∙ pages_first law.first law.rest (numbers_of old) law.inner in
-    let began = ap (λ (k : Numbers). k.began) taken.numbers ∙ began_first law.first law.rest (numbers_of old) in
-    let others = ap (λ (k : Numbers). k.others) taken.numbers ∙ others_first law.first law.rest (numbers_of old) in
+    let steps : new.steps ≡ old.steps + 1 = ap (λ (k : Numbers). k.steps) taken.numbers ∙ bounds.0 in
+    let arrivals = arrivals_first law.first law.rest n in
+    let pages = ap (λ (k : Numbers). k.pages) taken.numbers ∙ arrivals.pages in
+    let began = ap (λ (k : Numbers). k.began) taken.numbers ∙ arrivals.began in
+    let others = ap (λ (k : Numbers). k.others) taken.numbers ∙ arrivals.others in
+    let due = due_reached new (links_at (state_of old)) to _ law.end taken.state goes.reaches in
+    let since = fresh_by old.at to (count_in old) goes.wakes (numbered (moves_of law) n).since (λ w. goes.fresh w (moved (Begin law.first) n)) (λ crosses one. goes.reset crosses one (moved (Begin law.first) n)) in
     record {
       order = order_on old new keeps torn pages ready;
-      going = ap (λ (s : State). s.end) taken.state ∙ going;
+      going = ap (λ (s : State). s.end) taken.state ∙ goes.going;
       untorn = torn ∙ ready.untorn;
       top = keeps.top;
       some = omega (arith, same, range.0);
@@ -198,22 +211,10 @@ ready_on old new law to due ready taken at crossings going where' count counted 
           (subst (λ f. W part old.kernel.layout f new.at (state_of new)) (sym keeps.flash)
           (subst (λ t. W part old.kernel.layout old.kernel.mote.flash t (state_of new)) (sym at)
           (subst (W part old.kernel.layout old.kernel.mote.flash to) (sym taken.state)
-          (subst (λ d. Reaches (links_at (state_of old)) to d law.end) (sym (due_reached new (links_at (state_of old)) to due law.end taken.state where')) where')))));
-      counted = counted_same (numbers_of new) _ new.crossings _ new.kernel.quantum _ (count_in new) _ new.at to taken.numbers crossings keeps.quantum same at counted;
-      arrivals = arrivals_on (numbers_of old) (numbers_of new) old.owed new.owed pages began others (ap (λ (f : Memory). f.ops) keeps.flash) steps ready.arrivals;
+          (subst (λ d. Reaches (links_at (state_of old)) to d law.end) (sym due) goes.reaches)))));
+      counted = counted_same (numbers_of new) _ new.crossings _ new.kernel.quantum _ (count_in new) _ new.at to taken.numbers crossings keeps.quantum ended at bounds.2;
+      arrivals = arrivals_on n (numbers_of new) old.owed new.owed pages began others (ap (λ (f : Memory). f.ops) keeps.flash) steps ready.arrivals;
       polls = omega arith;
-      fresh = λ on. fresh (sym (due_reached new (links_at (state_of old)) to due law.end taken.state where') ∙ on);
+      fresh = λ on. ap (λ (k : Numbers). k.since) taken.numbers ∙ since (sym due ∙ on);
       exact = same ∙ exact_on old.kernel.quantum old.at to old.crossings (count_in old) (omega (arith, ready.some, ready.most)) ready.exact ∙ ap₂ (λ q c. q - c % q) (sym keeps.quantum) (sym crossings);
     }
-
--- by the law itself
-pub ready_went : (old new : Machine) (law : StepLaw (links_at (state_of old)) (state_of old) old.at) (to : ℕ) (due : Bool) → IsGoing old → Taken old new law → new.at ≡ to → new.crossings ≡ crossings_over old.at to old.crossings
-    → law.end.end ≡ None → Reaches (links_at (state_of old)) to due law.end → count_of law.end.kernel ≡ count_over old.kernel.quantum old.at to (count_in old)
-    → count_stop law.rest ≡ 0 → IsReset (state_of old) (is_crossing old.at to) law.rest → new.torn ≡ old.torn → (due ≡ true → (n : Numbers) → (numbered law.rest n).since ≡ 0) → IsGoing new
-unfolding moved
-ready_went old new law to due ready taken at crossings going where' count goes reset torn fresh =
-    let n = numbers_of old in
-    ready_on old new law to due ready taken at crossings going where' count
-    (counted_on n old.crossings old.kernel.quantum (count_in old) old.at to law.first law.rest ready.counted ready.some ready.most law.inner law.few law.serves goes (λ crosses one. reset crosses (is_one (count_in old) one)))
-    (ap (λ (k : Numbers). k.steps) taken.numbers ∙ steps_goes law.rest (moved (Plain true law.first) n) law.inner goes) torn
-    (λ on. ap (λ (k : Numbers). k.since) taken.numbers ∙ fresh on (moved (Plain true law.first) n))

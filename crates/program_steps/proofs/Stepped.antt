@@ -1,5 +1,4 @@
 -- A whole step, from its moves and where they led.
-use Rattle.std.proofs.lemmas.Bool.Decides.{nat_tests}
 use Rattle.avr_isa.specs.Crossing.{is_crossing}
 use Rattle.preempt_count.specs.Counting.{is_checkpoint}
 use Rattle.mote_devices.specs.Waking.{Timely}
@@ -7,9 +6,8 @@ use Rattle.mem_guard.specs.declared.part.Part.{Part}
 use Rattle.mem_guard.specs.FlatMachine.{is_taken, next_of, tried}
 use Rattle.mem_guard.proofs.MachineLaws.{next_tried}
 use Rattle.program_steps.proofs.Awaiting.{state_settled, due_reached, free_of}
-use Rattle.std.proofs.Common.{◌≡◌, ℕ, ◌+◌, ◌-◌, ◌%◌, ◌<◌, length, Bool, true, false, List, [], ◌∷◌, refl, sym, ap, ap₂, ◌∙◌, arith, subst}
+use Rattle.std.proofs.Common.{◌≡◌, ℕ, ◌+◌, ◌-◌, ◌%◌, ◌<◌, length, Bool, true, false, List, [], ◌∷◌, refl, sym, ap, ap₂, ◌∙◌, arith, subst, map}
 use Rattle.std.specs.Prelude.{◌&&◌, ◌||◌, ◌==◌, is_some, ◌^◌, Option, Some, None}
-use Rattle.mote_core.proofs.NeverStops.{both as parts}
 use Rattle.mote_devices.specs.declared.line.Line.{Line}
 use Rattle.flash_model.specs.Memory.{Memory}
 use Rattle.flash_model.specs.declared.layout.Layout.{Layout}
@@ -21,20 +19,22 @@ use Rattle.kernel_entry.specs.declared.kernel.Stop.{Stop}
 use Rattle.kernel_entry.specs.Parts.{image_held}
 use Rattle.kernel_entry.specs.Seen.{count_of}
 use Rattle.step_laws.specs.declared.moves.End.TheVariants as ends
-use Rattle.step_laws.specs.Moves.{Move, Plain, Serve, Arrive, Take, line_before, is_inner, are_inner, count_stop}
+use Rattle.step_laws.specs.Moves.{Inner, lines_of, line_before, Within}
 use Rattle.step_laws.specs.Numbers.{Numbers, moved, numbered}
 use Rattle.step_laws.specs.States.{State, mote_of}
-use Rattle.step_laws.specs.Walks.{Walk}
+use Rattle.step_laws.specs.Walks.{WalkWithin}
+use Rattle.step_laws.proofs.Ways.{walk_of}
 use Rattle.step_laws.specs.Links.{links_of}
-use Rattle.step_laws.specs.StepLaws.{tried_as, StepLaw, Outcome, GoesTo, StopsAt, Reaches, Keeps, crossings_over}
+use Rattle.step_laws.specs.StepLaws.{tried_as, StepLaw, moves_of, Outcome, GoesTo, StopsAt, Reaches, Keeps, crossings_over}
 use Rattle.kernel_entry.specs.Seen.{state_at, program}
 use Rattle.program_steps.specs.Machines.{Machine, state_of, numbers_of, flat_of}
 use Rattle.program_steps.specs.Ready.{count_in, IsGoing, IsQuiet, IsBounded, HasBounds, AreArrivals, most_arrivals}
-use Rattle.program_steps.specs.Loop.{is_small, Taken, Took, HasTaken}
-use Rattle.program_steps.specs.Stepping.{links_in, settled, HasSettled, HasStepped, StepWay, Stays, AreMadeAt, ends_in_arrive}
+use Rattle.program_steps.specs.Loop.{is_small, LawOf, Taken, Took, HasTaken}
+use Rattle.program_steps.specs.Stepping.{Goes, links_in, settled, HasSettled, HasStepped, StepWay, Stays, AreMadeAt, ends_in_arrive}
 use Rattle.program_steps.proofs.Told.{mapped_same}
-use Rattle.program_steps.proofs.Bounds.{steps_goes, pages_first, began_first, others_first, most_owed, bounded_stop}
-use Rattle.program_steps.proofs.ReadyLaws.{ready_went, order_on, last_on}
+use Rattle.step_laws.proofs.BoundLaws.{keep_bounds, end_bounds}
+use Rattle.program_steps.proofs.Bounds.{arrivals_first, most_owed, bounded_stop}
+use Rattle.program_steps.proofs.ReadyLaws.{ready_on, order_on, last_on}
 use Rattle.program_steps.proofs.Laws.{law_of, mapped_going}
 
 pub small_ready : (m : Machine) → IsGoing m → m.steps < 2 ^ 50 → is_small (numbers_of m) (2 ^ 60)
@@ -44,38 +44,23 @@ small_ready m ready steps =
     let c = ready.counted.since in
     record { natural = omega arith; entries = omega arith; since = omega arith }
 
-inner_last : (ms : List Move) → are_inner ms ≡ true → ends_in_arrive ms ≡ false
-inner_last [] inner = refl
-inner_last (Plain b line ∷ ms) inner = inner_last ms (parts (is_inner (Plain b line)) (are_inner ms) inner).1
-inner_last (Serve line stops ∷ ms) inner = inner_last ms inner
-inner_last (Arrive target made ops ∷ ms) inner = absurd (cc)
-inner_last (Take stops ∷ ms) inner = absurd (cc)
+inner_last : (rest : List Inner) → ends_in_arrive (map Within rest) ≡ false
+inner_last [] = refl
+inner_last (m ∷ rest) = inner_last rest
 
 -- .. and makes no page
-inner_made : (ms : List Move) → are_inner ms ≡ true → AreMadeAt (λ t. ⊥) ms
-inner_made [] inner = tt
-inner_made (Plain b line ∷ ms) inner = inner_made ms (parts (is_inner (Plain b line)) (are_inner ms) inner).1
-inner_made (Serve line stops ∷ ms) inner = inner_made ms inner
-inner_made (Arrive target made ops ∷ ms) inner = absurd (cc)
-inner_made (Take stops ∷ ms) inner = absurd (cc)
+inner_made : (rest : List Inner) → AreMadeAt (λ t. ⊥) (map Within rest)
+inner_made [] = tt
+inner_made (m ∷ rest) = (tt, inner_made rest)
 
--- a step that stops isn't counted
-steps_stop : (ms : List Move) (n : Numbers) → are_inner ms ≡ true → count_stop ms ≡ 1 → (numbered ms n).steps ≡ n.steps - 1
-unfolding moved
-steps_stop [] n inner one = absurd (omega arith)
-steps_stop (Plain true line ∷ ms) n inner one = absurd (cc)
-steps_stop (Plain false line ∷ ms) n inner one = steps_stop ms (moved (Plain false line) n) inner one ∙ omega arith
-steps_stop (Serve line true ∷ ms) n inner one = steps_goes ms (moved (Serve line true) n) inner (omega arith)
-steps_stop (Serve line false ∷ ms) n inner one = steps_stop ms (moved (Serve line false) n) inner one ∙ omega arith
-steps_stop (Arrive target made ops ∷ ms) n inner one = absurd (cc)
-steps_stop (Take stops ∷ ms) n inner one = absurd (cc)
-
-stop_steps : (first : Option Line) (rest : List Move) (n : Numbers) → are_inner rest ≡ true → count_stop rest ≡ 1 → (numbered (Plain true first ∷ rest) n).steps ≡ n.steps
-unfolding moved
-stop_steps first rest n inner one = steps_stop rest (moved (Plain true first) n) inner one ∙ omega arith
-
-inner_first : (first : Option Line) (rest : List Move) → are_inner rest ≡ true → ends_in_arrive (Plain true first ∷ rest) ≡ false
-inner_first first rest inner = inner_last rest inner
+-- the law's walk as moves
+law_goes : (old new : Machine) (line : Option Line) (law : LawOf old) → Taken old new law → line ≡ law.line → Goes old new (moves_of law) (line_before line [])
+unfolding lines_of
+law_goes old new line law taken written = record {
+  walk = (law.walk.0, law.walk.1, walk_of law.walk.0 (state_of new) law.rest (subst (WalkWithin law.walk.0 law.rest) (sym taken.state) law.walk.2));
+  told = law.lines ∙ ap (λ l. line_before l []) (sym written);
+  numbers = taken.numbers;
+}
 
 flat_same : (k k' : Kernel) (a a' s s' c c' : ℕ) → k ≡ k' → a ≡ a' → s ≡ s' → c ≡ c' → state_at k a s c ≡ state_at k' a' s' c'
 flat_same k k' a a' s s' c c' ek ea es ec = ap (λ (x : Kernel). state_at x a s c) ek ∙ ap (λ x. state_at k' x s c) ea ∙ ap (λ x. state_at k' a' x c) es ∙ ap (λ x. state_at k' a' s' x) ec
@@ -100,20 +85,6 @@ next_as old new line false ready untaken silent is crossings due =
 next_as old new line true ready untaken silent is crossings due =
     next_tried (program old.kernel) (flat_of old) _ untaken is ∙ ap₂ (λ l d. flat_ends.On l (record { now = (flat_of new).now; due = d })) (sym (silent refl)) (sym due)
 
--- behind a checkpoint no plain step has been made since the last service
-both_true : (b c : Bool) → b && c ≡ true → (b ≡ true) × (c ≡ true)
-both_true true true is = (refl, refl)
-both_true true false is = absurd (cc)
-both_true false c is = absurd (cc)
-
-is_one : (count : ℕ) → (count == 1) ≡ true → count ≡ 1
-is_one count is = grind (arith, nat_tests)
-
-fresh_by : (from to count : ℕ) (wakes : Bool) (rest : List Move) → (wakes ≡ true → (n : Numbers) → (numbered rest n).since ≡ 0) → (is_crossing from to ≡ true → count ≡ 1 → (n : Numbers) → (numbered rest n).since ≡ 0)
-    → (wakes || is_checkpoint from to count) ≡ true → (n : Numbers) → (numbered rest n).since ≡ 0
-fresh_by from to count true rest fresh reset on n = fresh refl n
-fresh_by from to count false rest fresh reset on n = let both = both_true (is_crossing from to) (count == 1) on in reset both.0 (is_one count both.1) n
-
 went_by : (old mid : Machine) (line : Option Line) (law : StepLaw (links_in old) (state_of old) old.at) (to : ℕ) → IsGoing old → is_taken (flat_of old) ≡ false → mid.torn ≡ old.torn → Took old mid line law → GoesTo (links_in old) (state_of old) old.at law.line law.rest to law.end → HasStepped old (settled mid to) line
 unfolding moved
 went_by old mid line law to ready untaken torn took goes =
@@ -122,18 +93,19 @@ went_by old mid line law to ready untaken torn took goes =
     let state : state_of new ≡ law.end = state_settled mid to ∙ took.taken.state in
     let taken : Taken old new law = record { state = state; numbers = took.taken.numbers } in
     let due : new.due ≡ (goes.wakes || is_checkpoint old.at to (count_in old)) = due_reached mid (links_in old) to _ law.end took.taken.state goes.reaches in
-    let steps : mid.steps ≡ old.steps + 1 = ap (λ (k : Numbers). k.steps) took.taken.numbers ∙ steps_goes law.rest (moved (Plain true law.first) (numbers_of old)) law.inner goes.unstopped in
+    let bounds = keep_bounds (state_of old) old.at to old.crossings law (numbers_of old) ready.some ready.most ready.counted goes in
+    let steps : mid.steps ≡ old.steps + 1 = ap (λ (k : Numbers). k.steps) took.taken.numbers ∙ bounds.0 in
     let same : state_at law.end.kernel to (old.steps + 1)
     (crossings_over old.at to old.crossings) ≡ (flat_of new).now = flat_same law.end.kernel mid.kernel to to (old.steps + 1) mid.steps
     (crossings_over old.at to old.crossings) (crossings_over mid.at to mid.crossings) (sym (ap (λ (s : State). s.kernel) took.taken.state)) refl
     (sym steps) (sym crossed) in
-    let on = ready_went old new law to _ ready taken refl crossed goes.going goes.reaches goes.count goes.unstopped goes.reset torn (fresh_by old.at to (count_in old) goes.wakes law.rest goes.fresh goes.reset) in
+    let on = ready_on old new law to ready taken refl crossed goes torn in
     record {
-      moves = Plain true law.first ∷ law.rest;
-      goes = record { walk = subst (λ s. Walk (state_of old) (Plain true law.first ∷ law.rest) s) (sym state) law.walk; told = law.lines ∙ ap (λ l. line_before l []) (sym took.written); numbers = took.taken.numbers };
-      last = inner_first law.first law.rest law.inner;
+      moves = moves_of law;
+      goes = law_goes old new line law taken took.written;
+      last = inner_last law.rest;
       some = λ e. cc;
-      none_made = inner_made law.rest law.inner;
+      none_made = (tt, inner_made law.rest);
       stays = stays_by old new (subst (Keeps (state_of old)) (sym state) law.keeps);
       broken = took.broken;
       flash = ap (λ (s : State). (mote_of s).flash) took.taken.state ∙ law.keeps.flash;
@@ -147,14 +119,15 @@ bounded_to m n c q numbers crossings quantum bounded =
     subst (λ x. IsBounded x m.crossings m.kernel.quantum m.kernel.mote.devices.polls) (sym numbers) (subst (λ x. IsBounded n x m.kernel.quantum m.kernel.mote.devices.polls) (sym crossings) (subst (λ x. IsBounded n c x m.kernel.mote.devices.polls) (sym quantum) bounded))
 
 -- a step that stops makes no page, and is none
-arrivals_stopped : (old mid : Machine) (law : StepLaw (links_in old) (state_of old) old.at) → IsGoing old → numbers_of mid ≡ numbered (Plain true law.first ∷ law.rest) (numbers_of old) → mid.steps ≡ old.steps → mid.owed ≡ None → Keeps (state_of old) (state_of mid)
+arrivals_stopped : (old mid : Machine) (law : StepLaw (links_in old) (state_of old) old.at) → IsGoing old → numbers_of mid ≡ numbered (moves_of law) (numbers_of old) → mid.steps ≡ old.steps → mid.owed ≡ None → Keeps (state_of old) (state_of mid)
     → AreArrivals (numbers_of mid) (most_arrivals mid.owed mid.steps)
 arrivals_stopped old mid law ready is steps free keeps =
     let n = numbers_of old in
     let before = ready.arrivals in
-    let pages : mid.pages ≡ old.pages = ap (λ (k : Numbers). k.pages) is ∙ pages_first law.first law.rest n law.inner in
-    let began : mid.began ≡ old.began = ap (λ (k : Numbers). k.began) is ∙ began_first law.first law.rest n in
-    let others : mid.others ≡ old.others = ap (λ (k : Numbers). k.others) is ∙ others_first law.first law.rest n in
+    let same = arrivals_first law.first law.rest n in
+    let pages : mid.pages ≡ old.pages = ap (λ (k : Numbers). k.pages) is ∙ same.pages in
+    let began : mid.began ≡ old.began = ap (λ (k : Numbers). k.began) is ∙ same.began in
+    let others : mid.others ≡ old.others = ap (λ (k : Numbers). k.others) is ∙ same.others in
     let ops : mid.kernel.mote.flash.ops ≡ old.kernel.mote.flash.ops = ap (λ (f : Memory). f.ops) keeps.flash in
     let most = most_owed old.owed old.steps in
     let made = before.pages in
@@ -165,24 +138,24 @@ arrivals_stopped old mid law ready is steps free keeps =
 -- the step that stops the program
 stopped_by : (old mid : Machine) (line : Option Line) (law : StepLaw (links_in old) (state_of old) old.at) (stop : Stop) → IsGoing old → is_taken (flat_of old) ≡ false → mid.torn ≡ old.torn → Took old mid line law → StopsAt (state_of old) old.at law.line law.rest stop law.end → HasStepped old mid line
 stopped_by old mid line law stop ready untaken torn took stops =
-    let steps : mid.steps ≡ old.steps = ap (λ (k : Numbers). k.steps) took.taken.numbers ∙ stop_steps law.first law.rest (numbers_of old) law.inner stops.stopped in
+    let ended = end_bounds (state_of old) old.at old.crossings stop law (numbers_of old) ready.some ready.most ready.counted stops in
+    let steps : mid.steps ≡ old.steps = ap (λ (k : Numbers). k.steps) took.taken.numbers ∙ ended.0 in
     let keeps : Keeps (state_of old) (state_of mid) = subst (Keeps (state_of old)) (sym took.taken.state) law.keeps in
     let stopped : mid.end ≡ Some (ends.Stopped stop) = ap (λ (s : State). s.end) took.taken.state ∙ stops.ended in
     record {
-      moves = Plain true law.first ∷ law.rest;
-      goes = record { walk = subst (λ s. Walk (state_of old) (Plain true law.first ∷ law.rest) s) (sym took.taken.state) law.walk; told = law.lines ∙ ap (λ l. line_before l []) (sym took.written); numbers = took.taken.numbers };
-      last = inner_first law.first law.rest law.inner;
+      moves = moves_of law;
+      goes = law_goes old mid line law took.taken took.written;
+      last = inner_last law.rest;
       some = λ e. cc;
-      none_made = inner_made law.rest law.inner;
+      none_made = (tt, inner_made law.rest);
       stays = stays_by old mid keeps;
       broken = took.broken;
       flash = ap (λ (s : State). (mote_of s).flash) took.taken.state ∙ law.keeps.flash;
       arrivals = arrivals_stopped old mid law ready took.taken.numbers steps (free_of mid (ap (λ (s : State). s.owed) took.taken.state ∙ stops.free)) keeps;
       way = StepWay.Stopped stop (record {
-        order = order_on old mid keeps torn (ap (λ (k : Numbers). k.pages) took.taken.numbers ∙ pages_first law.first law.rest (numbers_of old) law.inner) ready;
-        bounded = bounded_to mid (numbered (Plain true law.first ∷ law.rest) (numbers_of old)) old.crossings old.kernel.quantum took.taken.numbers took.crossings keeps.quantum
-            (bounded_stop (numbers_of old) old.crossings old.kernel.quantum
-            (count_in old) old.at old.kernel.mote.devices.polls mid.kernel.mote.devices.polls old.owed law.first law.rest ready.counted ready.arrivals ready.some ready.most law.inner law.few law.serves (stop_steps law.first law.rest (numbers_of old) law.inner stops.stopped) ready.polls keeps.polls);
+        order = order_on old mid keeps torn (ap (λ (k : Numbers). k.pages) took.taken.numbers ∙ (arrivals_first law.first law.rest (numbers_of old)).pages) ready;
+        bounded = bounded_to mid (numbered (moves_of law) (numbers_of old)) old.crossings old.kernel.quantum took.taken.numbers took.crossings keeps.quantum
+            (bounded_stop (numbers_of old) _ old.crossings old.kernel.quantum old.kernel.mote.devices.polls mid.kernel.mote.devices.polls old.owed ended.2 (arrivals_first law.first law.rest (numbers_of old)) ended.0 ready.arrivals ready.polls keeps.polls);
         ended = λ going. let e : Some (ends.Stopped stop) ≡ None = sym stopped ∙ going in cc;
         exact = ap (λ (s : State). count_of s.kernel) took.taken.state ∙ stops.count ∙ ready.exact ∙ ap₂ (λ q c. q - c % q) (sym keeps.quantum) (sym took.crossings);
       }) stopped (took.written ∙ stops.silent) steps (next_tried (program old.kernel) (flat_of old) _ untaken (stops.original old.steps old.crossings))

@@ -1,22 +1,22 @@
 -- From the law of a step to what the loop needs, and back.
 use Rattle.program_steps.proofs.Awaiting.{free_of}
-use Rattle.std.proofs.Common.{Bool, ◌≡◌, ℕ, ◌+◌, ◌<◌, ◌≤◌, true, false, List, [], ◌∷◌, length, refl, sym, ap, ◌∙◌, arith, subst}
-use Rattle.std.specs.Prelude.{◌≢◌, max, Option, Some, None}
+use Rattle.std.proofs.Common.{Bool, ◌≡◌, ℕ, ◌+◌, ◌<◌, ◌≤◌, true, false, List, [], ◌∷◌, length, refl, sym, ap, ◌∙◌, arith, subst, map}
+use Rattle.std.specs.Prelude.{◌≢◌, Option, Some, None}
 use Rattle.std.specs.Option.{option_or}
-use Rattle.mote_core.proofs.NeverStops.{both as parts}
 use Rattle.mote_devices.specs.declared.line.Line.{Line}
 use Rattle.page_index.specs.Entries.{IsEntry, IsMapped}
 use Rattle.flash_model.specs.Memory.{Memory}
 use Rattle.flash_model.specs.Layouts.{IsRight}
 use Rattle.flash_model.specs.declared.layout.Layout.{Layout}
 use Rattle.program_steps.specs.Machines.{Machine, state_of, numbers_of}
-use Rattle.step_laws.specs.Moves.{Move, Plain, Serve, Arrive, Take, lines_of, line_before, is_inner, are_inner}
-use Rattle.step_laws.specs.Numbers.{Numbers, moved, numbered, one_if}
+use Rattle.step_laws.specs.Moves.{Inner, Plain, Serve, Within, lines_of, line_before, line_within}
+use Rattle.step_laws.proofs.NumberLaws.{length_is}
+use Rattle.step_laws.specs.Numbers.{moved, numbered}
 use Rattle.step_laws.specs.States.{State, mote_of}
-use Rattle.step_laws.specs.Walks.{Walk, Makes}
-use Rattle.step_laws.specs.StepLaws.{Reaches, Outcome, Keeps, links_at}
-use Rattle.program_steps.specs.Loop.{IsOver, CanMove, HasMoved, LawOf, moves_of, moves_made, Rest, IsMidway, Took, line_of_move}
-use Rattle.program_steps.proofs.Told.{inner_of_step, none_left, moved_made}
+use Rattle.step_laws.specs.Walks.{WalkWithin, MakesOf}
+use Rattle.step_laws.specs.StepLaws.{moves_of, Reaches, Outcome, Keeps, links_at}
+use Rattle.program_steps.specs.Loop.{IsOver, CanMove, HasMoved, LawOf, moves_made, Rest, IsMidway, Took}
+use Rattle.program_steps.proofs.Told.{none_left, moved_made}
 
 some_none : {A : Type 0} (o : Option A) (a : A) → o ≡ Some a → o ≢ None
 some_none o a is = λ none. let e : Some a ≡ None = sym is ∙ none in cc
@@ -28,7 +28,7 @@ over_reached x z to due keeps (Reaches.Placed quiet free entry) =
     IsOver.Reached (to, subst (λ l. P l (mote_of z).flash.words) (sym keeps.layout) (subst (λ (f : Memory). P x.kernel.layout f.words) (sym keeps.flash) entry.0))
 over_reached x z to due keeps (Reaches.Owing stub alone owes of) = IsOver.Owes (some_none z.owed _ owes)
 
-over_by : (x z : State) (a : ℕ) (line : Option Line) (rest : List Move) → Keeps x z → Outcome (links_at x) x a line rest z → IsOver z
+over_by : (x z : State) (a : ℕ) (line : Option Line) (rest : List Inner) → Keeps x z → Outcome (links_at x) x a line rest z → IsOver z
 over_by x z a line rest keeps (Outcome.Went to goes) = over_reached x z to _ keeps goes.reaches
 over_by x z a line rest keeps (Outcome.Stopped stop stops) = IsOver.Ended (some_none z.end _ stops.ended)
 
@@ -49,69 +49,52 @@ line_kept (Some b) None one rest is = is
 line_kept (Some b) (Some l) None rest is = absurd (cc)
 line_kept (Some b) (Some l) (Some o) rest is = absurd (cc)
 
-lines_moved : (m : Move) (ms : List Move) → lines_of (m ∷ ms) ≡ line_before (line_of_move m) (lines_of ms)
-unfolding lines_of
-lines_moved (Plain b line) ms = refl
-lines_moved (Serve line stops) ms = refl
-lines_moved (Arrive target made ops) ms = refl
-lines_moved (Take stops) ms = refl
-
 -- behind a move: what is left, from what was left before it
-lines_on : (before after one : Option Line) (m : Move) (ms : List Move) → after ≡ option_or (line_of_move m) before → line_before before (lines_of (m ∷ ms)) ≡ line_before one [] → line_before after (lines_of ms) ≡ line_before one []
-lines_on before after one m ms written lines =
-    ap (λ l. line_before l (lines_of ms)) written ∙ line_kept before (line_of_move m) one (lines_of ms) (sym (ap (line_before before) (lines_moved m ms)) ∙ lines)
+lines_on : (before after one : Option Line) (m : Inner) (rest : List Line) → after ≡ option_or (line_within m) before → line_before before (line_before (line_within m) rest) ≡ line_before one [] → line_before after rest ≡ line_before one []
+lines_on before after one m rest written lines = ap (λ l. line_before l rest) written ∙ line_kept before (line_within m) one rest lines
 
 -- a move in the midst of a step is made where nothing is owed
-free_move : (x : State) (m : Move) (y : State) → is_inner m ≡ true → Makes x m y → x.owed ≡ None
-free_move x (Plain b line) y inner makes = makes.free
-free_move x (Serve line stops) y inner makes = makes.free
-free_move x (Arrive target made ops) y inner makes = absurd (cc)
-free_move x (Take stops) y inner makes = absurd (cc)
-
--- behind the first move, by a machine that counted the step before
-counted : (n : Numbers) (line : Option Line) → ◌≡◌ {A = Numbers} (moved (Plain false line) (record n { steps = n.steps + 1 })) (moved (Plain true line) n)
-unfolding moved
-counted n line = let same : n.steps + 1 + one_if false ≡ n.steps + one_if true = omega arith in ap (λ s. record n { steps = s; natural = n.natural + 1; since = n.since + 1; longest = max n.longest (n.since + 1) }) same
+free_move : (x y : State) (m : Inner) → MakesOf false x m y → x.owed ≡ None
+free_move x y (Plain line) makes = makes.free
+free_move x y (Serve line stops) makes = makes.free
 
 first_can : (old : Machine) (law : LawOf old) → CanMove (state_of old)
-first_can old law = record { move = Plain true law.first; next = law.walk.0; makes = law.walk.1; of_step = refl }
+first_can old law = record { begins = true; inner = Plain law.first; next = law.walk.0; makes = law.walk.1 }
 
 rest_first : (old new : Machine) (after : Option Line) (law : LawOf old) → HasMoved (record old { steps = old.steps + 1 }) new None after → Rest old new after law
+unfolding moved
 rest_first old new after law told =
-    let t = told (Plain true law.first) law.walk.0 law.walk.1 refl in
+    let t = told true (Plain law.first) law.walk.0 law.walk.1 in
     record {
       rest = law.rest;
-      walk = subst (λ s. Walk s law.rest law.end) (sym t.state) law.walk.2;
-      inner = law.inner;
-      short = omega (arith, law.short, moved_made (record old { steps = old.steps + 1 }) new None after (first_can old law) told);
-      numbers = ap (numbered law.rest) (t.numbers ∙ counted (numbers_of old) law.first);
+      walk = subst (λ s. WalkWithin s law.rest law.end) (sym t.state) law.walk.2;
+      short = omega (arith, law.few, law.serves, length_is law.rest, moved_made (record old { steps = old.steps + 1 }) new None after (first_can old law) told);
+      numbers = ap (numbered (map Within law.rest)) t.numbers;
       at = t.at;
       broken = t.broken;
       crossings = t.crossings;
       due = t.due;
-      lines = lines_on None after law.line (Plain true law.first) law.rest t.written law.lines;
+      lines = lines_on None after law.line (Plain law.first) (lines_of (map Within law.rest)) t.written law.lines;
     }
 
-rest_by : (old now new : Machine) (before after : Option Line) (law : LawOf old) (ms : List Move) → Walk (state_of now) ms law.end → are_inner ms ≡ true → length ms + moves_made now ≤ moves_made old + 65
-    → numbered ms (numbers_of now) ≡ numbered (moves_of old law) (numbers_of old) → now.at ≡ old.at → now.broken ≡ old.broken → now.crossings ≡ old.crossings → (now.owed ≡ None → now.due ≡ old.due)
-    → line_before before (lines_of ms) ≡ line_before law.line [] → ¬ IsOver (state_of now) → HasMoved now new before after → Rest old new after law
-rest_by old now new before after law [] walk inner short numbers at broken crossings due lines on told = absurd (on (subst IsOver (sym walk) (over_law old law)))
-rest_by old now new before after law (m ∷ ms) walk inner short numbers at broken crossings due lines on told =
-    let both = parts (is_inner m) (are_inner ms) inner in
-    let of_step = inner_of_step m both.0 in
-    let t = told m walk.0 walk.1 of_step.0 in
-    let made = moved_made now new before after (record { move = m; next = walk.0; makes = walk.1; of_step = of_step.0 }) told in
+rest_by : (old now new : Machine) (before after : Option Line) (law : LawOf old) (ms : List Inner) → WalkWithin (state_of now) ms law.end → length ms + moves_made now ≤ moves_made old + 65
+    → numbered (map Within ms) (numbers_of now) ≡ numbered (moves_of law) (numbers_of old) → now.at ≡ old.at → now.broken ≡ old.broken → now.crossings ≡ old.crossings → (now.owed ≡ None → now.due ≡ old.due)
+    → line_before before (lines_of (map Within ms)) ≡ line_before law.line [] → ¬ IsOver (state_of now) → HasMoved now new before after → Rest old new after law
+unfolding lines_of
+rest_by old now new before after law [] walk short numbers at broken crossings due lines on told = absurd (on (subst IsOver (sym walk) (over_law old law)))
+rest_by old now new before after law (m ∷ ms) walk short numbers at broken crossings due lines on told =
+    let t = told false m walk.0 walk.1 in
+    let made = moved_made now new before after (record { begins = false; inner = m; next = walk.0; makes = walk.1 }) told in
     record {
       rest = ms;
-      walk = subst (λ s. Walk s ms law.end) (sym t.state) walk.2;
-      inner = both.1;
+      walk = subst (λ s. WalkWithin s ms law.end) (sym t.state) walk.2;
       short = omega (arith, short, made);
-      numbers = ap (numbered ms) (t.numbers ∙ ap (λ k. moved k (numbers_of now)) of_step.1) ∙ numbers;
+      numbers = ap (numbered (map Within ms)) t.numbers ∙ numbers;
       at = t.at ∙ at;
       broken = t.broken ∙ broken;
       crossings = t.crossings ∙ crossings;
-      due = λ free. t.due free ∙ due (free_of now (free_move (state_of now) m walk.0 both.0 walk.1));
-      lines = lines_on before after law.line m ms t.written lines;
+      due = λ free. t.due free ∙ due (free_of now (free_move (state_of now) walk.0 m walk.1));
+      lines = lines_on before after law.line m (lines_of (map Within ms)) t.written lines;
     }
 
 -- behind any move of the step
@@ -120,21 +103,21 @@ midway_on old now new before after (IsMidway.Begun same silent) told law =
     rest_first old new after law (subst (λ m. HasMoved m new None after) same (subst (λ l. HasMoved now new l after) silent told))
 midway_on old now new before after (IsMidway.Going on left) told law =
     let r = left law in
-    rest_by old now new before after law r.rest r.walk r.inner r.short r.numbers r.at r.broken r.crossings r.due r.lines on told
+    rest_by old now new before after law r.rest r.walk r.short r.numbers r.at r.broken r.crossings r.due r.lines on told
 
 -- some move of the step may be made
-next_by : (x z : State) (ms : List Move) → Walk x ms z → are_inner ms ≡ true → IsOver z → ¬ IsOver x → CanMove x
-next_by x z [] walk inner over on = absurd (on (subst IsOver (sym walk) over))
-next_by x z (m ∷ ms) walk inner over on = record { move = m; next = walk.0; makes = walk.1; of_step = (inner_of_step m (parts (is_inner m) (are_inner ms) inner).0).0 }
+next_by : (x z : State) (ms : List Inner) → WalkWithin x ms z → IsOver z → ¬ IsOver x → CanMove x
+next_by x z [] walk over on = absurd (on (subst IsOver (sym walk) over))
+next_by x z (m ∷ ms) walk over on = record { begins = false; inner = m; next = walk.0; makes = walk.1 }
 
 pub midway_can : (old now : Machine) (line : Option Line) → LawOf old → IsMidway old now line → CanMove (state_of now)
 midway_can old now line law (IsMidway.Begun same silent) = subst (λ (m : Machine). CanMove (state_of m)) (sym same) (first_can old law)
 midway_can old now line law (IsMidway.Going on left) =
     let r = left law in
-    next_by (state_of now) law.end r.rest r.walk r.inner (over_law old law) on
+    next_by (state_of now) law.end r.rest r.walk (over_law old law) on
 
 -- a step that isn't over has made fewer moves than it may
-few_by : (old now : Machine) (law : LawOf old) (ms : List Move) → Walk (state_of now) ms law.end → length ms + moves_made now ≤ moves_made old + 65 → ¬ IsOver (state_of now) → moves_made now < moves_made old + 65
+few_by : (old now : Machine) (law : LawOf old) (ms : List Inner) → WalkWithin (state_of now) ms law.end → length ms + moves_made now ≤ moves_made old + 65 → ¬ IsOver (state_of now) → moves_made now < moves_made old + 65
 few_by old now law [] walk short on = absurd (on (subst IsOver (sym walk) (over_law old law)))
 few_by old now law (m ∷ ms) walk short on = omega arith
 
@@ -143,8 +126,8 @@ midway_few old now line law (IsMidway.Begun same silent) = omega (arith, ap move
 midway_few old now line law (IsMidway.Going on left) = let r = left law in few_by old now law r.rest r.walk r.short on
 
 -- where it is over, all moves were made
-took_by : (old new : Machine) (line : Option Line) (law : LawOf old) (ms : List Move) → ms ≡ [] → Walk (state_of new) ms law.end → numbered ms (numbers_of new) ≡ numbered (moves_of old law) (numbers_of old)
-    → new.at ≡ old.at → new.broken ≡ old.broken → new.crossings ≡ old.crossings → (new.owed ≡ None → new.due ≡ old.due) → line_before line (lines_of ms) ≡ line_before law.line [] → Took old new line law
+took_by : (old new : Machine) (line : Option Line) (law : LawOf old) (ms : List Inner) → ms ≡ [] → WalkWithin (state_of new) ms law.end → numbered (map Within ms) (numbers_of new) ≡ numbered (moves_of law) (numbers_of old)
+    → new.at ≡ old.at → new.broken ≡ old.broken → new.crossings ≡ old.crossings → (new.owed ≡ None → new.due ≡ old.due) → line_before line (lines_of (map Within ms)) ≡ line_before law.line [] → Took old new line law
 unfolding lines_of
 took_by old new line law [] none walk numbers at broken crossings due lines =
     record { taken = record { state = walk; numbers = numbers }; written = same_line line law.line lines; at = at; broken = broken; crossings = crossings; due = due }
@@ -152,4 +135,4 @@ took_by old new line law (m ∷ ms) none walk numbers at broken crossings due li
 
 pub took_over : (old new : Machine) (line : Option Line) → IsRight new.kernel.layout → IsMapped new.kernel.layout new.kernel.mote.flash.words → IsOver (state_of new) → (law : LawOf old) → Rest old new line law → Took old new line law
 took_over old new line right mapped over law r =
-    took_by old new line law r.rest (none_left (state_of new) law.end r.rest right mapped r.walk r.inner over) r.walk r.numbers r.at r.broken r.crossings r.due r.lines
+    took_by old new line law r.rest (none_left (state_of new) law.end r.rest right mapped r.walk over) r.walk r.numbers r.at r.broken r.crossings r.due r.lines

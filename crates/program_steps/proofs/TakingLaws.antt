@@ -173,7 +173,7 @@ taken_vector m owed v k ready owes few wanted is =
       goes = record { walk = (state_of (vectored m v k), take_move m owed (answers.Vector v, k) false (state_of (vectored m v k)) ready owes few w is refl (ap₂ (λ e t. record { kernel = k; owed = Some (record { target = v; stub = None; due = false }); end = e; torn = t }) ready.going ready.untorn), refl); told = refl; numbers = numbers_taken m v k same };
       last = refl;
       some = λ e. cc;
-      none_made = tt;
+      none_made = (tt, tt);
       stays = record {
         program = ap₂ (λ i n. record { image = i; part = k.part; page_limit = n; quantum = k.quantum }) (ap₂ (λ (l : Layout) (f : Memory). image_of l f.words) same.layout same.flash) (ap length same.swap) ∙ ap₂ (λ q r. record { image = image_held m.kernel; part = r; page_limit = length m.kernel.mote.swap; quantum = q }) same.quantum same.part;
         layout = same.layout;
@@ -202,7 +202,7 @@ taken_stopped m owed stop k ready owes few wanted is =
       goes = record { walk = (state_of new, take_move m owed (answers.Stopped stop, m.kernel) true (state_of new) ready owes few w (ap (λ x. (answers.Stopped stop, x)) (sym same) ∙ is) refl refl, refl); told = refl; numbers = numbers_stopped m };
       last = refl;
       some = λ e. cc;
-      none_made = tt;
+      none_made = (tt, tt);
       stays = record { program = refl; layout = refl; quantum = refl; failing = refl };
       broken = refl;
       flash = refl;

@@ -1,6 +1,6 @@
 -- What one call tells of a move.
 use Rattle.program_steps.proofs.Awaiting.{owes_of}
-use Rattle.std.proofs.Common.{◌≡◌, ℕ, ◌+◌, ◌-◌, ◌<◌, ◌≤◌, Bool, true, false, List, [], ◌∷◌, refl, sym, ap, ap₂, ◌∙◌, arith, subst, inl, inr}
+use Rattle.std.proofs.Common.{◌≡◌, ℕ, ◌+◌, ◌-◌, ◌<◌, ◌≤◌, Bool, false, List, [], ◌∷◌, refl, sym, ap, ap₂, ◌∙◌, arith, subst, inl, inr}
 use Rattle.std.specs.Prelude.{◌⊎◌, ◌^◌, max, is_some, IfNone, Option, Some, None}
 use Rattle.mote_devices.specs.declared.line.Line.{Line}
 use Rattle.mote_core.specs.declared.mote.Mote.{Mote}
@@ -13,7 +13,7 @@ use Rattle.kernel_entry.specs.declared.kernel.Served.{Served}
 use Rattle.kernel_entry.specs.Services.{served, is_due}
 use Rattle.branch_bridge.specs.declared.rewriting.Torn.{Torn}
 use Rattle.step_laws.specs.declared.moves.End.{End}
-use Rattle.step_laws.specs.Moves.{Move, Plain as PlainMove, Serve, Arrive, Take}
+use Rattle.step_laws.specs.Moves.{Inner, Plain as PlainMove, Serve, Within}
 use Rattle.step_laws.specs.Numbers.{Numbers, moved, one_if}
 use Rattle.page_index.specs.Entries.{IsEntry, IsMapped}
 use Rattle.page_index.specs.Cursors.{IsCursor}
@@ -24,10 +24,9 @@ use Rattle.flash_model.specs.Layouts.{IsRight}
 use Rattle.flash_model.specs.declared.layout.Layout.{Layout}
 use Rattle.program_steps.specs.Machines.{Machine}
 use Rattle.program_steps.specs.Machines.{state_of, numbers_of}
-use Rattle.step_laws.specs.Moves.{is_inner, are_inner}
-use Rattle.program_steps.specs.Loop.{IsHalted, is_small, IsOver, CanPlain, CanServeNow, HasPlain, HasServed, CanMove, HasMoved, is_of_step, uncounted, moves_made}
+use Rattle.program_steps.specs.Loop.{IsHalted, is_small, IsOver, CanPlain, CanServeNow, HasPlain, HasServed, CanMove, HasMoved, moves_made}
 use Rattle.step_laws.specs.States.{Awaited, State, mote_of, with_mote, after_service, line_served, is_stop}
-use Rattle.step_laws.specs.Walks.{Makes, MakesPlain, MakesServe, Walk}
+use Rattle.step_laws.specs.Walks.{MakesPlain, MakesServe, MakesOf, WalkWithin}
 use Rattle.step_laws.proofs.MoveLaws.{entry_high, pool_low}
 use Rattle.nat_page.specs.Entered.{IsPlace}
 
@@ -38,15 +37,14 @@ plain_state x y next shown b line step makes =
 
 -- where `longest` lags behind `since`, a plain step raises what it stands for
 pub plain_numbers : (n : Numbers) (line : Option Line) (before longest ops : ℕ) → n.natural ≡ before + n.since → n.longest ≡ max longest n.since → ops ≡ n.ops
-    → ◌≡◌ {A = Numbers} (record n { natural = before + (n.since + 1); since = n.since + 1; longest = max longest (n.since + 1); ops = ops }) (moved (PlainMove false line) n)
+    → ◌≡◌ {A = Numbers} (record n { natural = before + (n.since + 1); since = n.since + 1; longest = max longest (n.since + 1); ops = ops }) (moved (Within (PlainMove line)) n)
 unfolding moved
 plain_numbers n line before longest ops counted is stays =
-    let same : n.steps ≡ n.steps + one_if false = omega arith in
     let one : before + (n.since + 1) ≡ n.natural + 1 = omega (arith, counted) in
     let reach : max longest (n.since + 1) ≡ max n.longest (n.since + 1) = omega (arith, is) in
     ap (λ o. record n { natural = before + (n.since + 1); since = n.since + 1; longest = max longest (n.since + 1); ops = o }) stays
     ∙ ap (λ k. record n { natural = k; since = n.since + 1; longest = max longest (n.since + 1) }) one
-    ∙ ap₂ (λ s l. record n { steps = s; natural = n.natural + 1; since = n.since + 1; longest = l }) same reach
+    ∙ ap (λ l. record n { natural = n.natural + 1; since = n.since + 1; longest = l }) reach
 
 -- a service, from what it answered
 pub serve_state : (x y : State) (answer : Served) (k : Kernel) (due : Bool) (line : Option Line) (stops : Bool) → (answer, k) ≡ served x.kernel → due ≡ is_due x.kernel → MakesServe x line stops y → (after_service due (answer, k) ≡ y) × (line_served answer ≡ line) × (is_stop answer ≡ stops)
@@ -54,7 +52,7 @@ serve_state x y answer k due line stops is same makes =
     (ap₂ after_service same is ∙ sym makes.result, ap (λ (o : Served × Kernel). line_served o.0) is ∙ makes.written, ap (λ (o : Served × Kernel). is_stop o.0) is ∙ makes.halts)
 
 pub serve_numbers : (n : Numbers) (line : Option Line) (stops b : Bool) (steps natural longest ops : ℕ) → b ≡ stops → steps ≡ n.steps - one_if b → natural ≡ n.natural → longest ≡ n.longest → ops ≡ n.ops
-    → ◌≡◌ {A = Numbers} (record n { steps = steps; natural = natural; entries = n.entries + 1; since = 0; longest = longest; ops = ops }) (moved (Serve line stops) n)
+    → ◌≡◌ {A = Numbers} (record n { steps = steps; natural = natural; entries = n.entries + 1; since = 0; longest = longest; ops = ops }) (moved (Within (Serve line stops)) n)
 unfolding moved
 serve_numbers n line stops b steps natural longest ops same is counted raised stays =
     ap (λ o. record n { steps = steps; natural = natural; entries = n.entries + 1; since = 0; longest = longest; ops = o }) stays
@@ -89,47 +87,27 @@ is_none_of None is = refl
 is_none_of (Some a) is = absurd (cc)
 
 -- a move of a step is a plain one or a service, by the pc
-plain_by : (x y : State) (move : Move) → Makes x move y → is_of_step move ≡ true → (mote_of x).cpu.pc < 0xF000 → CanPlain x
-plain_by x y (PlainMove b line) makes of_step low = record { begins = b; line = line; next = y; makes = makes }
-plain_by x y (Serve line stops) makes of_step low = absurd (let e = entry_high x.kernel makes.can in omega arith)
-plain_by x y (Arrive target made ops) makes of_step low = absurd (cc)
-plain_by x y (Take stops) makes of_step low = absurd (cc)
+plain_by : (x y : State) (b : Bool) (m : Inner) → MakesOf b x m y → (mote_of x).cpu.pc < 0xF000 → CanPlain x
+plain_by x y b (PlainMove line) makes low = record { begins = b; line = line; next = y; makes = makes }
+plain_by x y b (Serve line stops) makes low = absurd (let e = entry_high x.kernel makes.can in omega arith)
 
 pub can_plain : (x : State) → CanMove x → (mote_of x).cpu.pc < 0xF000 → CanPlain x
-can_plain x can low = plain_by x can.next can.move can.makes can.of_step low
+can_plain x can low = plain_by x can.next can.begins can.inner can.makes low
 
-serve_by : (x y : State) (move : Move) → IsRight x.kernel.layout → Makes x move y → is_of_step move ≡ true → 0xF000 ≤ (mote_of x).cpu.pc → CanServeNow x
-serve_by x y (PlainMove b line) right makes of_step high = absurd (let e = pool_low x.kernel.layout (mote_of x).cpu.pc right makes.pool in omega arith)
-serve_by x y (Serve line stops) right makes of_step high = record { line = line; stops = stops; next = y; makes = makes }
-serve_by x y (Arrive target made ops) right makes of_step high = absurd (cc)
-serve_by x y (Take stops) right makes of_step high = absurd (cc)
+serve_by : (x y : State) (b : Bool) (m : Inner) → IsRight x.kernel.layout → MakesOf b x m y → 0xF000 ≤ (mote_of x).cpu.pc → CanServeNow x
+serve_by x y b (PlainMove line) right makes high = absurd (let e = pool_low x.kernel.layout (mote_of x).cpu.pc right makes.pool in omega arith)
+serve_by x y b (Serve line stops) right makes high = record { line = line; stops = stops; next = y; makes = makes }
 
 pub can_serve : (x : State) → IsRight x.kernel.layout → CanMove x → 0xF000 ≤ (mote_of x).cpu.pc → CanServeNow x
-can_serve x right can high = serve_by x can.next can.move right can.makes can.of_step high
+can_serve x right can high = serve_by x can.next can.begins can.inner right can.makes high
 
 pub moved_plain : (old new : Machine) (before after : Option Line) → HasPlain old new before after → old.kernel.mote.cpu.pc < 0xF000 → HasMoved old new before after
-moved_plain old new before after told low (PlainMove b written) next makes of_step =
-    let t = told b written next makes in
-    record { state = t.0; numbers = t.1; written = t.2; at = t.3; broken = t.4; crossings = t.5; due = λ free. t.6 }
-moved_plain old new before after told low (Serve written stops) next makes of_step = absurd (let e = entry_high old.kernel makes.can in omega arith)
-moved_plain old new before after told low (Arrive target made ops) next makes of_step = absurd (cc)
-moved_plain old new before after told low (Take stops) next makes of_step = absurd (cc)
+moved_plain old new before after told low b (PlainMove line) next makes = told b line next makes
+moved_plain old new before after told low b (Serve line stops) next makes = absurd (let e = entry_high old.kernel makes.can in omega arith)
 
 pub moved_serve : (old new : Machine) (before after : Option Line) → IsRight old.kernel.layout → HasServed old new before after → 0xF000 ≤ old.kernel.mote.cpu.pc → HasMoved old new before after
-moved_serve old new before after right told high (Serve written stops) next makes of_step =
-    let t = told written stops next makes in
-    record { state = t.0; numbers = t.1; written = t.2; at = t.3; broken = t.4; crossings = t.5; due = t.6 }
-moved_serve old new before after right told high (PlainMove b written) next makes of_step = absurd (let e = pool_low old.kernel.layout old.kernel.mote.cpu.pc right makes.pool in omega arith)
-moved_serve old new before after right told high (Arrive target made ops) next makes of_step = absurd (cc)
-moved_serve old new before after right told high (Take stops) next makes of_step = absurd (cc)
-
--- a move in the midst of a step is one of a step, and counts as it is
-pub inner_of_step : (m : Move) → is_inner m ≡ true → (is_of_step m ≡ true) × (uncounted m ≡ m)
-inner_of_step (PlainMove true line) inner = absurd (cc)
-inner_of_step (PlainMove false line) inner = (refl, refl)
-inner_of_step (Serve line stops) inner = (refl, refl)
-inner_of_step (Arrive target made ops) inner = absurd (cc)
-inner_of_step (Take stops) inner = absurd (cc)
+moved_serve old new before after right told high b (Serve line stops) next makes = told line stops next makes
+moved_serve old new before after right told high b (PlainMove line) next makes = absurd (let e = pool_low old.kernel.layout old.kernel.mote.cpu.pc right makes.pool in omega arith)
 
 -- an entry's place is in the pool
 low_by : (layout : Layout) (words : List ℕ) (t a : ℕ) → IsRight layout → (entry : IsEntry layout words t a) → IsFree words entry.page ⊎ IsMap words entry.page → a < 0xF000
@@ -145,39 +123,34 @@ place_low : (layout : Layout) (words : List ℕ) (a : ℕ) → IsRight layout �
 place_low layout words a right mapped place = low_by layout words place.0 a right place.1 (mapped.pages place.1.page place.1.pool)
 
 -- where the step is over nothing is left
-pub none_left : (x z : State) (ms : List Move) → IsRight x.kernel.layout → IsMapped x.kernel.layout (mote_of x).flash.words → Walk x ms z → are_inner ms ≡ true → IsOver x → ms ≡ []
-none_left x z [] right mapped walk inner over = refl
-none_left x z (PlainMove true line ∷ ms) right mapped walk inner over = absurd (cc)
-none_left x z (PlainMove false line ∷ ms) right mapped walk inner (IsOver.Owes owes) = absurd (owes walk.1.free)
-none_left x z (PlainMove false line ∷ ms) right mapped walk inner (IsOver.Ended ended) = absurd (ended walk.1.going)
-none_left x z (PlainMove false line ∷ ms) right mapped walk inner (IsOver.Reached place) = absurd (walk.1.starts place)
-none_left x z (Serve line stops ∷ ms) right mapped walk inner (IsOver.Owes owes) = absurd (owes walk.1.free)
-none_left x z (Serve line stops ∷ ms) right mapped walk inner (IsOver.Ended ended) = absurd (ended walk.1.going)
-none_left x z (Serve line stops ∷ ms) right mapped walk inner (IsOver.Reached place) = absurd (let e = place_low x.kernel.layout (mote_of x).flash.words (mote_of x).cpu.pc right mapped place in let f = entry_high x.kernel walk.1.can in omega arith)
-none_left x z (Arrive target made ops ∷ ms) right mapped walk inner over = absurd (cc)
-none_left x z (Take stops ∷ ms) right mapped walk inner over = absurd (cc)
+none_next : (x y : State) (m : Inner) → IsRight x.kernel.layout → IsMapped x.kernel.layout (mote_of x).flash.words → MakesOf false x m y → ¬ IsOver x
+none_next x y (PlainMove line) right mapped makes (IsOver.Owes owes) = owes makes.free
+none_next x y (PlainMove line) right mapped makes (IsOver.Ended ended) = ended makes.going
+none_next x y (PlainMove line) right mapped makes (IsOver.Reached place) = makes.starts place
+none_next x y (Serve line stops) right mapped makes (IsOver.Owes owes) = owes makes.free
+none_next x y (Serve line stops) right mapped makes (IsOver.Ended ended) = ended makes.going
+none_next x y (Serve line stops) right mapped makes (IsOver.Reached place) = let e = place_low x.kernel.layout (mote_of x).flash.words (mote_of x).cpu.pc right mapped place in let f = entry_high x.kernel makes.can in omega arith
 
--- numbers grow by one a move
-pub small_moved : (n : Numbers) (m : Move) (top : ℕ) → is_small n top → is_small (moved m n) (top + 1)
-unfolding moved
-small_moved n (PlainMove b line) top small = let a = small.natural in let b = small.entries in let c = small.since in record { natural = omega arith; entries = omega arith; since = omega arith }
-small_moved n (Serve line stops) top small = let a = small.natural in let b = small.entries in let c = small.since in record { natural = omega arith; entries = omega arith; since = omega arith }
-small_moved n (Arrive target made ops) top small = let a = small.natural in let b = small.entries in let c = small.since in record { natural = omega arith; entries = omega arith; since = omega arith }
-small_moved n (Take stops) top small = let a = small.natural in let b = small.entries in let c = small.since in record { natural = omega arith; entries = omega arith; since = omega arith }
+pub none_left : (x z : State) (ms : List Inner) → IsRight x.kernel.layout → IsMapped x.kernel.layout (mote_of x).flash.words → WalkWithin x ms z → IsOver x → ms ≡ []
+none_left x z [] right mapped walk over = refl
+none_left x z (m ∷ ms) right mapped walk over = absurd (none_next x walk.0 m right mapped walk.1 over)
 
--- each move of a step is one more
-made_by : (m : Move) (n k : Numbers) → is_of_step m ≡ true → k ≡ moved (uncounted m) n → k.natural + k.entries ≡ n.natural + n.entries + 1
+-- each move is one more, and the numbers grow by one at most
+made_by : (m : Inner) (n k : Numbers) → k ≡ moved (Within m) n → k.natural + k.entries ≡ n.natural + n.entries + 1
 unfolding moved
-made_by (PlainMove b line) n k of_step is = ap (λ (x : Numbers). x.natural + x.entries) is ∙ omega arith
-made_by (Serve line stops) n k of_step is = ap (λ (x : Numbers). x.natural + x.entries) is ∙ omega arith
-made_by (Arrive target made ops) n k of_step is = absurd (cc)
-made_by (Take stops) n k of_step is = absurd (cc)
+made_by (PlainMove line) n k is = ap (λ (x : Numbers). x.natural + x.entries) is ∙ omega arith
+made_by (Serve line stops) n k is = ap (λ (x : Numbers). x.natural + x.entries) is ∙ omega arith
 
 pub moved_made : (now new : Machine) (before after : Option Line) → CanMove (state_of now) → HasMoved now new before after → moves_made new ≡ moves_made now + 1
-moved_made now new before after can told = made_by can.move (numbers_of now) (numbers_of new) can.of_step (told can.move can.next can.makes can.of_step).numbers
+moved_made now new before after can told = made_by can.inner (numbers_of now) (numbers_of new) (told can.begins can.inner can.next can.makes).numbers
 
-pub small_on : (now new : Machine) (before after : Option Line) (top : ℕ) → CanMove (state_of now) → HasMoved now new before after → is_small (numbers_of now) top → is_small (numbers_of new) (top + 1)
-small_on now new before after top can told small = subst (λ n. is_small n (top + 1)) (sym (told can.move can.next can.makes can.of_step).numbers) (small_moved (numbers_of now) (uncounted can.move) top small)
+small_moved : (n : Numbers) (m : Inner) (top : ℕ) → is_small n top → is_small (moved (Within m) n) (top + 1)
+unfolding moved
+small_moved n (PlainMove line) top small = let a = small.natural in let b = small.entries in let c = small.since in record { natural = omega arith; entries = omega arith; since = omega arith }
+small_moved n (Serve line stops) top small = let a = small.natural in let b = small.entries in let c = small.since in record { natural = omega arith; entries = omega arith; since = omega arith }
+
+small_on : (now new : Machine) (before after : Option Line) (top : ℕ) → CanMove (state_of now) → HasMoved now new before after → is_small (numbers_of now) top → is_small (numbers_of new) (top + 1)
+small_on now new before after top can told small = subst (λ n. is_small n (top + 1)) (sym (told can.begins can.inner can.next can.makes).numbers) (small_moved (numbers_of now) can.inner top small)
 
 pub small_moves : (now new : Machine) (before after : Option Line) → CanMove (state_of now) → HasMoved now new before after → is_small (numbers_of now) (2 ^ 60 + moves_made now) → is_small (numbers_of new) (2 ^ 60 + moves_made new)
 small_moves now new before after can told small =

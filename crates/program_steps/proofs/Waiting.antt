@@ -102,6 +102,7 @@ arrivals_waiting y x sram others waited =
 pub sound_waiting : (y x : Machine) (sram : List ℕ) (others : ℕ) → HasWaited y x sram others → y.torn ≡ None → IsSound y → IsSound (over y x sram others)
 sound_waiting y x sram others waited untorn sound =
     let bounded = sound.bounded in
+    let moves = bounded.moves in
     let arrivals = arrivals_waiting y x sram others waited in
     let pages = arrivals.pages in
     let ops = arrivals.ops in
@@ -109,12 +110,7 @@ sound_waiting y x sram others waited untorn sound =
     record {
       order = order_waiting y x sram others waited untorn sound.order;
       bounded = record {
-        natural = bounded.natural;
-        entries = bounded.entries;
-        since = bounded.since;
-        longest = bounded.longest;
-        crossed = bounded.crossed;
-        most = bounded.most;
+        moves = record { natural = moves.natural; entries = moves.entries; crossed = moves.crossed; since = moves.since; longest = moves.longest; most = moves.most };
         polls = bounded.polls;
         pages = omega arith;
         ops = omega arith;

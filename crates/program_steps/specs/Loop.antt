@@ -2,7 +2,7 @@
 -- asks that some move may be made; and whichever may, it leaves what that one leads to. So it is told
 -- nothing of the law of a step, and follows it all the same. The device line of a step stands where all its
 -- moves put it: a call tells which stood there before, and which stands there after.
-use Rattle.std.specs.Prelude.{◌≡◌, ◌≢◌, ℕ, ◌+◌, ◌<◌, ◌≤◌, Bool, true, false, List, [], ◌∷◌, length, Option, Some, None}
+use Rattle.std.specs.Prelude.{◌≡◌, ◌≢◌, ℕ, ◌+◌, ◌<◌, ◌≤◌, Bool, true, false, List, [], length, Option, Some, None, map}
 use Rattle.std.specs.Option.{option_or}
 use Rattle.mote_devices.specs.declared.line.Line.{Line}
 use Rattle.page_index.specs.Entries.{IsEntry}
@@ -12,13 +12,12 @@ use Rattle.branch_bridge.specs.Arrivals.{KeptThrough, KeepsParts}
 use Rattle.step_laws.specs.declared.moves.Owed.{Owed}
 use Rattle.program_steps.specs.declared.progress.Progress.{Progress}
 use Rattle.program_steps.specs.Machines.{Machine, state_of, numbers_of}
-use Rattle.step_laws.specs.StepLaws.{StepLaw, crossings_over, links_at}
-use Rattle.step_laws.specs.Moves.{Move, Plain, Serve, Arrive, Take, lines_of, line_before}
+use Rattle.step_laws.specs.StepLaws.{StepLaw, moves_of, crossings_over, links_at}
+use Rattle.step_laws.specs.Moves.{Inner, Plain, Serve, Within, Arrive, lines_of, line_before, line_within}
 use Rattle.step_laws.specs.Numbers.{Numbers, moved, numbered, one_if}
 use Rattle.step_laws.specs.States.{State, mote_of, store_of, end_by}
-use Rattle.step_laws.specs.Walks.{Makes, MakesPlain, MakesServe, MakesArrive, Walk}
+use Rattle.step_laws.specs.Walks.{MakesPlain, MakesServe, MakesOf, MakesArrive, WalkWithin}
 use Rattle.nat_page.specs.Entered.{IsPlace}
-use Rattle.step_laws.specs.Moves.{are_inner}
 
 -- numbers that can be counted on
 pub record is_small (n : Numbers) (top : ℕ) : Type 0 where
@@ -33,11 +32,18 @@ pub record CanPlain (x : State) : Type 0 where
   pub next : State
   pub makes : MakesPlain x begins line next
 
--- the step of the program that it may begin isn't counted by it
+-- The move of a step was made. It counts as one in the midst of the step: a step that it begins was counted before.
+pub record Moved (old new : Machine) (before after : Option Line) (inner : Inner) (next : State) : Type 0 where
+  pub state : state_of new ≡ next
+  pub numbers : numbers_of new ≡ moved (Within inner) (numbers_of old)
+  pub written : after ≡ option_or (line_within inner) before
+  pub at : new.at ≡ old.at
+  pub broken : new.broken ≡ old.broken
+  pub crossings : new.crossings ≡ old.crossings
+  pub due : new.owed ≡ None → new.due ≡ old.due
+
 abbrev pub HasPlain : Machine → Machine → (before after : Option Line) → Type 0
-HasPlain old new before after = (begins : Bool) → (line : Option Line) → (y : State) → MakesPlain (state_of old) begins line y
-    → (state_of new ≡ y) × (numbers_of new ≡ moved (Plain false line) (numbers_of old)) × (after ≡ option_or line before) × (new.at ≡ old.at) ×
-    (new.broken ≡ old.broken) × (new.crossings ≡ old.crossings) × (new.due ≡ old.due)
+HasPlain old new before after = (begins : Bool) → (line : Option Line) → (next : State) → MakesPlain (state_of old) begins line next → Moved old new before after (Plain line) next
 
 -- the same of a service
 pub record CanServeNow (x : State) : Type 0 where
@@ -47,9 +53,7 @@ pub record CanServeNow (x : State) : Type 0 where
   pub makes : MakesServe x line stops next
 
 abbrev pub HasServed : Machine → Machine → (before after : Option Line) → Type 0
-HasServed old new before after = (line : Option Line) → (stops : Bool) → (y : State) → MakesServe (state_of old) line stops y
-    → (state_of new ≡ y) × (numbers_of new ≡ moved (Serve line stops) (numbers_of old)) × (after ≡ option_or line before) × (new.at ≡ old.at) ×
-    (new.broken ≡ old.broken) × (new.crossings ≡ old.crossings) × (new.owed ≡ None → new.due ≡ old.due)
+HasServed old new before after = (line : Option Line) → (stops : Bool) → (next : State) → MakesServe (state_of old) line stops next → Moved old new before after (Serve line stops) next
 
 -- a step of the program is over
 pub data IsOver (x : State) : Type 0 where
@@ -72,44 +76,15 @@ abbrev pub HasReached : Machine → Option ℕ → Type 0
 HasReached m (Some t) = (m.owed ≡ None) × (m.end ≡ None) × IsEntry m.kernel.layout m.kernel.mote.flash.words t m.kernel.mote.cpu.pc
 HasReached m None = IsHalted m
 
--- a move of a step: no arrival
-abbrev pub is_of_step : Move → Bool
-is_of_step (Plain begins line) = true
-is_of_step (Serve line stops) = true
-is_of_step (Arrive target made ops) = false
-is_of_step (Take stops) = false
-
 -- some move of a step may be made, and whichever may, it was made
 pub record CanMove (x : State) : Type 0 where
-  pub move : Move
+  pub begins : Bool
+  pub inner : Inner
   pub next : State
-  pub makes : Makes x move next
-  pub of_step : is_of_step move ≡ true
-
-abbrev pub line_of_move : Move → Option Line
-line_of_move (Plain begins line) = line
-line_of_move (Serve line stops) = line
-line_of_move (Arrive target made ops) = None
-line_of_move (Take stops) = None
-
--- the move, where the step that it may begin was counted before
-abbrev pub uncounted : Move → Move
-uncounted (Plain begins line) = Plain false line
-uncounted (Serve line stops) = Serve line stops
-uncounted (Arrive target made ops) = Arrive target made ops
-uncounted (Take stops) = Take stops
-
-pub record Moved (old new : Machine) (before after : Option Line) (move : Move) (next : State) : Type 0 where
-  pub state : state_of new ≡ next
-  pub numbers : numbers_of new ≡ moved (uncounted move) (numbers_of old)
-  pub written : after ≡ option_or (line_of_move move) before
-  pub at : new.at ≡ old.at
-  pub broken : new.broken ≡ old.broken
-  pub crossings : new.crossings ≡ old.crossings
-  pub due : new.owed ≡ None → new.due ≡ old.due
+  pub makes : MakesOf begins x inner next
 
 abbrev pub HasMoved : Machine → Machine → (before after : Option Line) → Type 0
-HasMoved old new before after = (move : Move) → (next : State) → Makes (state_of old) move next → is_of_step move ≡ true → Moved old new before after move next
+HasMoved old new before after = (begins : Bool) → (inner : Inner) → (next : State) → MakesOf begins (state_of old) inner next → Moved old new before after inner next
 
 -- an arrival was made, or refused, and left what arrivals leave
 pub record HasArrived (old new : Machine) : Type 0 where
@@ -133,12 +108,9 @@ noted_refusal (Some refused) p = record p { end = Some (end_by refused.why); tor
 abbrev pub after_arrival : Arrival → Progress → Progress
 after_arrival arrival p = noted_refusal arrival.refused (record p { pages = p.pages + one_if arrival.made })
 
--- the law of the step that begins here, and its moves
+-- the law of the step that begins here
 abbrev pub LawOf : Machine → Type 0
 LawOf m = StepLaw (links_at (state_of m)) (state_of m) m.at
-
-abbrev pub moves_of : (m : Machine) → LawOf m → List Move
-moves_of m law = Plain true law.first ∷ law.rest
 
 -- how many moves of steps a machine has made
 abbrev pub moves_made : Machine → ℕ
@@ -146,16 +118,15 @@ moves_made m = m.natural + m.entries
 
 -- what is left of the moves of a step
 pub record Rest (old now : Machine) (line : Option Line) (law : LawOf old) : Type 0 where
-  pub rest : List Move
-  pub walk : Walk (state_of now) rest law.end
-  pub inner : are_inner rest ≡ true
+  pub rest : List Inner
+  pub walk : WalkWithin (state_of now) rest law.end
   pub short : length rest + moves_made now ≤ moves_made old + 65
-  pub numbers : numbered rest (numbers_of now) ≡ numbered (moves_of old law) (numbers_of old)
+  pub numbers : numbered (map Within rest) (numbers_of now) ≡ numbered (moves_of law) (numbers_of old)
   pub at : now.at ≡ old.at
   pub broken : now.broken ≡ old.broken
   pub crossings : now.crossings ≡ old.crossings
   pub due : now.owed ≡ None → now.due ≡ old.due
-  pub lines : line_before line (lines_of rest) ≡ line_before law.line []
+  pub lines : line_before line (lines_of (map Within rest)) ≡ line_before law.line []
 
 -- A step was counted, and has not moved yet; or some of its moves were made, whichever the law gives, and it
 -- isn't over.
@@ -166,7 +137,7 @@ pub data IsMidway (old now : Machine) (line : Option Line) : Type 0 where
 -- the walk of the law of a step was made
 pub record Taken (old new : Machine) (law : LawOf old) : Type 0 where
   pub state : state_of new ≡ law.end
-  pub numbers : numbers_of new ≡ numbered (moves_of old law) (numbers_of old)
+  pub numbers : numbers_of new ≡ numbered (moves_of law) (numbers_of old)
 
 pub record Took (old new : Machine) (line : Option Line) (law : LawOf old) : Type 0 where
   pub taken : Taken old new law

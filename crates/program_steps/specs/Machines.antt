@@ -7,6 +7,7 @@ use Rattle.step_laws.specs.declared.moves.End.{End}
 use Rattle.branch_bridge.specs.declared.rewriting.Torn.{Torn}
 use Rattle.step_laws.specs.Numbers.{Numbers}
 use Rattle.step_laws.specs.States.{Awaited, State}
+use Rattle.step_laws.specs.Joining.{Counted}
 use Rattle.kernel_entry.specs.Seen.{state_at}
 
 -- the fields of the type `Machine`, and how many arrivals other programs on the same mote may have made
@@ -43,6 +44,9 @@ awaits m = is_some m.owed && m.due
 
 abbrev pub numbers_of : Machine → Numbers
 numbers_of m = record { steps = m.steps; natural = m.natural; entries = m.entries; pages = m.pages; since = m.since; longest = m.longest; began = m.began; others = m.others; ops = m.kernel.mote.flash.ops }
+
+abbrev pub counted_of : Machine → Counted
+counted_of m = record { state = state_of m; numbers = numbers_of m }
 
 -- the state of the original program that it stands for
 abbrev pub flat_of : Machine → Moment

@@ -21,6 +21,7 @@ use Rattle.kernel_entry.specs.Seen.{count_of}
 use Rattle.step_laws.specs.declared.moves.Owed.{Owed}
 use Rattle.step_laws.specs.declared.moves.End.TheVariants as ends
 use Rattle.step_laws.specs.Numbers.{Numbers}
+use Rattle.step_laws.specs.Bounds.{AreBounded, AreEnded}
 use Rattle.step_laws.specs.StepLaws.{Reaches, links_at}
 use Rattle.program_steps.specs.Machines.{Machine, state_of, numbers_of, awaits}
 
@@ -68,16 +69,10 @@ pub record IsInOrder (m : Machine) : Type 0 where
   pub ring : ring_of m.kernel.mote.sram < m.kernel.layout.pool_pages
   pub tried : AreTried m
 
--- How far the numbers go, also in a machine that stopped in the midst of a step. No more than 5120 plain
--- steps for each crossing of a quantum run without a service, and no arrival, also of other programs on the same mote, tries
--- more than 1,000 operations.
+-- How far the numbers go, also in a machine that stopped in the midst of a step. No arrival, also of other programs on the
+-- same mote, tries more than 1,000 operations.
 pub record IsBounded (n : Numbers) (crossings quantum polled : ℕ) : Type 0 where
-  pub natural : n.natural ≤ 40 * (n.steps + 1)
-  pub entries : n.entries ≤ 2 * (n.steps + 1)
-  pub since : n.since ≤ n.longest
-  pub longest : n.longest ≤ n.natural
-  pub crossed : crossings ≤ n.steps
-  pub most : n.longest ≤ 5120 * quantum
+  pub moves : AreEnded n crossings quantum
   pub polls : polled ≤ n.steps + (2 ^ 32 + 1)
   pub pages : n.pages ≤ n.began + n.others + n.steps + 1
   pub ops : n.ops ≤ 1000 * (n.others + n.steps + 1)
@@ -89,21 +84,6 @@ pub record IsSound (m : Machine) : Type 0 where
   pub order : IsInOrder m
   pub bounded : HasBounds m
   pub steps : m.steps ≤ 10 ^ 12
-
--- Plain steps since the last service, where a step begins at this address with this COUNT: each step takes
--- at most 40, each crossing lowers COUNT, and between two crossings addresses rise within one page.
-abbrev pub IsWithin : (quantum count at since : ℕ) → Type 0
-IsWithin quantum count at since = since ≤ 40 * (128 * (quantum - count) + at % 128)
-
--- how far the numbers go where a step begins
-pub record IsCounted (n : Numbers) (crossings quantum count at : ℕ) : Type 0 where
-  pub natural : n.natural ≤ 40 * n.steps
-  pub entries : n.entries ≤ 2 * n.steps
-  pub since : n.since ≤ n.longest
-  pub longest : n.longest ≤ n.natural
-  pub crossed : crossings ≤ n.steps
-  pub within : IsWithin quantum count at n.since
-  pub most : n.longest ≤ 5120 * quantum
 
 -- how many arrivals there may have been: one for each step, and one more where none is owed
 abbrev pub most_arrivals : Option Owed → ℕ → ℕ
@@ -131,7 +111,7 @@ pub record IsGoing (m : Machine) : Type 0 where
   pub some : 1 ≤ count_in m
   pub most : count_in m ≤ m.kernel.quantum
   pub stands : Reaches (links_at (state_of m)) m.at (awaits m) (state_of m)
-  pub counted : IsCounted (numbers_of m) m.crossings m.kernel.quantum (count_in m) m.at
+  pub counted : AreBounded (numbers_of m) m.crossings m.kernel.quantum (count_in m) m.at
   pub arrivals : AreArrivals (numbers_of m) (most_arrivals m.owed m.steps)
   pub polls : m.kernel.mote.devices.polls ≤ m.steps + 2 ^ 32
   pub exact : IsExact m

@@ -1,5 +1,5 @@
 -- What one step of the program, and one arrival, leave of the machine.
-use Rattle.std.specs.Prelude.{◌≡◌, ◌≢◌, ℕ, ◌+◌, Bool, true, false, List, [], ◌∷◌, Option, Some, None, flat_map}
+use Rattle.std.specs.Prelude.{◌≡◌, ◌≢◌, ℕ, ◌+◌, Bool, true, false, List, [], ◌∷◌, Option, Some, None, IfSome, flat_map}
 use Rattle.flash_model.specs.Operations.{is_listed}
 use Rattle.mote_devices.specs.declared.line.Line.{Line}
 use Rattle.mem_guard.specs.FlatMachine.{Ends, is_own, next_of, is_taken}
@@ -8,13 +8,12 @@ use Rattle.kernel_entry.specs.declared.kernel.Stop.{Stop}
 use Rattle.kernel_entry.specs.Texts.{line_text}
 use Rattle.step_laws.specs.declared.moves.End.{End}
 use Rattle.step_laws.specs.declared.moves.End.TheVariants as ends
-use Rattle.step_laws.specs.Moves.{Move, Plain, Serve, Arrive, Take, lines_of, line_before}
-use Rattle.step_laws.specs.Numbers.{numbered}
-use Rattle.step_laws.specs.Walks.{Walk}
+use Rattle.step_laws.specs.Moves.{Move, Arrive, line_before}
+use Rattle.step_laws.specs.Joining.{Leads}
 use Rattle.step_laws.specs.Links.{Links}
 use Rattle.step_laws.specs.StepLaws.{Reaches, links_at, crossings_over}
 use Rattle.kernel_entry.specs.Seen.{program as program_of, end_of}
-use Rattle.program_steps.specs.Machines.{Machine, state_of, numbers_of, flat_of, awaits}
+use Rattle.program_steps.specs.Machines.{Machine, state_of, numbers_of, counted_of, flat_of, awaits}
 use Rattle.program_steps.specs.Ready.{IsGoing, IsQuiet, IsEnded, AreArrivals, most_arrivals}
 
 -- the text of device lines, one after another
@@ -44,19 +43,18 @@ ends_in_arrive (Arrive target made ops ∷ []) = true
 ends_in_arrive (m ∷ ms) = ends_in_arrive ms
 
 -- these moves lead from one machine to the other
-pub record Goes (old new : Machine) (moves : List Move) (lines : List Line) : Type 0 where
-  pub walk : Walk (state_of old) moves (state_of new)
-  pub told : lines_of moves ≡ lines
-  pub numbers : numbers_of new ≡ numbered moves (numbers_of old)
+abbrev pub Goes : (old new : Machine) → List Move → List Line → Type 0
+Goes old new moves lines = Leads (counted_of old) moves lines (counted_of new)
+
+-- the address at which a move made a page, if it made one
+abbrev pub page_made : Move → Option ℕ
+page_made (Arrive target true ops) = Some target
+page_made _ = None
 
 -- each page that was made was made at an address of which this holds
 abbrev pub AreMadeAt : (ℕ → Type 0) → List Move → Type 0
 AreMadeAt holds [] = Unit {0}
-AreMadeAt holds (Arrive target true ops ∷ moves) = holds target × AreMadeAt holds moves
-AreMadeAt holds (Arrive target false ops ∷ moves) = AreMadeAt holds moves
-AreMadeAt holds (Plain begins line ∷ moves) = AreMadeAt holds moves
-AreMadeAt holds (Serve line stops ∷ moves) = AreMadeAt holds moves
-AreMadeAt holds (Take stops ∷ moves) = AreMadeAt holds moves
+AreMadeAt holds (move ∷ moves) = IfSome (page_made move) holds × AreMadeAt holds moves
 
 -- the program, the layout, the quantum and the list of operations that are to fail stay
 pub record Stays (old new : Machine) : Type 0 where

@@ -1,6 +1,6 @@
 -- A program that waits while another one runs on the same mote (docs/TASKS.md, "While a task waits").
-use Rattle.std.specs.Prelude.{◌≡◌, ℕ, ◌+◌, ◌<◌, ◌≤◌, ◌^◌, false, List}
-use Rattle.sram_layout.specs.Bytes.{byte_at}
+use Rattle.std.specs.Prelude.{◌≡◌, ℕ, ◌+◌, ◌≤◌, ◌^◌, false, List}
+use Rattle.sram_layout.specs.Regions.{place_cells, KeepsRegion}
 use Rattle.flash_model.specs.Operations.{is_listed}
 use Rattle.branch_bridge.specs.Arrivals.{KeepsOtherBytes}
 use Rattle.kernel_entry.specs.Parts.{image_held}
@@ -27,7 +27,7 @@ pub record HasWaited (y x : Machine) (sram : List ℕ) (others : ℕ) : Type 0 w
   pub shut : x.kernel.part.shut ≡ y.kernel.part.shut
   pub unfailing : (op : ℕ) → is_listed x.kernel.mote.flash.failing op ≡ false
   pub own : KeepsOtherBytes y.kernel.mote.sram sram
-  pub tables : (b : ℕ) → 0x0142 ≤ b → b < 0x0400 → byte_at sram b ≡ byte_at x.kernel.mote.sram b
+  pub tables : KeepsRegion place_cells x.kernel.mote.sram sram
   pub began : x.began ≡ y.began
   pub sum : others + most_arrivals y.owed y.steps ≡ x.others + most_arrivals x.owed x.steps
   pub few : y.began + others ≤ 10 ^ 13

@@ -19,7 +19,7 @@ use crate::progress::Progress;
 use branch_bridge::{Arrival, ArriveStop, arrive_from, arrive_known};
 use flash_model::Flash;
 use kernel_entry::Kernel;
-use page_index::Cursor;
+use page_index::{Cursor, Places};
 use step_laws::{End, Owed};
 
 /// Whether the program may go on where it stands: one that is shut in its part may not outside it, and then ends there
@@ -45,7 +45,7 @@ pub fn enter(k: &mut Kernel, p: &mut Progress, cursor: &mut Cursor) -> Option<En
     match p.owed {
         None => None,
         Some(owed) => {
-            let changed = arrive_owed(k, p, owed);
+            let changed = arrive_owed(k, p, &mut cursor.places, owed);
             is_whole(&k.mote.flash);
             forget_if(changed, cursor);
             p.end
@@ -88,7 +88,7 @@ pub fn at_bound(k: &mut Kernel, p: &mut Progress) -> End
 /// Makes the arrival that is owed. Tells whether flash may have changed. Not inlined, so that arrivals can be counted
 /// from outside.
 #[inline(never)]
-fn arrive_owed(k: &mut Kernel, p: &mut Progress, owed: Owed) -> bool
+fn arrive_owed(k: &mut Kernel, p: &mut Progress, places: &mut Places, owed: Owed) -> bool
     requires owed { p.old.owed ≡ Some owed }
     requires going { p.old.end ≡ None }
     requires untorn { p.old.torn ≡ None }
@@ -108,6 +108,7 @@ fn arrive_owed(k: &mut Kernel, p: &mut Progress, owed: Owed) -> bool
         &mut k.mote.sram,
         &k.mote.flash,
         &k.layout,
+        places,
         owed.target,
         owed.stub,
     );
@@ -117,14 +118,14 @@ fn arrive_owed(k: &mut Kernel, p: &mut Progress, owed: Owed) -> bool
             p.owed = None;
             false
         }
-        None => arrive_anew(k, p, owed),
+        None => arrive_anew(k, p, places, owed),
     }
 }
 
 /// The same where flash may change. The stub that asked for the arrival leads to its place from then on. Not inlined,
 /// since what it keeps on the stack, with the words of pages, is cleared where it begins.
 #[inline(never)]
-fn arrive_anew(k: &mut Kernel, p: &mut Progress, owed: Owed) -> bool
+fn arrive_anew(k: &mut Kernel, p: &mut Progress, places: &mut Places, owed: Owed) -> bool
     requires owed { p.old.owed ≡ Some owed }
     requires going { p.old.end ≡ None }
     requires untorn { p.old.torn ≡ None }
@@ -144,6 +145,7 @@ fn arrive_anew(k: &mut Kernel, p: &mut Progress, owed: Owed) -> bool
         &mut k.mote.sram,
         &mut k.mote.flash,
         &k.layout,
+        places,
         owed.target,
         owed.stub,
     );

@@ -1,14 +1,13 @@
 //! An interrupt that is taken instead of the arrival that is owed.
 
 ghost use Rattle.std.specs.Prelude.{◌≡◌, ◌<◌, ◌^◌, true, false, None};
-ghost use Rattle.avr_flags.specs.Status.{has_bit, interrupts};
 ghost use Rattle.program_steps.specs.Ready.{IsGoing};
 ghost use Rattle.program_steps.specs.Stepping.{HasStepped};
 ghost use Rattle.program_steps.specs.Interrupts.{is_wanted_at, is_to_be_taken};
 ghost use Rattle.program_steps.specs.Wholes.{whole};
 
 use crate::progress::Progress;
-use kernel_entry::{Kernel, Taken, interrupt};
+use kernel_entry::{Kernel, Taken, has_interrupts, interrupt};
 use step_laws::{End, Owed};
 
 /// Whether an interrupt is to be taken instead of the arrival that is owed: one is due, the arrival is inside the program's part,
@@ -62,11 +61,4 @@ pub fn take(k: &mut Kernel, p: &mut Progress) -> Option<End>
             end
         }
     }
-}
-
-/// Whether the program has interrupts on.
-fn has_interrupts(k: &Kernel) -> bool
-    ensures value { result ≡ has_bit k.now.mote.cpu.sreg interrupts }
-{
-    k.mote.cpu.sreg / 0x80 % 2 == 1
 }

@@ -1,11 +1,12 @@
 -- Where the kernel keeps its cells and tables in SRAM: the profile's map of 0x0100 to 0x04FF, as data addresses.
 -- A word cell and each word of a table entry have their low byte first, as AVR code stores them.
 use Rattle.std.specs.Prelude.{ℕ, ◌+◌, ◌*◌, List}
-use Rattle.sram_layout.specs.Bytes.{data_word_at, with_word, byte_at, with_byte}
+use Rattle.sram_layout.specs.Bytes.{first_address, data_word_at, with_word, byte_at, with_byte}
+use Rattle.sram_layout.specs.Regions.{frame_cells, place_tables, swap_map}
 
 -- COUNT: crossings left before the next checkpoint
 abbrev pub count_cell : ℕ
-count_cell = 0x0100
+count_cell = first_address
 
 -- R24: the program's r24 while a crossing stub uses the register
 abbrev pub r24_cell : ℕ
@@ -29,7 +30,7 @@ kernel_stack_top = 0x011F
 
 -- entry i of the frame table, four bytes: page, state, 0, 0
 abbrev pub frame_cell : ℕ → ℕ
-frame_cell i = 0x0120 + 4 * i
+frame_cell i = frame_cells.first + 4 * i
 
 -- the frame to replace next
 abbrev pub victim_cell : ℕ
@@ -39,9 +40,13 @@ victim_cell = 0x0140
 abbrev pub given_cell : ℕ
 given_cell = 0x0141
 
+-- RING: the number within the pool of the page to recycle next, a word
+abbrev pub ring_cell : ℕ
+ring_cell = 0x0142
+
 -- entry i of the look-aside table, four bytes: the original address and its place
 abbrev pub aside_cell : ℕ → ℕ
-aside_cell i = 0x0180 + 4 * i
+aside_cell i = place_tables.first + 4 * i
 
 -- entry n (0 or 1) of a set of the two-way table, four bytes: the original address and its place
 abbrev pub way_cell : ℕ → ℕ → ℕ
@@ -49,7 +54,7 @@ way_cell set n = 0x0200 + 8 * set + 4 * n
 
 -- the swap map's byte for a virtual page: its slot, 0xFF for none
 abbrev pub slot_cell : ℕ → ℕ
-slot_cell page = 0x0400 + page
+slot_cell page = swap_map.first + page
 
 -- the two bytes of a frame table entry at address a: page and state
 abbrev pub frame_at : List ℕ → ℕ → ℕ × ℕ

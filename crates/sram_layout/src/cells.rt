@@ -2,7 +2,7 @@
 
 ghost use Rattle.std.specs.Prelude.{◌≡◌, length};
 ghost use Rattle.sram_layout.specs.Bytes.{byte_count, byte_at, with_byte, data_word_at, with_word};
-ghost use Rattle.sram_layout.specs.Cells.{count_cell, r24_cell, sreg_cell, vsp_cell, z_cell, victim_cell, given_cell};
+ghost use Rattle.sram_layout.specs.Cells.{count_cell, r24_cell, sreg_cell, vsp_cell, z_cell, victim_cell, given_cell, ring_cell};
 
 use crate::sram::Sram;
 
@@ -22,6 +22,8 @@ const Z: u16 = 0x0105;
 const VICTIM: u16 = 0x0140;
 
 const GIVEN: u16 = 0x0141;
+
+const RING: u16 = 0x0142;
 
 impl Sram {
     /// COUNT: crossings left before the next checkpoint.
@@ -134,5 +136,21 @@ impl Sram {
         ensures size { (length self.old ≡ byte_count) × (length self.new ≡ byte_count) }
     {
         self.set(GIVEN, v);
+    }
+
+    /// RING: the number within the code pool of the page that is used again next.
+    pub fn ring(&self) -> u16
+        ensures value { result ≡ data_word_at self.now ring_cell }
+        ensures size { length self.now ≡ byte_count }
+    {
+        self.word(RING)
+    }
+
+    /// Writes what [`ring`](Self::ring) reads.
+    pub fn set_ring(&mut self, page: u16)
+        ensures after { self.new ≡ with_word self.old ring_cell page }
+        ensures size { (length self.old ≡ byte_count) × (length self.new ≡ byte_count) }
+    {
+        self.set_word(RING, page);
     }
 }

@@ -35,11 +35,11 @@ use Rattle.kernel_entry.specs.declared.kernel.Served.TheVariants as answers
 use Rattle.step_laws.specs.States.{State, mote_of, with_mote}
 use Rattle.step_laws.specs.Settings.{IsIdle, IsRunning, IsSetting}
 use Rattle.step_laws.specs.Links.{Links}
-use Rattle.step_laws.specs.Walks.{Makes, Walk}
-use Rattle.step_laws.proofs.Ways.{walk_on}
-use Rattle.step_laws.proofs.PlainRuns.{plains_inner, plains_counted, plains_length, plains_served, plains_stopped, plains_lines, plains_reset}
+use Rattle.step_laws.specs.Walks.{MakesServe, WalkFrom}
+use Rattle.step_laws.proofs.Ways.{from_on}
+use Rattle.step_laws.proofs.PlainRuns.{plains_counted, plains_served, plains_stopped, plains_lines, plains_reset}
 use Rattle.step_laws.proofs.Onward.{Onward}
-use Rattle.step_laws.specs.Moves.{Plain, Serve, line_before, lines_of, plains}
+use Rattle.step_laws.specs.Moves.{Serve, Within, line_before, lines_of, plains}
 use Rattle.step_laws.proofs.SameProgram.{flat_same, paged_after}
 use Rattle.step_laws.specs.StepLaws.{Reaches, StepLaw, Outcome as StepOutcome, crossings_over}
 use Rattle.step_laws.proofs.KernelCalls.{pushed, serve_by}
@@ -78,7 +78,7 @@ pub record IsAsked (x : State) (a : ℕ) (ram : List ℕ) (back entry : ℕ) : T
 -- A first plain move and `more` others led there.
 pub record Asked (x : State) (a : ℕ) (ram : List ℕ) (back entry more : ℕ) : Type 0 where
   pub few : more ≤ 20
-  pub walk : Walk x (Plain true None ∷ plains more) (asked_of x ram back entry)
+  pub walk : WalkFrom x true None (plains more) (asked_of x ram back entry)
   pub state : IsAsked x a ram back entry
 
 -- the service stops the program
@@ -90,16 +90,14 @@ stop_asked links x a v ram back entry more stop s c can is stops =
     let y = asked_of x ram back entry in
     let ms = Serve None true ∷ [] in
     let z : State = record { kernel = rested kc; owed = None; end = Some (ends.Stopped stop); torn = None } in
-    let served' : Makes y (Serve None true) z = serve_by y (answers.Stopped stop, rested kc) (record { free = s.ready.running.free; going = s.ready.running.going; room = s.ready.running.room }) can is in
+    let served' : MakesServe y None true z = serve_by y (answers.Stopped stop, rested kc) (record { free = s.ready.running.free; going = s.ready.running.going; room = s.ready.running.room }) can is in
     record {
       end = z;
       first = None;
       rest = plains more ++ ms;
       line = None;
-      walk = walk_on x y z (Plain true None ∷ plains more) ms c.walk (z, served', refl);
-      inner = plains_inner more ms;
+      walk = from_on x y z true None (plains more) ms c.walk (z, served', refl);
       few = let few = c.few in omega (arith, plains_counted more ms);
-      short = let few = c.few in omega (arith, plains_length more ms);
       serves = omega (arith, plains_served more ms);
       lines = plains_lines more ms;
       keeps = record { layout = refl; part = refl; quantum = refl; flash = refl; slots = refl; paged = c.state.can.paged; registers = refl; top = refl; polls = omega arith; pointer = c.state.pointer; tables = c.state.tables };
@@ -180,7 +178,7 @@ resume_asked links x a v ram back entry more to form cpu g s c can is runs own a
     let kept : IsKept (memory_of kc) g = kept_of kc a form cpu g c.state.can.paged went in
     let size' : length g.sram ≡ 4096 = kept.paged.sized.sram in
     let z1 : State = record { kernel = returned kc cpu g (wrapping_sum back 1); owed = None; end = None; torn = None } in
-    let served' : Makes y (Serve g.line false) z1 = serve_by y (answers.Resume g.line, returned kc cpu g (wrapping_sum back 1)) (record { free = s.ready.running.free; going = s.ready.running.going; room = s.ready.running.room }) can answer in
+    let served' : MakesServe y g.line false z1 = serve_by y (answers.Resume g.line, returned kc cpu g (wrapping_sum back 1)) (record { free = s.ready.running.free; going = s.ready.running.going; room = s.ready.running.room }) can answer in
     let count' : byte_at (with_word g.sram vsp_cell cpu.sp) 0x0100 ≡ byte_at k.mote.sram 0x0100 = byte_out_of_word g.sram vsp_cell 0x0100 cpu.sp (omega arith) (omega arith) (λ e. omega arith) (λ e. omega arith) ∙ kept.cells 0x0100 (omega arith) (omega arith) ∙ c.state.count in
     let pointer' : byte_at (with_word g.sram vsp_cell cpu.sp) 0x0103 < 256 = omega (arith, word_low g.sram vsp_cell cpu.sp (omega arith) (omega arith)) in
     let some = s.ready.idle.some in
@@ -203,10 +201,8 @@ resume_asked links x a v ram back entry more to form cpu g s c can is runs own a
       first = None;
       rest = plains more ++ ms;
       line = g.line;
-      walk = walk_on x y end (Plain true None ∷ plains more) ms c.walk (z1, served', on.walk);
-      inner = plains_inner more ms ∙ on.inner;
+      walk = from_on x y end true None (plains more) ms c.walk (z1, served', on.walk);
       few = let few = on.few in let few' = c.few in omega (arith, plains_counted more ms);
-      short = let short = on.short in let few = c.few in omega (arith, plains_length more ms);
       serves = let serves = on.serves in omega (arith, plains_served more ms);
       lines = plains_lines more ms ∙ ap (line_before g.line) on.silent;
       keeps = record {
@@ -232,7 +228,7 @@ resume_asked links x a v ram back entry more to form cpu g s c can is runs own a
         reaches = subst (λ c. Reaches links to (is_crossing a to && (c == 1)) on.end) count' on.left.reaches;
         count = on.left.count ∙ ap (λ c. count_over k.quantum a to c) count';
         unstopped = plains_stopped more ms ∙ on.goes;
-        reset = plains_reset x (is_crossing a to) more ms (λ crosses one n. on.reset crosses (count' ∙ one) (moved (Serve g.line false) n));
+        reset = plains_reset x (is_crossing a to) more ms (λ crosses one n. on.reset crosses (count' ∙ one) (moved (Within (Serve g.line false)) n));
       });
     }
 

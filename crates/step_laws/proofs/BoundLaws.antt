@@ -1,20 +1,22 @@
 -- The law of a step keeps the bounds on the numbers.
-use Rattle.std.proofs.Common.{◌≡◌, ℕ, ◌+◌, ◌-◌, ◌*◌, ◌/◌, ◌%◌, ◌<◌, ◌≤◌, ◌==◌, Bool, true, false, refl, sym, ◌∙◌, arith, subst}
+use Rattle.std.proofs.Common.{◌≡◌, ℕ, ◌+◌, ◌-◌, ◌*◌, ◌/◌, ◌%◌, ◌<◌, ◌≤◌, ◌==◌, Bool, true, false, refl, sym, ◌∙◌, arith, subst, map}
 use Rattle.std.specs.Prelude.{◌≢◌, if◌then◌else◌}
 use Rattle.std.proofs.lemmas.Bool.Decides.{nat_tests}
 use Rattle.avr_isa.specs.Crossing.{is_crossing}
 use Rattle.preempt_count.specs.Counting.{count_over}
 use Rattle.kernel_entry.specs.Seen.{count_of}
-use Rattle.step_laws.specs.Moves.{Plain}
-use Rattle.step_laws.specs.Numbers.{moved, numbered}
-use Rattle.step_laws.specs.Bounds.{KeepBounds, EndBounds}
-use Rattle.step_laws.proofs.NumberLaws.{natural_is, entries_is, since_bound, longest_bound, pages_inner, steps_inner}
+use Rattle.step_laws.specs.Moves.{Begin, Within}
+use Rattle.step_laws.specs.Numbers.{Numbers, moved, numbered}
+use Rattle.step_laws.specs.States.{State}
+use Rattle.step_laws.specs.StepLaws.{StepLaw, moves_of, crossings_over, links_at}
+use Rattle.step_laws.specs.Bounds.{AreBounded, AreEnded, KeepBounds, EndBounds}
+use Rattle.step_laws.proofs.NumberLaws.{natural_is, entries_is, steps_is, since_bound, longest_bound, since_longest, arrivals_within}
 
 -- a step that is no crossing goes up within its page
-pub not_crossing : (from to : ℕ) → is_crossing from to ≡ false → (from < to) × (to / 128 ≡ from / 128)
+not_crossing : (from to : ℕ) → is_crossing from to ≡ false → (from < to) × (to / 128 ≡ from / 128)
 not_crossing from to is = (grind (arith, nat_tests), grind (arith, nat_tests))
 
-is_one : (count : ℕ) → (count == 1) ≡ true → count ≡ 1
+pub is_one : (count : ℕ) → (count == 1) ≡ true → count ≡ 1
 is_one count is = grind (arith, nat_tests)
 
 pub not_one : (count : ℕ) → (count == 1) ≡ false → count ≢ 1
@@ -40,77 +42,77 @@ within_on quantum count from to since since' some most within few reset = within
 longest_on : (quantum count at since : ℕ) → 1 ≤ count → count ≤ quantum → since ≤ 40 * (128 * (quantum - count) + at % 128) → since + 40 ≤ 5120 * quantum
 longest_on quantum count at since some most within = omega arith
 
-pub at_most_one : (b : Bool) (crossings steps steps' : ℕ) → crossings ≤ steps → steps' ≡ steps + 1 → (if b then crossings + 1 else crossings) ≤ steps'
+at_most_one : (b : Bool) (crossings steps steps' : ℕ) → crossings ≤ steps → steps' ≡ steps + 1 → (if b then crossings + 1 else crossings) ≤ steps'
 at_most_one true crossings steps steps' few more = omega arith
 at_most_one false crossings steps steps' few more = omega arith
 
-pub keep_bounds : KeepBounds
+-- what any step leaves of the numbers
+record Rises (n after : Numbers) (quantum : ℕ) : Type 0 where
+  natural : after.natural ≤ n.natural + 40
+  entries : after.entries ≤ n.entries + 2
+  reach : after.since ≤ n.since + 40
+  since : after.since ≤ after.longest
+  longest : after.longest ≤ after.natural
+  most : after.longest ≤ 5120 * quantum
+
+rises : (x : State) (a crossings : ℕ) (law : StepLaw (links_at x) x a) (n : Numbers) → 1 ≤ count_of x.kernel → count_of x.kernel ≤ x.kernel.quantum → AreBounded n crossings x.kernel.quantum (count_of x.kernel) a
+    → Rises n (numbered (moves_of law) n) x.kernel.quantum
 unfolding moved
-keep_bounds x a to crossings law n can before goes =
-    let quantum = x.kernel.quantum in
-    let first = moved (Plain true law.first) n in
-    let after = numbered law.rest first in
-    let some = can.idle.some in
-    let most = can.bounded.most in
+rises x a crossings law n some most before =
+    let first = moved (Begin law.first) n in
+    let after = numbered (map Within law.rest) first in
     let few = law.few in
     let serves = law.serves in
-    let none = goes.unstopped in
-    let steps : after.steps ≡ n.steps + 1 = steps_inner law.rest first law.inner ∙ omega arith in
     let natural = natural_is law.rest first in
     let entries = entries_is law.rest first in
     let since = since_bound law.rest first in
-    let b1 = before.natural in
-    let b2 = before.entries in
-    let b3 = before.since in
-    let b4 = before.longest in
-    let b5 = before.most in
-    let reach = longest_on quantum (count_of x.kernel) a n.since some most before.within in
-    let within = within_on quantum (count_of x.kernel) a to n.since after.since some most before.within (omega arith) (λ crosses one. goes.reset crosses one first) in
+    let low = before.since in
+    let below = before.longest in
+    let top = before.most in
+    let reach = longest_on x.kernel.quantum (count_of x.kernel) a n.since some most before.within in
     record {
-      steps = steps;
-      pages = pages_inner law.rest first law.inner;
-      bounds = record {
-        natural = omega arith;
-        entries = omega arith;
-        crossed = at_most_one (is_crossing a to) crossings n.steps after.steps before.crossed steps;
-        since = omega arith;
-        longest = longest_bound law.rest first after.natural (omega arith) (omega arith);
-        within = subst (λ count. after.since ≤ 40 * (128 * (quantum - count) + to % 128)) (sym goes.count) within;
-        most = longest_bound law.rest first (5120 * quantum) (omega arith) (omega arith);
-      };
+      natural = omega arith;
+      entries = omega arith;
+      reach = omega arith;
+      since = since_longest law.rest first (omega arith);
+      longest = longest_bound law.rest first after.natural (omega arith) (omega arith);
+      most = longest_bound law.rest first (5120 * x.kernel.quantum) (omega arith) (omega arith);
     }
+
+pub keep_bounds : KeepBounds
+unfolding moved
+keep_bounds x a to crossings law n some most before goes =
+    let quantum = x.kernel.quantum in
+    let first = moved (Begin law.first) n in
+    let after = numbered (moves_of law) n in
+    let none = goes.unstopped in
+    let steps : after.steps ≡ n.steps + 1 = steps_is law.rest first ∙ omega arith in
+    let up = rises x a crossings law n some most before in
+    let within = within_on quantum (count_of x.kernel) a to n.since after.since some most before.within up.reach (λ crosses one. goes.reset crosses one first) in
+    let bounds : AreBounded after (crossings_over a to crossings) quantum (count_of law.end.kernel) to = record {
+      natural = omega (arith, up.natural, before.natural);
+      entries = omega (arith, up.entries, before.entries);
+      crossed = at_most_one (is_crossing a to) crossings n.steps after.steps before.crossed steps;
+      since = up.since;
+      longest = up.longest;
+      within = subst (λ count. after.since ≤ 40 * (128 * (quantum - count) + to % 128)) (sym goes.count) within;
+      most = up.most;
+    } in
+    (steps, (arrivals_within law.rest first).pages, bounds)
 
 pub end_bounds : EndBounds
 unfolding moved
-end_bounds x a crossings stop law n can before stops =
-    let quantum = x.kernel.quantum in
-    let first = moved (Plain true law.first) n in
-    let after = numbered law.rest first in
-    let some = can.idle.some in
-    let most = can.bounded.most in
-    let few = law.few in
-    let serves = law.serves in
+end_bounds x a crossings stop law n some most before stops =
+    let first = moved (Begin law.first) n in
     let one = stops.stopped in
-    let steps : after.steps ≡ n.steps = steps_inner law.rest first law.inner ∙ omega arith in
-    let natural = natural_is law.rest first in
-    let entries = entries_is law.rest first in
-    let since = since_bound law.rest first in
-    let b1 = before.natural in
-    let b2 = before.entries in
-    let b3 = before.since in
-    let b4 = before.longest in
-    let b5 = before.most in
-    let b6 = before.crossed in
-    let reach = longest_on quantum (count_of x.kernel) a n.since some most before.within in
-    record {
-      steps = steps;
-      pages = pages_inner law.rest first law.inner;
-      bounds = record {
-        natural = omega arith;
-        entries = omega arith;
-        crossed = omega arith;
-        since = omega arith;
-        longest = longest_bound law.rest first after.natural (omega arith) (omega arith);
-        most = longest_bound law.rest first (5120 * quantum) (omega arith) (omega arith);
-      };
-    }
+    let steps : (numbered (moves_of law) n).steps ≡ n.steps = steps_is law.rest first ∙ omega arith in
+    let up = rises x a crossings law n some most before in
+    let bounds : AreEnded (numbered (moves_of law) n) crossings x.kernel.quantum = record {
+      natural = omega (arith, up.natural, before.natural);
+      entries = omega (arith, up.entries, before.entries);
+      crossed = omega (arith, before.crossed);
+      since = up.since;
+      longest = up.longest;
+      most = up.most;
+    } in
+    (steps, (arrivals_within law.rest first).pages, bounds)

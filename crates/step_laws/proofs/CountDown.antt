@@ -2,6 +2,7 @@
 use Rattle.std.proofs.Common.{[], ℕ, ◌≡◌, ◌+◌, ◌<◌, ◌∷◌, ◌∙◌, Bool, true, false, List, length, get_or, refl, sym, ap, arith, subst}
 use Rattle.std.specs.Prelude.{◌==◌, if◌then◌else◌, None, pos}
 use Rattle.std.proofs.lemmas.Bool.Decides.{nat_tests}
+use Rattle.avr_isa.specs.Encoding.{first_word, second_word}
 use Rattle.avr_flags.specs.Status.{has_bit, with_bit, with_result_flags}
 use Rattle.avr_flags.specs.Sums.{dec_of, dec_status, byte_difference}
 use Rattle.avr_exec.specs.Registers.{register, wrapping_sum, relative}
@@ -9,27 +10,38 @@ use Rattle.flash_model.specs.declared.layout.Layout.{Layout}
 use Rattle.flash_model.specs.Pages.{word_at}
 use Rattle.sram_layout.specs.Bytes.{byte_at, with_byte}
 use Rattle.sram_layout.proofs.Laws.{byte_same, byte_other, length-with_byte}
-use Rattle.nat_template.specs.Stubs.{count_down, call_word}
-use Rattle.nat_page.specs.Standing.{IsLink}
+use Rattle.nat_template.specs.Words.{words_of_forms}
+use Rattle.nat_template.specs.Stubs.{count_down, plain_stub, call_word}
+use Rattle.nat_page.specs.Standing.{Stands}
+use Rattle.nat_page.specs.Links.{EachLink}
 use Rattle.mote_core.specs.declared.mote.Mote.{Mote}
 use Rattle.step_laws.specs.States.{Begins, State, mote_of, with_mote}
 use Rattle.step_laws.specs.Settings.{IsIdle, IsRunning}
 use Rattle.step_laws.proofs.Stretches.{IsStretch}
 use Rattle.step_laws.specs.Links.{Links}
-use Rattle.step_laws.specs.Walks.{Makes, Walk}
-use Rattle.step_laws.specs.Moves.{Move, Plain, plains}
+use Rattle.step_laws.specs.Walks.{MakesPlain, WalkWithin, WalkFrom}
+use Rattle.step_laws.specs.Moves.{Plain, plains}
 use Rattle.step_laws.proofs.HeldSteps.{breq_held, dec_held, held, in_held, lds_held, out_held, sts_held}
 use Rattle.step_laws.proofs.StubWords.{breq_form, dec_form, in_form, lds_form, out_form, sts_form}
 use Rattle.step_laws.proofs.PlainMoves.{StandAt, form_there, quiet_move}
 use Rattle.mote_core.specs.QuietSteps.{IsQuiet}
 
+-- the words of the instructions before the link
+abbrev pub count_words : List ℕ
+count_words =
+    0x9380 ∷ 0x0101 ∷ 0xB78F ∷ 0x9380 ∷ 0x0102 ∷ 0x9180 ∷ 0x0100 ∷ 0x958A ∷ 0x9380 ∷ 0x0100 ∷ 0xF041
+    ∷ 0x9180 ∷ 0x0102 ∷ 0xBF8F ∷ 0x9180 ∷ 0x0101 ∷ []
+
+pub count_words_are : words_of_forms count_down ≡ count_words
+unfolding first_word second_word
+count_words_are = refl
+
 -- a crossing stub to t, 22 words at w
 pub record CrossingStub (links : Links) (layout : Layout) (words : List ℕ) (w t : ℕ) : Type 0 where
   pub row : IsStretch layout words w 22
-  pub fixed : (k : ℕ) → k < 16 → word_at words (w + k) ≡ get_or count_down k 0
-  pub link : IsLink links.enters (word_at words (w + 16)) (word_at words (w + 17)) t
-  pub mark : links.marks (w + 16) t
-  pub target : word_at words (w + 18) ≡ t
+  pub fixed : (k : ℕ) → k < 16 → word_at words (w + k) ≡ get_or count_words k 0
+  pub stands : Stands links.enters words (w + 16) (plain_stub t)
+  pub marks : EachLink links.marks (w + 16) (plain_stub t)
   pub call : word_at words (w + 19) ≡ call_word
   pub entry : word_at words (w + 20) ≡ 0xF002
   pub last : word_at words (w + 21) ≡ t
@@ -38,7 +50,7 @@ pub record CrossingStub (links : Links) (layout : Layout) (words : List ℕ) (w 
 abbrev pub with_held : State → (x s p : ℕ) → List ℕ → State
 with_held x v s p ram = with_mote x (held (mote_of x) v s p ram)
 
-word_pair : (links : Links) (layout : Layout) (m : Mote) (w t k : ℕ) → CrossingStub links layout m.flash.words w t → k < 15 → StandAt m (w + k) (get_or count_down k 0) (get_or count_down (k + 1) 0)
+word_pair : (links : Links) (layout : Layout) (m : Mote) (w t k : ℕ) → CrossingStub links layout m.flash.words w t → k < 15 → StandAt m (w + k) (get_or count_words k 0) (get_or count_words (k + 1) 0)
 word_pair links layout m w t k stub below =
     let there : w + k + 1 ≡ w + (k + 1) = omega arith in
     let low = stub.row.low in
@@ -46,7 +58,7 @@ word_pair links layout m w t k stub below =
 
 -- a move inside the stub
 pub inner_move : (links : Links) (x : State) (w t k v s v' s' p' : ℕ) (ram ram' : List ℕ) → IsRunning x → CrossingStub links x.kernel.layout (mote_of x).flash.words w t → 0 < k → k < 22
-    → IsQuiet (held (mote_of x) v s (w + k) ram) (held (mote_of x) v' s' p' ram') → Makes (with_held x v s (w + k) ram) (Plain false None) (with_held x v' s' p' ram')
+    → IsQuiet (held (mote_of x) v s (w + k) ram) (held (mote_of x) v' s' p' ram') → MakesPlain (with_held x v s (w + k) ram) false None (with_held x v' s' p' ram')
 inner_move links x w t k v s v' s' p' ram ram' free stub some below quiet =
     quiet_move (with_held x v s (w + k) ram) (held (mote_of x) v' s' p' ram') false (record { free = free.free; going = free.going; room = free.room }) (stub.row.pool k below) (stub.row.inner k some below) quiet
 
@@ -63,13 +75,10 @@ lowered_of m = dec_of m.cpu.sreg (count_of m)
 abbrev pub counted_down : Mote → List ℕ
 counted_down m = with_byte (put_away m) 0x0100 (lowered_of m).0
 
-abbrev pub six : Bool → List Move
-six b = Plain b None ∷ Plain false None ∷ Plain false None ∷ Plain false None ∷ Plain false None ∷ Plain false None ∷ []
-
 -- the first six instructions
 pub front : (links : Links) (x : State) (w t : ℕ) (b : Bool) → IsRunning x → CrossingStub links x.kernel.layout (mote_of x).flash.words w t → 24 < length (mote_of x).cpu.r
     → Begins x.kernel.layout (mote_of x).flash.words w b
-    → Walk (with_held x (register (mote_of x).cpu 24) (mote_of x).cpu.sreg (w + 0) (mote_of x).sram) (six b) (with_held x (lowered_of (mote_of x)).0 (lowered_of (mote_of x)).1 (w + 10) (counted_down (mote_of x)))
+    → WalkFrom (with_held x (register (mote_of x).cpu 24) (mote_of x).cpu.sreg (w + 0) (mote_of x).sram) b None (plains 5) (with_held x (lowered_of (mote_of x)).0 (lowered_of (mote_of x)).1 (w + 10) (counted_down (mote_of x)))
 front links x w t b free stub fits starts =
     let m = mote_of x in
     let l = x.kernel.layout in
@@ -83,7 +92,7 @@ front links x w t b free stub fits starts =
     let d = lowered_of m in
     let w0 : w + 0 ≡ w = omega arith in
     let P : ℕ → Type 0 = λ p. Begins l m.flash.words p b in
-    let first : Makes (with_held x v s (w + 0) m.sram) (Plain b None) (with_held x v s (w + 2) ram1) = quiet_move (with_held x v s (w + 0) m.sram)
+    let first : MakesPlain (with_held x v s (w + 0) m.sram) b None (with_held x v s (w + 2) ram1) = quiet_move (with_held x v s (w + 0) m.sram)
     (held m v s (w + 2) ram1) b (record { free = free.free; going = free.going; room = free.room }) (stub.row.pool 0 (omega arith))
     (subst P (sym w0) starts) (sts_held m v s (w + 0) (w + 2) 0x0101 m.sram fits
     (form_there m (w + 0) 0x9380 0x0101 _ (word_pair links l m w t 0 stub (omega arith)) (sts_form 0x0101)) (omega arith) (omega arith)
@@ -148,7 +157,7 @@ taken_is m c is = zero_made _ (byte_difference (count_of m) 1 0 == 0) ∙ ap (λ
 -- the branch isn't taken: r24 and SREG are put back
 pub tail_on : (links : Links) (x : State) (w t : ℕ) → IsRunning x → CrossingStub links x.kernel.layout (mote_of x).flash.words w t → IsIdle x.kernel
     → has_bit (lowered_of (mote_of x)).1 2 ≡ false
-    → Walk (with_held x (lowered_of (mote_of x)).0 (lowered_of (mote_of x)).1 (w + 10) (counted_down (mote_of x))) (plains 4) (with_held x (register (mote_of x).cpu 24) (mote_of x).cpu.sreg (w + 16) (counted_down (mote_of x)))
+    → WalkWithin (with_held x (lowered_of (mote_of x)).0 (lowered_of (mote_of x)).1 (w + 10) (counted_down (mote_of x))) (plains 4) (with_held x (register (mote_of x).cpu 24) (mote_of x).cpu.sreg (w + 16) (counted_down (mote_of x)))
 tail_on links x w t free stub fit on =
     let m = mote_of x in
     let l = x.kernel.layout in
@@ -161,7 +170,7 @@ tail_on links x w t free stub fit on =
     let es : e ≡ s = sreg_read m fit.size in
     let ev : byte_at ram 0x0101 ≡ v = r24_read m fit.size in
     let on' : (if has_bit d.1 2 then relative (w + 10) (pos 8) else wrapping_sum (w + 10) 1) ≡ w + 11 = ap (λ b. if b then relative (w + 10) (pos 8) else wrapping_sum (w + 10) 1) on ∙ omega arith in
-    let P : ℕ → ℕ → Type 0 = λ y u. Walk (with_held x y u (w + 14) ram) (Plain false None ∷ []) (with_held x v s (w + 16) ram) in
+    let P : ℕ → ℕ → Type 0 = λ y u. WalkWithin (with_held x y u (w + 14) ram) (Plain None ∷ []) (with_held x v s (w + 16) ram) in
     let last : P s s = (
       with_held x (byte_at ram 0x0101) s (w + 16) ram,
       inner_move links x w t 14 s s (byte_at ram 0x0101) s (w + 16) ram ram free stub (omega arith) (omega arith)
@@ -195,7 +204,7 @@ relative_eight p low = omega arith
 -- the branch is taken: the quantum is over
 pub tail_over : (links : Links) (x : State) (w t : ℕ) → IsRunning x → CrossingStub links x.kernel.layout (mote_of x).flash.words w t
     → has_bit (lowered_of (mote_of x)).1 2 ≡ true
-    → Walk (with_held x (lowered_of (mote_of x)).0 (lowered_of (mote_of x)).1 (w + 10) (counted_down (mote_of x))) (plains 1) (with_held x (lowered_of (mote_of x)).0 (lowered_of (mote_of x)).1 (w + 19) (counted_down (mote_of x)))
+    → WalkWithin (with_held x (lowered_of (mote_of x)).0 (lowered_of (mote_of x)).1 (w + 10) (counted_down (mote_of x))) (plains 1) (with_held x (lowered_of (mote_of x)).0 (lowered_of (mote_of x)).1 (w + 19) (counted_down (mote_of x)))
 tail_over links x w t free stub over =
     let m = mote_of x in
     let l = x.kernel.layout in

@@ -1,6 +1,6 @@
 -- The way through a crossing stub: the bridge, the resolved jump, or the end of the quantum.
-use Rattle.std.proofs.Common.{[], ℕ, ◌≡◌, ◌+◌, ◌-◌, ◌<◌, ◌≤◌, ◌∷◌, ◌++◌, ◌∙◌, Bool, true, false, List, length, refl, sym, ap, ap₂, arith, subst, inl, inr}
-use Rattle.std.specs.Prelude.{◌==◌, if◌then◌else◌, Some, None, slice_set}
+use Rattle.std.proofs.Common.{[], ℕ, ◌≡◌, ◌+◌, ◌-◌, ◌<◌, ◌≤◌, ◌∷◌, ◌++◌, ◌∙◌, Bool, true, false, length, refl, sym, ap, ap₂, arith, subst}
+use Rattle.std.specs.Prelude.{◌==◌, if◌then◌else◌, None, slice_set}
 use Rattle.std.proofs.lemmas.List.{set-get_or}
 use Rattle.std.proofs.lemmas.Bool.Decides.{nat_tests}
 use Rattle.avr_isa.specs.declared.form.Form.TheVariants as forms
@@ -12,21 +12,20 @@ use Rattle.sram_layout.proofs.Laws.{byte_same, byte_other, length-with_byte}
 use Rattle.mote_core.specs.declared.mote.Mote.{Mote}
 use Rattle.preempt_count.specs.Counting.{count_after}
 use Rattle.step_laws.specs.States.{Begins, State, mote_of, with_mote}
-use Rattle.step_laws.proofs.CountDown.{CrossingStub, count_read, counted_down, front, inner_move, lowered_of, put_away, r24_read, six, sreg_read, tail_on, tail_over, taken_is, with_held}
+use Rattle.step_laws.proofs.CountDown.{CrossingStub, count_read, counted_down, front, lowered_of, put_away, r24_read, sreg_read, tail_on, tail_over, taken_is, with_held}
 use Rattle.step_laws.specs.Settings.{IsIdle, IsRunning}
 use Rattle.step_laws.specs.Links.{Links}
-use Rattle.step_laws.specs.Walks.{Makes, Walk}
+use Rattle.step_laws.specs.Walks.{MakesPlain, MakesServe, WalkFrom}
 use Rattle.step_laws.specs.Moves.{Plain, Serve, lines_of, plains}
 use Rattle.step_laws.specs.StepLaws.{Reaches}
-use Rattle.step_laws.proofs.SameProgram.{SameProgram}
-use Rattle.step_laws.proofs.Ways.{Way, walk_on}
-use Rattle.step_laws.proofs.KernelCalls.{bridge_move, call_move, owing, pushed, pushed_address, pushed_kept, pushed_size, quantum_move, quantum_state}
-use Rattle.step_laws.proofs.HeldSteps.{held, set_twice, jmp_held}
-use Rattle.step_laws.proofs.StubWords.{jmp_form}
+use Rattle.step_laws.proofs.SameProgram.{SameProgram, same_on}
+use Rattle.step_laws.proofs.Ways.{Way, from_on}
+use Rattle.step_laws.proofs.BoundLaws.{not_one}
+use Rattle.step_laws.proofs.LinkLaw.{link_law}
+use Rattle.step_laws.proofs.Stretches.{IsStretch, stretch_behind}
+use Rattle.step_laws.proofs.KernelCalls.{call_move, pushed, pushed_address, pushed_kept, pushed_size, quantum_move, quantum_state}
+use Rattle.step_laws.proofs.HeldSteps.{held, set_twice}
 use Rattle.step_laws.specs.Numbers.{moved}
-use Rattle.kernel_entry.specs.Parts.{rested}
-use Rattle.nat_page.specs.Standing.{jump_word}
-use Rattle.step_laws.proofs.PlainMoves.{form_there}
 
 -- the bytes below the cells stay
 down_kept : (m : Mote) (b : ℕ) → 0x0103 ≤ b → byte_at (counted_down m) b ≡ byte_at m.sram b
@@ -72,23 +71,6 @@ count_down_is m q size some most more =
     byte_same (put_away m) 0x0100 (lowered_of m).0 (omega arith) (omega (arith, length-with_byte (with_byte m.sram 0x0101 (register m.cpu 24)) 0x0102 m.cpu.sreg, length-with_byte m.sram 0x0101 (register m.cpu 24)))
     ∙ ap (λ n. byte_difference n 1 0) (count_read m) ∙ lowered_by_one q (byte_at m.sram 0x0100) some most more
 
--- and behind a call and a service that leaves r24 and SREG
-same_called : (m : Mote) (ram : List ℕ) (ret pc : ℕ) → m.cpu.sp ≡ 0x011F → SameProgram m (held m (register m.cpu 24) m.cpu.sreg 0 ram)
-    → SameProgram m (record (held m (register m.cpu 24) m.cpu.sreg 0 (pushed ram ret)) {
-      cpu = record
-          (held m (register m.cpu 24) m.cpu.sreg 0 ram).cpu { sp = 0x011F; pc = pc };
-    })
-same_called m ram ret pc top same = record {
-  registers = same.registers;
-  status = same.status;
-  top = refl;
-  size = pushed_size ram ret ∙ same.size;
-  bytes = λ b low apart apart'. pushed_kept ram ret b (omega arith) apart apart' ∙ same.bytes b low apart apart';
-  flash = refl;
-  devices = refl;
-  swap = refl;
-}
-
 -- behind QUANTUM, which takes r24 and SREG from their cells
 same_timed : (m : Mote) (d q : ℕ × ℕ) (ret quantum pc : ℕ) → length m.sram ≡ 4096 → m.cpu.sp ≡ 0x011F
     → (let ram = pushed (counted_down m) ret in
@@ -115,83 +97,53 @@ due_to links t b c z same reaches = subst (λ d. Reaches links t d z) same reach
 -- after the ten instructions, the link
 link_way : (links : Links) (x : State) (w t : ℕ) (b : Bool) → IsRunning x → CrossingStub links x.kernel.layout (mote_of x).flash.words w t → IsIdle x.kernel → (mote_of x).cpu.pc ≡ w
     → (byte_at (mote_of x).sram 0x0100 == 1) ≡ false
-    → Walk x (Plain b None ∷ plains 9) (with_held x (register (mote_of x).cpu 24) (mote_of x).cpu.sreg (w + 16) (counted_down (mote_of x)))
+    → WalkFrom x b None (plains 9) (with_held x (register (mote_of x).cpu 24) (mote_of x).cpu.sreg (w + 16) (counted_down (mote_of x)))
     → Way links x b t (count_after x.kernel.quantum (byte_at (mote_of x).sram 0x0100)) true
 unfolding lines_of
 link_way links x w t b free stub fit is more way =
     let m = mote_of x in
     let l = x.kernel.layout in
-    let v = register m.cpu 24 in
-    let s = m.cpu.sreg in
+    let q = x.kernel.quantum in
+    let c = byte_at m.sram 0x0100 in
     let low = stub.row.low in
-    let ram = counted_down m in
-    let y = with_held x v s (w + 16) ram in
-    let size : length ram ≡ 4096 = down_size m ∙ fit.size in
-    let count = count_down_is m x.kernel.quantum fit.size fit.some fit.most more in
-    let there : w + 16 + 1 ≡ w + 17 = omega arith in
-    elim stub.link [
-      | inl bridge ↦ (
-          let called : State = with_mote x (record (mote_of y) { cpu = record (mote_of y).cpu { sp = 0x011D; pc = 0xF000 }; sram = pushed ram (w + 16 + 2) }) in
-          let target : w + 16 + 2 ≡ w + 18 = omega arith in
-          let first : Makes y (Plain false None) called = call_move y (w + 16) 0xF000 false
-          (record { free = free.free; going = free.going; room = free.room }) refl (stub.row.pool 16 (omega arith)) (omega arith)
-          (stub.row.inner 16 (omega arith) (omega arith)) bridge.0 (ap (word_at m.flash.words) there ∙ bridge.1) fit.top in
-          let served : Makes called (Serve None false) (owing (rested called.kernel) t (Some (w + 16)) false) = bridge_move called (w + 16) t
-          (record { free = free.free; going = free.going; room = free.room }) refl (omega arith) (pushed_address ram (w + 16 + 2) size)
-          (ap (word_at m.flash.words) target ∙ stub.target) in
-          record {
-            end = owing (rested called.kernel) t (Some (w + 16)) false;
-            rest = plains 9 ++ (Plain false None ∷ Serve None false ∷ []);
-            walk = walk_on x y (owing (rested called.kernel) t (Some (w + 16)) false) (Plain b None ∷ plains 9) (Plain false None ∷ Serve None false ∷ []) way (called, first, (owing (rested called.kernel) t (Some (w + 16)) false, served, refl));
-            inner = refl;
-            silent = refl;
-            few = omega arith;
-            short = omega arith;
-            serves = omega arith;
-            goes = refl;
-            reset = λ crosses one n. absurd (let e = sym more ∙ ap (λ c. c == 1) one in cc);
-            left = record {
-              going = refl;
-              layout = refl;
-              part = refl;
-              quantum = refl;
-              same = same_called m ram (w + 16 + 2) 0xF000 fit.top (same_down m 0 fit.top);
-              count = pushed_kept ram (w + 16 + 2) 0x0100 (omega arith) (λ e. omega arith) (λ e. omega arith) ∙ count;
-              reaches = due_to links t false (byte_at m.sram 0x0100 == 1) (owing (rested called.kernel) t (Some (w + 16)) false) (sym more) (Reaches.Owing (Some (w + 16)) (λ e. absurd (cc)) refl (record { mark = stub.mark; call = bridge.0; bridge = ap (word_at m.flash.words) there ∙ bridge.1 }));
-            };
-          })
-      | inr jump ↦ (
-          let place = word_at m.flash.words (w + 17) in
-          let z = with_held x v s place ram in
-          let form = form_there m (w + 16) jump_word place (Some (forms.Jmp place)) (jump.0, ap (word_at m.flash.words) there, omega arith) (jmp_form place) in
-          let first : Makes y (Plain false None) z = inner_move links x w t 16 v s v s place ram ram free stub (omega arith) (omega arith) (jmp_held m v s (w + 16) place ram form) in
-          record {
-            end = z;
-            rest = plains 9 ++ (Plain false None ∷ []);
-            walk = walk_on x y z (Plain b None ∷ plains 9) (Plain false None ∷ []) way (z, first, refl);
-            inner = refl;
-            silent = refl;
-            few = omega arith;
-            short = omega arith;
-            serves = omega arith;
-            goes = refl;
-            reset = λ crosses one n. absurd (let e = sym more ∙ ap (λ c. c == 1) one in cc);
-            left = record {
-              going = free.going;
-              layout = refl;
-              part = refl;
-              quantum = refl;
-              same = same_down m place fit.top;
-              count = count;
-              reaches = due_to links t false (byte_at m.sram 0x0100 == 1) z (sym more) (Reaches.Placed refl free.free jump.1);
-            };
-          })
-    ]
+    let registers = fit.registers in
+    let pointer = fit.pointer in
+    let some = fit.some in
+    let most = fit.most in
+    let y = with_held x (register m.cpu 24) m.cpu.sreg (w + 16) (counted_down m) in
+    let down = same_down m (w + 16) fit.top in
+    let count = count_down_is m q fit.size fit.some fit.most more in
+    let left : count_after q c ≡ c - 1 = ap (λ b. if b then q else c - 1) more in
+    let apart = not_one c more in
+    let behind = stretch_behind l m.flash.words w 16 6 stub.row (omega arith) (omega arith) in
+    let row : IsStretch l m.flash.words (w + 16) 3 = record { pool = λ k below. behind.pool k (omega arith); inner = λ k some below. behind.inner k some (omega arith); low = omega arith } in
+    let fit' : IsIdle y.kernel = record { registers = omega (arith, ap length down.registers); size = down.size ∙ fit.size; pointer = omega (arith, down_kept m 0x0103 (omega arith)); top = fit.top; some = omega (arith, count, left); most = omega (arith, count, left) } in
+    let on = link_law links y (w + 16) t false (record { free = free.free; going = free.going; room = free.room }) row stub.stands stub.marks fit' refl (stub.row.inner 16 (omega arith) (omega arith)) in
+    let end = on.0.end in
+    record {
+      end = end;
+      rest = plains 9 ++ (Plain None ∷ on.0.rest);
+      walk = from_on x y end b None (plains 9) (Plain None ∷ on.0.rest) way on.0.walk;
+      silent = on.0.silent;
+      few = omega (arith, on.1);
+      serves = on.0.serves;
+      goes = on.0.goes;
+      reset = λ crosses one n. absurd (let e = sym more ∙ ap (λ c. c == 1) one in cc);
+      left = record {
+        going = on.0.left.going;
+        layout = on.0.left.layout;
+        part = on.0.left.part;
+        quantum = on.0.left.quantum;
+        same = same_on m (mote_of y) (mote_of end) down on.0.left.same;
+        count = on.0.left.count ∙ count;
+        reaches = due_to links t false (c == 1) end (sym more) on.0.left.reaches;
+      };
+    }
 
 -- the quantum is over
 over_way : (links : Links) (x : State) (w t : ℕ) (b : Bool) → IsRunning x → CrossingStub links x.kernel.layout (mote_of x).flash.words w t → IsIdle x.kernel
     → (byte_at (mote_of x).sram 0x0100 == 1) ≡ true
-    → Walk x (Plain b None ∷ plains 6) (with_held x (lowered_of (mote_of x)).0 (lowered_of (mote_of x)).1 (w + 19) (counted_down (mote_of x)))
+    → WalkFrom x b None (plains 6) (with_held x (lowered_of (mote_of x)).0 (lowered_of (mote_of x)).1 (w + 19) (counted_down (mote_of x)))
     → Way links x b t (count_after x.kernel.quantum (byte_at (mote_of x).sram 0x0100)) true
 unfolding lines_of moved
 over_way links x w t b free stub fit one way =
@@ -204,18 +156,16 @@ over_way links x w t b free stub fit one way =
     let there : w + 19 + 1 ≡ w + 20 = omega arith in
     let target : w + 19 + 2 ≡ w + 21 = omega arith in
     let called : State = with_mote x (record (mote_of y) { cpu = record (mote_of y).cpu { sp = 0x011D; pc = 0xF002 }; sram = pushed ram (w + 19 + 2) }) in
-    let first : Makes y (Plain false None) called = call_move y (w + 19) 0xF002 false
+    let first : MakesPlain y false None called = call_move y (w + 19) 0xF002 false
     (record { free = free.free; going = free.going; room = free.room }) refl (stub.row.pool 19 (omega arith)) (omega arith)
     (stub.row.inner 19 (omega arith) (omega arith)) stub.call (ap (word_at m.flash.words) there ∙ stub.entry) fit.top in
-    let served : Makes called (Serve None false) (quantum_state called t) = quantum_move called (w + 19) t (record { free = free.free; going = free.going; room = free.room }) refl (pushed_address ram (w + 19 + 2) size) (ap (word_at m.flash.words) target ∙ stub.last) in
+    let served : MakesServe called None false (quantum_state called t) = quantum_move called (w + 19) t (record { free = free.free; going = free.going; room = free.room }) refl (pushed_address ram (w + 19 + 2) size) (ap (word_at m.flash.words) target ∙ stub.last) in
     record {
       end = quantum_state called t;
-      rest = plains 6 ++ (Plain false None ∷ Serve None false ∷ []);
-      walk = walk_on x y (quantum_state called t) (Plain b None ∷ plains 6) (Plain false None ∷ Serve None false ∷ []) way (called, first, (quantum_state called t, served, refl));
-      inner = refl;
+      rest = plains 6 ++ (Plain None ∷ Serve None false ∷ []);
+      walk = from_on x y (quantum_state called t) b None (plains 6) (Plain None ∷ Serve None false ∷ []) way (called, first, (quantum_state called t, served, refl));
       silent = refl;
       few = omega arith;
-      short = omega arith;
       serves = omega arith;
       goes = refl;
       reset = λ crosses one n. refl;
@@ -235,16 +185,16 @@ crossing_by : (links : Links) (x : State) (w t : ℕ) (b c : Bool) → IsRunning
     → Begins x.kernel.layout (mote_of x).flash.words w b → (byte_at (mote_of x).sram 0x0100 == 1) ≡ c → Way links x b t (count_after x.kernel.quantum (byte_at (mote_of x).sram 0x0100)) true
 crossing_by links x w t b true free stub fit is starts one =
     let m = mote_of x in
-    let P : State → Type 0 = λ s. Walk s (six b) (with_held x (lowered_of m).0 (lowered_of m).1 (w + 10) (counted_down m)) in
+    let P : State → Type 0 = λ s. WalkFrom s b None (plains 5) (with_held x (lowered_of m).0 (lowered_of m).1 (w + 10) (counted_down m)) in
     let begun : P x = subst P (sym (start_held x w is)) (front links x w t b free stub (let registers = fit.registers in omega arith) starts) in
     let over = taken_is m (byte_at m.sram 0x0100) refl ∙ is_zero (byte_at m.sram 0x0100) one in
-    over_way links x w t b free stub fit one (walk_on x (with_held x (lowered_of m).0 (lowered_of m).1 (w + 10) (counted_down m)) _ (six b) (plains 1) begun (tail_over links x w t free stub over))
+    over_way links x w t b free stub fit one (from_on x (with_held x (lowered_of m).0 (lowered_of m).1 (w + 10) (counted_down m)) _ b None (plains 5) (plains 1) begun (tail_over links x w t free stub over))
 crossing_by links x w t b false free stub fit is starts more =
     let m = mote_of x in
-    let P : State → Type 0 = λ s. Walk s (six b) (with_held x (lowered_of m).0 (lowered_of m).1 (w + 10) (counted_down m)) in
+    let P : State → Type 0 = λ s. WalkFrom s b None (plains 5) (with_held x (lowered_of m).0 (lowered_of m).1 (w + 10) (counted_down m)) in
     let begun : P x = subst P (sym (start_held x w is)) (front links x w t b free stub (let registers = fit.registers in omega arith) starts) in
     let on = taken_is m (byte_at m.sram 0x0100) refl ∙ not_zero (byte_at m.sram 0x0100) fit.some fit.most more in
-    link_way links x w t b free stub fit is more (walk_on x (with_held x (lowered_of m).0 (lowered_of m).1 (w + 10) (counted_down m)) _ (six b) (plains 4) begun (tail_on links x w t free stub fit on))
+    link_way links x w t b free stub fit is more (from_on x (with_held x (lowered_of m).0 (lowered_of m).1 (w + 10) (counted_down m)) _ b None (plains 5) (plains 4) begun (tail_on links x w t free stub fit on))
 
 pub crossing_law : (links : Links) (x : State) (w t : ℕ) (b : Bool) → IsRunning x → CrossingStub links x.kernel.layout (mote_of x).flash.words w t → IsIdle x.kernel → (mote_of x).cpu.pc ≡ w
     → Begins x.kernel.layout (mote_of x).flash.words w b → Way links x b t (count_after x.kernel.quantum (byte_at (mote_of x).sram 0x0100)) true

@@ -31,7 +31,7 @@ use Rattle.step_laws.specs.Moves.{Serve, lines_of}
 use Rattle.step_laws.specs.Numbers.{moved}
 use Rattle.step_laws.specs.Settings.{IsSetting}
 use Rattle.step_laws.specs.States.{State, mote_of}
-use Rattle.step_laws.specs.Walks.{Makes}
+use Rattle.step_laws.specs.Walks.{MakesServe}
 use Rattle.step_laws.specs.StepLaws.{Reaches, ShapeLaw, StepLaw, Outcome, crossings_over}
 use Rattle.step_laws.proofs.SameProgram.{SameProgram, flat_same, paged_after}
 use Rattle.step_laws.proofs.Counting.{same_crossed}
@@ -59,7 +59,7 @@ wake_law links x a v devices s c can is on wakes =
     let k2 = woken kc to devices in
     let z : State = record { kernel = k2; owed = Some (record { target = to; stub = None; due = is_due kc }); end = None; torn = None } in
     let answer : served kc ≡ (answers.Woke to, k2) = served_faulted kc refl ∙ faulted_is kc true is ∙ slept_is kc true on ∙ ap (slept_by kc) wakes in
-    let served' : Makes y (Serve None false) z = serve_by y (answers.Woke to, k2) (record { free = s.ready.running.free; going = s.ready.running.going; room = s.ready.running.room }) can answer in
+    let served' : MakesServe y None false z = serve_by y (answers.Woke to, k2) (record { free = s.ready.running.free; going = s.ready.running.going; room = s.ready.running.room }) can answer in
     let due' : is_due kc ≡ true = due_is kc (answers.Woke to, k2) answer in
     let count' : byte_at kc.mote.sram 0x0100 ≡ byte_at ram 0x0100 = pushed_kept ram (v + 2) 0x0100 (omega arith) (λ e. omega arith) (λ e. omega arith) in
     let k3 = with_sram (rested kc) (crossed k.quantum from to kc.mote.sram) in
@@ -73,9 +73,7 @@ wake_law links x a v devices s c can is on wakes =
       rest = Serve None false ∷ [];
       line = None;
       walk = (y, c.first, (z, served', refl));
-      inner = refl;
       few = omega arith;
-      short = omega arith;
       serves = omega arith;
       lines = refl;
       keeps = record {

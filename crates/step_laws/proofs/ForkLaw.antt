@@ -26,9 +26,9 @@ use Rattle.step_laws.specs.Links.{Links}
 use Rattle.step_laws.specs.States.{InPool, State, mote_of, with_mote}
 use Rattle.step_laws.specs.Settings.{IsIdle, IsRunning, IsSetting}
 use Rattle.step_laws.proofs.Stretches.{IsStretch, stretch_of, stretch_behind}
-use Rattle.step_laws.specs.Walks.{Makes, MakesPlain}
+use Rattle.step_laws.specs.Walks.{MakesPlain}
 use Rattle.step_laws.proofs.Onward.{Onward, by_way, onward}
-use Rattle.step_laws.specs.Moves.{Plain, lines_of}
+use Rattle.step_laws.specs.Moves.{Plain, Within, lines_of}
 use Rattle.step_laws.specs.StepLaws.{StepLaw, crossings_over}
 use Rattle.step_laws.specs.Numbers.{moved}
 use Rattle.step_laws.proofs.PlainLaw.{plain_law}
@@ -39,6 +39,7 @@ use Rattle.kernel_entry.specs.Parts.{image_held}
 use Rattle.preempt_count.specs.Counting.{count_over}
 use Rattle.mote_core.specs.QuietSteps.{flash_form, IsQuiet}
 use Rattle.mote_core.proofs.QuietCore.{quiet_rjmp}
+use Rattle.mote_core.proofs.StepsByAnswer.{keeps_same}
 use Rattle.step_laws.proofs.PlainMoves.{form_there, quiet_move}
 use Rattle.kernel_entry.specs.Seen.{program, state_at}
 
@@ -78,7 +79,7 @@ fork_ends links x a v to p s some f on =
       next = at_place m p f.devices;
       step = f.step;
       written = refl;
-      kept = λ a is. refl;
+      kept = keeps_same (mote_of x).sram;
       result = refl;
     } in
     plain_law links x a to None (at_place m p f.devices) 1 (omega arith) s.ready.paged (record { first = first; flash = refl; sram = refl; swap = refl; registers = refl; polls = f.polls; pointer = s.ready.idle.pointer; goes = f.goes }) on
@@ -95,22 +96,20 @@ rjmp m n p is there low =
     subst P there (quiet_rjmp m m.cpu.r m.cpu.sreg m.cpu.pc m.sram n is (omega arith))
 
 -- a move to another place, and on from there
-step_on : (links : Links) (y : State) (p t c : ℕ) (crosses : Bool) → Makes y (Plain false None) (with_mote y (record (mote_of y) { cpu = record (mote_of y).cpu { pc = p } }))
+step_on : (links : Links) (y : State) (p t c : ℕ) (crosses : Bool) → MakesPlain y false None (with_mote y (record (mote_of y) { cpu = record (mote_of y).cpu { pc = p } }))
     → Onward 0 links (with_mote y (record (mote_of y) { cpu = record (mote_of y).cpu { pc = p } })) t c crosses → Onward 1 links y t c crosses
 unfolding lines_of
 step_on links y p t c crosses first on =
     let same = on.left.same in
     record {
       end = on.end;
-      moves = Plain false None ∷ on.moves;
+      moves = Plain None ∷ on.moves;
       walk = (with_mote y (record (mote_of y) { cpu = record (mote_of y).cpu { pc = p } }), first, on.walk);
-      inner = on.inner;
       silent = on.silent;
       few = let few = on.few in omega arith;
-      short = let short = on.short in omega arith;
       serves = on.serves;
       goes = on.goes;
-      reset = λ crosses one n. on.reset crosses one (moved (Plain false None) n);
+      reset = λ crosses one n. on.reset crosses one (moved (Within (Plain None)) n);
       left = record {
         going = on.left.going;
         layout = on.left.layout;
@@ -170,6 +169,6 @@ fork_law links x a v t false first s closed template f =
     let y' = with_mote y (record (mote_of y) { cpu = record (mote_of y).cpu { pc = p } }) in
     let free'' : IsRunning y' = record { free = s.ready.running.free; going = s.ready.running.going; room = omega arith } in
     let fit' : IsIdle y'.kernel = record { registers = fit.registers; size = fit.size; pointer = fit.pointer; top = fit.top; some = fit.some; most = fit.most } in
-    let move : Makes y (Plain false None) y' = quiet_move y (record (mote_of y) { cpu = record (mote_of y).cpu { pc = p } }) false free' (row.pool 1 (omega arith)) (row.inner 1 (omega arith) (omega arith)) jumps in
+    let move : MakesPlain y false None y' = quiet_move y (record (mote_of y) { cpu = record (mote_of y).cpu { pc = p } }) false free' (row.pool 1 (omega arith)) (row.inner 1 (omega arith) (omega arith)) jumps in
     let next = stub_bound a (next_of image a) in
     fork_ends links x a v (next_of image a) (v + 1) s (omega arith) f (step_on links y p (next_of image a) _ _ move (onward links y' image a v free'' fit' s.ready.bounded.right s.code (omega arith) (omega arith) closed refl))

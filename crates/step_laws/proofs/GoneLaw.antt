@@ -28,7 +28,7 @@ use Rattle.step_laws.proofs.ServiceLaw.{Called, bus_stops, called, called_by, st
 use Rattle.step_laws.proofs.AskedLaw.{RunsOn, runs_on, owns_by}
 use Rattle.step_laws.specs.Settings.{IsSetting}
 use Rattle.step_laws.specs.Links.{Links}
-use Rattle.step_laws.specs.Walks.{Makes}
+use Rattle.step_laws.specs.Walks.{MakesServe}
 use Rattle.step_laws.specs.StepLaws.{Reaches, ShapeLaw, StepLaw, Outcome as StepOutcome, crossings_over}
 use Rattle.step_laws.proofs.SameProgram.{SameProgram, flat_same, paged_after}
 use Rattle.step_laws.specs.Moves.{Serve, lines_of}
@@ -75,7 +75,7 @@ go_law links x a v entry form cpu g other s c can is runs reads apart went quiet
     let put = returned kc cpu g entry in
     let k2 = with_sram put (crossed k.quantum a cpu.pc m) in
     let z : State = record { kernel = k2; owed = Some (record { target = cpu.pc; stub = None; due = is_due kc }); end = None; torn = None } in
-    let served' : Makes y (Serve None false) z = serve_by y (answers.Goto cpu.pc None, k2) (record { free = s.ready.running.free; going = s.ready.running.going; room = s.ready.running.room }) can answer in
+    let served' : MakesServe y None false z = serve_by y (answers.Goto cpu.pc None, k2) (record { free = s.ready.running.free; going = s.ready.running.going; room = s.ready.running.room }) can answer in
     let count' : byte_at m 0x0100 ≡ byte_at ram 0x0100 = byte_out_of_word g.sram vsp_cell 0x0100 cpu.sp (omega arith) (omega arith) (λ e. omega arith)
     (λ e. omega arith) ∙ kept.cells 0x0100 (omega arith) (omega arith)
     ∙ pushed_kept ram (v + 2) 0x0100 (omega arith) (λ e. omega arith) (λ e. omega arith) in
@@ -92,9 +92,7 @@ go_law links x a v entry form cpu g other s c can is runs reads apart went quiet
       rest = Serve None false ∷ [];
       line = None;
       walk = (y, c.first, (z, served', refl));
-      inner = refl;
       few = omega arith;
-      short = omega arith;
       serves = omega arith;
       lines = refl;
       keeps = record {

@@ -1,5 +1,5 @@
 -- An inline template: inside the stack window its steps make the program's step, and outside they come to the service MEM.
-use Rattle.std.proofs.Common.{false, ◌≡◌, ℕ, ◌+◌, ◌-◌, ◌/◌, ◌%◌, ◌<◌, ◌≤◌, ◌∷◌, ◌++◌, ◌∙◌, true, List, length, refl, sym, ap, arith, subst, inl, inr}
+use Rattle.std.proofs.Common.{false, ◌≡◌, ℕ, ◌+◌, ◌-◌, ◌/◌, ◌%◌, ◌<◌, ◌≤◌, ◌++◌, ◌∙◌, true, List, length, refl, sym, ap, arith, subst, inl, inr}
 use Rattle.std.specs.Prelude.{◌&&◌, ◌==◌, None, slice_index}
 use Rattle.avr_isa.specs.Crossing.{is_crossing}
 use Rattle.avr_isa.specs.Instruction.{size_of}
@@ -9,6 +9,7 @@ use Rattle.avr_exec.specs.Spaces.{Went as WentOn}
 use Rattle.flash_model.specs.Pages.{word_at as flash_word}
 use Rattle.sram_layout.specs.Bytes.{byte_at, with_byte, data_word_at}
 use Rattle.sram_layout.specs.Cells.{vsp_cell}
+use Rattle.sram_layout.specs.Regions.{stack_window}
 use Rattle.std.proofs.lemmas.Bool.{cases_lt}
 use Rattle.kernel_entry.specs.Conditions.{CanServe}
 use Rattle.heap_frames.specs.Paged.{IsPaged}
@@ -32,11 +33,11 @@ use Rattle.kernel_entry.specs.Seen.{program, state_at}
 use Rattle.inline_laws.specs.InlineWays.{Passes, CanPass, Ways, placed, begun, trapped, saved_of, pointer_of}
 use Rattle.inline_laws.proofs.Cells.{SameButCells, saved_same, pointer_saved, pointer_byte_saved, pointer_apart}
 use Rattle.step_laws.specs.Links.{Links}
-use Rattle.step_laws.specs.Moves.{Plain, lines_of, plains}
+use Rattle.step_laws.specs.Moves.{lines_of, plains}
 use Rattle.step_laws.specs.Settings.{IsIdle, IsRunning, IsSetting}
 use Rattle.step_laws.specs.States.{InPool, State, mote_of, with_mote}
 use Rattle.step_laws.specs.StepLaws.{Reaches, StepLaw, Outcome as StepOutcome, crossings_over}
-use Rattle.step_laws.specs.Walks.{Makes, Walk}
+use Rattle.step_laws.specs.Walks.{MakesPlain, WalkFrom}
 use Rattle.step_laws.proofs.AskedLaw.{Asked, IsAsked, asked, owns_by}
 use Rattle.step_laws.proofs.Executed.{executed_at, kept_of}
 use Rattle.step_laws.proofs.InlineSeen.{core_after, memory_after, seen_alike}
@@ -45,27 +46,27 @@ use Rattle.step_laws.proofs.KernelCalls.{pushed, pushed_address, pushed_kept, pu
 use Rattle.step_laws.proofs.Onward.{onward}
 use Rattle.step_laws.proofs.PlainMoves.{quiet_move}
 use Rattle.step_laws.proofs.MemService.{IsReached, served_by}
-use Rattle.step_laws.proofs.PlainRuns.{plains_inner, plains_counted, plains_length, plains_served, plains_stopped, plains_lines, plains_reset}
+use Rattle.step_laws.proofs.PlainRuns.{plains_counted, plains_served, plains_stopped, plains_lines, plains_reset}
 use Rattle.step_laws.proofs.SameProgram.{flat_same, paged_after}
 use Rattle.step_laws.proofs.Stretches.{stretch_of}
-use Rattle.step_laws.proofs.Ways.{walk_on}
+use Rattle.step_laws.proofs.Ways.{from_on}
 use Rattle.mem_guard.proofs.ReadLaws.{reads_program}
 
 -- the walk of the steps, from the place of the template on
 pub inline_walk : (links : Links) (x : State) (a v n more : ℕ) (last : Mote) → IsSetting links x a v → size (template_at (image_held x.kernel) a) ≡ n → IsQuiet (placed (mote_of x) v) (begun (mote_of x) v)
-    → Passes (v + 1) (v + n) more (begun (mote_of x) v) last → Walk x (Plain true None ∷ plains more) (with_mote x last)
+    → Passes (v + 1) (v + n) more (begun (mote_of x) v) last → WalkFrom x true None (plains more) (with_mote x last)
 inline_walk links x a v n more last s is first passes =
     let m = mote_of x in
     let row = stretch_of links x.kernel.layout (image_held x.kernel) m.flash.words a v s.ready.bounded.right s.code in
     let Q : ℕ → Type 0 = λ pc. IsQuiet (held m m.cpu.r m.cpu.sreg pc m.sram) (begun m v) in
     let P : ℕ → Type 0 = λ k. Passes (v + 1) (v + k) more (begun m v) last in
-    let first' : Makes x (Plain true None) (with_mote x (begun m v)) = quiet_move x (begun m v) true s.ready.running (subst (InPool x.kernel.layout) (sym s.at) s.code.pool) (subst (IsPlace x.kernel.layout m.flash.words) (sym s.at) s.code.place) (subst Q (sym s.at) first) in
+    let first' : MakesPlain x true None (with_mote x (begun m v)) = quiet_move x (begun m v) true s.ready.running (subst (InPool x.kernel.layout) (sym s.at) s.code.pool) (subst (IsPlace x.kernel.layout m.flash.words) (sym s.at) s.code.place) (subst Q (sym s.at) first) in
     (with_mote x (begun m v), first', passes_walk x v (size (template_at (image_held x.kernel) a)) more (begun m v) last s.ready.running row refl refl (subst P (sym is) passes))
 
 -- Inside: the steps leave these registers and bytes, which agree but for the cells with what the instruction leaves.
 pub record Inside (x : State) (a v n more : ℕ) (form : Form) (r sram sram' : List ℕ) (sp : ℕ) : Type 0 where
   pub few : more ≤ 20
-  pub walk : Walk x (Plain true None ∷ plains more) (with_mote x (held (mote_of x) r (mote_of x).cpu.sreg (v + n) sram'))
+  pub walk : WalkFrom x true None (plains more) (with_mote x (held (mote_of x) r (mote_of x).cpu.sreg (v + n) sram'))
   pub reads : reads_program form ≡ false
   pub went : executed_at x.kernel a form ≡ WentOn (core_after x.kernel a r sp) (memory_after x.kernel sram)
   pub same : SameButCells sram sram'
@@ -113,10 +114,8 @@ inside_law links x a v n more form r sram sram' sp s f g next width some =
       first = None;
       rest = plains more ++ on.moves;
       line = None;
-      walk = walk_on x y end (Plain true None ∷ plains more) on.moves f.walk on.walk;
-      inner = plains_inner more on.moves ∙ on.inner;
+      walk = from_on x y end true None (plains more) on.moves f.walk on.walk;
       few = let few = on.few in let few' = f.few in omega (arith, plains_counted more on.moves);
-      short = let short = on.short in let few = f.few in omega (arith, plains_length more on.moves);
       serves = let serves = on.serves in omega (arith, plains_served more on.moves);
       lines = plains_lines more on.moves ∙ on.silent;
       keeps = record {
@@ -191,8 +190,8 @@ pub record IsInline (x : State) (a v n address steps lower upper : ℕ) (form : 
   pub one : size_of form ≡ 1
   pub reads : reads_program form ≡ false
   pub few : (steps ≤ 20) × (lower ≤ 20) × (upper ≤ 20)
-  pub went : 0x0D00 ≤ address → address ≤ 0x10FF → executed_at x.kernel a form ≡ WentOn (core_after x.kernel a r sp) (memory_after x.kernel sram)
-  pub same : 0x0D00 ≤ address → address ≤ 0x10FF → SameButCells sram sram'
+  pub went : stack_window.first ≤ address → address < stack_window.behind → executed_at x.kernel a form ≡ WentOn (core_after x.kernel a r sp) (memory_after x.kernel sram)
+  pub same : stack_window.first ≤ address → address < stack_window.behind → SameButCells sram sram'
   pub pointer : 0x0D00 ≤ address → data_word_at sram' vsp_cell ≡ sp
   pub low : 0x0D00 ≤ address → byte_at sram' vsp_cell < 256
   pub registers : length r ≡ length (mote_of x).cpu.r
@@ -206,7 +205,7 @@ can_pass links x a v s =
 
 -- inside the window, and outside it
 pub inside_of : (links : Links) (x : State) (a v n address steps lower upper : ℕ) (form : Form) (r sram sram' : List ℕ) (sp : ℕ) → IsSetting links x a v → IsInline x a v n address steps lower upper form r sram sram' sp
-    → 0x0D00 ≤ address → address ≤ 0x10FF → Inside x a v (n + 1) steps form r sram sram' sp
+    → stack_window.first ≤ address → address < stack_window.behind → Inside x a v (n + 1) steps form r sram sram' sp
 inside_of links x a v n address steps lower upper form r sram sram' sp s t from to = record {
   few = t.few.0;
   walk = inline_walk links x a v (n + 1) steps (held (mote_of x) r (mote_of x).cpu.sreg (v + (n + 1)) sram') s t.width t.ways.first (t.ways.inside from to);
@@ -222,7 +221,7 @@ pub outside_of : (links : Links) (x : State) (a v n more : ℕ) → IsSetting li
     → IsQuiet (placed (mote_of x) v) (begun (mote_of x) v) → Passes (v + 1) (v + (n + 1)) more (begun (mote_of x) v) (trapped (mote_of x) (v + (n + 1) - 1) (saved_of (mote_of x))) → Asked x a (saved_of (mote_of x)) (v + n) mem_entry more
 outside_of links x a v n more s width word few first passes =
     let m = mote_of x in
-    let W : ℕ → Type 0 = λ back. Walk x (Plain true None ∷ plains more) (with_mote x (trapped m back (saved_of m))) in
+    let W : ℕ → Type 0 = λ back. WalkFrom x true None (plains more) (with_mote x (trapped m back (saved_of m))) in
     record {
       few = few;
       walk = subst W (omega arith) (inline_walk links x a v (n + 1) more (trapped m (v + (n + 1) - 1) (saved_of m)) s width first passes);
@@ -234,12 +233,12 @@ inline_law links x a v n address steps lower upper form r sram sram' sp s f t =
     let outside : (more : ℕ) → more ≤ 20 → Passes (v + 1) (v + (n + 1)) more (begun (mote_of x) v) (trapped (mote_of x) (v + (n + 1) - 1) (saved_of (mote_of x))) → StepLaw links x a = λ more few passes.
     let c = outside_of links x a v n more s t.width t.word_there few t.ways.first passes in
     served_by links x a v (saved_of (mote_of x)) (v + n) more form s c (CanServe.AtMem refl (c.state.shape ∙ f.shape) c.state.can) f (let width = t.width in omega arith) in
-    elim (cases_lt address 0x0D00) [
+    elim (cases_lt address stack_window.first) [
       | inl under ↦ outside lower t.few.1 (t.ways.below under)
-      | inr from ↦ elim (cases_lt 0x10FF address) [
-        | inl over ↦ outside upper t.few.2 (t.ways.above over)
-        | inr to ↦ inside_law links x a v (n + 1) steps form r sram sram' sp s
+      | inr from ↦ elim (cases_lt address stack_window.behind) [
+        | inl to ↦ inside_law links x a v (n + 1) steps form r sram sram' sp s
             (inside_of links x a v n address steps lower upper form r sram sram' sp s t from to)
             f (ap (wrapping_sum a) (sym t.one) ∙ f.next) t.width (omega arith)
+        | inr over ↦ outside upper t.few.2 (t.ways.above over)
       ]
     ]

@@ -10,7 +10,7 @@ use Rattle.avr_exec.specs.Registers.{wrapping_sum}
 use Rattle.flash_model.specs.Pages.{word_at}
 use Rattle.nat_template.specs.declared.piece.Piece.{Piece}
 use Rattle.nat_template.specs.declared.piece.Piece.TheVariants.{Fixed}
-use Rattle.nat_template.specs.Inline.{second_words, words_of_form, words_of_forms, width_of}
+use Rattle.nat_template.specs.Words.{second_words, words_of_form, words_of_forms, width_of}
 use Rattle.nat_template.specs.Templates.{inline}
 use Rattle.nat_page.specs.Standing.{Stands}
 use Rattle.inline_laws.specs.Rows.{Row}

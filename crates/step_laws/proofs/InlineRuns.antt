@@ -28,7 +28,10 @@ use Rattle.kernel_entry.specs.Seen.{program, state_at}
 use Rattle.kernel_entry.specs.Services.{foreign_read, served, served_at}
 use Rattle.inline_laws.specs.InlineWays.{Passes, begun, trapped, saved_of}
 use Rattle.inline_laws.proofs.Cells.{saved_same}
-use Rattle.step_laws.specs.InlineLaws.{Inline, inline_of, IsAsMem, AsksMem, CallsMem, HasInlineRun, RunInline}
+use Rattle.step_laws.specs.Moves.{plains}
+use Rattle.step_laws.specs.Walks.{Walk, WalkFrom}
+use Rattle.step_laws.proofs.Ways.{walk_of}
+use Rattle.step_laws.specs.InlineLaws.{Inline, inline_of, plain_moves, IsAsMem, AsksMem, CallsMem, HasInlineRun, RunInline}
 use Rattle.step_laws.specs.Links.{Links}
 use Rattle.step_laws.specs.Settings.{IsSetting}
 use Rattle.step_laws.specs.States.{State, mote_of, with_mote}
@@ -94,6 +97,10 @@ as_mem x a to form end f original k asks =
 trap_asks_mem : (x : State) (a back : ℕ) (ram : List ℕ) → IsAsked x a ram back mem_entry → shape_at (image_held x.kernel) a ≡ Mem → AsksMem x a (asked x ram back mem_entry)
 trap_asks_mem x a back ram c shape = record { at = refl; can = CanServe.AtMem refl (c.shape ∙ shape) c.can; address = c.behind; same = refl; sees = c.sees }
 
+-- the walk of a step as moves
+step_walk : (x z : State) (more : ℕ) → WalkFrom x true None (plains more) z → Walk x (plain_moves (suc more)) z
+step_walk x z more walk = (walk.0, walk.1, walk_of walk.0 z (plains more) walk.2)
+
 -- the ways through a template
 runs_of : (links : Links) (x : State) (a v n address steps lower upper : ℕ) (form : Form) (r sram sram' : List ℕ) (sp : ℕ) → IsSetting links x a v → IsReached x a form → IsInline x a v n address steps lower upper form r sram sram' sp
     → HasInlineRun x a (record { words = n + 1; address = address; inside = suc steps; below = suc lower; above = suc upper })
@@ -103,7 +110,7 @@ runs_of links x a v n address steps lower upper form r sram sram' sp s f t =
     let saves = saved_same m.sram (slice_index m.cpu.r 30) (slice_index m.cpu.r 31) m.cpu.sreg in
     let calls : (more : ℕ) → more ≤ 20 → Passes (v + 1) (v + (n + 1)) more (begun m v) (trapped m (v + (n + 1) - 1) (saved_of m)) → CallsMem x a (n + 1) (suc more) = λ more few passes. record {
       end = trapped m (v + n) (saved_of m);
-      walk = (outside_of links x a v n more s t.width t.word_there few t.ways.first passes).walk;
+      walk = step_walk x _ more (outside_of links x a v n more s t.width t.word_there few t.ways.first passes).walk;
       asks = trap_asks_mem x a (v + n) (saved_of m) trap f.shape;
       called = omega (arith, trap.address, s.at);
       leaves = record {
@@ -122,7 +129,7 @@ runs_of links x a v n address steps lower upper form r sram sram' sp s f t =
           let end = held m r m.cpu.sreg (v + (n + 1)) sram' in
           record {
             end = end;
-            walk = i.walk;
+            walk = step_walk x _ steps i.walk;
             behind = ap (λ pc. pc + (n + 1)) (sym s.at);
             top = s.ready.idle.top;
             stack = λ b low high. i.same.bytes b (omega arith) ∙ t.others from b (omega arith) (omega arith);

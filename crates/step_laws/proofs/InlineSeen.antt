@@ -1,6 +1,6 @@
 -- The instructions with an inline template, executed over the program's memory where they reach the stack window; and what
 -- the program sees of another SRAM.
-use Rattle.std.proofs.Common.{◌≡◌, ℕ, ◌-◌, ◌≤◌, true, false, cond, List, length, arith, refl, ap, ap₂, ◌∙◌}
+use Rattle.std.proofs.Common.{◌≡◌, ℕ, ◌-◌, ◌<◌, ◌≤◌, true, false, cond, List, length, arith, refl, ap, ap₂, ◌∙◌}
 use Rattle.std.specs.Prelude.{slice_index, slice_set, nat_lt, nat_le, ◌&&◌}
 use Rattle.std.proofs.lemmas.Bool.Decides.{nat_tests}
 use Rattle.avr_isa.specs.declared.form.Form.TheVariants.{Push, Pop, LoadOff, StoreOff}
@@ -17,6 +17,7 @@ use Rattle.avr_exec.specs.Spaces.{Went as WentOn, Stopped as StoppedOn}
 use Rattle.avr_exec.proofs.OneAnswer.{exec_went}
 use Rattle.sram_layout.specs.Bytes.{byte_at, with_byte, data_word_at}
 use Rattle.sram_layout.specs.Cells.{vsp_cell}
+use Rattle.sram_layout.specs.Regions.{stack_window}
 use Rattle.heap_frames.specs.Addresses.{is_stack, is_heap}
 use Rattle.heap_frames.specs.Memory.{vmem}
 use Rattle.heap_frames.specs.SamePaging.{SamePaging}
@@ -51,19 +52,19 @@ not_core a from = grind (arith, nat_tests)
 not_own : (a : ℕ) → 0x0D00 ≤ a → is_own a ≡ false
 not_own a from = grind (arith, nat_tests)
 
-window_class : (a : ℕ) → 0x0D00 ≤ a → a ≤ 0x10FF → class_of a ≡ Stack
+window_class : (a : ℕ) → stack_window.first ≤ a → a < stack_window.behind → class_of a ≡ Stack
 unfolding class_of
 window_class a from to =
     ap₂ (λ x y. cond x Register (cond y Core (cond (is_stack a) Stack (cond (is_heap a) Heap Io)))) (not_low a from) (not_core a from)
     ∙ ap (λ b. cond b Stack (cond (is_heap a) Heap Io)) (in_window a from to)
 
-loaded_there : (g : Guarded) (a : ℕ) → 0x0D00 ≤ a → a ≤ 0x10FF → answer_of guarded_calls g (load_of a) ≡ WentOn (Byte (byte_at g.sram a)) g
+loaded_there : (g : Guarded) (a : ℕ) → stack_window.first ≤ a → a < stack_window.behind → answer_of guarded_calls g (load_of a) ≡ WentOn (Byte (byte_at g.sram a)) g
 unfolding answer_of load_of load
 loaded_there g a from to =
     ap (λ b. answer_of guarded_calls g (cond b Nothing (Load a))) (not_own a from)
     ∙ ap (λ c. answered_by Byte (load_in c g a)) (window_class a from to)
 
-stored_there : (g : Guarded) (a v : ℕ) → 0x0D00 ≤ a → a ≤ 0x10FF → answer_of guarded_calls g (store_of a v) ≡ WentOn Done (with_sram g a v)
+stored_there : (g : Guarded) (a v : ℕ) → stack_window.first ≤ a → a < stack_window.behind → answer_of guarded_calls g (store_of a v) ≡ WentOn Done (with_sram g a v)
 unfolding answer_of store_of store
 stored_there g a v from to =
     ap (λ b. answer_of guarded_calls g (cond b Nothing (Store a v))) (not_own a from)
@@ -85,7 +86,7 @@ core_after k a r sp = record { r = r; sreg = k.mote.cpu.sreg; sp = sp; pc = wrap
 abbrev pub memory_after : Kernel → List ℕ → Guarded
 memory_after k sram = record (memory_of k) { sram = sram }
 
-pub push_executed : (k : Kernel) (a d : ℕ) → 0x0D00 ≤ virtual_sp k → virtual_sp k ≤ 0x10FF
+pub push_executed : (k : Kernel) (a d : ℕ) → stack_window.first ≤ virtual_sp k → virtual_sp k < stack_window.behind
     → executed_at k a (Push d) ≡ WentOn (core_after k a k.mote.cpu.r (virtual_sp k - 1)) (memory_after k (with_byte k.mote.sram (virtual_sp k) (slice_index k.mote.cpu.r d)))
 unfolding ask_of finish_of
 push_executed k a d from to =
@@ -95,14 +96,14 @@ push_executed k a d from to =
     exec_went guarded_calls (Push d) (core_of k a) (memory_of k) (next_size (image_held k) a) Done (memory_after k (with_byte k.mote.sram sp x)) (pushed_there (memory_of k) sp x (in_window sp from to))
     ∙ ap (λ p. WentOn (core_after k a k.mote.cpu.r p) (memory_after k (with_byte k.mote.sram sp x))) down
 
-pub pop_executed : (k : Kernel) (a d : ℕ) → 0x0D00 ≤ above_pointer k.mote → above_pointer k.mote ≤ 0x10FF
+pub pop_executed : (k : Kernel) (a d : ℕ) → stack_window.first ≤ above_pointer k.mote → above_pointer k.mote < stack_window.behind
     → executed_at k a (Pop d) ≡ WentOn (core_after k a (slice_set k.mote.cpu.r d (byte_at k.mote.sram (above_pointer k.mote))) (above_pointer k.mote)) (memory_of k)
 unfolding ask_of finish_of
 pop_executed k a d from to =
     let p = above_pointer k.mote in
     exec_went guarded_calls (Pop d) (core_of k a) (memory_of k) (next_size (image_held k) a) (Byte (byte_at k.mote.sram p)) (memory_of k) (popped_there (memory_of k) (virtual_sp k) (in_window p from to))
 
-pub load_executed : (k : Kernel) (a d q : ℕ) → 0x0D00 ≤ from_frame k.mote q → from_frame k.mote q ≤ 0x10FF
+pub load_executed : (k : Kernel) (a d q : ℕ) → stack_window.first ≤ from_frame k.mote q → from_frame k.mote q < stack_window.behind
     → executed_at k a (LoadOff d Y q) ≡ WentOn (core_after k a (slice_set k.mote.cpu.r d (byte_at k.mote.sram (from_frame k.mote q))) (virtual_sp k)) (memory_of k)
 unfolding ask_of finish_of
 load_executed k a d q from to =
@@ -111,7 +112,7 @@ load_executed k a d q from to =
     exec_went guarded_calls (LoadOff d Y q) (core_of k a) (memory_of k) (next_size (image_held k) a) (Byte x) (memory_of k) (loaded_there (memory_of k) p from to)
     ∙ ap (λ y. WentOn (core_after k a (slice_set k.mote.cpu.r d y) (virtual_sp k)) (memory_of k)) (loaded_is (core_of k a) p x from)
 
-pub store_executed : (k : Kernel) (a d q : ℕ) → 0x0D00 ≤ from_frame k.mote q → from_frame k.mote q ≤ 0x10FF
+pub store_executed : (k : Kernel) (a d q : ℕ) → stack_window.first ≤ from_frame k.mote q → from_frame k.mote q < stack_window.behind
     → executed_at k a (StoreOff Y q d) ≡ WentOn (core_after k a k.mote.cpu.r (virtual_sp k)) (memory_after k (with_byte k.mote.sram (from_frame k.mote q) (slice_index k.mote.cpu.r d)))
 unfolding ask_of finish_of
 store_executed k a d q from to =

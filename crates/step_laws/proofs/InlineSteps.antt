@@ -4,7 +4,7 @@ use Rattle.mote_core.specs.declared.mote.Mote.{Mote}
 use Rattle.step_laws.specs.Moves.{plains}
 use Rattle.step_laws.specs.States.{InPool, State, mote_of, with_mote}
 use Rattle.step_laws.specs.Settings.{IsRunning}
-use Rattle.step_laws.specs.Walks.{Walk}
+use Rattle.step_laws.specs.Walks.{WalkWithin}
 use Rattle.step_laws.proofs.PlainMoves.{quiet_move}
 use Rattle.step_laws.proofs.Stretches.{IsStretch}
 use Rattle.nat_page.specs.Entered.{IsPlace}
@@ -12,7 +12,7 @@ use Rattle.inline_laws.specs.InlineWays.{Passes}
 
 -- they are plain moves inside the words at v, behind the first
 pub passes_walk : (x : State) (v size n : ℕ) (m last : Mote) → IsRunning x → IsStretch x.kernel.layout (mote_of x).flash.words v size → m.flash ≡ (mote_of x).flash → m.devices ≡ (mote_of x).devices
-    → Passes (v + 1) (v + size) n m last → Walk (with_mote x m) (plains n) (with_mote x last)
+    → Passes (v + 1) (v + size) n m last → WalkWithin (with_mote x m) (plains n) (with_mote x last)
 passes_walk x v size zero m last running row flash devices passes = ap (with_mote x) passes
 passes_walk x v size (suc n) m last running row flash devices (next, above, below, quiet, rest) =
     let pc = m.cpu.pc in

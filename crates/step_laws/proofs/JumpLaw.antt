@@ -96,9 +96,7 @@ jumps_by links x a t paged pointer goes way = record {
   rest = way.rest;
   line = None;
   walk = way.walk;
-  inner = way.inner;
   few = let few = way.few in omega arith;
-  short = let short = way.short in omega arith;
   serves = let serves = way.serves in omega arith;
   lines = way.silent;
   keeps = keeps_by links x way.end t _ _ paged pointer way.left;

@@ -13,8 +13,7 @@ use Rattle.kernel_entry.specs.declared.kernel.Served.{Served}
 use Rattle.kernel_entry.specs.declared.kernel.Served.TheVariants as answers
 use Rattle.step_laws.specs.States.{Begins, InPool, State, after_service, is_stop, line_served, mote_of, with_mote}
 use Rattle.step_laws.specs.Settings.{IsRunning}
-use Rattle.step_laws.specs.Walks.{Makes}
-use Rattle.step_laws.specs.Moves.{Plain, Serve}
+use Rattle.step_laws.specs.Walks.{MakesPlain, MakesServe}
 use Rattle.step_laws.proofs.StubWords.{call_form}
 use Rattle.kernel_entry.specs.Parts.{descriptor, rested, return_address}
 use Rattle.kernel_entry.specs.Services.{served, served_at, quantum_ended, is_due, due_by}
@@ -43,7 +42,7 @@ pushed_size ram ret = length-with_byte (with_byte ram 0x011F (ret % 256)) 0x011E
 abbrev pub called_of : State → ℕ → ℕ → State
 called_of x v entry = with_mote x (record (mote_of x) { cpu = record (mote_of x).cpu { sp = 0x011D; pc = entry }; sram = pushed (mote_of x).sram (v + 2) })
 
-pub serve_by : (x : State) (answer : Served × Kernel) → IsRunning x → CanServe x.kernel → served x.kernel ≡ answer → Makes x (Serve (line_served answer.0) (is_stop answer.0)) (after_service (is_due x.kernel) answer)
+pub serve_by : (x : State) (answer : Served × Kernel) → IsRunning x → CanServe x.kernel → served x.kernel ≡ answer → MakesServe x (line_served answer.0) (is_stop answer.0) (after_service (is_due x.kernel) answer)
 serve_by x answer free can is = record {
   free = free.free;
   going = free.going;
@@ -55,7 +54,7 @@ serve_by x answer free can is = record {
 
 pub call_move : (x : State) (p entry : ℕ) (b : Bool) → IsRunning x → (mote_of x).cpu.pc ≡ p → InPool x.kernel.layout p → p < 0xF000 → Begins x.kernel.layout (mote_of x).flash.words p b
     → word_at (mote_of x).flash.words p ≡ call_word → word_at (mote_of x).flash.words (p + 1) ≡ entry → (mote_of x).cpu.sp ≡ 0x011F
-    → Makes x (Plain b None) (with_mote x (record (mote_of x) { cpu = record (mote_of x).cpu { sp = 0x011D; pc = entry }; sram = pushed (mote_of x).sram (p + 2) }))
+    → MakesPlain x b None (with_mote x (record (mote_of x) { cpu = record (mote_of x).cpu { sp = 0x011D; pc = entry }; sram = pushed (mote_of x).sram (p + 2) }))
 call_move x p entry b free is pool low starts first second top =
     let m = mote_of x in
     let form : flash_form m m.cpu.pc ≡ Some (forms.Call entry) = ap (flash_form m) is ∙ form_there m p call_word entry (Some (forms.Call entry)) (first, second, low) (call_form entry) in
@@ -75,7 +74,7 @@ unfolding is_due
 due_is k answer is = ap (λ (o : Served × Kernel). due_by k.mote.cpu.pc (descriptor k) (byte_at k.mote.sram count_cell == 1) o.0) is
 
 pub bridge_move : (x : State) (p t : ℕ) → IsRunning x → (mote_of x).cpu.pc ≡ 0xF000 → p + 2 < 65536 → return_address x.kernel ≡ p + 2 → word_at (mote_of x).flash.words (p + 2) ≡ t
-    → Makes x (Serve None false) (owing (rested x.kernel) t (Some p) false)
+    → MakesServe x None false (owing (rested x.kernel) t (Some p) false)
 unfolding served
 bridge_move x p t free at low back word =
     let k = x.kernel in
@@ -96,7 +95,7 @@ abbrev pub quantum_state : State → ℕ → State
 quantum_state x t = owing (quantum_ended x.kernel).1 t None true
 
 pub quantum_move : (x : State) (p t : ℕ) → IsRunning x → (mote_of x).cpu.pc ≡ 0xF002 → return_address x.kernel ≡ p + 2 → word_at (mote_of x).flash.words (p + 2) ≡ t
-    → Makes x (Serve None false) (quantum_state x t)
+    → MakesServe x None false (quantum_state x t)
 unfolding served
 quantum_move x p t free at back word =
     let k = x.kernel in

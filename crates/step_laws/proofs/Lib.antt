@@ -9,6 +9,7 @@ pub mod Ways
 pub mod PlainRuns
 pub mod CountDown
 pub mod CrossingLaw
+pub mod LinkLaw
 pub mod StubLaw
 pub mod Stretches
 pub mod CodeLaws

@@ -12,7 +12,7 @@ use Rattle.kernel_entry.specs.declared.kernel.Kernel.{Kernel}
 use Rattle.kernel_entry.specs.declared.kernel.Taken.{Taken}
 use Rattle.kernel_entry.specs.Conditions.{CanServe}
 use Rattle.kernel_entry.specs.Interrupts.{taken}
-use Rattle.step_laws.specs.Moves.{Move, Plain, Serve, Arrive, Take}
+use Rattle.step_laws.specs.Moves.{Plain, Serve, Move, Begin, Within, Arrive, Take}
 use Rattle.step_laws.specs.States.{State, Awaited, Begins, InPool, mote_of, with_mote, is_taken_at, after_taking, stops_taking}
 use Rattle.step_laws.specs.Walks.{MakesPlain, MakesServe, MakesArrive, MakesTake, Makes, Walk}
 
@@ -72,8 +72,9 @@ one_interrupt x y z stops stops' one other =
 
 -- no move of an ended program
 no_move : (x y : State) (move : Move) → x.end ≢ None → Makes x move y → ⊥
-no_move x y (Plain begins line) ended makes = ended makes.going
-no_move x y (Serve line stops) ended makes = ended makes.going
+no_move x y (Begin line) ended makes = ended makes.going
+no_move x y (Within (Plain line)) ended makes = ended makes.going
+no_move x y (Within (Serve line stops)) ended makes = ended makes.going
 no_move x y (Arrive target made ops) ended makes = ended makes.going
 no_move x y (Take stops) ended makes = ended makes.going
 

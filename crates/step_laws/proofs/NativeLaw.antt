@@ -17,7 +17,7 @@ use Rattle.mote_devices.specs.State.{State as Devices}
 use Rattle.mote_core.specs.declared.mote.Mote.{Mote}
 use Rattle.mote_core.specs.Physical.{Physical, physical_calls}
 use Rattle.std.specs.Option.{option_map}
-use Rattle.sram_layout.specs.Bytes.{byte_at, data_word_at as cell_at}
+use Rattle.sram_layout.specs.Bytes.{data_word_at as cell_at}
 use Rattle.sram_layout.specs.Cells.{vsp_cell}
 use Rattle.mote_core.specs.declared.mote.Plain.{Plain}
 use Rattle.mote_core.specs.declared.mote.Plain.TheVariants as shown
@@ -59,6 +59,8 @@ use Rattle.step_laws.proofs.Stretches.{stretch_of}
 use Rattle.kernel_entry.specs.Parts.{core_of, memory_of, image_held}
 use Rattle.mem_guard.proofs.DeviceAnswers.{answers_alike}
 use Rattle.mote_core.proofs.DeviceAsks.{can_step_device}
+use Rattle.mote_core.proofs.StepsByAnswer.{keeps_same}
+use Rattle.mote_core.specs.QuietSteps.{KeepsKernel}
 use Rattle.kernel_entry.specs.Seen.{program, state_at}
 use Rattle.step_laws.proofs.AskedLaw.{device_owns}
 
@@ -177,7 +179,7 @@ native_law links x a v s shape =
       next = e.next;
       step = e.step;
       written = line_of_shown e.line;
-      kept = λ b is. ap (λ (n : Mote). byte_at n.sram b) e.after;
+      kept = subst (λ (n : Mote). KeepsKernel m.sram n.sram) (sym e.after) (keeps_same m.sram);
       result = ap (with_mote x) (sym e.after);
     } in
     let registers : length e.cpu.r ≡ length m.cpu.r = exec_kept guarded_calls form (core_of k a) e.cpu (memory_of k) _ (next_size image a) e.original in

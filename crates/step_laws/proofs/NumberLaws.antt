@@ -1,85 +1,69 @@
 -- What moves add to the numbers.
-use Rattle.std.proofs.Common.{◌≡◌, ℕ, ◌+◌, ◌-◌, ◌≤◌, true, false, List, [], ◌∷◌, refl, ◌∙◌, arith}
-use Rattle.step_laws.specs.Moves.{Move, Plain, Serve, Arrive, Take, are_inner, count_plain, count_serve, count_stop}
+use Rattle.std.proofs.Common.{◌≡◌, ℕ, ◌+◌, ◌-◌, ◌≤◌, true, false, List, [], ◌∷◌, length, refl, ◌∙◌, arith, map}
+use Rattle.step_laws.specs.Moves.{Inner, Plain, Serve, Move, Within, count_plain, count_serve, count_stop}
 use Rattle.step_laws.specs.Numbers.{Numbers, moved, numbered}
 
-pub natural_is : (moves : List Move) (n : Numbers) → (numbered moves n).natural ≡ n.natural + count_plain moves
+-- in the midst of a step
+pub natural_is : (rest : List Inner) (n : Numbers) → (numbered (map Within rest) n).natural ≡ n.natural + count_plain rest
 unfolding moved
 natural_is [] n = omega arith
-natural_is (Plain begins line ∷ moves) n = natural_is moves (moved (Plain begins line) n) ∙ omega arith
-natural_is (Serve line stops ∷ moves) n = natural_is moves (moved (Serve line stops) n)
-natural_is (Arrive target made ops ∷ moves) n = natural_is moves (moved (Arrive target made ops) n)
-natural_is (Take stops ∷ moves) n = natural_is moves (moved (Take stops) n)
+natural_is (Plain line ∷ rest) n = natural_is rest (moved (Within (Plain line)) n) ∙ omega arith
+natural_is (Serve line stops ∷ rest) n = natural_is rest (moved (Within (Serve line stops)) n)
 
-pub entries_is : (moves : List Move) (n : Numbers) → (numbered moves n).entries ≡ n.entries + count_serve moves
+pub entries_is : (rest : List Inner) (n : Numbers) → (numbered (map Within rest) n).entries ≡ n.entries + count_serve rest
 unfolding moved
 entries_is [] n = omega arith
-entries_is (Plain begins line ∷ moves) n = entries_is moves (moved (Plain begins line) n)
-entries_is (Serve line stops ∷ moves) n = entries_is moves (moved (Serve line stops) n) ∙ omega arith
-entries_is (Arrive target made ops ∷ moves) n = entries_is moves (moved (Arrive target made ops) n)
-entries_is (Take stops ∷ moves) n = entries_is moves (moved (Take stops) n)
+entries_is (Plain line ∷ rest) n = entries_is rest (moved (Within (Plain line)) n)
+entries_is (Serve line stops ∷ rest) n = entries_is rest (moved (Within (Serve line stops)) n) ∙ omega arith
 
-pub since_bound : (moves : List Move) (n : Numbers) → (numbered moves n).since ≤ n.since + count_plain moves
+-- no step begins; a service that stops takes one back
+pub steps_is : (rest : List Inner) (n : Numbers) → (numbered (map Within rest) n).steps ≡ n.steps - count_stop rest
+unfolding moved
+steps_is [] n = omega arith
+steps_is (Plain line ∷ rest) n = steps_is rest (moved (Within (Plain line)) n)
+steps_is (Serve line true ∷ rest) n = steps_is rest (moved (Within (Serve line true)) n) ∙ omega arith
+steps_is (Serve line false ∷ rest) n = steps_is rest (moved (Within (Serve line false)) n) ∙ omega arith
+
+pub since_bound : (rest : List Inner) (n : Numbers) → (numbered (map Within rest) n).since ≤ n.since + count_plain rest
 unfolding moved
 since_bound [] n = omega arith
-since_bound (Plain begins line ∷ moves) n = let rest = since_bound moves (moved (Plain begins line) n) in omega arith
-since_bound (Serve line stops ∷ moves) n = let rest = since_bound moves (moved (Serve line stops) n) in omega arith
-since_bound (Arrive target made ops ∷ moves) n = since_bound moves (moved (Arrive target made ops) n)
-since_bound (Take stops ∷ moves) n = since_bound moves (moved (Take stops) n)
+since_bound (Plain line ∷ rest) n = let below = since_bound rest (moved (Within (Plain line)) n) in omega arith
+since_bound (Serve line stops ∷ rest) n = let below = since_bound rest (moved (Within (Serve line stops)) n) in omega arith
 
-pub longest_bound : (moves : List Move) (n : Numbers) (top : ℕ) → n.longest ≤ top → n.since + count_plain moves ≤ top → (numbered moves n).longest ≤ top
+pub longest_bound : (rest : List Inner) (n : Numbers) (top : ℕ) → n.longest ≤ top → n.since + count_plain rest ≤ top → (numbered (map Within rest) n).longest ≤ top
 unfolding moved
 longest_bound [] n top before reach = before
-longest_bound (Plain begins line ∷ moves) n top before reach = longest_bound moves (moved (Plain begins line) n) top (omega arith) (omega arith)
-longest_bound (Serve line stops ∷ moves) n top before reach = longest_bound moves (moved (Serve line stops) n) top before (omega arith)
-longest_bound (Arrive target made ops ∷ moves) n top before reach = longest_bound moves (moved (Arrive target made ops) n) top before reach
-longest_bound (Take stops ∷ moves) n top before reach = longest_bound moves (moved (Take stops) n) top before reach
+longest_bound (Plain line ∷ rest) n top before reach = longest_bound rest (moved (Within (Plain line)) n) top (omega arith) (omega arith)
+longest_bound (Serve line stops ∷ rest) n top before reach = longest_bound rest (moved (Within (Serve line stops)) n) top before (omega arith)
 
--- inside a step no page is made
-pub pages_inner : (moves : List Move) (n : Numbers) → are_inner moves ≡ true → (numbered moves n).pages ≡ n.pages
-unfolding moved
-pages_inner [] n inner = refl
-pages_inner (Plain true line ∷ moves) n inner = absurd (cc)
-pages_inner (Plain false line ∷ moves) n inner = pages_inner moves (moved (Plain false line) n) inner
-pages_inner (Serve line stops ∷ moves) n inner = pages_inner moves (moved (Serve line stops) n) inner
-pages_inner (Arrive target made ops ∷ moves) n inner = absurd (cc)
-pages_inner (Take stops ∷ moves) n inner = absurd (cc)
+pub length_is : (rest : List Inner) → length rest ≡ count_plain rest + count_serve rest
+length_is [] = refl
+length_is (Plain line ∷ rest) = omega (arith, length_is rest)
+length_is (Serve line stops ∷ rest) = omega (arith, length_is rest)
 
--- and no step begins; a service that stops takes one back
-pub steps_inner : (moves : List Move) (n : Numbers) → are_inner moves ≡ true → (numbered moves n).steps ≡ n.steps - count_stop moves
+-- no later run of plain steps is longer
+pub since_longest : (rest : List Inner) (n : Numbers) → n.since ≤ n.longest → (numbered (map Within rest) n).since ≤ (numbered (map Within rest) n).longest
 unfolding moved
-steps_inner [] n inner = omega arith
-steps_inner (Plain true line ∷ moves) n inner = absurd (cc)
-steps_inner (Plain false line ∷ moves) n inner = steps_inner moves (moved (Plain false line) n) inner ∙ omega arith
-steps_inner (Serve line true ∷ moves) n inner = steps_inner moves (moved (Serve line true) n) inner ∙ omega arith
-steps_inner (Serve line false ∷ moves) n inner = steps_inner moves (moved (Serve line false) n) inner ∙ omega arith
-steps_inner (Arrive target made ops ∷ moves) n inner = absurd (cc)
-steps_inner (Take stops ∷ moves) n inner = absurd (cc)
+since_longest [] n low = low
+since_longest (Plain line ∷ rest) n low = since_longest rest (moved (Within (Plain line)) n) (omega arith)
+since_longest (Serve line stops ∷ rest) n low = since_longest rest (moved (Within (Serve line stops)) n) (omega arith)
 
--- and no operation on flash is tried
-pub ops_inner : (moves : List Move) (n : Numbers) → are_inner moves ≡ true → (numbered moves n).ops ≡ n.ops
-unfolding moved
-ops_inner [] n inner = refl
-ops_inner (Plain true line ∷ moves) n inner = absurd (cc)
-ops_inner (Plain false line ∷ moves) n inner = ops_inner moves (moved (Plain false line) n) inner
-ops_inner (Serve line stops ∷ moves) n inner = ops_inner moves (moved (Serve line stops) n) inner
-ops_inner (Arrive target made ops ∷ moves) n inner = absurd (cc)
-ops_inner (Take stops ∷ moves) n inner = absurd (cc)
+-- no page is made, and no operation on flash is tried; nor do the numbers change that no move does
+pub record SameArrivals (made tried first foreign : ℕ) (n : Numbers) : Type 0 where
+  pub pages : n.pages ≡ made
+  pub ops : n.ops ≡ tried
+  pub began : n.began ≡ first
+  pub others : n.others ≡ foreign
 
--- no move changes how many pages there were at the beginning
-pub began_is : (moves : List Move) (n : Numbers) → (numbered moves n).began ≡ n.began
+pub arrivals_within : (rest : List Inner) (n : Numbers) → SameArrivals n.pages n.ops n.began n.others (numbered (map Within rest) n)
 unfolding moved
-began_is [] n = refl
-began_is (Plain begins line ∷ moves) n = began_is moves (moved (Plain begins line) n)
-began_is (Serve line stops ∷ moves) n = began_is moves (moved (Serve line stops) n)
-began_is (Arrive target made ops ∷ moves) n = began_is moves (moved (Arrive target made ops) n)
-began_is (Take stops ∷ moves) n = began_is moves (moved (Take stops) n)
+arrivals_within [] n = record { pages = refl; ops = refl; began = refl; others = refl }
+arrivals_within (Plain line ∷ rest) n = arrivals_within rest (moved (Within (Plain line)) n)
+arrivals_within (Serve line stops ∷ rest) n = arrivals_within rest (moved (Within (Serve line stops)) n)
 
--- nor how many arrivals others may have made
-pub others_is : (moves : List Move) (n : Numbers) → (numbered moves n).others ≡ n.others
+-- no move at all changes how many pages there were at the beginning, and how many arrivals others may have made
+pub unmoved : (moves : List Move) (n : Numbers) → ((numbered moves n).began ≡ n.began) × ((numbered moves n).others ≡ n.others)
 unfolding moved
-others_is [] n = refl
-others_is (Plain begins line ∷ moves) n = others_is moves (moved (Plain begins line) n)
-others_is (Serve line stops ∷ moves) n = others_is moves (moved (Serve line stops) n)
-others_is (Arrive target made ops ∷ moves) n = others_is moves (moved (Arrive target made ops) n)
-others_is (Take stops ∷ moves) n = others_is moves (moved (Take stops) n)
+unmoved [] n = (refl, refl)
+unmoved (Within (Plain line) ∷ moves) n = unmoved moves (moved (Within (Plain line)) n)
+unmoved (move ∷ moves) n = unmoved moves (moved move n)

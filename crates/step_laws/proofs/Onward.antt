@@ -1,5 +1,5 @@
 -- What follows behind a template: the next entry, or the closing.
-use Rattle.std.proofs.Common.{[], ℕ, ◌≡◌, ◌+◌, ◌<◌, ◌≤◌, ◌∷◌, ◌∙◌, Bool, true, false, List, length, refl, sym, ap, arith, subst}
+use Rattle.std.proofs.Common.{[], ℕ, ◌≡◌, ◌+◌, ◌<◌, ◌≤◌, ◌∷◌, ◌∙◌, Bool, true, false, List, refl, sym, ap, arith, subst, map}
 use Rattle.std.specs.Prelude.{if◌then◌else◌, None, ◌&&◌, ◌==◌}
 use Rattle.avr_isa.specs.Crossing.{is_crossing}
 use Rattle.sram_layout.specs.Bytes.{byte_at}
@@ -13,9 +13,9 @@ use Rattle.step_laws.specs.Links.{Links}
 use Rattle.step_laws.specs.Settings.{IsIdle, IsRunning}
 use Rattle.step_laws.specs.States.{State, mote_of, InPool}
 use Rattle.step_laws.specs.StepLaws.{IsReset, Reaches}
-use Rattle.step_laws.specs.Moves.{Move, Plain, are_inner, count_plain, count_serve, count_stop, lines_of}
+use Rattle.step_laws.specs.Moves.{Inner, Plain, Within, count_plain, count_serve, count_stop, lines_of}
 use Rattle.step_laws.proofs.Ways.{Reached, Way}
-use Rattle.step_laws.specs.Walks.{Walk}
+use Rattle.step_laws.specs.Walks.{WalkWithin}
 use Rattle.step_laws.specs.Numbers.{moved}
 use Rattle.step_laws.proofs.SameProgram.{same_program}
 use Rattle.step_laws.proofs.StubLaw.{stub_law}
@@ -26,12 +26,10 @@ use Rattle.flash_model.specs.Layouts.{IsRight}
 -- a walk on to t, from any point of a template or from behind it; `more` allows for moves before it
 pub record Onward (more : ℕ) (links : Links) (y : State) (t c : ℕ) (crosses : Bool) : Type 0 where
   pub end : State
-  pub moves : List Move
-  pub walk : Walk y moves end
-  pub inner : are_inner moves ≡ true
-  pub silent : lines_of moves ≡ []
+  pub moves : List Inner
+  pub walk : WalkWithin y moves end
+  pub silent : lines_of (map Within moves) ≡ []
   pub few : count_plain moves ≤ 11 + more
-  pub short : length moves ≤ 12 + more
   pub serves : count_serve moves ≤ 1
   pub goes : count_stop moves ≡ 0
   pub reset : IsReset y crosses moves
@@ -41,15 +39,13 @@ pub by_way : (more : ℕ) (links : Links) (y : State) (t c : ℕ) (crosses : Boo
 unfolding lines_of
 by_way more links y t c crosses way = record {
   end = way.end;
-  moves = Plain false None ∷ way.rest;
+  moves = Plain None ∷ way.rest;
   walk = way.walk;
-  inner = way.inner;
   silent = way.silent;
   few = let few = way.few in omega arith;
-  short = let short = way.short in omega arith;
   serves = way.serves;
   goes = way.goes;
-  reset = λ crosses one n. way.reset crosses one (moved (Plain false None) n);
+  reset = λ crosses one n. way.reset crosses one (moved (Within (Plain None)) n);
   left = way.left;
 }
 
@@ -61,10 +57,8 @@ onward_by links y image a v free fit right pool (Next next) some some' closed at
   end = y;
   moves = [];
   walk = refl;
-  inner = refl;
   silent = refl;
   few = omega arith;
-  short = omega arith;
   serves = omega arith;
   goes = refl;
   reset = λ crosses one n. absurd (let e = sym next.uncounted ∙ crosses in cc);

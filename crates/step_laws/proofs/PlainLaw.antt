@@ -8,9 +8,9 @@ use Rattle.mote_devices.specs.declared.line.Line.{Line}
 use Rattle.mote_core.specs.declared.mote.Mote.{Mote}
 use Rattle.mem_guard.specs.FlatMachine.{Goes, tried}
 use Rattle.step_laws.specs.Links.{Links}
-use Rattle.step_laws.specs.Walks.{Makes}
+use Rattle.step_laws.specs.Walks.{MakesPlain}
 use Rattle.step_laws.proofs.Onward.{Onward}
-use Rattle.step_laws.specs.Moves.{Plain, line_before, lines_of}
+use Rattle.step_laws.specs.Moves.{line_before, lines_of}
 use Rattle.step_laws.specs.States.{State, mote_of, with_mote}
 use Rattle.step_laws.specs.StepLaws.{Reaches, StepLaw, Outcome as StepOutcome, crossings_over}
 use Rattle.step_laws.proofs.SameProgram.{flat_same, paged_after}
@@ -20,7 +20,7 @@ use Rattle.kernel_entry.specs.Seen.{program, state_at}
 -- The mote n after it: flash, SRAM and swap are as before, and the original program has made its step to this
 -- address, with this line.
 pub record Works (x : State) (a to : ℕ) (line : Option Line) (n : Mote) : Type 0 where
-  pub first : Makes x (Plain true line) (with_mote x n)
+  pub first : MakesPlain x true line (with_mote x n)
   pub flash : n.flash ≡ (mote_of x).flash
   pub sram : n.sram ≡ (mote_of x).sram
   pub swap : n.swap ≡ (mote_of x).swap
@@ -41,9 +41,7 @@ plain_law links x a to line n more low paged f on =
       rest = on.moves;
       line = line;
       walk = (y, f.first, on.walk);
-      inner = on.inner;
       few = let few = on.few in omega arith;
-      short = let short = on.short in omega arith;
       serves = let serves = on.serves in omega arith;
       lines = ap (line_before line) on.silent;
       keeps = record {

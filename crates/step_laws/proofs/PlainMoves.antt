@@ -18,14 +18,13 @@ use Rattle.mote_core.specs.Conditions.{is_mapped}
 use Rattle.mote_core.specs.Step.{form_at, next_size, space_of}
 use Rattle.mote_core.specs.QuietSteps.{IsQuiet, flash_form}
 use Rattle.mote_core.proofs.StepsByAnswer.{quiet_by, keeps_same}
-use Rattle.step_laws.specs.Moves.{Plain}
 use Rattle.step_laws.specs.States.{Begins, InPool, State, mote_of, with_mote}
 use Rattle.step_laws.specs.Settings.{IsRunning}
-use Rattle.step_laws.specs.Walks.{Makes}
+use Rattle.step_laws.specs.Walks.{MakesPlain}
 
 -- a quiet step is a plain move
 pub quiet_move : (x : State) (next : Mote) (b : Bool) → IsRunning x → InPool x.kernel.layout (mote_of x).cpu.pc → Begins x.kernel.layout (mote_of x).flash.words (mote_of x).cpu.pc b
-    → IsQuiet (mote_of x) next → Makes x (Plain b None) (with_mote x next)
+    → IsQuiet (mote_of x) next → MakesPlain x b None (with_mote x next)
 quiet_move x next b running pool starts quiet = record {
   free = running.free;
   going = running.going;

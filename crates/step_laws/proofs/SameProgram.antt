@@ -58,5 +58,17 @@ paged_after m n same paged =
     let P : _ → Type 0 = λ w. IsPaged n.sram w in
     subst P (sym same.swap) (paged_same m.sram n.sram m.swap (same_paging m n same) paged)
 
+pub same_on : (m n o : Mote) → SameProgram m n → SameProgram n o → SameProgram m o
+same_on m n o first then = record {
+  registers = then.registers ∙ first.registers;
+  status = then.status ∙ first.status;
+  top = then.top;
+  size = then.size ∙ first.size;
+  bytes = λ b low apart apart'. then.bytes b low apart apart' ∙ first.bytes b low apart apart';
+  flash = then.flash ∙ first.flash;
+  devices = then.devices ∙ first.devices;
+  swap = then.swap ∙ first.swap;
+}
+
 pub same_program : (m : Mote) → m.cpu.sp ≡ 0x011F → SameProgram m m
 same_program m top = record { registers = refl; status = refl; top = top; size = refl; bytes = λ b low apart apart'. refl; flash = refl; devices = refl; swap = refl }

@@ -25,9 +25,8 @@ use Rattle.kernel_entry.specs.declared.kernel.Served.TheVariants as answers
 use Rattle.step_laws.specs.States.{InPool, State, mote_of}
 use Rattle.step_laws.specs.Settings.{IsIdle, IsRunning, IsSetting}
 use Rattle.step_laws.specs.Links.{Links}
-use Rattle.step_laws.specs.Walks.{Makes}
+use Rattle.step_laws.specs.Walks.{MakesPlain}
 use Rattle.step_laws.proofs.Onward.{Onward}
-use Rattle.step_laws.specs.Moves.{Plain}
 use Rattle.step_laws.proofs.SameProgram.{SameProgram, flat_same, paged_after}
 use Rattle.step_laws.specs.StepLaws.{StepLaw}
 use Rattle.step_laws.proofs.AskedLaw.{Asked, RunsOn, bus_stops_asked, resume_asked, stop_asked, owns_by}
@@ -49,7 +48,7 @@ called x v entry = (called_of x v entry).kernel
 pub record Called (x : State) (a v entry : ℕ) : Type 0 where
   pub low : v + 3 ≤ 0xF000
   pub word : flash_word (mote_of x).flash.words (v + 2) ≡ a
-  pub first : Makes x (Plain true None) (called_of x v entry)
+  pub first : MakesPlain x true None (called_of x v entry)
   pub back : return_address (called x v entry) ≡ v + 2
   pub behind : descriptor (called x v entry) ≡ a
   pub same : SameProgram (mote_of x) (rested (called x v entry)).mote

@@ -9,7 +9,7 @@ use Rattle.kernel_entry.specs.declared.kernel.Served.TheVariants as answers
 use Rattle.kernel_entry.specs.Conditions.{CanServe}
 use Rattle.kernel_entry.specs.Services.{served, is_due}
 use Rattle.kernel_entry.proofs.ServedLaws.{served_leaves, served_leaves_heap, bridge_row, quantum_row, mem_row, push_row, return_row, indirect_row, self_entry_row, fault_row, served_tried}
-use Rattle.step_laws.specs.States.{State, mote_of, after_service}
+use Rattle.step_laws.specs.States.{State, after_service}
 use Rattle.step_laws.specs.Walks.{MakesServe}
 use Rattle.step_laws.specs.ServiceRows.{HasItsRow, ServicesHaveRows}
 

@@ -1,13 +1,14 @@
--- Ways through a stub: what a walk through it leaves.
-use Rattle.std.proofs.Common.{[], ℕ, ◌≡◌, ◌≤◌, ◌∷◌, ◌++◌, Bool, true, List, length, sym, subst}
-use Rattle.std.specs.Prelude.{None, ◌&&◌, ◌==◌}
+-- Walks in a row, and ways through a stub: what a walk through it leaves.
+use Rattle.std.proofs.Common.{[], ℕ, ◌≡◌, ◌≤◌, ◌∷◌, ◌++◌, Bool, false, List, sym, subst, map}
+use Rattle.std.specs.Prelude.{Option, None, ◌&&◌, ◌==◌}
+use Rattle.mote_devices.specs.declared.line.Line.{Line}
 use Rattle.sram_layout.specs.Bytes.{byte_at}
 use Rattle.step_laws.specs.StepLaws.{IsReset, Reaches}
 use Rattle.step_laws.specs.Links.{Links}
-use Rattle.step_laws.specs.Moves.{Move, Plain, are_inner, count_plain, count_serve, count_stop, lines_of}
+use Rattle.step_laws.specs.Moves.{Inner, count_plain, count_serve, count_stop, lines_of, Within}
 use Rattle.step_laws.proofs.SameProgram.{SameProgram}
 use Rattle.step_laws.specs.States.{State, mote_of}
-use Rattle.step_laws.specs.Walks.{Walk}
+use Rattle.step_laws.specs.Walks.{MakesOf, Walks, Walk, WalkWithin, WalkFrom}
 
 pub record Reached (links : Links) (x : State) (t c : ℕ) (crosses : Bool) (z : State) : Type 0 where
   pub going : z.end ≡ None
@@ -21,18 +22,24 @@ pub record Reached (links : Links) (x : State) (t c : ℕ) (crosses : Bool) (z :
 -- A walk through a stub to t, from a plain move on that begins at an entry or not. It writes no line.
 pub record Way (links : Links) (x : State) (b : Bool) (t c : ℕ) (crosses : Bool) : Type 0 where
   pub end : State
-  pub rest : List Move
-  pub walk : Walk x (Plain b None ∷ rest) end
-  pub inner : are_inner rest ≡ true
-  pub silent : lines_of rest ≡ []
+  pub rest : List Inner
+  pub walk : WalkFrom x b None rest end
+  pub silent : lines_of (map Within rest) ≡ []
   pub few : count_plain rest ≤ 10
-  pub short : length rest ≤ 11
   pub serves : count_serve rest ≤ 1
   pub goes : count_stop rest ≡ 0
   pub reset : IsReset x crosses rest
   pub left : Reached links x t c crosses end
 
--- moves in a row
-pub walk_on : (x y z : State) (ms ns : List Move) → Walk x ms y → Walk y ns z → Walk x (ms ++ ns) z
-walk_on x y z [] ns first second = subst (λ s. Walk s ns z) (sym first) second
-walk_on x y z (m ∷ ms) ns first second = (first.0, first.1, walk_on first.0 y z ms ns first.2 second)
+-- walks in a row
+pub walks_on : {S M : Type 0} (R : S → M → S → Type 0) (x y z : S) (ms ns : List M) → Walks R x ms y → Walks R y ns z → Walks R x (ms ++ ns) z
+walks_on R x y z [] ns first second = subst (λ s. Walks R s ns z) (sym first) second
+walks_on R x y z (m ∷ ms) ns first second = (first.0, first.1, walks_on R first.0 y z ms ns first.2 second)
+
+pub from_on : (x y z : State) (b : Bool) (line : Option Line) (ms ns : List Inner) → WalkFrom x b line ms y → WalkWithin y ns z → WalkFrom x b line (ms ++ ns) z
+from_on x y z b line ms ns first second = (first.0, first.1, walks_on (MakesOf false) first.0 y z ms ns first.2 second)
+
+-- moves in the midst of a step as moves
+pub walk_of : (x z : State) (rest : List Inner) → WalkWithin x rest z → Walk x (map Within rest) z
+walk_of x z [] walk = walk
+walk_of x z (m ∷ rest) walk = (walk.0, walk.1, walk_of walk.0 z rest walk.2)

@@ -1,11 +1,11 @@
 -- What an inline template does, step by step (docs/RUN.md, "Inline templates").
-use Rattle.std.specs.Prelude.{◌≡◌, ℕ, zero, suc, ◌+◌, ◌<◌, ◌≤◌, true, if◌then◌else◌, List, [], ◌∷◌, Option, Some, None}
+use Rattle.std.specs.Prelude.{◌≡◌, ℕ, zero, suc, ◌+◌, ◌<◌, ◌≤◌, if◌then◌else◌, List, [], ◌∷◌, Option, Some, None, map}
 use Rattle.avr_isa.specs.declared.form.Form.{Form}
 use Rattle.avr_isa.specs.declared.form.Form.TheVariants.{Push, Pop, LoadOff, StoreOff}
 use Rattle.avr_isa.specs.declared.operation.Base.TheVariants.{Y}
 use Rattle.avr_decode.specs.Program.{instruction_at}
 use Rattle.avr_exec.specs.Registers.{wrapping_sum}
-use Rattle.sram_layout.specs.Bytes.{byte_at}
+use Rattle.sram_layout.specs.Regions.{crossing_cells, inline_cells, kernel_stack, stack_window, between, KeepsRegion}
 use Rattle.mote_core.specs.declared.mote.Mote.{Mote}
 use Rattle.nat_template.specs.Stubs.{mem_entry}
 use Rattle.nat_template.specs.Templates.{is_z}
@@ -18,7 +18,7 @@ use Rattle.sram_layout.specs.Cells.{kernel_stack_top}
 use Rattle.kernel_entry.specs.Seen.{program, state_at}
 use Rattle.kernel_entry.specs.Services.{served}
 use Rattle.inline_laws.specs.InlineWays.{pointer_of, above_pointer, from_frame}
-use Rattle.step_laws.specs.Moves.{Move, Plain, plains}
+use Rattle.step_laws.specs.Moves.{Move, Begin, plains, Within}
 use Rattle.step_laws.specs.States.{State, mote_of, with_mote}
 use Rattle.step_laws.specs.Settings.{IsAtEntry}
 use Rattle.step_laws.specs.Walks.{Walk}
@@ -48,17 +48,17 @@ inline_of m _ = None
 -- so many plain moves that write no line, of which the first alone begins at an entry's place
 abbrev pub plain_moves : ℕ → List Move
 plain_moves zero = []
-plain_moves (suc n) = Plain true None ∷ plains n
+plain_moves (suc n) = Begin None ∷ map Within (plains n)
 
--- What the plain steps leave: flash, swap and devices stay, and SRAM below the stack window, but for the templates' cells
--- from 0x0102 to 0x0106 and the kernel's stack. So COUNT stays, and the heap with its frames.
+-- What the plain steps leave: flash, swap and devices stay, and SRAM below the stack window, but for the cells of inline
+-- templates and the kernel's stack. So COUNT stays, and the heap with its frames.
 pub record LeavesMote (m n : Mote) : Type 0 where
   pub flash : n.flash ≡ m.flash
   pub swap : n.swap ≡ m.swap
   pub devices : n.devices ≡ m.devices
-  pub front : (b : ℕ) → 0x0100 ≤ b → b < 0x0102 → byte_at n.sram b ≡ byte_at m.sram b
-  pub bytes : (b : ℕ) → 0x0107 ≤ b → b < 0x011E → byte_at n.sram b ≡ byte_at m.sram b
-  pub heap : (b : ℕ) → 0x0120 ≤ b → b < 0x0D00 → byte_at n.sram b ≡ byte_at m.sram b
+  pub front : KeepsRegion crossing_cells m.sram n.sram
+  pub bytes : KeepsRegion (between inline_cells kernel_stack) m.sram n.sram
+  pub heap : KeepsRegion (between kernel_stack stack_window) m.sram n.sram
 
 -- The kernel asks MEM for the instruction at a, and stands for the same state of the same program.
 pub record AsksMem (x : State) (a : ℕ) (k : Kernel) : Type 0 where
@@ -79,7 +79,7 @@ pub record RunsInside (x : State) (a words steps : ℕ) : Type 0 where
   pub walk : Walk x (plain_moves steps) (with_mote x end)
   pub behind : end.cpu.pc ≡ (mote_of x).cpu.pc + words
   pub top : end.cpu.sp ≡ kernel_stack_top
-  pub stack : (b : ℕ) → 0x011E ≤ b → b < 0x0120 → byte_at end.sram b ≡ byte_at (mote_of x).sram b
+  pub stack : KeepsRegion kernel_stack (mote_of x).sram end.sram
   pub original : (s c : ℕ) → tried_at x a s c ≡ Goes None (state_at (with_mote x end).kernel (wrapping_sum a 1) (s + 1) (crossings_over a (wrapping_sum a 1) c))
   pub service : IsAsMem x a (wrapping_sum a 1) (with_mote x end).kernel
   pub asker : (k : Kernel) × AsksMem x a k
@@ -96,9 +96,9 @@ pub record CallsMem (x : State) (a words steps : ℕ) : Type 0 where
 
 -- by the address that is reached
 pub record HasInlineRun (x : State) (a : ℕ) (t : Inline) : Type 0 where
-  pub inside : 0x0D00 ≤ t.address → t.address ≤ 0x10FF → RunsInside x a t.words t.inside
-  pub below : t.address < 0x0D00 → CallsMem x a t.words t.below
-  pub above : 0x10FF < t.address → CallsMem x a t.words t.above
+  pub inside : stack_window.first ≤ t.address → t.address < stack_window.behind → RunsInside x a t.words t.inside
+  pub below : t.address < stack_window.first → CallsMem x a t.words t.below
+  pub above : stack_window.behind ≤ t.address → CallsMem x a t.words t.above
 
 -- from each entry whose instruction has an inline template
 abbrev pub RunInline : Type 0

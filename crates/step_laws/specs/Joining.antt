@@ -11,13 +11,12 @@ pub record Counted : Type 0 where
   pub state : State
   pub numbers : Numbers
 
--- some moves lead from one state to the other, write these lines, and are counted
-pub record Leads (x : Counted) (lines : List Line) (y : Counted) : Type 0 where
-  pub moves : List Move
+-- these moves lead from one state to the other, write these lines, and are counted
+pub record Leads (x : Counted) (moves : List Move) (lines : List Line) (y : Counted) : Type 0 where
   pub walk : Walk x.state moves y.state
   pub told : lines_of moves ≡ lines
   pub numbers : y.numbers ≡ numbered moves x.numbers
 
 -- what leads on from where others led
 abbrev pub Joins : Type 0
-Joins = (x y z : Counted) → (before after : List Line) → Leads x before y → Leads y after z → Leads x (before ++ after) z
+Joins = (x y z : Counted) → (ms ns : List Move) → (before after : List Line) → Leads x ms before y → Leads y ns after z → Leads x (ms ++ ns) (before ++ after) z

@@ -1,6 +1,6 @@
 -- What the law of a step rests on (docs/RUN.md, "The law of a step").
 use Rattle.std.specs.Prelude.{◌≡◌, ℕ, ◌+◌, ◌<◌, ◌≤◌, ◌^◌, length, None}
-use Rattle.sram_layout.specs.Bytes.{byte_at}
+use Rattle.sram_layout.specs.Bytes.{byte_count, byte_at}
 use Rattle.sram_layout.specs.Cells.{count_cell, vsp_cell, kernel_stack_top}
 use Rattle.heap_frames.specs.Paged.{IsPaged}
 use Rattle.mote_devices.specs.Waking.{Timely}
@@ -25,7 +25,7 @@ pub record IsRunning (x : State) : Type 0 where
 -- half of the program's stack pointer is a byte
 pub record IsIdle (k : Kernel) : Type 0 where
   pub registers : 31 < length k.mote.cpu.r
-  pub size : length k.mote.sram ≡ 4096
+  pub size : length k.mote.sram ≡ byte_count
   pub pointer : byte_at k.mote.sram vsp_cell < 256
   pub top : k.mote.cpu.sp ≡ kernel_stack_top
   pub some : 1 ≤ byte_at k.mote.sram count_cell

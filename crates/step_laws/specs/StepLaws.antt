@@ -1,9 +1,10 @@
 -- The law of a step: the moves from an entry's place on make exactly the original program's next step
 -- (docs/RUN.md, "The law of a step").
-use Rattle.std.specs.Prelude.{◌≡◌, ℕ, ◌+◌, ◌<◌, ◌≤◌, max, Bool, true, false, ◌||◌, List, [], ◌∷◌, length, Option, Some, None, if◌then◌else◌}
+use Rattle.std.specs.Prelude.{◌≡◌, ℕ, ◌+◌, ◌<◌, ◌≤◌, max, Bool, true, false, ◌||◌, List, [], ◌∷◌, length, Option, Some, None, if◌then◌else◌, map}
 use Rattle.avr_isa.specs.Crossing.{is_crossing}
 use Rattle.sram_layout.specs.Bytes.{byte_at}
 use Rattle.sram_layout.specs.Cells.{vsp_cell, kernel_stack_top}
+use Rattle.sram_layout.specs.Regions.{place_cells, KeepsRegion}
 use Rattle.heap_frames.specs.Paged.{IsPaged}
 use Rattle.mote_devices.specs.declared.line.Line.{Line}
 use Rattle.nat_template.specs.declared.shapes.TemplateShape.{TemplateShape}
@@ -12,10 +13,10 @@ use Rattle.mem_guard.specs.FlatMachine.{FlatState, Tried, Stops, Goes, Wakes, tr
 use Rattle.preempt_count.specs.Counting.{count_over, is_checkpoint}
 use Rattle.kernel_entry.specs.declared.kernel.Stop.{Stop}
 use Rattle.step_laws.specs.declared.moves.End.TheVariants as ends
-use Rattle.step_laws.specs.Moves.{Move, Plain, lines_of, line_before, are_inner, count_plain, count_serve, count_stop}
+use Rattle.step_laws.specs.Moves.{Inner, Move, Begin, lines_of, line_before, count_plain, count_serve, count_stop, Within}
 use Rattle.step_laws.specs.Numbers.{Numbers, numbered}
 use Rattle.step_laws.specs.States.{State, mote_of}
-use Rattle.step_laws.specs.Walks.{Walk}
+use Rattle.step_laws.specs.Walks.{WalkFrom}
 use Rattle.step_laws.specs.Links.{Links, links_of, OfStub}
 use Rattle.step_laws.specs.Settings.{IsSetting, IsAtEntry}
 use Rattle.kernel_entry.specs.Parts.{image_held}
@@ -30,8 +31,8 @@ abbrev pub crossings_over : (from to crossings : ℕ) → ℕ
 crossings_over from to crossings = if is_crossing from to then crossings + 1 else crossings
 
 -- where a crossing ends the quantum, no plain step has been made since the last service
-abbrev pub IsReset : State → Bool → List Move → Type 0
-IsReset x crosses moves = crosses ≡ true → count_of x.kernel ≡ 1 → (n : Numbers) → (numbered moves n).since ≡ 0
+abbrev pub IsReset : State → Bool → List Inner → Type 0
+IsReset x crosses rest = crosses ≡ true → count_of x.kernel ≡ 1 → (n : Numbers) → (numbered (map Within rest) n).since ≡ 0
 
 -- Control has reached a place of t; or an arrival at t is owed, of an unresolved link to t or of none. Only in the last
 -- case may an interrupt be due.
@@ -41,8 +42,8 @@ pub data Reaches (links : Links) (t : ℕ) (due : Bool) (z : State) : Type 0 whe
       → OfStub links (mote_of z).flash.words stub t → Reaches links t due z
 
 -- what every step leaves: the layout, the program's part and the quantum, flash, the number of slots and of registers, a heap
--- in order, the kernel's stack empty, one poll more at most, or as many as an event's number may be, and SRAM from
--- 0x0142 to 0x03FF, the tables
+-- in order, the kernel's stack empty, one poll more at most, or as many as an event's number may be, and the tables of
+-- places
 pub record Keeps (x z : State) : Type 0 where
   pub layout : z.kernel.layout ≡ x.kernel.layout
   pub part : z.kernel.part ≡ x.kernel.part
@@ -53,7 +54,7 @@ pub record Keeps (x z : State) : Type 0 where
   pub registers : length (mote_of z).cpu.r ≡ length (mote_of x).cpu.r
   pub top : (mote_of z).cpu.sp ≡ kernel_stack_top
   pub polls : (mote_of z).devices.polls ≤ max ((mote_of x).devices.polls + 1) 4294967295
-  pub tables : (b : ℕ) → 0x0142 ≤ b → b < 0x0400 → byte_at (mote_of z).sram b ≡ byte_at (mote_of x).sram b
+  pub tables : KeepsRegion place_cells (mote_of x).sram (mote_of z).sram
   pub pointer : byte_at (mote_of z).sram vsp_cell < 256
 
 -- the original program's step: the instruction is executed, or is a SLEEP that an interrupt ends
@@ -64,10 +65,10 @@ tried_as true line next = Wakes next
 -- The instruction at a is executed: the original program's step to the address `to`, with its line. An interrupt is due
 -- behind it where it is a checkpoint or a SLEEP; a SLEEP writes no line, ends with a service, and alone may raise the
 -- count of polls by more than one.
-pub record GoesTo (links : Links) (x : State) (a : ℕ) (line : Option Line) (rest : List Move) (to : ℕ) (z : State) : Type 0 where
+pub record GoesTo (links : Links) (x : State) (a : ℕ) (line : Option Line) (rest : List Inner) (to : ℕ) (z : State) : Type 0 where
   pub wakes : Bool
   pub silent : wakes ≡ true → line ≡ None
-  pub fresh : wakes ≡ true → (n : Numbers) → (numbered rest n).since ≡ 0
+  pub fresh : wakes ≡ true → (n : Numbers) → (numbered (map Within rest) n).since ≡ 0
   pub polls : wakes ≡ false → (mote_of z).devices.polls ≤ (mote_of x).devices.polls + 1
   pub going : z.end ≡ None
   pub original : (s c : ℕ) → tried_at x a s c ≡ tried_as wakes line (state_at z.kernel to (s + 1) (crossings_over a to c))
@@ -77,7 +78,7 @@ pub record GoesTo (links : Links) (x : State) (a : ℕ) (line : Option Line) (re
   pub reset : IsReset x (is_crossing a to) rest
 
 -- The instruction at a stops the original program, and nothing that the program sees changes.
-pub record StopsAt (x : State) (a : ℕ) (line : Option Line) (rest : List Move) (stop : Stop) (z : State) : Type 0 where
+pub record StopsAt (x : State) (a : ℕ) (line : Option Line) (rest : List Inner) (stop : Stop) (z : State) : Type 0 where
   pub ended : z.end ≡ Some (ends.Stopped stop)
   pub free : z.owed ≡ None
   pub silent : line ≡ None
@@ -87,7 +88,7 @@ pub record StopsAt (x : State) (a : ℕ) (line : Option Line) (rest : List Move)
   pub stopped : count_stop rest ≡ 1
 
 -- the original program, and nothing else, decides which it is
-pub data Outcome (links : Links) (x : State) (a : ℕ) (line : Option Line) (rest : List Move) (z : State) : Type 0 where
+pub data Outcome (links : Links) (x : State) (a : ℕ) (line : Option Line) (rest : List Inner) (z : State) : Type 0 where
   Went : (to : ℕ) → GoesTo links x a line rest to z → Outcome links x a line rest z
   Stopped : (stop : Stop) → StopsAt x a line rest stop z → Outcome links x a line rest z
 
@@ -97,16 +98,18 @@ pub data Outcome (links : Links) (x : State) (a : ℕ) (line : Option Line) (res
 pub record StepLaw (links : Links) (x : State) (a : ℕ) : Type 0 where
   pub end : State
   pub first : Option Line
-  pub rest : List Move
+  pub rest : List Inner
   pub line : Option Line
-  pub walk : Walk x (Plain true first ∷ rest) end
-  pub inner : are_inner rest ≡ true
+  pub walk : WalkFrom x true first rest end
   pub few : count_plain rest ≤ 39
-  pub short : length rest ≤ 64
   pub serves : count_serve rest ≤ 2
-  pub lines : lines_of (Plain true first ∷ rest) ≡ line_before line []
+  pub lines : line_before first (lines_of (map Within rest)) ≡ line_before line []
   pub keeps : Keeps x end
   pub outcome : Outcome links x a line rest end
+
+-- all its moves
+abbrev pub moves_of : {links : Links} {x : State} {a : ℕ} → StepLaw links x a → List Move
+moves_of law = Begin law.first ∷ map Within law.rest
 
 -- the law of a shape of template, whatever the links
 abbrev pub ShapeLaw : TemplateShape → Type 1

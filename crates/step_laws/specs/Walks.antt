@@ -10,7 +10,7 @@ use Rattle.mote_core.specs.QuietSteps.{KeepsKernel}
 use Rattle.heap_frames.specs.Paged.{IsPaged}
 use Rattle.branch_bridge.specs.declared.through.Arrival.{Arrival}
 use Rattle.branch_bridge.specs.Arrivals.{Store, ArrivesFrom}
-use Rattle.step_laws.specs.Moves.{Move, Plain, Serve, Arrive, Take}
+use Rattle.step_laws.specs.Moves.{Inner, Plain, Serve, Move, Begin, Within, Arrive, Take}
 use Rattle.step_laws.specs.States.{State, mote_of, with_mote, Awaited, is_taken_at, admits, after_taking, stops_taking, Begins, InPool, line_served, is_stop, after_service, store_of, arrived}
 use Rattle.kernel_entry.specs.Services.{served, is_due}
 use Rattle.kernel_entry.specs.Interrupts.{taken}
@@ -71,14 +71,29 @@ pub record MakesTake (x : State) (stops : Bool) (y : State) : Type 0 where
   pub halts : stops_taking (taken x.kernel owed.target).0 ≡ stops
   pub result : y ≡ after_taking x (taken x.kernel owed.target)
 
+-- A move of a step leads from one state to the next; a plain one stands at an entry's place where it begins the step.
+abbrev pub MakesOf : (begins : Bool) → State → Inner → State → Type 0
+MakesOf begins x (Plain line) y = MakesPlain x begins line y
+MakesOf begins x (Serve line stops) y = MakesServe x line stops y
+
 -- the move leads from one state to the next
 abbrev pub Makes : State → Move → State → Type 0
-Makes x (Plain begins line) y = MakesPlain x begins line y
-Makes x (Serve line stops) y = MakesServe x line stops y
+Makes x (Begin line) y = MakesOf true x (Plain line) y
+Makes x (Within inner) y = MakesOf false x inner y
 Makes x (Arrive target made ops) y = MakesArrive x target made ops y
 Makes x (Take stops) y = MakesTake x stops y
 
--- moves one after another
+-- One after another: R says of a single one that it leads from one state to the next.
+abbrev pub Walks : {S M : Type 0} → (S → M → S → Type 0) → S → List M → S → Type 0
+Walks R x [] z = x ≡ z
+Walks {S} R x (move ∷ moves) z = (y : S) × R x move y × Walks R y moves z
+
 abbrev pub Walk : State → List Move → State → Type 0
-Walk x [] z = x ≡ z
-Walk x (move ∷ moves) z = (y : State) × Makes x move y × Walk y moves z
+Walk x moves z = Walks Makes x moves z
+
+abbrev pub WalkWithin : State → List Inner → State → Type 0
+WalkWithin x rest z = Walks (MakesOf false) x rest z
+
+-- a plain step, which begins the program's step or not, and moves in the midst of it behind
+abbrev pub WalkFrom : State → (begins : Bool) → Option Line → List Inner → State → Type 0
+WalkFrom x begins first rest z = (y : State) × MakesPlain x begins first y × WalkWithin y rest z

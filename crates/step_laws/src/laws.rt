@@ -32,7 +32,6 @@ pub fn each_service_has_its_row()
 {}
 
 /// Walks that follow one another are one walk, with the lines one after the other and the numbers added.
-#[tactic(auto, using(crate::proofs::Joining::joins))]
 pub fn walks_join()
     ensures joins { Joins }
 {}

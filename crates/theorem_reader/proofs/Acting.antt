@@ -5,7 +5,6 @@ use Rattle.flash_model.specs.declared.layout.Layout.{Layout}
 use Rattle.flash_model.specs.Layouts.{layout_of}
 use Rattle.mote_devices.specs.declared.line.Line.{Line}
 use Rattle.mote_core.specs.declared.mote.Mote.{Mote}
-use Rattle.mote_core.specs.QuietSteps.{BelowStack, AboveStack}
 use Rattle.mote_core.specs.Step.{stepped}
 use Rattle.mote_core.specs.Shown.{line_shown}
 use Rattle.branch_bridge.specs.Arrivals.{Store}
@@ -24,7 +23,7 @@ use Rattle.sram_layout.proofs.Laws.{byte_other, byte_out_of_word}
 use Rattle.kernel_entry.specs.Left.{Leaves, LeavesHeap}
 use Rattle.kernel_entry.proofs.ServedLaws.{served_leaves, served_leaves_heap}
 use Rattle.step_laws.proofs.ServiceMoves.{kernel_served}
-use Rattle.step_laws.specs.Moves.{Move, Plain, Serve, Arrive, Take}
+use Rattle.step_laws.specs.Moves.{Plain, Serve, Move, Begin, Within, Arrive, Take}
 use Rattle.step_laws.specs.Numbers.{one_if}
 use Rattle.step_laws.specs.States.{State, mote_of, after_taking}
 use Rattle.step_laws.specs.Walks.{Walk, MakesPlain, MakesServe, MakesArrive, MakesTake}
@@ -33,8 +32,9 @@ use Rattle.theorem_reader.specs.Acts.{Act, Step, Service, Arrival, Interrupt, Is
 
 -- a move as an act between these motes
 abbrev pub act_of : Move → Mote → Mote → Act
-act_of (Plain begins line) before after = Step before after
-act_of (Serve line stops) before after = Service before after
+act_of (Begin line) before after = Step before after
+act_of (Within (Plain line)) before after = Step before after
+act_of (Within (Serve line stops)) before after = Service before after
 act_of (Arrive target made ops) before after = Arrival (one_if made) ops before after
 act_of (Take stops) before after = Interrupt before after
 
@@ -62,8 +62,8 @@ step_is from x y begins line pool makes =
       high = omega (arith, pool.end, makes.pool.to);
       flash = makes.step.flash;
       swap = makes.step.swap;
-      cells = λ a low high. makes.kept a (BelowStack low (omega arith));
-      tables = λ a low high. makes.kept a (AboveStack low (omega arith));
+      cells = λ a low high. makes.kept.below a low (omega arith);
+      tables = λ a low high. makes.kept.above a low (omega arith);
       line = line_shown makes.shown;
       executed = makes.step.executed;
     } in
@@ -89,9 +89,9 @@ service_is x y line stops makes =
       low = at.0;
       high = at.1;
       flash = leaves.flash;
-      tables = λ a low high. leaves.tables a low high;
+      tables = λ a low high. leaves.tables a low (omega arith);
       swap = λ other. (heap other).swap;
-      heap = λ a other low high. (heap other).frames a low high;
+      heap = λ a other low high. (heap other).frames a low (omega arith);
     }
 
 one_most : (b : Bool) → one_if b ≤ 1
@@ -179,10 +179,13 @@ interrupt_is x y stops makes = (taken_keeps x y stops makes).mote
 -- each act of a walk is one, and the layout stays
 pub follow : (from : ℕ) (x : State) (moves : List Move) (z : State) (walk : Walk x moves z) → Begins from x.kernel.layout → Follow from (mote_of x) (acts_of x moves z walk) (mote_of z)
 follow from x [] z walk pool = ap mote_of walk
-follow from x (Plain begins line ∷ moves) z walk pool =
+follow from x (Begin line ∷ moves) z walk pool =
     let layout : walk.0.kernel.layout ≡ x.kernel.layout = ap (λ (s : State). s.kernel.layout) walk.1.result in
-    (refl, step_is from x walk.0 begins line pool walk.1, follow from walk.0 moves z walk.2 (subst (Begins from) (sym layout) pool))
-follow from x (Serve line stops ∷ moves) z walk pool =
+    (refl, step_is from x walk.0 true line pool walk.1, follow from walk.0 moves z walk.2 (subst (Begins from) (sym layout) pool))
+follow from x (Within (Plain line) ∷ moves) z walk pool =
+    let layout : walk.0.kernel.layout ≡ x.kernel.layout = ap (λ (s : State). s.kernel.layout) walk.1.result in
+    (refl, step_is from x walk.0 false line pool walk.1, follow from walk.0 moves z walk.2 (subst (Begins from) (sym layout) pool))
+follow from x (Within (Serve line stops) ∷ moves) z walk pool =
     let layout : walk.0.kernel.layout ≡ x.kernel.layout = ap (λ (k : Kernel). k.layout) (kernel_served x walk.0 line stops walk.1) ∙ (served_leaves x.kernel walk.1.can).layout in
     (refl, service_is x walk.0 line stops walk.1, follow from walk.0 moves z walk.2 (subst (Begins from) (sym layout) pool))
 follow from x (Arrive target made ops ∷ moves) z walk pool =

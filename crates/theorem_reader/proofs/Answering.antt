@@ -13,7 +13,7 @@ use Rattle.mote_devices.specs.declared.line.Line.{Line}
 use Rattle.program_steps.specs.Machines.{Machine, state_of, numbers_of, flat_of}
 use Rattle.program_steps.specs.Ready.{IsReady}
 use Rattle.step_laws.specs.Numbers.{Numbers}
-use Rattle.step_laws.proofs.NumberLaws.{others_is}
+use Rattle.step_laws.proofs.NumberLaws.{unmoved}
 use Rattle.tk_run.specs.Booted.{started}
 use Rattle.tk_run.specs.Running.{Leads}
 use Rattle.tkernel_cli.specs.declared.command.Command.TheVariants.{Run as RunCommand}
@@ -72,7 +72,7 @@ has_acts IsFirst asked flash pages lines m begins untried path bound =
 
 -- no other program's arrivals are counted
 runs_alone : (asked : Asked) (flash : Memory) (pages n : ℕ) (m : Machine) → Leads (start_of asked flash pages) (original_of asked n).lines m → m.others ≡ 0
-runs_alone asked flash pages n m path = ap (λ (k : Numbers). k.others) path.goes.numbers ∙ others_is path.moves (numbers_of (start_of asked flash pages))
+runs_alone asked flash pages n m path = ap (λ (k : Numbers). k.others) path.goes.numbers ∙ (unmoved path.moves (numbers_of (start_of asked flash pages))).1
 
 -- where moves lead from such a start
 pub stands_from : (IsFirst : Mote → Type 0) (asked : Asked) (flash : Memory) (pages n : ℕ) (m : Machine) → IsFirst (start_of asked flash pages).kernel.mote → flash.ops ≡ 0

@@ -4,7 +4,7 @@ use Rattle.mote_core.specs.declared.mote.Mote.{Mote}
 use Rattle.branch_bridge.specs.declared.arrival.Refused.{Refused}
 use Rattle.branch_bridge.specs.declared.arrival.ArriveStop.{ArriveStop}
 use Rattle.branch_bridge.specs.declared.arrival.ArriveStop.TheVariants as refusals
-use Rattle.step_laws.specs.Moves.{Move, Plain, Serve, Arrive, Take}
+use Rattle.step_laws.specs.Moves.{Plain, Serve, Move, Begin, Within, Arrive, Take}
 use Rattle.step_laws.specs.Numbers.{Numbers, moved, numbered}
 use Rattle.step_laws.specs.States.{State, end_by, settled_by, placed, with_store}
 use Rattle.step_laws.specs.Walks.{Walk}
@@ -15,34 +15,29 @@ use Rattle.theorem_reader.proofs.Acting.{acts_of}
 pub natural_of : (x : State) (moves : List Move) (z : State) (walk : Walk x moves z) (n : Numbers) → (numbered moves n).natural ≡ n.natural + steps_in (acts_of x moves z walk)
 unfolding moved
 natural_of x [] z walk n = omega arith
-natural_of x (Plain begins line ∷ moves) z walk n = omega (arith, natural_of walk.0 moves z walk.2 (moved (Plain begins line) n))
-natural_of x (Serve line stops ∷ moves) z walk n = natural_of walk.0 moves z walk.2 (moved (Serve line stops) n)
-natural_of x (Arrive target made ops ∷ moves) z walk n = natural_of walk.0 moves z walk.2 (moved (Arrive target made ops) n)
-natural_of x (Take stops ∷ moves) z walk n = natural_of walk.0 moves z walk.2 (moved (Take stops) n)
+natural_of x (Begin line ∷ moves) z walk n = omega (arith, natural_of walk.0 moves z walk.2 (moved (Begin line) n))
+natural_of x (Within (Plain line) ∷ moves) z walk n = omega (arith, natural_of walk.0 moves z walk.2 (moved (Within (Plain line)) n))
+natural_of x (move ∷ moves) z walk n = natural_of walk.0 moves z walk.2 (moved move n)
 
 pub entries_of : (x : State) (moves : List Move) (z : State) (walk : Walk x moves z) (n : Numbers) → (numbered moves n).entries ≡ n.entries + services_in (acts_of x moves z walk)
 unfolding moved
 entries_of x [] z walk n = omega arith
-entries_of x (Plain begins line ∷ moves) z walk n = entries_of walk.0 moves z walk.2 (moved (Plain begins line) n)
-entries_of x (Serve line stops ∷ moves) z walk n = omega (arith, entries_of walk.0 moves z walk.2 (moved (Serve line stops) n))
-entries_of x (Arrive target made ops ∷ moves) z walk n = entries_of walk.0 moves z walk.2 (moved (Arrive target made ops) n)
-entries_of x (Take stops ∷ moves) z walk n = entries_of walk.0 moves z walk.2 (moved (Take stops) n)
+entries_of x (Within (Serve line stops) ∷ moves) z walk n = omega (arith, entries_of walk.0 moves z walk.2 (moved (Within (Serve line stops)) n))
+entries_of x (move ∷ moves) z walk n = entries_of walk.0 moves z walk.2 (moved move n)
 
 pub pages_of : (x : State) (moves : List Move) (z : State) (walk : Walk x moves z) (n : Numbers) → (numbered moves n).pages ≡ n.pages + made_in (acts_of x moves z walk)
 unfolding moved
 pages_of x [] z walk n = omega arith
-pages_of x (Plain begins line ∷ moves) z walk n = pages_of walk.0 moves z walk.2 (moved (Plain begins line) n)
-pages_of x (Serve line stops ∷ moves) z walk n = pages_of walk.0 moves z walk.2 (moved (Serve line stops) n)
 pages_of x (Arrive target made ops ∷ moves) z walk n = omega (arith, pages_of walk.0 moves z walk.2 (moved (Arrive target made ops) n))
-pages_of x (Take stops ∷ moves) z walk n = pages_of walk.0 moves z walk.2 (moved (Take stops) n)
+pages_of x (Within (Plain line) ∷ moves) z walk n = pages_of walk.0 moves z walk.2 (moved (Within (Plain line)) n)
+pages_of x (move ∷ moves) z walk n = pages_of walk.0 moves z walk.2 (moved move n)
 
 pub ops_of : (x : State) (moves : List Move) (z : State) (walk : Walk x moves z) (n : Numbers) → (numbered moves n).ops ≡ n.ops + tried_in (acts_of x moves z walk)
 unfolding moved
 ops_of x [] z walk n = omega arith
-ops_of x (Plain begins line ∷ moves) z walk n = ops_of walk.0 moves z walk.2 (moved (Plain begins line) n)
-ops_of x (Serve line stops ∷ moves) z walk n = ops_of walk.0 moves z walk.2 (moved (Serve line stops) n)
 ops_of x (Arrive target made ops ∷ moves) z walk n = omega (arith, ops_of walk.0 moves z walk.2 (moved (Arrive target made ops) n))
-ops_of x (Take stops ∷ moves) z walk n = ops_of walk.0 moves z walk.2 (moved (Take stops) n)
+ops_of x (Within (Plain line) ∷ moves) z walk n = ops_of walk.0 moves z walk.2 (moved (Within (Plain line)) n)
+ops_of x (move ∷ moves) z walk n = ops_of walk.0 moves z walk.2 (moved move n)
 
 -- the longest stretch of steps, where so many stand before it and the longest before it is this
 abbrev pub longest_in : (since longest : ℕ) → List Act → ℕ
@@ -55,10 +50,8 @@ longest_in since longest (Interrupt before after ∷ acts) = longest_in since lo
 pub longest_of : (x : State) (moves : List Move) (z : State) (walk : Walk x moves z) (n : Numbers) → (numbered moves n).longest ≡ longest_in n.since n.longest (acts_of x moves z walk)
 unfolding moved
 longest_of x [] z walk n = refl
-longest_of x (Plain begins line ∷ moves) z walk n = longest_of walk.0 moves z walk.2 (moved (Plain begins line) n)
-longest_of x (Serve line stops ∷ moves) z walk n = longest_of walk.0 moves z walk.2 (moved (Serve line stops) n)
-longest_of x (Arrive target made ops ∷ moves) z walk n = longest_of walk.0 moves z walk.2 (moved (Arrive target made ops) n)
-longest_of x (Take stops ∷ moves) z walk n = longest_of walk.0 moves z walk.2 (moved (Take stops) n)
+longest_of x (Within (Plain line) ∷ moves) z walk n = longest_of walk.0 moves z walk.2 (moved (Within (Plain line)) n)
+longest_of x (move ∷ moves) z walk n = longest_of walk.0 moves z walk.2 (moved move n)
 
 rises : (since longest : ℕ) (acts : List Act) → longest ≤ longest_in since longest acts
 rises since longest [] = omega arith
@@ -92,14 +85,10 @@ last_arrives (act ∷ other ∷ acts) = last_arrives (other ∷ acts)
 
 pub same_last : (x : State) (moves : List Move) (z : State) (walk : Walk x moves z) → ends_in_arrive moves ≡ last_arrives (acts_of x moves z walk)
 same_last x [] z walk = refl
-same_last x (Plain begins line ∷ []) z walk = refl
-same_last x (Serve line stops ∷ []) z walk = refl
-same_last x (Arrive target made ops ∷ []) z walk = refl
-same_last x (Take stops ∷ []) z walk = refl
-same_last x (Plain begins line ∷ other ∷ moves) z walk = same_last walk.0 (other ∷ moves) z walk.2
-same_last x (Serve line stops ∷ other ∷ moves) z walk = same_last walk.0 (other ∷ moves) z walk.2
-same_last x (Arrive target made ops ∷ other ∷ moves) z walk = same_last walk.0 (other ∷ moves) z walk.2
-same_last x (Take stops ∷ other ∷ moves) z walk = same_last walk.0 (other ∷ moves) z walk.2
+same_last x (Within (Plain line) ∷ []) z walk = refl
+same_last x (move ∷ []) z walk = refl
+same_last x (Within (Plain line) ∷ other ∷ moves) z walk = same_last walk.0 (other ∷ moves) z walk.2
+same_last x (move ∷ other ∷ moves) z walk = same_last walk.0 (other ∷ moves) z walk.2
 
 pub arrives_last : (front : List Act) (made ops : ℕ) (before after : Mote) → last_arrives (front ++ (Arrival made ops before after ∷ [])) ≡ true
 arrives_last [] made ops before after = refl
@@ -117,11 +106,7 @@ refusal_of x (Some refused) = inr (refusal_by refused.why)
 
 pub last_refuses : (x : State) (moves : List Move) (z : State) → Walk x moves z → ends_in_arrive moves ≡ true → (z.end ≡ None) ⊎ IsRefusal z.end
 last_refuses x [] z walk is = absurd (cc)
-last_refuses x (Plain begins line ∷ []) z walk is = absurd (cc)
-last_refuses x (Serve line stops ∷ []) z walk is = absurd (cc)
-last_refuses x (Take stops ∷ []) z walk is = absurd (cc)
 last_refuses x (Arrive target made ops ∷ []) z walk is = subst (λ (s : State). (s.end ≡ None) ⊎ IsRefusal s.end) (sym walk.1.after ∙ walk.2) (refusal_of (placed (with_store x walk.1.store) walk.1.arrival.place) walk.1.arrival.refused)
-last_refuses x (Plain begins line ∷ other ∷ moves) z walk is = last_refuses walk.0 (other ∷ moves) z walk.2 is
-last_refuses x (Serve line stops ∷ other ∷ moves) z walk is = last_refuses walk.0 (other ∷ moves) z walk.2 is
+last_refuses x (move ∷ []) z walk is = absurd (cc)
 last_refuses x (Arrive target made ops ∷ other ∷ moves) z walk is = last_refuses walk.0 (other ∷ moves) z walk.2 is
-last_refuses x (Take stops ∷ other ∷ moves) z walk is = last_refuses walk.0 (other ∷ moves) z walk.2 is
+last_refuses x (move ∷ other ∷ moves) z walk is = last_refuses walk.0 (other ∷ moves) z walk.2 is

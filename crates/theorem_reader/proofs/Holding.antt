@@ -47,7 +47,7 @@ unfolding byte_at page_in
 has_memory m paged = record {
   size = length-vmem m.sram m.swap;
   registers = λ a below. vmem_byte m.sram m.swap a (omega (arith, below)) ∙ no_byte m.sram m.swap a (grind (arith, nat_tests)) (grind (arith, nat_tests));
-  window = λ a from to. vmem_byte m.sram m.swap a (omega (arith, to)) ∙ stack_byte m.sram m.swap a (in_window a from to);
+  window = λ a from to. vmem_byte m.sram m.swap a (omega (arith, to)) ∙ stack_byte m.sram m.swap a (in_window a from (omega arith));
   framed = λ a frame heap held. page_at m a heap ∙ byte_in_frame m.sram m.swap (a / 256) (a % 256) frame (frames.paged_frame m.sram m.swap (a / 256) frame paged (frame_is m (a / 256) frame held));
   swapped = λ a heap none some. page_at m a heap ∙ byte_in_slot m.sram m.swap (a / 256) (a % 256) (unheld m (a / 256) none) ∙ byte_of_slot m.sram m.swap (a / 256) (a % 256) (frames.slot_held m.sram (a / 256) some);
   untouched = λ a heap none.

@@ -9,4 +9,5 @@ pub mod Exampled
 pub mod Checking
 pub mod Dumping
 pub mod Restarting
+pub mod TakingTurns
 pub mod Sharing

@@ -1,6 +1,6 @@
 -- What `tasks` answers.
 use Rattle.std.proofs.Common.{◌≡◌, ◌≢◌, ℕ, zero, suc, ◌+◌, ◌-◌, ◌*◌, ◌/◌, ◌≤◌, ◌<◌, max, eqb, cond, Bool, true, false, not, List, [], ◌∷◌, ◌++◌, map, length, Option, Some, None, codes, refl, sym, ap, ap₂, ◌∙◌, subst, arith, inl, inr, ◌⊎◌}
-use Rattle.std.specs.Prelude.{All, is_some, nat_lt, slice_get, slice_set}
+use Rattle.std.specs.Prelude.{All, is_some, nat_lt, slice_get}
 use Rattle.std.specs.List.{range_with_len, find}
 use Rattle.std.proofs.lemmas.Bool.{cases_eq}
 use Rattle.std.proofs.lemmas.Bool.Decides.{nat_tests}
@@ -10,14 +10,14 @@ use Rattle.mote_devices.specs.declared.line.Line.{Line}
 use Rattle.input_script.specs.Script.{Schedule}
 use Rattle.avr_isa.specs.Image.{word}
 use Rattle.mem_guard.specs.declared.part.Part.{Part}
-use Rattle.mem_guard.specs.FlatMachine.{End as FlatEnd, Run, run, at_reset, is_own}
+use Rattle.mem_guard.specs.FlatMachine.{End as FlatEnd, Moment, Run, run, at_reset, is_own}
 use Rattle.mem_guard.specs.Masked.{masked, masked_from}
 use Rattle.tk_tasks.specs.declared.tasks.Task.{Task}
 use Rattle.tk_tasks.specs.declared.tasks.TaskEnd.{TaskEnd}
-use Rattle.tk_tasks.specs.Booted.{waiting_from, turns_at_reset, players_at_reset}
+use Rattle.tk_tasks.specs.Booted.{turns_at_reset, players_at_reset}
 use Rattle.tk_tasks.specs.Images.{quarter_part, task_words}
-use Rattle.tk_tasks.specs.Plays.{Play, TaskPath, shown_text, told_text}
-use Rattle.tk_tasks.specs.States.{Tasks, flat_end, flat_end_of, player_of, players_from, turns_of}
+use Rattle.tk_tasks.specs.Plays.{shown_text, told_text}
+use Rattle.tk_tasks.specs.States.{Tasks, flat_end, flat_end_of, player_of}
 use Rattle.tk_tasks.specs.Turns.{Player, Turns, Told, Shown, Wrote, Stops, After, others, has_ended, ends_of, next_in, changed_to, with_player, once, continued, go_on, tries, shown_by, own_told}
 use Rattle.tk_tasks.proofs.Isolation.{once_follows}
 use Rattle.tkernel_cli.specs.declared.command.Command.TheVariants.{Tasks as TasksCommand}
@@ -35,6 +35,7 @@ use Rattle.theorem_reader.specs.Tasks.{AskedTasks, AsksTasks, image_of, events_o
 use Rattle.theorem_reader.specs.Texts.{device_line, end_words, stop_line, end_status}
 use Rattle.theorem_reader.proofs.Answering.{said_is, taken_is}
 use Rattle.theorem_reader.proofs.SameTexts.{line_same, stop_same, status_same}
+use Rattle.theorem_reader.proofs.TakingTurns.{length_set, path_long, waiting_long, have_stints}
 
 -- what is asked of the program, as it sees it: its run of one program alone, what all tell, and that each is alone
 abbrev own_run : AskedTasks → ℕ → Run
@@ -182,11 +183,6 @@ changed_of count t (Some next) is are = record {
       (subst (λ n. All (λ k. k < count) (others t.running n)) (sym are.few) (others_below count t.running are.below)) is;
 }
 
-length_set : (players : List Player) (i : ℕ) (p : Player) → length (slice_set players i p) ≡ length players
-length_set [] i p = refl
-length_set (q ∷ players) zero p = refl
-length_set (q ∷ players) (suc i) p = ap (λ n. suc n) (length_set players i p)
-
 once_of : (count : ℕ) (t : Turns) (p : Player) → p.end ≡ None → AreOf count t → AreOf count (once t p).turns
 once_of count t p going are =
     let one = once_follows t p going in
@@ -222,22 +218,6 @@ told_below asked long some =
     (record { few = reset_long (task_words (length asked.scripts) asked.image) 0 asked.scripts asked.quantum asked.slots asked.steps ∙ long; below = some })
 
 -- The status. ---------------------------------------------------------------------------------------------
-
-players_long : (n : ℕ) (t : Tasks) (k : ℕ) (tasks : List Task) → length (players_from n t k tasks) ≡ length tasks
-players_long n t k [] = refl
-players_long n t k (task ∷ tasks) = ap (λ m. suc m) (players_long n t (k + 1) tasks)
-
-path_long : (n : ℕ) (t : Tasks) (plays : List Play) (new : Tasks) → TaskPath n t plays new → length new.tasks ≡ length t.tasks
-path_long n t [] new is = ap (λ (z : Tasks). length z.tasks) (sym is)
-path_long n t (play ∷ plays) new (mid, one, rest) =
-    let p = player_of n t t.running one.task in
-    let step = once_follows (turns_of n t) p (ap flat_end_of one.going) in
-    path_long n mid plays new rest ∙ sym (players_long n mid 0 mid.tasks) ∙ ap (λ (z : Turns). length z.players) one.in_turn ∙ ap (λ (l : List Player). length l) step.players
-    ∙ length_set (turns_of n t).players t.running step.q ∙ players_long n t 0 t.tasks
-
-waiting_long : (k : ℕ) (scripts : List Schedule) (quantum slots : ℕ) → length (waiting_from k scripts quantum slots) ≡ length scripts
-waiting_long k [] quantum slots = refl
-waiting_long k (script ∷ scripts) quantum slots = ap (λ m. suc m) (waiting_long (k + 1) scripts quantum slots)
 
 start_long : (asked : AskedTasks) (scripts : List Schedule) → 1 ≤ length scripts → length (start_in asked scripts).tasks ≡ length scripts
 start_long asked [] some = absurd (omega (arith, some))
@@ -281,6 +261,12 @@ status_is asked t long each =
     let count : greatest (map f (range_with_len 0 (length t.tasks))) ≡ worst_status asked = ap (λ n. greatest (map f (range_with_len 0 n))) long in
     omega (arith, all, count)
 
+-- each ends where its program alone does
+ended_state : (asked : AskedTasks) (t : Tasks) → AreAlone asked t → (i : ℕ) → i < asked.count → (task : Task) × (slice_get t.tasks i ≡ Some task) × ((player_of asked.steps t i task).moment.now ≡ (alone_of asked i).state.now)
+ended_state asked t each i below =
+    let one = each i below in
+    (one.0, one.1, ap (λ (m : Moment). m.now) one.2.2 ∙ ap (λ (r : Run). r.state.now) (run_alone asked i))
+
 -- The answer. ---------------------------------------------------------------------------------------------
 
 apart : (asked : AskedTasks) (before now : Stream) (exit : Exit) (taken : List ℕ) (t : Tasks) → length asked.scripts ≡ asked.count → 1 ≤ asked.count → (Rose before.faults now.faults → ⊥) → before.told ≡ Some [] → now.told ≡ Some taken
@@ -300,6 +286,7 @@ apart asked before now exit taken t long some well first last run =
       theirs = printed_below asked.count asked.quantum told (told_below asked long some);
       each = λ task below. own_same task asked.quantum told ∙ ap (map (line_of asked.quantum)) (run.alone task below).2.0 ∙ shown_alone asked task;
       status_is = ap number_of said.0 ∙ status_is asked t tasks run.alone;
+      stints = have_stints asked asked.scripts t run.last run.plays refl long some run.start run.path run.is run.ended run.sound (ended_state asked t run.alone);
     }
 
 are_run : (asked : AskedTasks) (before now : Stream) (exit : Exit) (taken : List ℕ) (t : Tasks) → length asked.scripts ≡ asked.count → 1 ≤ asked.count → (Rose before.faults now.faults → ⊥) → before.told ≡ Some [] → now.told ≡ Some taken

@@ -6,4 +6,5 @@ pub mod Runs
 pub mod Checks
 pub mod Dumps
 pub mod Restarts
+pub mod Stints
 pub mod Tasks

@@ -6,12 +6,14 @@ use Rattle.text_lines.specs.Lines.{lines_of}
 use Rattle.hex_image.specs.HexText.{HexText}
 use Rattle.input_script.specs.declared.input.Event.{Event}
 use Rattle.input_script.specs.Script.{Schedule}
-use Rattle.mem_guard.specs.FlatMachine.{Run, run, at_reset}
+use Rattle.mem_guard.specs.FlatMachine.{FlatState, Run, run, at_reset}
 use Rattle.program_steps.specs.Machines.{Machine}
 use Rattle.tk_tasks.specs.Images.{IsMisplaced}
 use Rattle.tk_tasks.specs.Scripts.{Schedules}
 use Rattle.tkernel_cli.specs.declared.command.Command.TheVariants.{Tasks as TasksCommand}
 use Rattle.tkernel_cli.specs.Commands.{IsCommand}
+use Rattle.theorem_reader.specs.Acts.{IsBoot, pool_from}
+use Rattle.theorem_reader.specs.Stints.{HaveStints}
 use Rattle.theorem_reader.specs.Texts.{device_line, end_words, stop_line, end_status}
 
 -- the image of so many programs, the inputs of each, and how they are run
@@ -27,16 +29,24 @@ pub record AskedTasks : Type 0 where
 abbrev pub image_of : AskedTasks → ℕ → List ℕ
 image_of asked task = map (λ a. if a / 4096 == task then slice_index_or asked.image a 0xFFFF else 0xFFFF) (range_with_len 0 (4096 * asked.count))
 
+-- all of them: 4,096 words for each, erased behind the end of the image
+abbrev pub words_of : AskedTasks → List ℕ
+words_of asked = map (λ a. slice_index_or asked.image a 0xFFFF) (range_with_len 0 (4096 * asked.count))
+
 abbrev pub events_of : AskedTasks → ℕ → List Event
 events_of asked task = (slice_index_or asked.scripts task (record { events = []; failing = [] })).events
 
--- That program's run, by itself on flat memory of 64 KiB, for the steps that each may do. It begins at the first of its
--- words, and may read no others.
+-- it begins at the first of its words
+abbrev pub start_of : AskedTasks → ℕ → FlatState
+start_of asked task =
+    let reset = at_reset (events_of asked task) in
+    record reset { cpu = record reset.cpu { pc = 4096 * task } }
+
+-- That program's run, by itself on flat memory of 64 KiB, for the steps that each may do. It may read no words but its own.
 abbrev pub alone_of : AskedTasks → ℕ → Run
 alone_of asked task =
-    let reset = at_reset (events_of asked task) in
     run (record { image = image_of asked task; part = record { first = 4096 * task; count = 4096; shut = true }; page_limit = asked.slots; quantum = asked.quantum })
-    (record { now = record reset { cpu = record reset.cpu { pc = 4096 * task } }; due = false })
+    (record { now = start_of asked task; due = false })
     asked.steps
 
 -- its lines: those of its devices, and its stop line
@@ -73,7 +83,8 @@ abbrev pub worst_status : AskedTasks → ℕ
 worst_status asked = greatest (map (λ task. end_status (alone_of asked task).end) (range_with_len 0 asked.count))
 
 -- What is printed is lines of the programs and a last line. Those of each program are just those of its run alone: none
--- can change what another prints, or when and how it ends.
+-- can change what another prints, or when and how it ends. The numbers of the last line are those of what the programs did
+-- on one mote, each from where it begins to where its run alone ends.
 pub record AreApart (asked : AskedTasks) (status : ℕ) (text : List ℕ) : Type 0 where
   pub printed : List Printed
   pub natural : ℕ
@@ -84,6 +95,7 @@ pub record AreApart (asked : AskedTasks) (status : ℕ) (text : List ℕ) : Type
   pub theirs : All (λ one. one.task < asked.count) printed
   pub each : (task : ℕ) → task < asked.count → lines_of_task task printed ≡ lines_alone asked task
   pub status_is : status ≡ worst_status asked
+  pub stints : HaveStints (IsBoot (words_of asked)) (pool_from (words_of asked)) asked.count natural entries pages switches (start_of asked) (λ task. (alone_of asked task).state.now)
 
 -- memory was wanted, which is all that is told; or all programs were run; no machine is kept
 pub data AreRun (asked : AskedTasks) (status : ℕ) (text : List ℕ) (kept : Option Machine) : Type 0 where

@@ -13,7 +13,7 @@ use Rattle.step_laws.specs.declared.moves.End.{End}
 use Rattle.step_laws.specs.declared.moves.End.TheVariants as ends
 use Rattle.step_laws.specs.Moves.{Move, lines_of, line_before}
 use Rattle.step_laws.specs.Numbers.{Numbers}
-use Rattle.step_laws.proofs.NumberLaws.{others_is}
+use Rattle.step_laws.proofs.NumberLaws.{unmoved}
 use Rattle.kernel_entry.specs.Seen.{end_of, program as program_of}
 use Rattle.program_steps.specs.Machines.{Machine, numbers_of, flat_of}
 use Rattle.program_steps.specs.Ready.{count_in, AreTried, IsGoing, IsQuiet, IsInOrder, IsSound, IsEnded, IsKept, HasBounds}
@@ -367,7 +367,7 @@ advanced_unput old new n end e text before after going whole advanced cut =
 
 -- no move changes how many arrivals others may have made
 pub others_led : (start m : Machine) (lines : List Line) → Leads start lines m → m.others ≡ start.others
-others_led start m lines leads = ap (λ (k : Numbers). k.others) leads.goes.numbers ∙ others_is leads.moves (numbers_of start)
+others_led start m lines leads = ap (λ (k : Numbers). k.others) leads.goes.numbers ∙ (unmoved leads.moves (numbers_of start)).1
 
 pub others_kept : (old new : Machine) (n : ℕ) (before after : Option (List ℕ)) (result : Result End Failed) → HasAdvanced old new n before after result → new.others ≡ old.others
 others_kept old new n before after result advanced = others_led old new advanced.lines advanced.leads

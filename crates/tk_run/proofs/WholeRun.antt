@@ -21,7 +21,7 @@ use Rattle.kernel_entry.specs.Seen.{end_of, program as program_of}
 use Rattle.tk_io.specs.declared.failure.Failed.{Failed}
 use Rattle.tk_io.specs.Streams.{CutShort}
 use Rattle.step_laws.specs.Numbers.{Numbers}
-use Rattle.step_laws.proofs.NumberLaws.{began_is}
+use Rattle.step_laws.proofs.NumberLaws.{unmoved}
 use Rattle.tk_run.proofs.Advancing.{others_led}
 use Rattle.program_steps.specs.Machines.{Machine, numbers_of, flat_of}
 use Rattle.program_steps.specs.Ready.{AreTried, IsKept}
@@ -43,7 +43,7 @@ pub record IsStart (start : Machine) (image : List ℕ) (script : Schedule) (qua
 
 -- how many pages there were when the run began stays
 began_kept : (start m : Machine) (lines : List Line) → Leads start lines m → m.began ≡ start.began
-began_kept start m lines leads = ap (λ (k : Numbers). k.began) leads.goes.numbers ∙ began_is leads.moves (numbers_of start)
+began_kept start m lines leads = ap (λ (k : Numbers). k.began) leads.goes.numbers ∙ (unmoved leads.moves (numbers_of start)).0
 
 -- moves that lead, and write these lines
 leads_as : (x y : Machine) (lines lines' : List Line) → (leads : Leads x lines y) → lines ≡ lines' → (path : Leads x lines' y) × (path.moves ≡ leads.moves)

@@ -8,7 +8,6 @@ use Rattle.std.proofs.lemmas.List.{get_or-map, set-get_or}
 use Rattle.std.proofs.lemmas.List.Folds.{find-append}
 use Rattle.std.proofs.lemmas.List.Elements.{All-append}
 use Rattle.std.proofs.lemmas.List.FromFn.{get_or-range_with_len, length-range_with_len}
-use Rattle.std.proofs.lemmas.List.Sums.{sum_by-cons}
 use Rattle.std.proofs.lemmas.Option.{slice_get-get_or}
 use Rattle.sram_layout.specs.Bytes.{byte_count}
 use Rattle.flash_model.specs.Layouts.{layout_of}
@@ -27,6 +26,7 @@ use Rattle.tk_tasks.specs.States.{Tasks, owed_of, stub_of, arrivals_of, machine_
 use Rattle.tk_tasks.specs.Changes.{parking, with_parked, parked_by, given_by, given_to, next_task, changed_tasks, IsFree}
 use Rattle.tk_tasks.proofs.Parkings.{taken_twice, taken_back, sized_of}
 use Rattle.tk_tasks.proofs.Ending.{found_holds}
+use Rattle.tk_tasks.proofs.Sums.{sum_set}
 
 -- What is parked of one of the tasks. ---------------------------------------------------------------------
 
@@ -36,7 +36,7 @@ parking_here (t ∷ tasks) zero parked task is = let e : t ≡ task = cc in ap (
 parking_here (t ∷ tasks) (suc i) parked task is =
     ap (λ o. slice_get (parking (t ∷ tasks) (suc i) parked o) (suc i)) is ∙ ap (λ o. slice_get (parking tasks i parked o) i) (sym is) ∙ parking_here tasks i parked task is
 
-pub elsewhere_by : (tasks : List Task) (i k : ℕ) (x : Task) → k ≢ i → slice_get (slice_set tasks i x) k ≡ slice_get tasks k
+pub elsewhere_by : {T : Type 0} → (tasks : List T) (i k : ℕ) (x : T) → k ≢ i → slice_get (slice_set tasks i x) k ≡ slice_get tasks k
 elsewhere_by [] i k x apart = refl
 elsewhere_by (t ∷ tasks) zero zero x apart = absurd (apart refl)
 elsewhere_by (t ∷ tasks) zero (suc k) x apart = refl
@@ -56,18 +56,13 @@ parking_length : (tasks : List Task) (i : ℕ) (parked : Option Parked) (o : Opt
 parking_length tasks i parked None = refl
 parking_length tasks i parked (Some task) = length_by tasks i (record task { parked = parked })
 
--- no arrival is counted with it
-sum_by_set : (tasks : List Task) (i : ℕ) (task : Task) (parked : Option Parked) → slice_get tasks i ≡ Some task → sum_by arrivals_of (slice_set tasks i (record task { parked = parked })) ≡ sum_by arrivals_of tasks
-sum_by_set [] i task parked is = refl
-sum_by_set (t ∷ tasks) zero task parked is =
-    let e : task ≡ t = cc in
-    sum_by-cons arrivals_of (record task { parked = parked }) tasks ∙ ap (λ (x : Task). arrivals_of x + sum_by arrivals_of tasks) e ∙ sym (sum_by-cons arrivals_of t tasks)
-sum_by_set (t ∷ tasks) (suc i) task parked is =
-    sum_by-cons arrivals_of t (slice_set tasks i (record task { parked = parked })) ∙ ap (λ n. arrivals_of t + n) (sum_by_set tasks i task parked is) ∙ sym (sum_by-cons arrivals_of t tasks)
+-- nothing is counted with it
+abbrev pub IsUnparked : (Task → ℕ) → Type 0
+IsUnparked f = (task : Task) (parked : Option Parked) → f (record task { parked = parked }) ≡ f task
 
-parking_sum : (tasks : List Task) (i : ℕ) (parked : Option Parked) (o : Option Task) → slice_get tasks i ≡ o → sum_by arrivals_of (parking tasks i parked o) ≡ sum_by arrivals_of tasks
-parking_sum tasks i parked None is = refl
-parking_sum tasks i parked (Some task) is = sum_by_set tasks i task parked is
+parking_sum : (f : Task → ℕ) (tasks : List Task) (i : ℕ) (parked : Option Parked) (o : Option Task) → IsUnparked f → slice_get tasks i ≡ o → sum_by f (parking tasks i parked o) ≡ sum_by f tasks
+parking_sum f tasks i parked None same is = refl
+parking_sum f tasks i parked (Some task) same is = omega (arith, sum_set f tasks i task (record task { parked = parked }) is, same task parked)
 
 -- The next task. ------------------------------------------------------------------------------------------
 
@@ -76,11 +71,14 @@ some_end : (end : Option TaskEnd) → is_some (flat_end_of end) ≡ is_some end
 some_end None = refl
 some_end (Some end) = refl
 
-abbrev goes_in : List Task → ℕ → Bool
+abbrev pub goes_in : List Task → ℕ → Bool
 goes_in tasks i = not (has_ended (map (λ (x : Task). flat_end_of x.end) tasks) i)
 
+pub goes_flat : (tasks : List Task) (i : ℕ) (x : Task) → i < length tasks → x ≡ slice_index_or tasks i x → goes_in tasks i ≡ not (is_some (flat_end_of x.end))
+goes_flat tasks i x below is = ap (λ e. not (is_some e)) (get_or-map (λ (y : Task). flat_end_of y.end) tasks i x None below ∙ ap (λ (y : Task). flat_end_of y.end) (sym is))
+
 goes_by : (tasks : List Task) (i : ℕ) (x : Task) → i < length tasks → x ≡ slice_index_or tasks i x → goes_in tasks i ≡ not (is_some x.end)
-goes_by tasks i x below is = ap (λ e. not (is_some e)) (get_or-map (λ (y : Task). flat_end_of y.end) tasks i x None below ∙ ap (λ (y : Task). flat_end_of y.end) (sym is)) ∙ ap not (some_end x.end)
+goes_by tasks i x below is = goes_flat tasks i x below is ∙ ap not (some_end x.end)
 
 range_step : (a n : ℕ) → a < n → range_with_len a (n - a) ≡ a ∷ range_with_len (a + 1) (n - (a + 1))
 range_step a n less = let more : n - a ≡ suc (n - (a + 1)) = omega arith in ap (range_with_len a) more
@@ -124,6 +122,7 @@ same_items tasks next x y is same = ap (slice_set tasks next) (same ∙ is) ∙ 
 pub record IsNext (t : Tasks) (next : ℕ) : Type 0 where
   pub below : next < length t.tasks
   pub apart : next ≢ t.running
+  pub going : goes_in t.tasks next ≡ true
 
 pub is_next : (t : Tasks) (next : ℕ) → t.running < length t.tasks → next_task t ≡ Some next → IsNext t next
 is_next t next one is =
@@ -139,7 +138,7 @@ is_next t next one is =
     let at = get_or-range_with_len 0 r k d inside in
     (omega arith, λ e. omega arith) in
     let holds = found_holds P (λ task. not (has_ended (map (λ (x : Task). flat_end_of x.end) t.tasks) task)) (others r n) next (All-append P (range_with_len (r + 1) (n - (r + 1))) (range_with_len 0 r) behind before) is in
-    record { below = holds.0.0; apart = holds.0.1 }
+    record { below = holds.0.0; apart = holds.0.1; going = holds.1 }
 
 -- Each task. ----------------------------------------------------------------------------------------------
 
@@ -163,40 +162,43 @@ abbrev machine_by : Tasks → ℕ → Task → Mote → (others : ℕ) → Optio
 machine_by t i task mote others owed = record (machine_of t i task) { kernel = record t.kernel { mote = mote; part = quarter_part i }; others = others; owed = owed }
 
 -- what was given to a task, and what it had
-record IsGiven (t : Tasks) (next : ℕ) (parked : Parked) : Type 0 where
-  last : Task
-  had : slice_get t.tasks t.running ≡ Some last
-  holds : last.parked ≡ None
-  first : Task
-  waits : slice_get t.tasks next ≡ Some first
-  gets : first.parked ≡ Some parked
-  apart : next ≢ t.running
-  size : length t.kernel.mote.sram ≡ byte_count
-  sized : IsSized parked
+pub record IsGiven (t : Tasks) (next : ℕ) (parked : Parked) : Type 0 where
+  pub last : Task
+  pub had : slice_get t.tasks t.running ≡ Some last
+  pub holds : last.parked ≡ None
+  pub first : Task
+  pub waits : slice_get t.tasks next ≡ Some first
+  pub gets : first.parked ≡ Some parked
+  pub apart : next ≢ t.running
+  pub size : length t.kernel.mote.sram ≡ byte_count
+  pub sized : IsSized parked
 
 pub here_is : (tasks : List Task) (k : ℕ) (task task' : Task) → slice_get tasks k ≡ Some task → slice_get tasks k ≡ Some task' → task ≡ task'
 here_is tasks k task task' is is' = some_same task task' (sym is ∙ is')
 
 -- the tasks behind the change
-first_of : (t : Tasks) (next : ℕ) (parked : Parked) → (given : IsGiven t next parked) → slice_get (given_by t next (Some parked)).tasks next ≡ Some (record given.first { parked = None })
+pub first_of : (t : Tasks) (next : ℕ) (parked : Parked) → (given : IsGiven t next parked) → slice_get (given_by t next (Some parked)).tasks next ≡ Some (record given.first { parked = None })
 first_of t next parked given =
     let tasks = with_parked t.tasks next None in
     parking_elsewhere tasks t.running next (Some (parked_of t.kernel.mote)) (slice_get tasks t.running) given.apart ∙ parking_here t.tasks next None given.first given.waits
 
-last_of : (t : Tasks) (next : ℕ) (parked : Parked) → (given : IsGiven t next parked) → slice_get (given_by t next (Some parked)).tasks t.running ≡ Some (record given.last { parked = Some (parked_of t.kernel.mote) })
+pub last_of : (t : Tasks) (next : ℕ) (parked : Parked) → (given : IsGiven t next parked) → slice_get (given_by t next (Some parked)).tasks t.running ≡ Some (record given.last { parked = Some (parked_of t.kernel.mote) })
 last_of t next parked given =
     let tasks = with_parked t.tasks next None in
     parking_here tasks t.running (Some (parked_of t.kernel.mote)) given.last (parking_elsewhere t.tasks next t.running None (slice_get t.tasks next) (λ e. given.apart (sym e)) ∙ given.had)
 
-other_of : (t : Tasks) (next k : ℕ) (parked : Parked) → k ≢ next → k ≢ t.running → slice_get (given_by t next (Some parked)).tasks k ≡ slice_get t.tasks k
+pub other_of : (t : Tasks) (next k : ℕ) (parked : Parked) → k ≢ next → k ≢ t.running → slice_get (given_by t next (Some parked)).tasks k ≡ slice_get t.tasks k
 other_of t next k parked apart apart' =
     let tasks = with_parked t.tasks next None in
     parking_elsewhere tasks t.running k (Some (parked_of t.kernel.mote)) (slice_get tasks t.running) apart' ∙ parking_elsewhere t.tasks next k None (slice_get t.tasks next) apart
 
-same_sum : (t : Tasks) (next : ℕ) (parked : Parked) → sum_by arrivals_of (given_by t next (Some parked)).tasks ≡ sum_by arrivals_of t.tasks
-same_sum t next parked =
+pub same_sum_of : (f : Task → ℕ) (t : Tasks) (next : ℕ) (parked : Parked) → IsUnparked f → sum_by f (given_by t next (Some parked)).tasks ≡ sum_by f t.tasks
+same_sum_of f t next parked same =
     let tasks = with_parked t.tasks next None in
-    parking_sum tasks t.running (Some (parked_of t.kernel.mote)) (slice_get tasks t.running) refl ∙ parking_sum t.tasks next None (slice_get t.tasks next) refl
+    parking_sum f tasks t.running (Some (parked_of t.kernel.mote)) (slice_get tasks t.running) same refl ∙ parking_sum f t.tasks next None (slice_get t.tasks next) same refl
+
+same_sum : (t : Tasks) (next : ℕ) (parked : Parked) → sum_by arrivals_of (given_by t next (Some parked)).tasks ≡ sum_by arrivals_of t.tasks
+same_sum t next parked = same_sum_of arrivals_of t next parked (λ task p. refl)
 
 same_length : (t : Tasks) (next : ℕ) (parked : Parked) → length (given_by t next (Some parked)).tasks ≡ length t.tasks
 same_length t next parked =
@@ -290,12 +292,12 @@ kept_given t next parked sound given i task there =
 -- The tasks behind it. ------------------------------------------------------------------------------------
 
 -- what the change of sound tasks gives
-record HasChanged (t : Tasks) (next : ℕ) : Type 0 where
-  parked : Parked
-  given : IsGiven t next parked
-  is : changed_tasks t ≡ given_by t next (Some parked)
+pub record HasChanged (t : Tasks) (next : ℕ) : Type 0 where
+  pub parked : Parked
+  pub given : IsGiven t next parked
+  pub is : changed_tasks t ≡ given_by t next (Some parked)
 
-running_size : (t : Tasks) (task : Task) → AreSound t → slice_get t.tasks t.running ≡ Some task → task.parked ≡ None → length t.kernel.mote.sram ≡ byte_count
+pub running_size : (t : Tasks) (task : Task) → AreSound t → slice_get t.tasks t.running ≡ Some task → task.parked ≡ None → length t.kernel.mote.sram ≡ byte_count
 running_size t task sound there holds =
     let stands = sound.each t.running task there in
     subst (λ o. length (mote_for t.kernel.mote o).sram ≡ byte_count) holds stands.sound.order.paged.sized.sram
@@ -311,7 +313,7 @@ given_at t next first last (Some parked) sound is apart there runs holds =
       is = ap (given_to t) is ∙ ap (λ o. given_by t next (parked_by o)) there ∙ ap (given_by t next) holds;
     }
 
-has_changed : (t : Tasks) (next : ℕ) (last : Task) → AreSound t → slice_get t.tasks t.running ≡ Some last → next_task t ≡ Some next → HasChanged t next
+pub has_changed : (t : Tasks) (next : ℕ) (last : Task) → AreSound t → slice_get t.tasks t.running ≡ Some last → next_task t ≡ Some next → HasChanged t next
 has_changed t next last sound runs is =
     let found = is_next t next sound.one_runs is in
     let first = get_or t.tasks next last in

@@ -32,6 +32,7 @@ use Rattle.tk_tasks.specs.Turns.{Player, Turns, with_player}
 use Rattle.tk_tasks.specs.States.{Tasks, owed_of, stub_of, mote_for, machine_end, arrivals_of, others_of, machine_of, IsTask, AreSound, flat_end_of, player_of, players_from, turns_of}
 use Rattle.tk_tasks.specs.Trying.{target_of, stub_in, kept_task, kept_tasks}
 use Rattle.tk_tasks.proofs.Parkings.{both_size, both_in_low, both_in_high, both_between}
+use Rattle.tk_tasks.proofs.Sums.{sum_set}
 use Rattle.tk_tasks.proofs.Changing.{here_is, elsewhere_by, length_by, players_same}
 
 -- what the running task's machine came to, where it leaves the task with this end
@@ -48,17 +49,10 @@ pub record IsCome (t : Tasks) (task : Task) (m : Machine) (end : Option TaskEnd)
 
 -- ---- lists
 
-pub set_same : (tasks : List Task) (i : ℕ) (task x : Task) → slice_get tasks i ≡ Some task → slice_get (slice_set tasks i x) i ≡ Some x
+pub set_same : {T : Type 0} → (tasks : List T) (i : ℕ) (task x : T) → slice_get tasks i ≡ Some task → slice_get (slice_set tasks i x) i ≡ Some x
 set_same [] i task x is = absurd (cc)
 set_same (y ∷ tasks) zero task x is = refl
 set_same (y ∷ tasks) (suc i) task x is = set_same tasks i task x is
-
-sum_set : (tasks : List Task) (i : ℕ) (task x : Task) → slice_get tasks i ≡ Some task → sum_by arrivals_of (slice_set tasks i x) + arrivals_of task ≡ sum_by arrivals_of tasks + arrivals_of x
-sum_set [] i task x is = absurd (cc)
-sum_set (y ∷ tasks) zero task x is =
-    let its : arrivals_of y ≡ arrivals_of task = ap arrivals_of (here_is (y ∷ tasks) 0 y task refl is) in
-    omega (arith, its, sum_by-cons arrivals_of x tasks, sum_by-cons arrivals_of y tasks)
-sum_set (y ∷ tasks) (suc i) task x is = omega (arith, sum_set tasks i task x is, sum_by-cons arrivals_of y (slice_set tasks i x), sum_by-cons arrivals_of y tasks)
 
 pub sum_has : (tasks : List Task) (i : ℕ) (task : Task) → slice_get tasks i ≡ Some task → arrivals_of task ≤ sum_by arrivals_of tasks
 sum_has [] i task is = absurd (cc)
@@ -95,7 +89,7 @@ owed_back (Some owed) = refl
 -- the sum of arrivals but its own is what it was
 others_kept : (t : Tasks) (task : Task) (m : Machine) (end : Option TaskEnd) → slice_get t.tasks t.running ≡ Some task → others_of (kept_tasks t task m end) (kept_task task m end) ≡ others_of t task
 others_kept t task m end here =
-    omega (arith, sum_set t.tasks t.running task (kept_task task m end) here, sum_has t.tasks t.running task here)
+    omega (arith, sum_set arrivals_of t.tasks t.running task (kept_task task m end) here, sum_has t.tasks t.running task here)
 
 -- its machine is just that one
 pub machine_kept : (t : Tasks) (task : Task) (m : Machine) (end : Option TaskEnd) → slice_get t.tasks t.running ≡ Some task → task.parked ≡ None → t.kernel.part ≡ quarter_part t.running → IsCome t task m end
@@ -188,7 +182,7 @@ few_others t task m end before come =
     let few = before.sound.few in
     let mine = most_at (owed_of (target_of m.owed) None) m.steps in
     let steps_m = come.sound.steps in
-    let set = sum_set t.tasks t.running task (kept_task task m end) before.here in
+    let set = sum_set arrivals_of t.tasks t.running task (kept_task task m end) before.here in
     let bound : (10 ^ 12 + 1) * length t.tasks ≤ (10 ^ 12 + 1) * 4 = mul_most (10 ^ 12 + 1) (length t.tasks) 4 few in
     omega arith
 
@@ -199,7 +193,7 @@ waited t task m end i u q before come apart there sized =
     let y = machine_of t i (parked_as u q) in
     let there' : slice_get new.tasks i ≡ Some (parked_as u q) = elsewhere_by t.tasks t.running i (kept_task task m end) apart ∙ there in
     let has = sum_has new.tasks i (parked_as u q) there' in
-    let set = sum_set t.tasks t.running task (kept_task task m end) before.here in
+    let set = sum_set arrivals_of t.tasks t.running task (kept_task task m end) before.here in
     let own = sum_has t.tasks t.running task before.here in
     let mine = most_back m.owed m.steps in
     let others = come.others in

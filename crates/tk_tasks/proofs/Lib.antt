@@ -2,7 +2,7 @@ mod OwnLines
 mod OwnTexts
 mod FirstLines
 pub mod FirstFaults
-mod Parkings
+pub mod Parkings
 mod Booting
 mod WorkedTurns
 pub mod Isolation
@@ -14,7 +14,8 @@ mod Changing
 mod Starting
 mod Keeping
 mod Playing
-mod Telling
+pub mod Telling
 mod Sums
 mod Runs
+pub mod Stints
 pub mod OwnPrograms

@@ -1,12 +1,12 @@
 -- Plays of the tasks on the mote, one after another, are the tasks in turn.
-use Rattle.std.proofs.Common.{◌≡◌, ℕ, zero, suc, ◌+◌, ◌-◌, ◌<◌, ◌≤◌, Bool, true, false, cond, List, [], ◌∷◌, ◌++◌, length, arith, ap, ◌∙◌, sym, refl, subst, Option, Some, None}
+use Rattle.std.proofs.Common.{◌≡◌, ℕ, zero, suc, ◌+◌, ◌-◌, ◌<◌, ◌≤◌, Bool, true, false, cond, List, [], ◌∷◌, ◌++◌, length, arith, ap, ap₂, ◌∙◌, sym, refl, subst, Option, Some, None}
 use Rattle.std.specs.Prelude.{slice_get, is_some, sum_by}
 use Rattle.std.proofs.lemmas.List.{append_assoc, append-nil}
 use Rattle.mem_guard.specs.FlatMachine.{End, Run}
 use Rattle.tk_tasks.specs.declared.tasks.Task.{Task}
 use Rattle.tk_tasks.specs.Turns.{Player, Turns, Told, After, once, continued, go_on, tries, turns, alone, shown_by, own_told, Follows, Ended, Going, Over, HaveEnded}
 use Rattle.tk_tasks.specs.States.{Tasks, player_of, players_from, turns_of, flat_end_of}
-use Rattle.tk_tasks.specs.Plays.{Play, IsPlay, TaskPath, told_of, EndsAsAlone, HaveRun}
+use Rattle.tk_tasks.specs.Plays.{Play, IsPlay, TaskPath, told_of, AreInTurn, EndsAsAlone, HaveRun}
 use Rattle.tk_tasks.proofs.Isolation.{once_follows, apart_from_others}
 use Rattle.tk_tasks.proofs.Ending.{Ready, ready_once, still, still_set, still_sum}
 
@@ -36,18 +36,33 @@ go_by t p rest end is none = ap (λ e. cond (is_some e) (record { told = []; tur
 pub go_now : (t : Turns) (p : Player) (rest : Turns → After) → slice_get t.players t.running ≡ Some p → p.end ≡ None → go_on t (slice_get t.players t.running) rest ≡ continued (once t p) (rest (once t p).turns)
 go_now t p rest there going = ap (λ found. go_on t found rest) there ∙ go_by t p rest None going refl
 
-after_told : (told more : List Told) (t u : Turns) (a : After) → told ≡ a.told → t ≡ a.turns → (rest : Turns → After) → rest t ≡ record { told = more; turns = u }
-    → continued a (rest a.turns) ≡ record { told = told ++ more; turns = u }
-after_told told more t u a is stands rest follows =
-    ap (λ z. continued a (rest z)) (sym stands) ∙ ap (continued a) follows ∙ ap (λ l. record { told = l ++ more; turns = u }) (sym is)
+after_told : (told : List Told) (t : Turns) (a follows : After) → told ≡ a.told → t ≡ a.turns → (rest : Turns → After) → rest t ≡ follows → continued a (rest a.turns) ≡ continued (record { told = told; turns = t }) follows
+after_told told t a follows is stands rest same =
+    ap (λ z. continued a (rest z)) (sym stands) ∙ ap (continued a) same ∙ ap (λ l. record { told = l ++ follows.told; turns = follows.turns }) (sym is)
+
+told_before : (front told : List Told) (t u : Turns) (a : After) → continued (record { told = front; turns = t }) (continued (record { told = told; turns = u }) a) ≡ continued (record { told = front ++ told; turns = u }) a
+told_before front told t u a = ap (λ l. record { told = l; turns = a.turns }) (sym (append_assoc front told a.told))
+
+-- plays, and any number of tries behind them
+path_more : (n : ℕ) (t : Tasks) (plays : List Play) (new : Tasks) (m : ℕ) → TaskPath n t plays new → tries (length plays + m) (turns_of n t) ≡ continued (record { told = told_of plays; turns = turns_of n new }) (tries m (turns_of n new))
+unfolding tries
+path_more n t [] new m is =
+    let none : 0 + m ≡ m = omega arith in
+    ap₂ (λ j z. tries j (turns_of n z)) none is
+path_more n t (play ∷ plays) new m (mid, one, rest) =
+    let p = player_of n t t.running one.task in
+    let later = tries m (turns_of n new) in
+    let one_more : suc (length plays) + m ≡ suc (length plays + m) = omega arith in
+    ap (λ j. tries j (turns_of n t)) one_more
+    ∙ go_now (turns_of n t) p (tries (length plays + m)) (player_here n t t.running one.task one.here) (ap flat_end_of one.going)
+    ∙ after_told play.told (turns_of n mid) (once (turns_of n t) p) (continued (record { told = told_of plays; turns = turns_of n new }) later) one.told one.in_turn (tries (length plays + m)) (path_more n mid plays new m rest)
+    ∙ told_before play.told (told_of plays) (turns_of n mid) (turns_of n new) later
 
 pub path_tries : (n : ℕ) (t : Tasks) (plays : List Play) (new : Tasks) → TaskPath n t plays new → tries (length plays) (turns_of n t) ≡ record { told = told_of plays; turns = turns_of n new }
 unfolding tries
-path_tries n t [] new is = ap (λ z. record { told = []; turns = turns_of n z }) is
-path_tries n t (play ∷ plays) new (mid, one, rest) =
-    let p = player_of n t t.running one.task in
-    go_now (turns_of n t) p (tries (length plays)) (player_here n t t.running one.task one.here) (ap flat_end_of one.going)
-    ∙ after_told play.told (told_of plays) (turns_of n mid) (turns_of n new) (once (turns_of n t) p) one.told one.in_turn (tries (length plays)) (path_tries n mid plays new rest)
+path_tries n t plays new path =
+    let none : length plays ≡ length plays + 0 = omega arith in
+    ap (λ j. tries j (turns_of n t)) none ∙ path_more n t plays new 0 path ∙ ap (λ l. record { told = l; turns = turns_of n new }) (append-nil (told_of plays))
 
 -- each play is one of those that the tasks may take
 pub path_still : (n : ℕ) (t : Tasks) (plays : List Play) (new : Tasks) → TaskPath n t plays new → still (turns_of n new).players + length plays ≤ still (turns_of n t).players
@@ -70,14 +85,24 @@ path_ready n t (play ∷ plays) new (mid, one, rest) ready =
     let next = ready_once t0 p (once t0 p) (player_here n t t.running one.task one.here) (once_follows t0 p (ap flat_end_of one.going)) in
     path_ready n mid plays new rest (subst Ready (sym one.in_turn) next)
 
--- plays behind others
-pub path_on : (n : ℕ) (t mid new : Tasks) (plays more : List Play) → TaskPath n t plays mid → TaskPath n mid more new → TaskPath n t (plays ++ more) new
-path_on n t mid new [] more is rest = subst (λ z. TaskPath n z more new) (sym is) rest
-path_on n t mid new (play ∷ plays) more (next, one, later) rest = (next, one, path_on n next mid new plays more later rest)
-
+-- what plays behind others tell
 pub told_on : (plays more : List Play) → told_of (plays ++ more) ≡ told_of plays ++ told_of more
 told_on [] more = refl
 told_on (play ∷ plays) more = ap (λ l. play.told ++ l) (told_on plays more) ∙ sym (append_assoc play.told (told_of plays) (told_of more))
+
+-- so plays are the first of the tasks' tries
+pub path_in_turn : (n : ℕ) (t : Tasks) (plays : List Play) (new : Tasks) → TaskPath n t plays new → AreInTurn (turns_of n t) plays (turns_of n new)
+path_in_turn n t plays new path =
+    let t0 = turns_of n t in
+    let k = length plays in
+    let most = sum_by (λ (p : Player). p.left + 1) t0.players in
+    let few : k ≤ most = omega (arith, path_still n t plays new path, still_sum t0.players) in
+    let split : most ≡ k + (most - k) = omega arith in
+    record {
+      tried = path_tries n t plays new path;
+      rest = (tries (most - k) (turns_of n new)).told;
+      begins = ap (λ j. (tries j t0).told) split ∙ ap (λ (a : After). a.told) (path_more n t plays new (most - k) path);
+    }
 
 -- ---- where all tasks have ended
 

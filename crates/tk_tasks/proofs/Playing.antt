@@ -17,7 +17,7 @@ use Rattle.step_laws.specs.Moves.{Move, lines_of, line_before}
 use Rattle.step_laws.specs.Numbers.{Numbers}
 use Rattle.step_laws.specs.States.{Awaited, State}
 use Rattle.step_laws.specs.StepLaws.{Reaches}
-use Rattle.step_laws.proofs.NumberLaws.{began_is, others_is}
+use Rattle.step_laws.proofs.NumberLaws.{unmoved}
 use Rattle.program_steps.specs.Machines.{Machine, awaited, awaits, state_of, numbers_of, flat_of}
 use Rattle.program_steps.specs.Ready.{count_in, IsSound, IsGoing, IsQuiet, HasBounds, IsEnded}
 use Rattle.program_steps.specs.Stepping.{Goes, Stays, StepWay, AreMadeAt, ends_in_arrive, links_in}
@@ -38,7 +38,8 @@ use Rattle.tk_tasks.proofs.Crossings.{undue_unchecked}
 use Rattle.tk_tasks.proofs.Trials.{unrested}
 use Rattle.tk_tasks.proofs.Changing.{here_is, changed_turns}
 use Rattle.tk_tasks.proofs.Keeping.{IsCome, IsBefore, set_same, machine_kept, sound_kept, player_by, turns_kept}
-use Rattle.tk_tasks.proofs.Paths.{path_on, told_on}
+use Rattle.step_laws.proofs.Ways.{walks_on}
+use Rattle.tk_tasks.proofs.Paths.{told_on}
 
 -- ---- where a task rests
 
@@ -135,6 +136,7 @@ play_on n u task m line end changes can =
     let same = machine_kept u task m end before.here alone before.sound.part can.come in
     let lines = lines_one u.running line end m.steps m.crossings in
     record {
+      sound = before.sound;
       task = task;
       here = before.here;
       going = can.going;
@@ -147,6 +149,7 @@ play_on n u task m line end changes can =
         tasks = refl;
         running = refl;
         switches = refl;
+        sound = sound_kept u task m end before can.come;
       };
       behind = goes_on_by changes v;
       in_turn = turned_on n u task m end changes before can.come ∙ sym (ap (λ (a : After). a.turns) can.once_is);
@@ -251,8 +254,8 @@ left_by u task m line went =
     let x = machine_of u u.running task in
     record {
       whole = went.broken;
-      began = ap (λ (z : Numbers). z.began) went.goes.numbers ∙ began_is went.moves (numbers_of x);
-      others = ap (λ (z : Numbers). z.others) went.goes.numbers ∙ others_is went.moves (numbers_of x);
+      began = ap (λ (z : Numbers). z.began) went.goes.numbers ∙ (unmoved went.moves (numbers_of x)).0;
+      others = ap (λ (z : Numbers). z.others) went.goes.numbers ∙ (unmoved went.moves (numbers_of x)).1;
     }
 
 can_go : (n : ℕ) (u : Tasks) (task : Task) (m : Machine) (line : Option Line) → IsBefore u task → task.end ≡ None → n ≤ 10 ^ 12 → rest_at (machine_of u u.running task).kernel.part task.at (n - task.steps) ≡ None → Went (machine_of u u.running task) m line
@@ -411,7 +414,7 @@ stood_on n t task k y m most stood rest went ready unchecked =
       going = refl;
       machine = machine_kept u its m None stood.before.here ((stood.before.sound.each u.running its stood.before.here).running refl) stood.before.sound.part can'.come;
       plays = stood.plays ++ play ∷ [];
-      path = path_on n t u v stood.plays (play ∷ []) stood.path (v, one, refl);
+      path = walks_on (IsPlay n) t u v stood.plays (play ∷ []) stood.path (v, one, refl);
       told = told_behind stood.plays play stood.told;
       running = stood.running;
       quantum = can'.come.stays.quantum ∙ stood.quantum;
@@ -487,7 +490,7 @@ nothing_less (p ∷ plays) play none = cc
 
 few_plain : (m : Machine) → IsSound m → m.natural ≤ 40 * (10 ^ 12 + 1)
 few_plain m sound =
-    let natural = sound.bounded.natural in
+    let natural = sound.bounded.moves.natural in
     let steps = sound.steps in
     omega arith
 
@@ -508,7 +511,7 @@ played_by_last n t task k y m tried stood can free =
       free = λ changes. subst IsFree same (free_kept u its m tried.end stood.before.here (free changes));
       played = subst (λ z. HasPlayed n t (finished tried.changes z) (tried_told t.running tried.line tried.end m.steps m.crossings)) same (record {
         plays = stood.plays ++ play ∷ [];
-        path = path_on n t u new stood.plays (play ∷ []) stood.path (new, one, refl);
+        path = walks_on (IsPlay n) t u new stood.plays (play ∷ []) stood.path (new, one, refl);
         told = told_behind stood.plays play stood.told ∙ ap (λ r. tried_told r tried.line tried.end m.steps m.crossings) stood.running;
         some = nothing_less stood.plays play;
       });

@@ -28,13 +28,14 @@ use Rattle.tk_tasks.specs.Images.{quarter_part}
 use Rattle.tk_tasks.specs.Turns.{Player, Turns, Told, next_in, ends_of, changed, changed_to, with_player, once, After, HaveEnded}
 use Rattle.tk_tasks.specs.States.{Tasks, arrivals_of, owed_of, stub_of, mote_for, machine_end, others_of, machine_of, IsTask, AreSound, flat_end_of, player_of, players_from, turns_of}
 use Rattle.tk_tasks.specs.Changes.{parked_by, given_by, given_to, next_task, changed_tasks}
-use Rattle.tk_tasks.specs.Plays.{Play, TaskPath, told_of, told_text, HaveRun, counted, is_failed, IfDone, HasRunTasks}
+use Rattle.tk_tasks.specs.Plays.{Play, IsPlay, TaskPath, told_of, told_text, HaveRun, counted, is_failed, IfDone, HasRunTasks}
 use Rattle.tk_tasks.specs.Trying.{stub_in, kept_task, kept_tasks, HasPlayed}
 use Rattle.tk_tasks.specs.Running.{IsUnderWay, IsCut, HaveGathered, sum_to}
 use Rattle.tk_tasks.proofs.Sums.{to_all}
 use Rattle.tk_tasks.proofs.Isolation.{IsOnce, once_follows, weight, weight_going, weight_ended}
 use Rattle.tk_tasks.proofs.Ending.{Ready, still}
-use Rattle.tk_tasks.proofs.Paths.{player_here, path_still, path_ready, path_on, told_on, path_runs}
+use Rattle.step_laws.proofs.Ways.{walks_on}
+use Rattle.tk_tasks.proofs.Paths.{player_here, path_still, path_in_turn, path_ready, told_on, path_runs}
 use Rattle.tk_tasks.proofs.Changing.{running_task}
 use Rattle.tk_tasks.proofs.Keeping.{IsBefore, most_at}
 use Rattle.tk_tasks.proofs.Telling.{told_text_on}
@@ -58,8 +59,8 @@ progress_is t task x owed others pages sound here going same same_pages owes all
     let stands = sound.each t.running task here in
     let alone = stands.running refl in
     let bounded = stands.sound.bounded in
-    let since = bounded.since in
-    let longest = bounded.longest in
+    let since = bounded.moves.since in
+    let longest = bounded.moves.longest in
     let natural : task.natural - task.since + task.since ≡ task.natural = omega arith in
     let make : Kernel → Task → Option Owed → Option End → ℕ → ℕ → ℕ → ℕ → Machine = λ k y o e n g p h. record { kernel = k; at = y.at; owed = o; end = e; due = y.due; torn = None; broken = false; steps = y.steps; crossings = y.crossings; natural = n; entries = y.entries; pages = p; since = y.since; longest = g; began = 0; others = h } in
     ap (λ y. make t.kernel y owed None (y.natural - y.since + y.since) (max y.longest y.since) pages others) same
@@ -175,7 +176,7 @@ way_on n old now new gathered mid left before after later last told quantum way 
     let more = subst (λ k. IsSent (mid ++ told_text k told) left later last) same sent in
     record {
       plays = way.plays ++ played.plays;
-      path = path_on n old now new way.plays played.plays way.path played.path;
+      path = walks_on (IsPlay n) old now new way.plays played.plays way.path played.path;
       sent = subst (λ z. IsSent z left before last) (sym (text_on q way.plays played.plays told played.told)) (sent_on text mid (told_text q told) left before later last (sent_in_turn text gathered mid before after later way.sent turn) more);
     }
 
@@ -187,7 +188,7 @@ way_cut n old now new gathered mid before after later last told quantum way turn
     let more = subst (λ k. CutShort later last (mid ++ told_text k told)) same cut in
     record {
       plays = way.plays ++ played.plays;
-      path = path_on n old now new way.plays played.plays way.path played.path;
+      path = walks_on (IsPlay n) old now new way.plays played.plays way.path played.path;
       cut = subst (CutShort before last) (sym (text_on q way.plays played.plays told played.told)) (cut_on text mid (told_text q told) before later last (sent_in_turn text gathered mid before after later way.sent turn) more);
     }
 
@@ -281,6 +282,7 @@ has_run (Ok done) n old last new before after (way, ended) counts = record {
   last = last;
   path = way.path;
   counts = counts;
+  in_turn = path_in_turn n old way.plays last way.path;
   put = all_on (told_text old.kernel.quantum (told_of way.plays)) [] before after after way.sent (appends-nothing after);
   run = path_runs n old way.plays last way.path ended;
 }
@@ -289,6 +291,7 @@ has_run (Err e) n old last new before after cut counts = record {
   last = last;
   path = cut.path;
   counts = counts;
+  in_turn = path_in_turn n old cut.plays last cut.path;
   put = cut.cut;
   run = tt;
 }
@@ -320,14 +323,14 @@ pub natural_most : (t : Tasks) → AreSound t → (i : ℕ) (task : Task) → sl
 natural_most t sound i task there =
     let stands = (sound.each i task there).sound in
     let steps = stands.steps in
-    let natural = stands.bounded.natural in
+    let natural = stands.bounded.moves.natural in
     omega arith
 
 pub entries_most : (t : Tasks) → AreSound t → (i : ℕ) (task : Task) → slice_get t.tasks i ≡ Some task → task.entries ≤ 10 ^ 14
 entries_most t sound i task there =
     let stands = (sound.each i task there).sound in
     let steps = stands.steps in
-    let entries = stands.bounded.entries in
+    let entries = stands.bounded.moves.entries in
     omega arith
 
 -- ---- sums over tasks

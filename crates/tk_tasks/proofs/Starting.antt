@@ -191,7 +191,7 @@ player_by words script quantum slots i others n few =
 
 -- The tasks at boot. --------------------------------------------------------------------------------------
 
-size_at_boot : (quantum : ℕ) → length (boot_bytes quantum) ≡ byte_count
+pub size_at_boot : (quantum : ℕ) → length (boot_bytes quantum) ≡ byte_count
 size_at_boot quantum = length-with_byte at_boot count_cell quantum ∙ length-at_boot
 
 -- the mote that a waiting task would have is that of boot with its own script

@@ -1,6 +1,6 @@
--- Sums over the first of some tasks.
+-- Sums over tasks, and over the first of some.
 use Rattle.std.proofs.Common.{◌≡◌, ℕ, zero, suc, ◌+◌, ◌*◌, ◌≤◌, List, [], ◌∷◌, length, refl, sym, ap, ◌∙◌, arith}
-use Rattle.std.specs.Prelude.{slice_get, sum_by, Some}
+use Rattle.std.specs.Prelude.{slice_get, slice_set, sum_by, Some}
 use Rattle.std.proofs.lemmas.List.Sums.{sum_by-cons}
 use Rattle.tk_tasks.specs.Running.{sum_to}
 
@@ -28,3 +28,12 @@ pub to_most : {T : Type 0} → (f : T → ℕ) (k : ℕ) (xs : List T) (most : �
 to_most f zero xs most few = omega arith
 to_most f (suc k) [] most few = omega arith
 to_most f (suc k) (x ∷ xs) most few = omega (arith, few 0 x refl, to_most f k xs most (λ i y is. few (suc i) y is))
+
+-- with another in the place of one
+pub sum_set : {T : Type 0} → (f : T → ℕ) (xs : List T) (i : ℕ) (x y : T) → slice_get xs i ≡ Some x → sum_by f (slice_set xs i y) + f x ≡ sum_by f xs + f y
+sum_set f [] i x y is = absurd (cc)
+sum_set f (z ∷ xs) zero x y is =
+    let its : z ≡ x = cc in
+    let same : f z ≡ f x = ap f its in
+    omega (arith, same, sum_by-cons f y xs, sum_by-cons f z xs)
+sum_set f (z ∷ xs) (suc i) x y is = omega (arith, sum_set f xs i x y is, sum_by-cons f z (slice_set xs i y), sum_by-cons f z xs)

@@ -37,7 +37,7 @@ end_line_is quantum task end steps crossings =
 pub told_text_on : (quantum : ℕ) (a b : List Told) → told_text quantum (a ++ b) ≡ told_text quantum a ++ told_text quantum b
 told_text_on quantum a b = flat_map-append (λ (one : Told). named one.task ++ shown_text quantum one.shown) a b
 
-cut_less : (old new : Option (List ℕ)) (a b : List ℕ) → CutShort old new a → CutShort old new (a ++ b)
+pub cut_less : (old new : Option (List ℕ)) (a b : List ℕ) → CutShort old new a → CutShort old new (a ++ b)
 cut_less old new a b cut =
     let shorter : cut.0 ≤ length a = omega (arith, cut.1) in
     (cut.0, omega (arith, length-append a b, cut.1), subst (λ z. Appends old new z) (sym (take-append-le cut.0 a b shorter)) cut.2)

@@ -1,6 +1,7 @@
 -- What a task has of the mote (docs/TASKS.md, "What is exchanged"): it is parked while another task runs.
-use Rattle.std.specs.Prelude.{◌≡◌, ℕ, ◌+◌, ◌<◌, ◌≤◌, length}
-use Rattle.sram_layout.specs.Bytes.{byte_at, part_at, with_part}
+use Rattle.std.specs.Prelude.{◌≡◌, ℕ, ◌-◌, length}
+use Rattle.sram_layout.specs.Bytes.{part_at, with_part}
+use Rattle.sram_layout.specs.Regions.{Region, template_cells, frame_cells, swap_map, stack_window, through, between, KeepsRegion}
 use Rattle.heap_frames.specs.Paged.{IsPaged}
 use Rattle.mote_core.specs.declared.mote.Mote.{Mote}
 use Rattle.kernel_entry.specs.declared.kernel.Kernel.{Kernel}
@@ -8,18 +9,24 @@ use Rattle.kernel_entry.specs.Seen.{state_at}
 use Rattle.tk_tasks.specs.declared.parked.Parked.{Parked}
 
 -- the kernel's cells and frame table: COUNT, what rewritten code saves, the frames, and what is to come of them
+abbrev pub low_region : Region
+low_region = through template_cells frame_cells
+
 abbrev pub low_first : ℕ
-low_first = 0x0100
+low_first = low_region.first
 
 abbrev pub low_count : ℕ
-low_count = 66
+low_count = low_region.behind - low_first
 
 -- the swap map, the frames and the stack window
+abbrev pub high_region : Region
+high_region = through swap_map stack_window
+
 abbrev pub high_first : ℕ
-high_first = 0x0400
+high_first = high_region.first
 
 abbrev pub high_count : ℕ
-high_count = 3328
+high_count = high_region.behind - high_first
 
 -- its bytes of SRAM are as many
 abbrev pub IsSized : Parked → Type 0
@@ -48,7 +55,7 @@ taken_up m parked = record m {
 pub record Shares (old new : Mote) : Type 0 where
   pub flash : new.flash ≡ old.flash
   pub size : length new.sram ≡ length old.sram
-  pub tables : (b : ℕ) → low_first + low_count ≤ b → b < high_first → byte_at new.sram b ≡ byte_at old.sram b
+  pub tables : KeepsRegion (between low_region high_region) old.sram new.sram
 
 -- The task that was parked of the mote m stands in n: its core, each byte of SRAM that is its own, its devices and its swap,
 -- so that its program has the state that it had, and its heap is paged as it was.
@@ -56,7 +63,7 @@ pub record IsBack (m n : Mote) : Type 0 where
   pub core : n.cpu ≡ m.cpu
   pub devices : n.devices ≡ m.devices
   pub swap : n.swap ≡ m.swap
-  pub low : (b : ℕ) → low_first ≤ b → b < low_first + low_count → byte_at n.sram b ≡ byte_at m.sram b
-  pub high : (b : ℕ) → high_first ≤ b → b < high_first + high_count → byte_at n.sram b ≡ byte_at m.sram b
+  pub low : KeepsRegion low_region m.sram n.sram
+  pub high : KeepsRegion high_region m.sram n.sram
   pub program : (k : Kernel) → (pc steps crossings : ℕ) → state_at (record k { mote = n }) pc steps crossings ≡ state_at (record k { mote = m }) pc steps crossings
   pub paged : IsPaged m.sram m.swap → IsPaged n.sram n.swap

@@ -1,17 +1,18 @@
 -- A run of the tasks on the mote, play by play, beside the tasks in turn (docs/TASKS.md, "A run on the mote").
-use Rattle.std.specs.Prelude.{◌≡◌, ℕ, ◌+◌, ◌/◌, Bool, true, false, List, [], ◌∷◌, ◌++◌, flat_map, slice_get, slice_set, sum_by, is_some, Option, Some, None, Result, Ok, Err}
+use Rattle.std.specs.Prelude.{◌≡◌, ℕ, ◌+◌, ◌/◌, Bool, true, false, List, [], ◌∷◌, ◌++◌, length, flat_map, slice_get, slice_set, sum_by, is_some, Option, Some, None, Result, Ok, Err}
 use Rattle.mote_devices.specs.declared.line.Line.{Line}
 use Rattle.mem_guard.specs.FlatMachine.{Run}
 use Rattle.kernel_entry.specs.Texts.{line_text, stop_text}
 use Rattle.tk_io.specs.declared.failure.Failed.{Failed}
 use Rattle.tk_io.specs.Streams.{Puts}
 use Rattle.step_laws.specs.Moves.{Move}
+use Rattle.step_laws.specs.Walks.{Walks}
 use Rattle.program_steps.specs.Machines.{flat_of}
 use Rattle.program_steps.specs.Stepping.{Goes, AreMadeAt, ends_in_arrive}
 use Rattle.tk_tasks.specs.declared.tasks.Task.{Task}
 use Rattle.tk_tasks.specs.Scripts.{named}
-use Rattle.tk_tasks.specs.Turns.{Player, Turns, Shown, Wrote, Stops, Told, After, once, turns, alone, shown_by, own_told, HaveEnded}
-use Rattle.tk_tasks.specs.States.{Tasks, machine_of, player_of, turns_of}
+use Rattle.tk_tasks.specs.Turns.{Player, Turns, Shown, Wrote, Stops, Told, After, once, tries, turns, alone, shown_by, own_told, HaveEnded}
+use Rattle.tk_tasks.specs.States.{Tasks, AreSound, machine_of, player_of, turns_of}
 use Rattle.tk_tasks.specs.Changes.{changed_tasks}
 
 -- one try of the running task: its moves, what is told of it, and whether the mote may be given to another behind it
@@ -29,7 +30,7 @@ abbrev pub lines_told : List Told → List Line
 lines_told told = flat_map (λ one. line_shown one.shown) told
 
 -- The running task's machine goes by these moves, of which the last is no arrival, and which make a page at most where it
--- stands; a move counts for this task alone. The other tasks have what they had.
+-- stands; a move counts for this task alone. The other tasks have what they had, and all stay sound.
 pub record IsTry (t : Tasks) (task : Task) (play : Play) (new : Tasks) (next : Task) : Type 0 where
   pub goes : Goes (machine_of t t.running task) (machine_of new t.running next) play.moves (lines_told play.told)
   pub last : ends_in_arrive play.moves ≡ false
@@ -37,15 +38,17 @@ pub record IsTry (t : Tasks) (task : Task) (play : Play) (new : Tasks) (next : T
   pub tasks : new.tasks ≡ slice_set t.tasks t.running next
   pub running : new.running ≡ t.running
   pub switches : new.switches ≡ t.switches
+  pub sound : AreSound new
 
 -- behind it the mote may be given to another task, by no move of a task
 abbrev pub GoesOn : Bool → Tasks → Tasks → Type 0
 GoesOn true mid new = new ≡ changed_tasks mid
 GoesOn false mid new = new ≡ mid
 
--- One play of a task that has not ended, where each task may do n steps: the tasks stand behind it, and of them is told,
--- what one try in turn comes to.
+-- One play of a task that has not ended, of sound tasks, where each may do n steps: the tasks stand behind it, and of them
+-- is told, what one try in turn comes to.
 pub record IsPlay (n : ℕ) (t : Tasks) (play : Play) (new : Tasks) : Type 0 where
+  pub sound : AreSound t
   pub task : Task
   pub here : slice_get t.tasks t.running ≡ Some task
   pub going : task.end ≡ None
@@ -58,13 +61,19 @@ pub record IsPlay (n : ℕ) (t : Tasks) (play : Play) (new : Tasks) : Type 0 whe
 
 -- plays one after another
 abbrev pub TaskPath : ℕ → Tasks → List Play → Tasks → Type 0
-TaskPath n t [] new = t ≡ new
-TaskPath n t (play ∷ plays) new = (mid : Tasks) × IsPlay n t play mid × TaskPath n mid plays new
+TaskPath n t plays new = Walks (IsPlay n) t plays new
 
 -- what is told of all of them
 abbrev pub told_of : List Play → List Told
 told_of [] = []
 told_of (play ∷ plays) = play.told ++ told_of plays
+
+-- The plays are the first tries of tasks in turn: these stand where as many tries lead, and what is told of the plays
+-- begins what the tasks tell until each has ended.
+pub record AreInTurn (first : Turns) (plays : List Play) (reached : Turns) : Type 0 where
+  pub tried : tries (length plays) first ≡ record { told = told_of plays; turns = reached }
+  pub rest : List Told
+  pub begins : (turns first).told ≡ told_of plays ++ rest
 
 -- what is told, as it is printed: each line names its task
 abbrev pub shown_text : (quantum : ℕ) → Shown → List ℕ
@@ -99,12 +108,13 @@ abbrev pub IfDone : Result (Unit {0}) Failed → Type 0 → Type 0
 IfDone (Ok done) holds = holds
 IfDone (Err e) holds = Unit {0}
 
--- What a run of the tasks leaves, where each may do n steps. What the plays told was put, or, where the sink failed, a
--- shorter part of it from its front.
+-- What a run of the tasks leaves, where each may do n steps. The plays are those of the tasks in turn. What they told was
+-- put, or, where the sink failed, a shorter part of it from its front.
 pub record HasRunTasks (n : ℕ) (old new : Tasks) (before after : Option (List ℕ)) (result : Result (Unit {0}) Failed) : Type 0 where
   pub plays : List Play
   pub last : Tasks
   pub path : TaskPath n old plays last
   pub counts : new ≡ counted last (is_failed result)
+  pub in_turn : AreInTurn (turns_of n old) plays (turns_of n last)
   pub put : Puts before after result (told_text old.kernel.quantum (told_of plays))
   pub run : IfDone result (HaveRun n old (told_of plays) last)

@@ -59,7 +59,7 @@ over_ended request flash line before first mid now told end m status how put lat
       within = run.within;
       end = subst (λ e. KeepsEnd e m) run.same (keeps_end (flat_end end) end m refl run.kept);
       unrefused = run.unrefused;
-      follows = record { state = run.state; program = run.program; quantum = run.quantum_is; unbroken = run.unbroken; ready = run.ready; path = run.path; made = run.made; longest = run.ready.sound.bounded.most; began = run.began; pages = few_pages m (second_start request flash).pages run.ready.sound run.began run.others };
+      follows = record { state = run.state; program = run.program; quantum = run.quantum_is; unbroken = run.unbroken; ready = run.ready; path = run.path; made = run.made; longest = run.ready.sound.bounded.moves.most; began = run.began; pages = few_pages m (second_start request flash).pages run.ready.sound run.began run.others };
     })
 
 -- its last two lines were said, or not

@@ -94,7 +94,7 @@ ended request before mid now told end m status how run later said =
       end = subst (λ e. KeepsEnd e m) run.same (keeps_end (flat_end end) end m refl run.kept);
       unlisted = run.unlisted;
       unrefused = run.unrefused;
-      follows = record { state = run.state; program = run.program; quantum = run.quantum_is; unbroken = run.unbroken; ready = run.ready; path = run.path; made = run.made; longest = run.ready.sound.bounded.most; pages = few_of_run m run.ready.sound run.began run.others };
+      follows = record { state = run.state; program = run.program; quantum = run.quantum_is; unbroken = run.unbroken; ready = run.ready; path = run.path; made = run.made; longest = run.ready.sound.bounded.moves.most; pages = few_of_run m run.ready.sound run.began run.others };
     })
 
 -- a run that flash ended
@@ -117,7 +117,7 @@ failed request before mid now told op m run later said =
       listed = run.listed;
       first = run.first;
       refused = run.refused;
-      follows = record { state = run.state; program = run.program; quantum = run.quantum_is; unbroken = run.unbroken; ready = run.ready; path = run.path; made = run.made; longest = run.ready.sound.bounded.most; pages = few_of_run m run.ready.sound run.began run.others };
+      follows = record { state = run.state; program = run.program; quantum = run.quantum_is; unbroken = run.unbroken; ready = run.ready; path = run.path; made = run.made; longest = run.ready.sound.bounded.moves.most; pages = few_of_run m run.ready.sound run.began run.others };
     })
 
 -- a run whose last two lines were said, or not

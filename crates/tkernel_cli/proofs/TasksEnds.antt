@@ -9,28 +9,25 @@ use Rattle.mem_guard.specs.FlatMachine.{Run}
 use Rattle.mem_guard.specs.Masked as masked
 use Rattle.tk_tasks.specs.declared.tasks.Task.{Task}
 use Rattle.tk_tasks.specs.Images.{quarter, IsMisplaced, task_words}
-use Rattle.tk_tasks.specs.Booted.{booted, turns_at_reset}
+use Rattle.tk_tasks.specs.Booted.{booted}
 use Rattle.tk_tasks.specs.States.{Tasks, AreSound, player_of, turns_of}
 use Rattle.tk_tasks.specs.Turns.{Player, Told, Turns, alone, at_reset_in, turns}
-use Rattle.tk_tasks.specs.Plays.{EndsAsAlone, HasRunTasks, HaveRun, TaskPath, counted, told_of, told_text}
+use Rattle.tk_tasks.specs.Plays.{AreInTurn, EndsAsAlone, HasRunTasks, HaveRun, TaskPath, counted, told_of, told_text}
+use Rattle.tk_tasks.proofs.Telling.{told_text_on, cut_less}
 use Rattle.tk_tasks.proofs.OwnPrograms.{program_at, player_at, boot_player, each_first, each_last, first_going, own_run}
 use Rattle.tkernel_cli.specs.declared.request.TaskRequest.{TaskRequest}
 use Rattle.tkernel_cli.specs.declared.status.Status.{Status}
 use Rattle.tkernel_cli.specs.declared.status.Status.TheVariants as status
 use Rattle.tkernel_cli.specs.Commands.{AreTasks}
 use Rattle.tkernel_cli.specs.Runs.{Stream, Says}
-use Rattle.tkernel_cli.specs.TasksRuns.{RunsTasks, EachIsAlone, all_told, run_of_task, start_by, start_of, worst}
+use Rattle.tkernel_cli.specs.TasksRuns.{RunsTasks, EachIsAlone, all_told, run_of_task, start_by, start_of, turns_by, worst}
 use Rattle.tkernel_cli.specs.Text.{tasks_count_text}
 use Rattle.tkernel_cli.proofs.RunEnds.{said_on}
-
--- the tasks in turn, as the request asks for them
-abbrev reset_of : TaskRequest → Turns
-reset_of request = turns_at_reset request.image request.scripts request.options.quantum request.options.swap request.options.steps
 
 -- what stands of the tasks at boot
 pub record Starts (request : TaskRequest) (start : Tasks) : Type 0 where
   pub is : start ≡ start_of request
-  pub in_turn : turns_of request.options.steps start ≡ reset_of request
+  pub in_turn : turns_of request.options.steps start ≡ turns_by request
 
 started_quantum : (request : TaskRequest) (scripts : List Schedule) → (start_by request scripts).kernel.quantum ≡ request.options.quantum
 started_quantum request [] = refl
@@ -55,7 +52,7 @@ can_run request start starts = (
 -- the tasks that boot made
 pub starts_of : (request : TaskRequest) (start : Tasks) → (scripts : List Schedule) → 1 ≤ length scripts → request.scripts ≡ scripts
     → ((first : Schedule) (others : List Schedule) → request.scripts ≡ first ∷ others → start ≡ booted request.image first others request.options.quantum request.options.swap)
-    → turns_of request.options.steps start ≡ reset_of request → Starts request start
+    → turns_of request.options.steps start ≡ turns_by request → Starts request start
 starts_of request start [] some is made same = absurd (omega arith)
 starts_of request start (first ∷ others) some is made same = record { is = made first others is ∙ sym (ap (start_by request) is); in_turn = same }
 
@@ -102,17 +99,26 @@ tasks_ended request start t before mid now told done may starts run sound later 
       said = subst (λ l. Says (worst status.Done t.tasks) (l ++ last) before now told) text whole;
       alone = each_alone request start run.last t (told_of run.plays) may starts run.run run.counts;
       sound = sound;
+      start = ap (turns_of request.options.steps) (sym starts.is) ∙ starts.in_turn;
       plays = run.plays;
       last = run.last;
       path = subst (λ s. TaskPath request.options.steps s run.plays run.last) starts.is run.path;
       is = run.counts;
+      ended = run.run.ended;
     })
+
+-- a part of what plays told is one of what the programs tell in turn
+cut_in_turn : (quantum : ℕ) (before now : Option (List ℕ)) (told rest whole : List Told) → whole ≡ told ++ rest → CutShort before now (told_text quantum told) → CutShort before now (told_text quantum whole)
+cut_in_turn quantum before now told rest whole is cut =
+    subst (CutShort before now) (sym (ap (told_text quantum) is ∙ told_text_on quantum told rest)) (cut_less before now (told_text quantum told) (told_text quantum rest) cut)
 
 -- a line could not be put
 pub tasks_cut : (request : TaskRequest) (start t : Tasks) (before now : Stream) (failed : Failed) → Starts request start → HasRunTasks request.options.steps start t before.told now.told (Err failed) → AreSound t → Rose before.faults now.faults
     → RunsTasks request before now status.WriteFault t
 tasks_cut request start t before now failed starts run sound rose =
     let quantum : start.kernel.quantum ≡ request.options.quantum = ap (λ (s : Tasks). s.kernel.quantum) starts.is ∙ started_quantum request request.scripts in
+    let in_turn = subst (λ s. AreInTurn s run.plays (turns_of request.options.steps run.last)) starts.in_turn run.in_turn in
+    let put = subst (λ q. CutShort before.told now.told (told_text q (told_of run.plays))) quantum run.put in
     RunsTasks.Cut (record {
       status_is = refl;
       rose = rose;
@@ -120,7 +126,9 @@ tasks_cut request start t before now failed starts run sound rose =
       last = run.last;
       path = subst (λ s. TaskPath request.options.steps s run.plays run.last) starts.is run.path;
       is = run.counts;
-      put = subst (λ q. CutShort before.told now.told (told_text q (told_of run.plays))) quantum run.put;
+      in_turn = in_turn;
+      put = put;
+      front = cut_in_turn request.options.quantum before.told now.told (told_of run.plays) in_turn.rest (all_told request) in_turn.begins put;
       sound = sound;
     })
 

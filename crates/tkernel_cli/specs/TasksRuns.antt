@@ -10,9 +10,9 @@ use Rattle.tk_tasks.specs.declared.tasks.Task.{Task}
 use Rattle.tk_tasks.specs.declared.tasks.TaskEnd.{TaskEnd}
 use Rattle.tk_tasks.specs.Images.{quarter, quarter_part, task_words}
 use Rattle.tk_tasks.specs.Booted.{booted, turns_at_reset}
-use Rattle.tk_tasks.specs.States.{Tasks, AreSound, flat_end, player_of}
-use Rattle.tk_tasks.specs.Turns.{Told, alone, at_reset_in, turns}
-use Rattle.tk_tasks.specs.Plays.{Play, TaskPath, EndsAsAlone, counted, told_of, told_text}
+use Rattle.tk_tasks.specs.States.{Tasks, AreSound, flat_end, player_of, turns_of}
+use Rattle.tk_tasks.specs.Turns.{Turns, Told, alone, at_reset_in, turns, HaveEnded}
+use Rattle.tk_tasks.specs.Plays.{Play, TaskPath, AreInTurn, EndsAsAlone, counted, told_of, told_text}
 use Rattle.tkernel_cli.specs.declared.request.TaskRequest.{TaskRequest}
 use Rattle.tkernel_cli.specs.declared.status.Status.{Status}
 use Rattle.tkernel_cli.specs.declared.status.Status.TheVariants as status
@@ -32,9 +32,13 @@ abbrev pub run_of_task : TaskRequest → ℕ → Run
 run_of_task request task =
     alone (at_reset_in (masked.alone (program_in request task)) (quarter * task) (slice_index_or request.scripts task nothing).events request.options.steps)
 
--- what the programs tell in turn, until each has ended. Nothing is shared there
+-- the programs in turn, from reset. Nothing is shared there
+abbrev pub turns_by : TaskRequest → Turns
+turns_by request = turns_at_reset request.image request.scripts request.options.quantum request.options.swap request.options.steps
+
+-- what they tell, until each has ended
 abbrev pub all_told : TaskRequest → List Told
-all_told request = (turns (turns_at_reset request.image request.scripts request.options.quantum request.options.swap request.options.steps)).told
+all_told request = (turns (turns_by request)).told
 
 -- the tasks before they do anything
 abbrev pub start_by : TaskRequest → List Schedule → Tasks
@@ -63,17 +67,21 @@ EachIsAlone request t =
     (i : ℕ) → i < request.options.count → (task : Task) × (slice_get t.tasks i ≡ Some task) × EndsAsAlone (run_of_task request i) i (all_told request) (player_of request.options.steps t i task)
 
 -- Every task ended, and what was printed is what the programs tell in turn, with the counts of all. The machine of each is
--- sound, so the pool is faithful, and plays lead here from the start.
+-- sound, so the pool is faithful, and plays lead here from the start, where each task stands at its program's reset.
 pub record RunsTasksToTheEnd (request : TaskRequest) (before now : Stream) (told : Status) (t : Tasks) : Type 0 where
   pub said : Says (worst status.Done t.tasks) (told_text request.options.quantum (all_told request) ++ tasks_count_text t.natural t.entries t.pages t.switches) before now told
   pub alone : EachIsAlone request t
   pub sound : AreSound t
+  pub start : turns_of request.options.steps (start_of request) ≡ turns_by request
   pub plays : List Play
   pub last : Tasks
   pub path : TaskPath request.options.steps (start_of request) plays last
   pub is : t ≡ counted last false
+  pub ended : HaveEnded (turns_of request.options.steps last)
 
--- Lines could not be put: what went out is cut short of what the plays told that lead to where the tasks stand.
+-- Lines could not be put: what went out is a part, from its front, of what the programs tell in turn. It is cut short of
+-- what was told of the plays that lead to where the tasks stand, and that is where the programs stand in turn after as
+-- many tries.
 pub record RunsTasksUntilCut (request : TaskRequest) (before now : Stream) (told : Status) (t : Tasks) : Type 0 where
   pub status_is : told ≡ status.WriteFault
   pub rose : Rose before.faults now.faults
@@ -81,7 +89,9 @@ pub record RunsTasksUntilCut (request : TaskRequest) (before now : Stream) (told
   pub last : Tasks
   pub path : TaskPath request.options.steps (start_of request) plays last
   pub is : t ≡ counted last true
+  pub in_turn : AreInTurn (turns_by request) plays (turns_of request.options.steps last)
   pub put : CutShort before.told now.told (told_text request.options.quantum (told_of plays))
+  pub front : CutShort before.told now.told (told_text request.options.quantum (all_told request))
   pub sound : AreSound t
 
 pub data RunsTasks (request : TaskRequest) (before now : Stream) (told : Status) (t : Tasks) : Type 0 where

@@ -1,10 +1,15 @@
-use Rattle.std.proofs.Common.{refl, sym, ◌∙◌}
+use Rattle.std.proofs.Common.{refl, sym, ap, ◌∙◌}
+use Rattle.std.specs.Result.{result_ok}
+use Rattle.page_index.specs.Entries.{IsEntry}
 use Rattle.addr_tables.specs.Changes.{Finds}
-use Rattle.addr_tables.proofs.FindLaws.{found_in_pool}
+use Rattle.addr_tables.proofs.FindLaws.{found_in_pool, if_ok}
 use Rattle.addr_tables.proofs.tables.look_up.Goals as goal
 
 pub returns-in-Some-clause-found : goal.returns-in-Some-clause-found
 returns-in-Some-clause-found c = Finds.Hit c.in-Some.place (sym c.hit.ensures.value ∙ c.in-Some.is) refl refl
 
 pub returns-in-None-clause-found : goal.returns-in-None-clause-found
-returns-in-None-clause-found c = found_in_pool c.args.layout.now c.args.flash.now.words c.args.sram.now c.args.t c.entry.result (sym c.hit.ensures.value ∙ c.in-None.is) c.entry.ensures.found c.entry.ensures.only
+returns-in-None-clause-found c =
+    let layout = c.args.layout.now in
+    let words = c.args.flash.now.words in
+    found_in_pool layout words c.args.sram.now c.args.t (result_ok c.find.result) (sym c.hit.ensures.value ∙ c.in-None.is) (if_ok (λ v. IsEntry layout words c.args.t v) c.find.result c.find.ensures.found) (λ v entry. ap result_ok (c.find.ensures.only v entry))

@@ -18,7 +18,8 @@ use Rattle.branch_bridge.specs.Arrivals.{Store, Makes, Recycles, NotUnlinked, No
 use Rattle.branch_bridge.proofs.ErasedLaws.{IsEmptied, emptied, emptied_kept}
 use Rattle.branch_bridge.proofs.MakeLaws.{ring_kept, makes_told, makes_ops}
 use Rattle.branch_bridge.specs.Arrivals.{KeepsOtherBytes}
-use Rattle.branch_bridge.proofs.RestLaws.{others_same, others_then, others_rest, others_turned}
+use Rattle.sram_layout.proofs.RegionLaws.{outside_same, outside_then}
+use Rattle.branch_bridge.proofs.RestLaws.{others_rest, others_turned}
 use Rattle.branch_bridge.proofs.arrival.recycle.Goals as goal
 
 pub returns-in-Err-clause-recycles : goal.returns-in-Err-clause-recycles
@@ -84,6 +85,17 @@ turn-requires-clause-ring c =
     let old : Store = record { flash = c.args.flash.now; sram = c.args.sram.now } in
     let victim = layout.pool_first + c.ring.result in
     omega (arith, ring_kept c.args.sram.now c.forget_page.new.sram c.forget_page.ensures.forgets.rest, c.requires.ring)
+
+pub known_offsets-known-requires-clause-mapped : goal.known_offsets-known-requires-clause-mapped
+known_offsets-known-requires-clause-mapped c =
+    let layout = c.args.layout.now in
+    let old : Store = record { flash = c.args.flash.now; sram = c.args.sram.now } in
+    let victim = layout.pool_first + c.ring.result in
+    let unlinked = c.unresolve.new.flash in
+    let pool : IsPool layout victim = record { from = omega arith; to = omega (arith, c.requires.ring, c.ring.ensures.value) } in
+    let empty : IsEmptied layout old.flash unlinked c.erase.new.self victim c.args.t =
+    emptied layout old.flash unlinked c.erase.new.self victim c.args.t c.requires.right c.in-Ok.ensures.code c.in-Ok.ensures.image pool c.in-Ok.ensures.apart c.in-Ok.ensures.same c.requires.unknown c.in-Ok-erase.ensures.done in
+    faithful_mapped layout (image_of layout c.erase.new.self.words) c.erase.new.self.words c.requires.right empty.code
 
 pub make_page-requires-clause-code : goal.make_page-requires-clause-code
 make_page-requires-clause-code c =
@@ -161,7 +173,7 @@ returns-clause-kept c =
     emptied_kept layout old.flash unlinked c.erase.new.self victim c.args.t old.sram c.forget_page.new.sram c.turn.new.sram new c.make_page.result empty c.in-Ok.ensures.entries (λ stays tables. c.forget_page.ensures.erased layout unlinked.words c.erase.new.self.words stays tables) c.turn.ensures.after c.requires.right c.forget_page.ensures.size.1 c.in-Ok.ensures.stubs (makes_told layout _ new victim c.args.t true c.make_page.result c.make_page.ensures.makes) (let one = makes_ops layout _ new victim c.args.t true c.make_page.result c.make_page.ensures.makes in let erased = ap (λ (m : Memory). m.ops) c.in-Ok-erase.ensures.done in let before = c.unresolve.ensures.ops in omega arith) c.make_page.ensures.kept
 
 pub returns-in-Err-clause-rest : goal.returns-in-Err-clause-rest
-returns-in-Err-clause-rest c = others_same c.args.sram.now
+returns-in-Err-clause-rest c = outside_same c.args.sram.now
 
 pub returns-in-Err-erase-clause-rest : goal.returns-in-Err-erase-clause-rest
 returns-in-Err-erase-clause-rest c = others_rest c.args.sram.now c.forget_page.new.sram c.forget_page.ensures.forgets.rest
@@ -170,4 +182,4 @@ pub returns-clause-rest : goal.returns-clause-rest
 returns-clause-rest c =
     let turned_there = subst (λ m. KeepsOtherBytes c.forget_page.new.sram m) (sym c.turn.ensures.after) (others_turned c.args.layout.now c.forget_page.new.sram) in
     let forgot = others_rest c.args.sram.now c.forget_page.new.sram c.forget_page.ensures.forgets.rest in
-    others_then c.args.sram.now c.forget_page.new.sram c.make_page.new.sram forgot (others_then c.forget_page.new.sram c.turn.new.sram c.make_page.new.sram turned_there c.make_page.ensures.rest)
+    outside_then forgot (outside_then turned_there c.make_page.ensures.rest)

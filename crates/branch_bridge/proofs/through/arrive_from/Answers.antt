@@ -19,7 +19,7 @@ pub returns-in-Err : goal.returns-in-Err
 returns-in-Err c =
     let layout = c.args.layout.now in
     let old : Store = record { flash = c.args.flash.now; sram = c.args.sram.now } in
-    let new : Store = record { flash = c.arrive.new.flash; sram = c.arrive.new.sram } in
+    let new : Store = record { flash = c.arrive_by.new.flash; sram = c.arrive_by.new.sram } in
     let arrival : Arrival = record { place = None; made = false; refused = Some c.in-Err.refused } in
     let arrives : ArrivesFrom layout old new c.args.t c.args.stub arrival = Stopped c.in-Err.refused c.in-Err.ensures.arrives refl in
     let left = flash_left layout old new c.args.t c.args.stub arrival c.requires.right c.requires.code.whole c.requires.ring c.requires.stub arrives in
@@ -46,7 +46,7 @@ pub resolve-requires-clause-stub : goal.resolve-requires-clause-stub
 resolve-requires-clause-stub c =
     let layout = c.args.layout.now in
     let old = c.args.flash.now.words in
-    let new = c.arrive.new.flash.words in
+    let new = c.arrive_by.new.flash.words in
     let moved = c.in-Ok.moved in
     let s = c.in-Some.stub in
     let is : IsToResolve moved.recycled c.args.stub s = is_to_resolve moved.recycled c.args.stub s (sym c.to_resolve.ensures.value ∙ c.in-Some.is) in
@@ -62,8 +62,8 @@ pub returns-in-Some : goal.returns-in-Some
 returns-in-Some c =
     let layout = c.args.layout.now in
     let old : Store = record { flash = c.args.flash.now; sram = c.args.sram.now } in
-    let mid : Store = record { flash = c.arrive.new.flash; sram = c.arrive.new.sram } in
-    let new : Store = record { flash = c.resolve.new.flash; sram = c.arrive.new.sram } in
+    let mid : Store = record { flash = c.arrive_by.new.flash; sram = c.arrive_by.new.sram } in
+    let new : Store = record { flash = c.resolve.new.flash; sram = c.arrive_by.new.sram } in
     let told : Option Refused → Arrival = λ r. record { place = Some c.in-Ok.moved.place; made = c.in-Ok.moved.made; refused = r } in
     let kept = c.in-Ok.ensures.kept in
     let words = c.resolve.new.flash.words in
@@ -106,7 +106,7 @@ pub returns-in-None : goal.returns-in-None
 returns-in-None c =
     let layout = c.args.layout.now in
     let old : Store = record { flash = c.args.flash.now; sram = c.args.sram.now } in
-    let new : Store = record { flash = c.arrive.new.flash; sram = c.arrive.new.sram } in
+    let new : Store = record { flash = c.arrive_by.new.flash; sram = c.arrive_by.new.sram } in
     let arrival : Arrival = record { place = Some c.in-Ok.moved.place; made = c.in-Ok.moved.made; refused = None } in
     let arrives : ArrivesFrom layout old new c.args.t c.args.stub arrival = Went c.in-Ok.moved c.in-Ok.ensures.arrives (sym c.to_resolve.ensures.value ∙ c.in-None.is) refl in
     let left = flash_left layout old new c.args.t c.args.stub arrival c.requires.right c.requires.code.whole c.requires.ring c.requires.stub arrives in

@@ -25,7 +25,7 @@ next_in_run-requires-clause-known c =
     let words = c.args.flash.now.words in
     let drafting = c.run.invariant in
     let paged : c.run.here.pc / 128 ≡ c.args.t / 128 = ap (λ a. a / 128) drafting.reached ∙ drafting.begun.run.paged drafting.last (omega arith) in
-    subst (λ (original : ℕ). AreKnown c.args.layout.now words original c.known_offsets-known.result) (sym paged) c.known_offsets-known.ensures.known
+    subst (λ (original : ℕ). AreKnown c.args.layout.now words original c.args.known.now) (sym paged) c.requires.known
 
 pub next_in_run-requires-clause-words : goal.next_in_run-requires-clause-words
 next_in_run-requires-clause-words c =

@@ -1,4 +1,6 @@
 use Rattle.std.proofs.Common.{ap, ◌∙◌}
+use Rattle.page_index.specs.Cursors.{IsCursor}
+use Rattle.page_index.specs.declared.cursor.Cursor.{Cursor}
 use Rattle.step_laws.specs.States.{admits}
 use Rattle.program_steps.specs.Wholes.{whole}
 use Rattle.program_steps.proofs.Arrived.{owed_at}
@@ -22,5 +24,8 @@ pub returns-in-Some-clause-entered : goal.returns-in-Some-clause-entered
 returns-in-Some-clause-entered c = entered_some (whole c.args.k.now c.args.p.now) (whole c.arrive_owed-changed.new.k c.arrive_owed-changed.new.p) c.arrive_owed-changed.ensures.arrived c.is_whole.ensures.whole c.requires.ready
 
 pub returns-in-Some-clause-cursor : goal.returns-in-Some-clause-cursor
-returns-in-Some-clause-cursor c = cursor_kept (whole c.args.k.now c.args.p.now) (whole c.arrive_owed-changed.new.k c.arrive_owed-changed.new.p) c.arrive_owed-changed.result c.args.cursor.now c.forget_if.new.cursor
-    c.arrive_owed-changed.ensures.unchanged c.arrive_owed-changed.ensures.arrived c.forget_if.ensures.kept c.forget_if.ensures.forgotten c.requires.cursor
+returns-in-Some-clause-cursor c =
+    let cursor : Cursor = record c.args.cursor.now { places = c.arrive_owed-changed.new.places } in
+    let known : IsCursor c.args.k.now.layout c.args.k.now.mote.flash.words cursor = record { stretch = c.requires.cursor.stretch; reached = c.requires.cursor.reached } in
+    cursor_kept (whole c.args.k.now c.args.p.now) (whole c.arrive_owed-changed.new.k c.arrive_owed-changed.new.p) c.arrive_owed-changed.result cursor c.forget_if.new.cursor
+    c.arrive_owed-changed.ensures.unchanged c.arrive_owed-changed.ensures.arrived c.forget_if.ensures.kept c.forget_if.ensures.forgotten known

@@ -1,7 +1,7 @@
 use Rattle.std.proofs.Common.{◌≡◌, ◌+◌, ◌*◌, ◌≤◌, length, sym, ap, subst, arith, ◌∙◌}
 use Rattle.flash_model.specs.Pages.{page_words, page_of, set_page, blank}
 use Rattle.flash_model.specs.Memory.{Memory}
-use Rattle.flash_model.specs.Code.{IsDecodedBeside}
+use Rattle.flash_model.specs.Kept.{IsKeptBeside}
 use Rattle.flash_model.proofs.OperationLaws.{erased_blank}
 use Rattle.flash_model.proofs.Renewing.{erased_beside}
 use Rattle.flash_model.proofs.flash.Flash.erase.Goals as goal
@@ -15,8 +15,8 @@ renew_blank-requires-clause-blank c =
 pub renew_blank-requires-clause-beside : goal.renew_blank-requires-clause-beside
 renew_blank-requires-clause-beside c =
     let old = c.self.inside.cells in
-    let code = c.self.inside.code.items in
+    let kept = c.self.inside.kept in
     let page = c.args.page in
     let words : c.erase.new.self.words ≡ set_page old.words page blank = ap (λ (m : Memory). m.words) c.in_ok-erase.ensures.done in
-    subst (λ words. IsDecodedBeside words code (page_words * page) (page_words * page + page_words)) (sym words)
-    (erased_beside old.words code page c.self.invariant.1 c.erase.ensures.whole.0.words c.requires.page)
+    subst (λ words. IsKeptBeside words kept (page_words * page) (page_words * page + page_words)) (sym words)
+    (erased_beside old.words kept page c.self.invariant.1 c.erase.ensures.whole.0.words c.requires.page)

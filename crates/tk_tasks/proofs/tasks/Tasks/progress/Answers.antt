@@ -15,8 +15,8 @@ overflow_sub-result c =
     let all : s.tasks.items ≡ t.tasks = ap (λ (u : Tasks). u.tasks) seen in
     let is : x ≡ slice_index_or t.tasks t.running x = c.index-task.ensures ∙ ap (λ l. slice_index_or l c.from.result x) all ∙ ap (λ i. slice_index_or t.tasks i x) at in
     let bounded = (c.requires.sound.each t.running x (get_at t.tasks t.running x c.requires.sound.one_runs is)).sound.bounded in
-    let since = bounded.since in
-    let longest = bounded.longest in
+    let since = bounded.moves.since in
+    let longest = bounded.moves.longest in
     omega arith
 
 pub others-requires-clause-steps : goal.others-requires-clause-steps

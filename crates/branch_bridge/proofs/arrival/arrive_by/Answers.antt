@@ -1,0 +1,193 @@
+use Rattle.std.proofs.Common.{◌≡◌, ℕ, ◌+◌, ◌/◌, ◌≤◌, min, List, None, false, arith, refl, sym, ap, ◌∙◌, subst}
+use Rattle.std.specs.Result.{result_ok}
+use Rattle.flash_model.specs.Layouts.{image_of}
+use Rattle.nat_page.specs.Making.{IsLowestFree}
+use Rattle.nat_page.proofs.FaithfulLaws.{faithful_mapped}
+use Rattle.nat_page.specs.Used.{used_pages}
+use Rattle.nat_page.proofs.UsedLaws.{used_pages-most, all_used}
+use Rattle.branch_bridge.specs.Operating.{with_torn}
+use Rattle.addr_tables.specs.Changes.{Finds}
+use Rattle.addr_tables.proofs.FindLaws.{HasNone, found_none, found_right, found_noted}
+use Rattle.addr_tables.specs.Changes.{noted}
+use Rattle.addr_tables.proofs.NoteLaws.{rest_noted}
+use Rattle.branch_bridge.proofs.MakeLaws.{ring_kept}
+use Rattle.branch_bridge.proofs.SurveyLaws.{surveyed_free, surveyed_full}
+use Rattle.branch_bridge.specs.Arrivals.{Store, Makes, Recycles, Found, Free, Full, ring_of, torn_in, made_in, one_if}
+use Rattle.branch_bridge.proofs.ArrivalLaws.{tried_made, tried_recycled}
+use Rattle.branch_bridge.specs.Arrivals.{KeepsOtherBytes}
+use Rattle.sram_layout.proofs.RegionLaws.{outside_same}
+use Rattle.branch_bridge.proofs.RestLaws.{others_rest}
+use Rattle.branch_bridge.proofs.arrival.arrive_by.Goals as goal
+
+fits : (a n : ℕ) → a ≤ n → a ≡ min a n
+fits a n below = omega arith
+
+at_most : (a n : ℕ) → a ≤ n → a ≡ min (a + 0) n
+at_most a n below = omega arith
+
+at_least : (a b n : ℕ) → a ≡ n → n ≡ min (a + b) n
+at_least a b n is = omega arith
+
+pub find_by-requires-clause-mapped : goal.find_by-requires-clause-mapped
+find_by-requires-clause-mapped c =
+    let layout = c.args.layout.now in
+    let words = c.args.flash.now.words in
+    let old : Store = record { flash = c.args.flash.now; sram = c.args.sram.now } in
+    λ missed. faithful_mapped layout (image_of layout words) words c.requires.right c.requires.code
+
+pub returns-in-Ok-clause-arrives : goal.returns-in-Ok-clause-arrives
+returns-in-Ok-clause-arrives c =
+    let layout = c.args.layout.now in
+    let words = c.args.flash.now.words in
+    let old : Store = record { flash = c.args.flash.now; sram = c.args.sram.now } in
+    Found c.in-Ok.place (omega arith) c.in-Ok.ensures.finds refl refl
+
+pub returns-in-Ok-clause-kept : goal.returns-in-Ok-clause-kept
+returns-in-Ok-clause-kept c =
+    let layout = c.args.layout.now in
+    let words = c.args.flash.now.words in
+    let old : Store = record { flash = c.args.flash.now; sram = c.args.sram.now } in
+    record {
+      code = c.requires.code;
+      same_image = refl;
+      tables = λ tables. c.find_by.ensures.tables tables;
+      entered = λ tables. (found_right layout words c.args.sram.now c.find_by.new.sram c.args.t c.in-Ok.place c.in-Ok.ensures.finds tables).0;
+      ops = omega arith;
+      ring = λ below. (let same = ap ring_of (found_noted layout words c.args.sram.now c.find_by.new.sram c.args.t c.in-Ok.place c.in-Ok.ensures.finds) in let kept = ring_kept c.args.sram.now (noted c.args.sram.now c.args.t c.in-Ok.place) (rest_noted c.args.sram.now c.args.t c.in-Ok.place) in omega (arith, same, kept));
+      stubs = λ s to apart stub. stub;
+    }
+
+pub make_page-requires-clause-unknown : goal.make_page-requires-clause-unknown
+make_page-requires-clause-unknown c =
+    let layout = c.args.layout.now in
+    let words = c.args.flash.now.words in
+    let old : Store = record { flash = c.args.flash.now; sram = c.args.sram.now } in
+    let none : HasNone layout words c.args.sram.now c.find_by.new.sram c.args.t = found_none layout words c.args.sram.now c.find_by.new.sram c.args.t (result_ok c.find_by.result) (ap result_ok c.in-Err.is) c.find_by.ensures.finds in
+    none.unknown
+
+pub make_page-requires-clause-pool : goal.make_page-requires-clause-pool
+make_page-requires-clause-pool c =
+    let layout = c.args.layout.now in
+    let words = c.args.flash.now.words in
+    (surveyed_free layout words (c.args.t / 128) c.in-Some.page c.in-Err.survey c.in-Err.ensures.survey c.in-Some.is).pool
+
+pub make_page-requires-clause-free : goal.make_page-requires-clause-free
+make_page-requires-clause-free c =
+    let layout = c.args.layout.now in
+    let words = c.args.flash.now.words in
+    (surveyed_free layout words (c.args.t / 128) c.in-Some.page c.in-Err.survey c.in-Err.ensures.survey c.in-Some.is).free
+
+pub recycle-requires-clause-full : goal.recycle-requires-clause-full
+recycle-requires-clause-full c =
+    let layout = c.args.layout.now in
+    let words = c.args.flash.now.words in
+    surveyed_full layout words (c.args.t / 128) c.in-Err.survey c.in-Err.ensures.survey c.in-None.is
+
+pub recycle-requires-clause-unknown : goal.recycle-requires-clause-unknown
+recycle-requires-clause-unknown c =
+    let layout = c.args.layout.now in
+    let words = c.args.flash.now.words in
+    let old : Store = record { flash = c.args.flash.now; sram = c.args.sram.now } in
+    let none : HasNone layout words c.args.sram.now c.find_by.new.sram c.args.t = found_none layout words c.args.sram.now c.find_by.new.sram c.args.t (result_ok c.find_by.result) (ap result_ok c.in-Err.is) c.find_by.ensures.finds in
+    none.unknown
+
+pub returns-in-Some-clause-arrives : goal.returns-in-Some-clause-arrives
+returns-in-Some-clause-arrives c =
+    let layout = c.args.layout.now in
+    let words = c.args.flash.now.words in
+    let old : Store = record { flash = c.args.flash.now; sram = c.args.sram.now } in
+    let none : HasNone layout words c.args.sram.now c.find_by.new.sram c.args.t = found_none layout words c.args.sram.now c.find_by.new.sram c.args.t (result_ok c.find_by.result) (ap result_ok c.in-Err.is) c.find_by.ensures.finds in
+    let store : List ℕ → Store = λ m. record { flash = c.args.flash.now; sram = m } in
+    let finds : Finds layout words c.args.sram.now c.args.sram.now c.args.t None = subst (λ r. Finds layout words c.args.sram.now c.args.sram.now c.args.t r) (ap result_ok c.in-Err.is) (subst (λ m. Finds layout words c.args.sram.now m c.args.t (result_ok c.find_by.result)) none.left c.find_by.ensures.finds) in
+    let new : Store = record { flash = c.make_page.new.flash; sram = c.make_page.new.sram } in
+    let page = c.in-Some.page in
+    let lowest : IsLowestFree layout words page = surveyed_free layout words (c.args.t / 128) c.in-Some.page c.in-Err.survey c.in-Err.ensures.survey c.in-Some.is in
+    Free page (omega arith) finds lowest (subst (λ m. Makes layout (store m) new page c.args.t false c.make_page.result) none.left c.make_page.ensures.makes)
+
+pub returns-in-None-clause-arrives : goal.returns-in-None-clause-arrives
+returns-in-None-clause-arrives c =
+    let layout = c.args.layout.now in
+    let words = c.args.flash.now.words in
+    let old : Store = record { flash = c.args.flash.now; sram = c.args.sram.now } in
+    let none : HasNone layout words c.args.sram.now c.find_by.new.sram c.args.t = found_none layout words c.args.sram.now c.find_by.new.sram c.args.t (result_ok c.find_by.result) (ap result_ok c.in-Err.is) c.find_by.ensures.finds in
+    let store : List ℕ → Store = λ m. record { flash = c.args.flash.now; sram = m } in
+    let finds : Finds layout words c.args.sram.now c.args.sram.now c.args.t None = subst (λ r. Finds layout words c.args.sram.now c.args.sram.now c.args.t r) (ap result_ok c.in-Err.is) (subst (λ m. Finds layout words c.args.sram.now m c.args.t (result_ok c.find_by.result)) none.left c.find_by.ensures.finds) in
+    let new : Store = record { flash = c.recycle.new.flash; sram = c.recycle.new.sram } in
+    Full (omega arith) finds (surveyed_full layout words (c.args.t / 128) c.in-Err.survey c.in-Err.ensures.survey c.in-None.is) (subst (λ m. Recycles layout (store m) new (layout.pool_first + ring_of m) c.args.t c.recycle.result) none.left c.recycle.ensures.recycles)
+
+pub returns-then-t-layout-clause-used : goal.returns-then-t-layout-clause-used
+returns-then-t-layout-clause-used c =
+    let layout = c.args.layout.now in
+    let words = c.args.flash.now.words in
+    let old : Store = record { flash = c.args.flash.now; sram = c.args.sram.now } in
+    let most = used_pages-most layout words in
+    at_most (used_pages layout words) layout.pool_pages most
+
+pub returns-in-Ok-clause-used : goal.returns-in-Ok-clause-used
+returns-in-Ok-clause-used c =
+    let layout = c.args.layout.now in
+    let words = c.args.flash.now.words in
+    let old : Store = record { flash = c.args.flash.now; sram = c.args.sram.now } in
+    let most = used_pages-most layout words in
+    at_most (used_pages layout words) layout.pool_pages most
+
+pub returns-in-Some-clause-used : goal.returns-in-Some-clause-used
+returns-in-Some-clause-used c =
+    let layout = c.args.layout.now in
+    let words = c.args.flash.now.words in
+    let old : Store = record { flash = c.args.flash.now; sram = c.args.sram.now } in
+    let new = with_torn c.make_page.new.flash.words (torn_in c.make_page.result) in
+    let one = one_if (made_in c.make_page.result) in
+    let is : used_pages layout new ≡ used_pages layout words + one = c.make_page.ensures.used in
+    let most = used_pages-most layout new in
+    is ∙ fits (used_pages layout words + one) layout.pool_pages (omega (arith, is, most))
+
+pub returns-in-None-clause-used : goal.returns-in-None-clause-used
+returns-in-None-clause-used c =
+    let layout = c.args.layout.now in
+    let words = c.args.flash.now.words in
+    let old : Store = record { flash = c.args.flash.now; sram = c.args.sram.now } in
+    let all : used_pages layout words ≡ layout.pool_pages = all_used layout words (faithful_mapped layout (image_of layout words) words c.requires.right c.requires.code) (surveyed_full layout words (c.args.t / 128) c.in-Err.survey c.in-Err.ensures.survey c.in-None.is) in
+    c.recycle.ensures.used ∙ at_least (used_pages layout words) (one_if (made_in c.recycle.result)) layout.pool_pages all
+
+pub returns-in-Some-clause-tried : goal.returns-in-Some-clause-tried
+returns-in-Some-clause-tried c =
+    let layout = c.args.layout.now in
+    let old : Store = record { flash = c.args.flash.now; sram = c.find_by.new.sram } in
+    let new : Store = record { flash = c.make_page.new.flash; sram = c.make_page.new.sram } in
+    let words = c.args.flash.now.words in
+    let lowest = surveyed_free layout words (c.args.t / 128) c.in-Some.page c.in-Err.survey c.in-Err.ensures.survey c.in-Some.is in
+    tried_made layout old new c.in-Some.page c.args.t false c.make_page.result c.requires.right c.requires.code.whole lowest.pool lowest.free c.make_page.ensures.makes
+
+pub returns-in-None-clause-tried : goal.returns-in-None-clause-tried
+returns-in-None-clause-tried c =
+    let layout = c.args.layout.now in
+    let words = c.args.flash.now.words in
+    let none : HasNone layout words c.args.sram.now c.find_by.new.sram c.args.t = found_none layout words c.args.sram.now c.find_by.new.sram c.args.t (result_ok c.find_by.result) (ap result_ok c.in-Err.is) c.find_by.ensures.finds in
+    let old : Store = record { flash = c.args.flash.now; sram = c.find_by.new.sram } in
+    let new : Store = record { flash = c.recycle.new.flash; sram = c.recycle.new.sram } in
+    let same = ap ring_of none.left in
+    tried_recycled layout old new (layout.pool_first + ring_of c.find_by.new.sram) c.args.t c.recycle.result c.requires.right c.requires.code.whole (record { from = omega arith; to = omega (arith, c.requires.ring, same) }) c.recycle.ensures.recycles
+
+pub returns-then-t-layout-clause-rest : goal.returns-then-t-layout-clause-rest
+returns-then-t-layout-clause-rest c = outside_same c.args.sram.now
+
+pub returns-in-Ok-clause-rest : goal.returns-in-Ok-clause-rest
+returns-in-Ok-clause-rest c =
+    let sram = c.args.sram.now in
+    let place = c.in-Ok.place in
+    subst (λ m. KeepsOtherBytes sram m) (sym (found_noted c.args.layout.now c.args.flash.now.words sram c.find_by.new.sram c.args.t place c.in-Ok.ensures.finds)) (others_rest sram (noted sram c.args.t place) (rest_noted sram c.args.t place))
+
+pub returns-in-Some-clause-rest : goal.returns-in-Some-clause-rest
+returns-in-Some-clause-rest c =
+    let layout = c.args.layout.now in
+    let words = c.args.flash.now.words in
+    let none : HasNone layout words c.args.sram.now c.find_by.new.sram c.args.t = found_none layout words c.args.sram.now c.find_by.new.sram c.args.t (result_ok c.find_by.result) (ap result_ok c.in-Err.is) c.find_by.ensures.finds in
+    subst (λ m. KeepsOtherBytes m c.make_page.new.sram) none.left c.make_page.ensures.rest
+
+pub returns-in-None-clause-rest : goal.returns-in-None-clause-rest
+returns-in-None-clause-rest c =
+    let layout = c.args.layout.now in
+    let words = c.args.flash.now.words in
+    let none : HasNone layout words c.args.sram.now c.find_by.new.sram c.args.t = found_none layout words c.args.sram.now c.find_by.new.sram c.args.t (result_ok c.find_by.result) (ap result_ok c.in-Err.is) c.find_by.ensures.finds in
+    subst (λ m. KeepsOtherBytes m c.recycle.new.sram) none.left c.recycle.ensures.rest

@@ -1,0 +1,59 @@
+-- What several programs did on one mote: stint after stint, each of one program, told by the motes before and after it.
+use Rattle.std.specs.Prelude.{◌≡◌, ℕ, ◌+◌, ◌*◌, ◌<◌, ◌≤◌, ◌==◌, if◌then◌else◌, List, [], ◌∷◌, slice_get, slice_index, slice_set, sum_by, Some}
+use Rattle.mem_guard.specs.FlatMachine.{FlatState}
+use Rattle.mote_core.specs.declared.mote.Mote.{Mote}
+use Rattle.theorem_reader.specs.Acts.{Act, Follow, steps_in, services_in, made_in}
+use Rattle.theorem_reader.specs.Memory.{sram_byte, HasMemory}
+
+-- the number of a program, and its acts while it had the mote
+pub record Stint : Type 0 where
+  pub task : ℕ
+  pub acts : List Act
+
+-- A program has the mote again. Flash, and SRAM at 0x0142 to 0x03FF, are as the stint before left them; its core, its
+-- devices, its swap area and the other bytes of SRAM are as its own last stint did.
+pub record ComesBack (left own now : Mote) : Type 0 where
+  pub flash : now.flash ≡ left.flash
+  pub shared : (a : ℕ) → 0x0142 ≤ a → a ≤ 0x03FF → sram_byte now a ≡ sram_byte left a
+  pub core : now.cpu ≡ own.cpu
+  pub devices : now.devices ≡ own.devices
+  pub swap : now.swap ≡ own.swap
+  pub low : (a : ℕ) → 0x0100 ≤ a → a ≤ 0x0141 → sram_byte now a ≡ sram_byte own a
+  pub high : (a : ℕ) → 0x0400 ≤ a → a ≤ 0x10FF → sram_byte now a ≡ sram_byte own a
+
+-- The motes, one for each program as it was left, go by the stints to the last ones. The mote was left as this one.
+abbrev pub TakeTurns : (from : ℕ) → (left : Mote) → List Mote → List Stint → (last : List Mote) → Type 0
+TakeTurns from left motes [] last = motes ≡ last
+TakeTurns from left motes (stint ∷ stints) last =
+    (own before after : Mote) × (slice_get motes stint.task ≡ Some own) × ComesBack left own before × Follow from before stint.acts after
+    × TakeTurns from after (slice_set motes stint.task after) stints last
+
+-- how often another program's stint is next, where this program is the first
+abbrev pub changes_from : ℕ → List Stint → ℕ
+changes_from task [] = 0
+changes_from task (stint ∷ stints) = (if stint.task == task then 0 else 1) + changes_from stint.task stints
+
+-- the program of this number stands on its mote where its own machine does
+pub record HasState (s : FlatState) (m : Mote) : Type 0 where
+  pub registers : m.cpu.r ≡ s.cpu.r
+  pub status : m.cpu.sreg ≡ s.cpu.sreg
+  pub pointer : slice_index m.sram 3 + 256 * slice_index m.sram 4 ≡ s.cpu.sp
+  pub memory : HasMemory m s.memory
+  pub devices : m.devices ≡ s.devices
+
+-- Stints lead all programs, below `count`, from the states of `start` to those of `end`, the first of them on a mote of
+-- which this is so. There were so many steps and services, pages were made and the program was changed so often.
+pub record HaveStints (IsFirst : Mote → Type 0) (from count natural entries pages switches : ℕ) (start end : ℕ → FlatState) : Type 0 where
+  pub stints : List Stint
+  pub first : Mote
+  pub begins : IsFirst first
+  pub motes : List Mote
+  pub first_is : slice_get motes 0 ≡ Some first
+  pub starts : (task : ℕ) → task < count → (m : Mote) × (slice_get motes task ≡ Some m) × HasState (start task) m
+  pub last : List Mote
+  pub turns : TakeTurns from first motes stints last
+  pub ends : (task : ℕ) → task < count → (m : Mote) × (slice_get last task ≡ Some m) × HasState (end task) m
+  pub natural_is : natural ≡ sum_by (λ (stint : Stint). steps_in stint.acts) stints
+  pub entries_is : entries ≡ sum_by (λ (stint : Stint). services_in stint.acts) stints
+  pub pages_is : pages ≡ sum_by (λ (stint : Stint). made_in stint.acts) stints
+  pub switches_is : switches ≡ changes_from 0 stints
