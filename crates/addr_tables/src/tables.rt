@@ -12,7 +12,7 @@ ghost use Rattle.addr_tables.specs.Tables.{IsTables};
 ghost use Rattle.addr_tables.specs.Hits.{hit as hit_of, is_of as is_of_test};
 ghost use Rattle.addr_tables.specs.Changes.{is_pair as is_pair_test, is_in as is_in_test, noted_in_set, noted, noted_if, without_entry, forgotten, Finds, Notes, Forgets, HasNoneIn, StaysOutside};
 
-use flash_model::{Flash, Layout};
+use flash_model::{Flash, Layout, PAGE_WORDS};
 use page_index::{Places, Survey};
 use sram_layout::Sram;
 
@@ -21,9 +21,6 @@ const ASIDES: u16 = 32;
 
 /// How many sets the two-way table has.
 const SETS: u16 = 64;
-
-/// How many words a page of flash has.
-const PAGE_WORDS: u16 = 128;
 
 /// The place, a word address of flash, of the original address `t`: the one that the tables have, right
 /// or not, and else that of the pool's entry of `t`. It is noted in the tables. None where neither has

@@ -114,6 +114,7 @@ pub(crate) fn one(op: &OneOp, cpu: &mut Cpu, d: u8)
 
 /// A product of r16 to r23, except MUL and MULS.
 #[tactic(auto, unfolding(crate::specs::Arithmetic::product_of))]
+#[inline(always)]
 pub(crate) fn product(op: &ProductOp, cpu: &mut Cpu, d: u8, r: u8)
     requires left { d < 32 }
     requires right { r < 32 }

@@ -49,10 +49,10 @@ pub(crate) fn advance(cpu: &mut Cpu, words: u16)
     cpu.pc = cpu.pc.wrapping_add(words);
 }
 
-/// pc + 1 + k.
+/// pc + 1 + k: where a relative jump, call or branch at the pc leads. Word addresses wrap at 65,536.
 #[tactic(auto, unfolding(crate::specs::Registers::relative))]
-pub(crate) fn relative(pc: u16, k: i16) -> u16
-    ensures { result ≡ relative_of pc k }
+pub fn relative(pc: u16, k: i16) -> u16
+    ensures value { result ≡ relative_of pc k }
 {
     pc.wrapping_add(1).wrapping_add(k.cast_unsigned())
 }

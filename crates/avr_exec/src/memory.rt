@@ -82,6 +82,7 @@ fn rampz_raised(rampz: u8, z: u16) -> u8
 }
 
 /// The byte of the program at RAMPZ:Z, with RAMPZ set as it is when RAMPZ:Z is raised by one.
+#[inline(always)]
 pub(crate) fn extended_byte_raising<B: Bus>(bus: &mut B, z: u16) -> u8
     ensures value { result ≡ B.calls.flash_byte (B.space bus.old) (extended_of (B.calls.rampz (B.space bus.old)) z) }
     ensures raised { B.space bus.new

@@ -1,2 +1,5 @@
 pub mod StatusTables
 pub mod StatusLaws
+pub mod TableLaws
+pub mod CarryLaws
+pub mod PairLaws

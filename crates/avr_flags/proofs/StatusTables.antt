@@ -1,9 +1,9 @@
 -- The set's operations on one flag, compared with arithmetic on all bytes.
-use Rattle.std.proofs.Common.{◌≡◌, ℕ, ◌<◌, ◌==◌, Bool, true, false, ◌&&◌, ◌⊎◌, inl, inr, if◌then◌else◌, bit_and, bit_or, refl, sym, arith, subst}
+use Rattle.std.proofs.Common.{◌≡◌, ℕ, ◌<◌, ◌==◌, Bool, true, false, ◌&&◌, ◌⊎◌, inl, inr, if◌then◌else◌, bit_or, refl, sym, arith, subst}
 use Rattle.std.proofs.lemmas.Bool.{agree_below, agree_below_at}
 use Rattle.std.proofs.lemmas.Bool.Decides.{nat_tests}
 use Rattle.bitflags.specs.Sets.{without}
-use Rattle.avr_flags.specs.Status.{is_weight, has_bit, with_bit, zero_flag}
+use Rattle.avr_flags.specs.Status.{is_weight, with_bit}
 
 -- whether inserting this flag into n and removing it make its bit so
 abbrev is_set_by_arithmetic : ℕ → ℕ → Bool
@@ -44,7 +44,3 @@ set_flag n w true lt h =
 set_flag n w false lt h =
     let p : is_set_by_arithmetic w n ≡ true = agree_below_at (is_set_by_arithmetic w) (λ _. true) 256 n (every_byte w h) lt in
     grind (arith, nat_tests)
-
--- Z is in a set where its bit is set
-pub contains_zero : (n : ℕ) → n < 256 → (bit_and n 2 == 2) ≡ has_bit n zero_flag
-contains_zero n lt = agree_below_at (λ m. bit_and m 2 == 2) (λ m. has_bit m zero_flag) 256 n refl lt

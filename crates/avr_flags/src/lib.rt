@@ -12,6 +12,7 @@ mod pairs;
 mod products;
 mod status;
 mod sums;
+mod tables;
 
 pub use logic::{and_bits, asr, com, eor, lsr, or_bits, ror};
 pub use pairs::{adiw, sbiw};

@@ -4,27 +4,22 @@ ghost use Rattle.std.specs.Prelude.{◌≡◌, ◌+◌, ◌*◌, ◌/◌};
 ghost use Rattle.avr_flags.specs.Logic.{bitwise_status as status_of_bitwise, shift_status as status_of_shift, and_of, or_of, eor_of, com_of, lsr_of, ror_of, asr_of};
 
 use crate::status::Status;
-use crate::sums::bit_7;
 
 /// The flags after a bitwise operation with this result.
 #[tactic(auto, unfolding(crate::specs::Logic::bitwise_status))]
 fn bitwise_status(sreg: u8, value: u8) -> Status
     ensures { result.0 ≡ status_of_bitwise sreg value }
 {
-    Status::new(sreg).with_result(bit_7(value), value == 0, false)
+    Status::new(sreg).with_result(value, false)
 }
 
 /// SREG after a shift of `d` to the right with this result.
-#[tactic(auto, unfolding(crate::specs::Logic::shift_status))]
 fn shift_status(sreg: u8, d: u8, value: u8) -> u8
     ensures { result ≡ status_of_shift sreg d value }
 {
-    let n = bit_7(value);
-    let c = d & 1 == 1;
-    Status::new(sreg)
-        .with_result(n, value == 0, n ^ c)
-        .with(Status::CARRY, c)
-        .sreg()
+    // C stands for the carry into bit 8 and N for the one into bit 7, so that V is N xor C.
+    let carries = u16::from(d & 1) * 0x100 + u16::from(value);
+    Status::new(sreg).with_top_carries(carries, value).sreg()
 }
 
 /// AND and ANDI. V is cleared; C and H stay.

@@ -1,62 +1,37 @@
 //! A constant added to or subtracted from a register pair.
 
-ghost use Rattle.std.specs.Prelude.{◌≡◌, ◌+◌, ◌-◌, ◌*◌, ◌/◌, ◌%◌, ◌≤◌, nat_le, nat_lt, pos, ◌+ℤ◌, ◌-ℤ◌};
-ghost use Rattle.avr_flags.specs.Pairs.{signed_pair, leaves_pair, pair_status as status_of_pair, adiw_of, sbiw_of};
+ghost use Rattle.std.specs.Prelude.{◌≡◌, ◌+◌, ◌*◌, ◌/◌, ◌%◌, ◌≤◌, ◌==◌, nat_le, bit_xor};
+ghost use Rattle.avr_flags.specs.Status.{has_bit, differ};
+ghost use Rattle.avr_flags.specs.Pairs.{pair_status, adiw_of, sbiw_of};
 
 use crate::status::Status;
 
-/// Bit 15 of a pair.
-pub(crate) fn bit_15(pair: u16) -> bool
-    ensures { result ≡ nat_le 32768 pair }
+/// A byte that is 0 where the pair is, and whose top bit is the pair's.
+fn summary(pair: u16) -> u8
+    ensures zero { (result == 0) ≡ (pair == 0) }
+    ensures top { nat_le 128 result ≡ nat_le 32768 pair }
 {
-    pair >> 15 == 1
+    let high = (pair >> 8) as u8;
+    if pair & 0xFF == 0 { high } else { high | 1 }
 }
 
-/// C of a pair's sum, which is `value`.
-fn sum_carry(d: u16, k: u8, value: u16) -> bool
-    requires small { k ≤ 63 }
-    requires value_is_sum { value ≡ (d + k) % 65536 }
-    ensures { result ≡ nat_le 65536 (d + k) }
+/// What a pair's sum or difference leaves in 16 bits, and SREG after it. `wide` is the whole number, and
+/// the constant has no bit above bit 5, so that bits 15 and 16 of `d` xor `wide` are the carries into these.
+fn outcome(sreg: u8, d: u16, wide: u32) -> (u16, u8)
+    ensures { result
+        ≡ (
+          wide % 65536,
+          pair_status sreg
+              (wide % 65536)
+              (differ (has_bit (bit_xor d wide) 32768) (has_bit (bit_xor d wide) 65536))
+              (has_bit (bit_xor d wide) 65536),
+        ) }
 {
-    !bit_15(value) & bit_15(d)
-}
-
-/// V of a pair's sum, which is `value`.
-fn sum_overflow(d: u16, k: u8, value: u16) -> bool
-    requires small { k ≤ 63 }
-    requires value_is_sum { value ≡ (d + k) % 65536 }
-    ensures { result ≡ leaves_pair (signed_pair d +ℤ pos k) }
-{
-    !bit_15(d) & bit_15(value)
-}
-
-/// C of a pair's difference, which is `value`.
-fn difference_carry(d: u16, k: u8, value: u16) -> bool
-    requires small { k ≤ 63 }
-    requires value_is_difference { value ≡ (d + 65536 - k) % 65536 }
-    ensures { result ≡ nat_lt d k }
-{
-    bit_15(value) & !bit_15(d)
-}
-
-/// V of a pair's difference, which is `value`.
-fn difference_overflow(d: u16, k: u8, value: u16) -> bool
-    requires small { k ≤ 63 }
-    requires value_is_difference { value ≡ (d + 65536 - k) % 65536 }
-    ensures { result ≡ leaves_pair (signed_pair d -ℤ pos k) }
-{
-    bit_15(d) & !bit_15(value)
-}
-
-/// SREG after a pair's sum or difference.
-#[tactic(auto, unfolding(crate::specs::Pairs::pair_status))]
-fn pair_status(sreg: u8, value: u16, overflow: bool, carry: bool) -> u8
-    ensures { result ≡ status_of_pair sreg value overflow carry }
-{
-    Status::new(sreg)
-        .with_result(bit_15(value), value == 0, overflow)
-        .with(Status::CARRY, carry)
-        .sreg()
+    // Those into bits 15 and 16 stand in the place of those into bits 7 and 8.
+    let carries = ((u32::from(d) ^ wide) >> 8 & 0x1FF) as u16;
+    let value = (wide & 0xFFFF) as u16;
+    let status = Status::new(sreg).with_top_carries(carries, summary(value));
+    (value, status.sreg())
 }
 
 /// ADIW: a register pair and a constant of at most 63. H stays.
@@ -64,10 +39,7 @@ pub fn adiw(sreg: u8, d: u16, k: u8) -> (u16, u8)
     requires small { k ≤ 63 }
     ensures outcome { result ≡ adiw_of sreg d k }
 {
-    let value = d.wrapping_add(u16::from(k));
-    let overflow = sum_overflow(d, k, value);
-    let carry = sum_carry(d, k, value);
-    (value, pair_status(sreg, value, overflow, carry))
+    outcome(sreg, d, u32::from(d) + u32::from(k))
 }
 
 /// SBIW: a register pair less a constant of at most 63. H stays.
@@ -75,8 +47,6 @@ pub fn sbiw(sreg: u8, d: u16, k: u8) -> (u16, u8)
     requires small { k ≤ 63 }
     ensures outcome { result ≡ sbiw_of sreg d k }
 {
-    let value = d.wrapping_sub(u16::from(k));
-    let overflow = difference_overflow(d, k, value);
-    let carry = difference_carry(d, k, value);
-    (value, pair_status(sreg, value, overflow, carry))
+    // A bit that stands above gives what is borrowed.
+    outcome(sreg, d, 0x2_0000 + u32::from(d) - u32::from(k))
 }

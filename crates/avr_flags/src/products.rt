@@ -4,7 +4,6 @@ ghost use Rattle.std.specs.Prelude.{◌≡◌, ℕ, ◌+◌, ◌-◌, ◌*◌, �
 ghost use Rattle.avr_flags.specs.Sums.{signed_byte};
 ghost use Rattle.avr_flags.specs.Products.{signed_product as product_of_signed, mixed_product as product_of_mixed, product_status as status_of_product, whole_of, fractional_of, mul_of, muls_of, mulsu_of, fmul_of, fmuls_of, fmulsu_of};
 
-use crate::pairs::bit_15;
 use crate::status::Status;
 
 /// The number that a byte stands for in two's complement.
@@ -33,6 +32,13 @@ fn mixed_product(d: u8, r: u8) -> u16
     ensures { result ≡ product_of_mixed d r }
 {
     (signed(d) * i16::from(r)).cast_unsigned()
+}
+
+/// Bit 15 of a product.
+fn bit_15(product: u16) -> bool
+    ensures { result ≡ nat_le 32768 product }
+{
+    product >> 15 == 1
 }
 
 /// SREG after a product, with Z of `value`.

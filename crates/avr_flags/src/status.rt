@@ -1,9 +1,10 @@
 //! The status register as a set of named flags.
 
-ghost use Rattle.std.specs.Prelude.{⊤, ◌≡◌, [], ◌∷◌, codes, IsTrue};
-ghost use Rattle.avr_flags.specs.Status.{is_weight, has_bit, with_bit, with_result_flags, zero_flag};
+ghost use Rattle.std.specs.Prelude.{⊤, ◌≡◌, [], ◌∷◌, codes, IsTrue, ◌<◌, ◌==◌, nat_le, if◌then◌else◌};
+ghost use Rattle.avr_flags.specs.Status.{is_weight, has_bit, with_bit, differ, carry, with_result_flags, with_arithmetic_flags};
 ghost use Rattle.avr_flags.specs.Sums.{carry_in};
 
+use crate::tables::{flags_of_carries, flags_of_result};
 use bitflags::{Flag, Flags, bitflag_items};
 
 /// The flags of SREG.
@@ -53,7 +54,27 @@ impl Flags for Status {
     }
 }
 
+/// V, and S as for a result that isn't negative.
+fn overflow_flags(overflow: bool) -> u8
+    ensures { result ≡ if overflow then 24 else 0 }
+{
+    if overflow {
+        Status::OVERFLOW.0 + Status::SIGN.0
+    } else {
+        0
+    }
+}
+
 impl Status {
+    /// T and I, which no arithmetic touches.
+    const KEPT_BY_SUMS: u8 = Status::TRANSFER.0 | Status::INTERRUPTS.0;
+
+    /// These and H.
+    const KEPT_BY_TOP_CARRIES: u8 = Status::KEPT_BY_SUMS | Status::HALF_CARRY.0;
+
+    /// These, H and C.
+    const KEPT_BY_RESULTS: u8 = Status::KEPT_BY_TOP_CARRIES | Status::CARRY.0;
+
     /// The flags that SREG holds.
     pub(crate) fn new(sreg: u8) -> Status
         ensures { result.0 ≡ sreg }
@@ -66,13 +87,6 @@ impl Status {
         ensures { result ≡ self.0 }
     {
         self.0
-    }
-
-    /// Whether Z is set.
-    pub(crate) fn is_zero(self) -> bool
-        ensures { result ≡ has_bit self.0 zero_flag }
-    {
-        self.contains(Status::ZERO)
     }
 
     /// The carry as a number to add.
@@ -91,14 +105,42 @@ impl Status {
         self
     }
 
-    /// With N, Z and V made so, and S made N xor V.
-    #[tactic(auto, unfolding(crate::specs::Status::with_result_flags))]
-    pub(crate) fn with_result(self, n: bool, z: bool, v: bool) -> Status
-        ensures { result.0 ≡ with_result_flags self.0 n z v }
+    /// With N and Z as this result tells, V as given, and S made N xor V.
+    pub(crate) fn with_result(self, value: u8, overflow: bool) -> Status
+        ensures { result.0
+            ≡ with_result_flags self.0 (nat_le 128 value) (value == 0) overflow }
     {
-        self.with(Status::SIGN, n ^ v)
-            .with(Status::OVERFLOW, v)
-            .with(Status::NEGATIVE, n)
-            .with(Status::ZERO, z)
+        Status(self.0 & Status::KEPT_BY_RESULTS | flags_of_result(value) ^ overflow_flags(overflow))
+    }
+
+    /// With all flags of a sum or a difference, as its carries (`flags_of_carries`) and its result tell.
+    pub(crate) fn with_sum(self, carries: u16, value: u8) -> Status
+        ensures { result.0
+            ≡ with_arithmetic_flags self.0
+            (has_bit carries 16)
+            (nat_le 128 value)
+            (value == 0)
+            (differ (has_bit carries 128) (has_bit carries 256))
+            (has_bit carries 256) }
+    {
+        Status(self.0 & Status::KEPT_BY_SUMS | flags_of_carries(carries) ^ flags_of_result(value))
+    }
+
+    /// As `with_sum`, but H stays. Of the carries those into bits 7 and 8 count.
+    pub(crate) fn with_top_carries(self, carries: u16, value: u8) -> Status
+        requires { carries < 512 }
+        ensures { result.0
+            ≡ with_bit
+            (with_result_flags self.0
+            (nat_le 128 value)
+            (value == 0)
+            (differ (has_bit carries 128) (has_bit carries 256)))
+            carry
+            (has_bit carries 256) }
+    {
+        Status(
+            self.0 & Status::KEPT_BY_TOP_CARRIES
+                | flags_of_carries(carries & 0x180) ^ flags_of_result(value),
+        )
     }
 }

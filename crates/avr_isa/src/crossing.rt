@@ -8,5 +8,8 @@ ghost use Rattle.avr_isa.specs.Crossing.{is_crossing as is_crossing_test};
 pub fn is_crossing(from: u16, to: u16) -> bool
     ensures value { result ≡ is_crossing_test from to }
 {
-    to <= from || to / 128 != from / 128
+    // How many addresses behind the next one control goes, and how many the page has there.
+    let ahead = to.wrapping_add(!from);
+    let left = !from & 0x7F;
+    ahead >= left
 }

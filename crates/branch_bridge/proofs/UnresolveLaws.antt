@@ -14,7 +14,7 @@ use Rattle.page_index.specs.Maps.{IsPool, IsFree, address_of, entry_count}
 use Rattle.page_index.specs.Entries.{IsEntry}
 use Rattle.page_index.proofs.ChangeLaws.{SamePage}
 use Rattle.nat_page.specs.Standing.{IsLink, Stands, size, jump_word}
-use Rattle.nat_page.specs.CodePages.{page_pieces, HoldsRun}
+use Rattle.nat_page.specs.CodePages.{page_pieces, HoldsRun, IsCodePage}
 use Rattle.nat_page.specs.Faithful.{IsFaithful, IsRewritten}
 use Rattle.nat_page.specs.Links.{IsUnresolved, with_two_words}
 use Rattle.nat_page.specs.Used.{is_used}
@@ -24,8 +24,8 @@ use Rattle.nat_page.proofs.TwoWords.{length-with_two_words, word_beside_two, fir
 use Rattle.nat_page.proofs.UsedLaws.{free_unused, holds_run_used, same_used}
 use Rattle.nat_page.proofs.KeptLaws.{KeepsRun, kept_entries, kept_entries_back, kept_holds, kept_image, kept_faithful}
 use Rattle.nat_page.proofs.UnlinkLaws.{Each, links_among, among_inside, holds_unlinked, unlinked_page, unlinks}
-use Rattle.nat_page.proofs.WalkLaws.{own_run}
-use Rattle.branch_bridge.specs.Operating.{Performed, perform, rewriting, mended}
+use Rattle.nat_page.proofs.WalkLaws.{own_run, code_page}
+use Rattle.branch_bridge.specs.Operating.{Operation, Performed, perform, rewriting, mended}
 use Rattle.branch_bridge.specs.Unresolving.{unlinking, IsApart}
 use Rattle.branch_bridge.proofs.PerformLaws.{mended_by, rewriting_done, rewriting_ops}
 
@@ -220,3 +220,19 @@ one_told layout image now victim page right code pool =
       | true ↦ λ is. nothing (λ other. absurd (other (same_number page victim is)))
       | false ↦ λ away. by_used refl away
     ]) refl
+
+or_false : (other used : Bool) → (other || not used) ≡ false → used ≡ true
+or_false true used is = absurd (let never : true ≡ false = is in cc)
+or_false false true is = refl
+or_false false false is = absurd (let never : true ≡ false = is in cc)
+
+none_by : (away some : Bool) (operations : List Operation) → (away ≡ false → some ≡ false) → (if (if away then false else some) then operations else []) ≡ []
+none_by true some operations none = refl
+none_by false some operations none = ap (λ b. if b then operations else []) (none refl)
+
+-- nothing is done to a page that has no stub into the victim if it is used
+pub nothing_to_unlink : (layout : Layout) (image words : List ℕ) (victim page : ℕ) → IsFaithful layout image words → IsPool layout page
+    → (IsCodePage image words page → are_some (stubs_into image words victim page) ≡ false) → unlinking image words victim page ≡ []
+nothing_to_unlink layout image words victim page code pool none =
+    none_by (page == victim || not (is_used words page)) (are_some (stubs_into image words victim page)) (rewriting page (page_of (with_calls words (stubs_into image words victim page)) page)) (λ stays.
+    none (code_page layout image words page (used_rewritten layout image words page code pool (or_false (page == victim) (is_used words page) stays))))

@@ -16,13 +16,10 @@ ghost use Rattle.branch_bridge.specs.declared.arrival.ArriveStop.TheVariants as 
 use crate::rewriting::Torn;
 use crate::unresolving::unresolve;
 use addr_tables::{find_by, forget_page, note};
-use flash_model::{Flash, Layout};
+use flash_model::{Flash, Layout, PAGE_WORDS};
 use nat_page::prepare_with;
 use page_index::{Places, known_offsets};
 use sram_layout::Sram;
-
-/// How many words a page of flash has.
-pub(crate) const PAGE_WORDS: u16 = 128;
 
 /// Why control can't go on at an original address.
 #[derive(Clone, Copy, Debug, PartialEq, Eq)]

@@ -12,12 +12,9 @@ ghost use Rattle.branch_bridge.specs.Operating.{perform, stop_of, mended};
 ghost use Rattle.branch_bridge.specs.Resolving.{CanResolve, resolving};
 
 use crate::rewriting::{ResolveStop, rewrite};
-use flash_model::{Flash, Layout};
+use flash_model::{Flash, Layout, PAGE_WORDS};
 use nat_page::page_words;
 use nat_template::resolved;
-
-/// The words of a page.
-const PAGE_WORDS: u16 = 128;
 
 /// Resolves the stub whose call of the kernel's bridge stands at the word address `stub`: a jump to `place`,
 /// the place of the address that the stub leads to, takes the place of the call. The stub's page is erased

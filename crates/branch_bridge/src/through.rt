@@ -9,11 +9,11 @@ ghost use Rattle.addr_tables.specs.Tables.{IsTables};
 ghost use Rattle.branch_bridge.specs.Arrivals.{ArrivesFrom, CameThrough, KeptThrough, KeepsParts, went_on, ring_of, to_resolve as to_resolve_of, refused_by};
 ghost use Rattle.branch_bridge.specs.Operating.{stop_of};
 
-use crate::arrival::{ArriveStop, Moved, PAGE_WORDS, Refused, arrive_by};
+use crate::arrival::{ArriveStop, Moved, Refused, arrive_by};
 use crate::resolving::resolve;
 use crate::rewriting::ResolveStop;
 use addr_tables::find_known;
-use flash_model::{Flash, Layout};
+use flash_model::{Flash, Layout, PAGE_WORDS};
 use page_index::Places;
 use sram_layout::Sram;
 

@@ -11,14 +11,8 @@ ghost use Rattle.branch_bridge.specs.Operating.{perform, stop_of, mended};
 ghost use Rattle.branch_bridge.specs.Unresolving.{unlinking, unresolved_in, IsApart};
 
 use crate::rewriting::{ResolveStop, rewrite};
-use flash_model::{Flash, Layout};
+use flash_model::{BLANK, Flash, Layout, PAGE_WORDS};
 use nat_page::{LeadsInto, may_have_stubs_into, without_links};
-
-/// The words of a page.
-const PAGE_WORDS: u16 = 128;
-
-/// A word of a page that is free.
-const BLANK: u16 = 0xFFFF;
 
 /// Each other used page that has stubs that jump into the victim gets the call of the kernel's bridge in the
 /// place of all of them, by one erase and one program; in ascending order.
@@ -42,15 +36,19 @@ pub fn unresolve(flash: &mut Flash, layout: &Layout, victim: u16) -> Result<(), 
     ensures ops { flash.new.ops ≤ flash.old.ops + 2 * layout.now.pool_pages }
 {
     'pages: for k in 0..layout.pool_pages {
-        match unlink_page(flash, layout, victim, layout.pool_first + k) {
-            Ok(()) => {}
-            Err(stop) => return Err(stop),
+        let page = layout.pool_first + k;
+        if may_have_stubs_into(flash, layout, victim, page) {
+            match unlink_page(flash, layout, victim, page) {
+                Ok(()) => {}
+                Err(stop) => return Err(stop),
+            }
         }
     }
     Ok(())
 }
 
-/// One page.
+/// One page. Not inlined, since the room that its words want is cleared where it begins.
+#[inline(never)]
 fn unlink_page(
     flash: &mut Flash,
     layout: &Layout,
@@ -68,9 +66,6 @@ fn unlink_page(
         return Ok(());
     }
     if flash.word(PAGE_WORDS * page) == BLANK {
-        return Ok(());
-    }
-    if !may_have_stubs_into(flash, layout, victim, page) {
         return Ok(());
     }
     let without = without_links(flash, layout, page, &LeadsInto { page: victim });

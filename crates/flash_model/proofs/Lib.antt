@@ -1,6 +1,8 @@
 mod Programming
 mod Renewing
 mod PageSetLaws
+mod NextPageLaws
+mod HeadLaws
 mod FailingLaws
 mod WorkedOperations
 pub mod PageLaws

@@ -6,3 +6,5 @@ pub mod Layouts
 pub mod Code
 pub mod Jumps
 pub mod Kept
+pub mod Seen
+pub mod Heads

@@ -6,6 +6,7 @@ ghost use Rattle.flash_model.specs.Pages.{word_count, page_count, page_words, ma
 ghost use Rattle.flash_model.specs.Memory.{AreWords, IsWhole, erased_flash, loaded, new_flash};
 
 use crate::failing::{FlashStop, next_listed};
+use crate::layout::{self, BLANK, KERNEL_FIRST};
 use std::alloc::Global;
 use std::marker::Model;
 use tk_io::NoMemory;
@@ -17,13 +18,7 @@ pub(crate) const WORDS: usize = 65536;
 pub(crate) const PAGES: usize = 512;
 
 /// The words of a page.
-pub(crate) const PAGE_WORDS: usize = 128;
-
-/// The first word of the kernel's pages.
-const KERNEL_FIRST: usize = 0xF000;
-
-/// An erased word.
-pub(crate) const BLANK: u16 = 0xFFFF;
+pub(crate) const PAGE_WORDS: usize = layout::PAGE_WORDS as usize;
 
 /// RET, the word in each place of the kernel's pages.
 const RET: u16 = 0x9508;
@@ -239,7 +234,7 @@ fn loaded_words(alloc: Global, image: &[u16]) -> Result<Vec<u16>, NoMemory>
 {
     let mut words = Vec::with_capacity(alloc, WORDS).map_err(|_| NoMemory)?;
     words.extend_from_slice(image).map_err(|_| NoMemory)?;
-    fill_up(&mut words, KERNEL_FIRST, BLANK)?;
+    fill_up(&mut words, KERNEL_FIRST as usize, BLANK)?;
     fill_up(&mut words, WORDS, RET)?;
     Ok(words)
 }

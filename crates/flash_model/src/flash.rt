@@ -1,15 +1,17 @@
 //! Flash: its words, and what is kept beside them.
 
-ghost use Rattle.std.specs.Prelude.{◌≡◌, ◌≤◌, ◌<◌, ◌^◌, true, false, [], ◌∷◌, length, OnOk, OnErr, IfOk, IfErr, slice_index};
+ghost use Rattle.std.specs.Prelude.{◌≡◌, ◌≢◌, ℕ, ◌≤◌, ◌<◌, ◌^◌, true, false, [], ◌∷◌, length, OnOk, OnErr, IfOk, IfErr, IfSome, IfNone, slice_index};
 ghost use Rattle.flash_model.specs.Pages.{page_count, word_at, page_of, blank, programmed};
 ghost use Rattle.flash_model.specs.Memory.{IsWhole, erased_flash, new_flash};
 ghost use Rattle.flash_model.specs.Operations.{next_op, fails, left_by_refusal, erased_page, programmed_page, renewed, Erase, Program, perform, refusal_of};
 ghost use Rattle.flash_model.specs.Code.{decoded_at};
 ghost use Rattle.flash_model.specs.Jumps.{HasNoJumpInto};
+ghost use Rattle.flash_model.specs.Heads.{head};
 
 use crate::cells::{Cells, PAGE_WORDS};
 use crate::decoded::Decoded;
 use crate::failing::FlashStop;
+use crate::heads::Heads;
 use crate::kept::{Kept, words_to_program};
 use std::alloc::Global;
 use std::marker::Model;
@@ -20,17 +22,19 @@ use tk_io::NoMemory;
 pub struct Flash {
     cells: Cells,
     kept: Kept,
+    heads: Heads,
 }
 
 impl Model for Flash {
     ghost use Rattle.flash_model.specs.Memory.{Memory, IsWhole};
     ghost use Rattle.flash_model.specs.Kept.{IsKept};
+    ghost use Rattle.flash_model.specs.Heads.{AreHeads};
 
     ghost Value = { Memory };
 
     ghost view = { λ f. f.cells };
 
-    ghost invariant = { λ f. IsWhole f.cells × IsKept f.cells.words f.kept };
+    ghost invariant = { λ f. IsWhole f.cells × IsKept f.cells.words f.kept × AreHeads f.cells.words f.heads };
 }
 
 impl Flash {
@@ -43,7 +47,8 @@ impl Flash {
     {
         let cells = Cells::new(alloc, image, failing)?;
         let kept = Kept::new(alloc, &cells)?;
-        Ok(Flash { cells, kept })
+        let heads = Heads::new(alloc, &cells)?;
+        Ok(Flash { cells, kept, heads })
     }
 
     /// A flash whose words are all erased, the kernel's too, before any operation; none is to fail.
@@ -53,7 +58,8 @@ impl Flash {
     {
         let cells = Cells::erased(alloc)?;
         let kept = Kept::new(alloc, &cells)?;
-        Ok(Flash { cells, kept })
+        let heads = Heads::new(alloc, &cells)?;
+        Ok(Flash { cells, kept, heads })
     }
 
     /// The word at a word address.
@@ -90,6 +96,17 @@ impl Flash {
         ensures whole { IsWhole self.now }
     {
         self.kept.may_jump_into(page, target)
+    }
+
+    /// The lowest page from one on and below another that may begin with this word; None where none does.
+    pub fn page_beginning(&self, from: u16, to: u16, first: u16) -> Option<u16>
+        requires end { to ≤ page_count }
+        ensures range { IfSome result (λ page. (from ≤ page) × (page < to)) }
+        // Those before it begin otherwise.
+        ensures lowest { IfSome result (λ page. (lower : ℕ) → from ≤ lower → lower < page → head self.now.words lower ≢ first) }
+        ensures none { IfNone result ((page : ℕ) → from ≤ page → page < to → head self.now.words page ≢ first) }
+    {
+        self.heads.next(from, to, first)
     }
 
     /// How often the page was erased, 4,294,967,295 for this many times or more.
@@ -141,8 +158,10 @@ impl Flash {
         ensures performed { perform self.old (Erase page ∷ []) ≡ record { memory = self.new; refusal = refusal_of (Erase page) result } }
         ensures whole { IsWhole self.old × IsWhole self.new }
     {
+        let first = self.cells.word(page * PAGE_WORDS as u16);
         self.cells.erase(page)?;
         self.kept.renew_blank(&self.cells, page);
+        self.heads.renew(&self.cells, page, first);
         Ok(())
     }
 
@@ -165,10 +184,12 @@ impl Flash {
         ensures performed { page_of self.old.words page ≡ blank → perform self.old (Program page words.now ∷ []) ≡ record { memory = self.new; refusal = refusal_of (Program page words.now) result } }
         ensures whole { IsWhole self.old × IsWhole self.new }
     {
+        let head = self.cells.word(page * PAGE_WORDS as u16);
         self.cells.program(page, words)?;
         let first = PAGE_WORDS * page as usize;
         self.kept
             .renew_changed(&self.cells, first, first + words_to_program(words));
+        self.heads.renew(&self.cells, page, head);
         Ok(())
     }
 }

@@ -7,9 +7,11 @@ ghost use Rattle.flash_model.specs.Code.{decoded_at};
 ghost use Rattle.flash_model.specs.Jumps.{HasNoJumpInto};
 ghost use Rattle.flash_model.specs.Kept.{has_page, IsSized, IsKept, IsKeptOutside, IsKeptBeside, Renews};
 
-use crate::cells::{BLANK, Cells, PAGE_WORDS, PAGES, WORDS};
+use crate::cells::{Cells, PAGE_WORDS, PAGES, WORDS};
 use crate::decoded::Decoded;
+use crate::layout::BLANK;
 use crate::page_set::PageSet;
+use crate::seen::Seen;
 use std::alloc::Global;
 use tk_io::NoMemory;
 
@@ -23,6 +25,8 @@ pub(crate) struct Kept {
     code: Vec<Decoded>,
     /// For each page the pages that its jumps lead into, and perhaps others.
     jumps: Vec<PageSet>,
+    /// Words that were decoded already.
+    seen: Seen,
 }
 
 impl Kept {
@@ -33,6 +37,7 @@ impl Kept {
         let mut kept = Kept {
             code: no_code(alloc)?,
             jumps: no_jumps(alloc)?,
+            seen: Seen::new(alloc)?,
         };
         kept.renew(cells, 0, WORDS);
         Ok(kept)
@@ -106,7 +111,11 @@ impl Kept {
     {
         let first = cells.word(a);
         let second = cells.word(a.wrapping_add(1));
-        put(&mut self.code, a as usize, &Decoded::new(first, second));
+        put(
+            &mut self.code,
+            a as usize,
+            &self.seen.decoded(first, second),
+        );
         if first == JMP {
             add(
                 &mut self.jumps,

@@ -1,5 +1,14 @@
 //! Where the image ends and which pages are the code pool's.
 
+/// The words of a page.
+pub const PAGE_WORDS: u16 = 128;
+
+/// An erased word.
+pub const BLANK: u16 = 0xFFFF;
+
+/// The first word of the kernel's pages, where its entries begin.
+pub const KERNEL_FIRST: u16 = 0xF000;
+
 /// Which part of flash is the image and which is the code pool. The pages from 480 on are the
 /// kernel's.
 #[derive(Debug, Clone, Copy, PartialEq, Eq)]

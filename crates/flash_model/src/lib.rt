@@ -21,11 +21,12 @@
 //! a row.
 //!
 //! [`Flash::decoded`] gives what is kept decoded at a word address (`decoded.rt`), and [`Flash::may_jump_into`] asks
-//! the set that is kept for a page (`page_set.rt`), which has each page that a jump in it leads into. The words
-//! themselves are in `cells.rt`; behind each operation on a page, `kept.rt` makes anew what is kept of the words that
-//! changed. That what is kept is what the words mean (`specs/Kept.antt`) is an invariant of [`Flash`], and contracts
-//! see the words alone. `failing.rt` finds the next number that is listed, so an operation compares its own with one
-//! (`specs/Failing.antt`).
+//! the set that is kept for a page (`page_set.rt`), which has each page that a jump in it leads into.
+//! [`Flash::page_beginning`] finds pages by their first words (`heads.rt`, `specs/Heads.antt`). The words themselves are
+//! in `cells.rt`; behind each operation on a page, `kept.rt` makes anew what is kept of the words that changed. Words
+//! that were decoded already are not decoded again (`seen.rt`, `specs/Seen.antt`). That what is kept is what the words
+//! mean (`specs/Kept.antt`) is an invariant of [`Flash`], and contracts see the words alone. `failing.rt` finds the next
+//! number that is listed, so an operation compares its own with one (`specs/Failing.antt`).
 //!
 //! Each call ensures that the flash is whole: 65,536 words of 16 bits in 512 pages (`IsWhole`). So a
 //! caller has a word's range from any call, as `c.word.ensures.whole.words_fit a`.
@@ -38,13 +39,15 @@ mod cells;
 mod decoded;
 mod failing;
 mod flash;
+mod heads;
 mod image;
 mod kept;
 mod layout;
 mod page_set;
+mod seen;
 
 pub use decoded::Decoded;
 pub use failing::FlashStop;
 pub use flash::Flash;
 pub use image::word_in_image;
-pub use layout::Layout;
+pub use layout::{BLANK, KERNEL_FIRST, Layout, PAGE_WORDS};

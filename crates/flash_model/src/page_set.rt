@@ -1,6 +1,7 @@
 //! A set of pages.
 
-ghost use Rattle.std.specs.Prelude.{◌≡◌, ℕ, ◌/◌, ◌%◌, true};
+ghost use Rattle.std.specs.Prelude.{◌≡◌, ◌≢◌, ℕ, ◌/◌, ◌%◌, ◌<◌, ◌≤◌, true, false, IfSome, IfNone};
+ghost use Rattle.flash_model.specs.Pages.{page_count};
 ghost use Rattle.flash_model.specs.Kept.{has_page};
 
 /// A set of pages of flash.
@@ -29,6 +30,33 @@ impl PageSet {
         ensures others { (other : ℕ) → has_page self.old other ≡ true → has_page self.new other ≡ true }
     {
         self.bits[word_of(page)] |= 1 << (page % 64);
+    }
+
+    /// Takes the page out of the set.
+    pub(crate) fn remove(&mut self, page: u16)
+        ensures others { (other : ℕ) → other % 512 ≢ page % 512 → has_page self.old other ≡ true → has_page self.new other ≡ true }
+    {
+        self.bits[word_of(page)] &= !(1 << (page % 64));
+    }
+
+    /// The lowest page of the set from one on and below another; None where none is.
+    pub(crate) fn next(&self, from: u16, to: u16) -> Option<u16>
+        requires end { to ≤ page_count }
+        ensures range { IfSome result (λ page. (from ≤ page) × (page < to)) }
+        ensures lowest { IfSome result (λ page. (lower : ℕ) → from ≤ lower → lower < page → has_page self.now lower ≡ false) }
+        ensures none { IfNone result ((page : ℕ) → from ≤ page → page < to → has_page self.now page ≡ false) }
+    {
+        let mut page = from;
+        'words: while page < to {
+            let bits = self.bits[word_of(page)];
+            let rest = bits >> (page % 64);
+            if rest != 0 {
+                let found = page + rest.trailing_zeros() as u16;
+                return if found < to { Some(found) } else { None };
+            }
+            page = page / 64 * 64 + 64;
+        }
+        None
     }
 }
 

@@ -58,10 +58,13 @@ count_left k form can =
     count_by k (λ after. HeapAfter (memory_of k) (ask_of form (core_of k (descriptor k))) after) (executed k form)
     (executed_leaves form (core_of k (descriptor k)) (memory_of k) (next_size (image_held k) (descriptor k)) can.paged)
 
+pub count_stays : (k next : Kernel) (form : Form) (told : Result Ran BusStop) → CanExecute k → ◌≡◌ {A = Result Ran BusStop × Kernel} (told, next) (execution k form) → byte_at next.mote.sram count_cell ≡ byte_at k.mote.sram count_cell
+count_stays k next form told can is = ap (λ x. byte_at x.1.mote.sram count_cell) is ∙ count_left k form can
+
 pub can_count : (k next : Kernel) (form : Form) (told : Result Ran BusStop) → CanExecute k → CanCount k → ◌≡◌ {A = Result Ran BusStop × Kernel} (told, next) (execution k form)
     → (1 ≤ byte_at next.mote.sram count_cell) × (byte_at next.mote.sram count_cell ≤ next.quantum)
 can_count k next form told can count is =
-    let same : byte_at next.mote.sram count_cell ≡ byte_at k.mote.sram count_cell = ap (λ x. byte_at x.1.mote.sram count_cell) is ∙ count_left k form can in
+    let same : byte_at next.mote.sram count_cell ≡ byte_at k.mote.sram count_cell = count_stays k next form told can is in
     let quantum : next.quantum ≡ k.quantum = quantum_left k next form told is in
     let some = count.some in
     let most = count.most in

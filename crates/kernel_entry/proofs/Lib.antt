@@ -1,6 +1,7 @@
 -- Laws of the services.
 mod Executing
 mod Answering
+mod Running
 pub mod LeftLaws
 pub mod ViewLaws
 pub mod ShapeLaws

@@ -39,7 +39,7 @@ use Rattle.avr_isa.specs.Instruction.{size_of}
 use Rattle.avr_exec.specs.Registers.{wrapping_sum}
 use Rattle.heap_frames.specs.SamePaging.{SamePaging}
 use Rattle.mem_guard.specs.FlatSpace.{push_return, pop_return}
-use Rattle.kernel_entry.specs.Services.{bridged, faulted, foreign_in, foreign_read, read_by, accessed, executed, execution, execution_by, if_instruction, resumed_by, resumed, gone_by, gone, halted_or_gone, quantum_ended, fault_of, is_sleep, slept, slept_by, woken, served, served_at}
+use Rattle.kernel_entry.specs.Services.{bridged, faulted, foreign_in, foreign_read, read_by, accessed, executed, execution, execution_by, if_instruction, resumed_by, resumed, gone_by, gone, halted, halted_or_gone, quantum_ended, fault_of, is_sleep, slept, slept_by, woken, served, served_at}
 use Rattle.kernel_entry.specs.Conditions.{CanServe, CanExecute, IsCalled, shape_behind, executes}
 use Rattle.kernel_entry.specs.Seen.{View, view_of, space_of, program, state_at}
 use Rattle.kernel_entry.specs.Left.{Leaves, LeavesHeap}
@@ -53,7 +53,7 @@ use Rattle.kernel_entry.proofs.FaultLaws.{fault_tried, sleep_tried}
 use Rattle.kernel_entry.proofs.TriedLaws.{resumes_tried, goes_tried, transfers, self_transfers}
 
 -- the service by the entry
-at_entry : (k : Kernel) (entry : ℕ) → k.mote.cpu.pc ≡ entry → served k ≡ served_at entry k
+pub at_entry : (k : Kernel) (entry : ℕ) → k.mote.cpu.pc ≡ entry → served k ≡ served_at entry k
 unfolding served
 at_entry k entry is = ap (λ pc. served_at pc k) is
 
@@ -98,9 +98,9 @@ gone_as : (k : Kernel) (form : Form) → instruction k ≡ Some form → gone k 
 unfolding gone
 gone_as k form at = ap (λ i. if_instruction k i (λ f. gone_by k (execution k f).0 (execution k f).1)) at
 
-looped_as : (k : Kernel) (b : Bool) → has_bit k.mote.cpu.sreg interrupts ≡ b → halted_or_gone k ≡ (if b then gone k else (Served.Stopped (Halted (descriptor k)), rested k))
+pub looped_as : (k : Kernel) (b : Bool) → has_bit k.mote.cpu.sreg interrupts ≡ b → halted_or_gone k ≡ (if b then gone k else halted k)
 unfolding halted_or_gone
-looped_as k b is = ap (λ b. cond b (gone k) (Served.Stopped (Halted (descriptor k)), rested k)) is
+looped_as k b is = ap (λ b. cond b (gone k) (halted k)) is
 
 -- a fact of the answer and of the kernel behind it, by an equation of both
 pub along : (P : Served → Kernel → Type 0) (x y : Served × Kernel) → x ≡ y → P y.0 y.1 → P x.0 x.1
@@ -118,7 +118,7 @@ goes_at : (k : Kernel) (form : Form) (entry : ℕ) → k.mote.cpu.pc ≡ entry �
 goes_at k form entry here at is = at_entry k entry here ∙ at ∙ gone_as k form is
 
 -- MEM, by the word that may not be read
-accesses_at : (k : Kernel) (foreign : Option ℕ) → k.mote.cpu.pc ≡ mem_entry → foreign_read k ≡ foreign → served k ≡ read_by k foreign
+pub accesses_at : (k : Kernel) (foreign : Option ℕ) → k.mote.cpu.pc ≡ mem_entry → foreign_read k ≡ foreign → served k ≡ read_by k foreign
 unfolding accessed
 accesses_at k foreign here is = at_entry k mem_entry here ∙ ap (read_by k) is
 

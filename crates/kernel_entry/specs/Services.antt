@@ -1,5 +1,5 @@
 -- What each service of the kernel does, as a function of the whole kernel (docs/LOADER.md, "What a service does").
-use Rattle.std.specs.Prelude.{ℕ, Bool, true, false, ◌==◌, ◌||◌, ◌&&◌, if◌then◌else◌, slice_set, Option, Some, None, Result, Ok, Err}
+use Rattle.std.specs.Prelude.{ℕ, Bool, true, false, ◌==◌, ◌||◌, ◌&&◌, nat_lt, is_none, if◌then◌else◌, slice_set, Option, Some, None, Result, Ok, Err}
 use Rattle.avr_isa.specs.declared.form.Form.{Form}
 use Rattle.avr_isa.specs.declared.form.Form.TheVariants as forms
 use Rattle.avr_isa.specs.IoTable.{io_address}
@@ -100,8 +100,11 @@ unfoldable pub gone : Kernel → Served × Kernel
 gone k = if_instruction k (instruction k) (λ form. gone_by k (execution k form).0 (execution k form).1)
 
 -- SELF: the program halts where interrupts are off
+abbrev pub halted : Kernel → Served × Kernel
+halted k = (answers.Stopped (Halted (descriptor k)), rested k)
+
 unfoldable pub halted_or_gone : Kernel → Served × Kernel
-halted_or_gone k = if has_bit k.mote.cpu.sreg interrupts then gone k else (answers.Stopped (Halted (descriptor k)), rested k)
+halted_or_gone k = if has_bit k.mote.cpu.sreg interrupts then gone k else halted k
 
 -- FAULT: why an instruction may not be executed; those that are named with a register may not access it
 abbrev pub fault_of : ℕ → Option Form → Stop
@@ -155,6 +158,16 @@ served_at entry k =
 -- the answer of the entry at which the pc stands, and the kernel after it
 unfoldable pub served : Kernel → Served × Kernel
 served k = served_at k.mote.cpu.pc k
+
+-- the service executes an instruction of the program
+abbrev pub is_run_at : ℕ → Kernel → Bool
+is_run_at entry k =
+    if entry == mem_entry then is_none (foreign_read k)
+    else if entry == self_entry then has_bit k.mote.cpu.sreg interrupts
+    else nat_lt mem_entry entry && nat_lt entry self_entry
+
+abbrev pub is_run : Kernel → Bool
+is_run k = is_run_at k.mote.cpu.pc k
 
 -- A service ends at a checkpoint: QUANTUM, and a step that is the last crossing of the quantum. A SLEEP that an interrupt
 -- ended counts as one.

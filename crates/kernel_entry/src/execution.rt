@@ -22,6 +22,7 @@ pub(crate) struct Ran {
 
 /// Executes the program's instruction at the address that the descriptor names. The core is lent to the
 /// program meanwhile, with the program's own stack pointer and pc; the physical pc is as before then.
+#[inline(always)]
 pub(crate) fn execute(k: &mut Kernel, at: u16, instr: &Instr) -> Result<Ran, BusStop>
     requires at { at ≡ descriptor k.old }
     requires executed { is_executed instr.now ≡ true }

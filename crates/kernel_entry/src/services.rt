@@ -1,6 +1,6 @@
 //! The eight services.
 
-ghost use Rattle.std.specs.Prelude.{◌≡◌, ◌≢◌, true, length};
+ghost use Rattle.std.specs.Prelude.{◌≡◌, ◌≢◌, true, false, length, is_some};
 ghost use Rattle.std.specs.Option.{option_map};
 ghost use Rattle.avr_exec.specs.Execution.{is_executed};
 ghost use Rattle.avr_flags.specs.Status.{has_bit, interrupts};
@@ -9,7 +9,7 @@ ghost use Rattle.sram_layout.specs.Bytes.{byte_count};
 ghost use Rattle.nat_template.specs.Stubs.{bridge_entry, quantum_entry, mem_entry, push_return_entry, return_entry, indirect_entry, self_entry, fault_entry};
 ghost use Rattle.kernel_entry.specs.Conditions.{IsCalled, CanCount, CanServe};
 ghost use Rattle.kernel_entry.specs.Parts.{return_address, descriptor as descriptor_of, instruction};
-ghost use Rattle.kernel_entry.specs.Services.{bridged, quantum_ended, foreign_read as foreign_read_of, accessed, resumed, gone, halted_or_gone, faulted, slept, is_sleep as is_sleep_form, due_by, is_due, served, stop_of as stop_of_bus, fault_of as fault_of_form};
+ghost use Rattle.kernel_entry.specs.Services.{bridged, quantum_ended, foreign_read as foreign_read_of, read_by, halted, faulted, slept, is_sleep as is_sleep_form, is_run, due_by, is_due, served, stop_of as stop_of_bus, fault_of as fault_of_form};
 ghost use Rattle.kernel_entry.specs.Left.{Leaves, LeavesHeap};
 ghost use Rattle.kernel_entry.specs.Rows.{Bridges, EndsQuantum, Executes, PushesReturn, Returns, GoesThrough, LoopsOrHalts, Faults, AsTried};
 
@@ -18,6 +18,7 @@ use crate::kernel::{Kernel, Served, Stop};
 use avr_exec::{BusStop, Cpu};
 use avr_isa::{Form, Instr};
 use mem_guard::{foreign_word, instruction_in_image, known_instruction};
+use nat_template::entries::{BRIDGE, MEM, QUANTUM, RETURN, SELF};
 use preempt_count::{cross, is_crossing};
 use sram_layout::KERNEL_STACK_TOP;
 
@@ -46,29 +47,11 @@ pub fn serve(k: &mut Kernel) -> Served
     ensures tried { k.old.mote.cpu.pc ≢ bridge_entry → k.old.mote.cpu.pc ≢ quantum_entry → AsTried k.old result k.new }
 {
     let at = descriptor(k);
-    serve_at(k, at)
-}
-
-/// Serves the entry, whose descriptor is `at`.
-#[tactic(auto, unfolding(crate::specs::Services::served))]
-fn serve_at(k: &mut Kernel, at: u16) -> Served
-    requires can { CanServe k.old }
-    requires at { at ≡ descriptor_of k.old }
-    ensures served { (result, k.new) ≡ served k.old }
-{
-    match k.mote.cpu.pc {
-        0xF000 => bridge(k, at),
-        0xF002 => end_quantum(k, at),
-        0xF004 => access(k, at),
-        0xF006 => resume(k, at),
-        0xF008 | 0xF00A => go(k, at),
-        0xF00C => halt_or_go(k, at),
-        _ => fault(k, at),
-    }
+    serve_at(k, at).0
 }
 
 /// The same, and tells whether the service ends at a checkpoint, or woke the program: then an interrupt may be taken next.
-#[tactic(auto, unfolding(crate::specs::Services::is_due))]
+#[inline(always)]
 pub fn serve_told(k: &mut Kernel) -> (Served, bool)
     requires can { CanServe k.old }
     ensures served { (result.0, k.new) ≡ served k.old }
@@ -76,10 +59,104 @@ pub fn serve_told(k: &mut Kernel) -> (Served, bool)
     ensures leaves { Leaves k.old k.new }
 {
     let at = descriptor(k);
+    serve_at(k, at)
+}
+
+/// The same, where the descriptor is `at`. Most services execute an instruction of the program, so what they do stands in
+/// one place, and is inlined.
+#[inline(always)]
+fn serve_at(k: &mut Kernel, at: u16) -> (Served, bool)
+    requires can { CanServe k.old }
+    requires at { at ≡ descriptor_of k.old }
+    ensures served { (result.0, k.new) ≡ served k.old }
+    ensures due { result.1 ≡ is_due k.old }
+{
+    if executes(k, at) {
+        run(k, at)
+    } else {
+        serve_apart(k, at)
+    }
+}
+
+/// Whether the service executes an instruction of the program: not where LPM or ELPM would read a word that the program
+/// may not read, nor where the program halts.
+#[tactic(auto, unfolding(crate::specs::Services::is_run))]
+fn executes(k: &Kernel, at: u16) -> bool
+    requires can { CanServe k.now }
+    requires at { at ≡ descriptor_of k.now }
+    ensures value { result ≡ is_run k.now }
+{
+    let entry = k.mote.cpu.pc;
+    if entry == MEM {
+        return foreign_read(k, at).is_none();
+    }
+    if entry == SELF {
+        return has_interrupts(k);
+    }
+    MEM < entry && entry < SELF
+}
+
+/// MEM and PUSHRET, RET, IND, and SELF: the instruction is executed. Behind the first two the template goes on behind the
+/// descriptor, behind the others control goes where the instruction leads.
+#[inline(always)]
+fn run(k: &mut Kernel, at: u16) -> (Served, bool)
+    requires can { CanServe k.old }
+    requires at { at ≡ descriptor_of k.old }
+    requires called { IsCalled k.old }
+    requires run { is_run k.old ≡ true }
+    ensures served { (result.0, k.new) ≡ served k.old }
+    ensures due { result.1 ≡ is_due k.old }
+{
+    let entry = k.mote.cpu.pc;
+    let behind = behind_call(k);
+    let instr = called_instruction(k, at);
+    match execute(k, at, &instr) {
+        Ok(ran) => {
+            if entry < RETURN {
+                k.mote.cpu.pc = behind.wrapping_add(1);
+                return (Served::Resume(ran.line), false);
+            }
+            let due = cross(&mut k.mote.sram, k.quantum, at, ran.pc);
+            let answer = Served::Goto {
+                target: ran.pc,
+                stub: None,
+            };
+            (answer, due)
+        }
+        Err(stop) => (Served::Stopped(stop_of(at, stop)), false),
+    }
+}
+
+/// The services that execute no instruction.
+#[inline(never)]
+fn serve_apart(k: &mut Kernel, at: u16) -> (Served, bool)
+    requires can { CanServe k.old }
+    requires at { at ≡ descriptor_of k.old }
+    requires apart { is_run k.old ≡ false }
+    ensures served { (result.0, k.new) ≡ served k.old }
+    ensures due { result.1 ≡ is_due k.old }
+{
     let entry = k.mote.cpu.pc;
     let last = k.mote.sram.count() == 1;
-    let answer = serve_at(k, at);
+    let answer = answer_apart(k, at);
     (answer, is_due_by(entry, at, last, answer))
+}
+
+/// What they answer.
+#[tactic(auto, unfolding(crate::specs::Services::served))]
+fn answer_apart(k: &mut Kernel, at: u16) -> Served
+    requires can { CanServe k.old }
+    requires at { at ≡ descriptor_of k.old }
+    requires apart { is_run k.old ≡ false }
+    ensures served { (result, k.new) ≡ served k.old }
+{
+    match k.mote.cpu.pc {
+        BRIDGE => bridge(k, at),
+        QUANTUM => end_quantum(k, at),
+        MEM => refuse(k, at),
+        SELF => halt(k, at),
+        _ => fault(k, at),
+    }
 }
 
 /// Whether a service with this answer ends at a checkpoint; `last` is whether the next crossing is one.
@@ -87,7 +164,7 @@ fn is_due_by(entry: u16, at: u16, last: bool, answer: Served) -> bool
     ensures due { result ≡ due_by entry at last answer }
 {
     match answer {
-        Served::Goto { target, stub: None } => entry == 0xF002 || is_crossing(at, target) && last,
+        Served::Goto { target, stub: None } => entry == QUANTUM || is_crossing(at, target) && last,
         Served::Woke { .. } => true,
         _ => false,
     }
@@ -121,23 +198,20 @@ fn end_quantum(k: &mut Kernel, at: u16) -> Served
     }
 }
 
-/// MEM: LPM and ELPM of a word that the program may not read stop it; all else is executed.
-#[tactic(auto, unfolding(crate::specs::Services::accessed))]
-fn access(k: &mut Kernel, at: u16) -> Served
+/// MEM, where LPM or ELPM would read a word that the program may not read.
+fn refuse(k: &mut Kernel, at: u16) -> Served
     requires at { at ≡ descriptor_of k.old }
     requires called { IsCalled k.old }
-    ensures served { (result, k.new) ≡ accessed k.old }
+    requires foreign { is_some (foreign_read_of k.old) ≡ true }
+    ensures served { (result, k.new) ≡ read_by k.old (foreign_read_of k.old) }
 {
-    match foreign_read(k, at) {
-        None => resume(k, at),
-        Some(word) => {
-            k.mote.cpu.sp = KERNEL_STACK_TOP;
-            Served::Stopped(Stop::Read(at, word))
-        }
-    }
+    let word = foreign_read(k, at).unwrap();
+    k.mote.cpu.sp = KERNEL_STACK_TOP;
+    Served::Stopped(Stop::Read(at, word))
 }
 
 /// The word of the program that the instruction would read, where it may not. Only a shut part forbids any.
+#[inline(always)]
 fn foreign_read(k: &Kernel, at: u16) -> Option<u16>
     requires at { at ≡ descriptor_of k.now }
     requires called { IsCalled k.now }
@@ -146,6 +220,16 @@ fn foreign_read(k: &Kernel, at: u16) -> Option<u16>
     if !k.part.shut {
         return None;
     }
+    foreign_read_if_shut(k, at)
+}
+
+/// The same, where the part may be shut.
+#[inline(never)]
+fn foreign_read_if_shut(k: &Kernel, at: u16) -> Option<u16>
+    requires at { at ≡ descriptor_of k.now }
+    requires called { IsCalled k.now }
+    ensures value { result ≡ foreign_read_of k.now }
+{
     let instr = called_instruction(k, at);
     let core = Cpu {
         r: k.mote.cpu.r,
@@ -156,54 +240,11 @@ fn foreign_read(k: &Kernel, at: u16) -> Option<u16>
     foreign_word(&k.part, &k.mote.devices, &instr, &core)
 }
 
-/// MEM, which may read, and PUSHRET: the instruction is executed, and the template goes on behind the descriptor.
-fn resume(k: &mut Kernel, at: u16) -> Served
+/// SELF, where interrupts are off: an RJMP or JMP to its own address halts.
+fn halt(k: &mut Kernel, at: u16) -> Served
     requires at { at ≡ descriptor_of k.old }
-    requires called { IsCalled k.old }
-    ensures served { (result, k.new) ≡ resumed k.old }
+    ensures served { (result, k.new) ≡ halted k.old }
 {
-    let behind = behind_call(k);
-    let instr = called_instruction(k, at);
-    match execute(k, at, &instr) {
-        Ok(ran) => {
-            k.mote.cpu.pc = behind.wrapping_add(1);
-            Served::Resume(ran.line)
-        }
-        Err(stop) => Served::Stopped(stop_of(at, stop)),
-    }
-}
-
-/// RET and IND: the instruction is executed, and control goes where it leads.
-fn go(k: &mut Kernel, at: u16) -> Served
-    requires at { at ≡ descriptor_of k.old }
-    requires called { IsCalled k.old }
-    requires count { CanCount k.old }
-    ensures served { (result, k.new) ≡ gone k.old }
-{
-    let instr = called_instruction(k, at);
-    match execute(k, at, &instr) {
-        Ok(ran) => {
-            cross(&mut k.mote.sram, k.quantum, at, ran.pc);
-            Served::Goto {
-                target: ran.pc,
-                stub: None,
-            }
-        }
-        Err(stop) => Served::Stopped(stop_of(at, stop)),
-    }
-}
-
-/// SELF: an RJMP or JMP to its own address halts where interrupts are off.
-#[tactic(auto, unfolding(crate::specs::Services::halted_or_gone))]
-fn halt_or_go(k: &mut Kernel, at: u16) -> Served
-    requires at { at ≡ descriptor_of k.old }
-    requires called { IsCalled k.old }
-    requires count { CanCount k.old }
-    ensures served { (result, k.new) ≡ halted_or_gone k.old }
-{
-    if has_interrupts(k) {
-        return go(k, at);
-    }
     k.mote.cpu.sp = KERNEL_STACK_TOP;
     Served::Stopped(Stop::Halted(at))
 }

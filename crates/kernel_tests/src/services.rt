@@ -9,25 +9,10 @@ use flash_model::Layout;
 use kernel_entry::{Kernel, Served, Stop, Taken, interrupt, serve};
 use mem_guard::{Part, instruction_in_image};
 use mote_core::Mote;
+use nat_template::entries::{BRIDGE, FAULT, INDIRECT, MEM, PUSH_RETURN, QUANTUM, RETURN, SELF};
 use nat_template::{TemplateShape, shape};
 use std::process::Abort;
 use std::test::Fail;
-
-const BRIDGE: u16 = 0xF000;
-
-const QUANTUM: u16 = 0xF002;
-
-const MEM: u16 = 0xF004;
-
-const PUSHRET: u16 = 0xF006;
-
-const RET: u16 = 0xF008;
-
-const IND: u16 = 0xF00A;
-
-const SELF: u16 = 0xF00C;
-
-const FAULT: u16 = 0xF00E;
 
 /// A program, and from word 32 on the words 0 to 31, which serve as descriptors.
 const IMAGE: [u16; 64] = [
@@ -103,9 +88,9 @@ fn may_serve(k: &Kernel) -> bool
         TemplateShape::Native => pc == BRIDGE,
         TemplateShape::Jump => pc == QUANTUM,
         TemplateShape::Mem => pc == MEM,
-        TemplateShape::Call => pc == PUSHRET,
-        TemplateShape::Ret => pc == RET,
-        TemplateShape::Ind => pc == IND,
+        TemplateShape::Call => pc == PUSH_RETURN,
+        TemplateShape::Ret => pc == RETURN,
+        TemplateShape::Ind => pc == INDIRECT,
         TemplateShape::SelfJump => pc == SELF,
         TemplateShape::Fault => pc == FAULT,
         TemplateShape::Branch | TemplateShape::Skip => false,
@@ -192,17 +177,17 @@ fn to(target: u16) -> Served {
 fn calls_and_returns_use_the_stack_window(rt: HostRuntime) -> Result<(), Fail> {
     let on = Served::Resume(None);
     let rows = [
-        (PUSHRET, 2, 0x0CFF, outside(2, 0x0CFF), (0x0CFF, 0, 3)),
-        (PUSHRET, 2, 0x0D00, outside(2, 0x0CFF), (0x0D00, 0, 3)),
-        (PUSHRET, 2, 0x0D01, on, (0x0CFF, 0, 3)),
-        (PUSHRET, 2, 0x1100, outside(2, 0x1100), (0x1100, 0, 3)),
-        (PUSHRET, 28, 0x10FF, on, (0x10FD, 0, 3)),
-        (RET, 3, 0x10FD, to(30), (0x10FF, 0, 3)),
-        (RET, 4, 0x0CFF, to(3), (0x0D01, 0x80, 2)),
-        (RET, 3, 0x10FE, outside(3, 0x1100), (0x10FE, 0, 3)),
-        (IND, 5, 0, to(0xFFFF), (0, 0, 2)),
-        (IND, 6, 0x0D01, to(0xFFFF), (0x0CFF, 0, 2)),
-        (IND, 6, 0x0CFF, outside(6, 0x0CFF), (0x0CFF, 0, 3)),
+        (PUSH_RETURN, 2, 0x0CFF, outside(2, 0x0CFF), (0x0CFF, 0, 3)),
+        (PUSH_RETURN, 2, 0x0D00, outside(2, 0x0CFF), (0x0D00, 0, 3)),
+        (PUSH_RETURN, 2, 0x0D01, on, (0x0CFF, 0, 3)),
+        (PUSH_RETURN, 2, 0x1100, outside(2, 0x1100), (0x1100, 0, 3)),
+        (PUSH_RETURN, 28, 0x10FF, on, (0x10FD, 0, 3)),
+        (RETURN, 3, 0x10FD, to(30), (0x10FF, 0, 3)),
+        (RETURN, 4, 0x0CFF, to(3), (0x0D01, 0x80, 2)),
+        (RETURN, 3, 0x10FE, outside(3, 0x1100), (0x10FE, 0, 3)),
+        (INDIRECT, 5, 0, to(0xFFFF), (0, 0, 2)),
+        (INDIRECT, 6, 0x0D01, to(0xFFFF), (0x0CFF, 0, 2)),
+        (INDIRECT, 6, 0x0CFF, outside(6, 0x0CFF), (0x0CFF, 0, 3)),
     ];
     let mut k = kernel_at_boot(&rt, 0)?;
     for (entry, at, sp, want, after) in rows {

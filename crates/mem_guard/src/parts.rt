@@ -17,6 +17,7 @@ use mote_devices::IoStop;
 impl VirtualBus<'_> {
     /// The byte at a data address.
     #[tactic(auto, unfolding(crate::specs::Guarded::load, crate::specs::Classes::class_of))]
+    #[inline(always)]
     pub(crate) fn load_byte(&mut self, a: u16) -> Result<u8, BusStop>
         requires ready { IsReady (guarded_of self.old) }
         requires outside { is_own a ≡ false }
@@ -33,6 +34,7 @@ impl VirtualBus<'_> {
 
     /// A byte for a data address.
     #[tactic(auto, unfolding(crate::specs::Guarded::store, crate::specs::Classes::class_of))]
+    #[inline(always)]
     pub(crate) fn store_byte(&mut self, a: u16, v: u8) -> Result<(), BusStop>
         requires ready { IsReady (guarded_of self.old) }
         requires outside { is_own a ≡ false }

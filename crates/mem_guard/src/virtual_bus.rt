@@ -43,6 +43,7 @@ impl Bus for VirtualBus<'_> {
 
     ghost ready = { λ b. IsReady (guarded_of b) };
 
+    #[inline(always)]
     fn load(&mut self, a: u16) -> Result<u8, BusStop>
         requires ready { IsReady (guarded_of self.old) }
         requires outside { is_own a ≡ false }
@@ -56,6 +57,7 @@ impl Bus for VirtualBus<'_> {
         self.load_byte(a)
     }
 
+    #[inline(always)]
     fn store(&mut self, a: u16, v: u8) -> Result<(), BusStop>
         requires ready { IsReady (guarded_of self.old) }
         requires outside { is_own a ≡ false }

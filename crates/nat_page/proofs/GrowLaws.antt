@@ -15,7 +15,7 @@ use Rattle.nat_page.specs.Standing.{size}
 use Rattle.nat_page.specs.Runs.{template_at, closing_at, ends_at, address, templates}
 use Rattle.nat_page.specs.CodePages.{code}
 use Rattle.nat_page.specs.Making.{HasNoEntry, Stops}
-use Rattle.nat_page.specs.Drafts.{starts, size_with, StopsBehind, GoesOn, IsRead, IsBegun, Adds, IsDrafting, IsDrafted}
+use Rattle.nat_page.specs.Drafts.{starts, size_with, StopsBehind, GoesOn, IsRead, IsBegun, Adds, IsDrafting, IsDrafted, code_of, closing_of}
 use Rattle.nat_page.proofs.RunLaws.{template_at-range, closing_at-range, size-templates, size-code, page_size-is}
 
 -- the first entries, and one more
@@ -98,8 +98,8 @@ stops_of layout image words page t last free paged (StopsBehind.Full full) =
 pub record Counts (image : List ℕ) (t last : ℕ) (draft : Draft) (here : Instruction) : Type 0 where
   pub entries : length draft.entries.items ≡ last
   pub sized : draft.size ≡ size draft.code.items
-  pub here_sized : here.code_size ≡ size here.code.items
-  pub closing_sized : here.closing_size ≡ size here.closing.items
+  pub here_sized : here.code_size ≡ size (code_of here)
+  pub closing_sized : here.closing_size ≡ size (closing_of here)
   pub code : draft.size + here.code_size ≡ size (templates image t (suc last))
   pub room : last + 3 + size (templates image t (suc last)) + here.closing_size ≤ page_words
 
@@ -175,12 +175,12 @@ stop_told layout image words pc others (Some next) told none = absurd (none next
 pub drafted : (layout : Layout) (image words : List ℕ) (t others : ℕ) (draft more whole : Draft) (here : Instruction)
     → IsDrafting layout image words t draft here → others ≡ length draft.entries.items + draft.size + here.code_size + 3
     → StopsBehind layout image words here.pc others → Adds draft more here → whole.entries ≡ more.entries
-    → whole.code.items ≡ more.code.items ++ here.closing.items → whole.size ≡ more.size + here.closing_size → IsDrafted layout image words t whole
+    → whole.code.items ≡ more.code.items ++ closing_of here → whole.size ≡ more.size + here.closing_size → IsDrafted layout image words t whole
 unfolding code
 drafted layout image words t others draft more whole here drafting told stops adds entries closed sized =
     let P : ℕ → ℕ → Type 0 = λ pc n. StopsBehind layout image words pc n in
     let last = drafting.last in
-    let end : here.closing.items ≡ closing_at image (address image t last) = drafting.read.closing ∙ ap (λ pc. closing_at image pc) drafting.reached in
+    let end : closing_of here ≡ closing_at image (address image t last) = drafting.read.closing ∙ ap (λ pc. closing_at image pc) drafting.reached in
     let end_size : here.closing_size ≡ size (closing_at image (address image t last)) = drafting.read.closing_size ∙ ap (λ pc. size (closing_at image pc)) drafting.reached in
     let body = code_more image t last draft more here drafting.reached drafting.code drafting.read adds in
     let body_size = size_more image t last draft more here drafting.reached drafting.sized drafting.read adds in

@@ -8,7 +8,7 @@ use Rattle.nat_page.specs.declared.draft.Draft.{Draft}
 use Rattle.nat_page.specs.Standing.{size}
 use Rattle.nat_page.specs.Runs.{next_of, ends_at, template_at, closing_at, address, templates}
 use Rattle.nat_page.specs.CodePages.{code, page_pieces, IsPage}
-use Rattle.nat_page.specs.Drafts.{starts, draft_pieces}
+use Rattle.nat_page.specs.Drafts.{starts, draft_pieces, closing_of}
 use Rattle.nat_page.specs.Remaking.{CanNotTake, HasTaken, IsWalked}
 use Rattle.nat_page.proofs.RunLaws.{templates-rise, page_size-is}
 use Rattle.nat_page.proofs.GrowLaws.{entries_more, code_more, size_more}
@@ -76,7 +76,7 @@ pub record IsWhole (image : List ℕ) (t last : ℕ) (draft : Draft) (here : Ins
   pub entries : draft.entries.items ≡ starts image t (suc last)
   pub code : draft.code.items ≡ templates image t (suc last)
   pub sized : draft.size ≡ size (templates image t (suc last))
-  pub closing : here.closing.items ≡ closing_at image (address image t last)
+  pub closing : closing_of here ≡ closing_at image (address image t last)
   pub closing_sized : here.closing_size ≡ size (closing_at image (address image t last))
 
 pub whole : (image : List ℕ) (t count last pc : ℕ) (old new : Draft) (here : Instruction) → IsWalked image t count last pc old → HasTaken image t count pc old new here → IsWhole image t last new here
@@ -106,7 +106,7 @@ whole_page image t count last draft here is all fits = record {
   fits = omega (arith, fits, page_size-is image t last, all.sized, all.closing_sized);
 }
 
-pub whole_pieces : (image : List ℕ) (t last : ℕ) (draft closed : Draft) (here : Instruction) → IsWhole image t last draft here → closed.entries ≡ draft.entries → closed.code.items ≡ draft.code.items ++ here.closing.items
+pub whole_pieces : (image : List ℕ) (t last : ℕ) (draft closed : Draft) (here : Instruction) → IsWhole image t last draft here → closed.entries ≡ draft.entries → closed.code.items ≡ draft.code.items ++ closing_of here
     → draft_pieces t closed.entries.items closed.code.items ≡ page_pieces image t last
 unfolding code
 whole_pieces image t last draft closed here all entries body =

@@ -1,5 +1,5 @@
 -- Serves private functions: a page while it is made: its run's instructions one after another.
-use Rattle.std.specs.Prelude.{◌≡◌, ◌≢◌, ℕ, suc, ◌+◌, ◌*◌, ◌/◌, ◌%◌, ◌<◌, ◌≤◌, true, false, List, [], ◌∷◌, ◌++◌, length, map}
+use Rattle.std.specs.Prelude.{◌≡◌, ◌≢◌, ℕ, suc, ◌+◌, ◌*◌, ◌/◌, ◌%◌, ◌<◌, ◌≤◌, true, false, if◌then◌else◌, List, [], ◌∷◌, ◌++◌, length, map}
 use Rattle.std.specs.List.{range_with_len}
 use Rattle.flash_model.specs.Pages.{page_words}
 use Rattle.flash_model.specs.declared.layout.Layout.{Layout}
@@ -9,17 +9,26 @@ use Rattle.page_index.specs.Entries.{IsEntry}
 use Rattle.nat_page.specs.declared.instruction.Instruction.{Instruction}
 use Rattle.nat_page.specs.declared.draft.Draft.{Draft}
 use Rattle.nat_page.specs.Standing.{size}
-use Rattle.nat_page.specs.Runs.{next_of, template_at, closing_at, ends_at, address, templates, IsRun}
+use Rattle.nat_template.specs.Stubs.{stub}
+use Rattle.nat_template.specs.Templates.{template_by}
+use Rattle.nat_page.specs.Runs.{is_closed, next_of, template_at, closing_at, ends_at, address, templates, IsRun}
 use Rattle.nat_page.specs.CodePages.{code, page_size}
 use Rattle.nat_page.specs.Making.{HasNoEntry}
+
+-- the template of what was read, and its stub to the next address, where it needs one if the run ends with it
+abbrev pub code_of : Instruction → List Piece
+code_of read = template_by read.shape read.pc read.first read.instr read.next_size
+
+abbrev pub closing_of : Instruction → List Piece
+closing_of read = if is_closed read.shape then stub read.pc read.next else []
 
 -- what was read is the image's instruction at its pc
 pub record IsRead (image : List ℕ) (read : Instruction) : Type 0 where
   pub next : read.next ≡ next_of image read.pc
   pub ends : read.ends ≡ ends_at image read.pc
-  pub code : read.code.items ≡ template_at image read.pc
+  pub code : code_of read ≡ template_at image read.pc
   pub code_size : read.code_size ≡ size (template_at image read.pc)
-  pub closing : read.closing.items ≡ closing_at image read.pc
+  pub closing : closing_of read ≡ closing_at image read.pc
   pub closing_size : read.closing_size ≡ size (closing_at image read.pc)
 
 -- for each of the first n instructions the offset in the original page times 256, and the words of the
@@ -59,7 +68,7 @@ pub record IsBegun (layout : Layout) (image words : List ℕ) (t last : ℕ) : T
 -- a draft with one more instruction
 pub record Adds (old new : Draft) (here : Instruction) : Type 0 where
   pub entries : new.entries.items ≡ old.entries.items ++ (256 * (here.pc % page_words) + old.size) ∷ []
-  pub code : new.code.items ≡ old.code.items ++ here.code.items
+  pub code : new.code.items ≡ old.code.items ++ code_of here
   pub size : new.size ≡ old.size + here.code_size
 
 -- the draft has the instructions in front of `here`

@@ -7,16 +7,13 @@ ghost use Rattle.nat_template.specs.declared.piece.Piece.TheVariants.{Fixed};
 ghost use Rattle.page_index.specs.Entries.{AreKnown};
 ghost use Rattle.nat_page.specs.Standing.{size as size_of};
 ghost use Rattle.nat_page.specs.Making.{HasNoEntry};
-ghost use Rattle.nat_page.specs.Drafts.{Adds, IsRead, StopsBehind, GoesOn, IsDrafted, draft_pieces};
+ghost use Rattle.nat_page.specs.Drafts.{Adds, IsRead, code_of, closing_of, StopsBehind, GoesOn, IsDrafted, draft_pieces};
 
 use crate::instruction::{Instruction, read};
 use crate::words::FlashImage;
 use arrayvec::ArrayVec;
-use flash_model::{Flash, Layout};
-use nat_template::Piece;
-
-/// The words of a page.
-pub(crate) const PAGE_WORDS: u16 = 128;
+use flash_model::{Flash, Layout, PAGE_WORDS};
+use nat_template::{Piece, TemplateShape};
 
 /// The entries and the code of a page.
 #[derive(Drop)]
@@ -56,25 +53,25 @@ impl Draft {
     pub(crate) fn add(&mut self, here: &Instruction)
         requires entries { array_vec_len self.old.entries < 126 }
         requires sized { self.old.size ≡ size_of self.old.code.items }
-        requires read { here.now.code_size ≡ size_of here.now.code.items }
+        requires read { here.now.code_size ≡ size_of (code_of here.now) }
         requires room { self.old.size + here.now.code_size ≤ 128 }
         ensures adds { Adds self.old self.new here.now }
     {
         self.entries.push(256 * (here.pc % PAGE_WORDS) + self.size);
-        self.code.try_extend_from_slice(&here.code).unwrap();
+        add_code(&mut self.code, here);
         self.size += here.code_size;
     }
 
     /// Adds the closing of the last instruction.
     pub(crate) fn close(&mut self, last: &Instruction)
         requires sized { self.old.size ≡ size_of self.old.code.items }
-        requires read { last.now.closing_size ≡ size_of last.now.closing.items }
+        requires read { last.now.closing_size ≡ size_of (closing_of last.now) }
         requires room { self.old.size + last.now.closing_size ≤ 128 }
         ensures entries { self.new.entries ≡ self.old.entries }
-        ensures code { self.new.code.items ≡ self.old.code.items ++ last.now.closing.items }
+        ensures code { self.new.code.items ≡ self.old.code.items ++ closing_of last.now }
         ensures size { self.new.size ≡ self.old.size + last.now.closing_size }
     {
-        self.code.try_extend_from_slice(&last.closing).unwrap();
+        self.code.try_extend_from_slice(&last.closing()).unwrap();
         self.size += last.closing_size;
     }
 
@@ -92,6 +89,18 @@ impl Draft {
         push_map(&mut pieces, &self.entries, 2 + count);
         pieces.try_extend_from_slice(&self.code).unwrap();
         pieces
+    }
+}
+
+/// Adds the template of the instruction, which is mostly its own word.
+#[tactic(auto, unfolding(nat_template::specs::Templates::template_by))]
+fn add_code(code: &mut ArrayVec<Piece, 128>, here: &Instruction)
+    requires room { array_vec_len code.old + size_of (code_of here.now) ≤ 128 }
+    ensures code { code.new.items ≡ code.old.items ++ code_of here.now }
+{
+    match here.shape {
+        TemplateShape::Native => code.push(Piece::Fixed(here.first)),
+        _ => code.try_extend_from_slice(&here.code()).unwrap(),
     }
 }
 

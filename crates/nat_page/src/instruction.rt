@@ -4,14 +4,14 @@ ghost use Rattle.std.specs.Prelude.{◌≡◌, ◌<◌, ◌≤◌, [], length, i
 ghost use Rattle.std.specs.Option.{option_map};
 ghost use Rattle.nat_template.specs.Stubs.{stub as stub_of};
 ghost use Rattle.nat_page.specs.Runs.{is_closed as is_closed_test, is_jump_through_z as is_jump_through_z_test, never_returns as never_returns_test};
-ghost use Rattle.nat_page.specs.Drafts.{IsRead};
+ghost use Rattle.nat_page.specs.Standing.{size};
+ghost use Rattle.nat_page.specs.Drafts.{IsRead, code_of, closing_of};
 
-use crate::pieces::size;
 use crate::words::ImageWords;
 use arrayvec::ArrayVec;
 use avr_decode::{decode, size_by_first_word};
 use avr_isa::{Form, Instr};
-use nat_template::{Piece, TemplateShape, pieces, shape, stub};
+use nat_template::{Piece, TemplateShape, pieces_by, shape, size_by, stub, stub_size};
 
 /// An instruction of the image.
 #[derive(Drop)]
@@ -22,14 +22,44 @@ pub(crate) struct Instruction {
     pub next: u16,
     /// Whether it is a transfer without return.
     pub ends: bool,
-    /// Its template.
-    pub code: ArrayVec<Piece, 40>,
-    /// How many words that has.
+    /// Its first word.
+    pub first: u16,
+    /// What its words mean, if they are an instruction.
+    pub instr: Option<Instr>,
+    /// The shape of its template.
+    pub shape: TemplateShape,
+    /// How many words the instruction behind its first word has.
+    pub next_size: u16,
+    /// How many words its template has.
     pub code_size: u16,
-    /// The stub to the next address, where it needs one if the run ends with it.
-    pub closing: ArrayVec<Piece, 20>,
-    /// How many words that has.
+    /// How many words the stub to the next address has, where it needs one if the run ends with it.
     pub closing_size: u16,
+}
+
+impl Instruction {
+    /// Its template.
+    pub(crate) fn code(&self) -> ArrayVec<Piece, 40>
+        ensures pieces { result.items ≡ code_of self.now }
+    {
+        pieces_by(
+            self.shape,
+            self.pc,
+            self.first,
+            self.instr.as_ref(),
+            self.next_size,
+        )
+    }
+
+    /// The stub to the next address, where it needs one if the run ends with it.
+    pub(crate) fn closing(&self) -> ArrayVec<Piece, 20>
+        ensures pieces { result.items ≡ closing_of self.now }
+    {
+        if is_closed(self.shape) {
+            stub(self.pc, self.next)
+        } else {
+            ArrayVec::new()
+        }
+    }
 }
 
 /// Reads the instruction of the image at the pc.
@@ -43,19 +73,19 @@ pub(crate) fn read<I: ImageWords>(image: &I, pc: u16) -> Instruction
     let first = image.word(pc);
     let second = image.word(pc + 1);
     let instr = decode(first, second);
-    let instr = instr.as_ref();
-    let shape = shape(pc, instr);
+    let shape = shape(pc, instr.as_ref());
     let next = pc + size_by_first_word(first);
-    let code = pieces(pc, first, second, size_by_first_word(second));
-    let closing = closing_by(shape, pc, next);
+    let next_size = size_by_first_word(second);
     Instruction {
         pc,
         next,
-        ends: never_returns(shape, instr),
-        code_size: size(&code),
-        code,
-        closing_size: size(&closing),
-        closing,
+        ends: never_returns(shape, instr.as_ref()),
+        first,
+        code_size: size_by(shape, pc, instr.as_ref(), next_size),
+        closing_size: closing_size(shape, pc, next),
+        instr,
+        shape,
+        next_size,
     }
 }
 
@@ -81,13 +111,24 @@ fn is_jump_through_z(instr: Option<&Instr>) -> bool
     }
 }
 
-/// The stub to the next address, for an instruction of a shape that may go on to it.
-fn closing_by(shape: TemplateShape, pc: u16, next: u16) -> ArrayVec<Piece, 20>
-    ensures pieces { result.items ≡ (if is_closed_test shape then stub_of pc next else []) }
+/// Whether the instruction may go on to the next address by itself.
+fn is_closed(shape: TemplateShape) -> bool
+    ensures value { result ≡ is_closed_test shape }
 {
     match shape {
         TemplateShape::Native | TemplateShape::Mem | TemplateShape::Branch | TemplateShape::Skip =>
-            stub(pc, next),
-        _ => ArrayVec::new(),
+            true,
+        _ => false,
+    }
+}
+
+/// How many words the stub to the next address has, for an instruction of a shape that may go on to it.
+fn closing_size(shape: TemplateShape, pc: u16, next: u16) -> u16
+    ensures size { result ≡ size (if is_closed_test shape then stub_of pc next else []) }
+{
+    if is_closed(shape) {
+        stub_size(pc, next)
+    } else {
+        0
     }
 }

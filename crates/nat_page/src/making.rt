@@ -11,9 +11,9 @@ ghost use Rattle.nat_page.specs.Links.{IsUnresolved};
 ghost use Rattle.nat_page.specs.Used.{used_pages};
 ghost use Rattle.nat_page.specs.Making.{HasNoEntry, IsPrepared, NaturalisesIn};
 
-use crate::draft::{PAGE_WORDS, draft_of};
+use crate::draft::draft_of;
 use crate::pieces::page_with;
-use flash_model::{Flash, Layout};
+use flash_model::{Flash, Layout, PAGE_WORDS};
 use page_index::known_offsets;
 
 /// Why no page was made.

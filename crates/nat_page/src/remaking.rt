@@ -6,10 +6,11 @@ ghost use Rattle.nat_page.specs.Standing.{size as size_of};
 ghost use Rattle.nat_page.specs.CodePages.{page_pieces, IsPage};
 ghost use Rattle.nat_page.specs.Remaking.{CanNotTake, HasTaken};
 
-use crate::draft::{Draft, PAGE_WORDS};
+use crate::draft::Draft;
 use crate::instruction::{Instruction, read};
 use crate::words::ImageWords;
 use arrayvec::ArrayVec;
+use flash_model::PAGE_WORDS;
 use nat_template::Piece;
 
 /// The pieces of the page of just so many instructions from `t`; None where these are no run that fits into a page.

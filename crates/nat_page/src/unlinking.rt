@@ -11,11 +11,10 @@ ghost use Rattle.nat_page.specs.CodePages.{IsCodePage};
 ghost use Rattle.nat_page.specs.Links.{with_two_words};
 ghost use Rattle.nat_page.specs.Unlinking.{leads_into, is_picked, links_where, with_calls, stubs_where, stubs_into, are_some, IsPatched};
 
-use crate::draft::PAGE_WORDS;
 use crate::pieces::CALL_BRIDGE;
 use crate::remaking::remade;
 use crate::words::FlashImage;
-use flash_model::{Flash, Layout};
+use flash_model::{Flash, Layout, PAGE_WORDS};
 use nat_template::Piece;
 
 /// JMP, the first of its two words.
@@ -80,14 +79,13 @@ pub fn without_links<L: LinkTest>(flash: &Flash, layout: &Layout, page: u16, lin
     patch
 }
 
-/// Whether the page may have a stub that jumps into the victim: flash keeps that it may have such a jump. A page
+/// Whether the page may have a stub that jumps into the victim: flash keeps that it may have such a jump. A used page
 /// of which this isn't so need not be walked along.
 pub fn may_have_stubs_into(flash: &Flash, layout: &Layout, victim: u16, page: u16) -> bool
     requires right { IsRight layout.now }
     requires image { length (image_of layout.now flash.now.words) ≡ layout.now.image_words }
     requires pool { IsPool layout.now page }
-    requires run { IsCodePage (image_of layout.now flash.now.words) flash.now.words page }
-    ensures none { result ≡ false → are_some (stubs_into (image_of layout.now flash.now.words) flash.now.words victim page) ≡ false }
+    ensures none { result ≡ false → IsCodePage (image_of layout.now flash.now.words) flash.now.words page → are_some (stubs_into (image_of layout.now flash.now.words) flash.now.words victim page) ≡ false }
 {
     flash.may_jump_into(page, victim)
 }

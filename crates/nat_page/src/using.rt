@@ -5,11 +5,7 @@ ghost use Rattle.flash_model.specs.Layouts.{IsRight};
 ghost use Rattle.flash_model.specs.Memory.{IsWhole};
 ghost use Rattle.nat_page.specs.Used.{used_pages};
 
-use crate::draft::PAGE_WORDS;
-use flash_model::{Flash, Layout};
-
-/// The first word of a page that is free.
-const BLANK: u16 = 0xFFFF;
+use flash_model::{BLANK, Flash, Layout, PAGE_WORDS};
 
 /// How many pages of the pool are used: those whose first word isn't erased.
 pub fn pages_in_use(flash: &Flash, layout: &Layout) -> u16

@@ -16,6 +16,7 @@
 //! `specs/Inline` and `specs/Templates` define them, and `proofs/Sizes` says how long they are.
 #![tactic(auto)]
 
+pub mod entries;
 mod inline;
 mod piece;
 mod shapes;
@@ -24,5 +25,5 @@ mod templates;
 
 pub use piece::Piece;
 pub use shapes::{TemplateShape, shape};
-pub use stubs::{closing, resolved, stub};
-pub use templates::{pieces, template};
+pub use stubs::{closing, resolved, stub, stub_size};
+pub use templates::{pieces, pieces_by, size_by, template};

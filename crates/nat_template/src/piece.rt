@@ -3,6 +3,7 @@
 ghost use Rattle.std.specs.Prelude.{◌≡◌, ◌≤◌, length};
 ghost use Rattle.nat_template.specs.Stubs.{words_of};
 
+use crate::entries::BRIDGE;
 use arrayvec::ArrayVec;
 
 /// What a template is made of.
@@ -25,9 +26,6 @@ impl Default for Piece {
 
 /// CALL, the first of its two words.
 pub(crate) const CALL: u16 = 0x940E;
-
-/// The kernel's entry for a stub that isn't resolved.
-const BRIDGE: u16 = 0xF000;
 
 /// The words of pieces whose links are not resolved.
 pub(crate) fn written(pieces: &[Piece]) -> ArrayVec<u16, 64>

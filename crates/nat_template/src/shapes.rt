@@ -2,10 +2,10 @@
 ghost use Rattle.std.specs.Prelude.{◌≡◌, if◌then◌else◌};
 ghost use Rattle.std.specs.Option.{option_map};
 ghost use Rattle.nat_template.specs.declared.shapes.TemplateShape.TheVariants as variants;
-ghost use Rattle.avr_exec.specs.Registers.{relative as relative_of};
 ghost use Rattle.nat_template.specs.Shapes.{can_modify as can_modify_test, if_allowed as if_allowed_of, is_stack_pointer as is_stack_pointer_test, jump_shape as jump_shape_of, shape_of, shape_of_form};
 ghost use Rattle.avr_isa.specs.IoTable.{can_read as can_read_test, can_write as can_write_test, io_address};
 
+use avr_exec::relative;
 use avr_isa::{Form, Instr, IoAddr, io_access};
 
 /// How an instruction is rewritten.
@@ -147,12 +147,4 @@ fn can_modify(address: u16) -> bool
 {
     let access = io_access(address);
     access.read && access.write
-}
-
-/// pc + 1 + k.
-#[tactic(auto, unfolding(avr_exec::specs::Registers::relative))]
-pub(crate) fn relative(pc: u16, k: i16) -> u16
-    ensures value { result ≡ relative_of pc k }
-{
-    pc.wrapping_add(1).wrapping_add(k.cast_unsigned())
 }

@@ -1,19 +1,17 @@
 //! Stubs, and calls of the kernel.
 
-ghost use Rattle.std.specs.Prelude.{◌≡◌, ◌≤◌, ◌++◌, if◌then◌else◌};
+ghost use Rattle.std.specs.Prelude.{◌≡◌, ◌≤◌, ◌++◌, if◌then◌else◌, length};
 ghost use Rattle.arrayvec.specs.ArrayVec.{array_vec_len};
 ghost use Rattle.avr_isa.specs.Crossing.{is_crossing as is_crossing_test};
 ghost use Rattle.nat_template.specs.Stubs.{crossing_stub, jump_words, service as service_of, stub as stub_of, words_of};
 
+use crate::entries::QUANTUM;
 use crate::piece::{CALL, Piece, written};
 use arrayvec::ArrayVec;
 use avr_isa::is_crossing;
 
 /// JMP, the first of its two words.
 const JMP: u16 = 0x940C;
-
-/// The kernel's entry for a quantum that is over.
-const QUANTUM: u16 = 0xF002;
 
 /// One is taken off COUNT, with r24 and SREG kept in their cells; a branch passes over what follows at 0.
 const COUNT_DOWN: [Piece; 16] = [
@@ -74,6 +72,15 @@ pub fn stub(from: u16, to: u16) -> ArrayVec<Piece, 20>
         pieces.push(Piece::Link(to));
     }
     pieces
+}
+
+/// How many words it has.
+#[tactic(auto, using(crate::proofs::Sizes::stub_size))]
+pub fn stub_size(from: u16, to: u16) -> u16
+    ensures size { result ≡ length (words_of (stub_of from to)) }
+    ensures bounds { (3 ≤ result) × (result ≤ 22) }
+{
+    if is_crossing(from, to) { 22 } else { 3 }
 }
 
 /// The stub that counts a crossing.

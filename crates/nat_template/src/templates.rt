@@ -1,5 +1,5 @@
 //! The template of an instruction, in pieces and in words.
-ghost use Rattle.std.specs.Prelude.{◌≡◌, ◌≤◌, ◌++◌, ◌∷◌, [], if◌then◌else◌, length};
+ghost use Rattle.std.specs.Prelude.{◌≡◌, ℕ, ◌≤◌, ◌++◌, ◌∷◌, [], if◌then◌else◌, length};
 ghost use Rattle.std.specs.Option.{option_map};
 ghost use Rattle.arrayvec.specs.ArrayVec.{array_vec_len};
 ghost use Rattle.avr_decode.specs.Decoding.{the_form};
@@ -7,26 +7,15 @@ ghost use Rattle.avr_exec.specs.Registers.{relative as relative_of};
 ghost use Rattle.nat_template.specs.Stubs.{mem_entry, service as service_of, stub as stub_of, words_of};
 ghost use Rattle.nat_template.specs.Templates.{is_z as is_z_test, jump_over, mem_pieces, short_branch as short_branch_of, target_of, template_by, template_of, with_pc as with_pc_of};
 
+use crate::entries::{FAULT, INDIRECT, MEM, PUSH_RETURN, RETURN, SELF};
 use crate::inline::{load_words, pop_words, push_words, store_words};
 use crate::piece::{Piece, written};
-use crate::shapes::{TemplateShape, relative, shape};
-use crate::stubs::{service, stub};
+use crate::shapes::{TemplateShape, shape};
+use crate::stubs::{service, stub, stub_size};
 use arrayvec::ArrayVec;
 use avr_decode::decode;
-use avr_isa::{Base, Form, Instr, Reg, is_crossing};
-
-/// The kernel's entries (docs/LOADER.md).
-const MEM: u16 = 0xF004;
-
-const PUSH_RETURN: u16 = 0xF006;
-
-const RETURN: u16 = 0xF008;
-
-const INDIRECT: u16 = 0xF00A;
-
-const SELF: u16 = 0xF00C;
-
-const FAULT: u16 = 0xF00E;
+use avr_exec::relative;
+use avr_isa::{Base, Form, Instr, Reg};
 
 /// The words of the template: what stands in a new page in the place of the instruction at the pc.
 ///
@@ -50,9 +39,9 @@ pub fn pieces(pc: u16, w0: u16, w1: u16, next_size: u16) -> ArrayVec<Piece, 40>
     pieces_by(shape(pc, instr), pc, w0, instr, next_size)
 }
 
-/// The template of an instruction with this shape.
+/// The template of an instruction with this shape, in pieces.
 #[tactic(auto, unfolding(crate::specs::Templates::template_by))]
-fn pieces_by(
+pub fn pieces_by(
     shape: TemplateShape,
     pc: u16,
     w0: u16,
@@ -72,6 +61,37 @@ fn pieces_by(
         TemplateShape::Ind => call_of(INDIRECT, pc),
         TemplateShape::SelfJump => call_of(SELF, pc),
         TemplateShape::Fault => call_of(FAULT, pc),
+    }
+}
+
+/// How many words this template has.
+#[tactic(auto, using(crate::proofs::Sizes::stub_size), unfolding(crate::specs::Templates::template_by))]
+pub fn size_by(shape: TemplateShape, pc: u16, instr: Option<&Instr>, next_size: u16) -> u16
+    ensures size { (first : ℕ) → result ≡ length (words_of (template_by shape pc first (option_map (λ borrowed. borrowed.now) instr.entry) next_size)) }
+    ensures bounds { (1 ≤ result) × (result ≤ 39) }
+{
+    match shape {
+        TemplateShape::Native => 1,
+        TemplateShape::Mem => mem_size(instr),
+        TemplateShape::Jump => stub_size(pc, target(pc, instr)),
+        TemplateShape::Branch => 2 + stub_size(pc, target(pc, instr)),
+        TemplateShape::Skip => 2 + stub_size(pc, pc.wrapping_add(1).wrapping_add(next_size)),
+        TemplateShape::Call => 3 + stub_size(pc, target(pc, instr)),
+        TemplateShape::Ret | TemplateShape::Ind | TemplateShape::SelfJump | TemplateShape::Fault =>
+            3,
+    }
+}
+
+/// The same of what reaches data memory.
+#[tactic(auto, using(crate::proofs::Sizes::push_size, crate::proofs::Sizes::pop_size, crate::proofs::Sizes::load_size, crate::proofs::Sizes::store_size), unfolding(crate::specs::Templates::mem_pieces))]
+fn mem_size(instr: Option<&Instr>) -> u16
+    ensures size { (pc : ℕ) → result ≡ length (words_of (mem_pieces pc (option_map (λ borrowed. borrowed.now) instr.entry))) }
+    ensures bounds { (1 ≤ result) × (result ≤ 39) }
+{
+    match instr.map(Instr::form) {
+        Some(Form::Push(r) | Form::Pop(r)) if !is_z(*r) => 39,
+        Some(Form::LoadOff(r, Base::Y, _) | Form::StoreOff(Base::Y, _, r)) if !is_z(*r) => 32,
+        _ => 3,
     }
 }
 
@@ -168,7 +188,7 @@ fn passed_over(word: u16, from: u16, to: u16) -> ArrayVec<Piece, 40>
     ensures pieces { result.items ≡ Piece.Fixed word ∷ jump_over (stub_of from to) ∷ stub_of from to }
 {
     let mut pieces = one(word);
-    pieces.push(Piece::Fixed(0xC000 + if is_crossing(from, to) { 22 } else { 3 }));
+    pieces.push(Piece::Fixed(0xC000 + stub_size(from, to)));
     behind(pieces, from, to)
 }
 

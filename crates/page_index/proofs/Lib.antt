@@ -3,3 +3,4 @@ pub mod EntryLaws
 pub mod ChangeLaws
 mod CursorLaws
 mod KnownLaws
+mod HeadLaws

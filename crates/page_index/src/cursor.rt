@@ -1,9 +1,9 @@
 //! The search for a place, for control that mostly goes on within one page, or comes again.
 
-ghost use Rattle.std.specs.Prelude.{◌≡◌, ◌≢◌, ℕ, ◌<◌, IfSome, IfNone};
+ghost use Rattle.std.specs.Prelude.{◌≡◌, ◌≢◌, ℕ, ◌%◌, ◌<◌, IfSome, IfNone};
 ghost use Rattle.flash_model.specs.Layouts.{IsRight};
 ghost use Rattle.page_index.specs.Entries.{IsEntry, IsMapped};
-ghost use Rattle.page_index.specs.Cursors.{IsStretch, IsReached, IsCursor, IsCursorAnywhere};
+ghost use Rattle.page_index.specs.Cursors.{IsStretch, IsCursor, IsCursorAnywhere};
 
 use crate::places::Places;
 use crate::stretch::Stretch;
@@ -17,19 +17,20 @@ const KEPT: usize = 1024;
 struct Reached {
     /// The original address.
     address: u16,
-    /// The stretch that begins at the entry's place, which is 0 where no entry is kept.
+    /// The stretch that begins at the entry's place. A slot whose place is of another slot keeps none.
     stretch: Stretch,
 }
 
-/// Where the last search was, and how far behind it no other entry begins; and entries that were reached
-/// before, by the last bits of their places. [`Cursor::origin`] answers as [`origin`] does: without a search
+/// Where the last search was, and how far behind it no other entry begins; and in slots, by the last bits of their
+/// places, entries that were reached before. [`Cursor::origin`] answers as [`origin`] does: without a search
 /// inside a template, where control goes on to the next entry of the page, and at an entry that is kept. A
 /// cursor is right for one state of flash; where flash has changed, let it forget.
 ///
 /// [`origin`]: crate::origin
 #[derive(Clone, Copy, Debug)]
 pub struct Cursor {
-    stretch: Stretch,
+    /// The last search. It is taken from a slot at once, with the address, which nothing asks for here.
+    now: Reached,
     reached: [Reached; 1024],
     /// Where entries of original addresses were seen last, in whatever state of flash.
     pub places: Places,
@@ -44,9 +45,11 @@ impl Cursor {
             address: 0,
             stretch: Stretch::new(),
         };
+        let mut reached = [none; 1024];
+        reached[0].stretch.place = 1;
         Cursor {
-            stretch: Stretch::new(),
-            reached: [none; 1024],
+            now: none,
+            reached,
             places: Places::new(),
         }
     }
@@ -55,10 +58,12 @@ impl Cursor {
     pub fn forget(&mut self)
         ensures right { IsCursorAnywhere self.new }
     {
-        self.stretch = Stretch::new();
+        self.now.stretch = Stretch::new();
         'entries: for i in 0..KEPT {
             self.reached[i].stretch.place = 0;
         }
+        // Place 0 is of this slot.
+        self.reached[0].stretch.place = 1;
     }
 
     /// The original address whose code begins at this place, a word address of flash; None where that
@@ -72,12 +77,12 @@ impl Cursor {
         ensures only { (t : ℕ) → IsEntry layout.now flash.now.words t place → result ≡ Some t }
         ensures cursor { IsCursor layout.now flash.now.words self.new }
     {
-        if self.stretch.place < place && place < self.stretch.next {
+        if self.now.stretch.place < place && place < self.now.stretch.next {
             return None;
         }
         let kept = self.reached[slot(place)];
-        if place != 0 && kept.stretch.place == place {
-            self.stretch = kept.stretch;
+        if kept.stretch.place == place {
+            self.now = kept;
             return Some(kept.address);
         }
         self.find(flash, layout, place)
@@ -93,20 +98,20 @@ impl Cursor {
         ensures only { (t : ℕ) → IsEntry layout.now flash.now.words t place → result ≡ Some t }
         ensures cursor { IsCursor layout.now flash.now.words self.new }
     {
-        let mut stretch = self.stretch;
+        let mut stretch = self.now.stretch;
         let found = follow(&mut stretch, flash, layout, place);
         if let Some(address) = found {
             self.reached[slot(place)] = Reached { address, stretch };
         }
-        self.stretch = stretch;
+        self.now.stretch = stretch;
         found
     }
 }
 
-/// Which of those that are kept an entry at this place is.
+/// The slot of an entry at this place.
 #[inline(always)]
 fn slot(place: u16) -> usize
-    ensures range { result < 1024 }
+    ensures slot { result ≡ place % 1024 }
 {
     place as usize % KEPT
 }

@@ -4,7 +4,8 @@
 //! the original page, the number of entries, and one word an entry, which tells where in the original
 //! page an address lies and where in this page its code begins, its *place*. [`entry`] finds the place
 //! of an original address, [`origin`] the original address of a place, and [`free_page`] the lowest
-//! page that is free. Nothing has to be kept beside flash: each search reads the maps themselves.
+//! page that is free. Nothing has to be kept beside flash: each search reads the maps themselves, of the pages that
+//! flash tells by their first words where these decide.
 //! [`known_offsets`] tells of all addresses of one original page at once whether they have entries. [`Places`] keeps
 //! hints at entries, for any state of flash, and gives a [`Survey`] where an address has none; a [`Cursor`] keeps what
 //! was found at places, for one state of flash. Of one page, which is free or has a map whatever

@@ -4,13 +4,7 @@ ghost use Rattle.std.specs.Prelude.{◌≡◌, ℕ, ◌+◌, ◌*◌, ◌/◌, �
 ghost use Rattle.page_index.specs.Maps.{page_word, entry_count, address_of, place_of, IsFree, IsMap};
 ghost use Rattle.page_index.specs.Entries.{Lists};
 
-use flash_model::Flash;
-
-/// The words of a page.
-pub(crate) const PAGE_WORDS: u16 = 128;
-
-/// A word of a page that is free.
-const BLANK: u16 = 0xFFFF;
+use flash_model::{BLANK, Flash, PAGE_WORDS};
 
 /// Where in a map its entries begin.
 pub(crate) const FIRST_ENTRY: u16 = 2;

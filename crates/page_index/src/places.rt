@@ -6,10 +6,10 @@ ghost use Rattle.flash_model.specs.Pages.{page_count};
 ghost use Rattle.page_index.specs.Entries.{IsEntry, IsMapped};
 ghost use Rattle.page_index.specs.Surveys.{IsSurvey};
 
-use crate::page::{FIRST_ENTRY, PAGE_WORDS, place_if_listed};
+use crate::page::{FIRST_ENTRY, place_if_listed};
 use crate::pool::{entry, is_in_pool};
 use crate::survey::{Survey, survey_of};
-use flash_model::{Flash, Layout};
+use flash_model::{Flash, Layout, PAGE_WORDS};
 
 /// How many addresses an image has at most.
 const ADDRESSES: usize = 24576;

@@ -5,8 +5,8 @@ ghost use Rattle.flash_model.specs.Layouts.{IsRight};
 ghost use Rattle.page_index.specs.Maps.{IsPool, IsFree};
 ghost use Rattle.page_index.specs.Entries.{IsEntry, IsMapped, AreKnown};
 
-use crate::page::{PAGE_WORDS, address_in, is_free, mark_offsets, place_in};
-use flash_model::{Flash, Layout};
+use crate::page::{address_in, is_free, mark_offsets, place_in};
+use flash_model::{BLANK, Flash, Layout, PAGE_WORDS};
 
 /// The place, a word address of flash, where the code of the original address `t` begins; None where
 /// no page has an entry of it.
@@ -33,8 +33,11 @@ pub fn known_offsets(flash: &Flash, layout: &Layout, original: u16) -> [bool; 12
     ensures known { AreKnown layout.now flash.now.words original result }
 {
     let mut known = [false; 128];
-    for page in layout.pool_first..layout.pool_first + layout.pool_pages {
+    let end = layout.pool_first + layout.pool_pages;
+    let mut from = layout.pool_first;
+    'pages: while let Some(page) = flash.page_beginning(from, end, original) {
         mark_offsets(flash, page, original, &mut known);
+        from = page + 1;
     }
     known
 }
@@ -63,10 +66,13 @@ pub fn free_page(flash: &Flash, layout: &Layout) -> Option<u16>
     ensures lowest { IfSome result (λ page. (lower : ℕ) → IsPool layout.now lower → lower < page → ¬ IsFree flash.now.words lower) }
     ensures none { IfNone result ((page : ℕ) → IsPool layout.now page → ¬ IsFree flash.now.words page) }
 {
-    for page in layout.pool_first..layout.pool_first + layout.pool_pages {
+    let end = layout.pool_first + layout.pool_pages;
+    let mut from = layout.pool_first;
+    'pages: while let Some(page) = flash.page_beginning(from, end, BLANK) {
         if is_free(flash, page) {
             return Some(page);
         }
+        from = page + 1;
     }
     None
 }

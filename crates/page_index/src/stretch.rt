@@ -6,9 +6,9 @@ ghost use Rattle.page_index.specs.Maps.{IsPool, IsMap, entry_count, address_of, 
 ghost use Rattle.page_index.specs.Entries.{IsEntry, IsMapped};
 ghost use Rattle.page_index.specs.Cursors.{IsStretch, IsStretchAnywhere};
 
-use crate::page::{FIRST_ENTRY, PAGE_WORDS, address_at, count_up_to, entries, is_free, place_at};
+use crate::page::{FIRST_ENTRY, address_at, count_up_to, entries, is_free, place_at};
 use crate::pool::is_in_pool;
-use flash_model::{Flash, Layout};
+use flash_model::{Flash, Layout, PAGE_WORDS};
 
 /// Where the last search was, and how far behind it no other entry begins. A stretch is right for one state
 /// of flash.

@@ -1,11 +1,11 @@
-//! What a page for an original page's addresses wants to know of the pool, in one pass.
+//! What a page for an original page's addresses wants to know of the pool.
 
 ghost use Rattle.std.specs.Prelude.{◌<◌};
 ghost use Rattle.flash_model.specs.Layouts.{IsRight};
 ghost use Rattle.page_index.specs.Entries.{IsMapped};
 ghost use Rattle.page_index.specs.Surveys.{IsSurvey};
 
-use crate::page::{is_free, mark_offsets};
+use crate::pool::{free_page, known_offsets};
 use flash_model::{Flash, Layout};
 
 /// What a page for the addresses of one original page wants to know of the pool.
@@ -17,20 +17,15 @@ pub struct Survey {
     pub known: [bool; 128],
 }
 
-/// Looks once at each page of the pool.
+/// Looks at each page of the pool.
 pub(crate) fn survey_of(flash: &Flash, layout: &Layout, original: u16) -> Survey
     requires right { IsRight layout.now }
     requires mapped { IsMapped layout.now flash.now.words }
     requires original { original < 512 }
     ensures survey { IsSurvey layout.now flash.now.words original result }
 {
-    let mut free = None;
-    let mut known = [false; 128];
-    for page in layout.pool_first..layout.pool_first + layout.pool_pages {
-        mark_offsets(flash, page, original, &mut known);
-        if free.is_none() && is_free(flash, page) {
-            free = Some(page);
-        }
+    Survey {
+        free: free_page(flash, layout),
+        known: known_offsets(flash, layout, original),
     }
-    Survey { free, known }
 }

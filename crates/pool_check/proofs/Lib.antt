@@ -9,3 +9,4 @@ mod DumpLaws
 mod WrittenLaws
 mod DumpBack
 pub mod Judgement
+pub mod ErasedLaws

@@ -5,9 +5,9 @@ ghost use Rattle.flash_model.specs.Memory.{IsWhole};
 ghost use Rattle.flash_model.specs.Pages.{page_count};
 ghost use Rattle.text_lines.specs.Written.{fed};
 ghost use Rattle.pool_check.specs.Dumps.{IsDump};
-ghost use Rattle.pool_check.specs.WrittenDumps.{bytes_of_words, is_erased, line_front, lines_of_page, page_line, written};
+ghost use Rattle.pool_check.specs.WrittenDumps.{bytes_of_words, line_front, lines_of_page, page_line, written};
 
-use crate::form::BLANK;
+use crate::form::is_erased;
 use arrayvec::ArrayVec;
 use flash_model::Flash;
 use std::alloc::{AllocError, Global};
@@ -77,13 +77,6 @@ fn line_front(page: u16) -> [u8; 9]
     let tens = b'0' + (page / 10 % 10) as u8;
     let ones = b'0' + (page % 10) as u8;
     [b'p', b'a', b'g', b'e', b' ', hundreds, tens, ones, b' ']
-}
-
-/// Whether the words are all erased.
-fn is_erased(words: &[u16]) -> bool
-    ensures value { result ≡ is_erased words.now }
-{
-    words.iter().all(|word| *word == BLANK)
 }
 
 /// The bytes of words, the high byte first.

@@ -6,22 +6,17 @@ ghost use Rattle.flash_model.specs.Pages.{word_at, blank};
 ghost use Rattle.flash_model.specs.Layouts.{IsRight};
 ghost use Rattle.nat_page.specs.CodePages.{IsCodePage};
 ghost use Rattle.pool_check.specs.Forms.{HasForm};
+ghost use Rattle.pool_check.specs.WrittenDumps.{is_erased as is_erased_test};
 
 use crate::image::GivenImage;
 use crate::standing::stands;
-use flash_model::Layout;
+use flash_model::{BLANK, KERNEL_FIRST, Layout, PAGE_WORDS};
 use nat_page::{ImageWords, remade, size};
-
-/// The words of a page.
-pub(crate) const PAGE_WORDS: u16 = 128;
-
-/// An erased word.
-pub(crate) const BLANK: u16 = 0xFFFF;
 
 /// RET, each word of the kernel's pages, and the first of these.
 const RET: u16 = 0x9508;
 
-const KERNEL_FIRST: u16 = 480;
+const KERNEL_PAGE: u16 = KERNEL_FIRST / PAGE_WORDS;
 
 /// Whether a page by itself has the form that it must have in a flash that holds this image: the image's words below
 /// the pool, erased words or rewritten code in the pool, and RET in the kernel's pages.
@@ -34,7 +29,7 @@ pub fn page_form(image: &[u16], layout: &Layout, page: u16, words: &[u16; 128]) 
     if page < layout.pool_first {
         return is_of_image(image, page, words);
     }
-    if page >= KERNEL_FIRST {
+    if page >= KERNEL_PAGE {
         return are_all(words, RET);
     }
     if page >= layout.pool_first + layout.pool_pages {
@@ -76,11 +71,18 @@ pub fn is_code(image: &[u16], words: &[u16; 128]) -> bool
 }
 
 /// Whether a page is free.
-#[tactic(auto, unfolding(flash_model::specs::Pages::blank, list_parts::specs::Lists::many))]
+#[tactic(auto, using(crate::proofs::ErasedLaws::all_are_blank))]
 pub fn is_blank(words: &[u16; 128]) -> bool
     ensures value { IsTrue result ↔ (words.now ≡ blank) }
 {
-    *words == [BLANK; 128]
+    is_erased(words)
+}
+
+/// Whether the words are all erased.
+pub(crate) fn is_erased(words: &[u16]) -> bool
+    ensures value { result ≡ is_erased_test words.now }
+{
+    words.iter().all(|word| *word == BLANK)
 }
 
 /// Whether the words from a place on are erased.

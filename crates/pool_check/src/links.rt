@@ -10,10 +10,9 @@ ghost use Rattle.nat_page.specs.Standing.{size as size_of_pieces, width as width
 ghost use Rattle.pool_check.specs.Forms.{HasForm, first_told, last_told};
 ghost use Rattle.pool_check.specs.Links.{ArePages, ArePagesTo, HasLinks, IsAlone, IsHere, IsOneEntry, IsRightLink, IsUnlisted};
 
-use crate::form::PAGE_WORDS;
 use crate::image::GivenImage;
 use arrayvec::ArrayVec;
-use flash_model::{Flash, Layout};
+use flash_model::{Flash, Layout, PAGE_WORDS};
 use nat_page::{page_words, remade, width};
 use nat_template::Piece;
 use page_index::{address_at, entries, is_free, place_in};

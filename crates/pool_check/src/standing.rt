@@ -8,13 +8,12 @@ ghost use Rattle.pool_check.specs.Forms.{IsLinkWords};
 
 use nat_page::width;
 use nat_template::Piece;
+use nat_template::entries::BRIDGE;
 
-/// CALL and JMP, the first of their two words, and the kernel's bridge.
+/// CALL and JMP, the first of their two words.
 const CALL: u16 = 0x940E;
 
 const JMP: u16 = 0x940C;
-
-const BRIDGE: u16 = 0xF000;
 
 /// Whether the pieces stand at the front of a page, whatever their links lead to once they are resolved.
 pub(crate) fn stands(words: &[u16; 128], pieces: &[Piece]) -> bool

@@ -3,6 +3,11 @@ use Rattle.std.specs.Prelude.{ℕ, ◌-◌, Bool, ◌&&◌, ◌==◌, if◌then�
 use Rattle.avr_isa.specs.Crossing.{is_crossing}
 use Rattle.sram_layout.specs.Bytes.{byte_at, with_byte}
 use Rattle.sram_layout.specs.Cells.{count_cell}
+use Rattle.preempt_count.specs.declared.TheConstants.{BOUND_PER_Q}
+
+-- how many plain steps there are at most between two services, for each crossing of the quantum
+abbrev pub bound_per_crossing : ℕ
+bound_per_crossing = BOUND_PER_Q
 
 -- the step from pc to t is the last crossing of the quantum
 abbrev pub is_checkpoint : (pc t count : ℕ) → Bool

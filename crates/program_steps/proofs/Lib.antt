@@ -19,3 +19,5 @@ pub mod OneBehindOther
 pub mod Undue
 pub mod Leading
 pub mod Waiting
+pub mod Marked
+pub mod Beginning

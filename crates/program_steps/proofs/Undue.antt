@@ -12,11 +12,12 @@ use Rattle.step_laws.specs.States.{State}
 use Rattle.step_laws.specs.Walks.{Walk}
 use Rattle.step_laws.specs.StepLaws.{Reaches}
 use Rattle.program_steps.specs.Machines.{Machine, state_of, flat_of}
-use Rattle.program_steps.specs.Ready.{IsGoing, IsInOrder}
+use Rattle.program_steps.specs.Ready.{IsGoing}
 use Rattle.program_steps.specs.Stepping.{HasStepped, StepWay}
 use Rattle.program_steps.specs.Several.{Silently, HasDone}
 use Rattle.program_steps.proofs.Awaiting.{awaits_none}
 use Rattle.program_steps.proofs.Laws.{by_stands}
+use Rattle.program_steps.proofs.Marked.{order_marked}
 
 abbrev pub undue : Machine → Machine
 undue m = record m { due = false }
@@ -28,28 +29,9 @@ undue_untaken m is = ap (λ d. d && (has_bit m.kernel.mote.cpu.sreg interrupts &
 undue_state : (m : Machine) (d : Bool) → m.owed ≡ None → state_of (record m { due = d }) ≡ state_of m
 undue_state m d free = ap (λ o. record { kernel = m.kernel; owed = o; end = m.end; torn = m.torn }) (awaits_none (record m { due = d }) free ∙ sym (awaits_none m free))
 
--- what is in order stays so
-order_due : (m : Machine) (d : Bool) → IsInOrder m → IsInOrder (record m { due = d })
-order_due m d order = record {
-  layout = order.layout;
-  right = order.right;
-  faithful = order.faithful;
-  part = order.part;
-  parted = order.parted;
-  tables = order.tables;
-  paged = order.paged;
-  whole = order.whole;
-  registers = order.registers;
-  pointer = order.pointer;
-  quantum = order.quantum;
-  pages = order.pages;
-  ring = order.ring;
-  tried = record { listed = order.tried.listed; refused = order.tried.refused; pool = order.tried.pool; torn = order.tried.torn };
-}
-
 pub going_undue : (m : Machine) → IsGoing m → m.owed ≡ None → IsGoing (undue m)
 going_undue m ready free = record {
-  order = order_due m false ready.order;
+  order = order_marked m m.owed false m.broken ready.order;
   going = ready.going;
   untorn = ready.untorn;
   top = ready.top;
@@ -90,7 +72,7 @@ step_on m z line free untaken going step = record {
 way_over : (m z : Machine) (line : Option Line) → is_taken (flat_of m) ≡ false → z.end ≢ None → StepWay (undue m) z line → StepWay m (record z { due = m.due }) line
 way_over m z line untaken ended (StepWay.On ready quiet steps is) = absurd (ended ready.going)
 way_over m z line untaken ended (StepWay.Stopped stop over kept silent steps is same) =
-    StepWay.Stopped stop (record { order = order_due z m.due over.order; bounded = over.bounded; ended = over.ended; exact = over.exact }) kept silent steps (undue_next m untaken ∙ is)
+    StepWay.Stopped stop (record { order = order_marked z z.owed m.due z.broken over.order; bounded = over.bounded; ended = over.ended; exact = over.exact }) kept silent steps (undue_next m untaken ∙ is)
     (ap (λ (f : Moment). record { now = f.now; due = m.due }) same)
 
 step_over : (m z : Machine) (line : Option Line) → m.owed ≡ None → is_taken (flat_of m) ≡ false → z.end ≢ None → z.owed ≡ None → HasStepped (undue m) z line → HasStepped m (record z { due = m.due }) line

@@ -1,18 +1,18 @@
 //! One move inside a step: a plain step of the mote, or a service of the kernel.
 
-ghost use Rattle.std.specs.Prelude.{◌≡◌, ◌<◌, ◌^◌, false, None};
+ghost use Rattle.std.specs.Prelude.{◌≡◌, ◌<◌, ◌^◌, max, false, None};
+ghost use Rattle.std.specs.Option.{option_or};
 ghost use Rattle.flash_model.specs.Layouts.{IsRight};
 ghost use Rattle.program_steps.specs.Machines.{state_of, numbers_of};
 ghost use Rattle.program_steps.specs.Loop.{CanPlain, HasPlain, CanServeNow, HasServed, CanMove, HasMoved, Halts, is_small};
 ghost use Rattle.program_steps.specs.Wholes.{whole};
 
 use crate::progress::Progress;
+use flash_model::KERNEL_FIRST;
 use kernel_entry::{Kernel, Served, serve_told};
 use mote_core::Plain;
+use mote_devices::Line;
 use step_laws::{End, Owed};
-
-/// Where the kernel's entries begin.
-const ENTRIES: u16 = 0xF000;
 
 /// A plain step where the pc is in the pool, else a service. Tells whether an arrival is owed now, or the
 /// program has stopped.
@@ -28,7 +28,7 @@ pub fn one_move(k: &mut Kernel, p: &mut Progress) -> bool
     ensures layout { k.new.layout ≡ k.old.layout }
     ensures torn { p.new.torn ≡ p.old.torn }
 {
-    if k.mote.cpu.pc < ENTRIES {
+    if k.mote.cpu.pc < KERNEL_FIRST {
         plain(k, p);
         false
     } else {
@@ -68,13 +68,13 @@ fn service(k: &mut Kernel, p: &mut Progress) -> bool
     ensures torn { p.new.torn ≡ p.old.torn }
 {
     p.entries += 1;
+    raise(&mut p.longest, p.since);
     p.before += p.since;
-    p.longest = p.longest.max(p.since);
     p.since = 0;
     let told = serve_told(k);
     match told.0 {
         Served::Resume(line) => {
-            p.line = line.or(p.line);
+            show(&mut p.line, line);
             false
         }
         Served::Goto { target, stub } => {
@@ -92,5 +92,23 @@ fn service(k: &mut Kernel, p: &mut Progress) -> bool
             p.steps = p.steps.saturating_sub(1);
             true
         }
+    }
+}
+
+/// The longest stretch of plain steps up to a service, with the last one. A branch costs less than a store each time.
+fn raise(longest: &mut u64, since: u64)
+    ensures raised { longest.new ≡ max longest.old since }
+{
+    if *longest < since {
+        *longest = since;
+    }
+}
+
+/// The line of the step, where the service has shown one.
+fn show(line: &mut Option<Line>, shown: Option<Line>)
+    ensures shown { line.new ≡ option_or shown line.old }
+{
+    if shown.is_some() {
+        *line = shown;
     }
 }

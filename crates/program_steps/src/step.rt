@@ -65,13 +65,30 @@ fn undue_steps(k: &mut Kernel, p: &mut Progress, cursor: &mut Cursor, most: u64)
     ensures cursor { IsCursor k.new.layout k.new.mote.flash.words cursor.new }
 {
     p.line = None;
-    'steps: for i in 0..most {
+    let begin = p.steps;
+    let end = begin + most;
+    'steps: while p.steps < end {
         let goes_on = step(k, p, cursor);
         if !goes_on || p.line.is_some() {
-            return i + 1;
+            return steps_since(begin, p);
         }
     }
     most
+}
+
+/// How many steps there were since so many were counted. One that stopped the program isn't counted.
+fn steps_since(begin: u64, p: &Progress) -> u64
+    requires begun { begin ≤ p.now.steps }
+    requires few { p.now.steps ≤ 10 ^ 12 }
+    ensures going { p.now.end ≡ None → begin + result ≡ p.now.steps }
+    ensures ended { p.now.end ≢ None → begin + result ≡ p.now.steps + 1 }
+{
+    let counted = p.steps - begin;
+    if p.end.is_some() {
+        counted + 1
+    } else {
+        counted
+    }
 }
 
 /// One whole step of the program. Tells whether it has led to an entry, so that the next may follow.

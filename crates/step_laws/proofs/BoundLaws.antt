@@ -3,7 +3,7 @@ use Rattle.std.proofs.Common.{◌≡◌, ℕ, ◌+◌, ◌-◌, ◌*◌, ◌/◌
 use Rattle.std.specs.Prelude.{◌≢◌, if◌then◌else◌}
 use Rattle.std.proofs.lemmas.Bool.Decides.{nat_tests}
 use Rattle.avr_isa.specs.Crossing.{is_crossing}
-use Rattle.preempt_count.specs.Counting.{count_over}
+use Rattle.preempt_count.specs.Counting.{bound_per_crossing, count_over}
 use Rattle.kernel_entry.specs.Seen.{count_of}
 use Rattle.step_laws.specs.Moves.{Begin, Within}
 use Rattle.step_laws.specs.Numbers.{Numbers, moved, numbered}
@@ -39,7 +39,7 @@ within_on : (quantum count from to since since' : ℕ) → 1 ≤ count → count
 within_on quantum count from to since since' some most within few reset = within_by quantum count from to since since' (is_crossing from to) (count == 1) refl refl some most within few reset
 
 -- so no more than this many run between two services
-longest_on : (quantum count at since : ℕ) → 1 ≤ count → count ≤ quantum → since ≤ 40 * (128 * (quantum - count) + at % 128) → since + 40 ≤ 5120 * quantum
+longest_on : (quantum count at since : ℕ) → 1 ≤ count → count ≤ quantum → since ≤ 40 * (128 * (quantum - count) + at % 128) → since + 40 ≤ bound_per_crossing * quantum
 longest_on quantum count at since some most within = omega arith
 
 at_most_one : (b : Bool) (crossings steps steps' : ℕ) → crossings ≤ steps → steps' ≡ steps + 1 → (if b then crossings + 1 else crossings) ≤ steps'
@@ -53,7 +53,7 @@ record Rises (n after : Numbers) (quantum : ℕ) : Type 0 where
   reach : after.since ≤ n.since + 40
   since : after.since ≤ after.longest
   longest : after.longest ≤ after.natural
-  most : after.longest ≤ 5120 * quantum
+  most : after.longest ≤ bound_per_crossing * quantum
 
 rises : (x : State) (a crossings : ℕ) (law : StepLaw (links_at x) x a) (n : Numbers) → 1 ≤ count_of x.kernel → count_of x.kernel ≤ x.kernel.quantum → AreBounded n crossings x.kernel.quantum (count_of x.kernel) a
     → Rises n (numbered (moves_of law) n) x.kernel.quantum
@@ -76,7 +76,7 @@ rises x a crossings law n some most before =
       reach = omega arith;
       since = since_longest law.rest first (omega arith);
       longest = longest_bound law.rest first after.natural (omega arith) (omega arith);
-      most = longest_bound law.rest first (5120 * x.kernel.quantum) (omega arith) (omega arith);
+      most = longest_bound law.rest first (bound_per_crossing * x.kernel.quantum) (omega arith) (omega arith);
     }
 
 pub keep_bounds : KeepBounds

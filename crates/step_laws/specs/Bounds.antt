@@ -1,5 +1,6 @@
 -- How far the numbers of a run go, step after step (docs/RUN.md, "Bounds").
 use Rattle.std.specs.Prelude.{◌≡◌, ℕ, ◌+◌, ◌-◌, ◌*◌, ◌%◌, ◌≤◌}
+use Rattle.preempt_count.specs.Counting.{bound_per_crossing}
 use Rattle.kernel_entry.specs.declared.kernel.Stop.{Stop}
 use Rattle.kernel_entry.specs.Seen.{count_of}
 use Rattle.step_laws.specs.Numbers.{Numbers, numbered}
@@ -16,7 +17,7 @@ pub record AreBounded (n : Numbers) (crossings quantum count at : ℕ) : Type 0 
   pub since : n.since ≤ n.longest
   pub longest : n.longest ≤ n.natural
   pub within : n.since ≤ 40 * (128 * (quantum - count) + at % 128)
-  pub most : n.longest ≤ 5120 * quantum
+  pub most : n.longest ≤ bound_per_crossing * quantum
 
 -- the numbers where a program has stopped: the step that was not made may have moved
 pub record AreEnded (n : Numbers) (crossings quantum : ℕ) : Type 0 where
@@ -25,7 +26,7 @@ pub record AreEnded (n : Numbers) (crossings quantum : ℕ) : Type 0 where
   pub crossed : crossings ≤ n.steps
   pub since : n.since ≤ n.longest
   pub longest : n.longest ≤ n.natural
-  pub most : n.longest ≤ 5120 * quantum
+  pub most : n.longest ≤ bound_per_crossing * quantum
 
 -- A step that goes on adds one step and keeps the bounds, where COUNT is from 1 to the quantum; one that stops adds none.
 -- Neither makes a page.

@@ -2,14 +2,14 @@
 -- of none of whose addresses a page kept before has an entry. Of such a page a stub that jumps elsewhere than to its
 -- target's place in a page that is kept calls the kernel's bridge again. All other pages are erased
 -- (docs/RESTART.md).
-use Rattle.std.specs.Prelude.{◌≡◌, ℕ, zero, suc, ◌+◌, ◌<◌, ◌==◌, ◌&&◌, ◌↔◌, not, Bool, true, false, if◌then◌else◌, List, length}
-use Rattle.std.specs.List.{list_all}
+use Rattle.std.specs.Prelude.{◌≡◌, ℕ, zero, suc, ◌+◌, ◌<◌, ◌&&◌, ◌↔◌, not, Bool, true, false, if◌then◌else◌, List, length}
 use Rattle.flash_model.specs.Pages.{page_of}
 use Rattle.flash_model.specs.declared.layout.Layout.{Layout}
 use Rattle.page_index.specs.Maps.{IsPool, IsFree}
 use Rattle.page_index.specs.Entries.{Lists}
 use Rattle.nat_page.specs.CodePages.{IsCodePage}
 use Rattle.nat_page.specs.Unlinking.{with_calls, stubs_where, are_some}
+use Rattle.pool_check.specs.WrittenDumps.{is_erased}
 
 -- a page that is kept, where it is told which of the lower ones are
 pub record IsKeeper (layout : Layout) (image words : List ℕ) (kept : ℕ → Bool) (page : ℕ) : Type 0 where
@@ -48,7 +48,7 @@ count_where test first (suc n) = (if test (first + n) then 1 else 0) + count_whe
 
 -- all words of a page are erased
 abbrev pub is_blank : List ℕ → ℕ → Bool
-is_blank words page = list_all (λ word. word == 0xFFFF) (page_of words page)
+is_blank words page = is_erased (page_of words page)
 
 -- a page that is dropped: it isn't kept, and wasn't blank
 abbrev pub is_dropped : List ℕ → (kept : ℕ → Bool) → ℕ → Bool

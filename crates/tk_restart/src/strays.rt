@@ -3,11 +3,8 @@
 ghost use Rattle.std.specs.Prelude.{◌≡◌, ◌<◌, ◌≤◌};
 ghost use Rattle.tk_restart.specs.Strays.{is_stray, is_listed, is_item};
 
-use flash_model::{Flash, Layout};
+use flash_model::{Flash, Layout, PAGE_WORDS};
 use nat_page::LinkTest;
-
-/// How many words a page has.
-pub(crate) const PAGE_WORDS: u16 = 128;
 
 /// How many entries a page has room for.
 const MOST_ENTRIES: u16 = 126;

@@ -8,12 +8,9 @@ ghost use Rattle.nat_page.specs.CodePages.{IsCodePage};
 ghost use Rattle.tk_restart.specs.Unlinking.{AreCodes, unlinked_page, Unlinks};
 
 use crate::operating::{erase, program};
-use crate::strays::{PAGE_WORDS, Strays};
-use flash_model::{Flash, Layout};
+use crate::strays::Strays;
+use flash_model::{BLANK, Flash, Layout, PAGE_WORDS};
 use nat_page::without_links;
-
-/// A word of a page that is free.
-const BLANK: u16 = 0xFFFF;
 
 /// Makes each stub that jumps to no entry call the bridge.
 pub(crate) fn unlink(flash: &mut Flash, layout: &Layout)

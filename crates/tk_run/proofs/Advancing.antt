@@ -16,11 +16,12 @@ use Rattle.step_laws.specs.Numbers.{Numbers}
 use Rattle.step_laws.proofs.NumberLaws.{unmoved}
 use Rattle.kernel_entry.specs.Seen.{end_of, program as program_of}
 use Rattle.program_steps.specs.Machines.{Machine, numbers_of, flat_of}
-use Rattle.program_steps.specs.Ready.{count_in, AreTried, IsGoing, IsQuiet, IsInOrder, IsSound, IsEnded, IsKept, HasBounds}
+use Rattle.program_steps.specs.Ready.{count_in, IsGoing, IsQuiet, IsInOrder, IsSound, IsEnded, IsKept, HasBounds}
 use Rattle.program_steps.specs.Stepping.{lines_text}
 use Rattle.program_steps.specs.Stepping.{Goes, Stays, IsFault, ends_in_arrive, HasStepped, StepWay, HasEntered, Entering, HasBound}
 use Rattle.tk_run.specs.Running.{Leads, original_from, run_of, Answers, IsBroken, HasAdvanced}
 use Rattle.program_steps.proofs.Bounds.{bounded_counted}
+use Rattle.program_steps.proofs.Marked.{order_marked}
 use Rattle.program_steps.proofs.Leading.{goes_on, last_on, stays_on, stays_self}
 use Rattle.tk_run.proofs.RunSoFar.{Ran, IsBetween, unshut_on, none_ran, nothing, made_step, lines_text_on, ran_enter, ran_step, spent_at, wild_at, stop_at}
 
@@ -255,26 +256,8 @@ advanced_kept m n known end whole kept = record {
 bounds_broken : (m : Machine) → HasBounds m → HasBounds (record m { broken = true })
 bounds_broken m bounded = bounded
 
-tried_broken : (m : Machine) → AreTried m → AreTried (record m { broken = true })
-tried_broken m tried = record { listed = tried.listed; refused = tried.refused; pool = tried.pool; torn = tried.torn }
-
 order_broken : (m : Machine) → IsInOrder m → IsInOrder (record m { broken = true })
-order_broken m order = record {
-  layout = order.layout;
-  right = order.right;
-  faithful = order.faithful;
-  part = order.part;
-  parted = order.parted;
-  tables = order.tables;
-  paged = order.paged;
-  whole = order.whole;
-  registers = order.registers;
-  pointer = order.pointer;
-  quantum = order.quantum;
-  pages = order.pages;
-  ring = order.ring;
-  tried = tried_broken m order.tried;
-}
+order_broken m order = order_marked m m.owed m.due true order
 
 sound_broken : (m : Machine) → IsSound m → IsSound (record m { broken = true })
 sound_broken m sound = record { order = order_broken m sound.order; bounded = bounds_broken m sound.bounded; steps = sound.steps }

@@ -30,7 +30,8 @@ use Rattle.program_steps.proofs.MadeAt.{made_map}
 use Rattle.tk_run.specs.Running.{Leads, Visits, HasAdvanced, HasRun, original_from, run_of, flat_end}
 use Rattle.tk_run.specs.Booted.{booted, started, started_over}
 use Rattle.tk_run.specs.WholeRuns.{program_at, StandsAt, IsExactRun, IsFailedRun, IsCutRun, HasWhole, HasWholeFrom, HasWholeOver, IsKeptEnd, without_failing}
-use Rattle.tk_run.proofs.Booting.{IsBegun, begun_boot, begun_over, program_start, run_start}
+use Rattle.program_steps.proofs.Beginning.{IsBegun}
+use Rattle.tk_run.proofs.Booting.{begun_boot, begun_over, program_start, run_start}
 
 -- a machine that has done nothing yet, and stands for the original program at reset
 pub record IsStart (start : Machine) (image : List ℕ) (script : Schedule) (quantum slots : ℕ) : Type 0 where

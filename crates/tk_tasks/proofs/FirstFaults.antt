@@ -11,7 +11,8 @@ use Rattle.input_script.specs.Script.{Schedule, Accepts, IsFaulty, IsFirstFault,
 use Rattle.input_script.proofs.Judgement.{one_judgement}
 use Rattle.input_script.proofs.EventLines.{empty_fine, IsEventLine, events_alone}
 use Rattle.tk_tasks.specs.declared.script.BadLine.{BadLine}
-use Rattle.tk_tasks.specs.Scripts.{named, at_word, own_line, own_lines, Schedules, IsFormless, IsFault, Formless, InText, IsFirst}
+use Rattle.line_text.specs.TaskLines.{task_text}
+use Rattle.tk_tasks.specs.Scripts.{at_word, own_line, own_lines, Schedules, IsFormless, IsFault, Formless, InText, IsFirst}
 use Rattle.tk_tasks.specs.Reading.{text_of, earlier, AllFine, IsBad, IsFar}
 use Rattle.tk_tasks.proofs.OwnLines.{OwnWay, Not, Own, own_way}
 use Rattle.tk_tasks.proofs.OwnTexts.{own_text_lines}
@@ -164,7 +165,7 @@ record IsNamedBy (lines : List (List ℕ)) (task number : ℕ) : Type 0 where
   behind : List ℕ
   cut : lines ≡ front ++ line ∷ rest
   number_is : number ≡ length front + 1
-  named_is : line ≡ named task ++ at_word ++ behind
+  named_is : line ≡ task_text task ++ at_word ++ behind
 
 record Cut (f : List ℕ → List ℕ) (lines front : List (List ℕ)) (line : List ℕ) : Type 0 where
   first : List (List ℕ)
@@ -183,7 +184,7 @@ map_cut f [] (x ∷ front) rest line is = absurd (cc)
 map_cut f (its ∷ lines) [] rest line is = record { first = []; its = its; rest = lines; cut = refl; long = refl; line_is = cc }
 map_cut f (its ∷ lines) (x ∷ front) rest line is = cut_more f lines front its x line (map_cut f lines front rest line (cc))
 
-named_by : (task : ℕ) (line own : List ℕ) (before : Schedule) (f : ScriptFault) → OwnWay task line own → size before ≤ most_statements → IsFirstFault f before own → (behind : List ℕ) × (line ≡ named task ++ at_word ++ behind)
+named_by : (task : ℕ) (line own : List ℕ) (before : Schedule) (f : ScriptFault) → OwnWay task line own → size before ≤ most_statements → IsFirstFault f before own → (behind : List ℕ) × (line ≡ task_text task ++ at_word ++ behind)
 named_by task line _ before f (Own behind is) few faulty = (behind, is)
 named_by task line _ before f Not few faulty = absurd (empty_fine before few f faulty.has)
 
@@ -208,7 +209,7 @@ same_line [] (z ∷ ys) r s x y same long = absurd (omega arith)
 same_line (z ∷ xs) [] r s x y same long = absurd (omega arith)
 same_line (z ∷ xs) (w ∷ ys) r s x y same long = same_line xs ys r s x y (cc) (omega arith)
 
-task_digit : (task other : ℕ) (rest more : List ℕ) → named task ++ at_word ++ rest ≡ named other ++ at_word ++ more → task ≡ other
+task_digit : (task other : ℕ) (rest more : List ℕ) → task_text task ++ at_word ++ rest ≡ task_text other ++ at_word ++ more → task ≡ other
 task_digit task other rest more same =
     let digits : 48 + task ≡ 48 + other = ap (λ l. get_or l 5 0) same in
     omega arith

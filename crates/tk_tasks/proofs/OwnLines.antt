@@ -4,7 +4,8 @@ use Rattle.std.specs.Prelude.{Option, Some, None}
 use Rattle.std.proofs.lemmas.List.{length-append}
 use Rattle.std.proofs.lemmas.Bool.Decides.{nat_tests}
 use Rattle.text_lines.specs.Cutting.{Lacks}
-use Rattle.tk_tasks.specs.Scripts.{named, at_word, behind, own_by, own_line}
+use Rattle.line_text.specs.TaskLines.{task_text}
+use Rattle.tk_tasks.specs.Scripts.{at_word, behind, own_by, own_line}
 use Rattle.tk_tasks.specs.Reading.{ended}
 
 same_byte : (b : ℕ) → eqb b b ≡ true
@@ -35,14 +36,14 @@ front_behind (b ∷ front) (c ∷ text) rest is =
 -- what a task has of a line: nothing, or what stands behind its name
 pub data OwnWay (task : ℕ) (line : List ℕ) : List ℕ → Type 0 where
   Not : OwnWay task line []
-  Own : (rest : List ℕ) → line ≡ named task ++ at_word ++ rest → OwnWay task line (at_word ++ rest)
+  Own : (rest : List ℕ) → line ≡ task_text task ++ at_word ++ rest → OwnWay task line (at_word ++ rest)
 
-way_by : (task : ℕ) (line : List ℕ) (found : Option (List ℕ)) → behind (named task ++ at_word) line ≡ found → OwnWay task line (own_by found)
+way_by : (task : ℕ) (line : List ℕ) (found : Option (List ℕ)) → behind (task_text task ++ at_word) line ≡ found → OwnWay task line (own_by found)
 way_by task line None is = Not
-way_by task line (Some rest) is = Own rest (front_behind (named task ++ at_word) line rest is)
+way_by task line (Some rest) is = Own rest (front_behind (task_text task ++ at_word) line rest is)
 
 pub own_way : (task : ℕ) (line : List ℕ) → OwnWay task line (own_line task line)
-own_way task line = way_by task line (behind (named task ++ at_word) line) refl
+own_way task line = way_by task line (behind (task_text task ++ at_word) line) refl
 
 lacks_by : (task : ℕ) (line own : List ℕ) → OwnWay task line own → Lacks 10 line → Lacks 10 own
 lacks_by task line _ Not lacks = tt

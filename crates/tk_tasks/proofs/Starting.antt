@@ -1,47 +1,31 @@
 -- Each task at boot is ready to go on.
-use Rattle.std.proofs.Common.{true, false, ◌≡◌, ℕ, zero, suc, ◌+◌, ◌-◌, ◌*◌, ◌%◌, ◌<◌, ◌≤◌, List, [], ◌∷◌, length, refl, sym, ap, ap₂, ◌∙◌, arith, subst, inl}
+use Rattle.std.proofs.Common.{true, ◌≡◌, ℕ, zero, suc, ◌+◌, ◌-◌, ◌*◌, ◌<◌, ◌≤◌, List, [], ◌∷◌, length, refl, sym, ap, ap₂, ◌∙◌, arith, subst}
 use Rattle.std.specs.Prelude.{◌≢◌, ◌^◌, Option, Some, None, IfSome, sum_by, slice_get}
-use Rattle.std.proofs.Math.Nat.{zero-mod}
 use Rattle.std.proofs.lemmas.List.Sums.{sum_by-cons}
 use Rattle.std.proofs.lemmas.List.FromFn.{length-map-range_with_len}
 use Rattle.avr_isa.specs.Image.{word}
 use Rattle.sram_layout.specs.Boot.{at_boot}
-use Rattle.sram_layout.specs.Bytes.{byte_count, byte_at, with_byte, data_word_at}
-use Rattle.sram_layout.specs.Cells.{count_cell, vsp_cell}
-use Rattle.sram_layout.proofs.Laws.{byte_same, byte_other, length-with_byte}
-use Rattle.sram_layout.proofs.BootLaws.{length-at_boot, boot_zero}
-use Rattle.list_parts.specs.Lists.{many}
-use Rattle.list_parts.proofs.ManyLaws.{length-many}
+use Rattle.sram_layout.specs.Bytes.{byte_count, with_byte}
+use Rattle.sram_layout.specs.Cells.{count_cell}
+use Rattle.sram_layout.proofs.Laws.{length-with_byte}
+use Rattle.sram_layout.proofs.BootLaws.{length-at_boot}
 use Rattle.flash_model.specs.Memory.{loaded, new_flash, IsWhole}
-use Rattle.flash_model.specs.Layouts.{IsRight, layout_of}
+use Rattle.flash_model.specs.Layouts.{layout_of}
 use Rattle.flash_model.specs.declared.layout.Layout.{Layout}
 use Rattle.flash_model.proofs.LayoutLaws.{layout_right}
 use Rattle.page_index.specs.Entries.{IsEntry}
 use Rattle.page_index.proofs.ChangeLaws.{new_flash_free}
-use Rattle.nat_page.specs.Faithful.{IsFaithful}
 use Rattle.nat_page.specs.Parts.{IsParted}
-use Rattle.nat_page.specs.Used.{used_pages}
 use Rattle.nat_page.proofs.FaithfulLaws.{new_flash_faithful}
 use Rattle.nat_page.proofs.StayLaws.{held_used}
-use Rattle.nat_page.proofs.UsedLaws.{none_used}
-use Rattle.addr_tables.proofs.TableLaws.{boot_tables, tables_kept}
-use Rattle.heap_frames.specs.SamePaging.{SamePaging}
-use Rattle.heap_frames.proofs.SamePagingLaws.{paged_same}
-use Rattle.heap_frames.proofs.BootLaws.{boot_paged}
 use Rattle.input_script.specs.Script.{Schedule}
-use Rattle.branch_bridge.specs.Arrivals.{ring_of}
-use Rattle.swap_store.specs.Slots.{zero_slots}
-use Rattle.swap_store.proofs.Laws.{length-zero_slots}
-use Rattle.mem_guard.specs.FlatMachine.{at_reset as flat_at_reset}
-use Rattle.mem_guard.proofs.AtReset.{memory_at_reset, pages_at_reset}
-use Rattle.step_laws.proofs.SameProgram.{SameProgram, flat_same, flat_parts}
 use Rattle.kernel_entry.specs.Seen.{program as program_of}
 use Rattle.step_laws.specs.Links.{part_number}
-use Rattle.step_laws.specs.StepLaws.{Reaches}
 use Rattle.kernel_entry.specs.declared.kernel.Kernel.{Kernel}
 use Rattle.program_steps.specs.Machines.{Machine, numbers_of, flat_of}
-use Rattle.program_steps.specs.Ready.{count_in, IsGoing, IsInOrder, IsSound}
+use Rattle.program_steps.specs.Ready.{IsGoing, IsRightPart, IsSound, count_in}
 use Rattle.program_steps.proofs.Bounds.{bounded_counted}
+use Rattle.program_steps.proofs.Beginning.{begun_bytes, begun_machine, begun_new, flat_begun, going_begun, program_begun}
 use Rattle.tk_tasks.specs.declared.parked.Parked.{Parked}
 use Rattle.tk_tasks.specs.declared.tasks.Task.{Task}
 use Rattle.tk_tasks.specs.Images.{quarter, quarter_part, task_words}
@@ -52,151 +36,44 @@ use Rattle.tk_tasks.specs.Booted.{IsUnstarted, mote_at_boot, at_start, parked_at
 use Rattle.tk_tasks.proofs.Parkings.{both_own, sized_of}
 
 -- the machine that a task is at boot, with these words in flash
-abbrev pub first_kernel : (words : List ℕ) (script : Schedule) (quantum slots i : ℕ) → Kernel
-first_kernel words script quantum slots i = record { mote = mote_at_boot words script quantum slots; layout = layout_of (length words); part = quarter_part i; quantum = quantum }
-
 abbrev pub first_machine : (words : List ℕ) (script : Schedule) (quantum slots i others : ℕ) → Machine
-first_machine words script quantum slots i others = record {
-  kernel = first_kernel words script quantum slots i;
-  at = quarter * i;
-  owed = Some (record { target = quarter * i; stub = None });
-  end = None;
-  due = false;
-  torn = None;
-  broken = false;
-  steps = 0;
-  crossings = 0;
-  natural = 0;
-  entries = 0;
-  pages = 0;
-  since = 0;
-  longest = 0;
-  began = 0;
-  others = others;
-}
+first_machine words script quantum slots i others = begun_machine (new_flash words []) script (length words) (quarter_part i) quantum slots 0 others
 
--- SRAM with COUNT set, as far as the machine looks at it
-abbrev boot_bytes : ℕ → List ℕ
-boot_bytes quantum = with_byte at_boot count_cell quantum
-
-count_at_boot : (quantum : ℕ) → byte_at (boot_bytes quantum) count_cell ≡ quantum
-count_at_boot quantum = byte_same at_boot count_cell quantum (omega arith) (omega (arith, length-at_boot))
-
-pointer_at_boot : (quantum : ℕ) → byte_at (boot_bytes quantum) vsp_cell ≡ 0
-pointer_at_boot quantum = byte_other at_boot count_cell vsp_cell quantum (omega arith) (omega arith) (λ e. omega arith) ∙ boot_zero vsp_cell (omega arith) (omega arith) (inl (omega arith))
-
-ring_at_boot : (quantum : ℕ) → ring_of (boot_bytes quantum) ≡ 0
-unfolding data_word_at
-ring_at_boot quantum = ap₂ (λ low high. low + 256 * high)
-    (byte_other at_boot count_cell 0x0142 quantum (omega arith) (omega arith) (λ e. omega arith) ∙ boot_zero 0x0142 (omega arith) (omega arith) (inl (omega arith)))
-    (byte_other at_boot count_cell 0x0143 quantum (omega arith) (omega arith) (λ e. omega arith) ∙ boot_zero 0x0143 (omega arith) (omega arith) (inl (omega arith)))
-
-paging_at_boot : (quantum : ℕ) → SamePaging at_boot (boot_bytes quantum)
-paging_at_boot quantum = record {
-  size = length-with_byte at_boot count_cell quantum;
-  cells = λ b from to. byte_other at_boot count_cell b quantum (omega arith) (omega arith) (λ e. omega arith);
-  tables = λ b from to. byte_other at_boot count_cell b quantum (omega arith) (omega arith) (λ e. omega arith);
-}
+abbrev pub first_kernel : (words : List ℕ) (script : Schedule) (quantum slots i : ℕ) → Kernel
+first_kernel words script quantum slots i = (first_machine words script quantum slots i 0).kernel
 
 -- a new flash has no links
-parted_at_boot : (layout : Layout) (image : List ℕ) (part : ℕ → ℕ) → IsRight layout → length image ≡ layout.image_words → IsParted layout image (loaded image) part
-parted_at_boot layout image part right long s t link jump =
-    absurd (held_used (IsEntry layout (loaded image)) image (loaded image) link.page link.first link.last (omega (arith, long, right.image_fits)) link.holds (new_flash_free layout image link.page right (omega (arith, long)) link.pool))
-
-order_at_boot : (words : List ℕ) (script : Schedule) (quantum slots i others count : ℕ) → length words ≡ quarter * count → count ≤ 4 → i < count → quantum < 256 → slots ≤ 251 → IsWhole (new_flash words []) → IsInOrder (first_machine words script quantum slots i others)
-order_at_boot words script quantum slots i others count long few below low room whole =
+parted_at_boot : (words : List ℕ) (part : ℕ → ℕ) → length words ≤ 24576 → IsParted (layout_of (length words)) words (loaded words) part
+parted_at_boot words part few s t link jump =
     let layout : Layout = layout_of (length words) in
-    let right : IsRight layout = layout_right (length words) (omega arith) in
-    let faithful : IsFaithful layout words (loaded words) = new_flash_faithful layout words right refl in
-    let P : List ℕ → Type 0 = λ held. IsFaithful layout held (loaded words) in
-    let I : List ℕ → Type 0 = λ held. IsParted layout held (loaded words) (part_number true) in
-    let none : used_pages layout (loaded words) ≡ 0 = none_used layout (loaded words) (λ p pool. new_flash_free layout words p right (omega arith) pool) in
-    let registers : length (many 32 0) ≡ 32 = length-many 32 0 in
-    record {
-      layout = refl;
-      right = right;
-      faithful = subst P (sym faithful.held) faithful;
-      part = record { whole = λ e. absurd (cc); quarter = λ e. (i, refl, refl, omega arith) };
-      parted = subst I (sym faithful.held) (parted_at_boot layout words (part_number true) right refl);
-      tables = tables_kept layout at_boot (boot_bytes quantum) (loaded words) (loaded words) (λ b from to. byte_other at_boot count_cell b quantum (omega arith) (omega arith) (λ e. omega arith)) (λ t v entry. entry) (boot_tables layout (loaded words));
-      paged = paged_same at_boot (boot_bytes quantum) (zero_slots slots) (paging_at_boot quantum) (boot_paged slots room);
-      whole = whole;
-      registers = omega (arith, registers);
-      pointer = omega (arith, pointer_at_boot quantum);
-      quantum = low;
-      pages = omega (arith, none);
-      ring = omega (arith, ring_at_boot quantum, right.pool_pages);
-      tried = record { listed = λ op from to there. absurd (omega (arith, from, to)); refused = λ some. absurd (some refl); pool = tt; torn = tt };
-    }
+    absurd (held_used (IsEntry layout (loaded words)) words (loaded words) link.page link.first link.last few link.holds (new_flash_free layout words link.page (layout_right (length words) few) (omega arith) link.pool))
 
-none_off : (q : ℕ) → q ≡ q - 0 % q
-none_off q = let z : 0 % q ≡ 0 = zero-mod q in omega arith
-
-pub going_at_boot : (words : List ℕ) (script : Schedule) (quantum slots i others count : ℕ) → length words ≡ quarter * count → count ≤ 4 → i < count → 1 ≤ quantum → quantum < 256 → slots ≤ 251 → others ≤ 10 ^ 13 → IsWhole (new_flash words [])
+pub going_at_boot : (words : List ℕ) (script : Schedule) (quantum slots i others count : ℕ) → length words ≡ quarter * count → count ≤ 4 → i < count → 1 ≤ quantum → quantum < 256 → slots ≤ 251 → others ≤ 10 ^ 12 → IsWhole (new_flash words [])
     → IsGoing (first_machine words script quantum slots i others)
 going_at_boot words script quantum slots i others count long few below some low room little whole =
-    let at = count_at_boot quantum in
-    record {
-      order = order_at_boot words script quantum slots i others count long few below low room whole;
-      going = refl;
-      untorn = refl;
-      top = refl;
-      some = omega (arith, at);
-      most = omega (arith, at);
-      stands = Reaches.Owing None (λ e. absurd (cc)) refl tt;
-      counted = record { natural = omega arith; entries = omega arith; since = omega arith; longest = omega arith; crossed = omega arith; within = omega arith; most = omega arith };
-      arrivals = record { pages = omega arith; ops = omega arith; few = omega arith };
-      polls = omega arith;
-      exact = at ∙ none_off quantum;
-      fresh = λ e. refl;
-    }
+    let fits : length words ≤ 24576 = omega (arith, long, few) in
+    let own : IsRightPart (quarter_part i) (length words) = record { whole = λ e. absurd (cc); quarter = λ e. (i, refl, refl, omega arith) } in
+    going_begun words (new_flash words []) script (quarter_part i) quantum slots 0 others fits some low room little (begun_new words [] fits whole) own (parted_at_boot words (part_number true) fits)
 
 -- Its program is at reset. --------------------------------------------------------------------------------
-
--- COUNT is set in the memory of boot, and the program sees nothing of it
-same_at_boot : (words : List ℕ) (script : Schedule) (quantum slots : ℕ) → SameProgram (record (mote_at_boot words script quantum slots) { sram = at_boot }) (mote_at_boot words script quantum slots)
-same_at_boot words script quantum slots = record {
-  registers = refl;
-  status = refl;
-  top = refl;
-  size = length-with_byte at_boot count_cell quantum;
-  bytes = λ b from apart apart'. byte_other at_boot count_cell b quantum (omega arith) (omega arith) (λ e. omega arith);
-  flash = refl;
-  devices = refl;
-  swap = refl;
-}
-
-stack_at_boot : data_word_at at_boot vsp_cell ≡ 0
-unfolding data_word_at
-stack_at_boot = ap₂ (λ low high. low + 256 * high) (boot_zero vsp_cell (omega arith) (omega arith) (inl (omega arith))) (boot_zero (vsp_cell + 1) (omega arith) (omega arith) (inl (omega arith)))
-
-flat_at_boot : (words : List ℕ) (script : Schedule) (quantum slots i others : ℕ) → flat_of (first_machine words script quantum slots i others) ≡ record { now = record (flat_at_reset script.events) { cpu = record (flat_at_reset script.events).cpu { pc = quarter * i } }; due = false }
-flat_at_boot words script quantum slots i others =
-    let k = first_kernel words script quantum slots i in
-    ap (λ s. record { now = s; due = false }) (flat_same (record k { mote = record k.mote { sram = at_boot } }) k (quarter * i) 0 0 (same_at_boot words script quantum slots)
-    ∙ flat_parts _ _ _ _ _ _ (quarter * i) 0 0 _ _ _ _ _ _ refl refl stack_at_boot (memory_at_reset (zero_slots slots)) refl pages_at_reset)
-
-program_at_boot : (words : List ℕ) (script : Schedule) (quantum slots i : ℕ) → length words ≤ 24576 → program_of (first_kernel words script quantum slots i) ≡ record { image = words; part = quarter_part i; page_limit = slots; quantum = quantum }
-program_at_boot words script quantum slots i few =
-    let faithful = new_flash_faithful (layout_of (length words)) words (layout_right (length words) few) refl in
-    ap₂ (λ w n. record { image = w; part = quarter_part i; page_limit = n; quantum = quantum }) faithful.held (length-zero_slots slots)
 
 player_by : (words : List ℕ) (script : Schedule) (quantum slots i others n : ℕ) → length words ≤ 24576
     → ◌≡◌ {A = Player} (record { program = program_of (first_machine words script quantum slots i others).kernel; moment = flat_of (first_machine words script quantum slots i others); left = n - 0; end = None })
     (at_reset_in (record { image = words; part = quarter_part i; page_limit = slots; quantum = quantum }) (quarter * i) script.events n)
 player_by words script quantum slots i others n few =
     let all : n - 0 ≡ n = omega arith in
-    ap₂ (λ p m. record { program = p; moment = m; left = n - 0; end = None }) (program_at_boot words script quantum slots i few) (flat_at_boot words script quantum slots i others)
+    ap₂ (λ p m. record { program = p; moment = m; left = n - 0; end = None }) (program_begun words (new_flash words []) script (quarter_part i) quantum slots 0 others (new_flash_faithful (layout_of (length words)) words (layout_right (length words) few) refl))
+    (flat_begun (new_flash words []) script (length words) (quarter_part i) quantum slots 0 others)
     ∙ ap (λ l. at_reset_in (record { image = words; part = quarter_part i; page_limit = slots; quantum = quantum }) (quarter * i) script.events l) all
 
 -- The tasks at boot. --------------------------------------------------------------------------------------
 
-pub size_at_boot : (quantum : ℕ) → length (boot_bytes quantum) ≡ byte_count
+pub size_at_boot : (quantum : ℕ) → length (begun_bytes quantum) ≡ byte_count
 size_at_boot quantum = length-with_byte at_boot count_cell quantum ∙ length-at_boot
 
 -- the mote that a waiting task would have is that of boot with its own script
 taken_at_boot : (words : List ℕ) (first script : Schedule) (quantum slots : ℕ) → taken_up (mote_at_boot words first quantum slots) (parked_at_boot script quantum slots) ≡ mote_at_boot words script quantum slots
-taken_at_boot words first script quantum slots = ap (λ s. record (mote_at_boot words script quantum slots) { sram = s }) (both_own (boot_bytes quantum) (size_at_boot quantum))
+taken_at_boot words first script quantum slots = ap (λ s. record (mote_at_boot words script quantum slots) { sram = s }) (both_own (begun_bytes quantum) (size_at_boot quantum))
 
 first_is : (t : Tasks) (words : List ℕ) (first script : Schedule) (quantum slots i : ℕ) → t.kernel ≡ first_kernel words first quantum slots 0 → t.pages ≡ 0
     → machine_of t i (at_start i (Some (parked_at_boot script quantum slots))) ≡ first_machine words script quantum slots i (others_of t (at_start i (Some (parked_at_boot script quantum slots))))
@@ -264,7 +141,7 @@ task_at_boot : (t : Tasks) (words : List ℕ) (script : Schedule) (count quantum
     → (i ≡ t.running → parked ≡ None) → (i ≢ t.running → parked ≢ None) → IfSome parked IsSized → IsTask t i (at_start i parked)
 task_at_boot t words script count quantum slots i parked can below sum is runs waits sized =
     let others = others_of t (at_start i parked) in
-    let little : others ≤ 10 ^ 13 = omega (arith, sum) in
+    let little : others ≤ 10 ^ 12 = omega (arith, sum) in
     let going = going_at_boot words script quantum slots i others count can.long can.few below can.quantum_some can.quantum_low can.room little can.whole in
     let m = first_machine words script quantum slots i others in
     record {

@@ -15,7 +15,6 @@ use Rattle.line_text.proofs.Gathered.{sent_on, cut_on}
 use Rattle.line_text.proofs.StopLines.{line_of}
 use Rattle.tk_tasks.specs.declared.tasks.TaskEnd.{TaskEnd}
 use Rattle.tk_tasks.specs.declared.tasks.TaskEnd.TheVariants.{Spent, Stopped, Wild, Read}
-use Rattle.tk_tasks.specs.Scripts.{named}
 use Rattle.tk_tasks.specs.Turns.{Told}
 use Rattle.tk_tasks.specs.States.{flat_end}
 use Rattle.tk_tasks.specs.Plays.{shown_text, told_text}
@@ -35,7 +34,7 @@ end_line_is quantum task end steps crossings =
 
 -- texts behind one another
 pub told_text_on : (quantum : ℕ) (a b : List Told) → told_text quantum (a ++ b) ≡ told_text quantum a ++ told_text quantum b
-told_text_on quantum a b = flat_map-append (λ (one : Told). named one.task ++ shown_text quantum one.shown) a b
+told_text_on quantum a b = flat_map-append (λ (one : Told). task_text one.task ++ shown_text quantum one.shown) a b
 
 pub cut_less : (old new : Option (List ℕ)) (a b : List ℕ) → CutShort old new a → CutShort old new (a ++ b)
 cut_less old new a b cut =

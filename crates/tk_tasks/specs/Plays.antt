@@ -10,7 +10,7 @@ use Rattle.step_laws.specs.Walks.{Walks}
 use Rattle.program_steps.specs.Machines.{flat_of}
 use Rattle.program_steps.specs.Stepping.{Goes, AreMadeAt, ends_in_arrive}
 use Rattle.tk_tasks.specs.declared.tasks.Task.{Task}
-use Rattle.tk_tasks.specs.Scripts.{named}
+use Rattle.line_text.specs.TaskLines.{task_text}
 use Rattle.tk_tasks.specs.Turns.{Player, Turns, Shown, Wrote, Stops, Told, After, once, tries, turns, alone, shown_by, own_told, HaveEnded}
 use Rattle.tk_tasks.specs.States.{Tasks, AreSound, machine_of, player_of, turns_of}
 use Rattle.tk_tasks.specs.Changes.{changed_tasks}
@@ -81,7 +81,7 @@ shown_text quantum (Wrote line) = line_text line
 shown_text quantum (Stops end steps crossings) = stop_text end steps (crossings / quantum)
 
 abbrev pub told_text : (quantum : ℕ) → List Told → List ℕ
-told_text quantum told = flat_map (λ one. named one.task ++ shown_text quantum one.shown) told
+told_text quantum told = flat_map (λ one. task_text one.task ++ shown_text quantum one.shown) told
 
 -- every task has ended, and told what it does alone; it ended as it does alone, and holds what it then holds
 abbrev pub EndsAsAlone : Run → ℕ → List Told → Player → Type 0

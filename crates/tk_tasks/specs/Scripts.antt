@@ -4,10 +4,7 @@ use Rattle.input_script.specs.declared.fault.ScriptFault.{ScriptFault}
 use Rattle.input_script.specs.declared.fault.ScriptFault.TheVariants.{Form}
 use Rattle.input_script.specs.Grammar.{IsSkipped}
 use Rattle.input_script.specs.Script.{Schedule, Accepts, IsFaulty, nothing}
-
--- what a line of a task begins with; a task's number is one digit
-abbrev pub named : ℕ → List ℕ
-named task = codes "task " ++ (48 + task) ∷ codes " "
+use Rattle.line_text.specs.TaskLines.{task_text}
 
 -- what an event's line begins with
 abbrev pub at_word : List ℕ
@@ -15,7 +12,7 @@ at_word = codes "at "
 
 -- the line names one of `count` tasks, and goes on as an event does
 abbrev pub IsNamed : ℕ → List ℕ → Type 0
-IsNamed count line = (task : ℕ) × (rest : List ℕ) × (task < count) × (line ≡ named task ++ at_word ++ rest)
+IsNamed count line = (task : ℕ) × (rest : List ℕ) × (task < count) × (line ≡ task_text task ++ at_word ++ rest)
 
 -- A line of a script of `count` tasks: it is skipped, or so named. All else, so a line of an operation that fails, is a
 -- fault of form.
@@ -34,7 +31,7 @@ own_by None = []
 own_by (Some rest) = at_word ++ rest
 
 abbrev pub own_line : ℕ → List ℕ → List ℕ
-own_line task line = own_by (behind (named task ++ at_word) line)
+own_line task line = own_by (behind (task_text task ++ at_word) line)
 
 -- the lines of a task's own text, as many as the whole text has
 abbrev pub own_lines : ℕ → List (List ℕ) → List (List ℕ)

@@ -3,15 +3,13 @@
 ghost use Rattle.std.specs.Prelude.{◌≡◌, ◌≤◌, ◌↔◌, ℕ, IsTrue, IfOk, MatchOption};
 ghost use Rattle.tk_tasks.specs.Images.{IsApart, IsMisplaced, IsFirstMisplaced, task_words};
 
+use flash_model::BLANK;
 use hex_image::Image;
 use std::alloc::Global;
 use tk_io::NoMemory;
 
 /// The words of a task's quarter.
 pub const QUARTER: u16 = 4096;
-
-/// What erased flash has.
-const BLANK: u16 = 0xFFFF;
 
 /// The least word address at which no task's word may stand, and one does: behind the last quarter, or at one of
 /// the last two words of a quarter.

@@ -2,7 +2,8 @@
 
 ghost use Rattle.std.specs.Prelude.{◌≡◌, ◌≢◌, ◌<◌, ◌≤◌, ◌+◌, ◌↔◌, ◌++◌, ℕ, List, length, All, IsTrue, IfOk, OnOk, MatchOption};
 ghost use Rattle.text_lines.specs.Lines.{lines_of};
-ghost use Rattle.tk_tasks.specs.Scripts.{named, at_word, IsNamed, IsTaskLine, IsFormless, own_line, own_lines};
+ghost use Rattle.line_text.specs.TaskLines.{task_text};
+ghost use Rattle.tk_tasks.specs.Scripts.{at_word, IsNamed, IsTaskLine, IsFormless, own_line, own_lines};
 ghost use Rattle.tk_tasks.specs.Reading.{ended};
 
 use std::alloc::Global;
@@ -92,7 +93,7 @@ fn own_line(line: &[u8], task: u8) -> &[u8]
 /// What stands behind a task's name and `at `, in a line that begins so.
 fn behind_name(line: &[u8], task: u8) -> Option<&[u8]>
     requires { task < 4 }
-    ensures cases { MatchOption result ((rest : List ℕ) → line.now ≢ named task ++ at_word ++ rest) (λ rest. line.now ≡ named task ++ at_word ++ rest.now) }
+    ensures cases { MatchOption result ((rest : List ℕ) → line.now ≢ task_text task ++ at_word ++ rest) (λ rest. line.now ≡ task_text task ++ at_word ++ rest.now) }
 {
     let front = [
         b't',

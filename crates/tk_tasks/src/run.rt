@@ -89,46 +89,37 @@ fn put_shown<K: Sink>(
     put_end(shown, quantum, gathered, out)
 }
 
-/// The plain steps of all tasks.
-fn all_natural(tasks: &[Task]) -> u64
+/// What the tasks on a mote have done together: their plain steps, and their services.
+#[derive(Drop)]
+struct Counts {
+    natural: u64,
+    entries: u64,
+}
+
+/// The counts of all tasks.
+fn counts_of(tasks: &[Task]) -> Counts
     requires few { length tasks.now ≤ 4 }
-    requires small { (i : ℕ) → (task : TaskOf) → slice_get tasks.now i ≡ Some task → task.natural ≤ 10 ^ 14 }
-    ensures value { result ≡ sum_by (λ task. task.natural) tasks.now }
+    requires natural { (i : ℕ) → (task : TaskOf) → slice_get tasks.now i ≡ Some task → task.natural ≤ 10 ^ 14 }
+    requires entries { (i : ℕ) → (task : TaskOf) → slice_get tasks.now i ≡ Some task → task.entries ≤ 10 ^ 14 }
+    ensures natural { result.natural ≡ sum_by (λ task. task.natural) tasks.now }
+    ensures entries { result.entries ≡ sum_by (λ task. task.entries) tasks.now }
 {
-    let mut sum = 0;
+    let mut natural = 0;
+    let mut entries = 0;
     'tasks: for i in 0..tasks.len() {
-        sum += tasks[i].natural;
+        natural += tasks[i].natural;
+        entries += tasks[i].entries;
     }
-    sum
+    Counts { natural, entries }
 }
 
-/// The services of all tasks.
-fn all_entries(tasks: &[Task]) -> u64
-    requires few { length tasks.now ≤ 4 }
-    requires small { (i : ℕ) → (task : TaskOf) → slice_get tasks.now i ≡ Some task → task.entries ≤ 10 ^ 14 }
-    ensures value { result ≡ sum_by (λ task. task.entries) tasks.now }
-{
-    let mut sum = 0;
-    'tasks: for i in 0..tasks.len() {
-        sum += tasks[i].entries;
-    }
-    sum
-}
-
-/// The plain steps of the tasks on a mote.
-fn natural_of(t: &Tasks) -> u64
+/// Those of the tasks on a mote.
+fn all_counts(t: &Tasks) -> Counts
     requires sound { AreSound t.now }
-    ensures value { result ≡ sum_by (λ task. task.natural) t.now.tasks }
+    ensures natural { result.natural ≡ sum_by (λ task. task.natural) t.now.tasks }
+    ensures entries { result.entries ≡ sum_by (λ task. task.entries) t.now.tasks }
 {
-    all_natural(&t.tasks)
-}
-
-/// The services of the tasks on a mote.
-fn entries_of(t: &Tasks) -> u64
-    requires sound { AreSound t.now }
-    ensures value { result ≡ sum_by (λ task. task.entries) t.now.tasks }
-{
-    all_entries(&t.tasks)
+    counts_of(&t.tasks)
 }
 
 /// Whether the sink failed.
@@ -157,10 +148,9 @@ impl Tasks {
         ensures cause { HasCause (K.faults out.old) (K.faults out.new) result }
     {
         let result = put_plays(self, n, out);
-        let natural = natural_of(self);
-        let entries = entries_of(self);
-        self.natural = natural;
-        self.entries = entries;
+        let counts = all_counts(self);
+        self.natural = counts.natural;
+        self.entries = counts.entries;
         self.broken = is_failed(&result);
         result
     }

@@ -10,7 +10,8 @@ use Rattle.list_parts.proofs.ManyLaws.{length-many}
 use Rattle.flash_model.proofs.WordLaws.{loaded_fits}
 use Rattle.tk_run.specs.Booted.{booted}
 use Rattle.program_steps.specs.Ready.{IsKept}
-use Rattle.tk_run.proofs.Booting.{begun_boot, start_is_kept}
+use Rattle.program_steps.proofs.Beginning.{begun_new}
+use Rattle.tk_run.proofs.Booting.{start_is_kept}
 use Rattle.tkernel_cli.specs.declared.request.Request.{Request}
 
 -- an image's words have 16 bits
@@ -30,4 +31,4 @@ whole_boot request is = record {
 pub boot_kept : (request : Request) → IsImage request.image → 1 ≤ request.options.quantum → request.options.quantum < 256 → request.options.swap ≤ 251 → IsKept (booted request.image request.script request.options.quantum request.options.swap)
 boot_kept request is some low few =
     let flash = new_flash request.image request.script.failing in
-    start_is_kept request.image flash request.script request.options.quantum request.options.swap 0 (booted request.image request.script request.options.quantum request.options.swap) refl is some low few (begun_boot request.image request.script is (whole_boot request is))
+    start_is_kept request.image flash request.script request.options.quantum request.options.swap 0 (booted request.image request.script request.options.quantum request.options.swap) refl is some low few (begun_new request.image request.script.failing is.few (whole_boot request is))

@@ -9,6 +9,7 @@ use Rattle.flash_model.specs.Operations.{erased_page, programmed_page, renewed}
 use Rattle.nat_page.specs.Faithful.{IsFaithful}
 use Rattle.nat_page.specs.Used.{used_pages}
 use Rattle.program_generator.specs.Generated.{next}
+use Rattle.preempt_count.specs.Counting.{bound_per_crossing}
 use Rattle.kernel_entry.specs.Seen.{program}
 use Rattle.kernel_entry.specs.Texts.{stop_text}
 use Rattle.step_laws.specs.declared.moves.End.{End as MachineEnd}
@@ -74,7 +75,7 @@ pub record FollowsOver (request : Request) (flash : Memory) (n : ℕ) (m : Machi
   pub ready : IsReady m
   pub path : PathFrom (second_start request flash) (original_of request n).lines m
   pub made : AreMadeAt (StandsAt request.image request.script request.options.quantum request.options.swap m.steps) path.moves
-  pub longest : m.longest ≤ 5120 * m.kernel.quantum
+  pub longest : m.longest ≤ bound_per_crossing * m.kernel.quantum
   pub began : m.began ≡ (second_start request flash).began
   pub pages : m.pages ≤ (second_start request flash).pages + m.steps + 1
 

@@ -5,6 +5,7 @@ use Rattle.tk_io.specs.Faults.{Rose}
 use Rattle.tk_io.specs.Streams.{CutShort}
 use Rattle.flash_model.specs.Operations.{is_listed}
 use Rattle.mem_guard.specs.FlatMachine.{End, Spent, Halted, Asleep, Run, original}
+use Rattle.preempt_count.specs.Counting.{bound_per_crossing}
 use Rattle.kernel_entry.specs.Seen.{program}
 use Rattle.kernel_entry.specs.Texts.{stop_text}
 use Rattle.line_text.specs.StopLines.{end_line}
@@ -75,8 +76,9 @@ failed_text request op m = run_text (original_of request m.steps) (end_line (end
 -- The machine stands where the original program stands after its first n steps: registers, memory,
 -- devices, and the counts of steps and crossings. It has the image, the slots and the quantum that were
 -- asked for. Moves lead to it from boot, and write the original's lines; each page that they make is made at an
--- address where the original program stands, and between two services there were at most 5120 plain steps for
--- each crossing of a quantum. Each step made one page at most, and the arrival behind the last one.
+-- address where the original program stands, and between two services there were at most
+-- `bound_per_crossing` plain steps for each crossing of a quantum. Each step made one page at most, and the arrival behind
+-- the last one.
 pub record Follows (request : Request) (n : ℕ) (m : Machine) : Type 0 where
   pub state : flat_of m ≡ (original_of request n).state
   pub program : program m.kernel ≡ program_at request.image request.options.quantum request.options.swap
@@ -85,7 +87,7 @@ pub record Follows (request : Request) (n : ℕ) (m : Machine) : Type 0 where
   pub ready : IsReady m
   pub path : Path request.image request.script request.options.quantum request.options.swap (original_of request n).lines m
   pub made : AreMadeAt (StandsAt request.image request.script request.options.quantum request.options.swap m.steps) path.moves
-  pub longest : m.longest ≤ 5120 * m.kernel.quantum
+  pub longest : m.longest ≤ bound_per_crossing * m.kernel.quantum
   pub pages : m.pages ≤ m.steps + 1
 
 -- the end that the machine keeps is the original's, and none where the bound of steps was reached

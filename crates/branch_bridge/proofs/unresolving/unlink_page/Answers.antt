@@ -19,11 +19,3 @@ without_links-without-requires-clause-run c =
     let original : original_page words c.args.page ≡ c.word.result = ap (word_at words) here ∙ sym c.word.ensures.value in
     let used : is_used words c.args.page ≡ true = ap (λ w. not (w == 0xFFFF)) original ∙ not_blank c.word.result c.if-word.false in
     code_page c.args.layout.now (image_of c.args.layout.now words) words c.args.page (used_rewritten c.args.layout.now (image_of c.args.layout.now words) words c.args.page c.requires.code c.requires.pool used)
-
-pub may_have_stubs_into-requires-clause-run : goal.may_have_stubs_into-requires-clause-run
-may_have_stubs_into-requires-clause-run c =
-    let words = c.args.flash.now.words in
-    let here : 128 * c.args.page + 0 ≡ 128 * c.args.page = omega arith in
-    let original : original_page words c.args.page ≡ c.word.result = ap (word_at words) here ∙ sym c.word.ensures.value in
-    let used : is_used words c.args.page ≡ true = ap (λ w. not (w == 0xFFFF)) original ∙ not_blank c.word.result c.if-word.false in
-    code_page c.args.layout.now (image_of c.args.layout.now words) words c.args.page (used_rewritten c.args.layout.now (image_of c.args.layout.now words) words c.args.page c.requires.code c.requires.pool used)

@@ -5,4 +5,4 @@ use Rattle.kernel_entry.proofs.services.serve_told.Goals as goal
 
 pub returns-clause-leaves : goal.returns-clause-leaves
 returns-clause-leaves c =
-    along (λ result new. Leaves c.args.k.now new) (c.serve_at-answer.result, c.serve_at-answer.new.k) (served c.args.k.now) c.serve_at-answer.ensures.served (served_leaves c.args.k.now c.requires.can)
+    along (λ result new. Leaves c.args.k.now new) (c.serve_at.result.0, c.serve_at.new.k) (served c.args.k.now) c.serve_at.ensures.served (served_leaves c.args.k.now c.requires.can)

@@ -15,8 +15,8 @@ returns-in-Resume-clause-served c = λ line stops y makes.
     let told = serve_state (state_of m) y c.serve_told-told.result.0 c.serve_told-told.new.k c.serve_told-told.result.1 line stops c.serve_told-told.ensures.served c.serve_told-told.ensures.due makes in
     record {
       state = same_state c.serve_told-told.new.k _ _ _ _ _ _ makes.free makes.going c.requires.untorn ∙ ap (λ r. after_service c.serve_told-told.result.1 (r, c.serve_told-told.new.k)) (sym c.in-Resume.is) ∙ told.0;
-      numbers = serve_numbers (numbers_of m) line stops false m.steps _ _ _ (ap is_stop (sym c.in-Resume.is) ∙ told.2) (omega arith) (none_behind _) (raised c.args.p.now.longest c.args.p.now.since c.max-p.result c.max-p.ensures) (ap (λ (f : Memory). f.ops) c.serve_told-told.ensures.leaves.flash);
-      written = c.or-p.ensures ∙ ap (λ l. option_or l c.args.p.now.line) (ap line_served (sym c.in-Resume.is) ∙ told.1);
+      numbers = serve_numbers (numbers_of m) line stops false m.steps _ _ _ (ap is_stop (sym c.in-Resume.is) ∙ told.2) (omega arith) (none_behind _) (raised c.args.p.now.longest c.args.p.now.since c.raise.new.longest c.raise.ensures.raised) (ap (λ (f : Memory). f.ops) c.serve_told-told.ensures.leaves.flash);
+      written = c.show.ensures.shown ∙ ap (λ l. option_or l c.args.p.now.line) (ap line_served (sym c.in-Resume.is) ∙ told.1);
       at = refl;
       broken = refl;
       crossings = refl;
@@ -29,7 +29,7 @@ returns-in-Goto-clause-served c = λ line stops y makes.
     let told = serve_state (state_of m) y c.serve_told-told.result.0 c.serve_told-told.new.k c.serve_told-told.result.1 line stops c.serve_told-told.ensures.served c.serve_told-told.ensures.due makes in
     record {
       state = same_state c.serve_told-told.new.k _ _ _ _ _ _ refl makes.going c.requires.untorn ∙ ap (λ r. after_service c.serve_told-told.result.1 (r, c.serve_told-told.new.k)) (sym c.in-Goto.is) ∙ told.0;
-      numbers = serve_numbers (numbers_of m) line stops false m.steps _ _ _ (ap is_stop (sym c.in-Goto.is) ∙ told.2) (omega arith) (none_behind _) (raised c.args.p.now.longest c.args.p.now.since c.max-p.result c.max-p.ensures) (ap (λ (f : Memory). f.ops) c.serve_told-told.ensures.leaves.flash);
+      numbers = serve_numbers (numbers_of m) line stops false m.steps _ _ _ (ap is_stop (sym c.in-Goto.is) ∙ told.2) (omega arith) (none_behind _) (raised c.args.p.now.longest c.args.p.now.since c.raise.new.longest c.raise.ensures.raised) (ap (λ (f : Memory). f.ops) c.serve_told-told.ensures.leaves.flash);
       written = ap (λ l. option_or l c.args.p.now.line) (ap line_served (sym c.in-Goto.is) ∙ told.1);
       at = refl;
       broken = refl;
@@ -43,7 +43,7 @@ returns-in-Woke-clause-served c = λ line stops y makes.
     let told = serve_state (state_of m) y c.serve_told-told.result.0 c.serve_told-told.new.k c.serve_told-told.result.1 line stops c.serve_told-told.ensures.served c.serve_told-told.ensures.due makes in
     record {
       state = same_state c.serve_told-told.new.k _ _ _ _ _ _ refl makes.going c.requires.untorn ∙ ap (λ r. after_service c.serve_told-told.result.1 (r, c.serve_told-told.new.k)) (sym c.in-Woke.is) ∙ told.0;
-      numbers = serve_numbers (numbers_of m) line stops false m.steps _ _ _ (ap is_stop (sym c.in-Woke.is) ∙ told.2) (omega arith) (none_behind _) (raised c.args.p.now.longest c.args.p.now.since c.max-p.result c.max-p.ensures) (ap (λ (f : Memory). f.ops) c.serve_told-told.ensures.leaves.flash);
+      numbers = serve_numbers (numbers_of m) line stops false m.steps _ _ _ (ap is_stop (sym c.in-Woke.is) ∙ told.2) (omega arith) (none_behind _) (raised c.args.p.now.longest c.args.p.now.since c.raise.new.longest c.raise.ensures.raised) (ap (λ (f : Memory). f.ops) c.serve_told-told.ensures.leaves.flash);
       written = ap (λ l. option_or l c.args.p.now.line) (ap line_served (sym c.in-Woke.is) ∙ told.1);
       at = refl;
       broken = refl;
@@ -57,7 +57,7 @@ returns-in-Stopped-clause-served c = λ line stops y makes.
     let told = serve_state (state_of m) y c.serve_told-told.result.0 c.serve_told-told.new.k c.serve_told-told.result.1 line stops c.serve_told-told.ensures.served c.serve_told-told.ensures.due makes in
     record {
       state = same_state c.serve_told-told.new.k _ _ _ _ _ _ makes.free refl c.requires.untorn ∙ ap (λ r. after_service c.serve_told-told.result.1 (r, c.serve_told-told.new.k)) (sym c.in-Stopped.is) ∙ told.0;
-      numbers = serve_numbers (numbers_of m) line stops true c.saturating_sub-p.result _ _ _ (ap is_stop (sym c.in-Stopped.is) ∙ told.2) c.saturating_sub-p.ensures (none_behind _) (raised c.args.p.now.longest c.args.p.now.since c.max-p.result c.max-p.ensures) (ap (λ (f : Memory). f.ops) c.serve_told-told.ensures.leaves.flash);
+      numbers = serve_numbers (numbers_of m) line stops true c.saturating_sub-p.result _ _ _ (ap is_stop (sym c.in-Stopped.is) ∙ told.2) c.saturating_sub-p.ensures (none_behind _) (raised c.args.p.now.longest c.args.p.now.since c.raise.new.longest c.raise.ensures.raised) (ap (λ (f : Memory). f.ops) c.serve_told-told.ensures.leaves.flash);
       written = ap (λ l. option_or l c.args.p.now.line) (ap line_served (sym c.in-Stopped.is) ∙ told.1);
       at = refl;
       broken = refl;

@@ -1,4 +1,4 @@
-use Rattle.std.proofs.Common.{◌≡◌, ◌+◌, false}
+use Rattle.std.proofs.Common.{◌≡◌, ◌-◌, ◌≤◌, false}
 use Rattle.std.specs.Prelude.{None}
 use Rattle.page_index.specs.Cursors.{IsCursor}
 use Rattle.program_steps.specs.Wholes.{whole}
@@ -8,12 +8,16 @@ use Rattle.program_steps.proofs.step.undue_steps.Given as goal
 
 abbrev pub invariant-steps : goal.invariant-steps
 invariant-steps l = record {
-  silently : Silently l.i (whole l.fn.k l.fn.p) (whole l.k l.p);
+  silently : Silently (l.p.steps - l.begin) (whole l.fn.k l.fn.p) (whole l.k l.p);
   ready : IsGoing (whole l.k l.p);
   placed : l.p.owed ≡ None;
   undue : l.p.due ≡ false;
   going : l.p.end ≡ None;
   silent : l.p.line ≡ None;
-  steps : l.p.steps ≡ l.fn.p.steps + l.i;
+  begun : l.begin ≤ l.p.steps;
+  most : l.p.steps ≤ l.end;
   cursor : IsCursor l.k.layout l.k.mote.flash.words l.cursor;
 }
+
+abbrev pub decreases-steps : goal.decreases-steps
+decreases-steps l = l.end - l.p.steps

@@ -1,7 +1,6 @@
-use Rattle.std.proofs.Common.{length, arith, ap}
+use Rattle.std.proofs.Common.{arith}
 use Rattle.nat_page.proofs.WidthLaws.{few_pieces}
 use Rattle.nat_page.proofs.draft.Draft.add.Goals as goal
 
-pub unwrap-requires : goal.unwrap-requires
-unwrap-requires c =
-    c.try_extend_from_slice.ensures.variant.1 (omega (arith, few_pieces c.args.self.now.code.items, few_pieces c.args.here.now.code.items, ap length c.deref.ensures.0, c.requires.sized, c.requires.read, c.requires.room))
+pub add_code-requires : goal.add_code-requires
+add_code-requires c = record { room = omega (arith, few_pieces c.args.self.now.code.items, c.requires.sized, c.requires.read, c.requires.room) }

@@ -1,7 +1,5 @@
 use Rattle.std.proofs.Common.{◌∙◌, sym}
-use Rattle.std.proofs.lemmas.List.Elements.{All-set}
-use Rattle.page_index.specs.Cursors.{IsReached}
-use Rattle.page_index.proofs.CursorLaws.{reached_found}
+use Rattle.page_index.proofs.CursorLaws.{reached_found, reached_set}
 use Rattle.page_index.proofs.cursor.Cursor.find.Goals.{in-Some, in_default}
 use Rattle.page_index.proofs.cursor.Cursor.find.Goals as goal
 
@@ -19,7 +17,7 @@ returns-clause-cursor c =
     record {
       stretch = told.stretch;
       reached = elim c.match-found.branch [
-        | in-Some w ↦ rw w.self-is (All-set (IsReached layout words) c.args.self.now.reached _ _ (reached_found layout words c.follow-found.result w.in-Some.address c.args.place c.follow-found.new.stretch w.in-Some.is told.found told.place told.stretch) c.requires.cursor.reached)
+        | in-Some w ↦ rw w.self-is (reached_set layout words c.args.self.now.reached _ _ (reached_found layout words c.follow-found.result w.in-Some.address c.args.place c.follow-found.new.stretch w.in-Some.is told.found told.place told.stretch _) c.requires.cursor.reached)
         | in_default w ↦ rw w.self-is c.requires.cursor.reached
       ];
     }

@@ -1,0 +1,14 @@
+-- Words that were decoded already.
+use Rattle.std.specs.Prelude.{◌≡◌, ℕ}
+use Rattle.flash_model.specs.declared.decoded.Decoded.{Decoded}
+use Rattle.flash_model.specs.Code.{decoded_of}
+
+-- two words, and what is kept of them
+pub record SeenPair : Type 0 where
+  pub first : ℕ
+  pub second : ℕ
+  pub decoded : Decoded
+
+-- it is what they are decoded to
+abbrev pub IsSeen : SeenPair → Type 0
+IsSeen pair = pair.decoded ≡ decoded_of pair.first pair.second

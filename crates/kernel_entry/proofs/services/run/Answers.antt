@@ -1,0 +1,62 @@
+use Rattle.std.proofs.Common.{ap, ap₂, sym, ◌∙◌}
+use Rattle.std.specs.Prelude.{None, Ok, Err}
+use Rattle.avr_exec.specs.Registers.{wrapping_sum}
+use Rattle.sram_layout.specs.Bytes.{byte_at}
+use Rattle.sram_layout.specs.Cells.{count_cell}
+use Rattle.preempt_count.specs.Counting.{crossed, is_checkpoint}
+use Rattle.kernel_entry.specs.declared.kernel.Served.TheVariants as answers
+use Rattle.kernel_entry.specs.Parts.{with_pc, with_sram}
+use Rattle.kernel_entry.specs.Services.{stop_of, resumed_by, gone_by}
+use Rattle.kernel_entry.proofs.Answering.{can_count, count_stays, quantum_left}
+use Rattle.kernel_entry.proofs.Running.{resumes, goes, stops, run_counts, due_is, due_behind}
+use Rattle.kernel_entry.proofs.services.run.Goals as goal
+
+pub returns-then-entry-lt-RETURN-clause-served : goal.returns-then-entry-lt-RETURN-clause-served
+returns-then-entry-lt-RETURN-clause-served c =
+    let k = c.args.k.now in
+    let next = c.execute.new.k in
+    ap (λ b. (answers.Resume c.in-Ok.ran.line, with_pc next (wrapping_sum b 1))) c.behind_call-behind.ensures.value
+    ∙ resumes k next c.called_instruction-instr.result c.execute.result c.in-Ok.ran c.requires.can c.requires.run c.if-entry-lt-RETURN.true c.called_instruction-instr.ensures.value c.execute.ensures.executed c.in-Ok.is
+
+pub returns-then-entry-lt-RETURN-clause-due : goal.returns-then-entry-lt-RETURN-clause-due
+returns-then-entry-lt-RETURN-clause-due c =
+    let k = c.args.k.now in
+    let next = c.execute.new.k in
+    due_is k (resumed_by k (Ok c.in-Ok.ran) next)
+    (resumes k next c.called_instruction-instr.result c.execute.result c.in-Ok.ran c.requires.can c.requires.run c.if-entry-lt-RETURN.true c.called_instruction-instr.ensures.value c.execute.ensures.executed c.in-Ok.is)
+
+pub cross-due-requires-clause-count : goal.cross-due-requires-clause-count
+cross-due-requires-clause-count c =
+    can_count c.args.k.now c.execute.new.k c.called_instruction-instr.result c.execute.result c.requires.called.can (run_counts c.args.k.now c.requires.can c.requires.run c.if-entry-lt-RETURN.false) c.execute.ensures.executed
+
+pub returns-else-entry-lt-RETURN-clause-served : goal.returns-else-entry-lt-RETURN-clause-served
+returns-else-entry-lt-RETURN-clause-served c =
+    let k = c.args.k.now in
+    let next = c.execute.new.k in
+    let pc = c.in-Ok.ran.pc in
+    ap (λ m. (answers.Goto pc None, with_sram next m)) (c.cross-due.ensures.after
+    ∙ ap₂ (λ q a. crossed q a pc next.mote.sram) (quantum_left k next c.called_instruction-instr.result c.execute.result c.execute.ensures.executed) c.requires.at)
+    ∙ goes k next c.called_instruction-instr.result c.execute.result c.in-Ok.ran c.requires.can c.requires.run c.if-entry-lt-RETURN.false c.called_instruction-instr.ensures.value c.execute.ensures.executed c.in-Ok.is
+
+pub returns-else-entry-lt-RETURN-clause-due : goal.returns-else-entry-lt-RETURN-clause-due
+returns-else-entry-lt-RETURN-clause-due c =
+    let k = c.args.k.now in
+    let next = c.execute.new.k in
+    let count = byte_at next.mote.sram count_cell in
+    c.cross-due.ensures.checkpoint ∙ ap (λ a. is_checkpoint a c.in-Ok.ran.pc count) c.requires.at
+    ∙ due_behind k next c.in-Ok.ran count c.if-entry-lt-RETURN.false (count_stays k next c.called_instruction-instr.result c.execute.result c.requires.called.can c.execute.ensures.executed)
+    (goes k next c.called_instruction-instr.result c.execute.result c.in-Ok.ran c.requires.can c.requires.run c.if-entry-lt-RETURN.false c.called_instruction-instr.ensures.value c.execute.ensures.executed c.in-Ok.is)
+
+pub returns-in-Err-clause-served : goal.returns-in-Err-clause-served
+returns-in-Err-clause-served c =
+    let k = c.args.k.now in
+    let next = c.execute.new.k in
+    ap (λ s. (answers.Stopped s, next)) (c.stop_of.ensures.value ∙ ap (λ a. stop_of a c.in-Err.stop) c.requires.at)
+    ∙ stops k next c.called_instruction-instr.result c.execute.result c.in-Err.stop c.requires.can c.requires.run c.called_instruction-instr.ensures.value c.execute.ensures.executed c.in-Err.is
+
+pub returns-in-Err-clause-due : goal.returns-in-Err-clause-due
+returns-in-Err-clause-due c =
+    let k = c.args.k.now in
+    let next = c.execute.new.k in
+    due_is k (gone_by k (Err c.in-Err.stop) next)
+    (stops k next c.called_instruction-instr.result c.execute.result c.in-Err.stop c.requires.can c.requires.run c.called_instruction-instr.ensures.value c.execute.ensures.executed c.in-Err.is)
