@@ -17,6 +17,7 @@ use Rattle.avr_asm.specs.declared.mnemonic.TwoRegisters.{TwoRegisters}
 use Rattle.avr_asm.specs.declared.mnemonic.TwoRegisters.TheVariants.{Movw, Muls, Cpse, Product, Two as Usual}
 use Rattle.avr_asm.specs.declared.mnemonic.RegisterAndNumber.{RegisterAndNumber}
 use Rattle.avr_asm.specs.declared.mnemonic.RegisterAndNumber.TheVariants as numbered
+use Rattle.avr_asm.specs.declared.mnemonic.BitOp.TheVariants.{Bld, Bst, Sbrc, Sbrs}
 use Rattle.avr_asm.specs.declared.mnemonic.NumberAndRegister.{NumberAndRegister}
 use Rattle.avr_asm.specs.declared.mnemonic.NumberAndRegister.TheVariants.{Sts, Out}
 use Rattle.avr_asm.specs.declared.mnemonic.TwoNumbers.{TwoNumbers}
@@ -83,10 +84,10 @@ register_and_number (numbered.Imm op) d k = forms.Imm op d k
 register_and_number (numbered.Word op) p k = forms.Word op p k
 register_and_number numbered.Lds d a = forms.Lds d a
 register_and_number numbered.In d a = forms.InIo d a
-register_and_number numbered.Bld d b = forms.Bld d b
-register_and_number numbered.Bst d b = forms.Bst d b
-register_and_number numbered.Sbrc r b = forms.Sbrc r b
-register_and_number numbered.Sbrs r b = forms.Sbrs r b
+register_and_number (numbered.Bit Bld) d b = forms.Bld d b
+register_and_number (numbered.Bit Bst) d b = forms.Bst d b
+register_and_number (numbered.Bit Sbrc) r b = forms.Sbrc r b
+register_and_number (numbered.Bit Sbrs) r b = forms.Sbrs r b
 
 abbrev pub number_and_register : NumberAndRegister → ℕ → ℕ → Form
 number_and_register Sts a r = forms.Sts a r

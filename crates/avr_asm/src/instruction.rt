@@ -3,10 +3,11 @@
 
 ghost use Rattle.std.specs.Prelude.{◌≡◌, ◌<◌, SomeIff};
 ghost use Rattle.avr_isa.specs.declared.form.Form.TheVariants as forms;
+ghost use Rattle.avr_asm.specs.declared.mnemonic.RegisterAndNumber.TheVariants as numbered;
 ghost use Rattle.avr_asm.specs.Statements.{bare as bare_of, flag as flag_of, load as load_of, load_program as load_program_of, load_program_to as load_program_to_of, number_and_register as number_and_register_of, one_register as one_register_of, register_and_number as register_and_number_of, store as store_of, two_numbers as two_numbers_of, two_registers as two_registers_of, valid_form};
 
 use crate::mnemonic::{
-    Bare, NumberAndRegister, OneRegister, RegisterAndNumber, TwoNumbers, TwoRegisters,
+    Bare, BitOp, NumberAndRegister, OneRegister, RegisterAndNumber, TwoNumbers, TwoRegisters,
 };
 use crate::operand::Pointer;
 use avr_isa::{Base, Bit, EvenReg, Form, HighReg, Instr, IoAddr, LowIo, MidReg, PairReg, Reg, Six};
@@ -22,169 +23,209 @@ fn byte(n: u64) -> Option<u8>
 pub(crate) fn address(n: u64) -> Option<u16>
     ensures value { SomeIff result (n < 65536) n }
 {
-    u16::try_from(n).ok()
+    match u16::try_from(n) {
+        Ok(address) => Some(address),
+        Err(_) => None,
+    }
 }
 
-#[tactic(auto, unfolding(avr_isa::specs::Instruction::is_valid, avr_isa::specs::Instruction::fields_in_range, avr_isa::specs::Instruction::is_undefined))]
+/// A number as a bit's.
+fn bit(n: u64) -> Option<Bit>
+    ensures value { SomeIff result (n < 8) n }
+{
+    Bit::new(byte(n)?)
+}
+
+/// A number of six bits.
+fn six_bits(n: u64) -> Option<Six>
+    ensures value { SomeIff result (n < 64) n }
+{
+    Six::new(byte(n)?)
+}
+
+/// A number as the field of IN and OUT.
+fn io_address(n: u64) -> Option<IoAddr>
+    ensures value { SomeIff result (n < 64) n }
+{
+    IoAddr::new(byte(n)?)
+}
+
+/// The instruction of a form whose operands are in their fields: none at the undefined pairs.
+#[tactic(auto, unfolding(avr_isa::specs::Instruction::is_valid))]
+pub(crate) fn defined(form: Form) -> Option<Instr>
+    ensures value { result ≡ valid_form form }
+{
+    Instr::new(form)
+}
+
 pub(crate) fn bare(op: Bare) -> Option<Instr>
     ensures value { result ≡ valid_form (bare_of op) }
 {
     match op {
-        Bare::Nop => Instr::new(Form::Nop),
-        Bare::Ret => Instr::new(Form::Ret),
-        Bare::Reti => Instr::new(Form::Reti),
-        Bare::Ijmp => Instr::new(Form::Ijmp),
-        Bare::Icall => Instr::new(Form::Icall),
-        Bare::Sleep => Instr::new(Form::Sleep),
-        Bare::Break => Instr::new(Form::Break),
-        Bare::Wdr => Instr::new(Form::Wdr),
-        Bare::Spm => Instr::new(Form::Spm),
+        Bare::Nop => defined(Form::Nop),
+        Bare::Ret => defined(Form::Ret),
+        Bare::Reti => defined(Form::Reti),
+        Bare::Ijmp => defined(Form::Ijmp),
+        Bare::Icall => defined(Form::Icall),
+        Bare::Sleep => defined(Form::Sleep),
+        Bare::Break => defined(Form::Break),
+        Bare::Wdr => defined(Form::Wdr),
+        Bare::Spm => defined(Form::Spm),
     }
 }
 
-#[tactic(auto, unfolding(avr_isa::specs::Instruction::is_valid, avr_isa::specs::Instruction::fields_in_range, avr_isa::specs::Instruction::is_undefined))]
+#[tactic(auto, unfolding(avr_isa::specs::Instruction::is_valid, avr_isa::specs::Instruction::fields_in_range))]
 pub(crate) fn two_registers(op: TwoRegisters, d: u8, r: u8) -> Option<Instr>
     ensures value { result ≡ valid_form (two_registers_of op d r) }
 {
     match op {
-        TwoRegisters::Movw => Instr::new(Form::Movw(EvenReg::new(d)?, EvenReg::new(r)?)),
-        TwoRegisters::Muls => Instr::new(Form::Muls(HighReg::new(d)?, HighReg::new(r)?)),
-        TwoRegisters::Cpse => Instr::new(Form::Cpse(Reg::new(d)?, Reg::new(r)?)),
+        TwoRegisters::Movw => defined(Form::Movw(EvenReg::new(d)?, EvenReg::new(r)?)),
+        TwoRegisters::Muls => defined(Form::Muls(HighReg::new(d)?, HighReg::new(r)?)),
+        TwoRegisters::Cpse => defined(Form::Cpse(Reg::new(d)?, Reg::new(r)?)),
         TwoRegisters::Product(op) => {
-            Instr::new(Form::Product(op, MidReg::new(d)?, MidReg::new(r)?))
+            defined(Form::Product(op, MidReg::new(d)?, MidReg::new(r)?))
         }
-        TwoRegisters::Two(op) => Instr::new(Form::Two(op, Reg::new(d)?, Reg::new(r)?)),
+        TwoRegisters::Two(op) => defined(Form::Two(op, Reg::new(d)?, Reg::new(r)?)),
     }
 }
 
-#[tactic(auto, unfolding(avr_isa::specs::Instruction::is_valid, avr_isa::specs::Instruction::fields_in_range, avr_isa::specs::Instruction::is_undefined))]
+#[tactic(auto, unfolding(avr_isa::specs::Instruction::is_valid, avr_isa::specs::Instruction::fields_in_range))]
 pub(crate) fn one_register(op: OneRegister, d: u8) -> Option<Instr>
     ensures value { result ≡ valid_form (one_register_of op d) }
 {
     let d = Reg::new(d)?;
     match op {
-        OneRegister::One(op) => Instr::new(Form::One(op, d)),
-        OneRegister::Push => Instr::new(Form::Push(d)),
-        OneRegister::Pop => Instr::new(Form::Pop(d)),
+        OneRegister::One(op) => defined(Form::One(op, d)),
+        OneRegister::Push => defined(Form::Push(d)),
+        OneRegister::Pop => defined(Form::Pop(d)),
     }
 }
 
-#[tactic(auto, unfolding(avr_isa::specs::Instruction::is_valid, avr_isa::specs::Instruction::fields_in_range, avr_isa::specs::Instruction::is_undefined))]
+#[tactic(auto, unfolding(avr_isa::specs::Instruction::is_valid, avr_isa::specs::Instruction::fields_in_range))]
+fn register_and_bit(op: BitOp, d: u8, n: u64) -> Option<Instr>
+    ensures value { result ≡ valid_form (register_and_number_of (numbered.Bit op) d n) }
+{
+    let r = Reg::new(d)?;
+    let b = bit(n)?;
+    match op {
+        BitOp::Bld => defined(Form::Bld(r, b)),
+        BitOp::Bst => defined(Form::Bst(r, b)),
+        BitOp::Sbrc => defined(Form::Sbrc(r, b)),
+        BitOp::Sbrs => defined(Form::Sbrs(r, b)),
+    }
+}
+
+#[tactic(auto, unfolding(avr_isa::specs::Instruction::is_valid, avr_isa::specs::Instruction::fields_in_range))]
 pub(crate) fn register_and_number(op: RegisterAndNumber, d: u8, n: u64) -> Option<Instr>
     ensures value { result ≡ valid_form (register_and_number_of op d n) }
 {
     match op {
-        RegisterAndNumber::Imm(op) => Instr::new(Form::Imm(op, HighReg::new(d)?, byte(n)?)),
-        RegisterAndNumber::Word(op) => {
-            Instr::new(Form::Word(op, PairReg::new(d)?, Six::new(byte(n)?)?))
-        }
-        RegisterAndNumber::Lds => Instr::new(Form::Lds(Reg::new(d)?, address(n)?)),
-        RegisterAndNumber::In => Instr::new(Form::InIo(Reg::new(d)?, IoAddr::new(byte(n)?)?)),
-        RegisterAndNumber::Bld => Instr::new(Form::Bld(Reg::new(d)?, Bit::new(byte(n)?)?)),
-        RegisterAndNumber::Bst => Instr::new(Form::Bst(Reg::new(d)?, Bit::new(byte(n)?)?)),
-        RegisterAndNumber::Sbrc => Instr::new(Form::Sbrc(Reg::new(d)?, Bit::new(byte(n)?)?)),
-        RegisterAndNumber::Sbrs => Instr::new(Form::Sbrs(Reg::new(d)?, Bit::new(byte(n)?)?)),
+        RegisterAndNumber::Imm(op) => defined(Form::Imm(op, HighReg::new(d)?, byte(n)?)),
+        RegisterAndNumber::Word(op) => { defined(Form::Word(op, PairReg::new(d)?, six_bits(n)?)) }
+        RegisterAndNumber::Lds => defined(Form::Lds(Reg::new(d)?, address(n)?)),
+        RegisterAndNumber::In => defined(Form::InIo(Reg::new(d)?, io_address(n)?)),
+        RegisterAndNumber::Bit(op) => register_and_bit(op, d, n),
     }
 }
 
-#[tactic(auto, unfolding(avr_isa::specs::Instruction::is_valid, avr_isa::specs::Instruction::fields_in_range, avr_isa::specs::Instruction::is_undefined))]
+#[tactic(auto, unfolding(avr_isa::specs::Instruction::is_valid, avr_isa::specs::Instruction::fields_in_range))]
 pub(crate) fn number_and_register(op: NumberAndRegister, a: u64, r: u8) -> Option<Instr>
     ensures value { result ≡ valid_form (number_and_register_of op a r) }
 {
     match op {
-        NumberAndRegister::Sts => Instr::new(Form::Sts(address(a)?, Reg::new(r)?)),
-        NumberAndRegister::Out => Instr::new(Form::OutIo(IoAddr::new(byte(a)?)?, Reg::new(r)?)),
+        NumberAndRegister::Sts => defined(Form::Sts(address(a)?, Reg::new(r)?)),
+        NumberAndRegister::Out => defined(Form::OutIo(io_address(a)?, Reg::new(r)?)),
     }
 }
 
-#[tactic(auto, unfolding(avr_isa::specs::Instruction::is_valid, avr_isa::specs::Instruction::fields_in_range, avr_isa::specs::Instruction::is_undefined))]
+#[tactic(auto, unfolding(avr_isa::specs::Instruction::is_valid, avr_isa::specs::Instruction::fields_in_range))]
 pub(crate) fn two_numbers(op: TwoNumbers, a: u64, b: u64) -> Option<Instr>
     ensures value { result ≡ valid_form (two_numbers_of op a b) }
 {
     let a = LowIo::new(byte(a)?)?;
-    let b = Bit::new(byte(b)?)?;
+    let b = bit(b)?;
     match op {
-        TwoNumbers::Cbi => Instr::new(Form::Cbi(a, b)),
-        TwoNumbers::Sbi => Instr::new(Form::Sbi(a, b)),
-        TwoNumbers::Sbic => Instr::new(Form::Sbic(a, b)),
-        TwoNumbers::Sbis => Instr::new(Form::Sbis(a, b)),
+        TwoNumbers::Cbi => defined(Form::Cbi(a, b)),
+        TwoNumbers::Sbi => defined(Form::Sbi(a, b)),
+        TwoNumbers::Sbic => defined(Form::Sbic(a, b)),
+        TwoNumbers::Sbis => defined(Form::Sbis(a, b)),
     }
 }
 
-#[tactic(auto, unfolding(avr_isa::specs::Instruction::is_valid, avr_isa::specs::Instruction::fields_in_range, avr_isa::specs::Instruction::is_undefined))]
+#[tactic(auto, unfolding(avr_isa::specs::Instruction::is_valid, avr_isa::specs::Instruction::fields_in_range))]
 pub(crate) fn load(d: u8, pointer: Pointer) -> Option<Instr>
     ensures value { result ≡ valid_form (load_of d pointer) }
 {
     let d = Reg::new(d)?;
     match pointer {
-        Pointer::At(pointer) => Instr::new(Form::LoadAt(d, pointer)),
-        Pointer::Alone(base) => Instr::new(Form::LoadOff(d, base, Six::new(0)?)),
+        Pointer::At(pointer) => defined(Form::LoadAt(d, pointer)),
+        Pointer::Alone(base) => defined(Form::LoadOff(d, base, Six::new(0)?)),
     }
 }
 
-#[tactic(auto, unfolding(avr_isa::specs::Instruction::is_valid, avr_isa::specs::Instruction::fields_in_range, avr_isa::specs::Instruction::is_undefined))]
+#[tactic(auto, unfolding(avr_isa::specs::Instruction::is_valid, avr_isa::specs::Instruction::fields_in_range))]
 pub(crate) fn store(pointer: Pointer, r: u8) -> Option<Instr>
     ensures value { result ≡ valid_form (store_of pointer r) }
 {
     let r = Reg::new(r)?;
     match pointer {
-        Pointer::At(pointer) => Instr::new(Form::StoreAt(pointer, r)),
-        Pointer::Alone(base) => Instr::new(Form::StoreOff(base, Six::new(0)?, r)),
+        Pointer::At(pointer) => defined(Form::StoreAt(pointer, r)),
+        Pointer::Alone(base) => defined(Form::StoreOff(base, Six::new(0)?, r)),
     }
 }
 
-#[tactic(auto, unfolding(avr_isa::specs::Instruction::is_valid, avr_isa::specs::Instruction::fields_in_range, avr_isa::specs::Instruction::is_undefined))]
+#[tactic(auto, unfolding(avr_isa::specs::Instruction::is_valid, avr_isa::specs::Instruction::fields_in_range))]
 pub(crate) fn displaced_load(d: u8, base: Base, q: u64) -> Option<Instr>
     ensures value { result ≡ valid_form (forms.LoadOff d base q) }
 {
     let d = Reg::new(d)?;
-    let q = Six::new(byte(q)?)?;
-    Instr::new(Form::LoadOff(d, base, q))
+    let q = six_bits(q)?;
+    defined(Form::LoadOff(d, base, q))
 }
 
-#[tactic(auto, unfolding(avr_isa::specs::Instruction::is_valid, avr_isa::specs::Instruction::fields_in_range, avr_isa::specs::Instruction::is_undefined))]
+#[tactic(auto, unfolding(avr_isa::specs::Instruction::is_valid, avr_isa::specs::Instruction::fields_in_range))]
 pub(crate) fn displaced_store(base: Base, q: u64, r: u8) -> Option<Instr>
     ensures value { result ≡ valid_form (forms.StoreOff base q r) }
 {
-    let q = Six::new(byte(q)?)?;
+    let q = six_bits(q)?;
     let r = Reg::new(r)?;
-    Instr::new(Form::StoreOff(base, q, r))
+    defined(Form::StoreOff(base, q, r))
 }
 
 /// BSET, or BCLR.
-#[tactic(auto, unfolding(avr_isa::specs::Instruction::is_valid, avr_isa::specs::Instruction::fields_in_range, avr_isa::specs::Instruction::is_undefined))]
+#[tactic(auto, unfolding(avr_isa::specs::Instruction::is_valid, avr_isa::specs::Instruction::fields_in_range))]
 pub(crate) fn flag(set: bool, s: u64) -> Option<Instr>
     ensures value { result ≡ valid_form (flag_of set s) }
 {
-    let s = Bit::new(byte(s)?)?;
+    let s = bit(s)?;
     if set {
-        Instr::new(Form::Bset(s))
+        defined(Form::Bset(s))
     } else {
-        Instr::new(Form::Bclr(s))
+        defined(Form::Bclr(s))
     }
 }
 
 /// LPM or ELPM without operands.
-#[tactic(auto, unfolding(avr_isa::specs::Instruction::is_valid, avr_isa::specs::Instruction::fields_in_range, avr_isa::specs::Instruction::is_undefined))]
+#[tactic(auto, unfolding(avr_isa::specs::Instruction::is_valid, avr_isa::specs::Instruction::fields_in_range))]
 pub(crate) fn load_program(extended: bool) -> Option<Instr>
     ensures value { result ≡ valid_form (load_program_of extended) }
 {
     if extended {
-        Instr::new(Form::Elpm0)
+        defined(Form::Elpm0)
     } else {
-        Instr::new(Form::Lpm0)
+        defined(Form::Lpm0)
     }
 }
 
 /// LPM or ELPM with operands.
-#[tactic(auto, unfolding(avr_isa::specs::Instruction::is_valid, avr_isa::specs::Instruction::fields_in_range, avr_isa::specs::Instruction::is_undefined))]
+#[tactic(auto, unfolding(avr_isa::specs::Instruction::is_valid, avr_isa::specs::Instruction::fields_in_range))]
 pub(crate) fn load_program_to(extended: bool, d: u8, increment: bool) -> Option<Instr>
     ensures value { result ≡ valid_form (load_program_to_of extended d increment) }
 {
     let d = Reg::new(d)?;
     if extended {
-        Instr::new(Form::Elpm(d, increment))
+        defined(Form::Elpm(d, increment))
     } else {
-        Instr::new(Form::Lpm(d, increment))
+        defined(Form::Lpm(d, increment))
     }
 }

@@ -73,6 +73,12 @@ pub(crate) enum RegisterAndNumber {
     Word(WordOp),
     Lds,
     In,
+    Bit(BitOp),
+}
+
+/// Instructions of a register and a bit.
+#[derive(Clone, Copy)]
+pub(crate) enum BitOp {
     Bld,
     Bst,
     Sbrc,

@@ -1,11 +1,10 @@
 //! The table of mnemonics: in each part the names, and behind them what they stand for, in the same order.
 
-ghost use Rattle.std.specs.Prelude.{◌≡◌, map};
+ghost use Rattle.std.specs.Prelude.{◌≡◌, length, map};
 ghost use Rattle.avr_asm.specs.Mnemonics.{found_in, operation_of};
-ghost use Rattle.avr_asm.specs.declared.table.TheConstants as constants;
 
 use crate::mnemonic::{
-    Bare, Jump, NumberAndRegister, OneRegister, Operation, RegisterAndNumber, TwoNumbers,
+    Bare, BitOp, Jump, NumberAndRegister, OneRegister, Operation, RegisterAndNumber, TwoNumbers,
     TwoRegisters,
 };
 use crate::text::place_in;
@@ -118,10 +117,10 @@ pub(crate) const BITS: [Operation; 10] = [
     Operation::TwoNumbers(TwoNumbers::Sbi),
     Operation::TwoNumbers(TwoNumbers::Sbic),
     Operation::TwoNumbers(TwoNumbers::Sbis),
-    Operation::RegisterAndNumber(RegisterAndNumber::Bld),
-    Operation::RegisterAndNumber(RegisterAndNumber::Bst),
-    Operation::RegisterAndNumber(RegisterAndNumber::Sbrc),
-    Operation::RegisterAndNumber(RegisterAndNumber::Sbrs),
+    Operation::RegisterAndNumber(RegisterAndNumber::Bit(BitOp::Bld)),
+    Operation::RegisterAndNumber(RegisterAndNumber::Bit(BitOp::Bst)),
+    Operation::RegisterAndNumber(RegisterAndNumber::Bit(BitOp::Sbrc)),
+    Operation::RegisterAndNumber(RegisterAndNumber::Bit(BitOp::Sbrs)),
     Operation::Flag(true),
     Operation::Flag(false),
 ];
@@ -150,93 +149,35 @@ pub(crate) const TARGETS: [Operation; 11] = [
 pub(crate) fn operation_in(name: &[u8]) -> Option<Operation>
     ensures value { result ≡ operation_of name.now }
 {
-    if let Some(operation) = bare_in(name) {
+    if let Some(operation) = found(&BARE_NAMES, &BARE, name) {
         return Some(operation);
     }
-    if let Some(operation) = two_registers_in(name) {
+    if let Some(operation) = found(&TWO_REGISTERS_NAMES, &TWO_REGISTERS, name) {
         return Some(operation);
     }
-    if let Some(operation) = constant_in(name) {
+    if let Some(operation) = found(&CONSTANTS_NAMES, &CONSTANTS, name) {
         return Some(operation);
     }
-    if let Some(operation) = one_register_in(name) {
+    if let Some(operation) = found(&ONE_REGISTER_NAMES, &ONE_REGISTER, name) {
         return Some(operation);
     }
-    if let Some(operation) = memory_in(name) {
+    if let Some(operation) = found(&MEMORY_NAMES, &MEMORY, name) {
         return Some(operation);
     }
-    if let Some(operation) = bit_in(name) {
+    if let Some(operation) = found(&BITS_NAMES, &BITS, name) {
         return Some(operation);
     }
-    target_in(name)
+    found(&TARGETS_NAMES, &TARGETS, name)
 }
 
+/// What stands at the place of this name.
 #[tactic(auto, unfolding(crate::specs::Mnemonics::found_in))]
-fn bare_in(name: &[u8]) -> Option<Operation>
-    ensures value { result ≡ found_in (map (λ name. name.now) constants.BARE_NAMES) constants.BARE name.now }
+fn found(names: &[&str], operations: &[Operation], name: &[u8]) -> Option<Operation>
+    requires whole { length names.now ≡ length operations.now }
+    ensures value { result ≡ found_in (map (λ name. name.now) names.now) operations.now name.now }
 {
-    match place_in(&BARE_NAMES, name) {
-        Some(place) => Some(BARE[place]),
-        None => None,
-    }
-}
-
-#[tactic(auto, unfolding(crate::specs::Mnemonics::found_in))]
-fn two_registers_in(name: &[u8]) -> Option<Operation>
-    ensures value { result ≡ found_in (map (λ name. name.now) constants.TWO_REGISTERS_NAMES) constants.TWO_REGISTERS name.now }
-{
-    match place_in(&TWO_REGISTERS_NAMES, name) {
-        Some(place) => Some(TWO_REGISTERS[place]),
-        None => None,
-    }
-}
-
-#[tactic(auto, unfolding(crate::specs::Mnemonics::found_in))]
-fn constant_in(name: &[u8]) -> Option<Operation>
-    ensures value { result ≡ found_in (map (λ name. name.now) constants.CONSTANTS_NAMES) constants.CONSTANTS name.now }
-{
-    match place_in(&CONSTANTS_NAMES, name) {
-        Some(place) => Some(CONSTANTS[place]),
-        None => None,
-    }
-}
-
-#[tactic(auto, unfolding(crate::specs::Mnemonics::found_in))]
-fn one_register_in(name: &[u8]) -> Option<Operation>
-    ensures value { result ≡ found_in (map (λ name. name.now) constants.ONE_REGISTER_NAMES) constants.ONE_REGISTER name.now }
-{
-    match place_in(&ONE_REGISTER_NAMES, name) {
-        Some(place) => Some(ONE_REGISTER[place]),
-        None => None,
-    }
-}
-
-#[tactic(auto, unfolding(crate::specs::Mnemonics::found_in))]
-fn memory_in(name: &[u8]) -> Option<Operation>
-    ensures value { result ≡ found_in (map (λ name. name.now) constants.MEMORY_NAMES) constants.MEMORY name.now }
-{
-    match place_in(&MEMORY_NAMES, name) {
-        Some(place) => Some(MEMORY[place]),
-        None => None,
-    }
-}
-
-#[tactic(auto, unfolding(crate::specs::Mnemonics::found_in))]
-fn bit_in(name: &[u8]) -> Option<Operation>
-    ensures value { result ≡ found_in (map (λ name. name.now) constants.BITS_NAMES) constants.BITS name.now }
-{
-    match place_in(&BITS_NAMES, name) {
-        Some(place) => Some(BITS[place]),
-        None => None,
-    }
-}
-
-#[tactic(auto, unfolding(crate::specs::Mnemonics::found_in))]
-fn target_in(name: &[u8]) -> Option<Operation>
-    ensures value { result ≡ found_in (map (λ name. name.now) constants.TARGETS_NAMES) constants.TARGETS name.now }
-{
-    match place_in(&TARGETS_NAMES, name) {
-        Some(place) => Some(TARGETS[place]),
+    match place_in(names, name) {
+        Some(place) => Some(operations[place]),
         None => None,
     }
 }

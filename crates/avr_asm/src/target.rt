@@ -7,6 +7,7 @@ ghost use Rattle.avr_asm.specs.Labels.{HasLabels};
 ghost use Rattle.avr_asm.specs.Targets.{distance as distance_of, in_reach as in_reach_of, jump_of, jump_to as jump_to_of, jump_to_label as jump_to_label_of};
 
 use crate::fault::AsmFault;
+use crate::instruction::{address, defined};
 use crate::labels::Labels;
 use crate::mnemonic::Jump;
 use crate::statement::Target;
@@ -65,45 +66,45 @@ fn distance(pc: u32, target: u32) -> Option<i16>
     i16::try_from(i64::from(target) - (i64::from(pc) + 1)).ok()
 }
 
-#[tactic(auto, unfolding(avr_isa::specs::Instruction::is_valid, avr_isa::specs::Instruction::fields_in_range, avr_isa::specs::Instruction::is_undefined))]
+#[tactic(auto, unfolding(avr_isa::specs::Instruction::is_valid, avr_isa::specs::Instruction::fields_in_range))]
 fn branch(set: bool, s: u8, pc: u32, target: u32) -> Option<Instr>
     ensures value { result ≡ jump_to_of (If set s) pc target }
 {
     let s = Bit::new(s)?;
     let k = Rel7::new(distance(pc, target)?)?;
     if set {
-        Instr::new(Form::Brbs(s, k))
+        defined(Form::Brbs(s, k))
     } else {
-        Instr::new(Form::Brbc(s, k))
+        defined(Form::Brbc(s, k))
     }
 }
 
-#[tactic(auto, unfolding(avr_isa::specs::Instruction::is_valid, avr_isa::specs::Instruction::fields_in_range, avr_isa::specs::Instruction::is_undefined))]
+#[tactic(auto, unfolding(avr_isa::specs::Instruction::is_valid, avr_isa::specs::Instruction::fields_in_range))]
 fn relative_jump(pc: u32, target: u32) -> Option<Instr>
     ensures value { result ≡ jump_to_of Rjmp pc target }
 {
     let k = Rel12::new(distance(pc, target)?)?;
-    Instr::new(Form::Rjmp(k))
+    defined(Form::Rjmp(k))
 }
 
-#[tactic(auto, unfolding(avr_isa::specs::Instruction::is_valid, avr_isa::specs::Instruction::fields_in_range, avr_isa::specs::Instruction::is_undefined))]
+#[tactic(auto, unfolding(avr_isa::specs::Instruction::is_valid, avr_isa::specs::Instruction::fields_in_range))]
 fn relative_call(pc: u32, target: u32) -> Option<Instr>
     ensures value { result ≡ jump_to_of Rcall pc target }
 {
     let k = Rel12::new(distance(pc, target)?)?;
-    Instr::new(Form::Rcall(k))
+    defined(Form::Rcall(k))
 }
 
-#[tactic(auto, unfolding(avr_isa::specs::Instruction::is_valid, avr_isa::specs::Instruction::fields_in_range, avr_isa::specs::Instruction::is_undefined))]
+#[tactic(auto, unfolding(avr_isa::specs::Instruction::is_valid, avr_isa::specs::Instruction::fields_in_range))]
 fn absolute_jump(pc: u32, target: u32) -> Option<Instr>
     ensures value { result ≡ jump_to_of Jmp pc target }
 {
-    Instr::new(Form::Jmp(u16::try_from(target).ok()?))
+    defined(Form::Jmp(address(u64::from(target))?))
 }
 
-#[tactic(auto, unfolding(avr_isa::specs::Instruction::is_valid, avr_isa::specs::Instruction::fields_in_range, avr_isa::specs::Instruction::is_undefined))]
+#[tactic(auto, unfolding(avr_isa::specs::Instruction::is_valid, avr_isa::specs::Instruction::fields_in_range))]
 fn absolute_call(pc: u32, target: u32) -> Option<Instr>
     ensures value { result ≡ jump_to_of Call pc target }
 {
-    Instr::new(Form::Call(u16::try_from(target).ok()?))
+    defined(Form::Call(address(u64::from(target))?))
 }

@@ -30,7 +30,7 @@ pub fn decode(w0: u16, w1: u16) -> Option<Instr>
     if two_words(w0) {
         Instr::new(rows::two_word(w0, w1))
     } else {
-        rows::one_word(w0).and_then(Instr::new)
+        Instr::new(rows::one_word(w0)?)
     }
 }
 

@@ -117,12 +117,13 @@ fn leading_0001(w: u16) -> Option<Form>
 fn leading_0010(w: u16) -> Option<Form>
     ensures value { result ≡ form_0010 w }
 {
-    match w >> 10 & 3 {
-        0 => two(TwoOp::And, w),
-        1 => two(TwoOp::Eor, w),
-        2 => two(TwoOp::Or, w),
-        _ => two(TwoOp::Mov, w),
-    }
+    let op = match w >> 10 & 3 {
+        0 => TwoOp::And,
+        1 => TwoOp::Eor,
+        2 => TwoOp::Or,
+        _ => TwoOp::Mov,
+    };
+    two(op, w)
 }
 
 // 10q0
@@ -130,11 +131,13 @@ fn leading_0010(w: u16) -> Option<Form>
 fn displaced(w: u16) -> Option<Form>
     ensures value { result ≡ displaced_form w }
 {
+    let r = destination(w);
+    let q = displacement(w);
     match (w >> 9 & 1, w >> 3 & 1) {
-        (0, 0) => Some(Form::LoadOff(destination(w), Base::Z, displacement(w))),
-        (0, _) => Some(Form::LoadOff(destination(w), Base::Y, displacement(w))),
-        (_, 0) => Some(Form::StoreOff(Base::Z, displacement(w), destination(w))),
-        _ => Some(Form::StoreOff(Base::Y, displacement(w), destination(w))),
+        (0, 0) => Some(Form::LoadOff(r, Base::Z, q)),
+        (0, _) => Some(Form::LoadOff(r, Base::Y, q)),
+        (_, 0) => Some(Form::StoreOff(Base::Z, q, r)),
+        _ => Some(Form::StoreOff(Base::Y, q, r)),
     }
 }
 
@@ -164,19 +167,20 @@ fn transfer(w: u16) -> Option<Form>
 fn load(w: u16) -> Option<Form>
     ensures value { result ≡ load_form w }
 {
+    let d = destination(w);
     match w & 0xF {
-        1 => Some(Form::LoadAt(destination(w), Ptr::ZInc)),
-        2 => Some(Form::LoadAt(destination(w), Ptr::ZDec)),
-        4 => Some(Form::Lpm(destination(w), false)),
-        5 => Some(Form::Lpm(destination(w), true)),
-        6 => Some(Form::Elpm(destination(w), false)),
-        7 => Some(Form::Elpm(destination(w), true)),
-        9 => Some(Form::LoadAt(destination(w), Ptr::YInc)),
-        10 => Some(Form::LoadAt(destination(w), Ptr::YDec)),
-        12 => Some(Form::LoadAt(destination(w), Ptr::X)),
-        13 => Some(Form::LoadAt(destination(w), Ptr::XInc)),
-        14 => Some(Form::LoadAt(destination(w), Ptr::XDec)),
-        15 => Some(Form::Pop(destination(w))),
+        1 => Some(Form::LoadAt(d, Ptr::ZInc)),
+        2 => Some(Form::LoadAt(d, Ptr::ZDec)),
+        4 => Some(Form::Lpm(d, false)),
+        5 => Some(Form::Lpm(d, true)),
+        6 => Some(Form::Elpm(d, false)),
+        7 => Some(Form::Elpm(d, true)),
+        9 => Some(Form::LoadAt(d, Ptr::YInc)),
+        10 => Some(Form::LoadAt(d, Ptr::YDec)),
+        12 => Some(Form::LoadAt(d, Ptr::X)),
+        13 => Some(Form::LoadAt(d, Ptr::XInc)),
+        14 => Some(Form::LoadAt(d, Ptr::XDec)),
+        15 => Some(Form::Pop(d)),
         _ => None,
     }
 }
@@ -186,15 +190,16 @@ fn load(w: u16) -> Option<Form>
 fn store(w: u16) -> Option<Form>
     ensures value { result ≡ store_form w }
 {
+    let r = destination(w);
     match w & 0xF {
-        1 => Some(Form::StoreAt(Ptr::ZInc, destination(w))),
-        2 => Some(Form::StoreAt(Ptr::ZDec, destination(w))),
-        9 => Some(Form::StoreAt(Ptr::YInc, destination(w))),
-        10 => Some(Form::StoreAt(Ptr::YDec, destination(w))),
-        12 => Some(Form::StoreAt(Ptr::X, destination(w))),
-        13 => Some(Form::StoreAt(Ptr::XInc, destination(w))),
-        14 => Some(Form::StoreAt(Ptr::XDec, destination(w))),
-        15 => Some(Form::Push(destination(w))),
+        1 => Some(Form::StoreAt(Ptr::ZInc, r)),
+        2 => Some(Form::StoreAt(Ptr::ZDec, r)),
+        9 => Some(Form::StoreAt(Ptr::YInc, r)),
+        10 => Some(Form::StoreAt(Ptr::YDec, r)),
+        12 => Some(Form::StoreAt(Ptr::X, r)),
+        13 => Some(Form::StoreAt(Ptr::XInc, r)),
+        14 => Some(Form::StoreAt(Ptr::XDec, r)),
+        15 => Some(Form::Push(r)),
         _ => None,
     }
 }
@@ -216,15 +221,16 @@ fn register_or_pair(w: u16) -> Option<Form>
 fn one_register(w: u16) -> Option<Form>
     ensures value { result ≡ one_register_form w }
 {
+    let d = destination(w);
     match w & 0xF {
-        0 => Some(Form::One(OneOp::Com, destination(w))),
-        1 => Some(Form::One(OneOp::Neg, destination(w))),
-        2 => Some(Form::One(OneOp::Swap, destination(w))),
-        3 => Some(Form::One(OneOp::Inc, destination(w))),
-        5 => Some(Form::One(OneOp::Asr, destination(w))),
-        6 => Some(Form::One(OneOp::Lsr, destination(w))),
-        7 => Some(Form::One(OneOp::Ror, destination(w))),
-        10 => Some(Form::One(OneOp::Dec, destination(w))),
+        0 => Some(Form::One(OneOp::Com, d)),
+        1 => Some(Form::One(OneOp::Neg, d)),
+        2 => Some(Form::One(OneOp::Swap, d)),
+        3 => Some(Form::One(OneOp::Inc, d)),
+        5 => Some(Form::One(OneOp::Asr, d)),
+        6 => Some(Form::One(OneOp::Lsr, d)),
+        7 => Some(Form::One(OneOp::Ror, d)),
+        10 => Some(Form::One(OneOp::Dec, d)),
         8 => flag_or_plain(w),
         _ if w == 0x9409 => Some(Form::Ijmp),
         _ if w == 0x9509 => Some(Form::Icall),
@@ -237,9 +243,10 @@ fn one_register(w: u16) -> Option<Form>
 fn flag_or_plain(w: u16) -> Option<Form>
     ensures value { result ≡ flag_or_plain_form w }
 {
+    let s = flag(w);
     match w >> 7 & 3 {
-        0 => Some(Form::Bset(flag(w))),
-        1 => Some(Form::Bclr(flag(w))),
+        0 => Some(Form::Bset(s)),
+        1 => Some(Form::Bclr(s)),
         _ => plain(w),
     }
 }
@@ -267,11 +274,13 @@ fn plain(w: u16) -> Option<Form>
 fn io_bit(w: u16) -> Option<Form>
     ensures value { result ≡ io_bit_form w }
 {
+    let a = low_io_address(w);
+    let b = bit(w);
     match w >> 8 & 3 {
-        0 => Some(Form::Cbi(low_io_address(w), bit(w))),
-        1 => Some(Form::Sbic(low_io_address(w), bit(w))),
-        2 => Some(Form::Sbi(low_io_address(w), bit(w))),
-        _ => Some(Form::Sbis(low_io_address(w), bit(w))),
+        0 => Some(Form::Cbi(a, b)),
+        1 => Some(Form::Sbic(a, b)),
+        2 => Some(Form::Sbi(a, b)),
+        _ => Some(Form::Sbis(a, b)),
     }
 }
 
@@ -292,9 +301,11 @@ fn input_or_output(w: u16) -> Option<Form>
 fn leading_1111(w: u16) -> Option<Form>
     ensures value { result ≡ form_1111 w }
 {
+    let b = bit(w);
+    let k = branch_distance(w);
     match w >> 10 & 3 {
-        0 => Some(Form::Brbs(bit(w), branch_distance(w))),
-        1 => Some(Form::Brbc(bit(w), branch_distance(w))),
+        0 => Some(Form::Brbs(b, k)),
+        1 => Some(Form::Brbc(b, k)),
         _ => register_bit(w),
     }
 }
@@ -304,11 +315,13 @@ fn leading_1111(w: u16) -> Option<Form>
 fn register_bit(w: u16) -> Option<Form>
     ensures value { result ≡ register_bit_form w }
 {
+    let r = destination(w);
+    let b = bit(w);
     match w >> 9 & 3 {
         _ if w >> 3 & 1 == 1 => None,
-        0 => Some(Form::Bld(destination(w), bit(w))),
-        1 => Some(Form::Bst(destination(w), bit(w))),
-        2 => Some(Form::Sbrc(destination(w), bit(w))),
-        _ => Some(Form::Sbrs(destination(w), bit(w))),
+        0 => Some(Form::Bld(r, b)),
+        1 => Some(Form::Bst(r, b)),
+        2 => Some(Form::Sbrc(r, b)),
+        _ => Some(Form::Sbrs(r, b)),
     }
 }

@@ -1,7 +1,7 @@
 //! What a bus answers.
 
 /// What a bus answers to what an instruction asks.
-#[derive(Clone, Copy, PartialEq, Eq, Debug)]
+#[derive(Clone, Copy)]
 pub enum Answer {
     /// It is done, or nothing was asked.
     Done,

@@ -100,16 +100,20 @@ pub(crate) fn one(op: &OneOp, cpu: &mut Cpu, d: u8)
     ensures { cpu.new ≡ one_of op.now cpu.old d }
 {
     let (sreg, left) = (cpu.sreg, cpu.register(d));
-    match op {
-        OneOp::Com => keep_byte(cpu, d, com(sreg, left)),
-        OneOp::Neg => keep_byte(cpu, d, neg(sreg, left)),
-        OneOp::Swap => cpu.set_register(d, ((left & 0xF) << 4) + (left >> 4)),
-        OneOp::Inc => keep_byte(cpu, d, inc(sreg, left)),
-        OneOp::Asr => keep_byte(cpu, d, asr(sreg, left)),
-        OneOp::Lsr => keep_byte(cpu, d, lsr(sreg, left)),
-        OneOp::Ror => keep_byte(cpu, d, ror(sreg, left)),
-        OneOp::Dec => keep_byte(cpu, d, dec(sreg, left)),
-    }
+    let outcome = match op {
+        OneOp::Com => com(sreg, left),
+        OneOp::Neg => neg(sreg, left),
+        OneOp::Swap => {
+            cpu.set_register(d, ((left & 0xF) << 4) + (left >> 4));
+            return;
+        }
+        OneOp::Inc => inc(sreg, left),
+        OneOp::Asr => asr(sreg, left),
+        OneOp::Lsr => lsr(sreg, left),
+        OneOp::Ror => ror(sreg, left),
+        OneOp::Dec => dec(sreg, left),
+    };
+    keep_byte(cpu, d, outcome);
 }
 
 /// A product of r16 to r23, except MUL and MULS.
@@ -121,10 +125,11 @@ pub(crate) fn product(op: &ProductOp, cpu: &mut Cpu, d: u8, r: u8)
     ensures { cpu.new ≡ product_of op.now cpu.old d r }
 {
     let (sreg, left, right) = (cpu.sreg, cpu.register(d), cpu.register(r));
-    match op {
-        ProductOp::Mulsu => keep_word(cpu, 0, mulsu(sreg, left, right)),
-        ProductOp::Fmul => keep_word(cpu, 0, fmul(sreg, left, right)),
-        ProductOp::Fmuls => keep_word(cpu, 0, fmuls(sreg, left, right)),
-        ProductOp::Fmulsu => keep_word(cpu, 0, fmulsu(sreg, left, right)),
-    }
+    let outcome = match op {
+        ProductOp::Mulsu => mulsu(sreg, left, right),
+        ProductOp::Fmul => fmul(sreg, left, right),
+        ProductOp::Fmuls => fmuls(sreg, left, right),
+        ProductOp::Fmulsu => fmulsu(sreg, left, right),
+    };
+    keep_word(cpu, 0, outcome);
 }

@@ -6,10 +6,10 @@ ghost use Rattle.avr_isa.specs.Instruction.{low_register as low_register_of};
 
 use crate::bits::bit_weight;
 use crate::cpu::{Cpu, is_own_address};
-use avr_isa::{Base, Form, Instr, Ptr};
+use avr_isa::{Base, Form, Instr, Ptr, Six};
 
 /// The one thing that an instruction asks of its bus.
-#[derive(Clone, Copy, PartialEq, Eq, Debug)]
+#[derive(Clone, Copy)]
 pub enum Ask {
     /// Nothing: the instruction needs the core's registers alone.
     Nothing,
@@ -70,11 +70,11 @@ pub(crate) fn base_low_register(base: &Base) -> u8
 }
 
 /// The data address at a displacement from Y or Z.
-pub(crate) fn displaced(cpu: &Cpu, base: &Base, displacement: u8) -> u16
-    ensures { result ≡ displaced_of cpu.now base.now displacement }
+pub(crate) fn displaced(cpu: &Cpu, base: &Base, displacement: &Six) -> u16
+    ensures { result ≡ displaced_of cpu.now base.now displacement.now }
 {
     cpu.pair(base_low_register(base))
-        .wrapping_add(u16::from(displacement))
+        .wrapping_add(u16::from(displacement.get()))
 }
 
 /// The data address of a pointer.
@@ -119,22 +119,19 @@ pub fn asks(i: &Instr, cpu: &Cpu) -> Ask
 {
     let (sp, pc) = (cpu.sp, cpu.pc);
     match i.form() {
-        Form::LoadOff(_, base, q) => load_from(displaced(cpu, base, q.get())),
-        Form::StoreOff(base, q, r) => store_to(
-            displaced(cpu, base, q.get()),
-            cpu.register(r.get()),
-        ),
+        Form::LoadOff(_, base, q) => load_from(displaced(cpu, base, q)),
+        Form::StoreOff(base, q, r) => store_to(displaced(cpu, base, q), cpu.byte(r)),
         Form::LoadAt(_, pointer) => load_from(target(cpu, pointer)),
-        Form::StoreAt(pointer, r) => store_to(target(cpu, pointer), cpu.register(r.get())),
+        Form::StoreAt(pointer, r) => store_to(target(cpu, pointer), cpu.byte(r)),
         Form::Lds(_, a) => load_from(*a),
-        Form::Sts(a, r) => store_to(*a, cpu.register(r.get())),
+        Form::Sts(a, r) => store_to(*a, cpu.byte(r)),
         Form::Pop(_) => Ask::PopByte(sp),
-        Form::Push(r) => Ask::PushByte(sp, cpu.register(r.get())),
+        Form::Push(r) => Ask::PushByte(sp, cpu.byte(r)),
         Form::Lpm0 | Form::Lpm(_, _) => Ask::Program(cpu.pair(30)),
         Form::Elpm0 | Form::Elpm(_, false) => Ask::ExtendedProgram(cpu.pair(30)),
         Form::Elpm(_, true) => Ask::ExtendedProgramRaising(cpu.pair(30)),
         Form::InIo(_, a) => load_from(a.address()),
-        Form::OutIo(a, r) => store_to(a.address(), cpu.register(r.get())),
+        Form::OutIo(a, r) => store_to(a.address(), cpu.byte(r)),
         Form::Cbi(a, b) => Ask::Modify(a.address(), bit_weight(b.get()), 0),
         Form::Sbi(a, b) => Ask::Modify(a.address(), 0, bit_weight(b.get())),
         Form::Sbic(a, _) | Form::Sbis(a, _) => load_from(a.address()),

@@ -3,6 +3,8 @@
 ghost use Rattle.std.specs.Prelude.{◌≡◌};
 ghost use Rattle.avr_exec.specs.Registers.{is_own as is_own_test};
 
+use avr_isa::Reg;
+
 /// The first data address above those that the core answers itself.
 pub(crate) const OWN_END: u16 = 0x60;
 
@@ -37,6 +39,20 @@ impl Cpu {
         ensures { self.new ≡ with_register self.old number value }
     {
         self.r[number as usize] = value;
+    }
+
+    /// The byte in a register.
+    pub(crate) fn byte(&self, r: &Reg) -> u8
+        ensures { result ≡ register_of self.now r.now }
+    {
+        self.register(r.get())
+    }
+
+    /// Writes the byte in a register.
+    pub(crate) fn set_byte(&mut self, d: &Reg, value: u8)
+        ensures { self.new ≡ with_register self.old d.now value }
+    {
+        self.set_register(d.get(), value);
     }
 
     /// The pair whose low register has this number.

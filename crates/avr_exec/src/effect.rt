@@ -108,11 +108,11 @@ pub(crate) fn compute(form: &Form, cpu: &mut Cpu)
         }
         Form::Product(op, d, r) => product(op, cpu, d.get(), r.get()),
         Form::Bld(d, b) => {
-            let value = with_bit(cpu.register(d.get()), b.get(), has_bit(cpu.sreg, TRANSFER));
-            cpu.set_register(d.get(), value);
+            let value = with_bit(cpu.byte(d), b.get(), has_bit(cpu.sreg, TRANSFER));
+            cpu.set_byte(d, value);
         }
         Form::Bst(d, b) => {
-            cpu.sreg = with_bit(cpu.sreg, TRANSFER, has_bit(cpu.register(d.get()), b.get()));
+            cpu.sreg = with_bit(cpu.sreg, TRANSFER, has_bit(cpu.byte(d), b.get()));
         }
         Form::Bset(s) => cpu.sreg = with_bit(cpu.sreg, s.get(), true),
         Form::Bclr(s) => cpu.sreg = with_bit(cpu.sreg, s.get(), false),
@@ -133,15 +133,15 @@ pub(crate) fn turn(form: &Form, cpu: &mut Cpu, next_size: u16)
 {
     match form {
         Form::Cpse(d, r) => {
-            let equal = cpu.register(d.get()) == cpu.register(r.get());
+            let equal = cpu.byte(d) == cpu.byte(r);
             skip(cpu, equal, next_size);
         }
         Form::Sbrc(r, b) => {
-            let set = has_bit(cpu.register(r.get()), b.get());
+            let set = has_bit(cpu.byte(r), b.get());
             skip(cpu, !set, next_size);
         }
         Form::Sbrs(r, b) => {
-            let set = has_bit(cpu.register(r.get()), b.get());
+            let set = has_bit(cpu.byte(r), b.get());
             skip(cpu, set, next_size);
         }
         Form::Brbs(s, k) => {

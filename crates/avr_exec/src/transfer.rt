@@ -1,7 +1,12 @@
 //! Instructions that move a byte, or go elsewhere, by way of the bus.
 
 ghost use Rattle.std.specs.Prelude.{ℕ, ◌≡◌, ◌≤◌, OnErr};
-ghost use Rattle.avr_exec.specs.Execution.{exec_of, finished};
+ghost use Rattle.avr_exec.specs.declared.answer.Answer.{Answer};
+ghost use Rattle.avr_exec.specs.declared.ask.Ask.TheVariants.{PushReturn};
+ghost use Rattle.avr_exec.specs.Asks.{load_of, store_of};
+ghost use Rattle.avr_exec.specs.Effects.{called, loaded, stored};
+ghost use Rattle.avr_exec.specs.Registers.{register, with_counter, with_register, wrapping_sum};
+ghost use Rattle.avr_exec.specs.Execution.{answer_of, answered_by, exec_of, finished};
 ghost use Rattle.avr_exec.specs.Kinds.{kind_of, Fetch, Read, Deposit, Probe, Reach};
 ghost use Rattle.avr_exec.specs.Spaces.{Went};
 
@@ -12,10 +17,51 @@ use crate::cpu::Cpu;
 use crate::effect::{advance, call, move_pointer, raise_z, relative, return_to, skip};
 use crate::memory::{extended, extended_byte_raising, load, store};
 use crate::stop::BusStop;
-use avr_isa::Form;
+use avr_isa::{Form, Reg};
 
 /// The bit of SREG that enables interrupts.
 const INTERRUPTS: u8 = 7;
+
+/// Brings the byte at a data address into a register, and goes on by some words.
+#[inline(always)]
+fn load_register<B: Bus>(
+    cpu: &mut Cpu,
+    bus: &mut B,
+    d: &Reg,
+    address: u16,
+    words: u16,
+) -> Result<(), BusStop>
+    requires ready { B.ready bus.old }
+    ensures outcome { finished result cpu.new (B.space bus.new)
+        ≡ answered_by (λ (answer : Answer). with_counter (with_register cpu.old d.now (loaded cpu.old address answer)) (wrapping_sum cpu.old.pc words)) (answer_of B.calls (B.space bus.old) (load_of address)) }
+    ensures stop { OnErr result ((cpu.new ≡ cpu.old) × (B.space bus.new ≡ B.space bus.old)) }
+    ensures lent { B.lent bus.new ≡ B.lent bus.old }
+{
+    let value = load(cpu, bus, address)?;
+    cpu.set_byte(d, value);
+    advance(cpu, words);
+    Ok(())
+}
+
+/// Takes the byte in a register to a data address, and goes on by some words.
+#[inline(always)]
+fn store_register<B: Bus>(
+    cpu: &mut Cpu,
+    bus: &mut B,
+    address: u16,
+    r: &Reg,
+    words: u16,
+) -> Result<(), BusStop>
+    requires ready { B.ready bus.old }
+    ensures outcome { finished result cpu.new (B.space bus.new)
+        ≡ answered_by (λ (_ : Answer). with_counter (stored cpu.old address (register cpu.old r.now)) (wrapping_sum (stored cpu.old address (register cpu.old r.now)).pc words)) (answer_of B.calls (B.space bus.old) (store_of address (register cpu.old r.now))) }
+    ensures stop { OnErr result ((cpu.new ≡ cpu.old) × (B.space bus.new ≡ B.space bus.old)) }
+    ensures lent { B.lent bus.new ≡ B.lent bus.old }
+{
+    store(cpu, bus, address, cpu.byte(r))?;
+    advance(cpu, words);
+    Ok(())
+}
 
 /// An instruction that brings a byte into a register.
 #[tactic(auto, unfolding(crate::specs::Kinds::kind_of, crate::specs::Execution::exec_of, crate::specs::Execution::answer_of, crate::specs::Asks::ask_of, crate::specs::Effects::finish_of))]
@@ -29,28 +75,19 @@ pub(crate) fn fetch<B: Bus>(form: &Form, cpu: &mut Cpu, bus: &mut B) -> Result<(
 {
     match form {
         Form::LoadOff(d, base, q) => {
-            let value = load(cpu, bus, displaced(cpu, base, q.get()))?;
-            cpu.set_register(d.get(), value);
+            return load_register(cpu, bus, d, displaced(cpu, base, q), 1);
         }
         Form::LoadAt(d, pointer) => {
             let before = cpu.pair(low_register(pointer));
             let value = load(cpu, bus, target(cpu, pointer))?;
-            cpu.set_register(d.get(), value);
+            cpu.set_byte(d, value);
             move_pointer(cpu, pointer, before);
         }
-        Form::Lds(d, a) => {
-            let value = load(cpu, bus, *a)?;
-            cpu.set_register(d.get(), value);
-            advance(cpu, 2);
-            return Ok(());
-        }
-        Form::InIo(d, a) => {
-            let value = load(cpu, bus, a.address())?;
-            cpu.set_register(d.get(), value);
-        }
+        Form::Lds(d, a) => return load_register(cpu, bus, d, *a, 2),
+        Form::InIo(d, a) => return load_register(cpu, bus, d, a.address(), 1),
         Form::Pop(d) => {
             let value = bus.pop(cpu.sp)?;
-            cpu.set_register(d.get(), value);
+            cpu.set_byte(d, value);
             cpu.sp = cpu.sp.wrapping_add(1);
         }
         _ => unreachable!(),
@@ -75,16 +112,16 @@ pub(crate) fn read<B: Bus>(form: &Form, cpu: &mut Cpu, bus: &mut B)
         }
         Form::Lpm(d, increment) => {
             let z = cpu.pair(30);
-            cpu.set_register(d.get(), bus.flash_byte(u32::from(z)));
+            cpu.set_byte(d, bus.flash_byte(u32::from(z)));
             raise_z(cpu, *increment, z);
         }
         Form::Elpm(d, false) => {
             let value = bus.flash_byte(extended(bus.rampz(), cpu.pair(30)));
-            cpu.set_register(d.get(), value);
+            cpu.set_byte(d, value);
         }
         Form::Elpm(d, true) => {
             let z = cpu.pair(30);
-            cpu.set_register(d.get(), extended_byte_raising(bus, z));
+            cpu.set_byte(d, extended_byte_raising(bus, z));
             raise_z(cpu, true, z);
         }
         _ => unreachable!(),
@@ -104,23 +141,18 @@ pub(crate) fn deposit<B: Bus>(form: &Form, cpu: &mut Cpu, bus: &mut B) -> Result
 {
     match form {
         Form::StoreOff(base, q, r) => {
-            let address = displaced(cpu, base, q.get());
-            store(cpu, bus, address, cpu.register(r.get()))?;
+            return store_register(cpu, bus, displaced(cpu, base, q), r, 1);
         }
         Form::StoreAt(pointer, r) => {
             let before = cpu.pair(low_register(pointer));
             let address = target(cpu, pointer);
-            store(cpu, bus, address, cpu.register(r.get()))?;
+            store(cpu, bus, address, cpu.byte(r))?;
             move_pointer(cpu, pointer, before);
         }
-        Form::Sts(a, r) => {
-            store(cpu, bus, *a, cpu.register(r.get()))?;
-            advance(cpu, 2);
-            return Ok(());
-        }
-        Form::OutIo(a, r) => store(cpu, bus, a.address(), cpu.register(r.get()))?,
+        Form::Sts(a, r) => return store_register(cpu, bus, *a, r, 2),
+        Form::OutIo(a, r) => return store_register(cpu, bus, a.address(), r, 1),
         Form::Push(r) => {
-            bus.push(cpu.sp, cpu.register(r.get()))?;
+            bus.push(cpu.sp, cpu.byte(r))?;
             cpu.sp = cpu.sp.wrapping_sub(1);
         }
         Form::Cbi(a, b) => bus.modify(a.address(), bit_weight(b.get()), 0)?,
@@ -161,6 +193,21 @@ pub(crate) fn probe<B: Bus>(
     Ok(())
 }
 
+/// Pushes a return address and goes to another.
+#[tactic(auto, unfolding(crate::specs::Execution::answer_of))]
+#[inline(always)]
+fn enter<B: Bus>(cpu: &mut Cpu, bus: &mut B, behind: u16, address: u16) -> Result<(), BusStop>
+    requires ready { B.ready bus.old }
+    ensures outcome { finished result cpu.new (B.space bus.new)
+        ≡ answered_by (λ (_ : Answer). called cpu.old address) (answer_of B.calls (B.space bus.old) (PushReturn cpu.old.sp behind)) }
+    ensures stop { OnErr result ((cpu.new ≡ cpu.old) × (B.space bus.new ≡ B.space bus.old)) }
+    ensures lent { B.lent bus.new ≡ B.lent bus.old }
+{
+    bus.push_ret(cpu.sp, behind)?;
+    call(cpu, address);
+    Ok(())
+}
+
 /// A call or a return.
 #[tactic(auto, unfolding(crate::specs::Kinds::kind_of, crate::specs::Execution::exec_of, crate::specs::Execution::answer_of, crate::specs::Asks::ask_of, crate::specs::Effects::finish_of))]
 #[inline(always)]
@@ -174,17 +221,10 @@ pub(crate) fn reach<B: Bus>(form: &Form, cpu: &mut Cpu, bus: &mut B) -> Result<(
     match form {
         Form::Rcall(k) => {
             let behind = cpu.pc.wrapping_add(1);
-            bus.push_ret(cpu.sp, behind)?;
-            call(cpu, relative(cpu.pc, k.get()));
+            return enter(cpu, bus, behind, relative(cpu.pc, k.get()));
         }
-        Form::Call(a) => {
-            bus.push_ret(cpu.sp, cpu.pc.wrapping_add(2))?;
-            call(cpu, *a);
-        }
-        Form::Icall => {
-            bus.push_ret(cpu.sp, cpu.pc.wrapping_add(1))?;
-            call(cpu, cpu.pair(30));
-        }
+        Form::Call(a) => return enter(cpu, bus, cpu.pc.wrapping_add(2), *a),
+        Form::Icall => return enter(cpu, bus, cpu.pc.wrapping_add(1), cpu.pair(30)),
         Form::Ret => return_to(cpu, bus.pop_ret(cpu.sp)?),
         Form::Reti => {
             return_to(cpu, bus.pop_ret(cpu.sp)?);

@@ -1,6 +1,8 @@
 //! Products of two bytes.
 
-ghost use Rattle.std.specs.Prelude.{◌≡◌, ℕ, ◌+◌, ◌-◌, ◌*◌, ◌/◌, ◌%◌, ◌≤◌, ◌==◌, nat_le};
+ghost use Rattle.std.specs.Prelude.{◌≡◌, ℕ, ◌+◌, ◌-◌, ◌*◌, ◌/◌, ◌%◌, ◌≤◌, ◌==◌, nat_le, ◌*ℤ◌};
+ghost use Rattle.std.specs.Int.{w16, cast_unsigned};
+ghost use Rattle.std.specs.Int.RustNames.{unsigned_abs};
 ghost use Rattle.avr_flags.specs.Sums.{signed_byte};
 ghost use Rattle.avr_flags.specs.Products.{signed_product as product_of_signed, mixed_product as product_of_mixed, product_status as status_of_product, whole_of, fractional_of, mul_of, muls_of, mulsu_of, fmul_of, fmuls_of, fmulsu_of};
 
@@ -8,7 +10,8 @@ use crate::status::Status;
 
 /// The number that a byte stands for in two's complement.
 fn signed(byte: u8) -> i16
-    ensures { result ≡ signed_byte byte }
+    ensures value { result ≡ signed_byte byte }
+    ensures range { unsigned_abs result ≤ 128 }
 {
     i16::from(byte.cast_signed())
 }
@@ -20,18 +23,28 @@ fn unsigned_product(d: u8, r: u8) -> u16
     u16::from(d) * u16::from(r)
 }
 
+/// The product of two numbers that have a byte each, as its 16 bits.
+fn product_bits(d: i16, r: i16) -> u16
+    requires left { unsigned_abs d ≤ 128 }
+    requires right { unsigned_abs r ≤ 255 }
+    ensures { result ≡ cast_unsigned w16 (d *ℤ r) }
+{
+    let product = d * r;
+    product.cast_unsigned()
+}
+
 /// The product of two signed bytes, as its 16 bits.
 fn signed_product(d: u8, r: u8) -> u16
     ensures { result ≡ product_of_signed d r }
 {
-    (signed(d) * signed(r)).cast_unsigned()
+    product_bits(signed(d), signed(r))
 }
 
 /// The product of a signed byte `d` and an unsigned byte `r`, as its 16 bits.
 fn mixed_product(d: u8, r: u8) -> u16
     ensures { result ≡ product_of_mixed d r }
 {
-    (signed(d) * i16::from(r)).cast_unsigned()
+    product_bits(signed(d), i16::from(r))
 }
 
 /// Bit 15 of a product.

@@ -8,7 +8,7 @@ use crate::tables::{flags_of_carries, flags_of_result};
 use bitflags::{Flag, Flags, bitflag_items};
 
 /// The flags of SREG.
-#[derive(Clone, Copy, PartialEq, Eq, Debug)]
+#[derive(Clone, Copy)]
 pub(crate) struct Status(u8);
 
 bitflag_items! {

@@ -22,7 +22,7 @@ use page_index::{Places, known_offsets};
 use sram_layout::Sram;
 
 /// Why control can't go on at an original address.
-#[derive(Clone, Copy, Debug, PartialEq, Eq)]
+#[derive(Clone, Copy)]
 pub enum ArriveStop {
     /// The address is outside the image.
     Wild {
@@ -37,7 +37,7 @@ pub enum ArriveStop {
 }
 
 /// An arrival that was refused.
-#[derive(Clone, Copy, Debug, PartialEq, Eq)]
+#[derive(Clone, Copy)]
 pub struct Refused {
     /// Why.
     pub why: ArriveStop,
@@ -46,7 +46,7 @@ pub struct Refused {
 }
 
 /// Where control goes on.
-#[derive(Clone, Copy, Debug, PartialEq, Eq)]
+#[derive(Clone, Copy)]
 pub struct Moved {
     /// The place of the original address, a word address of flash.
     pub place: u16,

@@ -7,7 +7,7 @@ ghost use Rattle.branch_bridge.specs.Operating.{perform, rewriting, stop_of};
 use flash_model::Flash;
 
 /// The words that a page was to get, where its programming was refused after it was erased.
-#[derive(Clone, Copy, Debug, PartialEq, Eq)]
+#[derive(Clone, Copy)]
 pub struct Torn {
     /// The page, which is erased.
     pub page: u16,
@@ -16,7 +16,7 @@ pub struct Torn {
 }
 
 /// Why stubs were not rewritten.
-#[derive(Clone, Copy, Debug, PartialEq, Eq)]
+#[derive(Clone, Copy)]
 pub struct ResolveStop {
     /// The number of the operation on flash that was refused.
     pub op: u64,

@@ -18,7 +18,7 @@ use page_index::Places;
 use sram_layout::Sram;
 
 /// How an arrival went.
-#[derive(Clone, Copy, Debug, PartialEq, Eq)]
+#[derive(Clone, Copy)]
 pub struct Arrival {
     /// Where control goes on, a word address of flash, once that is known.
     pub place: Option<u16>,

@@ -1,14 +1,13 @@
 -- How many words an instruction has, by its first word.
 use Rattle.std.proofs.Common.{◌≡◌, ℕ, ◌<◌, Bool, true, false, cond, ◌==◌, Option, Some, None, MatchOption, is_none, unwrap_or, IsTrue, ◌↔◌, refl, arith}
 use Rattle.std.specs.Bool.{⊤}
-use Rattle.std.proofs.lemmas.Bool.{eqb-true}
+use Rattle.std.proofs.lemmas.Bool.{and_parts, eqb-true}
 use Rattle.avr_isa.specs.declared.form.Form.{Form}
 use Rattle.avr_isa.specs.declared.form.Form.TheVariants.{Lds, Sts, Jmp, Call}
 use Rattle.avr_isa.specs.Instruction.{is_undefined, is_valid, size_of}
 use Rattle.avr_isa.specs.Encoding.{first_word, second_word, IsRow, BeginsTwoWords}
 use Rattle.avr_isa.proofs.Laws.{size_of-second_word}
 use Rattle.avr_decode.specs.Decoding.{one_word_form, is_long, size_by_first_word, two_word_form, defined_form, if_defined, the_form}
-use Rattle.decode_laws.proofs.Tables.{both_true}
 use Rattle.decode_laws.proofs.Complete.{complete}
 use Rattle.decode_laws.proofs.Sound.{is_one_word, one_word_fits, sound}
 
@@ -51,7 +50,7 @@ one_word_size : (o : Option Form) (f : Form) (w : ℕ) → is_one_word w o ≡ t
 unfolding is_one_word if_defined
 one_word_size None f w fits same = absurd (cc)
 one_word_size (Some g) f w fits same =
-    let alone : is_none (second_word g) ≡ true = (both_true _ _ fits).1 in
+    let alone : is_none (second_word g) ≡ true = (and_parts _ _ fits).1 in
     let one : (size_of g == 1) ≡ true = rw size_of-second_word at alone in
     rw (← defined_form-same g f same) (eqb-true _ _ one)
 

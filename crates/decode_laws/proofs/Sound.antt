@@ -1,13 +1,13 @@
 -- What words mean has these words: by computing it at all 65,536 first words.
 use Rattle.std.proofs.Common.{◌≡◌, ℕ, ◌+◌, ◌*◌, ◌/◌, ◌%◌, ◌<◌, Bool, true, false, cond, ◌&&◌, ◌||◌, ◌==◌, Option, Some, None, MatchOption, is_none, IfSome, IsTrue, refl, sym, arith}
 use Rattle.std.specs.Bool.{⊤}
-use Rattle.std.proofs.lemmas.Bool.{eqb-true}
+use Rattle.std.proofs.lemmas.Bool.{and_parts, eqb-true}
 use Rattle.std.proofs.lemmas.Bool.Decides.{nat_tests}
 use Rattle.avr_isa.specs.declared.form.Form.{Form}
 use Rattle.avr_isa.specs.declared.form.Form.TheVariants.{Lds, Sts, Jmp, Call}
 use Rattle.avr_isa.specs.Instruction.{fields_in_range, is_undefined, is_valid}
 use Rattle.avr_isa.specs.Encoding.{first_word, second_word, IsRow}
-use Rattle.decode_laws.proofs.Tables.{below, below-at, both_true}
+use Rattle.decode_laws.proofs.Tables.{below, below-at}
 use Rattle.avr_decode.specs.Decoding.{product_form, move_or_product_form, form_0000, form_0001, form_0010, displaced_form, load_form, store_form, plain_form, flag_or_plain_form, one_register_form, register_or_pair_form, io_bit_form, transfer_form, form_1001, io_form, register_bit_form, form_1111, one_word_form, destination_of, is_direct, is_long, two_word_form, defined_form, if_defined, the_form}
 
 -- the form, if there is one, has one word, this one, and operands in range
@@ -50,8 +50,8 @@ one_word_is_sound : (o : Option Form) (first second : ℕ) → is_one_word first
 unfolding is_one_word if_defined
 one_word_is_sound None first second h = tt
 one_word_is_sound (Some f) first second h =
-    let outer = both_true _ _ h in
-    let inner = both_true _ _ outer.0 in
+    let outer = and_parts _ _ h in
+    let inner = and_parts _ _ outer.0 in
     defined_is_sound f first second inner.1 (record { opcode = sym (eqb-true _ _ inner.0); address = no_address (second_word f) second outer.1 })
 
 -- the four instructions of two words, by the tests that tell them apart

@@ -1,5 +1,6 @@
 -- A claim about each number below a bound, by computing it at all of them.
 use Rattle.std.proofs.Common.{◌≡◌, ℕ, zero, suc, ◌<◌, Bool, true, false, cond, ◌&&◌, List, [], ◌∷◌, Option, Some, None, IsTrue, ◌⊎◌, inl, inr, refl, arith}
+use Rattle.std.proofs.lemmas.Bool.{and_parts}
 use Rattle.avr_isa.specs.declared.form.Form.{Form}
 use Rattle.avr_isa.specs.Instruction.{is_valid}
 use Rattle.avr_isa.specs.Encoding.{first_word}
@@ -9,11 +10,6 @@ use Rattle.avr_decode.specs.Decoding.{the_form}
 abbrev pub table : {A : Type 0} → ℕ → (ℕ → A) → List A
 table zero f = []
 table (suc n) f = f n ∷ table n f
-
--- the two halves of a test
-pub both_true : (a b : Bool) → a && b ≡ true → (a ≡ true) × (b ≡ true)
-both_true true b h = (refl, h)
-both_true false b h = absurd (cc)
 
 last_or_below : (i n : ℕ) → i < suc n → (i ≡ n) ⊎ (i < n)
 last_or_below i n h = grind arith
@@ -34,7 +30,7 @@ below p (suc n) = p n && below p n
 pub below-at : (p : ℕ → Bool) (n : ℕ) → below p n ≡ true → (i : ℕ) → i < n → p i ≡ true
 below-at p zero h i bound = absurd (omega arith)
 below-at p (suc n) h i bound =
-    let halves : (p n ≡ true) × (below p n ≡ true) = both_true (p n) (below p n) h in
+    let halves : (p n ≡ true) × (below p n ≡ true) = and_parts (p n) (below p n) h in
     elim (last_or_below i n bound) as (λ _. p i ≡ true) [ inl here ↦ rw here halves.0 | inr less ↦ below-at p n halves.1 i less ]
 
 -- what the first word of a valid form of one operand means, and the form

@@ -59,7 +59,7 @@ impl Cells {
     {
         let words = loaded_words(alloc, image)?;
         let erases = no_erases(alloc)?;
-        let failing = failing.to_vec(alloc).map_err(|_| NoMemory)?;
+        let failing = failing.to_vec(alloc)?;
         let next_failing = next_listed(&failing, 0);
         Ok(Cells {
             words,
@@ -232,8 +232,8 @@ fn loaded_words(alloc: Global, image: &[u16]) -> Result<Vec<u16>, NoMemory>
     ensures size { IfOk result (λ words. length words.items ≡ word_count) }
     ensures fit { IfOk result (λ words. AreWords words.items) }
 {
-    let mut words = Vec::with_capacity(alloc, WORDS).map_err(|_| NoMemory)?;
-    words.extend_from_slice(image).map_err(|_| NoMemory)?;
+    let mut words = Vec::with_capacity(alloc, WORDS)?;
+    words.extend_from_slice(image)?;
     fill_up(&mut words, KERNEL_FIRST as usize, BLANK)?;
     fill_up(&mut words, WORDS, RET)?;
     Ok(words)
@@ -245,7 +245,7 @@ fn erased_words(alloc: Global) -> Result<Vec<u16>, NoMemory>
     ensures size { IfOk result (λ words. length words.items ≡ word_count) }
     ensures fit { IfOk result (λ words. AreWords words.items) }
 {
-    let mut words = Vec::with_capacity(alloc, WORDS).map_err(|_| NoMemory)?;
+    let mut words = Vec::with_capacity(alloc, WORDS)?;
     fill_up(&mut words, WORDS, BLANK)?;
     Ok(words)
 }
@@ -257,7 +257,8 @@ fn fill_up(words: &mut Vec<u16>, n: usize, word: u16) -> Result<(), NoMemory>
     ensures value { OnOk result (words.new.items ≡ words.old.items ++ many (n - length words.old.items) word) }
     ensures size { OnOk result (length words.new.items ≡ n) }
 {
-    words.resize(n, word).map_err(|_| NoMemory)
+    words.resize(n, word)?;
+    Ok(())
 }
 
 /// The counts of erases of a flash that is new.
@@ -267,7 +268,7 @@ fn no_erases(alloc: Global) -> Result<Vec<u32>, NoMemory>
     ensures size { IfOk result (λ erases. length erases.items ≡ page_count) }
 {
     let mut erases = Vec::new(alloc);
-    erases.resize(PAGES, 0).map_err(|_| NoMemory)?;
+    erases.resize(PAGES, 0)?;
     Ok(erases)
 }
 

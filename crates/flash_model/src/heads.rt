@@ -5,7 +5,7 @@ ghost use Rattle.flash_model.specs.Pages.{page_count};
 ghost use Rattle.flash_model.specs.Heads.{head, HasHead, AreHeads, AreHeadsBeside};
 
 use crate::cells::{Cells, PAGE_WORDS, PAGES};
-use crate::page_set::PageSet;
+use crate::page_set::{NO_PAGE, PageSet};
 use std::alloc::Global;
 use tk_io::NoMemory;
 
@@ -78,6 +78,6 @@ fn no_pages(alloc: Global) -> Result<Vec<PageSet>, NoMemory>
     ensures size { IfOk result (λ pages. length pages.items ≡ page_count) }
 {
     let mut pages = Vec::new(alloc);
-    pages.resize(PAGES, PageSet::new()).map_err(|_| NoMemory)?;
+    pages.resize(PAGES, NO_PAGE)?;
     Ok(pages)
 }

@@ -1,16 +1,16 @@
 //! What is kept beside the words of flash, and what of it is made anew when words change.
 
-ghost use Rattle.std.specs.Prelude.{◌≡◌, ℕ, ◌+◌, ◌*◌, ◌≤◌, ◌<◌, true, false, List, length, IfOk, slice_index, slice_set, slice_index_or};
+ghost use Rattle.std.specs.Prelude.{◌≡◌, ℕ, ◌+◌, ◌*◌, ◌/◌, ◌≤◌, ◌<◌, true, false, List, length, IfOk, slice_index, slice_set, slice_index_or};
 ghost use Rattle.flash_model.specs.declared.page_set.PageSet.{PageSet};
 ghost use Rattle.flash_model.specs.Pages.{word_count, page_count, page_words, page_of, blank};
 ghost use Rattle.flash_model.specs.Code.{decoded_at};
-ghost use Rattle.flash_model.specs.Jumps.{HasNoJumpInto};
+ghost use Rattle.flash_model.specs.Jumps.{HasNoJumpInto, jump_word};
 ghost use Rattle.flash_model.specs.Kept.{has_page, IsSized, IsKept, IsKeptOutside, IsKeptBeside, Renews};
 
 use crate::cells::{Cells, PAGE_WORDS, PAGES, WORDS};
 use crate::decoded::Decoded;
 use crate::layout::BLANK;
-use crate::page_set::PageSet;
+use crate::page_set::{NO_PAGE, PageSet};
 use crate::seen::Seen;
 use std::alloc::Global;
 use tk_io::NoMemory;
@@ -94,7 +94,7 @@ impl Kept {
     {
         let first = PAGE_WORDS * page as usize;
         let last = first + PAGE_WORDS - 1;
-        self.jumps[page as usize] = PageSet::new();
+        self.jumps[page as usize] = NO_PAGE;
         self.renew_at(cells, (first as u16).wrapping_sub(1));
         let erased = Decoded::new(BLANK, BLANK);
         'blank: for a in first..last {
@@ -116,13 +116,7 @@ impl Kept {
             a as usize,
             &self.seen.decoded(first, second),
         );
-        if first == JMP {
-            add(
-                &mut self.jumps,
-                a as usize / PAGE_WORDS,
-                second / PAGE_WORDS as u16,
-            );
-        }
+        add(&mut self.jumps, a as usize / PAGE_WORDS, first, second);
     }
 }
 
@@ -131,8 +125,7 @@ fn no_code(alloc: Global) -> Result<Vec<Decoded>, NoMemory>
     ensures size { IfOk result (λ code. length code.items ≡ word_count) }
 {
     let mut code = Vec::new(alloc);
-    code.resize(WORDS, Decoded::new(0, 0))
-        .map_err(|_| NoMemory)?;
+    code.resize(WORDS, Decoded::new(0, 0))?;
     Ok(code)
 }
 
@@ -141,7 +134,7 @@ fn no_jumps(alloc: Global) -> Result<Vec<PageSet>, NoMemory>
     ensures size { IfOk result (λ jumps. length jumps.items ≡ page_count) }
 {
     let mut jumps = Vec::new(alloc);
-    jumps.resize(PAGES, PageSet::new()).map_err(|_| NoMemory)?;
+    jumps.resize(PAGES, NO_PAGE)?;
     Ok(jumps)
 }
 
@@ -153,14 +146,17 @@ fn put(code: &mut Vec<Decoded>, a: usize, decoded: &Decoded)
     code[a] = *decoded;
 }
 
-/// The page has a jump into the target.
-fn add(jumps: &mut Vec<PageSet>, page: usize, target: u16)
+/// Where these two words are a jump, the page has one into the page of the second.
+#[inline(always)]
+fn add(jumps: &mut Vec<PageSet>, page: usize, first: u16, second: u16)
     requires inside { page < length jumps.old.items }
     ensures size { length jumps.new.items ≡ length jumps.old.items }
-    ensures added { (s : PageSet) → has_page (slice_index_or jumps.new.items page s) target ≡ true }
+    ensures added { first ≡ jump_word → (s : PageSet) → has_page (slice_index_or jumps.new.items page s) (second / page_words) ≡ true }
     ensures others { (p q : ℕ) (s : PageSet) → has_page (slice_index_or jumps.old.items p s) q ≡ true → has_page (slice_index_or jumps.new.items p s) q ≡ true }
 {
-    jumps[page].add(target);
+    if first == JMP {
+        jumps[page].add(second / PAGE_WORDS as u16);
+    }
 }
 
 /// How many words of a page there are up to the last that isn't 0xFFFF. Programming leaves those behind it.

@@ -11,7 +11,7 @@ pub const KERNEL_FIRST: u16 = 0xF000;
 
 /// Which part of flash is the image and which is the code pool. The pages from 480 on are the
 /// kernel's.
-#[derive(Debug, Clone, Copy, PartialEq, Eq)]
+#[derive(Clone, Copy)]
 pub struct Layout {
     /// The image's length in words; it begins at word 0.
     pub image_words: u16,

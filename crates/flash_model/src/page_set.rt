@@ -11,12 +11,10 @@ pub(crate) struct PageSet {
     bits: [u64; 8],
 }
 
-impl PageSet {
-    /// The set without a page.
-    pub(crate) fn new() -> PageSet {
-        PageSet { bits: [0; 8] }
-    }
+/// The set without a page.
+pub(crate) const NO_PAGE: PageSet = PageSet { bits: [0; 8] };
 
+impl PageSet {
     /// Whether the page is in the set.
     pub(crate) fn has(&self, page: u16) -> bool
         ensures value { result ≡ has_page self.now page }

@@ -55,7 +55,7 @@ impl Seen {
     /// Pairs of two words of 0.
     pub(crate) fn new(alloc: Global) -> Result<Seen, NoMemory> {
         let mut pairs = Vec::new(alloc);
-        pairs.resize(PAIRS, Pair::new(0, 0)).map_err(|_| NoMemory)?;
+        pairs.resize(PAIRS, Pair::new(0, 0))?;
         Ok(Seen { pairs })
     }
 

@@ -29,10 +29,8 @@ impl Image {
         ensures memory { OnErr result (0 < length words.now) }
     {
         let mut copy = Vec::new(alloc);
-        match copy.extend_from_slice(words) {
-            Ok(()) => Ok(Image { words: copy }),
-            Err(_) => Err(NoMemory),
-        }
+        copy.extend_from_slice(words)?;
+        Ok(Image { words: copy })
     }
 
     /// The image that has these words.

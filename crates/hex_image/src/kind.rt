@@ -4,7 +4,7 @@ ghost use Rattle.hex_image.specs.Kinds.{code_of};
 ghost use Rattle.hex_image.specs.Lines.{has_right_count};
 
 /// What a record is for.
-#[derive(Clone, Copy, Debug, PartialEq, Eq)]
+#[derive(Clone, Copy)]
 pub(crate) enum Kind {
     /// Bytes of the image.
     Data,

@@ -5,7 +5,7 @@ ghost use Rattle.input_script.specs.declared.input.Kind.{Kind};
 ghost use Rattle.input_script.specs.Kinds.{word_of, mark_of, radix_of, width_of, input_of};
 
 /// What a device receives.
-#[derive(Debug, Clone, Copy, PartialEq, Eq)]
+#[derive(Clone, Copy, PartialEq, Eq)]
 pub enum Input {
     /// The pins of a port, 0 to 3 for ports A to D, are as in this byte.
     Pin(u8, u8),
@@ -19,14 +19,14 @@ pub enum Input {
 
 /// An input, and the number of the poll at which it takes effect: the first poll is number 1, and an
 /// event with number 0 or 1 takes effect at it.
-#[derive(Debug, Clone, Copy, PartialEq, Eq)]
+#[derive(Clone, Copy)]
 pub struct Event {
     pub at: u32,
     pub input: Input,
 }
 
 /// The kinds of input that a script has words for.
-#[derive(Debug, Clone, Copy, PartialEq, Eq)]
+#[derive(Clone, Copy)]
 pub(crate) enum Kind {
     PinA,
     PinB,

@@ -10,7 +10,7 @@ use crate::input::{Input, Kind};
 use text_lines::{split_once, value_of};
 
 /// What a line says. Its number is as it was written, of up to 10 digits.
-#[derive(Debug, Clone, Copy, PartialEq, Eq)]
+#[derive(Clone, Copy)]
 pub(crate) enum Statement {
     /// Nothing: the line is empty or a comment.
     Nothing,

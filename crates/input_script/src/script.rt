@@ -21,7 +21,7 @@ const MOST_STATEMENTS: usize = 65536;
 const MOST_ADC: u16 = 0x3FF;
 
 /// What a script that was accepted schedules.
-#[derive(Debug, Drop)]
+#[derive(Drop)]
 pub struct Script {
     events: Vec<Event>,
     failing: Vec<u32>,

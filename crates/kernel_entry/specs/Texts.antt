@@ -1,22 +1,10 @@
 -- The printed text of a device's line and of a run's stop line (docs/FORMATS.md, "What is printed").
-use Rattle.std.specs.Prelude.{ℕ, ◌/◌, ◌%◌, List, [], ◌∷◌, ◌++◌, codes, decimal}
-use Rattle.hex.specs.Hex.{encode_upper}
+use Rattle.std.specs.Prelude.{ℕ, List, ◌++◌, codes, decimal}
+use Rattle.text_pieces.specs.Pieces.{address_text, byte_text}
 use Rattle.mote_devices.specs.declared.line.Line.{Line}
 use Rattle.mote_devices.specs.declared.line.Port.{Port}
 use Rattle.mote_devices.specs.declared.line.Port.TheVariants.{PortA, PortB, PortC, PortD, DdrA, DdrB, DdrC, DdrD, Uart0}
 use Rattle.mem_guard.specs.FlatMachine.{End, Spent, Wild, Illegal, SelfProgram, Asleep, Halted, Read, Io, Stack, SwapFull}
-
--- the two upper-case digits of a byte
-abbrev pub two_digits : ℕ → List ℕ
-two_digits v = encode_upper (v ∷ [])
-
--- 0x and two digits
-abbrev pub byte_text : ℕ → List ℕ
-byte_text v = codes "0x" ++ two_digits v
-
--- 0x and four digits
-abbrev pub address_text : ℕ → List ℕ
-address_text a = codes "0x" ++ two_digits (a / 256) ++ two_digits (a % 256)
 
 abbrev pub port_name : Port → List ℕ
 port_name PortA = codes "PORTA"

@@ -14,7 +14,7 @@ use mote_devices::Line;
 use sram_layout::KERNEL_STACK_TOP;
 
 /// What an execution tells: the program's new pc, and what a device showed.
-#[derive(Clone, Copy, Debug, PartialEq, Eq)]
+#[derive(Clone, Copy)]
 pub(crate) struct Ran {
     pub pc: u16,
     pub line: Option<Line>,

@@ -285,9 +285,12 @@ fn sleep(k: &mut Kernel, at: u16) -> Served
 fn is_sleep(instr: Option<&Instr>) -> bool
     ensures value { result ≡ is_sleep_form (option_map (λ borrowed. borrowed.now) instr.entry) }
 {
-    match instr.map(Instr::form) {
-        Some(Form::Sleep) => true,
-        _ => false,
+    match instr {
+        Some(instr) => match instr.form() {
+            Form::Sleep => true,
+            _ => false,
+        },
+        None => false,
     }
 }
 
@@ -344,13 +347,16 @@ pub(crate) fn stop_of(at: u16, stop: BusStop) -> Stop
 fn fault_of(at: u16, instr: Option<&Instr>) -> Stop
     ensures value { result ≡ fault_of_form at (option_map (λ borrowed. borrowed.now) instr.entry) }
 {
-    match instr.map(Instr::form) {
-        Some(Form::Sleep) => Stop::Asleep(at),
-        Some(Form::Spm) => Stop::SelfProgram(at),
-        Some(Form::InIo(_, a) | Form::OutIo(a, _)) => Stop::Io(at, a.address()),
-        Some(Form::Cbi(a, _) | Form::Sbi(a, _) | Form::Sbic(a, _) | Form::Sbis(a, _)) => {
-            Stop::Io(at, a.address())
-        }
-        _ => Stop::Illegal(at),
+    match instr {
+        Some(instr) => match instr.form() {
+            Form::Sleep => Stop::Asleep(at),
+            Form::Spm => Stop::SelfProgram(at),
+            Form::InIo(_, a) | Form::OutIo(a, _) => Stop::Io(at, a.address()),
+            Form::Cbi(a, _) | Form::Sbi(a, _) | Form::Sbic(a, _) | Form::Sbis(a, _) => {
+                Stop::Io(at, a.address())
+            }
+            _ => Stop::Illegal(at),
+        },
+        None => Stop::Illegal(at),
     }
 }

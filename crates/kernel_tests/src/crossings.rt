@@ -22,11 +22,10 @@ fn crossings_are_counted(rt: HostRuntime) {
     for (count, quantum, from, to, checkpoint, after) in rows {
         sram.set_count(count);
         assert!(rt; 1 <= quantum && 1 <= sram.count() && sram.count() <= quantum);
-        assert_eq!(rt;
-            cross(&mut sram, quantum, from, to),
-            checkpoint,
+        assert!(rt;
+            cross(&mut sram, quantum, from, to) == checkpoint,
             "{from} to {to}"
         );
-        assert_eq!(rt; sram.count(), after, "{from} to {to}");
+        assert!(rt; sram.count() == after, "{from} to {to}");
     }
 }

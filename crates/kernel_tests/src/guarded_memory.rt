@@ -50,28 +50,6 @@ fn cpu_at_reset() -> Cpu {
     }
 }
 
-/// A register, 0 above r31.
-fn r(cpu: &Cpu, number: u8) -> u8 {
-    if number < 32 {
-        cpu.r[number as usize]
-    } else {
-        0
-    }
-}
-
-/// Writes a register.
-fn set(cpu: &mut Cpu, number: u8, value: u8) {
-    if number < 32 {
-        cpu.r[number as usize] = value;
-    }
-}
-
-/// Writes the pair whose low register has this number.
-fn set_pair(cpu: &mut Cpu, low: u8, value: u16) {
-    set(cpu, low, (value % 256) as u8);
-    set(cpu, low.saturating_add(1), (value / 256) as u8);
-}
-
 #[tactic(auto, unfolding(avr_exec::specs::Execution::is_executed))]
 fn is_executed(i: &Instr) -> bool
     ensures { result ≡ is_executed_form i.now }
@@ -104,6 +82,34 @@ fn execute(
     Ok(bus.line)
 }
 
+/// The same, where it shows nothing.
+fn execute_silently(rt: &impl Abort, cpu: &mut Cpu, parts: &mut Parts, words: (u16, u16))
+    requires paged { IsPaged parts.old.sram parts.old.swap }
+    ensures paged { IsPaged parts.new.sram parts.new.swap }
+{
+    assert!(rt; execute(rt, cpu, parts, words) == Ok(None));
+}
+
+/// LDS brings this value.
+fn is_loaded(rt: &impl Abort, cpu: &mut Cpu, parts: &mut Parts, a: u16, value: u8)
+    requires paged { IsPaged parts.old.sram parts.old.swap }
+    ensures paged { IsPaged parts.new.sram parts.new.swap }
+{
+    execute_silently(rt, cpu, parts, (0x9110, a));
+    assert!(rt; cpu.r[17] == value, "{a}");
+}
+
+/// ST X+, r16 leaves this in r0, and the pointer there.
+fn is_stored(rt: &impl Abort, cpu: &mut Cpu, parts: &mut Parts, r0: u8, low: u8)
+    requires paged { IsPaged parts.old.sram parts.old.swap }
+    ensures paged { IsPaged parts.new.sram parts.new.swap }
+{
+    execute_silently(rt, cpu, parts, (0x930D, 0));
+    assert!(rt; cpu.r[0] == r0);
+    assert!(rt; cpu.r[26] == low);
+    assert!(rt; cpu.r[27] == 0);
+}
+
 #[test]
 fn classes(rt: HostRuntime) {
     let wanted = [
@@ -120,7 +126,7 @@ fn classes(rt: HostRuntime) {
         (0xFFFF, AddrClass::Heap),
     ];
     for (a, want) in wanted {
-        assert_eq!(rt; class(a), want, "{a}");
+        assert!(rt; class(a) == want, "{a}");
     }
 }
 
@@ -130,30 +136,23 @@ fn loads_and_stores(rt: HostRuntime) -> Result<(), Fail> {
     let mut parts = parts_at_boot(&rt, 3)?;
     let mut cpu = cpu_at_reset();
     for a in [0x0CFF, 0x0D00, 0x10FF, 0x1100, 0x0100] {
-        set(&mut cpu, 16, (a / 16 % 256) as u8);
-        set(&mut cpu, 17, 0);
-        assert_eq!(rt; execute(&rt, &mut cpu, &mut parts, (0x9300, a)), Ok(None));
-        assert_eq!(rt; execute(&rt, &mut cpu, &mut parts, (0x9110, a)), Ok(None));
-        assert_eq!(rt; r(&cpu, 17), r(&cpu, 16));
+        let value = (a / 16 % 256) as u8;
+        cpu.r[16] = value;
+        cpu.r[17] = 0;
+        execute_silently(&rt, &mut cpu, &mut parts, (0x9300, a));
+        is_loaded(&rt, &mut cpu, &mut parts, a, value);
     }
-    assert_eq!(rt;
-        execute(&rt, &mut cpu, &mut parts, (0x9300, 0x0200)),
-        Err(BusStop::SwapFull(0x0200))
+    assert!(rt;
+        execute(&rt, &mut cpu, &mut parts, (0x9300, 0x0200)) == Err(BusStop::SwapFull(0x0200))
     );
     cpu.sp = 0x1234;
     for (a, value) in [(0x0010, 0x10), (0x005E, 0x12), (0x0039, 0x77), (0x0200, 0)] {
-        assert_eq!(rt; execute(&rt, &mut cpu, &mut parts, (0x9110, a)), Ok(None));
-        assert_eq!(rt; r(&cpu, 17), value, "{a}");
+        is_loaded(&rt, &mut cpu, &mut parts, a, value);
     }
-    assert_eq!(rt;
-        execute(&rt, &mut cpu, &mut parts, (0x9110, 0x003C)),
-        Err(BusStop::Io(0x003C))
-    );
-    assert_eq!(rt;
-        (parts.sram.byte(0x0D00), parts.sram.byte(0x10FF)),
-        (0xD0, 0x0F)
-    );
-    assert_eq!(rt; parts.sram.count(), 0);
+    assert!(rt; execute(&rt, &mut cpu, &mut parts, (0x9110, 0x003C)) == Err(BusStop::Io(0x003C)));
+    assert!(rt; parts.sram.byte(0x0D00) == 0xD0);
+    assert!(rt; parts.sram.byte(0x10FF) == 0x0F);
+    assert!(rt; parts.sram.count() == 0);
     Ok(())
 }
 
@@ -162,22 +161,21 @@ fn loads_and_stores(rt: HostRuntime) -> Result<(), Fail> {
 fn past_the_last_address(rt: HostRuntime) -> Result<(), Fail> {
     let mut parts = parts_at_boot(&rt, 1)?;
     let mut cpu = cpu_at_reset();
-    set(&mut cpu, 16, 0x5A);
-    set_pair(&mut cpu, 26, 0xFFFF);
-    set_pair(&mut cpu, 28, 0xFFFF);
-    let store = (0x930D, 0); // ST X+, r16
-    assert_eq!(rt; execute(&rt, &mut cpu, &mut parts, store), Ok(None));
-    assert_eq!(rt; (r(&cpu, 0), r(&cpu, 26), r(&cpu, 27)), (0, 0, 0));
-    assert_eq!(rt; execute(&rt, &mut cpu, &mut parts, store), Ok(None));
-    assert_eq!(rt; (r(&cpu, 0), r(&cpu, 26), r(&cpu, 27)), (0x5A, 1, 0));
+    cpu.r[16] = 0x5A;
+    cpu.r[26] = 0xFF;
+    cpu.r[27] = 0xFF;
+    cpu.r[28] = 0xFF;
+    cpu.r[29] = 0xFF;
+    is_stored(&rt, &mut cpu, &mut parts, 0, 0);
+    is_stored(&rt, &mut cpu, &mut parts, 0x5A, 1);
     let load = (0x8119, 0); // LDD r17, Y+1
-    assert_eq!(rt; execute(&rt, &mut cpu, &mut parts, load), Ok(None));
-    assert_eq!(rt; r(&cpu, 17), 0x5A);
+    execute_silently(&rt, &mut cpu, &mut parts, load);
+    assert!(rt; cpu.r[17] == 0x5A);
     let program = (0x9124, 0); // LPM r18, Z
     for (z, byte) in [(0, 0x34), (3, 0x56), (4, 0xFF)] {
-        set_pair(&mut cpu, 30, z);
-        assert_eq!(rt; execute(&rt, &mut cpu, &mut parts, program), Ok(None));
-        assert_eq!(rt; r(&cpu, 18), byte);
+        cpu.r[30] = z;
+        execute_silently(&rt, &mut cpu, &mut parts, program);
+        assert!(rt; cpu.r[18] == byte);
     }
     Ok(())
 }
@@ -188,23 +186,39 @@ fn a_register_of_one_direction(rt: HostRuntime) -> Result<(), Fail> {
     let mut parts = parts_at_boot(&rt, 0)?;
     let mut cpu = cpu_at_reset();
     let pins = (0x9AC8, 0); // SBI PINA, 0
-    assert_eq!(rt;
-        execute(&rt, &mut cpu, &mut parts, pins),
-        Err(BusStop::Io(0x39))
-    );
-    assert_eq!(rt; parts.devices.polls(), 0);
+    assert!(rt; execute(&rt, &mut cpu, &mut parts, pins) == Err(BusStop::Io(0x39)));
+    assert!(rt; parts.devices.polls() == 0);
     let port = (0x9AD8, 0); // SBI PORTA, 0
     let shown = Line {
         port: Port::PortA,
         value: 1,
     };
-    assert_eq!(rt; execute(&rt, &mut cpu, &mut parts, port), Ok(Some(shown)));
+    assert!(rt; execute(&rt, &mut cpu, &mut parts, port) == Ok(Some(shown)));
     Ok(())
 }
 
-/// The stop at a byte outside the stack window.
-fn outside(a: u16) -> Result<Option<Line>, BusStop> {
-    Err(BusStop::Stack(a))
+/// Instructions at the edges of the window, the stack pointer, and the byte outside at which each is stopped.
+const EDGES: [(u16, u16, Option<u16>); 12] = [
+    (0x930F, 0x0CFF, Some(0x0CFF)),
+    (0x930F, 0x0D00, None),
+    (0x930F, 0x10FF, None),
+    (0x930F, 0x1100, Some(0x1100)),
+    (0x910F, 0x0CFE, Some(0x0CFF)),
+    (0x910F, 0x0CFF, None),
+    (0x910F, 0x10FF, Some(0x1100)),
+    (0xD000, 0x0D00, Some(0x0CFF)),
+    (0xD000, 0x1100, Some(0x1100)),
+    (0x9508, 0x0CFE, Some(0x0CFF)),
+    (0x9508, 0x10FE, Some(0x1100)),
+    (0xD000, 0x0D01, None),
+];
+
+/// What is answered where the stack would reach this byte outside the window, if any.
+fn answer(outside: Option<u16>) -> Result<Option<Line>, BusStop> {
+    match outside {
+        Some(a) => Err(BusStop::Stack(a)),
+        None => Ok(None),
+    }
 }
 
 /// PUSH, POP, RCALL and RET at the edges of the window: a stop names the first byte outside.
@@ -212,28 +226,15 @@ fn outside(a: u16) -> Result<Option<Line>, BusStop> {
 fn edges_of_the_window(rt: HostRuntime) -> Result<(), Fail> {
     let mut parts = parts_at_boot(&rt, 0)?;
     let mut cpu = cpu_at_reset();
-    let edges = [
-        (0x930F, 0x0CFF, outside(0x0CFF)),
-        (0x930F, 0x0D00, Ok(None)),
-        (0x930F, 0x10FF, Ok(None)),
-        (0x930F, 0x1100, outside(0x1100)),
-        (0x910F, 0x0CFE, outside(0x0CFF)),
-        (0x910F, 0x0CFF, Ok(None)),
-        (0x910F, 0x10FF, outside(0x1100)),
-        (0xD000, 0x0D00, outside(0x0CFF)),
-        (0xD000, 0x1100, outside(0x1100)),
-        (0x9508, 0x0CFE, outside(0x0CFF)),
-        (0x9508, 0x10FE, outside(0x1100)),
-        (0xD000, 0x0D01, Ok(None)),
-    ];
-    for (word, sp, want) in edges {
+    for (word, sp, outside) in EDGES {
         cpu.sp = sp;
         cpu.pc = 0x1234;
-        assert_eq!(rt; execute(&rt, &mut cpu, &mut parts, (word, 0)), want, "{sp}");
+        assert!(rt;
+            execute(&rt, &mut cpu, &mut parts, (word, 0)) == answer(outside),
+            "{sp}"
+        );
     }
-    assert_eq!(rt;
-        (parts.sram.byte(0x0D01), parts.sram.byte(0x0D00)),
-        (0x35, 0x12)
-    );
+    assert!(rt; parts.sram.byte(0x0D01) == 0x35);
+    assert!(rt; parts.sram.byte(0x0D00) == 0x12);
     Ok(())
 }

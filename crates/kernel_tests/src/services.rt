@@ -157,40 +157,99 @@ fn is_served(rt: &impl Abort, k: &mut Kernel, call: Call, want: Served, after: (
 {
     k.mote.cpu.r[30] = 0xFF;
     k.mote.cpu.r[31] = 0xFF;
-    assert_eq!(rt; served(rt, k, call), want, "{} {}", call.entry, call.at);
-    assert_eq!(rt; left(k), after, "{} {}", call.entry, call.at);
-    assert_eq!(rt; k.mote.cpu.sp, 0x011F);
+    assert!(rt; served(rt, k, call) == want, "{} {}", call.entry, call.at);
+    assert!(rt; left(k) == after, "{} {}", call.entry, call.at);
+    assert!(rt; k.mote.cpu.sp == 0x011F);
 }
 
-/// The program would use a byte outside the stack window.
-fn outside(at: u16, address: u16) -> Served {
-    Served::Stopped(Stop::Stack(at, address))
-}
-
-/// Control goes on at an address of the program.
-fn to(target: u16) -> Served {
-    Served::Goto { target, stub: None }
-}
+/// Control goes on behind the call.
+const ON: Served = Served::Resume(None);
 
 /// Entry, address and SP; the answer, and what is left. A return finds what an earlier call pushed.
+const WINDOW: [(u16, u16, u16, Served, (u16, u8, u8)); 11] = [
+    (
+        PUSH_RETURN,
+        2,
+        0x0CFF,
+        Served::Stopped(Stop::Stack(2, 0x0CFF)),
+        (0x0CFF, 0, 3),
+    ),
+    (
+        PUSH_RETURN,
+        2,
+        0x0D00,
+        Served::Stopped(Stop::Stack(2, 0x0CFF)),
+        (0x0D00, 0, 3),
+    ),
+    (PUSH_RETURN, 2, 0x0D01, ON, (0x0CFF, 0, 3)),
+    (
+        PUSH_RETURN,
+        2,
+        0x1100,
+        Served::Stopped(Stop::Stack(2, 0x1100)),
+        (0x1100, 0, 3),
+    ),
+    (PUSH_RETURN, 28, 0x10FF, ON, (0x10FD, 0, 3)),
+    (
+        RETURN,
+        3,
+        0x10FD,
+        Served::Goto {
+            target: 30,
+            stub: None,
+        },
+        (0x10FF, 0, 3),
+    ),
+    (
+        RETURN,
+        4,
+        0x0CFF,
+        Served::Goto {
+            target: 3,
+            stub: None,
+        },
+        (0x0D01, 0x80, 2),
+    ),
+    (
+        RETURN,
+        3,
+        0x10FE,
+        Served::Stopped(Stop::Stack(3, 0x1100)),
+        (0x10FE, 0, 3),
+    ),
+    (
+        INDIRECT,
+        5,
+        0,
+        Served::Goto {
+            target: 0xFFFF,
+            stub: None,
+        },
+        (0, 0, 2),
+    ),
+    (
+        INDIRECT,
+        6,
+        0x0D01,
+        Served::Goto {
+            target: 0xFFFF,
+            stub: None,
+        },
+        (0x0CFF, 0, 2),
+    ),
+    (
+        INDIRECT,
+        6,
+        0x0CFF,
+        Served::Stopped(Stop::Stack(6, 0x0CFF)),
+        (0x0CFF, 0, 3),
+    ),
+];
+
 #[test]
 fn calls_and_returns_use_the_stack_window(rt: HostRuntime) -> Result<(), Fail> {
-    let on = Served::Resume(None);
-    let rows = [
-        (PUSH_RETURN, 2, 0x0CFF, outside(2, 0x0CFF), (0x0CFF, 0, 3)),
-        (PUSH_RETURN, 2, 0x0D00, outside(2, 0x0CFF), (0x0D00, 0, 3)),
-        (PUSH_RETURN, 2, 0x0D01, on, (0x0CFF, 0, 3)),
-        (PUSH_RETURN, 2, 0x1100, outside(2, 0x1100), (0x1100, 0, 3)),
-        (PUSH_RETURN, 28, 0x10FF, on, (0x10FD, 0, 3)),
-        (RETURN, 3, 0x10FD, to(30), (0x10FF, 0, 3)),
-        (RETURN, 4, 0x0CFF, to(3), (0x0D01, 0x80, 2)),
-        (RETURN, 3, 0x10FE, outside(3, 0x1100), (0x10FE, 0, 3)),
-        (INDIRECT, 5, 0, to(0xFFFF), (0, 0, 2)),
-        (INDIRECT, 6, 0x0D01, to(0xFFFF), (0x0CFF, 0, 2)),
-        (INDIRECT, 6, 0x0CFF, outside(6, 0x0CFF), (0x0CFF, 0, 3)),
-    ];
     let mut k = kernel_at_boot(&rt, 0)?;
-    for (entry, at, sp, want, after) in rows {
+    for (entry, at, sp, want, after) in WINDOW {
         let call = Call {
             entry,
             at,
@@ -203,26 +262,52 @@ fn calls_and_returns_use_the_stack_window(rt: HostRuntime) -> Result<(), Fail> {
 }
 
 /// Entry, address and SREG; the answer, and SREG and COUNT then. QUANTUM gives r24 and SREG back.
+const ENDS: [(u16, u16, u8, Served, u8, u8); 9] = [
+    (SELF, 7, 0x7F, Served::Stopped(Stop::Halted(7)), 0x7F, 3),
+    (
+        SELF,
+        7,
+        0x80,
+        Served::Goto {
+            target: 7,
+            stub: None,
+        },
+        0x80,
+        2,
+    ),
+    (FAULT, 8, 0, Served::Stopped(Stop::Asleep(8)), 0, 3),
+    (FAULT, 9, 0, Served::Stopped(Stop::SelfProgram(9)), 0, 3),
+    (FAULT, 10, 0, Served::Stopped(Stop::Illegal(10)), 0, 3),
+    (FAULT, 11, 0, Served::Stopped(Stop::Io(11, 0x3C)), 0, 3),
+    (FAULT, 12, 0, Served::Stopped(Stop::Io(12, 0x39)), 0, 3),
+    (
+        QUANTUM,
+        30,
+        0,
+        Served::Goto {
+            target: 30,
+            stub: None,
+        },
+        0x15,
+        3,
+    ),
+    (
+        BRIDGE,
+        31,
+        0,
+        Served::Goto {
+            target: 31,
+            stub: Some(61),
+        },
+        0,
+        3,
+    ),
+];
+
 #[test]
 fn ends_and_steps_of_the_kernel(rt: HostRuntime) -> Result<(), Fail> {
-    let stopped = Served::Stopped;
-    let bridge = Served::Goto {
-        target: 31,
-        stub: Some(61),
-    };
-    let rows = [
-        (SELF, 7, 0x7F, stopped(Stop::Halted(7)), 0x7F, 3),
-        (SELF, 7, 0x80, to(7), 0x80, 2),
-        (FAULT, 8, 0, stopped(Stop::Asleep(8)), 0, 3),
-        (FAULT, 9, 0, stopped(Stop::SelfProgram(9)), 0, 3),
-        (FAULT, 10, 0, stopped(Stop::Illegal(10)), 0, 3),
-        (FAULT, 11, 0, stopped(Stop::Io(11, 0x3C)), 0, 3),
-        (FAULT, 12, 0, stopped(Stop::Io(12, 0x39)), 0, 3),
-        (QUANTUM, 30, 0, to(30), 0x15, 3),
-        (BRIDGE, 31, 0, bridge, 0, 3),
-    ];
     let mut k = kernel_at_boot(&rt, 0)?;
-    for (entry, at, sreg, want, sreg_after, count) in rows {
+    for (entry, at, sreg, want, sreg_after, count) in ENDS {
         let call = Call {
             entry,
             at,
@@ -231,7 +316,7 @@ fn ends_and_steps_of_the_kernel(rt: HostRuntime) -> Result<(), Fail> {
         };
         is_served(&rt, &mut k, call, want, (0, sreg_after, count));
     }
-    assert_eq!(rt; k.mote.cpu.r[24], 0x5A);
+    assert!(rt; k.mote.cpu.r[24] == 0x5A);
     Ok(())
 }
 
@@ -252,9 +337,9 @@ fn an_interrupt_ends_a_sleep(rt: HostRuntime) -> Result<(), Fail> {
         Served::Stopped(Stop::Asleep(8)),
         (0x10FF, 0x80, 3),
     );
-    assert_eq!(rt; taken(&rt, &mut k, 9, 0x10FF), Taken::Nothing);
-    assert_eq!(rt; k.mote.devices.polls(), 0);
-    assert_eq!(rt; k.mote.devices.write(0x59, 0x24), Ok(None));
+    assert!(rt; taken(&rt, &mut k, 9, 0x10FF) == Taken::Nothing);
+    assert!(rt; k.mote.devices.polls() == 0);
+    assert!(rt; k.mote.devices.write(0x59, 0x24) == Ok(None));
     is_served(
         &rt,
         &mut k,
@@ -262,23 +347,16 @@ fn an_interrupt_ends_a_sleep(rt: HostRuntime) -> Result<(), Fail> {
         Served::Woke { target: 9 },
         (0x10FF, 0x80, 3),
     );
-    assert_eq!(rt;
-        (k.mote.devices.polls(), k.mote.devices.enabled()),
-        (7, 0x24)
-    );
-    assert_eq!(rt;
-        taken(&rt, &mut k, 9, 0x0D00),
-        Taken::Stopped(Stop::Stack(9, 0x0CFF))
-    );
-    assert_eq!(rt; left(&k), (0x0D00, 0x80, 3));
-    assert_eq!(rt; taken(&rt, &mut k, 0x1234, 0x10FF), Taken::Vector(6));
-    assert_eq!(rt; left(&k), (0x10FD, 0x00, 3));
-    assert_eq!(rt;
-        (k.mote.sram.byte(0x10FF), k.mote.sram.byte(0x10FE)),
-        (0x34, 0x12)
-    );
-    assert_eq!(rt; k.mote.devices.enabled(), 0x20);
-    assert_eq!(rt; taken(&rt, &mut k, 6, 0x10FD), Taken::Nothing);
+    assert!(rt; k.mote.devices.polls() == 7);
+    assert!(rt; k.mote.devices.enabled() == 0x24);
+    assert!(rt; taken(&rt, &mut k, 9, 0x0D00) == Taken::Stopped(Stop::Stack(9, 0x0CFF)));
+    assert!(rt; left(&k) == (0x0D00, 0x80, 3));
+    assert!(rt; taken(&rt, &mut k, 0x1234, 0x10FF) == Taken::Vector(6));
+    assert!(rt; left(&k) == (0x10FD, 0x00, 3));
+    assert!(rt; k.mote.sram.byte(0x10FF) == 0x34);
+    assert!(rt; k.mote.sram.byte(0x10FE) == 0x12);
+    assert!(rt; k.mote.devices.enabled() == 0x20);
+    assert!(rt; taken(&rt, &mut k, 6, 0x10FD) == Taken::Nothing);
     Ok(())
 }
 
@@ -307,38 +385,53 @@ fn accessed(rt: &impl Abort, k: &mut Kernel, at: u16, pointer: u16, sp: u16) -> 
 }
 
 /// Address, pointer and SP; the answer, r17 and SP then. One page has a slot.
+const ACCESSES: [(u16, u16, u16, Served, u8, u16); 18] = [
+    (13, 0, 0, ON, 0, 0),
+    (15, 0, 0, ON, 0x77, 0),
+    (
+        17,
+        0x0200,
+        0,
+        Served::Stopped(Stop::SwapFull(17, 0x0200)),
+        0,
+        0,
+    ),
+    (17, 0x0D00, 0, ON, 0, 0),
+    (18, 0x00FF, 0, ON, 0x77, 0),
+    (23, 0x0D01, 0, ON, 0x77, 0),
+    (24, 0x10FF, 0, ON, 0, 0),
+    (25, 0x1100, 0, ON, 0x77, 0),
+    (26, 0x00FF, 0, Served::Stopped(Stop::Io(26, 0x00FF)), 0, 0),
+    (26, 0x01FF, 0, ON, 0, 0),
+    (27, 0x0200, 0, ON, 0x77, 0),
+    (21, 0, 0x1234, ON, 0x34, 0x1234),
+    (22, 0, 0x1234, ON, 0, 0x7734),
+    (
+        0,
+        0,
+        0x0CFF,
+        Served::Stopped(Stop::Stack(0, 0x0CFF)),
+        0,
+        0x0CFF,
+    ),
+    (0, 0, 0x10FF, ON, 0, 0x10FE),
+    (1, 0, 0x10FE, ON, 0, 0x10FF),
+    (19, 1, 0, ON, 0, 0),
+    (20, 1, 0, ON, 0, 0),
+];
+
 #[test]
 fn loads_and_stores_reach_the_programs_memory(rt: HostRuntime) -> Result<(), Fail> {
-    let stopped = Served::Stopped;
-    let on = Served::Resume(None);
-    let rows = [
-        (13, 0, 0, on, 0, 0),
-        (15, 0, 0, on, 0x77, 0),
-        (17, 0x0200, 0, stopped(Stop::SwapFull(17, 0x0200)), 0, 0),
-        (17, 0x0D00, 0, on, 0, 0),
-        (18, 0x00FF, 0, on, 0x77, 0),
-        (23, 0x0D01, 0, on, 0x77, 0),
-        (24, 0x10FF, 0, on, 0, 0),
-        (25, 0x1100, 0, on, 0x77, 0),
-        (26, 0x00FF, 0, stopped(Stop::Io(26, 0x00FF)), 0, 0),
-        (26, 0x01FF, 0, on, 0, 0),
-        (27, 0x0200, 0, on, 0x77, 0),
-        (21, 0, 0x1234, on, 0x34, 0x1234),
-        (22, 0, 0x1234, on, 0, 0x7734),
-        (0, 0, 0x0CFF, outside(0, 0x0CFF), 0, 0x0CFF),
-        (0, 0, 0x10FF, on, 0, 0x10FE),
-        (1, 0, 0x10FE, on, 0, 0x10FF),
-        (19, 1, 0, on, 0, 0),
-        (20, 1, 0, on, 0, 0),
-    ];
     let mut k = kernel_at_boot(&rt, 1)?;
-    for (at, pointer, sp, want, r17, sp_after) in rows {
-        assert_eq!(rt; accessed(&rt, &mut k, at, pointer, sp), want, "{at}");
-        assert_eq!(rt; left(&k), (sp_after, 0, 3), "{at}");
-        let pc = if want == on { at.wrapping_add(33) } else { MEM };
-        assert_eq!(rt; (k.mote.cpu.r[17], k.mote.cpu.pc), (r17, pc), "{at}");
+    for (at, pointer, sp, want, r17, sp_after) in ACCESSES {
+        assert!(rt; accessed(&rt, &mut k, at, pointer, sp) == want, "{at}");
+        assert!(rt; left(&k) == (sp_after, 0, 3), "{at}");
+        let pc = if want == ON { at.wrapping_add(33) } else { MEM };
+        assert!(rt; k.mote.cpu.r[17] == r17, "{at}");
+        assert!(rt; k.mote.cpu.pc == pc, "{at}");
     }
-    assert_eq!(rt; (k.mote.cpu.r[18], k.mote.cpu.r[20]), (0x93, 0x93));
+    assert!(rt; k.mote.cpu.r[18] == 0x93);
+    assert!(rt; k.mote.cpu.r[20] == 0x93);
     Ok(())
 }
 
@@ -348,7 +441,8 @@ fn no_program_byte_stands_behind_the_image(rt: HostRuntime) -> Result<(), Fail> 
     let mut k = kernel_at_boot(&rt, 0)?;
     k.mote.devices.set_rampz(1);
     let answer = accessed(&rt, &mut k, 20, 1, 0);
-    assert_eq!(rt; answer, Served::Resume(None));
-    assert_eq!(rt; (k.mote.cpu.r[20], k.mote.sram.count()), (0xFF, 3));
+    assert!(rt; answer == Served::Resume(None));
+    assert!(rt; k.mote.cpu.r[20] == 0xFF);
+    assert!(rt; k.mote.sram.count() == 3);
     Ok(())
 }

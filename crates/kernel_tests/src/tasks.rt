@@ -1,11 +1,10 @@
 //! Several tasks: their scripts, their image, their boot, and a change of the task.
 
 use hex_image::Image;
-use input_script::{Event, Input, ScriptError, ScriptFault};
+use input_script::{Input, ScriptError, ScriptFault};
 use std::alloc::Global;
 use std::process::Abort;
 use std::test::Fail;
-use tk_io::MemSink;
 use tk_tasks::{Tasks, misplaced_word, read_scripts, task_image};
 
 /// The answer to a script of two tasks that is refused.
@@ -20,56 +19,52 @@ fn each_task_has_its_own_events(rt: HostRuntime) -> Result<(), Fail> {
     let scripts = read_scripts(rt.alloc(), text, 2)
         .ok()
         .ok_or("the script is good")?;
-    assert_eq!(rt; scripts.len(), 2);
+    assert!(rt; scripts.len() == 2);
     let [first, second] = scripts.as_slice() else {
         return Err("there are two scripts".into());
     };
-    assert_eq!(rt;
-        first.events(),
-        [Event {
-            at: 9,
-            input: Input::Int(3)
-        }]
-        .as_slice()
-    );
-    assert_eq!(rt; second.events().len(), 2);
+    let [event] = first.events() else {
+        return Err("the first script has one event".into());
+    };
+    assert!(rt; event.at == 9);
+    assert!(rt; event.input == Input::Int(3));
+    assert!(rt; second.events().len() == 2);
     Ok(())
 }
 
+/// Scripts of two tasks, the line that is refused, and why.
+const FAULTY: [(&[u8], u32, ScriptFault); 13] = [
+    (b"at 5 int 3", 1, ScriptFault::Form),
+    (b"task 2 at 5 int 3", 1, ScriptFault::Form),
+    (b"task 4 at 5 int 3", 1, ScriptFault::Form),
+    (b"task 0  at 5 int 3", 1, ScriptFault::Form),
+    (b"task 0 ", 1, ScriptFault::Form),
+    (b"task 0 # no", 1, ScriptFault::Form),
+    (b"task 0 at 5 int 3\r\r\n", 1, ScriptFault::Form),
+    (b"fail flash 3", 1, ScriptFault::Form),
+    (b"\ntask 0 fail flash 3", 2, ScriptFault::Form),
+    (
+        b"task 0 at 5 int 3\ntask 1 at 2 int 0\ntask 0 at 4 int 0",
+        3,
+        ScriptFault::Order,
+    ),
+    (
+        b"task 1 at 1 adc 0x400\ntask 0 at no",
+        1,
+        ScriptFault::Range,
+    ),
+    (
+        b"task 1 at 1 int 0\ntask 0 at no\ntask 1 at 0 int 0",
+        2,
+        ScriptFault::Form,
+    ),
+    (b"task 1 at 4294967296 int 0", 1, ScriptFault::Range),
+];
+
 #[test]
 fn the_first_faulty_line_of_all(rt: HostRuntime) {
-    let texts: [(&[u8], u32, ScriptFault); 13] = [
-        (b"at 5 int 3", 1, ScriptFault::Form),
-        (b"task 2 at 5 int 3", 1, ScriptFault::Form),
-        (b"task 4 at 5 int 3", 1, ScriptFault::Form),
-        (b"task 0  at 5 int 3", 1, ScriptFault::Form),
-        (b"task 0 ", 1, ScriptFault::Form),
-        (b"task 0 # no", 1, ScriptFault::Form),
-        (b"task 0 at 5 int 3\r\r\n", 1, ScriptFault::Form),
-        (b"fail flash 3", 1, ScriptFault::Form),
-        (b"\ntask 0 fail flash 3", 2, ScriptFault::Form),
-        (
-            b"task 0 at 5 int 3\ntask 1 at 2 int 0\ntask 0 at 4 int 0",
-            3,
-            ScriptFault::Order,
-        ),
-        (
-            b"task 1 at 1 adc 0x400\ntask 0 at no",
-            1,
-            ScriptFault::Range,
-        ),
-        (
-            b"task 1 at 1 int 0\ntask 0 at no\ntask 1 at 0 int 0",
-            2,
-            ScriptFault::Form,
-        ),
-        (b"task 1 at 4294967296 int 0", 1, ScriptFault::Range),
-    ];
-    for (text, line, fault) in texts {
-        assert_eq!(rt;
-            refusal(&rt, rt.alloc(), text),
-            Some(ScriptError::Bad { line, fault })
-        );
+    for (text, line, fault) in FAULTY {
+        assert!(rt; refusal(&rt, rt.alloc(), text) == Some(ScriptError::Bad { line, fault }));
     }
 }
 
@@ -108,7 +103,7 @@ fn words_that_no_task_has(rt: HostRuntime) -> Result<(), Fail> {
         (8192, 3, None),
     ];
     for (first, count, address) in places {
-        assert_eq!(rt; misplaced(rt.alloc(), first, count)?, address);
+        assert!(rt; misplaced(rt.alloc(), first, count)? == address);
     }
     Ok(())
 }
@@ -117,10 +112,10 @@ fn words_that_no_task_has(rt: HostRuntime) -> Result<(), Fail> {
 fn an_image_is_padded_or_cut(rt: HostRuntime) -> Result<(), Fail> {
     let image = Image::from_words(rt.alloc(), &[0xE00F, 0xCFFF])?;
     let whole = task_image(rt.alloc(), &image, 2)?;
-    assert_eq!(rt; whole.len_words(), 8192);
-    assert_eq!(rt; whole.word(1), 0xCFFF);
-    assert_eq!(rt; whole.word(2), 0xFFFF);
-    assert_eq!(rt; task_image(rt.alloc(), &whole, 1)?.len_words(), 4096);
+    assert!(rt; whole.len_words() == 8192);
+    assert!(rt; whole.word(1) == 0xCFFF);
+    assert!(rt; whole.word(2) == 0xFFFF);
+    assert!(rt; task_image(rt.alloc(), &whole, 1)?.len_words() == 4096);
     Ok(())
 }
 
@@ -139,82 +134,25 @@ fn two_tasks(alloc: Global, words: &[u16]) -> Result<Tasks, Fail> {
 #[test]
 fn a_task_comes_back_as_it_was(rt: HostRuntime) -> Result<(), Fail> {
     let mut tasks = two_tasks(rt.alloc(), &[0xE00F, 0xCFFF])?;
-    assert_eq!(rt; tasks.running, 0);
+    assert!(rt; tasks.running == 0);
     let second = tasks.tasks.pop().ok_or("there are two tasks")?;
-    assert_eq!(rt; second.at, 0x1000);
-    assert_eq!(rt; second.owed, Some(0x1000));
+    assert!(rt; second.at == 0x1000);
+    assert!(rt; second.owed == Some(0x1000));
     let mut parked = second.parked.ok_or("the second task is parked")?;
-    assert_eq!(rt; parked.low[0], 200);
+    assert!(rt; parked.low[0] == 200);
     let mote = &mut tasks.kernel.mote;
     mote.cpu.r[0] = 9;
     mote.sram.set(0x0141, 1);
     mote.sram.set(0x0142, 5);
     mote.sram.set(0x0D00, 7);
     parked.exchange(mote);
-    assert_eq!(rt; mote.cpu.r[0], 0);
-    assert_eq!(rt; mote.sram.byte(0x0141), 0);
-    assert_eq!(rt; mote.sram.byte(0x0142), 5);
-    assert_eq!(rt; mote.sram.byte(0x0D00), 0);
+    assert!(rt; mote.cpu.r[0] == 0);
+    assert!(rt; mote.sram.byte(0x0141) == 0);
+    assert!(rt; mote.sram.byte(0x0142) == 5);
+    assert!(rt; mote.sram.byte(0x0D00) == 0);
     parked.exchange(mote);
-    assert_eq!(rt; mote.cpu.r[0], 9);
-    assert_eq!(rt; mote.sram.byte(0x0141), 1);
-    assert_eq!(rt; mote.sram.byte(0x0D00), 7);
-    Ok(())
-}
-
-/// An image of two tasks that have these words.
-fn image_of_two(alloc: Global, first: &[u16; 5], second: &[u16; 5]) -> Result<Image, Fail> {
-    let mut words = [0xFFFF; 4101];
-    for i in 0..5usize {
-        words[i] = first[i];
-        words[4096 + i] = second[i];
-    }
-    image_of(alloc, &words)
-}
-
-/// What two tasks print, and the tasks behind their run.
-fn run_two(alloc: Global, image: &Image, quantum: u8) -> Result<(MemSink, Tasks), Fail> {
-    let scripts = read_scripts(alloc, b"", 2)
-        .ok()
-        .ok_or("the script is good")?;
-    if quantum == 0 || misplaced_word(image, 2).is_some() {
-        return Err("no tasks can run".into());
-    }
-    let mut tasks = Tasks::boot(alloc, image, scripts, quantum, 32)?;
-    let mut out = MemSink::new(alloc, 4096)?;
-    if tasks.run(1_000_000, &mut out).is_err() {
-        return Err("the lines have room".into());
-    }
-    Ok((out, tasks))
-}
-
-#[test]
-fn two_tasks_one_behind_the_other(rt: HostRuntime) -> Result<(), Fail> {
-    let first = [0xE00F, 0xBB0B, 0xCFFF, 0xFFFF, 0xFFFF];
-    let second = [0xE10F, 0xBB0B, 0xCFFF, 0xFFFF, 0xFFFF];
-    let image = image_of_two(rt.alloc(), &first, &second)?;
-    let (out, tasks) = run_two(rt.alloc(), &image, 255)?;
-    let text =
-        b"task 0 PORTA 0x0F\ntask 0 halted 0x0002 steps 2 checkpoints 0\ntask 1 PORTA 0x1F\ntask 1 halted 0x1002 steps 2 checkpoints 0\n";
-    assert_eq!(rt; out.taken(), text.as_slice());
-    assert_eq!(rt;
-        (tasks.natural, tasks.entries, tasks.pages, tasks.switches),
-        (6, 2, 2, 1)
-    );
-    Ok(())
-}
-
-#[test]
-fn two_tasks_in_turn(rt: HostRuntime) -> Result<(), Fail> {
-    let words = [0xE002, 0xBB0B, 0x950A, 0xF7E9, 0xCFFF];
-    let image = image_of_two(rt.alloc(), &words, &words)?;
-    let (out, tasks) = run_two(rt.alloc(), &image, 1)?;
-    let text =
-        b"task 0 PORTA 0x02\ntask 1 PORTA 0x02\ntask 0 PORTA 0x01\ntask 0 halted 0x0004 steps 7 checkpoints 1\ntask 1 PORTA 0x01\ntask 1 halted 0x1004 steps 7 checkpoints 1\n";
-    assert_eq!(rt; out.taken(), text.as_slice());
-    assert_eq!(rt;
-        (tasks.natural, tasks.entries, tasks.pages, tasks.switches),
-        (34, 4, 2, 3)
-    );
+    assert!(rt; mote.cpu.r[0] == 9);
+    assert!(rt; mote.sram.byte(0x0141) == 1);
+    assert!(rt; mote.sram.byte(0x0D00) == 7);
     Ok(())
 }

@@ -2,7 +2,7 @@
 
 use arrayvec::ArrayVec;
 use avr_decode::decode;
-use avr_isa::{Form, Instr};
+use avr_isa::Form;
 use nat_template::{TemplateShape, closing, resolved, shape, template};
 
 /// A crossing stub to address 1.
@@ -17,23 +17,25 @@ const COUNTED_BRANCH: [u16; 24] = [
     0xF041, 0x9180, 0x0102, 0xBF8F, 0x9180, 0x0101, 0x940E, 0xF000, 1, 0x940E, 0xF002, 1,
 ];
 
+/// An address, a word and the one behind it, and the template.
+const STUBS: [(u16, u16, u16, &[u16]); 10] = [
+    (0, 0xE003, 0x950A, &[0xE003]),
+    (16, 0x93EF, 0xFFFF, &[0x940E, 0xF004, 16]),
+    (16, 0xB70D, 0xFFFF, &[0x940E, 0xF004, 16]),
+    (0, 0x940C, 0x0046, &[0x940E, 0xF000, 0x46]),
+    (8, 0xD001, 0x0000, &[0x940E, 0xF006, 8, 0x940E, 0xF000, 10]),
+    (11, 0x9508, 0xFFFF, &[0x940E, 0xF008, 11]),
+    (2, 0x9409, 0x0000, &[0x940E, 0xF00A, 2]),
+    (3, 0xCFFF, 0xFFFF, &[0x940E, 0xF00C, 3]),
+    (0, 0x9588, 0xFFFF, &[0x940E, 0xF00E, 0]),
+    (0, 0xBB0C, 0xFFFF, &[0x940E, 0xF00E, 0]),
+];
+
 /// One template of each shape, beside branch and skip.
 #[test]
 fn templates_of_one_call_or_stub(rt: HostRuntime) {
-    let rows: [(u16, u16, u16, &[u16]); 10] = [
-        (0, 0xE003, 0x950A, &[0xE003]),
-        (16, 0x93EF, 0xFFFF, &[0x940E, 0xF004, 16]),
-        (16, 0xB70D, 0xFFFF, &[0x940E, 0xF004, 16]),
-        (0, 0x940C, 0x0046, &[0x940E, 0xF000, 0x46]),
-        (8, 0xD001, 0x0000, &[0x940E, 0xF006, 8, 0x940E, 0xF000, 10]),
-        (11, 0x9508, 0xFFFF, &[0x940E, 0xF008, 11]),
-        (2, 0x9409, 0x0000, &[0x940E, 0xF00A, 2]),
-        (3, 0xCFFF, 0xFFFF, &[0x940E, 0xF00C, 3]),
-        (0, 0x9588, 0xFFFF, &[0x940E, 0xF00E, 0]),
-        (0, 0xBB0C, 0xFFFF, &[0x940E, 0xF00E, 0]),
-    ];
-    for (pc, first, second, words) in rows {
-        assert_eq!(rt; template(pc, first, second, 1).as_slice(), words);
+    for (pc, first, second, words) in STUBS {
+        assert!(rt; template(pc, first, second, 1).as_slice() == words);
     }
 }
 
@@ -91,20 +93,22 @@ fn with_word(template: &[u16], place: usize, word: u16) -> ArrayVec<u16, 64> {
     words
 }
 
+/// The word with r0, the template with r16, and the place and the word of its access with r0.
+const INLINE: [(u16, &[u16], usize, u16); 4] = [
+    (0x920F, &PUSH, 15, 0x8200),
+    (0x900F, &POP, 16, 0x8000),
+    (0x8009, &LOAD, 13, 0x8000),
+    (0x8209, &STORE, 13, 0x8200),
+];
+
 /// Every register but Z's: only the access differs.
 #[test]
 fn each_register_but_those_of_z_is_inline(rt: HostRuntime) {
-    let rows: [(u16, &[u16], usize, u16); 4] = [
-        (0x920F, &PUSH, 15, 0x8200),
-        (0x900F, &POP, 16, 0x8000),
-        (0x8009, &LOAD, 13, 0x8000),
-        (0x8209, &STORE, 13, 0x8200),
-    ];
-    for (first, template, place, access) in rows {
+    for (first, template, place, access) in INLINE {
         for r in 0..30u16 {
-            assert_eq!(rt;
-                inline(first | r << 4).as_slice(),
-                with_word(template, place, access | r << 4).as_slice(),
+            assert!(rt;
+                inline(first | r << 4).as_slice()
+                    == with_word(template, place, access | r << 4).as_slice(),
                 "{first} r{r}"
             );
         }
@@ -122,10 +126,10 @@ fn a_displacement_is_added(rt: HostRuntime) {
     for (from_y, to_y, add) in rows {
         let mut load = LOAD;
         load[8] = add;
-        assert_eq!(rt; inline(from_y).as_slice(), load.as_slice());
+        assert!(rt; inline(from_y).as_slice() == load.as_slice());
         let mut store = STORE;
         store[8] = add;
-        assert_eq!(rt; inline(to_y).as_slice(), store.as_slice());
+        assert!(rt; inline(to_y).as_slice() == store.as_slice());
     }
 }
 
@@ -138,9 +142,8 @@ fn every_other_access_calls_the_kernel(rt: HostRuntime) {
         0x930A, 0x910C, 0x9100, 0x9300,
     ];
     for first in calls {
-        assert_eq!(rt;
-            inline(first).as_slice(),
-            [0x940E, 0xF004, 0x1234].as_slice(),
+        assert!(rt;
+            inline(first).as_slice() == [0x940E, 0xF004, 0x1234].as_slice(),
             "{first}"
         );
     }
@@ -150,22 +153,19 @@ fn every_other_access_calls_the_kernel(rt: HostRuntime) {
 #[test]
 fn a_branch_and_a_skip_pass_over_a_stub(rt: HostRuntime) {
     let branch = template(2, 0xF7F1, 0xCFFF, 1);
-    assert_eq!(rt; branch.as_slice(), COUNTED_BRANCH.as_slice());
+    assert!(rt; branch.as_slice() == COUNTED_BRANCH.as_slice());
     let skip = template(0, 0x1000, 0x940C, 2);
-    assert_eq!(rt;
-        skip.as_slice(),
-        [0x1000, 0xC003, 0x940E, 0xF000, 3].as_slice()
-    );
+    assert!(rt; skip.as_slice() == [0x1000, 0xC003, 0x940E, 0xF000, 3].as_slice());
 }
 
 /// A step back to the same address, and one to the next.
 #[test]
 fn a_closing_counts_a_crossing(rt: HostRuntime) {
-    assert_eq!(rt; closing(1, 1).as_slice(), COUNTED.as_slice());
-    assert_eq!(rt; closing(0, 1).as_slice(), [0x940E, 0xF000, 1].as_slice());
-    assert_eq!(rt; closing(127, 128).len(), 22);
-    assert_eq!(rt; resolved(0x4007), [0x940C, 0x4007]);
-    assert_eq!(rt; shape(0, None), TemplateShape::Fault);
+    assert!(rt; closing(1, 1).as_slice() == COUNTED.as_slice());
+    assert!(rt; closing(0, 1).as_slice() == [0x940E, 0xF000, 1].as_slice());
+    assert!(rt; closing(127, 128).len() == 22);
+    assert!(rt; resolved(0x4007) == [0x940C, 0x4007]);
+    assert!(rt; shape(0, None) == TemplateShape::Fault);
 }
 
 /// The name of a form. One that is added is to be named here, and to have a row in the test below.
@@ -223,61 +223,65 @@ fn name(form: &Form) -> &'static str {
 
 /// Each form once, with registers that a program may access: how the instruction with this first word is
 /// rewritten at address 0. The second word is 0x0046.
+const SHAPES: [(&str, u16, TemplateShape); 47] = [
+    ("Nop", 0x0000, TemplateShape::Native),
+    ("Movw", 0x0112, TemplateShape::Native),
+    ("Muls", 0x0201, TemplateShape::Native),
+    ("Product", 0x0301, TemplateShape::Native),
+    ("Two", 0x0C12, TemplateShape::Native),
+    ("Cpse", 0x1001, TemplateShape::Skip),
+    ("Imm", 0xE003, TemplateShape::Native),
+    ("Word", 0x9601, TemplateShape::Native),
+    ("One", 0x950A, TemplateShape::Native),
+    ("LoadOff", 0x8059, TemplateShape::Mem),
+    ("StoreOff", 0x8259, TemplateShape::Mem),
+    ("LoadAt", 0x905C, TemplateShape::Mem),
+    ("StoreAt", 0x925C, TemplateShape::Mem),
+    ("Lds", 0x9050, TemplateShape::Mem),
+    ("Sts", 0x9250, TemplateShape::Mem),
+    ("Pop", 0x910F, TemplateShape::Mem),
+    ("Push", 0x930F, TemplateShape::Mem),
+    ("Lpm0", 0x95C8, TemplateShape::Mem),
+    ("Elpm0", 0x95D8, TemplateShape::Mem),
+    ("Lpm", 0x9054, TemplateShape::Mem),
+    ("Elpm", 0x9056, TemplateShape::Mem),
+    ("InIo", 0xB300, TemplateShape::Native),
+    ("OutIo", 0xBB08, TemplateShape::Native),
+    ("Cbi", 0x98C0, TemplateShape::Native),
+    ("Sbic", 0x9980, TemplateShape::Skip),
+    ("Sbi", 0x9AC0, TemplateShape::Native),
+    ("Sbis", 0x9B80, TemplateShape::Skip),
+    ("Bld", 0xF850, TemplateShape::Native),
+    ("Bst", 0xFA50, TemplateShape::Native),
+    ("Sbrc", 0xFC50, TemplateShape::Skip),
+    ("Sbrs", 0xFE50, TemplateShape::Skip),
+    ("Bset", 0x9408, TemplateShape::Native),
+    ("Bclr", 0x9488, TemplateShape::Native),
+    ("Brbs", 0xF009, TemplateShape::Branch),
+    ("Brbc", 0xF409, TemplateShape::Branch),
+    ("Rjmp", 0xC001, TemplateShape::Jump),
+    ("Rcall", 0xD001, TemplateShape::Call),
+    ("Jmp", 0x940C, TemplateShape::Jump),
+    ("Call", 0x940E, TemplateShape::Call),
+    ("Ijmp", 0x9409, TemplateShape::Ind),
+    ("Icall", 0x9509, TemplateShape::Ind),
+    ("Ret", 0x9508, TemplateShape::Ret),
+    ("Reti", 0x9518, TemplateShape::Ret),
+    ("Sleep", 0x9588, TemplateShape::Fault),
+    ("Break", 0x9598, TemplateShape::Native),
+    ("Wdr", 0x95A8, TemplateShape::Native),
+    ("Spm", 0x95E8, TemplateShape::Fault),
+];
+
 #[test]
 fn each_form_has_a_shape(rt: HostRuntime) {
-    let rows: [(&str, u16, TemplateShape); 47] = [
-        ("Nop", 0x0000, TemplateShape::Native),
-        ("Movw", 0x0112, TemplateShape::Native),
-        ("Muls", 0x0201, TemplateShape::Native),
-        ("Product", 0x0301, TemplateShape::Native),
-        ("Two", 0x0C12, TemplateShape::Native),
-        ("Cpse", 0x1001, TemplateShape::Skip),
-        ("Imm", 0xE003, TemplateShape::Native),
-        ("Word", 0x9601, TemplateShape::Native),
-        ("One", 0x950A, TemplateShape::Native),
-        ("LoadOff", 0x8059, TemplateShape::Mem),
-        ("StoreOff", 0x8259, TemplateShape::Mem),
-        ("LoadAt", 0x905C, TemplateShape::Mem),
-        ("StoreAt", 0x925C, TemplateShape::Mem),
-        ("Lds", 0x9050, TemplateShape::Mem),
-        ("Sts", 0x9250, TemplateShape::Mem),
-        ("Pop", 0x910F, TemplateShape::Mem),
-        ("Push", 0x930F, TemplateShape::Mem),
-        ("Lpm0", 0x95C8, TemplateShape::Mem),
-        ("Elpm0", 0x95D8, TemplateShape::Mem),
-        ("Lpm", 0x9054, TemplateShape::Mem),
-        ("Elpm", 0x9056, TemplateShape::Mem),
-        ("InIo", 0xB300, TemplateShape::Native),
-        ("OutIo", 0xBB08, TemplateShape::Native),
-        ("Cbi", 0x98C0, TemplateShape::Native),
-        ("Sbic", 0x9980, TemplateShape::Skip),
-        ("Sbi", 0x9AC0, TemplateShape::Native),
-        ("Sbis", 0x9B80, TemplateShape::Skip),
-        ("Bld", 0xF850, TemplateShape::Native),
-        ("Bst", 0xFA50, TemplateShape::Native),
-        ("Sbrc", 0xFC50, TemplateShape::Skip),
-        ("Sbrs", 0xFE50, TemplateShape::Skip),
-        ("Bset", 0x9408, TemplateShape::Native),
-        ("Bclr", 0x9488, TemplateShape::Native),
-        ("Brbs", 0xF009, TemplateShape::Branch),
-        ("Brbc", 0xF409, TemplateShape::Branch),
-        ("Rjmp", 0xC001, TemplateShape::Jump),
-        ("Rcall", 0xD001, TemplateShape::Call),
-        ("Jmp", 0x940C, TemplateShape::Jump),
-        ("Call", 0x940E, TemplateShape::Call),
-        ("Ijmp", 0x9409, TemplateShape::Ind),
-        ("Icall", 0x9509, TemplateShape::Ind),
-        ("Ret", 0x9508, TemplateShape::Ret),
-        ("Reti", 0x9518, TemplateShape::Ret),
-        ("Sleep", 0x9588, TemplateShape::Fault),
-        ("Break", 0x9598, TemplateShape::Native),
-        ("Wdr", 0x95A8, TemplateShape::Native),
-        ("Spm", 0x95E8, TemplateShape::Fault),
-    ];
-    for (form, first, expected) in rows {
+    for (form, first, expected) in SHAPES {
         let instr = decode(first, 0x0046);
-        let instr = instr.as_ref();
-        assert_eq!(rt; instr.map(Instr::form).map(name), Some(form));
-        assert_eq!(rt; shape(0, instr), expected, "{form}");
+        let named = match &instr {
+            Some(instr) => name(instr.form()),
+            None => "no instruction",
+        };
+        assert!(rt; named == form);
+        assert!(rt; shape(0, instr.as_ref()) == expected, "{first}");
     }
 }

@@ -12,6 +12,6 @@ fn a_line_has_the_outputs_name_and_the_value(rt: HostRuntime) {
         (Port::Uart0, 0xA9, b"UART0 0xA9\n"),
     ];
     for (port, value, line) in rows {
-        assert_eq!(rt; device_line(Line { port, value }).as_slice(), line);
+        assert!(rt; device_line(Line { port, value }).as_slice() == line);
     }
 }

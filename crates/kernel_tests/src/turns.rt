@@ -38,7 +38,7 @@ fn first_write(rt: &HostRuntime, words: &[u16]) -> Result<(FlakySink, bool), Fai
 fn lines_up_to_step_65536_go_out_by_one_write(rt: HostRuntime) -> Result<(), Fail> {
     let (out, whole) = first_write(&rt, &IN_TURN)?;
     assert!(rt; whole);
-    assert_eq!(rt; out.taken(), b"PORTA 0x00\nPORTA 0x00\n".as_slice());
+    assert!(rt; out.taken() == b"PORTA 0x00\nPORTA 0x00\n".as_slice());
     Ok(())
 }
 
@@ -46,6 +46,6 @@ fn lines_up_to_step_65536_go_out_by_one_write(rt: HostRuntime) -> Result<(), Fai
 fn lines_of_step_65536_do_not_wait_for_the_next(rt: HostRuntime) -> Result<(), Fail> {
     let (out, whole) = first_write(&rt, &ACROSS)?;
     assert!(rt; !whole);
-    assert_eq!(rt; out.taken(), b"PORTA 0x00\n".as_slice());
+    assert!(rt; out.taken() == b"PORTA 0x00\n".as_slice());
     Ok(())
 }

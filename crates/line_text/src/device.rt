@@ -3,8 +3,8 @@ ghost use Rattle.std.specs.Prelude.{◌≡◌, ◌≤◌, codes, length};
 ghost use Rattle.arrayvec.specs.ArrayVec.{array_vec_len};
 ghost use Rattle.kernel_entry.specs.Texts.{line_text, port_name};
 
-use crate::pieces::{Text, push, push_byte};
 use mote_devices::{Line, Port};
+use text_pieces::{Text, push, push_byte};
 
 /// The name of the output, and the value that was written.
 #[tactic(auto, unfolding(kernel_entry::specs::Texts::line_text))]

@@ -1,4 +1,4 @@
-//! The text of a printed line, built piece by piece, and lines that are gathered so that many go out by one write.
+//! The lines of a run, and lines that are gathered so that many go out by one write.
 //!
 //! ```rust
 //! let line = device_line(Line { port: Port::PortA, value: 0x0F });
@@ -11,17 +11,17 @@
 //! ```
 //!
 //! What a device's line and a stop line say is defined in crate `kernel_entry` (`specs/Texts`); `specs/StopLines` adds the
-//! stop line where an operation on flash ends a run, and `specs/TaskLines` the front of a task's lines.
+//! stop line where an operation on flash ends a run. Lines are made of the pieces of crate `text_pieces`, whose `specs/Pieces`
+//! has the front of a task's lines too.
 #![tactic(auto)]
 
 mod device;
-mod pieces;
 mod sending;
 mod stop;
 mod task;
 
 pub use device::device_line;
-pub use pieces::{Text, push, push_address, push_byte, push_number, whole};
 pub use sending::{Gathered, add, send, send_in_turn, up_to_turn};
 pub use stop::stop_line;
 pub use task::{task_line, task_stop};
+pub use text_pieces::{Text, push, push_address, push_byte, push_number, whole};

@@ -5,8 +5,8 @@ ghost use Rattle.tk_io.specs.Faults.{HasCause};
 ghost use Rattle.tk_io.specs.Streams.{Puts};
 ghost use Rattle.line_text.specs.Gathering.{Gathers};
 
-use crate::pieces::Text;
 use arrayvec::ArrayVec;
+use text_pieces::Text;
 use tk_io::{Failed, Sink, put};
 
 /// How many bytes are gathered at most.

@@ -1,12 +1,12 @@
 //! The line that tells how a run ended.
 ghost use Rattle.std.specs.Prelude.{◌≡◌, ◌+◌, ◌≤◌, ◌++◌, codes, decimal, length};
 ghost use Rattle.arrayvec.specs.ArrayVec.{array_vec_len};
-ghost use Rattle.kernel_entry.specs.Texts.{address_text};
+ghost use Rattle.text_pieces.specs.Pieces.{address_text};
 ghost use Rattle.line_text.specs.StopLines.{end_line, how_text};
 
-use crate::pieces::{Text, push, push_address, push_number, whole};
 use kernel_entry::Stop;
 use step_laws::End;
+use text_pieces::{Text, push, push_address, push_number, whole};
 
 /// The stop line: how the run ended, and after how many steps and checkpoints.
 #[tactic(auto, unfolding(crate::specs::StopLines::end_line))]

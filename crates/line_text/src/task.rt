@@ -3,13 +3,13 @@ ghost use Rattle.std.specs.Prelude.{◌≡◌, ◌<◌, ◌≤◌, ◌++◌};
 ghost use Rattle.arrayvec.specs.ArrayVec.{array_vec_len};
 ghost use Rattle.kernel_entry.specs.Texts.{line_text};
 ghost use Rattle.line_text.specs.StopLines.{end_line};
-ghost use Rattle.line_text.specs.TaskLines.{task_text};
+ghost use Rattle.text_pieces.specs.Pieces.{task_text};
 
 use crate::device::device_line;
-use crate::pieces::{Text, push, whole};
 use crate::stop::stop_line;
 use mote_devices::Line;
 use step_laws::End;
+use text_pieces::{Text, push, whole};
 
 /// A task's device line.
 pub fn task_line(task: u8, line: Line) -> Text

@@ -10,7 +10,7 @@ use avr_isa::Instr;
 use mote_devices::Devices;
 
 /// A program's own words: so many from the first on. Outside them its run ends.
-#[derive(Clone, Copy, Debug, PartialEq, Eq)]
+#[derive(Clone, Copy)]
 pub struct Part {
     /// The word address where the program begins.
     pub first: u16,

@@ -32,7 +32,7 @@ pub struct IoStop {
 }
 
 /// The devices of the mote, with the script of their inputs.
-#[derive(Debug, Drop)]
+#[derive(Drop)]
 pub struct Devices {
     /// The bytes of the registers that store, by data address.
     registers: [u8; 256],

@@ -9,7 +9,7 @@ use std::marker::Model;
 
 /// What the devices have received. The serial port's queue is kept as places in the script: the bytes of
 /// the events taken, from place `serial` on.
-#[derive(Debug, Drop)]
+#[derive(Drop)]
 pub(crate) struct Inputs {
     pins: [u8; 4],
     converter: u16,
@@ -210,7 +210,7 @@ fn calls(input: Input, mask: u8) -> bool
 }
 
 /// A byte of the serial port's queue.
-#[derive(Clone, Copy, Debug, PartialEq, Eq)]
+#[derive(Clone, Copy)]
 pub(crate) struct Waiting {
     /// The place of the event that brought it.
     place: usize,

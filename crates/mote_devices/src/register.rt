@@ -6,7 +6,7 @@ ghost use Rattle.mote_devices.specs.Registers.{register_at as register_at_of, is
 use crate::line::Port;
 
 /// What a read and a write of a register do.
-#[derive(Clone, Copy, Debug, PartialEq, Eq)]
+#[derive(Clone, Copy)]
 pub enum Register {
     /// A read gives the last value written.
     Stored,

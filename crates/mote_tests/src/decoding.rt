@@ -22,46 +22,60 @@ fn told(form: &Form) -> (&'static str, i32, i32) {
     }
 }
 
-#[test]
-fn words_mean_their_instructions(rt: HostRuntime) {
-    let rows = [
-        (0x940C, 0x1234, ("jmp", 0x1234, 0)),
-        (0x9409, 0, ("ijmp", 0, 0)),
-        (0x9380, 0x0101, ("sts", 0x0101, 24)),
-        (0x9180, 0x0100, ("lds", 24, 0x0100)),
-        (0x940E, 0xF000, ("call", 0xF000, 0)),
-        (0xB78F, 0, ("in", 24, 0x3F)),
-        (0xBF8F, 0, ("out", 0x3F, 24)),
-        (0x958A, 0, ("dec", 24, 0)),
-        (0xF041, 0, ("brbs", 1, 8)),
-        (0xCFFF, 0, ("rjmp", -1, 0)),
-        (0xEC88, 0, ("ldi", 24, 200)),
-        (0xAC5F, 0, ("ldd y", 5, 63)),
-    ];
-    for (first, second, meaning) in rows {
-        let instr = decode(first, second);
-        assert_eq!(rt; instr.map(|i| told(i.form())), Some(meaning), "{first}");
+// What is told of the instruction of these words.
+fn meaning(first: u16, second: u16) -> Option<(&'static str, i32, i32)> {
+    match decode(first, second) {
+        Some(instr) => Some(told(instr.form())),
+        None => None,
     }
 }
+
+/// Two words, and what they mean.
+const MEANINGS: [(u16, u16, (&str, i32, i32)); 12] = [
+    (0x940C, 0x1234, ("jmp", 0x1234, 0)),
+    (0x9409, 0, ("ijmp", 0, 0)),
+    (0x9380, 0x0101, ("sts", 0x0101, 24)),
+    (0x9180, 0x0100, ("lds", 24, 0x0100)),
+    (0x940E, 0xF000, ("call", 0xF000, 0)),
+    (0xB78F, 0, ("in", 24, 0x3F)),
+    (0xBF8F, 0, ("out", 0x3F, 24)),
+    (0x958A, 0, ("dec", 24, 0)),
+    (0xF041, 0, ("brbs", 1, 8)),
+    (0xCFFF, 0, ("rjmp", -1, 0)),
+    (0xEC88, 0, ("ldi", 24, 200)),
+    (0xAC5F, 0, ("ldd y", 5, 63)),
+];
+
+#[test]
+fn words_mean_their_instructions(rt: HostRuntime) {
+    for (first, second, wanted) in &MEANINGS {
+        assert!(rt; meaning(*first, *second) == Some(*wanted), "{first}");
+    }
+}
+
+/// A reserved word, JMP beyond word 65,535, EIJMP, EICALL, LD r26,X+, ST -Y,r29 and LPM r30,Z+.
+const LEFT_OUT: [u16; 8] = [
+    0x0001, 0x940D, 0x950C, 0x9419, 0x9519, 0x91AD, 0x93DA, 0x91E5,
+];
 
 #[test]
 fn what_is_left_out_means_nothing(rt: HostRuntime) {
-    // A reserved word, JMP beyond word 65,535, EIJMP, EICALL, LD r26,X+, ST -Y,r29 and LPM r30,Z+.
-    for w in [
-        0x0001, 0x940D, 0x950C, 0x9419, 0x9519, 0x91AD, 0x93DA, 0x91E5,
-    ] {
-        assert!(rt; decode(w, 0).is_none(), "{w}");
+    for word in &LEFT_OUT {
+        assert!(rt; meaning(*word, 0).is_none(), "{word}");
     }
 }
 
+/// Whether a word is the first of two.
+const LENGTHS: [(u16, bool); 4] = [
+    (0x9300, true),
+    (0x940E, true),
+    (0x950E, false),
+    (0x97CE, false),
+];
+
 #[test]
 fn long_words_are_told_from_short_ones(rt: HostRuntime) {
-    for (w, want) in [
-        (0x9300, true),
-        (0x940E, true),
-        (0x950E, false),
-        (0x97CE, false),
-    ] {
-        assert_eq!(rt; two_words(w), want, "{w}");
+    for (word, is_long) in &LENGTHS {
+        assert!(rt; two_words(*word) == *is_long, "{word}");
     }
 }

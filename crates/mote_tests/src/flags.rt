@@ -22,7 +22,7 @@ fn bytes_give_the_manuals_flags(rt: HostRuntime) {
         (eor(0x00, 0xFF, 0x0F), (0xF0, 0x14)), // N S
     ];
     for (outcome, want) in rows {
-        assert_eq!(rt; outcome, want);
+        assert!(rt; outcome == want);
     }
 }
 
@@ -34,7 +34,7 @@ fn shifts_give_the_manuals_flags(rt: HostRuntime) {
         (asr(0x00, 0x81), (0xC0, 0x15)), // C N S
     ];
     for (outcome, want) in rows {
-        assert_eq!(rt; outcome, want);
+        assert!(rt; outcome == want);
     }
 }
 
@@ -51,6 +51,6 @@ fn pairs_and_products_give_the_manuals_flags(rt: HostRuntime) {
         (fmulsu(0x00, 0x80, 0x01), (0xFF00, 0x01)), // C
     ];
     for (outcome, want) in rows {
-        assert_eq!(rt; outcome, want);
+        assert!(rt; outcome == want);
     }
 }

@@ -13,8 +13,6 @@ mod encoding;
 #[cfg(test)]
 mod execution;
 #[cfg(test)]
-mod fault_words;
-#[cfg(test)]
 mod flags;
 #[cfg(test)]
 mod hex_texts;

@@ -19,11 +19,11 @@ fn loaded(rt: &HostRuntime, failing: &[u32]) -> Result<Flash, &'static str>
 #[test]
 fn a_new_flash_holds_image_and_kernel(rt: HostRuntime) -> Result<(), Fail> {
     let flash = loaded(&rt, &[])?;
-    assert_eq!(rt; [flash.word(0), flash.word(3)], [0xE00F, 0xFFFF]);
-    assert_eq!(rt; [flash.word(0x4000), flash.word(0xEFFF)], [0xFFFF, 0xFFFF]);
-    assert_eq!(rt; [flash.word(0xF000), flash.word(0xFFFF)], [0x9508, 0x9508]);
-    assert_eq!(rt; flash.erases(511), 0);
-    assert_eq!(rt; (flash.ops(), flash.refused()), (0, None));
+    assert!(rt; [flash.word(0), flash.word(3)] == [0xE00F, 0xFFFF]);
+    assert!(rt; [flash.word(0x4000), flash.word(0xEFFF)] == [0xFFFF, 0xFFFF]);
+    assert!(rt; [flash.word(0xF000), flash.word(0xFFFF)] == [0x9508, 0x9508]);
+    assert!(rt; flash.erases(511) == 0);
+    assert!(rt; (flash.ops(), flash.refused()) == (0, None));
     Ok(())
 }
 
@@ -40,20 +40,14 @@ fn erased_and_programmed(flash: &mut Flash, words: &[u16; 128]) -> [Result<(), F
 #[test]
 fn a_page_is_programmed_after_an_erase(rt: HostRuntime) -> Result<(), Fail> {
     let mut flash = loaded(&rt, &[])?;
-    assert_eq!(rt; flash.program(0, &[0x00FF; 128]), Ok(()));
-    assert_eq!(rt;
-        [flash.word(0), flash.word(1), flash.word(3)],
-        [0x000F, 0x000B, 0x00FF]
-    );
+    assert!(rt; flash.program(0, &[0x00FF; 128]) == Ok(()));
+    assert!(rt; [flash.word(0), flash.word(1), flash.word(3)] == [0x000F, 0x000B, 0x00FF]);
     let answers = erased_and_programmed(&mut flash, &[0x1234; 128]);
-    assert_eq!(rt; answers[0], Ok(()));
-    assert_eq!(rt; answers[1], Ok(()));
-    assert_eq!(rt;
-        [flash.word(0), flash.word(127), flash.word(128)],
-        [0x1234, 0x1234, 0xFFFF]
-    );
-    assert_eq!(rt; [flash.erases(0), flash.erases(1)], [1, 0]);
-    assert_eq!(rt; (flash.ops(), flash.refused()), (3, None));
+    assert!(rt; answers[0] == Ok(()));
+    assert!(rt; answers[1] == Ok(()));
+    assert!(rt; [flash.word(0), flash.word(127), flash.word(128)] == [0x1234, 0x1234, 0xFFFF]);
+    assert!(rt; [flash.erases(0), flash.erases(1)] == [1, 0]);
+    assert!(rt; (flash.ops(), flash.refused()) == (3, None));
     Ok(())
 }
 
@@ -90,15 +84,14 @@ fn each_operation_may_be_refused(rt: HostRuntime) -> Result<(), Fail> {
             } else {
                 Ok(())
             };
-            assert_eq!(rt; answers[i as usize], expected, "{op}");
+            assert!(rt; answers[i as usize] == expected, "{op}");
         }
-        assert_eq!(rt;
-            (flash.word(0), flash.word(0x0080)),
-            (first, second),
+        assert!(rt;
+            (flash.word(0), flash.word(0x0080)) == (first, second),
             "{op}"
         );
-        assert_eq!(rt; (flash.erases(0), flash.erases(1)), (erases, erases_of_1));
-        assert_eq!(rt; (flash.ops(), flash.refused()), (5, Some(page)));
+        assert!(rt; (flash.erases(0), flash.erases(1)) == (erases, erases_of_1));
+        assert!(rt; (flash.ops(), flash.refused()) == (5, Some(page)));
     }
     Ok(())
 }
@@ -109,9 +102,9 @@ fn numbers_of_a_list_in_any_order(rt: HostRuntime) -> Result<(), Fail> {
     let mut flash = loaded(&rt, &[9, 4, 0, 2, 4, 4294967295])?;
     let answers = five_operations(&mut flash);
     for i in 0..5usize {
-        assert_eq!(rt; answers[i].is_err(), i == 1 || i == 3);
+        assert!(rt; answers[i].is_err() == (i == 1 || i == 3));
     }
-    assert_eq!(rt; (flash.ops(), flash.refused()), (5, Some(1)));
+    assert!(rt; (flash.ops(), flash.refused()) == (5, Some(1)));
     Ok(())
 }
 
@@ -125,42 +118,41 @@ fn a_list_of_65536_numbers(rt: HostRuntime) -> Result<(), Fail> {
     let mut flash = loaded(&rt, &failing)?;
     for number in 1..201u64 {
         assert!(rt; flash.ops() < 1000);
-        assert_eq!(rt; flash.erase(130).is_err(), number % 2 == 0, "{number}");
+        assert!(rt; flash.erase(130).is_err() == (number % 2 == 0), "{number}");
     }
-    assert_eq!(rt; (flash.erases(130), flash.ops()), (100, 200));
+    assert!(rt; (flash.erases(130), flash.ops()) == (100, 200));
     Ok(())
 }
 
 #[test]
 fn a_renewed_flash_refuses_nothing(rt: HostRuntime) -> Result<(), Fail> {
     let mut flash = loaded(&rt, &[1, 2, 3])?;
-    assert_eq!(rt; flash.erase(2), Err(FlashStop { op: 1, page: 2 }));
+    assert!(rt; flash.erase(2) == Err(FlashStop { op: 1, page: 2 }));
     flash.renew();
-    assert_eq!(rt; (flash.ops(), flash.refused()), (0, None));
+    assert!(rt; (flash.ops(), flash.refused()) == (0, None));
     for answer in five_operations(&mut flash) {
-        assert_eq!(rt; answer, Ok(()));
+        assert!(rt; answer == Ok(()));
     }
-    assert_eq!(rt; (flash.word(0), flash.word(0x0080)), (0x00F0, 0x1234));
-    assert_eq!(rt; flash.ops(), 5);
+    assert!(rt; (flash.word(0), flash.word(0x0080)) == (0x00F0, 0x1234));
+    assert!(rt; flash.ops() == 5);
     Ok(())
 }
 
+/// The words of an image, and the first page of its pool and how many there are.
+const POOLS: [(u16, u16, u16); 4] = [
+    (0, 128, 352),
+    (16_384, 128, 352),
+    (16_385, 192, 288),
+    (24_576, 192, 288),
+];
+
 #[test]
 fn a_long_image_has_a_smaller_pool(rt: HostRuntime) {
-    let rows = [
-        (0, 128, 352),
-        (16384, 128, 352),
-        (16385, 192, 288),
-        (24576, 192, 288),
-    ];
-    for (image_words, pool_first, pool_pages) in rows {
-        assert_eq!(rt;
-            Layout::of(image_words),
-            Layout {
-                image_words,
-                pool_first,
-                pool_pages,
-            }
-        );
+    for (image_words, pool_first, pool_pages) in &POOLS {
+        assert!(rt; *image_words <= 24_576);
+        let layout = Layout::of(*image_words);
+        assert!(rt; layout.image_words == *image_words);
+        assert!(rt; layout.pool_first == *pool_first);
+        assert!(rt; layout.pool_pages == *pool_pages);
     }
 }

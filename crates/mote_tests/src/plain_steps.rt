@@ -91,28 +91,23 @@ fn a_program_in_flash(rt: HostRuntime) -> Result<(), Fail> {
     for (step, want) in shown.iter().enumerate() {
         assert!(rt; may_step(&mote), "step {step}");
         assert!(rt; mote.devices.polls() < 1000);
-        assert_eq!(rt; mote.plain_step(), *want, "step {step}");
+        assert!(rt; mote.plain_step() == *want, "step {step}");
     }
-    assert_eq!(rt;
-        (mote.cpu.pc, mote.cpu.sp, mote.cpu.sreg),
-        (0x1234, 0x011D, 0)
-    );
-    assert_eq!(rt;
+    assert!(rt; (mote.cpu.pc, mote.cpu.sp, mote.cpu.sreg) == (0x1234, 0x011D, 0));
+    assert!(rt;
         [
             mote.cpu.r[17],
             mote.cpu.r[18],
             mote.cpu.r[19],
             mote.cpu.r[20]
-        ],
-        [0x5A, 0x5A, 0x77, 0x0A]
+        ] == [0x5A, 0x5A, 0x77, 0x0A]
     );
-    assert_eq!(rt;
+    assert!(rt;
         [
             mote.sram.byte(0x10FF),
             mote.sram.byte(0x011E),
             mote.sram.byte(0x011F)
-        ],
-        [0x5A, 0x00, 0x10]
+        ] == [0x5A, 0x00, 0x10]
     );
     Ok(())
 }

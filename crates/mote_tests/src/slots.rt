@@ -2,28 +2,27 @@
 
 use std::test::Fail;
 use swap_store::Swap;
-use tk_io::NoMemory;
 
 #[test]
 fn a_new_slot_is_all_zeros(rt: HostRuntime) -> Result<(), Fail> {
-    let swap = Swap::new(rt.alloc(), 1).map_err(|_: NoMemory| "memory is ample")?;
-    assert_eq!(rt; swap.slots(), 1);
+    let swap = Swap::new(rt.alloc(), 1)?;
+    assert!(rt; swap.slots() == 1);
     let mut page = [9; 256];
     swap.read(0, &mut page);
-    assert_eq!(rt; page, [0; 256]);
+    assert!(rt; page == [0; 256]);
     Ok(())
 }
 
 #[test]
 fn a_page_stays_in_its_own_slot(rt: HostRuntime) -> Result<(), Fail> {
-    let mut swap = Swap::new(rt.alloc(), 251).map_err(|_: NoMemory| "memory is ample")?;
-    assert_eq!(rt; swap.slots(), 251);
+    let mut swap = Swap::new(rt.alloc(), 251)?;
+    assert!(rt; swap.slots() == 251);
     swap.write(250, &[7; 256]);
     swap.write(0, &[1; 256]);
     let mut page = [0; 256];
     swap.read(250, &mut page);
-    assert_eq!(rt; page, [7; 256]);
+    assert!(rt; page == [7; 256]);
     swap.read(249, &mut page);
-    assert_eq!(rt; page, [0; 256]);
+    assert!(rt; page == [0; 256]);
     Ok(())
 }

@@ -1,7 +1,8 @@
 //! Sources of the assembler, against the words of avr-as (binutils 2.26, `-mmcu=atmega128`) and the faults that a reader
 //! expects.
 
-use avr_asm::{AsmError, AsmFault, assemble};
+use crate::support::printed;
+use avr_asm::assemble;
 use std::alloc::Global;
 use std::process::Abort;
 use std::test::Fail;
@@ -60,85 +61,91 @@ const TARGETS_WORDS: &[u16] = &[
 ];
 
 /// The words of a source.
-fn words_of(rt: &impl Abort, alloc: Global, text: &[u8]) -> Result<Vec<u16>, AsmError> {
+fn words_of(rt: &impl Abort, alloc: Global, text: &[u8]) -> Result<Vec<u16>, Fail> {
     assert!(rt; text.len() <= 2_097_152);
     let image = assemble(alloc, text)?;
-    let mut words = Vec::new(alloc);
-    match words.extend_from_slice(image.words()) {
-        Ok(()) => Ok(words),
-        Err(_) => Err(AsmError::NoMemory),
+    Ok(image.words().to_vec(alloc)?)
+}
+
+/// The message of a source that is refused.
+fn refusal(rt: &impl Abort, alloc: Global, text: &[u8]) -> Result<String, Fail> {
+    assert!(rt; text.len() <= 2_097_152);
+    match assemble(alloc, text) {
+        Ok(_) => Err("the source is assembled".into()),
+        Err(error) => printed(alloc, &error),
     }
 }
+
+const MNEMONICS: [(&[u8], &[u16]); 5] = [
+    (TWO_REGISTERS, TWO_REGISTERS_WORDS),
+    (CONSTANTS_AND_ONE_REGISTER, CONSTANTS_AND_ONE_REGISTER_WORDS),
+    (MEMORY, MEMORY_WORDS),
+    (BITS_AND_BARE, BITS_AND_BARE_WORDS),
+    (TARGETS, TARGETS_WORDS),
+];
 
 #[test]
 fn every_mnemonic_has_its_words(rt: HostRuntime) -> Result<(), Fail> {
-    let texts: [(&[u8], &[u16]); 5] = [
-        (TWO_REGISTERS, TWO_REGISTERS_WORDS),
-        (CONSTANTS_AND_ONE_REGISTER, CONSTANTS_AND_ONE_REGISTER_WORDS),
-        (MEMORY, MEMORY_WORDS),
-        (BITS_AND_BARE, BITS_AND_BARE_WORDS),
-        (TARGETS, TARGETS_WORDS),
-    ];
-    for (text, words) in texts {
-        assert_eq!(rt; words_of(&rt, rt.alloc(), text)?.as_slice(), words);
+    for (text, words) in &MNEMONICS {
+        assert!(rt; words_of(&rt, rt.alloc(), text)?.as_slice() == *words);
     }
     Ok(())
 }
+
+const SHAPES: [(&[u8], &[u16]); 7] = [
+    (
+        b"ldi r16, 0x0F\nout 0x1B, r16\nend: rjmp end",
+        &[0xE00F, 0xBB0B, 0xCFFF],
+    ),
+    (b"", &[]),
+    (b"; nothing\r\n\n \t\n", &[]),
+    (b"a:nop ; b:\r\n\tldi r16\t,\t0xfF\nb:", &[0x0000, 0xEF0F]),
+    (
+        b"aaaaaaaabbbbbbbbccccccccddddddddeeeeeeeeffffffffgggggggghhhhhhhh: rjmp aaaaaaaabbbbbbbbccccccccddddddddeeeeeeeeffffffffgggggggghhhhhhhh",
+        &[0xCFFF],
+    ),
+    (b"r32: rjmp r32\nadd: call add", &[0xCFFF, 0x940E, 0x0001]),
+    (b"brne 64\nbrne 0", &[0xF5F9, 0xF7F1]),
+];
 
 #[test]
 fn sources_of_every_shape(rt: HostRuntime) -> Result<(), Fail> {
-    let texts: [(&[u8], &[u16]); 7] = [
-        (
-            b"ldi r16, 0x0F\nout 0x1B, r16\nend: rjmp end",
-            &[0xE00F, 0xBB0B, 0xCFFF],
-        ),
-        (b"", &[]),
-        (b"; nothing\r\n\n \t\n", &[]),
-        (b"a:nop ; b:\r\n\tldi r16\t,\t0xfF\nb:", &[0x0000, 0xEF0F]),
-        (
-            b"aaaaaaaabbbbbbbbccccccccddddddddeeeeeeeeffffffffgggggggghhhhhhhh: rjmp aaaaaaaabbbbbbbbccccccccddddddddeeeeeeeeffffffffgggggggghhhhhhhh",
-            &[0xCFFF],
-        ),
-        (b"r32: rjmp r32\nadd: call add", &[0xCFFF, 0x940E, 0x0001]),
-        (b"brne 64\nbrne 0", &[0xF5F9, 0xF7F1]),
-    ];
-    for (text, words) in texts {
-        assert_eq!(rt; words_of(&rt, rt.alloc(), text)?.as_slice(), words);
+    for (text, words) in &SHAPES {
+        assert!(rt; words_of(&rt, rt.alloc(), text)?.as_slice() == *words);
     }
     Ok(())
 }
 
+const FAULTY: [(&[u8], &str); 21] = [
+    (b"MOV r1, r2\nnop\nnop", "bad asm line 1 form"),
+    (b"nop\nldd r1, Y + 1\nnop", "bad asm line 2 form"),
+    (b"nop\nnop\nldi r1x, 1", "bad asm line 3 form"),
+    (b"mvo r1, r2\nnop\nnop", "bad asm line 1 mnemonic"),
+    (b"nop\nsez\nnop", "bad asm line 2 mnemonic"),
+    (b"nop\nnop\n.word 1", "bad asm line 3 mnemonic"),
+    (b"ld r26, X+\nnop\nnop", "bad asm line 1 range"),
+    (b"nop\nldi r15, 1\nnop", "bad asm line 2 range"),
+    (b"nop\nnop\n.dw 9999999999", "bad asm line 3 range"),
+    (b"a: nop\na: nop\nnop", "bad asm line 2 twice"),
+    (b"a: nop\nnop\na:\nrjmp far\nnop", "bad asm line 3 twice"),
+    (b"nop\na:\na: nop", "bad asm line 3 twice"),
+    (b"rjmp far\nnop\nnop", "bad asm line 1 label"),
+    (b"nop\nbrbs 1, a\nA: nop", "bad asm line 2 label"),
+    (b"nop\nnop\njmp far", "bad asm line 3 label"),
+    (b"brne 100\nnop\nrjmp far", "bad asm line 1 reach"),
+    (b"nop\nbrne 66\nrjmp far", "bad asm line 2 reach"),
+    (b"nop\nnop\nrjmp 65535", "bad asm line 3 reach"),
+    (b"a: nop\na: ldi r15, 1\nnop", "bad asm line 2 range"),
+    (b"brne 100\nnop\nmvo r1", "bad asm line 3 mnemonic"),
+    (b"nop\n\n; a\xFF\n\xFFnop", "bad asm line 4 form"),
+];
+
 #[test]
-fn each_fault_on_the_first_a_middle_and_the_last_line(rt: HostRuntime) {
-    let texts: [(&[u8], u32, AsmFault); 21] = [
-        (b"MOV r1, r2\nnop\nnop", 1, AsmFault::Form),
-        (b"nop\nldd r1, Y + 1\nnop", 2, AsmFault::Form),
-        (b"nop\nnop\nldi r1x, 1", 3, AsmFault::Form),
-        (b"mvo r1, r2\nnop\nnop", 1, AsmFault::Mnemonic),
-        (b"nop\nsez\nnop", 2, AsmFault::Mnemonic),
-        (b"nop\nnop\n.word 1", 3, AsmFault::Mnemonic),
-        (b"ld r26, X+\nnop\nnop", 1, AsmFault::Range),
-        (b"nop\nldi r15, 1\nnop", 2, AsmFault::Range),
-        (b"nop\nnop\n.dw 9999999999", 3, AsmFault::Range),
-        (b"a: nop\na: nop\nnop", 2, AsmFault::Twice),
-        (b"a: nop\nnop\na:\nrjmp far\nnop", 3, AsmFault::Twice),
-        (b"nop\na:\na: nop", 3, AsmFault::Twice),
-        (b"rjmp far\nnop\nnop", 1, AsmFault::Label),
-        (b"nop\nbrbs 1, a\nA: nop", 2, AsmFault::Label),
-        (b"nop\nnop\njmp far", 3, AsmFault::Label),
-        (b"brne 100\nnop\nrjmp far", 1, AsmFault::Reach),
-        (b"nop\nbrne 66\nrjmp far", 2, AsmFault::Reach),
-        (b"nop\nnop\nrjmp 65535", 3, AsmFault::Reach),
-        (b"a: nop\na: ldi r15, 1\nnop", 2, AsmFault::Range),
-        (b"brne 100\nnop\nmvo r1", 3, AsmFault::Mnemonic),
-        (b"nop\n\n; a\xFF\n\xFFnop", 4, AsmFault::Form),
-    ];
-    for (text, line, fault) in texts {
-        assert_eq!(rt;
-            words_of(&rt, rt.alloc(), text).err(),
-            Some(AsmError::Bad { line, fault })
-        );
+fn each_fault_on_the_first_a_middle_and_the_last_line(rt: HostRuntime) -> Result<(), Fail> {
+    for (text, message) in &FAULTY {
+        assert!(rt; refusal(&rt, rt.alloc(), text)?.as_str() == *message);
     }
+    Ok(())
 }
 
 /// A text of so many equal lines.
@@ -153,16 +160,10 @@ fn lines(alloc: Global, line: &[u8], count: u32) -> Result<Vec<u8>, Fail> {
 #[test]
 fn images_up_to_the_limit(rt: HostRuntime) -> Result<(), Fail> {
     let text = lines(rt.alloc(), b"nop\n", 24_576)?;
-    assert_eq!(rt; words_of(&rt, rt.alloc(), text.as_slice())?.len(), 24_576);
+    assert!(rt; words_of(&rt, rt.alloc(), text.as_slice())?.len() == 24_576);
     let text = lines(rt.alloc(), b"nop\n", 24_577)?;
-    let fault = AsmFault::TooLarge;
-    assert_eq!(rt;
-        words_of(&rt, rt.alloc(), text.as_slice()).err(),
-        Some(AsmError::Bad {
-            line: 24_577,
-            fault
-        })
-    );
+    let message = refusal(&rt, rt.alloc(), text.as_slice())?;
+    assert!(rt; message.as_str() == "bad asm line 24577 size");
     Ok(())
 }
 
@@ -170,7 +171,7 @@ fn images_up_to_the_limit(rt: HostRuntime) -> Result<(), Fail> {
 fn a_source_of_two_mebibytes(rt: HostRuntime) -> Result<(), Fail> {
     let mut text = lines(rt.alloc(), b"nop ; waits\n", 16_384)?;
     text.extend_from_slice(lines(rt.alloc(), b"\n", 1_900_544)?.as_slice())?;
-    assert_eq!(rt; text.len(), 2_097_152);
-    assert_eq!(rt; words_of(&rt, rt.alloc(), text.as_slice())?.len(), 16_384);
+    assert!(rt; text.len() == 2_097_152);
+    assert!(rt; words_of(&rt, rt.alloc(), text.as_slice())?.len() == 16_384);
     Ok(())
 }

@@ -105,9 +105,12 @@ fn never_returns(shape: TemplateShape, instr: Option<&Instr>) -> bool
 fn is_jump_through_z(instr: Option<&Instr>) -> bool
     ensures value { result ≡ is_jump_through_z_test (option_map (λ borrowed. borrowed.now) instr.entry) }
 {
-    match instr.map(Instr::form) {
-        Some(Form::Ijmp) => true,
-        _ => false,
+    match instr {
+        Some(instr) => match instr.form() {
+            Form::Ijmp => true,
+            _ => false,
+        },
+        None => false,
     }
 }
 

@@ -27,7 +27,7 @@ pub enum NatStop {
 }
 
 /// A page that is to be made.
-#[derive(Clone, Copy, Debug, PartialEq, Eq)]
+#[derive(Clone, Copy)]
 pub struct Prepared {
     /// Its words.
     pub words: [u16; 128],

@@ -33,7 +33,7 @@ pub trait LinkTest {
 }
 
 /// Those that lead into a page.
-#[derive(Clone, Copy, Debug)]
+#[derive(Clone, Copy)]
 pub struct LeadsInto {
     /// The page.
     pub page: u16,
@@ -50,7 +50,7 @@ impl LinkTest for LeadsInto {
 }
 
 /// The words of a page whose links call the kernel's bridge again.
-#[derive(Clone, Copy, Debug, PartialEq, Eq)]
+#[derive(Clone, Copy)]
 pub struct Unlinked {
     /// The words.
     pub words: [u16; 128],

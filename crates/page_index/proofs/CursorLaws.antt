@@ -1,6 +1,7 @@
 -- Between one place of a page and the next no entry begins.
 use Rattle.std.proofs.Common.{◌≡◌, ℕ, ◌+◌, ◌-◌, ◌*◌, ◌/◌, ◌%◌, ◌<◌, ◌≤◌, List, length, set, get_or-set_other, arith, refl, ap, ◌∙◌, subst, sym, inl, inr}
-use Rattle.std.specs.Prelude.{◌≢◌, Option, Some, None, IfSome, slice_index_or}
+use Rattle.std.specs.Prelude.{◌≢◌, Option, Some, None, IfSome, replicate, slice_index_or}
+use Rattle.std.proofs.lemmas.List.{get_or-replicate}
 use Rattle.std.proofs.lemmas.Grind.{common_steps, get_or-set_at}
 use Rattle.std.proofs.lemmas.Bool.{cases_lt, cases_eq, cases_order}
 use Rattle.flash_model.specs.Pages.{page_words}
@@ -145,40 +146,28 @@ last_there layout words place last t mapped below most later entry =
     ]
 
 -- an entry that was found, with the stretch that begins at its place
-pub reached_found : (layout : Layout) (words : List ℕ) (found : Option ℕ) (address place : ℕ) (s : Stretch) → found ≡ Some address → IfSome found (λ t. IsEntry layout words t place) → IfSome found (λ t. s.place ≡ place) → IsStretch layout words s
-    → (slot : ℕ) → IsReached layout words slot (record { address = address; stretch = s })
-reached_found layout words None address place s is entry at stretch slot = absurd (cc)
-reached_found layout words (Some t) address place s is entry at stretch slot =
+pub reached_found : (layout : Layout) (words : List ℕ) (found : Option ℕ) (address place : ℕ) (s : Stretch) → found ≡ Some address → IfSome found (λ t. IsEntry layout words t place) → IsStretch layout words s
+    → (slot : ℕ) → IsReached layout words slot place (record { address = address; stretch = s })
+reached_found layout words None address place s is entry stretch slot = absurd (cc)
+reached_found layout words (Some t) address place s is entry stretch slot =
     let same : t ≡ address = cc in
-    record {
-      entry = λ some. let P : ℕ → Type 0 = λ a. IsEntry layout words a s.place in subst P same (subst (λ (v : ℕ). IsEntry layout words t v) (sym at) entry);
-      stretch = λ some. stretch;
-    }
+    record { entry = λ own. let P : ℕ → Type 0 = λ a. IsEntry layout words a place in subst P same entry; stretch = λ own. stretch }
 
 -- a slot gets what is right for it
-pub reached_set : (layout : Layout) (words : List ℕ) (kept : List Reached) (at : ℕ) (new : Reached) → IsReached layout words at new → AreReached layout words kept → AreReached layout words (set kept at new)
-reached_set layout words kept at new right old slot d inside =
-    let within : slot < length kept = grind (arith, common_steps, inside) in
-    elim (cases_eq slot at) [
-      | inl same ↦
-          let there : at < length kept = omega (arith, same, within) in
-          let P : Reached → Type 0 = λ r. IsReached layout words slot r in
-          subst P (sym (get_or-set_at kept at slot new d same there)) (subst (λ k. IsReached layout words k new) (sym same) right)
-      | inr other ↦
-          let P : Reached → Type 0 = λ r. IsReached layout words slot r in
-          subst P (sym (get_or-set_other kept at slot new d other)) (old slot d within)
-    ]
+pub reached_set : (layout : Layout) (words kept : List ℕ) (reached : List Reached) (at place : ℕ) (new : Reached) → length kept ≡ 1024 → length reached ≡ 1024 → IsReached layout words at place new → AreReached layout words kept reached
+    → AreReached layout words (set kept at place) (set reached at new)
+reached_set layout words kept reached at place new places all right old slot d inside = elim (cases_eq slot at) [
+  | inl same ↦
+      rw (get_or-set_at kept at slot place 0 same (omega arith)) (rw (get_or-set_at reached at slot new d same (omega arith)) (subst (λ (k : ℕ). IsReached layout words k place new) (sym same) right))
+  | inr other ↦ rw (get_or-set_other kept at slot place 0 other) (rw (get_or-set_other reached at slot new d other) (old slot d inside))
+]
 
--- place 0 in all slots, but 1 in the slot of 0
-pub reached_none : (layout : Layout) (words : List ℕ) (kept : List Reached) (first : Reached) → ((k : ℕ) → k < length kept → (d : Reached) → (slice_index_or kept k d).stretch.place ≡ 0) → first.stretch.place ≡ 1 → AreReached layout words (set kept 0 first)
-reached_none layout words kept first none one slot d inside =
-    let within : slot < length kept = grind (arith, common_steps, inside) in
+-- with place 0 in all slots, but 1 in the slot of 0, none keeps an entry
+pub none_kept : (layout : Layout) (words : List ℕ) (slot : ℕ) (r : Reached) → slot < 1024 → IsReached layout words slot (slice_index_or (set (replicate 1024 0) 0 1) slot 0) r
+none_kept layout words slot r inside =
+    let zeros : List ℕ = replicate 1024 0 in
     elim (cases_eq slot 0) [
-      | inl same ↦
-          let there : 0 < length kept = omega (arith, same, within) in
-          let is : (slice_index_or (set kept 0 first) slot d).stretch.place ≡ 1 = ap (λ (r : Reached). r.stretch.place) (get_or-set_at kept 0 slot first d same there) ∙ one in
-          record { entry = λ own. absurd (omega (arith, own, is, same)); stretch = λ own. absurd (omega (arith, own, is, same)) }
+      | inl same ↦ rw (get_or-set_at zeros 0 slot 1 0 same (grind (arith, common_steps))) (record { entry = λ own. absurd (omega arith); stretch = λ own. absurd (omega arith) })
       | inr other ↦
-          let is : (slice_index_or (set kept 0 first) slot d).stretch.place ≡ 0 = ap (λ (r : Reached). r.stretch.place) (get_or-set_other kept 0 slot first d other) ∙ none slot within d in
-          record { entry = λ own. absurd (other (omega (arith, own, is))); stretch = λ own. absurd (other (omega (arith, own, is))) }
+          rw (get_or-set_other zeros 0 slot 1 0 other) (rw (get_or-replicate {A = ℕ} 1024 slot 0 0 inside) (record { entry = λ own. absurd (other (omega (arith, own))); stretch = λ own. absurd (other (omega (arith, own))) }))
     ]

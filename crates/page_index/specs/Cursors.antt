@@ -1,6 +1,6 @@
 -- What a cursor knows of the pool: where no entry begins, which entry comes next, and which were reached
 -- before (docs/LOADER.md).
-use Rattle.std.specs.Prelude.{◌≡◌, ◌≢◌, ℕ, ◌+◌, ◌*◌, ◌%◌, ◌<◌, ◌≤◌, List, length, slice_index_or}
+use Rattle.std.specs.Prelude.{◌≡◌, ◌≢◌, ℕ, ◌+◌, ◌*◌, ◌%◌, ◌<◌, ◌≤◌, List, slice_index_or}
 use Rattle.flash_model.specs.Pages.{page_words}
 use Rattle.flash_model.specs.declared.layout.Layout.{Layout}
 use Rattle.page_index.specs.Entries.{IsEntry}
@@ -21,17 +21,17 @@ pub record IsStretch (layout : Layout) (words : List ℕ) (s : Stretch) : Type 0
 
 -- What a slot keeps: where its place is of this slot, the address of the entry there and the stretch that begins there
 -- are right. With a place of another slot it keeps none, whatever the rest says.
-pub record IsReached (layout : Layout) (words : List ℕ) (slot : ℕ) (r : Reached) : Type 0 where
-  pub entry : r.stretch.place % 1024 ≡ slot → IsEntry layout words r.address r.stretch.place
-  pub stretch : r.stretch.place % 1024 ≡ slot → IsStretch layout words r.stretch
+pub record IsReached (layout : Layout) (words : List ℕ) (slot place : ℕ) (r : Reached) : Type 0 where
+  pub entry : place % 1024 ≡ slot → IsEntry layout words r.address place
+  pub stretch : place % 1024 ≡ slot → IsStretch layout words r.stretch
 
-abbrev pub AreReached : Layout → List ℕ → List Reached → Type 0
-AreReached layout words kept = (slot : ℕ) → (d : Reached) → slot < length kept → IsReached layout words slot (slice_index_or kept slot d)
+abbrev pub AreReached : Layout → List ℕ → List ℕ → List Reached → Type 0
+AreReached layout words kept reached = (slot : ℕ) → (d : Reached) → slot < 1024 → IsReached layout words slot (slice_index_or kept slot 0) (slice_index_or reached slot d)
 
 -- the cursor's stretch, and all that it keeps
 pub record IsCursor (layout : Layout) (words : List ℕ) (c : Cursor) : Type 0 where
   pub stretch : IsStretch layout words c.now.stretch
-  pub reached : AreReached layout words c.reached
+  pub reached : AreReached layout words c.kept c.reached
 
 -- right for every flash
 abbrev pub IsStretchAnywhere : Stretch → Type 0

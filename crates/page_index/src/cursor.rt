@@ -13,11 +13,11 @@ use flash_model::{Flash, Layout};
 const KEPT: usize = 1024;
 
 /// An entry that control has reached.
-#[derive(Clone, Copy, Debug)]
+#[derive(Clone, Copy)]
 struct Reached {
     /// The original address.
     address: u16,
-    /// The stretch that begins at the entry's place. A slot whose place is of another slot keeps none.
+    /// The stretch that begins at the entry's place.
     stretch: Stretch,
 }
 
@@ -27,10 +27,13 @@ struct Reached {
 /// cursor is right for one state of flash; where flash has changed, let it forget.
 ///
 /// [`origin`]: crate::origin
-#[derive(Clone, Copy, Debug)]
+#[derive(Clone, Copy)]
 pub struct Cursor {
     /// The last search. It is taken from a slot at once, with the address, which nothing asks for here.
     now: Reached,
+    /// For each slot the place of the entry that it keeps. One whose place is of another slot keeps none.
+    kept: [u16; 1024],
+    /// For each slot what it keeps.
     reached: [Reached; 1024],
     /// Where entries of original addresses were seen last, in whatever state of flash.
     pub places: Places,
@@ -45,13 +48,14 @@ impl Cursor {
             address: 0,
             stretch: Stretch::new(),
         };
-        let mut reached = [none; 1024];
-        reached[0].stretch.place = 1;
-        Cursor {
+        let mut cursor = Cursor {
             now: none,
-            reached,
+            kept: [0; KEPT],
+            reached: [none; KEPT],
             places: Places::new(),
-        }
+        };
+        cursor.forget();
+        cursor
     }
 
     /// Forgets all that it knows, in less time than a new one is made.
@@ -59,11 +63,9 @@ impl Cursor {
         ensures right { IsCursorAnywhere self.new }
     {
         self.now.stretch = Stretch::new();
-        'entries: for i in 0..KEPT {
-            self.reached[i].stretch.place = 0;
-        }
+        self.kept = [0; KEPT];
         // Place 0 is of this slot.
-        self.reached[0].stretch.place = 1;
+        self.kept[0] = 1;
     }
 
     /// The original address whose code begins at this place, a word address of flash; None where that
@@ -80,10 +82,10 @@ impl Cursor {
         if self.now.stretch.place < place && place < self.now.stretch.next {
             return None;
         }
-        let kept = self.reached[slot(place)];
-        if kept.stretch.place == place {
-            self.now = kept;
-            return Some(kept.address);
+        let at = slot(place);
+        if self.kept[at] == place {
+            self.now = self.reached[at];
+            return Some(self.now.address);
         }
         self.find(flash, layout, place)
     }
@@ -101,7 +103,9 @@ impl Cursor {
         let mut stretch = self.now.stretch;
         let found = follow(&mut stretch, flash, layout, place);
         if let Some(address) = found {
-            self.reached[slot(place)] = Reached { address, stretch };
+            let at = slot(place);
+            self.kept[at] = place;
+            self.reached[at] = Reached { address, stretch };
         }
         self.now.stretch = stretch;
         found

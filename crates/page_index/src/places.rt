@@ -16,7 +16,7 @@ const ADDRESSES: usize = 24576;
 
 /// For each original address a hint, where an entry of it was seen last. A hint is checked against flash where it is
 /// read. So it may come from any flash, and nothing has to be forgotten where flash changes.
-#[derive(Clone, Copy, Debug)]
+#[derive(Clone, Copy)]
 pub struct Places {
     /// By the address, the word address in flash of the map's word that listed it; 0 where none was seen.
     listed: [u16; 24576],

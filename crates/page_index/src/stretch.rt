@@ -12,7 +12,7 @@ use flash_model::{Flash, Layout, PAGE_WORDS};
 
 /// Where the last search was, and how far behind it no other entry begins. A stretch is right for one state
 /// of flash.
-#[derive(Clone, Copy, Debug)]
+#[derive(Clone, Copy)]
 pub(crate) struct Stretch {
     /// Where the last search was.
     pub place: u16,

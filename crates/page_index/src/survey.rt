@@ -9,7 +9,7 @@ use crate::pool::{free_page, known_offsets};
 use flash_model::{Flash, Layout};
 
 /// What a page for the addresses of one original page wants to know of the pool.
-#[derive(Clone, Copy, Debug)]
+#[derive(Clone, Copy)]
 pub struct Survey {
     /// The lowest page that is free; None where none is.
     pub free: Option<u16>,

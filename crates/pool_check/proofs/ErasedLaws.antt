@@ -1,24 +1,17 @@
 -- A page all of whose words are erased.
-use Rattle.std.proofs.Common.{◌≡◌, ℕ, zero, suc, ◌&&◌, ◌==◌, Bool, true, false, List, [], ◌∷◌, length, arith, refl, ap, ap₂, ◌∙◌}
+use Rattle.std.proofs.Common.{◌≡◌, ℕ, zero, suc, ◌==◌, true, List, [], ◌∷◌, length, refl, ap, ap₂, ◌∙◌}
 use Rattle.std.specs.Prelude.{◌↔◌}
-use Rattle.std.proofs.lemmas.Bool.Decides.{nat_tests}
+use Rattle.std.proofs.lemmas.Bool.{and_parts, eqb-true}
 use Rattle.list_parts.specs.Lists.{many}
 use Rattle.flash_model.specs.Pages.{blank}
 use Rattle.pool_check.specs.WrittenDumps.{is_erased}
-
-both : (a b : Bool) → (a && b) ≡ true → (a ≡ true) × (b ≡ true)
-both true b is = (refl, is)
-both false b is = absurd (cc)
-
-same_word : (w : ℕ) → (w == 0xFFFF) ≡ true → w ≡ 0xFFFF
-same_word w is = grind (arith, nat_tests)
 
 pub all_erased : (words : List ℕ) → is_erased words ≡ true → words ≡ many (length words) 0xFFFF
 unfolding many
 all_erased [] all = refl
 all_erased (w ∷ words) all =
-    let two = both (w == 0xFFFF) (is_erased words) all in
-    ap₂ (λ x xs. x ∷ xs) (same_word w two.0) (all_erased words two.1)
+    let two = and_parts (w == 0xFFFF) (is_erased words) all in
+    ap₂ (λ x xs. x ∷ xs) (eqb-true _ _ two.0) (all_erased words two.1)
 
 pub erased_all : (n : ℕ) → is_erased (many n 0xFFFF) ≡ true
 unfolding many

@@ -14,7 +14,7 @@ use flash_model::{Flash, Layout};
 use nat_page::{page_words, pages_in_use};
 
 /// What a checker says of a flash.
-#[derive(Clone, Copy, Debug, PartialEq, Eq)]
+#[derive(Clone, Copy, PartialEq, Eq)]
 pub enum Verdict {
     /// The pool is faithful, and has so many pages that are used.
     Faithful {

@@ -16,7 +16,7 @@ use thiserror::Error;
 use tk_io::NoMemory;
 
 /// Why a text was not read.
-#[derive(Clone, Copy, Debug, PartialEq, Eq, Error)]
+#[derive(Clone, Copy, Debug, Error)]
 pub enum DumpError {
     /// The first faulty line, counted from 1, and the first of its faults.
     #[error("bad dump line {line} {fault}")]

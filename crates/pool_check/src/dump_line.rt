@@ -8,7 +8,7 @@ use text_lines::value_of;
 use thiserror::Error;
 
 /// A fault of a line. A line's faults are tried in this order, and the first is reported.
-#[derive(Clone, Copy, Debug, PartialEq, Eq, Error)]
+#[derive(Clone, Copy, Debug, Error)]
 pub enum DumpFault {
     /// The line isn't empty, and hasn't the form of a page's line.
     #[error("form")]
@@ -22,7 +22,7 @@ pub enum DumpFault {
 }
 
 /// What a line tells.
-#[derive(Clone, Copy, Debug)]
+#[derive(Clone, Copy)]
 pub(crate) struct PageLine {
     /// The number of its page, of up to three digits.
     pub page: u16,

@@ -1,3 +1,2 @@
 -- Laws of what the tests set up.
-mod TestPage
 mod WorkedPage

@@ -1,14 +1,12 @@
--- The worked page of docs/LOADER.md: its branch back leads to address 1 by a stub 18 words behind its place. And the
--- page of a jump back to address 0: its stub calls the bridge 16 words behind its place.
+-- The page of a jump back to address 0: its stub calls the bridge 16 words behind its place.
 use Rattle.std.proofs.Common.{◌≡◌, ℕ, ◌+◌, List, [], ◌∷◌, arith, refl, subst}
-use Rattle.avr_decode.specs.Decoding.{the_form, if_defined, defined_form, one_word_form, form_1111, is_long}
+use Rattle.avr_decode.specs.Decoding.{the_form, if_defined, defined_form, one_word_form, is_long}
 use Rattle.avr_isa.specs.Encoding.{first_word, second_word}
 use Rattle.avr_isa.specs.Instruction.{is_undefined}
 use Rattle.avr_exec.specs.Registers.{relative}
 use Rattle.flash_model.specs.Layouts.{IsRight}
 use Rattle.flash_model.specs.declared.layout.Layout.{Layout}
 use Rattle.nat_template.specs.declared.piece.Piece.{Piece}
-use Rattle.nat_template.specs.declared.piece.Piece.TheVariants.{Fixed}
 use Rattle.nat_template.specs.Shapes.{shape_of_form}
 use Rattle.nat_template.specs.Stubs.{crossing_stub, stub}
 use Rattle.nat_template.specs.Templates.{template_by}
@@ -17,22 +15,6 @@ use Rattle.nat_page.specs.Runs.{template_at}
 use Rattle.nat_page.specs.Links.{EachLink, IsLinkIn}
 use Rattle.nat_page.specs.Faithful.{IsFaithful}
 use Rattle.nat_page.proofs.EnteredLaws.{entry_law}
-
--- LDI r16, 3; DEC r16; BRNE 1; RJMP to itself
-abbrev pub looped : List ℕ
-looped = 0xE003 ∷ 0x950A ∷ 0xF7F1 ∷ 0xCFFF ∷ []
-
-branch_template : template_at looped 2 ≡ Fixed 0xF409 ∷ Fixed 0xC016 ∷ crossing_stub 1
-unfolding the_form if_defined defined_form one_word_form form_1111 is_long is_undefined relative shape_of_form template_by stub first_word second_word
-branch_template = refl
-
-pub branch_link : (layout : Layout) (words : List ℕ) (v : ℕ) → IsRight layout → IsFaithful layout looped words → IsEntry layout words 2 v → IsLinkIn layout looped words (v + 18) 1
-unfolding second_word
-branch_link layout words v right code entry =
-    let Linked : List Piece → Type 0 = λ pieces. EachLink (λ s t. IsLinkIn layout looped words s t) v pieces in
-    let linked = subst Linked branch_template (entry_law layout looped words 2 v right code entry).linked in
-    let Here : ℕ → Type 0 = λ s. IsLinkIn layout looped words s 1 in
-    subst Here (omega arith) linked.0
 
 -- RJMP 2; NOP; RJMP 0; RJMP to itself
 abbrev pub round : List ℕ

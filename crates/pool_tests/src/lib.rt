@@ -2,10 +2,6 @@
 #![tactic(auto)]
 
 #[cfg(test)]
-mod arrivals;
-#[cfg(test)]
-mod flash_checks;
-#[cfg(test)]
 mod page_maps;
 #[cfg(test)]
 mod pool_pages;

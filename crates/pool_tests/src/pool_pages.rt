@@ -9,6 +9,7 @@ use crate::support::{LOOP, has, loaded, loaded_to_fail, loop_page};
 use flash_model::{Flash, Layout};
 use nat_page::{NatStop, naturalise};
 use page_index::{entry, free_page};
+use std::process::Abort;
 use std::test::Fail;
 
 /// What `naturalise` answers in the lowest free page, where it may be called.
@@ -46,12 +47,23 @@ fn made_anew(flash: &mut Flash, layout: &Layout, t: u16) -> Option<Result<u16, N
     }
 }
 
+/// A page is made, and the address has this place in it.
+fn is_made(rt: &impl Abort, flash: &mut Flash, layout: &Layout, t: u16, place: u16)
+    requires right { IsRight layout.now }
+    requires faithful { IsFaithful layout.now (image_of layout.now flash.old.words) flash.old.words }
+    requires room { flash.old.ops < 2 ^ 61 }
+    ensures faithful { IsFaithful layout.now (image_of layout.now flash.new.words) flash.new.words }
+    ensures ops { flash.new.ops ≤ flash.old.ops + 1 }
+{
+    assert!(rt; made(flash, layout, t) == Some(Ok(place)));
+}
+
 /// A loop: the branch back passes over a crossing stub, and the jump to itself ends the run.
 #[test]
 fn the_worked_page(rt: HostRuntime) -> Result<(), Fail> {
     let layout = Layout::of(4);
     let mut flash = loaded(&rt, &layout, &LOOP)?;
-    assert_eq!(rt; made(&mut flash, &layout, 0), Some(Ok(0x4006)));
+    is_made(&rt, &mut flash, &layout, 0, 0x4006);
     has(&rt, &flash, &loop_page([0x940E, 0xF000]));
     Ok(())
 }
@@ -61,7 +73,7 @@ fn the_worked_page(rt: HostRuntime) -> Result<(), Fail> {
 fn a_push_stands_inline(rt: HostRuntime) -> Result<(), Fail> {
     let layout = Layout::of(2);
     let mut flash = loaded(&rt, &layout, &[0x930F, 0xCFFF])?;
-    assert_eq!(rt; made(&mut flash, &layout, 0), Some(Ok(0x4004)));
+    is_made(&rt, &mut flash, &layout, 0, 0x4004);
     has(
         &rt,
         &flash,
@@ -81,50 +93,46 @@ fn a_push_stands_inline(rt: HostRuntime) -> Result<(), Fail> {
 fn a_run_ends_before_an_entry(rt: HostRuntime) -> Result<(), Fail> {
     let layout = Layout::of(2);
     let mut flash = loaded(&rt, &layout, &[0xE003, 0x950A])?;
-    assert_eq!(rt; made(&mut flash, &layout, 1), Some(Ok(0x4003)));
+    is_made(&rt, &mut flash, &layout, 1, 0x4003);
     // The image ends behind it.
     has(
         &rt,
         &flash,
         &[0x0000, 0x0001, 0x0103, 0x950A, 0x940E, 0xF000, 0x0002],
     );
-    assert_eq!(rt; made(&mut flash, &layout, 0), Some(Ok(0x4083)));
-    let page = [
-        flash.word(0x4081),
-        flash.word(0x4082),
-        flash.word(0x4083),
-        flash.word(0x4086),
-    ];
-    assert_eq!(rt; page, [0x0001, 0x0003, 0xE003, 0x0001]);
+    is_made(&rt, &mut flash, &layout, 0, 0x4083);
+    assert!(rt; flash.word(0x4081) == 0x0001);
+    assert!(rt; flash.word(0x4082) == 0x0003);
+    assert!(rt; flash.word(0x4083) == 0xE003);
+    assert!(rt; flash.word(0x4086) == 0x0001);
     Ok(())
+}
+
+/// A page is made whose first address has this place, with these words: its number of entries, and its last three.
+fn is_filled(rt: &impl Abort, flash: &mut Flash, layout: &Layout, place: u16, words: [u16; 4])
+    requires right { IsRight layout.now }
+    requires faithful { IsFaithful layout.now (image_of layout.now flash.old.words) flash.old.words }
+    requires room { flash.old.ops < 2 ^ 61 }
+{
+    is_made(rt, flash, layout, 0, place);
+    assert!(rt; flash.word(0x4001) == words[0]);
+    assert!(rt; flash.word(0x407D) == words[1]);
+    assert!(rt; flash.word(0x407E) == words[2]);
+    assert!(rt; flash.word(0x407F) == words[3]);
 }
 
 /// 61 instructions and a return fill the page to its last word; with one more in front the return doesn't fit.
 #[test]
 fn a_page_may_be_full(rt: HostRuntime) -> Result<(), Fail> {
+    let layout = Layout::of(64);
     let mut image = [0x0000; 64];
     image[61] = 0x9508;
-    let layout = Layout::of(64);
     let mut flash = loaded(&rt, &layout, &image)?;
-    assert_eq!(rt; made(&mut flash, &layout, 0), Some(Ok(0x4040)));
-    let ends = [
-        flash.word(0x4001),
-        flash.word(0x407D),
-        flash.word(0x407E),
-        flash.word(0x407F),
-    ];
-    assert_eq!(rt; ends, [62, 0x940E, 0xF008, 61]);
+    is_filled(&rt, &mut flash, &layout, 0x4040, [62, 0x940E, 0xF008, 61]);
     image[61] = 0x0000;
     image[62] = 0x9508;
     let mut flash = loaded(&rt, &layout, &image)?;
-    assert_eq!(rt; made(&mut flash, &layout, 0), Some(Ok(0x403F)));
-    let ends = [
-        flash.word(0x4001),
-        flash.word(0x407D),
-        flash.word(0x407E),
-        flash.word(0x407F),
-    ];
-    assert_eq!(rt; ends, [61, 0xF000, 61, 0xFFFF]);
+    is_filled(&rt, &mut flash, &layout, 0x403F, [61, 0xF000, 61, 0xFFFF]);
     Ok(())
 }
 
@@ -140,7 +148,7 @@ fn a_run_ends_at_its_page(rt: HostRuntime) -> Result<(), Fail> {
     image[128] = 0x0500;
     let layout = Layout::of(130);
     let mut flash = loaded(&rt, &layout, &image)?;
-    assert_eq!(rt; made(&mut flash, &layout, 124), Some(Ok(0x4005)));
+    is_made(&rt, &mut flash, &layout, 124, 0x4005);
     has(
         &rt,
         &flash,
@@ -162,9 +170,9 @@ fn the_pool_may_be_full(rt: HostRuntime) -> Result<(), Fail> {
     let layout = Layout::of(400);
     let mut flash = loaded(&rt, &layout, &[0xC000; 400])?;
     for t in 0..352u16 {
-        assert_eq!(rt; made(&mut flash, &layout, t), Some(Ok(0x4003 + 128 * t)));
+        is_made(&rt, &mut flash, &layout, t, 0x4003 + 128 * t);
     }
-    assert_eq!(rt; made(&mut flash, &layout, 352), None);
+    assert!(rt; made(&mut flash, &layout, 352).is_none());
     Ok(())
 }
 
@@ -173,14 +181,15 @@ fn the_pool_may_be_full(rt: HostRuntime) -> Result<(), Fail> {
 fn a_page_may_be_refused(rt: HostRuntime) -> Result<(), Fail> {
     let layout = Layout::of(4);
     let mut flash = loaded_to_fail(&rt, &layout, &LOOP, &[1])?;
-    assert_eq!(rt;
-        made(&mut flash, &layout, 0),
-        Some(Err(NatStop::Flash { op: 1 }))
+    assert!(rt;
+        matches!(
+            made(&mut flash, &layout, 0),
+            Some(Err(NatStop::Flash { op: 1 }))
+        )
     );
-    assert_eq!(rt;
-        (flash.word(0x4000), flash.ops(), flash.refused()),
-        (0xFFFF, 1, Some(128))
-    );
-    assert_eq!(rt; made(&mut flash, &layout, 0), Some(Ok(0x4006)));
+    assert!(rt; flash.word(0x4000) == 0xFFFF);
+    assert!(rt; flash.ops() == 1);
+    assert!(rt; flash.refused() == Some(128));
+    is_made(&rt, &mut flash, &layout, 0, 0x4006);
     Ok(())
 }

@@ -6,7 +6,7 @@ ghost use Rattle.nat_page.specs.Faithful.{IsFaithful};
 ghost use Rattle.nat_page.specs.Links.{IsUnresolved};
 ghost use Rattle.branch_bridge.specs.Arrivals.{ring_of};
 
-use crate::support::{arrived, loaded, loaded_to_fail, sram_at_boot};
+use crate::support::{arrived, loaded, loaded_to_fail, moved, sram_at_boot};
 use branch_bridge::{ArriveStop, Moved, Refused, ResolveStop, arrive, resolve};
 use flash_model::{Flash, Layout};
 use page_index::entry;
@@ -99,53 +99,23 @@ fn a_page_is_recycled(rt: HostRuntime) -> Result<(), Fail> {
     let layout = small(4, 2);
     let mut flash = loaded(&rt, &layout, &ROUND)?;
     let mut sram = sram_at_boot(&layout);
-    let Ok(first) = arrived(&mut sram, &mut flash, &layout, 0) else {
-        return Err("an arrival is refused".into());
-    };
-    let Ok(second) = arrived(&mut sram, &mut flash, &layout, 2) else {
-        return Err("an arrival is refused".into());
-    };
-    assert_eq!(rt; [first.place, second.place], [0x4003, 0x4083]);
+    let first = moved(&rt, &mut sram, &mut flash, &layout, 0);
+    let second = moved(&rt, &mut sram, &mut flash, &layout, 2);
+    assert!(rt; first.place == 0x4003);
+    assert!(rt; second.place == 0x4083);
     let Ok(()) = resolve_back(&mut flash, &layout) else {
         return Err("the jump is refused".into());
     };
-    assert_eq!(rt; [flash.word(0x4093), flash.word(0x4094)], [0x940C, 0x4003]);
-    let Ok(third) = arrived(&mut sram, &mut flash, &layout, 3) else {
-        return Err("an arrival is refused".into());
-    };
-    assert_eq!(rt;
-        (third.place, third.made, third.recycled),
-        (0x4003, true, Some(128))
-    );
-    assert_eq!(rt; [flash.word(0x4093), flash.word(0x4094)], [0x940E, 0xF000]);
-    assert_eq!(rt; (place_of(&flash, &layout, 0), flash.ops()), (None, 8));
-    Ok(())
-}
-
-/// A stub's third word is no jump, whatever stands behind it: the image is CALL 0x940C; SBCI, and three jumps to
-/// themselves.
-#[test]
-fn third_words_are_no_jumps(rt: HostRuntime) -> Result<(), Fail> {
-    let layout = small(6, 2);
-    let image = [0x940E, 0x940C, 0x4007, 0xCFFF, 0xCFFF, 0xCFFF];
-    let mut flash = loaded(&rt, &layout, &image)?;
-    let mut sram = sram_at_boot(&layout);
-    let Ok(_) = arrived(&mut sram, &mut flash, &layout, 4) else {
-        return Err("an arrival is refused".into());
-    };
-    let Ok(_) = arrived(&mut sram, &mut flash, &layout, 0) else {
-        return Err("an arrival is refused".into());
-    };
-    assert_eq!(rt; pairs(&flash, 129, [0x940C, 0x4007]), 1);
-    let Ok(third) = arrived(&mut sram, &mut flash, &layout, 5) else {
-        return Err("an arrival is refused".into());
-    };
-    assert_eq!(rt; (third.place, third.recycled), (0x4003, Some(128)));
-    assert_eq!(rt; pairs(&flash, 129, [0x940C, 0x4007]), 1);
-    assert_eq!(rt;
-        (flash.erases(128), flash.erases(129), flash.ops()),
-        (1, 0, 4)
-    );
+    assert!(rt; flash.word(0x4093) == 0x940C);
+    assert!(rt; flash.word(0x4094) == 0x4003);
+    let third = moved(&rt, &mut sram, &mut flash, &layout, 3);
+    assert!(rt; third.place == 0x4003);
+    assert!(rt; third.made);
+    assert!(rt; third.recycled == Some(128));
+    assert!(rt; flash.word(0x4093) == 0x940E);
+    assert!(rt; flash.word(0x4094) == 0xF000);
+    assert!(rt; place_of(&flash, &layout, 0).is_none());
+    assert!(rt; flash.ops() == 8);
     Ok(())
 }
 
@@ -172,14 +142,16 @@ fn each_operation_may_be_refused(rt: HostRuntime) -> Result<(), Fail> {
             Err(refused) => refused,
         };
         let (torn, ring) = LEFT[op as usize - 1];
-        assert_eq!(rt; refused.why, ArriveStop::Flash { op: u64::from(op) });
-        assert_eq!(rt; (torn_page(&refused), sram.byte(0x0142)), (torn, ring));
-        assert_eq!(rt;
-            (flash.ops(), flash.refused().is_some()),
-            (u64::from(op), true)
-        );
+        let ArriveStop::Flash { op: tried } = refused.why else {
+            return Err("no operation is refused".into());
+        };
+        assert!(rt; tried == u64::from(op));
+        assert!(rt; torn_page(&refused) == torn);
+        assert!(rt; sram.byte(0x0142) == ring);
+        assert!(rt; flash.ops() == u64::from(op));
+        assert!(rt; flash.refused().is_some());
         if let Some(page) = torn {
-            assert_eq!(rt; flash.word(page.wrapping_mul(128)), 0xFFFF);
+            assert!(rt; flash.word(page.wrapping_mul(128)) == 0xFFFF);
         }
     }
     Ok(())
@@ -193,29 +165,6 @@ fn torn_page(refused: &Refused) -> Option<u16> {
     }
 }
 
-/// The words that a torn page lacks, of the page where the jump back is unresolved.
-#[test]
-fn a_torn_page_lacks_its_new_words(rt: HostRuntime) -> Result<(), Fail> {
-    let layout = small(4, 2);
-    let mut flash = loaded_to_fail(&rt, &layout, &ROUND, &[6])?;
-    let mut sram = sram_at_boot(&layout);
-    let Err(refused) = go_round(&mut sram, &mut flash, &layout) else {
-        return Err("no operation is refused".into());
-    };
-    let Some(torn) = refused.torn else {
-        return Err("no page is torn".into());
-    };
-    assert_eq!(rt;
-        [torn.words[0], torn.words[1], torn.words[2]],
-        [0, 1, 0x0203]
-    );
-    assert_eq!(rt;
-        [torn.words[0x13], torn.words[0x14], torn.words[0x15]],
-        [0x940E, 0xF000, 0]
-    );
-    Ok(())
-}
-
 /// Jumps to the next address have a page each: the pages are used in turn.
 #[test]
 pub(crate) fn small_pools_go_round(rt: HostRuntime) -> Result<(), Fail> {
@@ -224,14 +173,13 @@ pub(crate) fn small_pools_go_round(rt: HostRuntime) -> Result<(), Fail> {
         let mut flash = loaded(&rt, &layout, &[0xC000; 12])?;
         let mut sram = sram_at_boot(&layout);
         for t in 0..12u16 {
-            let Ok(moved) = arrived(&mut sram, &mut flash, &layout, t) else {
-                return Err("an arrival is refused".into());
-            };
+            let arrival = moved(&rt, &mut sram, &mut flash, &layout, t);
             let page = 128 + t % pages;
             let recycled = if t < pages { None } else { Some(page) };
-            assert_eq!(rt; (moved.place, moved.recycled), (128 * page + 3, recycled));
+            assert!(rt; arrival.place == 128 * page + 3);
+            assert!(rt; arrival.recycled == recycled);
         }
-        assert_eq!(rt; flash.ops(), u64::from(24 - pages));
+        assert!(rt; flash.ops() == u64::from(24 - pages));
     }
     Ok(())
 }
@@ -243,17 +191,4 @@ fn place_of(flash: &Flash, layout: &Layout, t: u16) -> Option<u16>
     requires faithful { IsFaithful layout.now (image_of layout.now flash.now.words) flash.now.words }
 {
     entry(flash, layout, t)
-}
-
-/// How often two words stand behind one another in a page.
-fn pairs(flash: &Flash, page: u16, words: [u16; 2]) -> u16
-    requires page { page < 480 }
-{
-    let mut count = 0;
-    'words: for k in 0..127u16 {
-        if flash.word(128 * page + k) == words[0] && flash.word(128 * page + k + 1) == words[1] {
-            count += 1;
-        }
-    }
-    count
 }

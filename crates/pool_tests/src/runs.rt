@@ -6,6 +6,7 @@ use crate::support::{LOOP, has, loop_page};
 use hex_image::Image;
 use input_script::read;
 use kernel_entry::Stop;
+use std::process::Abort;
 use std::test::Fail;
 use tk_io::MemSink;
 use tk_run::{End, Machine, Options};
@@ -34,6 +35,17 @@ pub(crate) fn run(m: &mut Machine, n: u64, out: &mut MemSink) -> Result<End, &'s
     }
 }
 
+/// The run ends at this address with a jump to itself.
+fn is_halted(
+    rt: &impl Abort,
+    m: &mut Machine,
+    out: &mut MemSink,
+    at: u16,
+) -> Result<(), &'static str> {
+    assert!(rt; run(m, 1000, out)? == End::Stopped(Stop::Halted(at)));
+    Ok(())
+}
+
 /// Steps, crossings, plain steps, services, pages.
 pub(crate) fn counts(m: &Machine) -> [u64; 5] {
     [m.steps, m.crossings, m.natural, m.entries, m.pages]
@@ -43,9 +55,9 @@ pub(crate) fn counts(m: &Machine) -> [u64; 5] {
 fn a_loop_is_counted(rt: HostRuntime) -> Result<(), Fail> {
     let mut out = MemSink::new(rt.alloc(), 100)?;
     let mut m = boot(&rt, &LOOP, 255)?;
-    assert_eq!(rt; run(&mut m, 1000, &mut out)?, End::Stopped(Stop::Halted(3)));
-    assert_eq!(rt; m.at, 3);
-    assert_eq!(rt; counts(&m), [7, 2, 31, 2, 1]);
+    is_halted(&rt, &mut m, &mut out, 3)?;
+    assert!(rt; m.at == 3);
+    assert!(rt; counts(&m) == [7, 2, 31, 2, 1]);
     Ok(())
 }
 
@@ -54,8 +66,11 @@ fn a_loop_is_counted(rt: HostRuntime) -> Result<(), Fail> {
 fn a_stub_is_patched_where_it_was_run(rt: HostRuntime) -> Result<(), Fail> {
     let mut out = MemSink::new(rt.alloc(), 100)?;
     let mut m = boot(&rt, &LOOP, 255)?;
-    assert_eq!(rt; run(&mut m, 1000, &mut out)?, End::Stopped(Stop::Halted(3)));
-    has(&rt, &m.kernel.mote.flash, &loop_page([0x940C, 0x4007]));
+    is_halted(&rt, &mut m, &mut out, 3)?;
+    let mote = &m.kernel.mote;
+    has(&rt, &mote.flash, &loop_page([0x940C, 0x4007]));
+    assert!(rt; mote.flash.erases(128) == 1);
+    assert!(rt; mote.sram.aside(1) == (1, 0x4007));
     Ok(())
 }
 
@@ -63,13 +78,13 @@ fn a_stub_is_patched_where_it_was_run(rt: HostRuntime) -> Result<(), Fail> {
 fn a_run_goes_on_and_its_end_is_kept(rt: HostRuntime) -> Result<(), Fail> {
     let mut out = MemSink::new(rt.alloc(), 100)?;
     let mut m = boot(&rt, &LOOP, 2)?;
-    assert_eq!(rt; run(&mut m, 4, &mut out)?, End::Spent);
-    assert_eq!(rt; m.steps, 4);
-    assert_eq!(rt; run(&mut m, 4, &mut out)?, End::Stopped(Stop::Halted(3)));
+    assert!(rt; run(&mut m, 4, &mut out)? == End::Spent);
+    assert!(rt; m.steps == 4);
+    is_halted(&rt, &mut m, &mut out, 3)?;
     let before = counts(&m);
-    assert_eq!(rt; run(&mut m, 4, &mut out)?, End::Stopped(Stop::Halted(3)));
-    assert_eq!(rt; counts(&m), before);
-    assert_eq!(rt; m.natural, 28);
+    is_halted(&rt, &mut m, &mut out, 3)?;
+    assert!(rt; counts(&m) == before);
+    assert!(rt; m.natural == 28);
     Ok(())
 }
 
@@ -77,8 +92,8 @@ fn a_run_goes_on_and_its_end_is_kept(rt: HostRuntime) -> Result<(), Fail> {
 fn a_line_is_put_or_breaks_the_machine(rt: HostRuntime) -> Result<(), Fail> {
     let mut out = MemSink::new(rt.alloc(), 11)?;
     let mut m = boot(&rt, &PORT, 255)?;
-    assert_eq!(rt; run(&mut m, 10, &mut out)?, End::Stopped(Stop::Halted(1)));
-    assert_eq!(rt; out.taken(), b"PORTA 0x00\n".as_slice());
+    is_halted(&rt, &mut m, &mut out, 1)?;
+    assert!(rt; out.taken() == b"PORTA 0x00\n".as_slice());
     let mut m = boot(&rt, &PORT, 255)?;
     assert!(rt; run(&mut m, 10, &mut out).is_err());
     assert!(rt; m.broken);

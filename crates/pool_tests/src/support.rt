@@ -1,9 +1,7 @@
 //! What the tests share: flashes with and without pages in the pool, and a program that loops.
 
-ghost use Rattle.std.specs.Prelude.{◌≡◌, ◌+◌, ◌<◌, ◌≤◌, ◌^◌, [], ◌∷◌, length, IfOk, OnOk};
-ghost use Rattle.flash_model.specs.Pages.{many};
+ghost use Rattle.std.specs.Prelude.{◌≡◌, ◌+◌, ◌<◌, ◌≤◌, ◌^◌, length, IfOk, OnOk};
 ghost use Rattle.flash_model.specs.Layouts.{IsRight};
-ghost use Rattle.flash_model.specs.Memory.{loaded as loaded_words};
 ghost use Rattle.page_index.specs.Entries.{IsMapped};
 ghost use Rattle.nat_page.specs.Faithful.{IsFaithful};
 ghost use Rattle.flash_model.specs.Layouts.{image_of};
@@ -32,7 +30,7 @@ pub(crate) fn loop_page(way: [u16; 2]) -> [u16; 35] {
 pub(crate) fn has(rt: &impl Abort, flash: &Flash, words: &[u16]) {
     for i in 0..128u16 {
         let expected = words.get(i as usize).copied().unwrap_or(0xFFFF);
-        assert_eq!(rt; flash.word(0x4000 + i), expected, "place {i}");
+        assert!(rt; flash.word(0x4000 + i) == expected, "place {i}");
     }
 }
 
@@ -62,6 +60,29 @@ pub(crate) fn arrived(
     ensures room { flash.new.ops ≤ flash.old.ops + 1000 }
 {
     arrive(sram, flash, layout, t)
+}
+
+/// An arrival that is not refused.
+pub(crate) fn moved(
+    rt: &impl Abort,
+    sram: &mut Sram,
+    flash: &mut Flash,
+    layout: &Layout,
+    t: u16,
+) -> Moved
+    requires right { IsRight layout.now }
+    requires faithful { IsFaithful layout.now (image_of layout.now flash.old.words) flash.old.words }
+    requires ring { ring_of sram.old < layout.now.pool_pages }
+    requires room { flash.old.ops < 2 ^ 60 }
+    ensures faithful { IsFaithful layout.now (image_of layout.now flash.new.words) flash.new.words }
+    ensures image { image_of layout.now flash.new.words ≡ image_of layout.now flash.old.words }
+    ensures ring { ring_of sram.new < layout.now.pool_pages }
+    ensures room { flash.new.ops ≤ flash.old.ops + 1000 }
+{
+    match arrived(sram, flash, layout, t) {
+        Ok(arrival) => arrival,
+        Err(_) => panic!(rt; "an arrival is refused"),
+    }
 }
 
 /// A flash that holds the image, and an empty pool.
@@ -100,42 +121,17 @@ pub(crate) fn loaded_to_fail(
     }
 }
 
-/// A flash with an image of one word, and an empty pool.
-pub(crate) fn empty(rt: &HostRuntime, layout: &Layout) -> Result<Flash, &'static str>
+/// A flash that holds the loop, with its page in the pool.
+#[tactic(auto, using(nat_page::proofs::FaithfulLaws::faithful_mapped))]
+pub(crate) fn with_loop(rt: &HostRuntime, layout: &Layout) -> Result<Flash, &'static str>
     requires right { IsRight layout.now }
-    requires image { 1 ≤ layout.now.image_words }
-    ensures words { IfOk result (λ flash. flash.words ≡ loaded_words (0xE003 ∷ [])) }
-    ensures mapped { IfOk result (λ flash. IsMapped layout.now flash.words) }
-    ensures fresh { IfOk result (λ flash. flash.ops ≡ 0) }
-{
-    match Flash::new(rt.alloc(), &[0xE003], &[]) {
-        Ok(flash) => Ok(flash),
-        Err(_) => Err("memory is ample"),
-    }
-}
-
-/// The map of the original page 0, with entries of the addresses 0, 1, 2 and 3.
-const MAP: [u16; 6] = [0x0000, 0x0004, 0x0006, 0x0107, 0x0208, 0x0320];
-
-#[tactic(auto, unfolding(flash_model::specs::Pages::many))]
-fn page_with_the_map() -> [u16; 128]
-    ensures words { result ≡ 0 ∷ 4 ∷ 6 ∷ 0x0107 ∷ 0x0208 ∷ 0x0320 ∷ many 122 0xFFFF }
-{
-    let mut page = [0xFFFF; 128];
-    page[..6].copy_from_slice(&MAP);
-    page
-}
-
-/// A flash whose pool has one page, of the map alone.
-pub(crate) fn with_one_page(rt: &HostRuntime, layout: &Layout) -> Result<Flash, &'static str>
-    requires right { IsRight layout.now }
-    requires image { 1 ≤ layout.now.image_words }
-    requires pool { layout.now.pool_first ≡ 128 }
+    requires long { layout.now.image_words ≡ 4 }
     ensures mapped { IfOk result (λ flash. IsMapped layout.now flash.words) }
 {
-    let mut flash = empty(rt, layout)?;
-    match flash.program(128, &page_with_the_map()) {
-        Ok(()) => Ok(flash),
-        Err(_) => Err("no operation is to fail"),
+    let mut flash = loaded(rt, layout, &LOOP)?;
+    let mut sram = sram_at_boot(layout);
+    match arrived(&mut sram, &mut flash, layout, 0) {
+        Ok(_) => Ok(flash),
+        Err(_) => Err("an arrival is refused"),
     }
 }

@@ -2,7 +2,7 @@
 use kernel_entry::Stop;
 
 /// An arrival that is owed: it is made before anything else but an interrupt.
-#[derive(Clone, Copy, Debug, PartialEq, Eq)]
+#[derive(Clone, Copy)]
 pub struct Owed {
     /// The original address to arrive at.
     pub target: u16,
@@ -12,7 +12,7 @@ pub struct Owed {
 
 /// How a run ends. `Spent` is an answer alone: a run that is spent has not ended, and goes on when it is asked
 /// for more.
-#[derive(Clone, Copy, Debug, PartialEq, Eq)]
+#[derive(Clone, Copy, PartialEq, Eq)]
 pub enum End {
     /// The bound of steps was reached.
     Spent,

@@ -8,7 +8,7 @@ use std::marker::Model;
 use tk_io::NoMemory;
 
 /// The swap area. Contracts see the list of its pages.
-#[derive(Debug, Drop)]
+#[derive(Drop)]
 pub struct Swap {
     pages: Vec<[u8; 256]>,
 }
@@ -34,7 +34,7 @@ impl Swap {
         ensures whole { IfOk result IsWhole }
     {
         let mut pages = Vec::new(alloc);
-        pages.resize(slots as usize, zeros()).map_err(|_| NoMemory)?;
+        pages.resize(slots as usize, zeros())?;
         Ok(Swap { pages })
     }
 

@@ -12,16 +12,15 @@ use Rattle.mote_core.specs.declared.mote.Mote.{Mote}
 use Rattle.mote_devices.specs.declared.line.Line.{Line}
 use Rattle.program_steps.specs.Machines.{Machine, state_of, numbers_of, flat_of}
 use Rattle.program_steps.specs.Ready.{IsReady}
-use Rattle.step_laws.specs.Numbers.{Numbers}
 use Rattle.step_laws.proofs.NumberLaws.{unmoved}
 use Rattle.tk_run.specs.Booted.{started}
 use Rattle.tk_run.specs.Running.{Leads}
-use Rattle.tkernel_cli.specs.declared.command.Command.TheVariants.{Run as RunCommand}
-use Rattle.tkernel_cli.specs.declared.status.Status.{Status}
+use Rattle.tk_request.specs.declared.command.Command.TheVariants.{Run as RunCommand}
+use Rattle.tk_request.specs.declared.status.Status.{Status}
 use Rattle.tkernel_cli.specs.declared.top.Exit.{Exit}
-use Rattle.tkernel_cli.specs.Status.{number_of}
-use Rattle.tkernel_cli.specs.Reading.{Good}
-use Rattle.tkernel_cli.specs.Runs.{Stream, Says, Runs, RunsToTheEnd, RunsIntoAFault, Follows}
+use Rattle.tk_request.specs.Status.{number_of}
+use Rattle.tk_request.specs.Reading.{Good, Stream}
+use Rattle.tkernel_cli.specs.Runs.{Says, Runs, RunsToTheEnd, RunsIntoAFault, Follows}
 use Rattle.tkernel_cli.specs.Answer.{IsExact}
 use Rattle.theorem_reader.specs.Acts.{HasActs, IsBoot, pool_from, tried_in}
 use Rattle.theorem_reader.specs.Runs.{Asked, Asks, original_of, StandsFrom, Stands, EndsWell, EndsInAFault, IsRun, NoMemory, Ended, Failed}

@@ -4,7 +4,7 @@ use Rattle.mote_core.specs.declared.mote.Mote.{Mote}
 use Rattle.branch_bridge.specs.declared.arrival.Refused.{Refused}
 use Rattle.branch_bridge.specs.declared.arrival.ArriveStop.{ArriveStop}
 use Rattle.branch_bridge.specs.declared.arrival.ArriveStop.TheVariants as refusals
-use Rattle.step_laws.specs.Moves.{Plain, Serve, Move, Begin, Within, Arrive, Take}
+use Rattle.step_laws.specs.Moves.{Plain, Serve, Move, Begin, Within, Arrive}
 use Rattle.step_laws.specs.Numbers.{Numbers, moved, numbered}
 use Rattle.step_laws.specs.States.{State, end_by, settled_by, placed, with_store}
 use Rattle.step_laws.specs.Walks.{Walk}

@@ -10,14 +10,14 @@ use Rattle.pool_check.specs.Verdicts.{IsVerdict}
 use Rattle.pool_check.specs.declared.checking.Verdict.{Verdict}
 use Rattle.pool_check.specs.declared.checking.Verdict.TheVariants as verdicts
 use Rattle.pool_check.proofs.CheckedLaws.{code_checked}
-use Rattle.tkernel_cli.specs.declared.status.Status.{Status}
+use Rattle.tk_request.specs.declared.status.Status.{Status}
 use Rattle.tkernel_cli.specs.declared.top.Exit.{Exit}
-use Rattle.tkernel_cli.specs.Status.{number_of}
-use Rattle.tkernel_cli.specs.Runs.{Stream}
-use Rattle.tkernel_cli.specs.CheckCommand.{verdict_status, verdict_text}
+use Rattle.tk_request.specs.Status.{number_of}
+use Rattle.tk_request.specs.Reading.{Stream}
+use Rattle.tk_request.specs.CheckCommand.{verdict_status, verdict_text}
 use Rattle.tkernel_cli.specs.Answer.{IsAnswer}
-use Rattle.tkernel_cli.proofs.Checks.{Wanting, Verdicts, check_answers}
-use Rattle.tkernel_cli.proofs.ImageLength.{few_words}
+use Rattle.theorem_reader.proofs.Checks.{Wanting, Verdicts, check_answers}
+use Rattle.tk_request.proofs.ImageLength.{few_words}
 use Rattle.theorem_reader.specs.Acts.{pool_from}
 use Rattle.theorem_reader.specs.Checks.{AsksCheck, IsInPool, IsChecked, NoMemory, Faithful, Misshapen, Unlinked, IsJudged, used_of}
 use Rattle.theorem_reader.proofs.Acting.{pool_begins}

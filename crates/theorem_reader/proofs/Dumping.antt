@@ -6,13 +6,13 @@ use Rattle.flash_model.specs.Pages.{page_of}
 use Rattle.text_lines.specs.Written.{fed}
 use Rattle.pool_check.specs.WrittenDumps.{written, lines_of_page, page_line, is_erased}
 use Rattle.program_steps.specs.Machines.{Machine}
-use Rattle.tkernel_cli.specs.declared.command.Command.TheVariants.{Dump}
-use Rattle.tkernel_cli.specs.declared.status.Status.{Status}
+use Rattle.tk_request.specs.declared.command.Command.TheVariants.{Dump}
+use Rattle.tk_request.specs.declared.status.Status.{Status}
 use Rattle.tkernel_cli.specs.declared.top.Exit.{Exit}
-use Rattle.tkernel_cli.specs.Status.{number_of}
-use Rattle.tkernel_cli.specs.Reading.{Good}
-use Rattle.tkernel_cli.specs.Runs.{Stream, Runs}
-use Rattle.tkernel_cli.specs.DumpCommand.{HasDumped, silent}
+use Rattle.tk_request.specs.Status.{number_of}
+use Rattle.tk_request.specs.Reading.{Good, Stream}
+use Rattle.tkernel_cli.specs.Runs.{Runs}
+use Rattle.tkernel_cli.specs.DumpRuns.{HasDumped, silent}
 use Rattle.tkernel_cli.specs.Answer.{IsExact}
 use Rattle.theorem_reader.specs.Runs.{Asked}
 use Rattle.theorem_reader.specs.Dumps.{AsksDump, page_text, dump_text, HasEnded, Well, InAFault, IsDumped, NoMemory, Unwritten, Dumped}

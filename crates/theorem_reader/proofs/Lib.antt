@@ -6,6 +6,7 @@ pub mod SameTexts
 pub mod Answering
 pub mod Plainly
 pub mod Exampled
+mod Checks
 pub mod Checking
 pub mod Dumping
 pub mod Restarting

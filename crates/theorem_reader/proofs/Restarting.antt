@@ -16,6 +16,7 @@ use Rattle.page_index.specs.Entries.{Lists}
 use Rattle.nat_page.specs.CodePages.{Anywhere}
 use Rattle.nat_page.specs.Used.{used_pages}
 use Rattle.nat_page.proofs.HeldLaws.{map_held}
+use Rattle.pool_check.specs.WrittenDumps.{is_erased}
 use Rattle.pool_check.proofs.CheckedLaws.{code_checked}
 use Rattle.pool_check.proofs.MovedLaws.{holds_alone, holds_in_flash}
 use Rattle.nat_page.specs.Faithful.{IsFaithful}
@@ -28,21 +29,21 @@ use Rattle.program_steps.specs.Machines.{Machine}
 use Rattle.program_steps.specs.Ready.{IsReady}
 use Rattle.tk_run.specs.Running.{flat_end}
 use Rattle.tk_restart.specs.declared.sweeping.Kept.{Kept}
-use Rattle.tk_restart.specs.Keeping.{Keeps, count_where, is_dropped, is_blank}
+use Rattle.tk_restart.specs.Keeping.{count_where, is_dropped}
 use Rattle.tk_restart.specs.Keeping as keeping
 use Rattle.tk_restart.specs.Restarting.{Restarts}
 use Rattle.tk_restart.proofs.KeepingLaws.{kept_page, kept_lists, lists_before}
-use Rattle.tkernel_cli.specs.declared.command.Command.TheVariants.{Restart}
-use Rattle.tkernel_cli.specs.declared.status.Status.{Status}
+use Rattle.tk_request.specs.declared.command.Command.TheVariants.{Restart}
+use Rattle.tk_request.specs.declared.status.Status.{Status}
 use Rattle.tkernel_cli.specs.declared.top.Exit.{Exit}
-use Rattle.tkernel_cli.specs.Status.{number_of}
-use Rattle.tkernel_cli.specs.Reading.{Good}
-use Rattle.tkernel_cli.specs.Runs.{Stream, Runs, KeepsEnd}
-use Rattle.tkernel_cli.specs.DumpCommand.{silent}
-use Rattle.tkernel_cli.specs.RestartCommand.{HasRestarted, RunsOver, RunsOverToTheEnd, lost_flash, lost_in, refused_in, torn_words}
+use Rattle.tk_request.specs.Status.{number_of}
+use Rattle.tk_request.specs.Reading.{Good, Stream}
+use Rattle.tkernel_cli.specs.Runs.{Runs, KeepsEnd}
+use Rattle.tkernel_cli.specs.DumpRuns.{silent}
+use Rattle.tkernel_cli.specs.RestartRuns.{HasRestarted, RunsOver, RunsOverToTheEnd, lost_flash, lost_in, refused_in, torn_words}
 use Rattle.tkernel_cli.specs.Text.{restart_text}
 use Rattle.tkernel_cli.specs.Answer.{IsExact}
-use Rattle.tkernel_cli.proofs.ImageLength.{few_words}
+use Rattle.tk_request.proofs.ImageLength.{few_words}
 use Rattle.tkernel_cli.proofs.TornWords.{number_at, torn_word, length_torn}
 use Rattle.theorem_reader.specs.Acts.{pool_from}
 use Rattle.theorem_reader.specs.Checks.{AreFaithful, used_of}
@@ -205,7 +206,7 @@ dropped_one false false n m same = ap (λ k. 1 + k) same
 dropped_same : (words : List ℕ) (kept : ℕ → Bool) (first n : ℕ) → count_where (is_dropped words kept) first n ≡ dropped_of words kept first n
 unfolding count_where page_of
 dropped_same words kept first zero = refl
-dropped_same words kept first (suc n) = dropped_one (is_blank words (first + n)) (kept (first + n)) _ _ (dropped_same words kept first n)
+dropped_same words kept first (suc n) = dropped_one (is_erased (page_of words (first + n))) (kept (first + n)) _ _ (dropped_same words kept first n)
 
 faithful_is : (image words : List ℕ) → length image ≤ 24576 → IsFaithful (layout_of (length image)) image words → AreFaithful image words
 unfolding page_of

@@ -15,20 +15,21 @@ use Rattle.mem_guard.specs.Masked.{masked, masked_from}
 use Rattle.tk_tasks.specs.declared.tasks.Task.{Task}
 use Rattle.tk_tasks.specs.declared.tasks.TaskEnd.{TaskEnd}
 use Rattle.tk_tasks.specs.Booted.{turns_at_reset, players_at_reset}
-use Rattle.tk_tasks.specs.Images.{quarter_part, task_words}
+use Rattle.tk_tasks.specs.Quarters.{quarter_part}
+use Rattle.task_input.specs.Images.{task_words}
 use Rattle.tk_tasks.specs.Plays.{shown_text, told_text}
 use Rattle.tk_tasks.specs.States.{Tasks, flat_end, flat_end_of, player_of}
 use Rattle.tk_tasks.specs.Turns.{Player, Turns, Told, Shown, Wrote, Stops, After, others, has_ended, ends_of, next_in, changed_to, with_player, once, continued, go_on, tries, shown_by, own_told}
 use Rattle.tk_tasks.proofs.Isolation.{once_follows}
-use Rattle.tkernel_cli.specs.declared.command.Command.TheVariants.{Tasks as TasksCommand}
-use Rattle.tkernel_cli.specs.declared.status.Status.{Status}
-use Rattle.tkernel_cli.specs.declared.status.Status.TheVariants as status
+use Rattle.tk_request.specs.declared.command.Command.TheVariants.{Tasks as TasksCommand}
+use Rattle.tk_request.specs.declared.status.Status.{Status}
+use Rattle.tk_request.specs.declared.status.Status.TheVariants as status
 use Rattle.tkernel_cli.specs.declared.top.Exit.{Exit}
 use Rattle.tkernel_cli.specs.Answer.{IsExact}
-use Rattle.tkernel_cli.specs.Reading.{Good}
-use Rattle.tkernel_cli.specs.Runs.{Stream, status_of_end}
-use Rattle.tkernel_cli.specs.Status.{number_of}
-use Rattle.tkernel_cli.specs.TasksCommand.{Placed}
+use Rattle.tk_request.specs.Reading.{Good, Stream}
+use Rattle.tkernel_cli.specs.Runs.{status_of_end}
+use Rattle.tk_request.specs.Status.{number_of}
+use Rattle.tk_request.specs.TasksCommand.{Placed}
 use Rattle.tkernel_cli.specs.TasksRuns.{RunsTasks, RunsTasksToTheEnd, EachIsAlone, run_of_task, all_told, start_by, worse, worst, status_of_task}
 use Rattle.tkernel_cli.specs.Text.{tasks_count_text}
 use Rattle.theorem_reader.specs.Tasks.{AskedTasks, AsksTasks, image_of, events_of, alone_of, lines_alone, Printed, printed_text, lines_of_task, last_line, greatest, worst_status, AreApart, AreRun, NoMemory, Ended}

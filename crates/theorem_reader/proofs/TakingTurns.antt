@@ -20,7 +20,7 @@ use Rattle.step_laws.specs.Numbers.{Numbers}
 use Rattle.program_steps.specs.Machines.{state_of, numbers_of, flat_of}
 use Rattle.tk_tasks.specs.declared.tasks.Task.{Task}
 use Rattle.tk_tasks.specs.Booted.{mote_at_boot, parked_at_boot, at_start, waiting_from, turns_at_reset}
-use Rattle.tk_tasks.specs.Images.{task_words}
+use Rattle.task_input.specs.Images.{task_words}
 use Rattle.tk_tasks.specs.Parking.{Shares, IsBack}
 use Rattle.tk_tasks.specs.declared.parked.Parked.{Parked}
 use Rattle.tk_tasks.specs.Plays.{Play, IsPlay, TaskPath, counted}

@@ -7,8 +7,8 @@ use Rattle.pool_check.specs.Dumps.{IsDump}
 use Rattle.pool_check.specs.Forms.{HasForm}
 use Rattle.pool_check.specs.Links.{HasLinks}
 use Rattle.program_steps.specs.Machines.{Machine}
-use Rattle.tkernel_cli.specs.declared.command.Command.TheVariants.{Check}
-use Rattle.tkernel_cli.specs.Commands.{IsCommand}
+use Rattle.tk_request.specs.declared.command.Command.TheVariants.{Check}
+use Rattle.tk_request.specs.Commands.{IsCommand}
 use Rattle.theorem_reader.specs.Acts.{pool_from}
 
 -- The word is `check`; the text is a HEX text of the image, and behind it a dump of these 65,536 words of flash.

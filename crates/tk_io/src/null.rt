@@ -7,7 +7,7 @@ ghost use Rattle.tk_io.specs.Faults.{HasCause};
 use crate::{Failed, Sink};
 
 /// A sink that takes every piece whole and drops it. It tells nothing, and never fails.
-#[derive(Clone, Copy, Debug, PartialEq, Eq)]
+#[derive(Clone, Copy)]
 pub struct NullSink;
 
 impl Sink for NullSink {

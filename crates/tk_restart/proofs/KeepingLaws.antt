@@ -18,9 +18,10 @@ use Rattle.nat_page.proofs.StayLaws.{holds_alike, holds_more}
 use Rattle.nat_page.proofs.UnlinkLaws.{holds_unlinked}
 use Rattle.pool_check.specs.Forms.{HasForm}
 use Rattle.pool_check.specs.Links.{HaveFormsAround}
+use Rattle.pool_check.specs.WrittenDumps.{is_erased}
 use Rattle.pool_check.proofs.CheckedLaws.{below_pool, held_image, kernel_word, outside}
 use Rattle.tk_restart.specs.declared.sweeping.Kept.{Kept}
-use Rattle.tk_restart.specs.Keeping.{AreKept, IsKeptEntry, AreStray, Keeps, is_blank, is_dropped}
+use Rattle.tk_restart.specs.Keeping.{AreKept, IsKeptEntry, AreStray, Keeps, is_dropped}
 use Rattle.tk_restart.specs.Restarting.{Restarts}
 use Rattle.tk_restart.proofs.CountLaws.{count_same}
 use Rattle.tk_restart.proofs.PageLaws.{same_page, all_there}
@@ -199,7 +200,7 @@ one_answer layout image old new new' told told' restarts restarts' =
     sym (one_kept layout image old.words restarts.kept restarts'.kept page restarts.keeps.are restarts'.keeps.are (record { from = from; to = to })) in
     let kept_is = restarts'.kept_is ∙ count_same restarts'.kept restarts.kept layout.pool_first layout.pool_pages same ∙ sym restarts.kept_is in
     let dropped_is = restarts'.dropped_is
-    ∙ count_same (is_dropped old.words restarts'.kept) (is_dropped old.words restarts.kept) layout.pool_first layout.pool_pages (λ page from to. ap (λ b. not (is_blank old.words page) && not b) (same page from to))
+    ∙ count_same (is_dropped old.words restarts'.kept) (is_dropped old.words restarts.kept) layout.pool_first layout.pool_pages (λ page from to. ap (λ b. not (is_erased (page_of old.words page)) && not b) (same page from to))
     ∙ sym restarts.dropped_is in (
       one_words layout image old.words new.words new'.words restarts.kept restarts'.kept restarts.stray restarts'.stray restarts.keeps restarts'.keeps,
       ap₂ (λ k d. record { kept = k; dropped = d }) kept_is dropped_is,

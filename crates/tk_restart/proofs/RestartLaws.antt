@@ -13,9 +13,10 @@ use Rattle.nat_page.specs.Used.{is_used, used_pages}
 use Rattle.nat_page.specs.Unlinking.{with_calls, stubs_where, are_some}
 use Rattle.nat_page.proofs.UsedLaws.{free_unused, holds_run_used}
 use Rattle.pool_check.specs.Links.{HaveFormsAround}
+use Rattle.pool_check.specs.WrittenDumps.{is_erased}
 use Rattle.pool_check.proofs.CheckedLaws.{held_image}
 use Rattle.tk_restart.specs.declared.sweeping.Kept.{Kept}
-use Rattle.tk_restart.specs.Keeping.{AreStray, IsKeptEntry, Keeps, is_blank, is_dropped, is_changed}
+use Rattle.tk_restart.specs.Keeping.{AreStray, IsKeptEntry, Keeps, is_dropped, is_changed}
 use Rattle.tk_restart.specs.Restarting.{Restarts, worn}
 use Rattle.tk_restart.specs.Strays.{is_stray}
 use Rattle.tk_restart.specs.Sweeping.{Sweeps}
@@ -131,7 +132,7 @@ restarted layout image old mid new told right whole short sweeps unlinks =
           let gone = is_dropped old.words kept page in
           let some = is_changed image old.words kept stray page in
           unlinks.erases page pool ∙ ap₂ worn (changed page pool) (sweeps.erases page pool)
-          ∙ worn_once gone some (slice_index old.erases page) (λ is. once (is_blank old.words page) (kept page) (are_some (stubs_where stray image old.words page)) is);
+          ∙ worn_once gone some (slice_index old.erases page) (λ is. once (is_erased (page_of old.words page)) (kept page) (are_some (stubs_where stray image old.words page)) is);
       other_erases = λ page out. unlinks.other_erases page out ∙ sweeps.other_erases page out;
       failing = unlinks.failing ∙ sweeps.failing;
       refused = unlinks.refused ∙ sweeps.refused;

@@ -18,10 +18,11 @@ use Rattle.nat_page.specs.Used.{is_used}
 use Rattle.nat_page.proofs.StayLaws.{held_used}
 use Rattle.nat_page.proofs.UsedLaws.{free_unused, map_used, same_used}
 use Rattle.pool_check.specs.Links.{IsAlone}
+use Rattle.pool_check.specs.WrittenDumps.{is_erased}
 use Rattle.tk_restart.specs.declared.judging.Fate.{Fate}
 use Rattle.tk_restart.specs.declared.judging.Fate.TheVariants.{Stays, Blank, Goes}
 use Rattle.tk_restart.specs.declared.sweeping.Kept.{Kept}
-use Rattle.tk_restart.specs.Keeping.{is_blank, is_dropped}
+use Rattle.tk_restart.specs.Keeping.{is_dropped}
 use Rattle.tk_restart.specs.Restarting.{worn}
 use Rattle.tk_restart.specs.Sweeping.{ArePagesBelow, IsJudged, after_fate, counted, SweptPage, Left, Freed, IsSwept, Sweeps}
 use Rattle.tk_restart.proofs.CountLaws.{count_none, count_more, count_same}
@@ -81,7 +82,7 @@ swept_more layout image old now now' k told told' stays goes pool swept sweeps k
     let before : (page : ℕ) → page < n → page_of now'.words page ≡ page_of now.words page = λ page below. sweeps.others page (λ same. omega (arith, same, below)) in
     let used_on : (page : ℕ) → page < n → is_used now.words page ≡ is_used now'.words page = λ page below. used_there now.words now'.words page (before page below) in
     let gone_on : (page : ℕ) → page < n → is_dropped old.words (is_used now.words) page ≡ is_dropped old.words (is_used now'.words) page = λ page below.
-    ap (λ u. not (is_blank old.words page) && not u) (used_on page below) in
+    ap (λ u. not (is_erased (page_of old.words page)) && not u) (used_on page below) in
     record {
       size = sweeps.size ∙ swept.size;
       outside = λ page out.
@@ -138,7 +139,7 @@ stays_page layout image old now page short code alone =
       others = λ other apart. refl;
       own = Left code alone refl;
       used = used;
-      gone = used_kept (is_blank old.words page) (is_used now.words page) used;
+      gone = used_kept (is_erased (page_of old.words page)) (is_used now.words page) used;
       ops = omega arith;
       own_erases = refl;
       other_erases = λ other apart. refl;
@@ -152,7 +153,7 @@ blank_page layout image old now page short same free = record {
   others = λ other apart. refl;
   own = Freed (λ both. held_used Anywhere image now.words page both.0.first both.0.last short both.0.holds free) free;
   used = free_unused now.words page free;
-  gone = blank_kept (is_blank old.words page) (is_used now.words page) (free_blank old.words page (sym same ∙ free));
+  gone = blank_kept (is_erased (page_of old.words page)) (is_used now.words page) (free_blank old.words page (sym same ∙ free));
   ops = omega arith;
   own_erases = refl;
   other_erases = λ other apart. refl;
@@ -176,7 +177,7 @@ goes_page layout image old now page low whole same size filled none =
           (λ both. none (both.0, λ lower i j t v v' pool below lists lists'. both.1 lower i j t v v' pool below (lists_there words (set_page words page blank) lower i t v (beside lower (λ is. omega (arith, is, below))) lists) lists'))
           free;
       used = unused;
-      gone = gone_is (is_blank old.words page) (is_used (set_page words page blank) page) (not_blank old.words page (omega (arith, inside, size)) filled') unused;
+      gone = gone_is (is_erased (page_of old.words page)) (is_used (set_page words page blank) page) (not_blank old.words page (omega (arith, inside, size)) filled') unused;
       ops = omega arith;
       own_erases = get_or-set_same now.erases page (raised (slice_index now.erases page)) 0 (omega (arith, whole.erases));
       other_erases = λ other apart. get_or-set_other now.erases page other (raised (slice_index now.erases page)) 0 apart;

@@ -46,13 +46,9 @@ unfoldable pub count_where : (ℕ → Bool) → (first n : ℕ) → ℕ
 count_where test first zero = 0
 count_where test first (suc n) = (if test (first + n) then 1 else 0) + count_where test first n
 
--- all words of a page are erased
-abbrev pub is_blank : List ℕ → ℕ → Bool
-is_blank words page = is_erased (page_of words page)
-
--- a page that is dropped: it isn't kept, and wasn't blank
+-- a page that is dropped: it isn't kept, and wasn't erased
 abbrev pub is_dropped : List ℕ → (kept : ℕ → Bool) → ℕ → Bool
-is_dropped words kept page = not (is_blank words page) && not (kept page)
+is_dropped words kept page = not (is_erased (page_of words page)) && not (kept page)
 
 -- a page that is kept and has stubs that stray
 abbrev pub is_changed : (image words : List ℕ) → (kept : ℕ → Bool) → (stray : ℕ → ℕ → Bool) → ℕ → Bool

@@ -11,7 +11,7 @@ use nat_page::page_words;
 use pool_check::{is_alone, is_blank, is_code};
 
 /// What becomes of a page of the pool.
-#[derive(Clone, Copy, Debug, PartialEq, Eq)]
+#[derive(Clone, Copy)]
 pub(crate) enum Fate {
     /// It is kept.
     Stays,

@@ -11,7 +11,7 @@ use crate::operating::erase;
 use flash_model::{Flash, Layout};
 
 /// How many pages of the pool a restart kept, and how many that weren't blank it erased.
-#[derive(Clone, Copy, Debug, PartialEq, Eq)]
+#[derive(Clone, Copy)]
 pub struct Kept {
     /// Those that are kept.
     pub kept: u16,

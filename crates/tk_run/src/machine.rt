@@ -26,7 +26,7 @@ use swap_store::Swap;
 use tk_io::{Failed, NoMemory, Sink};
 
 /// How a machine is to run its program.
-#[derive(Clone, Copy, Debug, PartialEq, Eq)]
+#[derive(Clone, Copy)]
 pub struct Options {
     /// Every so many crossings is a checkpoint; at least 1.
     pub quantum: u8,

@@ -18,7 +18,8 @@ use Rattle.swap_store.specs.Slots.{zero_slots}
 use Rattle.tk_tasks.specs.declared.parked.Parked.{Parked}
 use Rattle.tk_tasks.specs.declared.tasks.Task.{Task}
 use Rattle.mem_guard.specs.declared.part.Part.{Part}
-use Rattle.tk_tasks.specs.Images.{quarter_part, task_words}
+use Rattle.tk_tasks.specs.Quarters.{quarter_part}
+use Rattle.task_input.specs.Images.{task_words}
 use Rattle.tk_tasks.specs.States.{Tasks}
 use Rattle.tk_tasks.specs.Booted.{parked_at_boot, at_start, waiting_from, booted}
 

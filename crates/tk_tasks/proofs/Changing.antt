@@ -20,7 +20,8 @@ use Rattle.program_steps.specs.Ready.{IsSound, IsGoing, IsQuiet}
 use Rattle.tk_tasks.specs.declared.parked.Parked.{Parked}
 use Rattle.tk_tasks.specs.declared.tasks.Task.{Task}
 use Rattle.tk_tasks.specs.declared.tasks.TaskEnd.{TaskEnd}
-use Rattle.tk_tasks.specs.Images.{quarter, quarter_part}
+use Rattle.task_input.specs.Images.{quarter}
+use Rattle.tk_tasks.specs.Quarters.{quarter_part}
 use Rattle.tk_tasks.specs.Parking.{IsSized, parked_of, taken_up}
 use Rattle.tk_tasks.specs.Turns.{Player, others, has_ended, next_in, ends_of, changed, changed_to}
 use Rattle.tk_tasks.specs.States.{Tasks, owed_of, stub_of, arrivals_of, machine_of, mote_for, IsTask, AreSound, flat_end_of, player_of, players_from, turns_of}

@@ -1,5 +1,5 @@
 -- What a step of a program does to its crossings, and which steps are checkpoints.
-use Rattle.std.proofs.Common.{◌≡◌, ℕ, zero, suc, ◌+◌, ◌%◌, ◌<◌, ◌⊎◌, Bool, true, false, cond, refl, sym, ap, ◌∙◌, arith, subst, inl, inr}
+use Rattle.std.proofs.Common.{◌≡◌, ℕ, ◌+◌, ◌%◌, ◌<◌, ◌⊎◌, Bool, true, false, cond, refl, sym, ap, ◌∙◌, arith, subst, inl, inr}
 use Rattle.std.specs.Prelude.{◌&&◌, ◌==◌, nat_lt, not, Option, Some, None}
 use Rattle.std.proofs.lemmas.Bool.Decides.{nat_tests}
 use Rattle.mote_devices.specs.declared.line.Line.{Line}
@@ -11,7 +11,6 @@ use Rattle.avr_isa.specs.Crossing.{is_crossing}
 use Rattle.avr_decode.specs.Program.{instruction_at}
 use Rattle.avr_flags.specs.Status.{has_bit, interrupts}
 use Rattle.avr_exec.specs.declared.cpu.Cpu.{Cpu}
-use Rattle.avr_exec.specs.Registers.{wrapping_sum}
 use Rattle.avr_exec.specs.Spaces.{Outcome, Went, Stopped}
 use Rattle.avr_exec.specs.Execution.{exec_of, is_executed}
 use Rattle.mem_guard.specs.declared.part.Part.{Part}

@@ -1,6 +1,6 @@
 -- The tasks behind a try of the running one: it is what its machine came to, and the others wait as before.
 use Rattle.std.proofs.Common.{◌≡◌, ℕ, zero, suc, ◌+◌, ◌-◌, ◌*◌, ◌<◌, ◌≤◌, Bool, true, false, List, [], ◌∷◌, length, get_or, ◌⊎◌, refl, sym, ap, ap₂, ◌∙◌, arith, subst, inl, inr}
-use Rattle.std.specs.Prelude.{◌≢◌, ◌^◌, slice_get, slice_set, sum_by, Option, Some, None, IfSome}
+use Rattle.std.specs.Prelude.{◌≢◌, ◌^◌, slice_get, slice_set, sum_by, Option, Some, None}
 use Rattle.std.proofs.lemmas.Bool.{cases_eq, cases_lt}
 use Rattle.std.proofs.lemmas.List.Sums.{sum_by-cons}
 use Rattle.flash_model.specs.Operations.{is_listed}
@@ -11,8 +11,7 @@ use Rattle.sram_layout.specs.Bytes.{byte_count, byte_at}
 use Rattle.branch_bridge.specs.declared.rewriting.Torn.{Torn}
 use Rattle.branch_bridge.specs.Arrivals.{KeepsOtherBytes}
 use Rattle.mote_core.specs.declared.mote.Mote.{Mote}
-use Rattle.mem_guard.specs.declared.part.Part.{Part}
-use Rattle.mem_guard.specs.FlatMachine.{Program, Moment}
+use Rattle.mem_guard.specs.FlatMachine.{Program}
 use Rattle.kernel_entry.specs.declared.kernel.Kernel.{Kernel}
 use Rattle.kernel_entry.specs.Parts.{image_held}
 use Rattle.kernel_entry.specs.Seen.{program as program_of}
@@ -26,9 +25,10 @@ use Rattle.program_steps.proofs.Waiting.{untorn_left, sound_waiting, going_waiti
 use Rattle.tk_tasks.specs.declared.parked.Parked.{Parked}
 use Rattle.tk_tasks.specs.declared.tasks.Task.{Task}
 use Rattle.tk_tasks.specs.declared.tasks.TaskEnd.{TaskEnd}
-use Rattle.tk_tasks.specs.Images.{quarter, quarter_part}
-use Rattle.tk_tasks.specs.Parking.{low_first, low_count, high_first, high_count, IsSized, taken_up}
-use Rattle.tk_tasks.specs.Turns.{Player, Turns, with_player}
+use Rattle.task_input.specs.Images.{quarter}
+use Rattle.tk_tasks.specs.Quarters.{quarter_part}
+use Rattle.tk_tasks.specs.Parking.{IsSized, taken_up}
+use Rattle.tk_tasks.specs.Turns.{Player, with_player}
 use Rattle.tk_tasks.specs.States.{Tasks, owed_of, stub_of, mote_for, machine_end, arrivals_of, others_of, machine_of, IsTask, AreSound, flat_end_of, player_of, players_from, turns_of}
 use Rattle.tk_tasks.specs.Trying.{target_of, stub_in, kept_task, kept_tasks}
 use Rattle.tk_tasks.proofs.Parkings.{both_size, both_in_low, both_in_high, both_between}

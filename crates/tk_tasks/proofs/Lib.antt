@@ -1,7 +1,3 @@
-mod OwnLines
-mod OwnTexts
-mod FirstLines
-pub mod FirstFaults
 pub mod Parkings
 mod Booting
 mod WorkedTurns

@@ -1,17 +1,18 @@
 -- A task at boot is its own program at reset, and over no words but its quarter's it runs as over all.
-use Rattle.std.proofs.Common.{◌≡◌, ℕ, zero, suc, ◌+◌, ◌*◌, ◌%◌, ◌<◌, ◌≤◌, true, List, [], ◌∷◌, length, refl, sym, ap, ap₂, ◌∙◌, arith, subst, inl, inr}
-use Rattle.std.specs.Prelude.{◌≢◌, Option, Some, None, slice_get, slice_index_or, sum_by}
+use Rattle.std.proofs.Common.{◌≡◌, ℕ, zero, suc, ◌+◌, ◌*◌, ◌%◌, ◌<◌, ◌≤◌, true, List, [], ◌∷◌, length, refl, sym, ap, ap₂, ◌∙◌, arith, inl, inr}
+use Rattle.std.specs.Prelude.{Option, Some, None, slice_get, slice_index_or, sum_by}
 use Rattle.std.proofs.lemmas.Bool.{cases_eq}
 use Rattle.std.proofs.lemmas.Bool.Decides.{nat_tests}
 use Rattle.std.proofs.lemmas.List.FromFn.{get_or-map-range_with_len}
 use Rattle.avr_isa.specs.Image.{word}
 use Rattle.input_script.specs.Script.{Schedule, nothing}
-use Rattle.mem_guard.specs.FlatMachine.{Program, Run, is_own}
+use Rattle.mem_guard.specs.FlatMachine.{Program, is_own}
 use Rattle.mem_guard.specs.Masked.{IsFramed}
 use Rattle.mem_guard.specs.Masked as masked
 use Rattle.mem_guard.proofs.PartLaws.{masked_run}
 use Rattle.tk_tasks.specs.declared.tasks.Task.{Task}
-use Rattle.tk_tasks.specs.Images.{quarter, quarter_part, blank, IsMisplaced, task_words}
+use Rattle.task_input.specs.Images.{quarter, blank, IsMisplaced, task_words}
+use Rattle.tk_tasks.specs.Quarters.{quarter_part}
 use Rattle.tk_tasks.specs.declared.tasks.TaskEnd.{TaskEnd}
 use Rattle.tk_tasks.specs.Turns.{Player, Turns, alone, at_reset_in, turns}
 use Rattle.tk_tasks.specs.States.{Tasks, flat_end_of, player_of, players_from, turns_of}

@@ -1,12 +1,12 @@
 -- Plays of the tasks on the mote, one after another, are the tasks in turn.
-use Rattle.std.proofs.Common.{◌≡◌, ℕ, zero, suc, ◌+◌, ◌-◌, ◌<◌, ◌≤◌, Bool, true, false, cond, List, [], ◌∷◌, ◌++◌, length, arith, ap, ap₂, ◌∙◌, sym, refl, subst, Option, Some, None}
+use Rattle.std.proofs.Common.{◌≡◌, ℕ, zero, suc, ◌+◌, ◌-◌, ◌≤◌, Bool, true, false, cond, List, [], ◌∷◌, ◌++◌, length, arith, ap, ap₂, ◌∙◌, sym, refl, subst, Option, Some, None}
 use Rattle.std.specs.Prelude.{slice_get, is_some, sum_by}
 use Rattle.std.proofs.lemmas.List.{append_assoc, append-nil}
-use Rattle.mem_guard.specs.FlatMachine.{End, Run}
+use Rattle.mem_guard.specs.FlatMachine.{End}
 use Rattle.tk_tasks.specs.declared.tasks.Task.{Task}
-use Rattle.tk_tasks.specs.Turns.{Player, Turns, Told, After, once, continued, go_on, tries, turns, alone, shown_by, own_told, Follows, Ended, Going, Over, HaveEnded}
+use Rattle.tk_tasks.specs.Turns.{Player, Turns, Told, After, once, continued, go_on, tries, turns, alone, own_told, Follows, Ended, Going, Over, HaveEnded}
 use Rattle.tk_tasks.specs.States.{Tasks, player_of, players_from, turns_of, flat_end_of}
-use Rattle.tk_tasks.specs.Plays.{Play, IsPlay, TaskPath, told_of, AreInTurn, EndsAsAlone, HaveRun}
+use Rattle.tk_tasks.specs.Plays.{Play, TaskPath, told_of, AreInTurn, EndsAsAlone, HaveRun}
 use Rattle.tk_tasks.proofs.Isolation.{once_follows, apart_from_others}
 use Rattle.tk_tasks.proofs.Ending.{Ready, ready_once, still, still_set, still_sum}
 

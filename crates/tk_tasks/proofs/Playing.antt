@@ -11,16 +11,15 @@ use Rattle.kernel_entry.specs.declared.kernel.Stop.{Stop}
 use Rattle.kernel_entry.specs.declared.kernel.Stop.TheVariants as stops
 use Rattle.kernel_entry.specs.Seen.{program as program_of, end_of}
 use Rattle.step_laws.specs.declared.moves.Owed.{Owed}
-use Rattle.step_laws.specs.declared.moves.End.{End}
 use Rattle.step_laws.specs.declared.moves.End.TheVariants as ends
 use Rattle.step_laws.specs.Moves.{Move, lines_of, line_before}
 use Rattle.step_laws.specs.Numbers.{Numbers}
-use Rattle.step_laws.specs.States.{Awaited, State}
+use Rattle.step_laws.specs.States.{Awaited}
 use Rattle.step_laws.specs.StepLaws.{Reaches}
 use Rattle.step_laws.proofs.NumberLaws.{unmoved}
 use Rattle.program_steps.specs.Machines.{Machine, awaited, awaits, state_of, numbers_of, flat_of}
 use Rattle.program_steps.specs.Ready.{count_in, IsSound, IsGoing, IsQuiet, HasBounds, IsEnded}
-use Rattle.program_steps.specs.Stepping.{Goes, Stays, StepWay, AreMadeAt, ends_in_arrive, links_in}
+use Rattle.program_steps.specs.Stepping.{Goes, StepWay, AreMadeAt, ends_in_arrive, links_in}
 use Rattle.program_steps.proofs.Arrived.{place_inside}
 use Rattle.program_steps.proofs.Bounds.{bounded_counted}
 use Rattle.program_steps.proofs.Leading.{stays_self}
@@ -29,10 +28,10 @@ use Rattle.tk_tasks.specs.declared.tasks.Task.{Task}
 use Rattle.tk_tasks.specs.declared.tasks.TaskEnd.{TaskEnd}
 use Rattle.tk_tasks.specs.declared.tasks.TaskEnd.TheVariants.{Spent, Stopped, Wild, Read}
 use Rattle.tk_tasks.specs.declared.trying.Tried.{Tried}
-use Rattle.tk_tasks.specs.Turns.{Player, Turns, Told, Wrote, Stops, After, rests_by, rests, played_by, tried_by, once_by, once, changed, with_player, told_line, stopped, at_checkpoint, stepped, after_line}
-use Rattle.tk_tasks.specs.States.{Tasks, machine_of, machine_end, IsTask, AreSound, flat_end, flat_end_of, player_of, turns_of}
-use Rattle.tk_tasks.specs.Changes.{changed_tasks, IsFree}
-use Rattle.tk_tasks.specs.Plays.{Play, IsTry, GoesOn, IsPlay, TaskPath, told_of, lines_told}
+use Rattle.tk_tasks.specs.Turns.{Turns, Told, Stops, After, rests_by, rests, played_by, tried_by, once_by, once, changed, with_player, told_line, stopped, at_checkpoint, stepped, after_line}
+use Rattle.tk_tasks.specs.States.{Tasks, machine_of, machine_end, AreSound, flat_end, flat_end_of, player_of, turns_of}
+use Rattle.tk_tasks.specs.Changes.{IsFree}
+use Rattle.tk_tasks.specs.Plays.{Play, GoesOn, IsPlay, TaskPath, told_of, lines_told}
 use Rattle.tk_tasks.specs.Trying.{rest_at, rest_if, ended_by, Went, checks, Quietly, IsBehind, HasTried, target_of, stub_in, kept_task, kept_tasks, finished, line_told, end_told, tried_told, HasPlayed}
 use Rattle.tk_tasks.proofs.Crossings.{undue_unchecked}
 use Rattle.tk_tasks.proofs.Trials.{unrested}

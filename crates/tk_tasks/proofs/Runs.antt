@@ -1,14 +1,11 @@
 -- The run of the tasks, from one play to the next.
-use Rattle.std.proofs.Common.{◌≡◌, ℕ, zero, suc, ◌+◌, ◌-◌, ◌*◌, ◌<◌, ◌≤◌, Bool, true, false, cond, List, [], ◌∷◌, ◌++◌, length, refl, sym, ap, ap₂, ◌∙◌, arith, subst, inl, inr}
+use Rattle.std.proofs.Common.{◌≡◌, ℕ, ◌+◌, ◌-◌, ◌*◌, ◌<◌, ◌≤◌, Bool, true, false, List, [], ◌∷◌, ◌++◌, length, refl, sym, ap, ap₂, ◌∙◌, arith, subst, inl, inr}
 use Rattle.std.specs.Prelude.{◌≢◌, ◌^◌, max, is_some, slice_get, slice_set, slice_index_or, sum_by, Option, Some, None, Result, Ok, Err}
 use Rattle.std.proofs.lemmas.List.{append-nil}
 use Rattle.std.proofs.lemmas.Option.{get_or_from_slice_get, slice_get-get_or}
-use Rattle.mote_core.specs.declared.mote.Mote.{Mote}
-use Rattle.flash_model.specs.declared.layout.Layout.{Layout}
 use Rattle.flash_model.specs.Memory.{Memory}
 use Rattle.page_index.specs.declared.cursor.Cursor.{Cursor}
 use Rattle.page_index.specs.Cursors.{IsCursor}
-use Rattle.mem_guard.specs.declared.part.Part.{Part}
 use Rattle.mem_guard.specs.FlatMachine.{End as FlatEnd}
 use Rattle.kernel_entry.specs.declared.kernel.Kernel.{Kernel}
 use Rattle.step_laws.specs.declared.moves.Owed.{Owed}
@@ -19,16 +16,16 @@ use Rattle.tk_io.proofs.KnownBytes.{nothing_sent, appends-nothing}
 use Rattle.line_text.proofs.Gathered.{sent_on, cut_on, all_on, rest_cut}
 use Rattle.program_steps.specs.declared.progress.Progress.{Progress}
 use Rattle.program_steps.specs.Machines.{Machine}
-use Rattle.program_steps.specs.Ready.{IsSound, IsGoing, IsQuiet}
+use Rattle.program_steps.specs.Ready.{IsGoing, IsQuiet}
 use Rattle.program_steps.specs.Wholes.{whole}
 use Rattle.tk_tasks.specs.declared.parked.Parked.{Parked}
 use Rattle.tk_tasks.specs.declared.tasks.Task.{Task}
 use Rattle.tk_tasks.specs.declared.tasks.TaskEnd.{TaskEnd}
-use Rattle.tk_tasks.specs.Images.{quarter_part}
+use Rattle.tk_tasks.specs.Quarters.{quarter_part}
 use Rattle.tk_tasks.specs.Turns.{Player, Turns, Told, next_in, ends_of, changed, changed_to, with_player, once, After, HaveEnded}
-use Rattle.tk_tasks.specs.States.{Tasks, arrivals_of, owed_of, stub_of, mote_for, machine_end, others_of, machine_of, IsTask, AreSound, flat_end_of, player_of, players_from, turns_of}
+use Rattle.tk_tasks.specs.States.{Tasks, arrivals_of, owed_of, stub_of, mote_for, machine_end, others_of, machine_of, AreSound, flat_end_of, player_of, players_from, turns_of}
 use Rattle.tk_tasks.specs.Changes.{parked_by, given_by, given_to, next_task, changed_tasks}
-use Rattle.tk_tasks.specs.Plays.{Play, IsPlay, TaskPath, told_of, told_text, HaveRun, counted, is_failed, IfDone, HasRunTasks}
+use Rattle.tk_tasks.specs.Plays.{Play, IsPlay, TaskPath, told_of, told_text, counted, is_failed, HasRunTasks}
 use Rattle.tk_tasks.specs.Trying.{stub_in, kept_task, kept_tasks, HasPlayed}
 use Rattle.tk_tasks.specs.Running.{IsUnderWay, IsCut, HaveGathered, sum_to}
 use Rattle.tk_tasks.proofs.Sums.{to_all}

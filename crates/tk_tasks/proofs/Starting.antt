@@ -5,7 +5,7 @@ use Rattle.std.proofs.lemmas.List.Sums.{sum_by-cons}
 use Rattle.std.proofs.lemmas.List.FromFn.{length-map-range_with_len}
 use Rattle.avr_isa.specs.Image.{word}
 use Rattle.sram_layout.specs.Boot.{at_boot}
-use Rattle.sram_layout.specs.Bytes.{byte_count, with_byte}
+use Rattle.sram_layout.specs.Bytes.{byte_count}
 use Rattle.sram_layout.specs.Cells.{count_cell}
 use Rattle.sram_layout.proofs.Laws.{length-with_byte}
 use Rattle.sram_layout.proofs.BootLaws.{length-at_boot}
@@ -28,7 +28,8 @@ use Rattle.program_steps.proofs.Bounds.{bounded_counted}
 use Rattle.program_steps.proofs.Beginning.{begun_bytes, begun_machine, begun_new, flat_begun, going_begun, program_begun}
 use Rattle.tk_tasks.specs.declared.parked.Parked.{Parked}
 use Rattle.tk_tasks.specs.declared.tasks.Task.{Task}
-use Rattle.tk_tasks.specs.Images.{quarter, quarter_part, task_words}
+use Rattle.task_input.specs.Images.{quarter, task_words}
+use Rattle.tk_tasks.specs.Quarters.{quarter_part}
 use Rattle.tk_tasks.specs.Parking.{IsSized, taken_up}
 use Rattle.tk_tasks.specs.Turns.{Player, Turns, at_reset_in, from_start}
 use Rattle.tk_tasks.specs.States.{Tasks, arrivals_of, others_of, machine_of, IsTask, AreSound, players_from, turns_of}

@@ -1,24 +1,23 @@
 -- The mote that each task left, along plays; and what plays count.
-use Rattle.std.proofs.Common.{◌≡◌, ℕ, zero, suc, ◌+◌, ◌<◌, Bool, true, false, not, List, [], ◌∷◌, ◌⊎◌, length, map, refl, sym, ap, ◌∙◌, arith, subst, inl, inr}
+use Rattle.std.proofs.Common.{◌≡◌, ℕ, zero, suc, ◌+◌, Bool, true, false, not, List, [], ◌∷◌, ◌⊎◌, length, refl, sym, ap, ◌∙◌, arith, subst, inl, inr}
 use Rattle.std.specs.Prelude.{◌≢◌, is_some, slice_get, slice_set, sum_by, Option, Some, None}
 use Rattle.std.proofs.lemmas.Bool.{cases_eq}
-use Rattle.std.proofs.lemmas.Option.{get_or_from_slice_get, slice_get_within}
+use Rattle.std.proofs.lemmas.Option.{get_or_from_slice_get}
 use Rattle.input_script.specs.Script.{Schedule}
 use Rattle.sram_layout.specs.Bytes.{byte_count}
 use Rattle.mote_core.specs.declared.mote.Mote.{Mote}
 use Rattle.kernel_entry.specs.declared.kernel.Kernel.{Kernel}
 use Rattle.tk_tasks.specs.declared.parked.Parked.{Parked}
 use Rattle.tk_tasks.specs.declared.tasks.Task.{Task}
-use Rattle.tk_tasks.specs.Images.{task_words}
-use Rattle.tk_tasks.specs.Parking.{parked_of, taken_up, Shares, IsBack}
+use Rattle.tk_tasks.specs.Parking.{parked_of, Shares, IsBack}
 use Rattle.tk_tasks.specs.Turns.{HaveEnded}
-use Rattle.tk_tasks.specs.States.{Tasks, mote_for, machine_of, AreSound, flat_end_of, player_of, turns_of}
-use Rattle.tk_tasks.specs.Booted.{mote_at_boot, parked_at_boot, waiting_from, booted}
+use Rattle.tk_tasks.specs.States.{Tasks, mote_for, machine_of, AreSound, flat_end_of, turns_of}
+use Rattle.tk_tasks.specs.Booted.{mote_at_boot, waiting_from, booted}
 use Rattle.tk_tasks.specs.Changes.{parked_by, given_by, given_to, next_task, changed_tasks}
 use Rattle.tk_tasks.specs.Plays.{Play, GoesOn, IsPlay, counted}
 use Rattle.tk_tasks.proofs.Parkings.{shared, back}
 use Rattle.tk_tasks.proofs.Paths.{player_here}
-use Rattle.tk_tasks.proofs.Changing.{IsUnparked, IsGiven, HasChanged, here_is, elsewhere_by, goes_flat, is_next, first_of, last_of, other_of, same_sum_of, running_size, has_changed, running_task}
+use Rattle.tk_tasks.proofs.Changing.{IsUnparked, IsGiven, here_is, elsewhere_by, goes_flat, is_next, first_of, last_of, other_of, same_sum_of, running_size, has_changed, running_task}
 use Rattle.tk_tasks.proofs.Keeping.{set_same}
 use Rattle.tk_tasks.proofs.Starting.{size_at_boot}
 use Rattle.tk_tasks.proofs.Sums.{sum_set}

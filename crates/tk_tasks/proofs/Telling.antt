@@ -1,16 +1,15 @@
 -- What is told of the tasks, as it is gathered and put.
-use Rattle.std.proofs.Common.{◌≡◌, ℕ, ◌+◌, ◌/◌, ◌<◌, ◌≤◌, List, [], ◌∷◌, ◌++◌, length, refl, sym, ap, ◌∙◌, arith, subst}
-use Rattle.std.specs.Prelude.{take, Option, Some, None, Result, Ok, Err}
+use Rattle.std.proofs.Common.{◌≡◌, ℕ, ◌+◌, ◌/◌, ◌≤◌, List, ◌++◌, length, refl, sym, ap, ◌∙◌, arith, subst}
+use Rattle.std.specs.Prelude.{Option, Some, Result, Ok, Err}
 use Rattle.std.specs.Io.KnownBytes.{Appends}
 use Rattle.std.proofs.lemmas.List.{append_assoc, append-nil, length-append, take-append-le}
 use Rattle.std.proofs.lemmas.Grind.{flat_map-append}
-use Rattle.mote_devices.specs.declared.line.Line.{Line}
 use Rattle.kernel_entry.specs.Texts.{end_text}
 use Rattle.tk_io.specs.declared.failure.Failed.{Failed}
 use Rattle.tk_io.specs.Streams.{CutShort, IsSent}
 use Rattle.line_text.specs.Gathering.{Gathers}
 use Rattle.line_text.specs.StopLines.{how_text, end_line}
-use Rattle.line_text.specs.TaskLines.{task_text}
+use Rattle.text_pieces.specs.Pieces.{task_text}
 use Rattle.line_text.proofs.Gathered.{sent_on, cut_on}
 use Rattle.line_text.proofs.StopLines.{line_of}
 use Rattle.tk_tasks.specs.declared.tasks.TaskEnd.{TaskEnd}
@@ -18,7 +17,7 @@ use Rattle.tk_tasks.specs.declared.tasks.TaskEnd.TheVariants.{Spent, Stopped, Wi
 use Rattle.tk_tasks.specs.Turns.{Told}
 use Rattle.tk_tasks.specs.States.{flat_end}
 use Rattle.tk_tasks.specs.Plays.{shown_text, told_text}
-use Rattle.tk_tasks.specs.Trying.{line_told, end_told, tried_told}
+use Rattle.tk_tasks.specs.Trying.{end_told}
 use Rattle.tk_tasks.specs.Running.{end_shown}
 
 shown_as : (end : TaskEnd) → how_text (end_shown end) ≡ end_text (flat_end end)

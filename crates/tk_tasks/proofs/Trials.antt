@@ -1,12 +1,10 @@
 -- A try of the running task, as its machine makes it: an arrival and a step, or an interrupt.
-use Rattle.std.proofs.Common.{◌≡◌, ℕ, zero, suc, ◌+◌, ◌-◌, ◌<◌, ◌≤◌, Bool, true, false, cond, List, [], ◌∷◌, ◌++◌, refl, sym, ap, ap₂, ◌∙◌, arith, subst, inl, inr}
+use Rattle.std.proofs.Common.{◌≡◌, ℕ, zero, suc, ◌+◌, ◌-◌, ◌≤◌, Bool, true, false, cond, List, [], ◌∷◌, ◌++◌, refl, sym, ap, ap₂, ◌∙◌, arith, subst, inl}
 use Rattle.std.specs.Prelude.{◌≢◌, ◌==◌, not, ◌||◌, ◌&&◌, Option, Some, None}
-use Rattle.std.proofs.lemmas.Bool.Decides.{nat_tests}
 use Rattle.mote_devices.specs.declared.line.Line.{Line}
 use Rattle.flash_model.specs.Operations.{is_listed}
 use Rattle.mem_guard.specs.declared.part.Part.{Part}
-use Rattle.mem_guard.specs.FlatMachine.{Program, Moment, Next, On, Ends, is_own, is_taken, next_of}
-use Rattle.kernel_entry.specs.declared.kernel.Stop.{Stop}
+use Rattle.mem_guard.specs.FlatMachine.{Moment, Next, On, is_own, is_taken, next_of}
 use Rattle.kernel_entry.specs.Seen.{program as program_of}
 use Rattle.avr_flags.specs.Status.{has_bit, interrupts}
 use Rattle.mote_devices.specs.Waking.{is_enabled}
@@ -15,9 +13,9 @@ use Rattle.step_laws.specs.declared.moves.End.{End}
 use Rattle.step_laws.specs.declared.moves.End.TheVariants as ends
 use Rattle.step_laws.specs.Moves.{Move, lines_of, line_before}
 use Rattle.step_laws.specs.States.{admits}
-use Rattle.program_steps.specs.Machines.{Machine, numbers_of, flat_of}
-use Rattle.program_steps.specs.Ready.{IsGoing, IsQuiet}
-use Rattle.program_steps.specs.Stepping.{HasStepped, StepWay, HasEntered, Entering, Stays, AreMadeAt, ends_in_arrive}
+use Rattle.program_steps.specs.Machines.{Machine, flat_of}
+use Rattle.program_steps.specs.Ready.{IsGoing}
+use Rattle.program_steps.specs.Stepping.{HasStepped, StepWay, HasEntered, Entering, Stays, ends_in_arrive}
 use Rattle.program_steps.specs.Interrupts.{is_wanted_at, is_to_be_taken}
 use Rattle.program_steps.specs.Several.{Silently, HasDone}
 use Rattle.program_steps.proofs.MadeAt.{made_map, made_both}
@@ -25,10 +23,9 @@ use Rattle.program_steps.proofs.Arrived.{place_inside}
 use Rattle.program_steps.proofs.Undue.{undue_untaken}
 use Rattle.program_steps.proofs.Leading.{goes_on, last_on, stays_on, stays_self}
 use Rattle.program_steps.proofs.Waiting.{left_stepped, entered_own}
-use Rattle.tk_tasks.specs.declared.tasks.TaskEnd.{TaskEnd}
-use Rattle.tk_tasks.specs.declared.tasks.TaskEnd.TheVariants.{Spent, Stopped, Wild, Read}
+use Rattle.tk_tasks.specs.declared.tasks.TaskEnd.TheVariants.{Spent, Stopped, Wild}
 use Rattle.tk_tasks.specs.declared.trying.Tried.{Tried}
-use Rattle.tk_tasks.specs.Trying.{rest_at, rest_if, task_end, ended_by, Went, checks_by, checks, Quietly, IsBehind, HasMade, HasTried}
+use Rattle.tk_tasks.specs.Trying.{rest_at, rest_if, task_end, Went, checks_by, checks, Quietly, IsBehind, HasMade, HasTried}
 use Rattle.tk_tasks.proofs.Crossings.{same_unchecked, taken_counts, undue_unchecked, Passes, pass_on, last_checks}
 
 -- ---- an arrival, and a step

@@ -12,7 +12,8 @@ use Rattle.mote_core.specs.Step.{cpu_at_reset}
 use Rattle.swap_store.specs.Slots.{zero_slots}
 use Rattle.tk_tasks.specs.declared.parked.Parked.{Parked}
 use Rattle.tk_tasks.specs.declared.tasks.Task.{Task}
-use Rattle.tk_tasks.specs.Images.{quarter, quarter_part, task_words}
+use Rattle.task_input.specs.Images.{quarter, task_words}
+use Rattle.tk_tasks.specs.Quarters.{quarter_part}
 use Rattle.tk_tasks.specs.Parking.{parked_of}
 use Rattle.tk_tasks.specs.States.{Tasks}
 use Rattle.tk_tasks.specs.Turns.{Player, Turns, at_reset_in, from_start}

@@ -2,7 +2,7 @@
 use Rattle.std.specs.Prelude.{◌≡◌, ◌≢◌, ℕ, ◌+◌, List, length, map, slice_get, slice_set, Option, Some, None}
 use Rattle.tk_tasks.specs.declared.parked.Parked.{Parked}
 use Rattle.tk_tasks.specs.declared.tasks.Task.{Task}
-use Rattle.tk_tasks.specs.Images.{quarter_part}
+use Rattle.tk_tasks.specs.Quarters.{quarter_part}
 use Rattle.tk_tasks.specs.Parking.{parked_of, taken_up}
 use Rattle.tk_tasks.specs.Turns.{next_in}
 use Rattle.tk_tasks.specs.States.{Tasks, flat_end_of}

@@ -1,6 +1,4 @@
-pub mod Scripts
-pub mod Reading
-pub mod Images
+pub mod Quarters
 pub mod Parking
 pub mod Turns
 pub mod States

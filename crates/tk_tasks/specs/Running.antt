@@ -1,5 +1,5 @@
 -- Serves private functions: the run of the tasks, with lines that are gathered before they go out.
-use Rattle.std.specs.Prelude.{◌≡◌, ℕ, suc, zero, ◌+◌, List, [], ◌∷◌, Option, Some, None, Result, Ok, Err}
+use Rattle.std.specs.Prelude.{ℕ, suc, zero, ◌+◌, List, [], ◌∷◌, Option, Result, Ok, Err}
 use Rattle.tk_io.specs.declared.failure.Failed.{Failed}
 use Rattle.tk_io.specs.Streams.{CutShort, IsSent}
 use Rattle.step_laws.specs.declared.moves.End.{End}

@@ -16,7 +16,8 @@ use Rattle.tk_tasks.specs.declared.parked.Parked.{Parked}
 use Rattle.tk_tasks.specs.declared.tasks.Task.{Task}
 use Rattle.tk_tasks.specs.declared.tasks.TaskEnd.{TaskEnd}
 use Rattle.tk_tasks.specs.declared.tasks.TaskEnd.TheVariants.{Spent, Stopped, Wild, Read}
-use Rattle.tk_tasks.specs.Images.{quarter, quarter_part}
+use Rattle.task_input.specs.Images.{quarter}
+use Rattle.tk_tasks.specs.Quarters.{quarter_part}
 use Rattle.tk_tasks.specs.Parking.{IsSized, taken_up}
 use Rattle.tk_tasks.specs.Turns.{Player, Turns}
 

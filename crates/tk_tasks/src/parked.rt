@@ -23,7 +23,7 @@ const LOW: u16 = 0x0100;
 const HIGH: u16 = 0x0400;
 
 /// A task's own parts of the mote, while another task has the mote.
-#[derive(Debug, Drop)]
+#[derive(Drop)]
 pub struct Parked {
     /// The core's registers. The stack pointer is the physical one.
     pub cpu: Cpu,

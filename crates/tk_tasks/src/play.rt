@@ -4,9 +4,8 @@ ghost use Rattle.std.specs.Prelude.{◌≡◌, ◌≢◌, ℕ, ◌+◌, ◌-◌,
 ghost use Rattle.page_index.specs.Cursors.{IsCursor};
 ghost use Rattle.program_steps.specs.Wholes.{whole};
 ghost use Rattle.tk_tasks.specs.declared.tasks.Task.{Task as TaskOf};
-ghost use Rattle.tk_tasks.specs.States.{AreSound, arrivals_of, machine_of, owed_of};
+ghost use Rattle.tk_tasks.specs.States.{AreSound, arrivals_of, machine_of, owed_of, Tasks as TasksOf};
 ghost use Rattle.tk_tasks.specs.Trying.{HasPlayed, tried_told, kept_task, stub_in};
-ghost use Rattle.tk_tasks.specs.States.{Tasks as TasksOf};
 
 use crate::tasks::{Task, TaskEnd, Tasks};
 use crate::trying::try_on;

@@ -2,11 +2,11 @@
 
 ghost use Rattle.std.specs.Prelude.{◌≡◌, ◌≤◌, ◌<◌, ◌+◌, ◌∷◌, ℕ, [], List, All, IfOk, length};
 ghost use Rattle.input_script.specs.Script.{Schedule};
-ghost use Rattle.tk_tasks.specs.Images.{IsMisplaced, quarter_part};
+ghost use Rattle.task_input.specs.Images.{IsMisplaced};
+ghost use Rattle.tk_tasks.specs.Quarters.{quarter_part};
 ghost use Rattle.tk_tasks.specs.States.{AreSound, turns_of};
 ghost use Rattle.tk_tasks.specs.Booted.{IsUnstarted, booted, at_start, turns_at_reset};
 
-use crate::image::{QUARTER, task_image};
 use crate::parked::Parked;
 use flash_model::Layout;
 use hex_image::Image;
@@ -16,10 +16,11 @@ use mem_guard::Part;
 use mote_core::Mote;
 use std::alloc::Global;
 use std::marker::Model;
+use task_input::{QUARTER, task_image};
 use tk_io::NoMemory;
 
 /// How a task ended.
-#[derive(Clone, Copy, Debug, PartialEq, Eq)]
+#[derive(Clone, Copy)]
 pub enum TaskEnd {
     /// All steps that it may do are done.
     Spent,
@@ -32,7 +33,7 @@ pub enum TaskEnd {
 }
 
 /// A task: what is parked of it, and how far it has come.
-#[derive(Debug, Drop)]
+#[derive(Drop)]
 pub struct Task {
     /// Its parts of the mote, unless it is the one that has the mote.
     pub parked: Option<Parked>,

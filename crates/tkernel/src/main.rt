@@ -26,13 +26,17 @@ fn words_of(rt: &HostRuntime) -> Result<Vec<String>, Status> {
     match env::args(rt) {
         Ok(args) => {
             for word in args.skip(1) {
-                words.push(word).map_err(|_| Status::NoMemory)?;
+                if words.push(word).is_err() {
+                    return Err(Status::NoMemory);
+                }
             }
         }
         Err(e) if e.kind() == ErrorKind::OutOfMemory => return Err(Status::NoMemory),
-        Err(_) => words
-            .push(String::new(rt.alloc()))
-            .map_err(|_| Status::NoMemory)?,
+        Err(_) => {
+            if words.push(String::new(rt.alloc())).is_err() {
+                return Err(Status::NoMemory);
+            }
+        }
     }
     Ok(words)
 }

@@ -12,7 +12,7 @@ use Rattle.tk_run.specs.Booted.{booted}
 use Rattle.program_steps.specs.Ready.{IsKept}
 use Rattle.program_steps.proofs.Beginning.{begun_new}
 use Rattle.tk_run.proofs.Booting.{start_is_kept}
-use Rattle.tkernel_cli.specs.declared.request.Request.{Request}
+use Rattle.tk_request.specs.declared.request.Request.{Request}
 
 -- an image's words have 16 bits
 words_of_image : (image : List ℕ) → IsImage image → AreWords image

@@ -1,7 +1,7 @@
 -- What stands around the pool of a machine's flash, whether or not a page is torn.
-use Rattle.std.proofs.Common.{◌≡◌, ℕ, ◌+◌, ◌*◌, ◌<◌, ◌≤◌, List, length, take, refl, sym, ap, ◌∙◌, subst, arith}
+use Rattle.std.proofs.Common.{◌≡◌, ℕ, ◌+◌, ◌*◌, ◌≤◌, List, length, sym, subst, arith}
 use Rattle.std.specs.Prelude.{Option, Some, None, IfSome}
-use Rattle.flash_model.specs.Pages.{page_words, page_of, set_page}
+use Rattle.flash_model.specs.Pages.{page_words, set_page}
 use Rattle.flash_model.specs.Layouts.{IsRight}
 use Rattle.flash_model.specs.declared.layout.Layout.{Layout}
 use Rattle.flash_model.proofs.PageLaws as pages

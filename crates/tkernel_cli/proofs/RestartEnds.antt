@@ -1,6 +1,6 @@
 -- The second run of a restart, with its first line and its last two, as the answer tells it.
-use Rattle.std.proofs.Common.{◌≡◌, ℕ, ◌/◌, ◌≤◌, false, true, List, ◌++◌, length, refl, sym, ap, ◌∙◌, subst, arith}
-use Rattle.std.specs.Prelude.{Result, Ok, Err, OnErr, ◌^◌}
+use Rattle.std.proofs.Common.{◌≡◌, ℕ, ◌/◌, ◌≤◌, false, true, List, ◌++◌, length, refl, ap, ◌∙◌, subst, arith}
+use Rattle.std.specs.Prelude.{Result, Ok, Err, ◌^◌}
 use Rattle.std.specs.Io.KnownBytes.{Appends}
 use Rattle.tk_io.specs.declared.failure.Failed.{Failed}
 use Rattle.tk_io.specs.Faults.{Rose, HasCause}
@@ -21,12 +21,13 @@ use Rattle.program_steps.specs.Ready.{IsKept}
 use Rattle.tk_run.specs.Running.{HasAdvanced, flat_end}
 use Rattle.tk_run.specs.WholeRuns.{IsExactRun, HasWholeOver, program_at, without_failing}
 use Rattle.tk_run.proofs.WholeRun.{run_over}
-use Rattle.tkernel_cli.specs.declared.request.Request.{Request}
-use Rattle.tkernel_cli.specs.declared.status.Status.{Status}
-use Rattle.tkernel_cli.specs.declared.status.Status.TheVariants as status
-use Rattle.tkernel_cli.specs.DumpCommand.{silent}
-use Rattle.tkernel_cli.specs.RestartCommand.{RunsOver, second_start}
-use Rattle.tkernel_cli.specs.Runs.{Stream, Says, Runs, KeepsEnd, original_of, whole_run, checkpoints_of, run_text, status_of_end, status_of_stop}
+use Rattle.tk_request.specs.declared.request.Request.{Request}
+use Rattle.tk_request.specs.declared.status.Status.{Status}
+use Rattle.tk_request.specs.declared.status.Status.TheVariants as status
+use Rattle.tkernel_cli.specs.DumpRuns.{silent}
+use Rattle.tkernel_cli.specs.RestartRuns.{RunsOver, second_start}
+use Rattle.tk_request.specs.Reading.{Stream}
+use Rattle.tkernel_cli.specs.Runs.{Says, Runs, KeepsEnd, whole_run, checkpoints_of, run_text, status_of_end, status_of_stop}
 use Rattle.tkernel_cli.specs.Text.{count_text}
 use Rattle.tkernel_cli.proofs.RunEnds.{said_on, said_run, keeps_end, few_pages, err_rose}
 

@@ -1,10 +1,10 @@
 -- A whole run, with its last two lines, as the answer tells it.
 use Rattle.std.proofs.Common.{◌≡◌, ℕ, ◌+◌, ◌/◌, ◌≤◌, ◌<◌, List, ◌++◌, append_assoc, refl, sym, ap, ap₂, ◌∙◌, subst, arith, inl, inr}
-use Rattle.std.specs.Prelude.{None, Result, Ok, Err, OnErr, ◌^◌, codes, decimal}
+use Rattle.std.specs.Prelude.{None, Result, Ok, Err, OnErr, ◌^◌}
 use Rattle.std.specs.Io.KnownBytes.{Appends}
 use Rattle.tk_io.specs.declared.failure.Failed.{Failed}
 use Rattle.tk_io.specs.Faults.{Rose, HasCause}
-use Rattle.tk_io.proofs.KnownBytes.{appends-both}
+use Rattle.tk_io.proofs.KnownBytes.{appends-both, cut_behind}
 use Rattle.hex_image.specs.Image.{IsImage}
 use Rattle.mem_guard.specs.FlatMachine.{End, Spent, Wild, Illegal, SelfProgram, Asleep, Halted, Read, Io, Stack, SwapFull, Run}
 use Rattle.kernel_entry.specs.Texts.{stop_text, end_text}
@@ -19,14 +19,14 @@ use Rattle.tk_run.specs.Running.{HasAdvanced, flat_end}
 use Rattle.tk_run.specs.Booted.{booted}
 use Rattle.tk_run.specs.WholeRuns.{IsExactRun, IsFailedRun, HasWhole, IsKeptEnd}
 use Rattle.tk_run.proofs.WholeRun.{whole_run as whole_of}
-use Rattle.tkernel_cli.specs.declared.request.Request.{Request}
-use Rattle.tkernel_cli.specs.declared.status.Status.{Status}
-use Rattle.tkernel_cli.specs.declared.status.Status.TheVariants as status
-use Rattle.tkernel_cli.specs.DumpCommand.{silent}
+use Rattle.tk_request.specs.declared.request.Request.{Request}
+use Rattle.tk_request.specs.declared.status.Status.{Status}
+use Rattle.tk_request.specs.declared.status.Status.TheVariants as status
+use Rattle.tkernel_cli.specs.DumpRuns.{silent}
 use Rattle.tkernel_cli.specs.Text.{count_text}
-use Rattle.tkernel_cli.specs.Runs.{Stream, Says, Runs, KeepsEnd, original_of, whole_run, checkpoints_of, run_text, status_of_end, status_of_stop}
+use Rattle.tk_request.specs.Reading.{Stream}
+use Rattle.tkernel_cli.specs.Runs.{Says, Runs, KeepsEnd, original_of, whole_run, checkpoints_of, run_text, status_of_end, status_of_stop}
 use Rattle.tkernel_cli.proofs.BootedFlash.{boot_kept}
-use Rattle.tk_io.proofs.KnownBytes.{cut_behind}
 
 -- a text said behind one that went out before
 rose_on : (before mid now : ℕ) → before ≤ mid → Rose mid now → Rose before now

@@ -1,5 +1,5 @@
 -- A run of several programs, with its last line, as the answer tells it.
-use Rattle.std.proofs.Common.{◌≡◌, ℕ, ◌*◌, ◌<◌, ◌≤◌, true, false, List, [], ◌∷◌, ◌++◌, length, Option, Some, None, refl, sym, ap, ◌∙◌, subst, arith}
+use Rattle.std.proofs.Common.{◌≡◌, ℕ, ◌*◌, ◌<◌, ◌≤◌, false, List, [], ◌∷◌, ◌++◌, length, Option, Some, None, refl, sym, ap, ◌∙◌, subst, arith}
 use Rattle.std.specs.Prelude.{Result, Ok, Err, OnErr, slice_get, slice_index_or}
 use Rattle.tk_io.specs.declared.failure.Failed.{Failed}
 use Rattle.tk_io.specs.Faults.{Rose}
@@ -8,18 +8,19 @@ use Rattle.input_script.specs.Script.{Schedule, nothing}
 use Rattle.mem_guard.specs.FlatMachine.{Run}
 use Rattle.mem_guard.specs.Masked as masked
 use Rattle.tk_tasks.specs.declared.tasks.Task.{Task}
-use Rattle.tk_tasks.specs.Images.{quarter, IsMisplaced, task_words}
+use Rattle.task_input.specs.Images.{quarter, IsMisplaced, task_words}
 use Rattle.tk_tasks.specs.Booted.{booted}
 use Rattle.tk_tasks.specs.States.{Tasks, AreSound, player_of, turns_of}
-use Rattle.tk_tasks.specs.Turns.{Player, Told, Turns, alone, at_reset_in, turns}
+use Rattle.tk_tasks.specs.Turns.{Told, Turns, alone, at_reset_in, turns}
 use Rattle.tk_tasks.specs.Plays.{AreInTurn, EndsAsAlone, HasRunTasks, HaveRun, TaskPath, counted, told_of, told_text}
 use Rattle.tk_tasks.proofs.Telling.{told_text_on, cut_less}
 use Rattle.tk_tasks.proofs.OwnPrograms.{program_at, player_at, boot_player, each_first, each_last, first_going, own_run}
-use Rattle.tkernel_cli.specs.declared.request.TaskRequest.{TaskRequest}
-use Rattle.tkernel_cli.specs.declared.status.Status.{Status}
-use Rattle.tkernel_cli.specs.declared.status.Status.TheVariants as status
-use Rattle.tkernel_cli.specs.Commands.{AreTasks}
-use Rattle.tkernel_cli.specs.Runs.{Stream, Says}
+use Rattle.tk_request.specs.declared.request.TaskRequest.{TaskRequest}
+use Rattle.tk_request.specs.declared.status.Status.{Status}
+use Rattle.tk_request.specs.declared.status.Status.TheVariants as status
+use Rattle.tk_request.specs.Commands.{AreTasks}
+use Rattle.tk_request.specs.Reading.{Stream}
+use Rattle.tkernel_cli.specs.Runs.{Says}
 use Rattle.tkernel_cli.specs.TasksRuns.{RunsTasks, EachIsAlone, all_told, run_of_task, start_by, start_of, turns_by, worst}
 use Rattle.tkernel_cli.specs.Text.{tasks_count_text}
 use Rattle.tkernel_cli.proofs.RunEnds.{said_on}

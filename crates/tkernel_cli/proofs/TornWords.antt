@@ -1,9 +1,9 @@
 -- The words of a page where power was lost, one after another.
-use Rattle.std.proofs.Common.{◌≡◌, ℕ, zero, suc, ◌+◌, ◌*◌, ◌/◌, ◌%◌, ◌<◌, ◌≤◌, List, [], ◌∷◌, length, slice_index, refl, sym, ap, ◌∙◌, arith}
+use Rattle.std.proofs.Common.{◌≡◌, ℕ, zero, suc, ◌+◌, ◌/◌, ◌%◌, ◌<◌, List, length, slice_index, refl, sym, ap, ◌∙◌, arith}
 use Rattle.std.specs.Prelude.{◌^◌}
 use Rattle.std.proofs.lemmas.Grind.{same_number_lists}
 use Rattle.program_generator.specs.Generated.{next}
-use Rattle.tkernel_cli.specs.RestartCommand.{torn_words}
+use Rattle.tkernel_cli.specs.RestartRuns.{torn_words}
 
 -- the number k places behind the first that follows x
 abbrev pub number_at : (x k : ℕ) → ℕ

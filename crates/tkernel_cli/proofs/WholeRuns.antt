@@ -4,19 +4,20 @@ use Rattle.std.specs.Io.KnownBytes.{Appends}
 use Rattle.tk_io.specs.Faults.{Rose}
 use Rattle.mem_guard.specs.FlatMachine.{End, Spent, Wild, Illegal, SelfProgram, Asleep, Halted, Read, Io, Stack, SwapFull}
 use Rattle.program_steps.specs.Machines.{Machine}
-use Rattle.tkernel_cli.specs.declared.request.Request.{Request}
-use Rattle.tkernel_cli.specs.declared.status.Status.{Status}
-use Rattle.tkernel_cli.specs.declared.status.Status.TheVariants as status
+use Rattle.tk_request.specs.declared.request.Request.{Request}
+use Rattle.tk_request.specs.declared.status.Status.{Status}
+use Rattle.tk_request.specs.declared.status.Status.TheVariants as status
 use Rattle.tkernel_cli.specs.declared.top.Exit.{Exit}
 use Rattle.flash_model.specs.Memory.{Memory}
 use Rattle.tk_tasks.specs.declared.tasks.Task.{Task}
 use Rattle.tk_tasks.specs.declared.tasks.TaskEnd.{TaskEnd}
 use Rattle.tk_tasks.specs.States.{Tasks, flat_end}
-use Rattle.tkernel_cli.specs.declared.request.TaskRequest.{TaskRequest}
-use Rattle.tkernel_cli.specs.RestartCommand.{HasRestarted, RunsOver}
-use Rattle.tkernel_cli.specs.Status.{number_of}
+use Rattle.tk_request.specs.declared.request.TaskRequest.{TaskRequest}
+use Rattle.tkernel_cli.specs.RestartRuns.{HasRestarted, RunsOver}
+use Rattle.tk_request.specs.Status.{number_of}
 use Rattle.tkernel_cli.specs.TasksRuns.{HasTasksRun, RunsTasks, status_of_task, worse, worst}
-use Rattle.tkernel_cli.specs.Runs.{HasRun, Stream, Says, Runs, status_of_end, original_of}
+use Rattle.tkernel_cli.specs.Runs.{HasRun, Says, Runs, status_of_end, original_of}
+use Rattle.tk_request.specs.Reading.{Stream}
 
 pub said_whole : (own told : Status) (text : List ℕ) (before now : Stream) → (Rose before.faults now.faults → ⊥) → Says own text before now told → (told ≡ own) × Appends before.told now.told text
 said_whole own told text before now well said = elim said [ inl whole ↦ whole | inr cut ↦ absurd (well cut.1) ]

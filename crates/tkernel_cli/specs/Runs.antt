@@ -1,5 +1,5 @@
 -- A program that is run: what was printed, what is kept, and how both follow the original program.
-use Rattle.std.specs.Prelude.{◌≡◌, ◌≢◌, ◌⊎◌, ℕ, ◌+◌, ◌*◌, ◌/◌, ◌<◌, ◌≤◌, ◌++◌, true, false, List, Option, Some, None}
+use Rattle.std.specs.Prelude.{◌≡◌, ◌≢◌, ◌⊎◌, ℕ, ◌+◌, ◌*◌, ◌/◌, ◌<◌, ◌≤◌, ◌++◌, true, false, List, Some, None}
 use Rattle.std.specs.Io.KnownBytes.{Appends}
 use Rattle.tk_io.specs.Faults.{Rose}
 use Rattle.tk_io.specs.Streams.{CutShort}
@@ -16,20 +16,12 @@ use Rattle.program_steps.specs.Ready.{IsReady, IsSound}
 use Rattle.program_steps.specs.Stepping.{lines_text, AreMadeAt}
 use Rattle.tk_run.specs.Running.{flat_end}
 use Rattle.tk_run.specs.WholeRuns.{Path, program_at, StandsAt}
-use Rattle.tkernel_cli.specs.declared.request.Request.{Request}
-use Rattle.tkernel_cli.specs.declared.status.Status.{Status}
-use Rattle.tkernel_cli.specs.declared.status.Status.TheVariants as status
+use Rattle.tk_request.specs.declared.request.Request.{Request}
+use Rattle.tk_request.specs.declared.status.Status.{Status}
+use Rattle.tk_request.specs.declared.status.Status.TheVariants as status
+use Rattle.tk_request.specs.Reading.{Stream}
 use Rattle.tkernel_cli.specs.declared.top.Exit.{Exit}
 use Rattle.tkernel_cli.specs.Text.{count_text}
-
--- a stream at a moment: the bytes that it tells, and how often it failed
-pub record Stream : Type 0 where
-  pub told : Option (List ℕ)
-  pub faults : ℕ
-
--- a source or a sink as a stream, by the two functions that tell its bytes and its faults
-abbrev pub stream : {X : Type 0} → (X → Option (List ℕ)) → (X → ℕ) → X → Stream
-stream told faults x = record { told = told x; faults = faults x }
 
 -- A text goes out whole, and the status is its own; or the sink fails, and the text is cut short.
 abbrev pub Says : Status → List ℕ → Stream → Stream → Status → Type 0

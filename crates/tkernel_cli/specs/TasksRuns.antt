@@ -8,17 +8,19 @@ use Rattle.mem_guard.specs.FlatMachine.{Program, Run}
 use Rattle.mem_guard.specs.Masked as masked
 use Rattle.tk_tasks.specs.declared.tasks.Task.{Task}
 use Rattle.tk_tasks.specs.declared.tasks.TaskEnd.{TaskEnd}
-use Rattle.tk_tasks.specs.Images.{quarter, quarter_part, task_words}
+use Rattle.task_input.specs.Images.{quarter, task_words}
+use Rattle.tk_tasks.specs.Quarters.{quarter_part}
 use Rattle.tk_tasks.specs.Booted.{booted, turns_at_reset}
 use Rattle.tk_tasks.specs.States.{Tasks, AreSound, flat_end, player_of, turns_of}
 use Rattle.tk_tasks.specs.Turns.{Turns, Told, alone, at_reset_in, turns, HaveEnded}
 use Rattle.tk_tasks.specs.Plays.{Play, TaskPath, AreInTurn, EndsAsAlone, counted, told_of, told_text}
-use Rattle.tkernel_cli.specs.declared.request.TaskRequest.{TaskRequest}
-use Rattle.tkernel_cli.specs.declared.status.Status.{Status}
-use Rattle.tkernel_cli.specs.declared.status.Status.TheVariants as status
+use Rattle.tk_request.specs.declared.request.TaskRequest.{TaskRequest}
+use Rattle.tk_request.specs.declared.status.Status.{Status}
+use Rattle.tk_request.specs.declared.status.Status.TheVariants as status
 use Rattle.tkernel_cli.specs.declared.top.Exit.{Exit}
-use Rattle.tkernel_cli.specs.Runs.{Stream, Says, status_of_end}
-use Rattle.tkernel_cli.specs.Status.{number_of}
+use Rattle.tk_request.specs.Reading.{Stream}
+use Rattle.tkernel_cli.specs.Runs.{Says, status_of_end}
+use Rattle.tk_request.specs.Status.{number_of}
 use Rattle.tkernel_cli.specs.Text.{tasks_count_text}
 
 -- a task's program: its quarter of the words of all

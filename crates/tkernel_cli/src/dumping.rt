@@ -2,24 +2,22 @@
 ghost use Rattle.std.specs.Prelude.{◌≡◌, ◌⊎◌, ◌≤◌, codes, IfOk};
 ghost use Rattle.pool_check.specs.WrittenDumps.{written};
 ghost use Rattle.tkernel_cli.specs.Answer.{Does};
-ghost use Rattle.tkernel_cli.specs.Commands.{AreOptions};
-ghost use Rattle.tkernel_cli.specs.declared.status.Status.{Status};
-ghost use Rattle.tkernel_cli.specs.declared.status.Status.TheVariants.{Done, NoMemory};
-ghost use Rattle.tkernel_cli.specs.DumpCommand.{HasDumped};
-ghost use Rattle.tkernel_cli.specs.Printed.{no_memory};
-ghost use Rattle.tkernel_cli.specs.Runs.{Says, stream};
+ghost use Rattle.tk_request.specs.Commands.{AreOptions};
+ghost use Rattle.tk_request.specs.declared.status.Status.{Status};
+ghost use Rattle.tk_request.specs.declared.status.Status.TheVariants.{Done, NoMemory};
+ghost use Rattle.tkernel_cli.specs.DumpRuns.{HasDumped};
+ghost use Rattle.tk_request.specs.Printed.{no_memory};
+ghost use Rattle.tkernel_cli.specs.Runs.{Says};
+ghost use Rattle.tk_request.specs.Reading.{stream};
 
-use crate::job::{say, tell};
-use crate::printed::NO_MEMORY;
-use crate::request::Request;
+use crate::job::{say, tell_no_memory};
 use crate::running::run_silently;
-use crate::status::Status;
 use crate::top::Exit;
 use flash_model::Flash;
-use line_text::whole;
 use pool_check::write_dump;
 use std::alloc::Global;
 use tk_io::Sink;
+use tk_request::{NO_MEMORY, Request, Status};
 
 /// Runs a request to its end without a line, and puts the dump of its flash.
 pub(crate) fn dump_request<K: Sink>(alloc: Global, request: Request, out: &mut K) -> Exit
@@ -34,7 +32,7 @@ pub(crate) fn dump_request<K: Sink>(alloc: Global, request: Request, out: &mut K
     } = request;
     let machine = match run_silently(alloc, &image, script, options) {
         Ok(machine) => machine,
-        Err(_) => return tell(Status::NoMemory, &whole(NO_MEMORY), out),
+        Err(_) => return tell_no_memory(out),
     };
     let status = put_dump(alloc, &machine.kernel.mote.flash, out);
     Exit {

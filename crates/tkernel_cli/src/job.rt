@@ -1,40 +1,21 @@
-//! What is asked for, once the words and the input are judged.
+//! What is done for a job.
 ghost use Rattle.std.specs.Prelude.{◌≡◌, ◌⊎◌};
-ghost use Rattle.tkernel_cli.specs.declared.job.Job.TheVariants.{Dump, Print, Restart, Run, Tasks, Write};
+ghost use Rattle.tk_request.specs.declared.job.Job.TheVariants.{Dump, Print, Restart, Run, Tasks, Write};
 ghost use Rattle.tkernel_cli.specs.Answer.{Does};
-ghost use Rattle.tkernel_cli.specs.Commands.{IsPossibleJob, RunsAProgram};
-ghost use Rattle.tkernel_cli.specs.Printed.{no_memory};
-ghost use Rattle.tkernel_cli.specs.Runs.{Says, stream};
+ghost use Rattle.tk_request.specs.Commands.{IsPossibleJob, RunsAProgram};
+ghost use Rattle.tk_request.specs.Printed.{no_memory};
+ghost use Rattle.tkernel_cli.specs.Runs.{Says};
+ghost use Rattle.tk_request.specs.Reading.{stream};
 
 use crate::dumping::dump_request;
-use crate::output::Output;
-use crate::request::{Request, TaskRequest};
 use crate::restarting::restart_request;
 use crate::running::run_request;
-use crate::status::Status;
 use crate::tasking::run_tasks;
 use crate::top::Exit;
-use input_script::Script;
-use line_text::Text;
 use std::alloc::Global;
+use text_pieces::{Text, whole};
 use tk_io::{Sink, put};
-
-/// What is asked for, once the words and the input are judged.
-#[derive(Drop)]
-pub(crate) enum Job {
-    /// One line, and the status that comes with it.
-    Print(Status, Text),
-    /// A run.
-    Run(Request),
-    /// The dump of the flash that a run leaves.
-    Dump(Request),
-    /// A run, a loss of power, and a second run with the same events over what is kept of its flash.
-    Restart(Request, Script),
-    /// A run of several programs on one mote.
-    Tasks(TaskRequest),
-    /// A text of any length.
-    Write(Output),
-}
+use tk_request::{Job, NO_MEMORY, Output, Status};
 
 /// Does a job.
 pub(crate) fn do_job<K: Sink>(alloc: Global, job: Job, out: &mut K) -> Exit
@@ -55,7 +36,7 @@ pub(crate) fn do_job<K: Sink>(alloc: Global, job: Job, out: &mut K) -> Exit
 }
 
 /// Puts a line. The status is its own, unless it can't be put.
-pub(crate) fn tell<K: Sink>(own: Status, line: &Text, out: &mut K) -> Exit
+fn tell<K: Sink>(own: Status, line: &Text, out: &mut K) -> Exit
     ensures done { Does (Print own line.now)
         (stream K.taken K.faults out.old) (stream K.taken K.faults out.new)
         result }
@@ -66,6 +47,13 @@ pub(crate) fn tell<K: Sink>(own: Status, line: &Text, out: &mut K) -> Exit
         kept: None,
         tasks: None,
     }
+}
+
+/// Puts that there was no memory.
+pub(crate) fn tell_no_memory<K: Sink>(out: &mut K) -> Exit
+    ensures done { Does no_memory (stream K.taken K.faults out.old) (stream K.taken K.faults out.new) result }
+{
+    tell(Status::NoMemory, &whole(NO_MEMORY), out)
 }
 
 /// Puts a text. The status is Done, unless it can't be put.

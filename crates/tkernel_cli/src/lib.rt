@@ -1,6 +1,7 @@
 //! The command line of tkernel as a library: words and an input in, lines and a status out.
 //!
-//! [`tkernel`] is the whole program but for the process around it. It judges the words, which are one of eight commands:
+//! [`tkernel`] is the whole program but for the process around it. The words and the input ask for a job (crate
+//! `tk_request`), which is done here. The words are one of eight commands:
 //!
 //! - `run` reads and judges a program, runs it, and prints its lines;
 //! - `dump` does so without them, and prints the dump of the flash that the run leaves (crate `pool_check`);
@@ -23,29 +24,13 @@
 //! ```
 #![tactic(auto)]
 
-mod asm_command;
-mod check_command;
-mod command;
-mod dump_command;
 mod dumping;
-mod generate_command;
 mod job;
-mod options;
-mod output;
-mod printed;
-mod reading;
-mod request;
-mod restart_command;
 mod restarting;
-mod run_command;
 mod running;
-mod status;
-mod table;
 mod tasking;
-mod tasks_command;
 mod text;
 mod top;
 
-pub use command::{Command, RunOptions, TaskOptions, command_of};
-pub use status::Status;
+pub use tk_request::{Command, RunOptions, Status, TaskOptions, command_of};
 pub use top::{Exit, tkernel};

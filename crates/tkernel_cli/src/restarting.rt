@@ -9,27 +9,24 @@ ghost use Rattle.page_index.specs.Maps.{IsPool};
 ghost use Rattle.pool_check.specs.Links.{HaveFormsAround};
 ghost use Rattle.program_steps.specs.Ready.{IsKept};
 ghost use Rattle.tkernel_cli.specs.Answer.{Does};
-ghost use Rattle.tkernel_cli.specs.Commands.{AreOptions};
-ghost use Rattle.tkernel_cli.specs.declared.request.Request.{Request as RequestValue};
-ghost use Rattle.tkernel_cli.specs.Printed.{no_memory};
-ghost use Rattle.tkernel_cli.specs.RestartCommand.{HasRestarted, RunsOver, lost_flash as flash_lost, lost_in, refused_in, second_start, torn_words as words_torn};
-ghost use Rattle.tkernel_cli.specs.Runs.{stream};
+ghost use Rattle.tk_request.specs.Commands.{AreOptions};
+ghost use Rattle.tk_request.specs.declared.request.Request.{Request as RequestValue};
+ghost use Rattle.tk_request.specs.Printed.{no_memory};
+ghost use Rattle.tkernel_cli.specs.RestartRuns.{HasRestarted, RunsOver, lost_flash as flash_lost, lost_in, refused_in, second_start, torn_words as words_torn};
+ghost use Rattle.tk_request.specs.Reading.{stream};
 ghost use Rattle.tkernel_cli.specs.Text.{restart_text};
 
-use crate::job::tell;
-use crate::printed::NO_MEMORY;
-use crate::request::Request;
+use crate::job::tell_no_memory;
 use crate::running::{run_silently, tell_end};
-use crate::status::Status;
 use crate::text::restarted;
 use crate::top::Exit;
 use flash_model::{Flash, Layout};
 use input_script::Script;
-use line_text::whole;
 use program_generator::next;
 use std::alloc::Global;
 use swap_store::Swap;
 use tk_io::{Sink, put};
+use tk_request::{Request, Status};
 use tk_restart::{Kept, restart, tear};
 use tk_run::{End, Machine};
 
@@ -53,11 +50,11 @@ pub(crate) fn restart_request<K: Sink>(
     } = request;
     let swap = match Swap::new(alloc, options.swap) {
         Ok(swap) => swap,
-        Err(_) => return tell(Status::NoMemory, &whole(NO_MEMORY), out),
+        Err(_) => return tell_no_memory(out),
     };
     let first = match run_silently(alloc, &image, script, options) {
         Ok(machine) => machine,
-        Err(_) => return tell(Status::NoMemory, &whole(NO_MEMORY), out),
+        Err(_) => return tell_no_memory(out),
     };
     let layout = Layout::of(image.len_words());
     let mut flash = lost_flash(first, &layout);

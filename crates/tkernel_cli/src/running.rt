@@ -5,27 +5,25 @@ ghost use Rattle.hex_image.specs.Image.{IsImage};
 ghost use Rattle.tk_io.specs.Faults.{HasCause};
 ghost use Rattle.tk_io.specs.Streams.{Puts};
 ghost use Rattle.tkernel_cli.specs.Answer.{Does};
-ghost use Rattle.tkernel_cli.specs.Commands.{AreOptions};
-ghost use Rattle.tkernel_cli.specs.declared.status.Status.{Status as StatusValue};
-ghost use Rattle.tkernel_cli.specs.DumpCommand.{silent};
-ghost use Rattle.tkernel_cli.specs.Printed.{no_memory};
-ghost use Rattle.tkernel_cli.specs.Runs.{stream, HasRun, Runs, Says, status_of_stop};
+ghost use Rattle.tk_request.specs.Commands.{AreOptions};
+ghost use Rattle.tk_request.specs.declared.status.Status.{Status as StatusValue};
+ghost use Rattle.tkernel_cli.specs.DumpRuns.{silent};
+ghost use Rattle.tk_request.specs.Printed.{no_memory};
+ghost use Rattle.tk_request.specs.Reading.{stream};
+ghost use Rattle.tkernel_cli.specs.Runs.{HasRun, Runs, Says, status_of_stop};
 ghost use Rattle.line_text.specs.StopLines.{end_line};
 ghost use Rattle.tkernel_cli.specs.Text.{count_text};
 
-use crate::command::RunOptions;
-use crate::job::tell;
-use crate::printed::NO_MEMORY;
-use crate::request::Request;
-use crate::status::Status;
+use crate::job::tell_no_memory;
 use crate::text::counts;
 use crate::top::Exit;
 use hex_image::Image;
 use input_script::Script;
 use kernel_entry::Stop;
-use line_text::{stop_line, whole};
+use line_text::stop_line;
 use std::alloc::Global;
 use tk_io::{Failed, NoMemory, NullSink, Sink, put};
+use tk_request::{Request, RunOptions, Status};
 use tk_run::{End, Machine, Options};
 
 /// Runs a request to its end, and puts its lines.
@@ -47,7 +45,7 @@ pub(crate) fn run_request<K: Sink>(alloc: Global, request: Request, out: &mut K)
     };
     let mut machine = match Machine::boot(alloc, &image, script, asked) {
         Ok(machine) => machine,
-        Err(_) => return tell(Status::NoMemory, &whole(NO_MEMORY), out),
+        Err(_) => return tell_no_memory(out),
     };
     let status = match machine.advance(options.steps, out) {
         Ok(end) => tell_end(&machine, end, out),

@@ -1,23 +1,21 @@
 //! A run of several programs on one mote, and its printed lines.
 ghost use Rattle.std.specs.Prelude.{◌≡◌, ◌⊎◌, ◌≤◌};
 ghost use Rattle.tkernel_cli.specs.Answer.{Does};
-ghost use Rattle.tkernel_cli.specs.Commands.{AreTasks};
-ghost use Rattle.tkernel_cli.specs.declared.status.Status.TheVariants.{Done};
-ghost use Rattle.tkernel_cli.specs.Printed.{no_memory};
-ghost use Rattle.tkernel_cli.specs.Runs.{Says, stream};
+ghost use Rattle.tk_request.specs.Commands.{AreTasks};
+ghost use Rattle.tk_request.specs.declared.status.Status.TheVariants.{Done};
+ghost use Rattle.tk_request.specs.Printed.{no_memory};
+ghost use Rattle.tkernel_cli.specs.Runs.{Says};
+ghost use Rattle.tk_request.specs.Reading.{stream};
 ghost use Rattle.tkernel_cli.specs.TasksRuns.{HasTasksRun, status_of_task as status_at, worse as worse_of, worst};
 ghost use Rattle.tkernel_cli.specs.Text.{tasks_count_text};
 
-use crate::job::{say, tell};
-use crate::printed::NO_MEMORY;
-use crate::request::TaskRequest;
-use crate::status::Status;
+use crate::job::{say, tell_no_memory};
 use crate::text::task_counts;
 use crate::top::Exit;
 use kernel_entry::Stop;
-use line_text::whole;
 use std::alloc::Global;
 use tk_io::Sink;
+use tk_request::{Status, TaskRequest};
 use tk_tasks::{Task, TaskEnd, Tasks};
 
 /// Runs several programs in turn, each to its end, and puts their lines.
@@ -34,7 +32,7 @@ pub(crate) fn run_tasks<K: Sink>(alloc: Global, request: TaskRequest, out: &mut 
     let booted = Tasks::boot(alloc, &image, scripts.list(), options.quantum, options.swap);
     let mut tasks = match booted {
         Ok(tasks) => tasks,
-        Err(_) => return tell(Status::NoMemory, &whole(NO_MEMORY), out),
+        Err(_) => return tell_no_memory(out),
     };
     let status = match tasks.run(options.steps, out) {
         Ok(()) => tell_counts(&tasks, out),

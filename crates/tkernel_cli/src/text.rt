@@ -1,65 +1,10 @@
-//! The printed lines.
-ghost use Rattle.std.specs.Prelude.{◌≡◌, ◌≤◌, ◌++◌, codes, decimal, length};
+//! The last line of a run or of several tasks, and the line of a restart.
+ghost use Rattle.std.specs.Prelude.{◌≡◌, ◌≤◌, ◌++◌, codes, decimal};
 ghost use Rattle.arrayvec.specs.ArrayVec.{array_vec_len};
-ghost use Rattle.tkernel_cli.specs.CheckCommand.{verdict_text};
-ghost use Rattle.tkernel_cli.specs.Printed.{bad_line_text};
-ghost use Rattle.tkernel_cli.specs.TasksCommand.{bad_image_text};
 ghost use Rattle.tkernel_cli.specs.Text.{count_text, restart_text, tasks_count_text};
 
-use line_text::{Text, push, push_address, push_number, whole};
-use pool_check::Verdict;
+use text_pieces::{Text, push, push_number, whole};
 use tk_restart::Kept;
-
-/// The line that names a faulty line of the input, and its fault.
-#[tactic(auto, unfolding(crate::specs::Printed::bad_line_text))]
-pub(crate) fn bad_line(part: &[u8], line: u32, word: &[u8]) -> Text
-    requires part { length part.now ≤ 40 }
-    requires word { length word.now ≤ 40 }
-    ensures text { result.items ≡ bad_line_text part.now line word.now }
-{
-    let mut text = Text::new();
-    push(&mut text, part);
-    push_number(&mut text, u64::from(line));
-    push(&mut text, b" ");
-    push(&mut text, word);
-    push(&mut text, b"\n");
-    text
-}
-
-/// The line that names the first word of an image that no task has.
-#[tactic(auto, unfolding(crate::specs::TasksCommand::bad_image_text))]
-pub(crate) fn bad_image_text(address: u16) -> Text
-    ensures text { result.items ≡ bad_image_text address }
-{
-    let mut text = whole(b"bad task image ");
-    push_address(&mut text, address);
-    push(&mut text, b"\n");
-    text
-}
-
-/// The line of a checker's verdict.
-#[tactic(auto, unfolding(crate::specs::CheckCommand::verdict_text))]
-pub(crate) fn verdict_text(verdict: Verdict) -> Text
-    ensures text { result.items ≡ verdict_text verdict }
-{
-    match verdict {
-        Verdict::Faithful { pages } => numbered(b"faithful pages ", pages, b"\n"),
-        Verdict::Form { page } => numbered(b"not faithful page ", page, b" form\n"),
-        Verdict::Links { page } => numbered(b"not faithful page ", page, b" links\n"),
-    }
-}
-
-/// A line with a number in it.
-fn numbered(front: &[u8], number: u16, behind: &[u8]) -> Text
-    requires front { length front.now ≤ 20 }
-    requires behind { length behind.now ≤ 20 }
-    ensures text { result.items ≡ front.now ++ decimal number ++ behind.now }
-{
-    let mut text = whole(front);
-    push_number(&mut text, u64::from(number));
-    push(&mut text, behind);
-    text
-}
 
 /// The count line: plain steps, kernel services, and pages made.
 #[tactic(auto, unfolding(crate::specs::Text::count_text))]

@@ -1,22 +1,12 @@
 //! The top call: words and input in, lines and a status out.
 ghost use Rattle.std.specs.Prelude.{map, string_bytes};
-ghost use Rattle.tkernel_cli.specs.Answer.{IsAnswer, IsAsked, IsExact};
-ghost use Rattle.tkernel_cli.specs.Commands.{IsPossibleJob};
-ghost use Rattle.tkernel_cli.specs.Runs.{stream};
+ghost use Rattle.tkernel_cli.specs.Answer.{IsAnswer, IsExact};
+ghost use Rattle.tk_request.specs.Reading.{stream};
 
-use crate::asm_command::asm_job;
-use crate::check_command::check_job;
-use crate::command::{Command, command_of};
-use crate::dump_command::dump_job;
-use crate::generate_command::generated_job;
-use crate::job::{Job, do_job};
-use crate::printed::usage;
-use crate::restart_command::restart_job;
-use crate::run_command::run_job;
-use crate::status::Status;
-use crate::tasks_command::tasks_job;
+use crate::job::do_job;
 use std::alloc::Global;
 use tk_io::{Sink, Source};
+use tk_request::{Status, job_of};
 use tk_run::Machine;
 use tk_tasks::Tasks;
 
@@ -65,24 +55,4 @@ pub fn tkernel<S: Source, K: Sink>(
 {
     let job = job_of(alloc, words, input);
     do_job(alloc, job, out)
-}
-
-/// What the words ask for, and the input where they have it read.
-fn job_of<S: Source>(alloc: Global, words: &[String], input: &mut S) -> Job
-    ensures asked { IsAsked (map string_bytes words.now)
-        (stream S.left S.faults input.old) (stream S.left S.faults input.new)
-        result }
-    ensures possible { IsPossibleJob result }
-{
-    match command_of(words) {
-        Some(Command::Help) => usage(Status::Done),
-        Some(Command::Run(options)) => run_job(alloc, options, input),
-        Some(Command::Dump(options)) => dump_job(alloc, options, input),
-        Some(Command::Restart(options)) => restart_job(alloc, options, input),
-        Some(Command::Tasks(options)) => tasks_job(alloc, options, input),
-        Some(Command::Check) => check_job(alloc, input),
-        Some(Command::Generate(seed)) => generated_job(alloc, seed),
-        Some(Command::Asm) => asm_job(alloc, input),
-        None => usage(Status::Usage),
-    }
 }

@@ -1,157 +1,66 @@
-//! The words of a command line.
-use crate::support::{behind_run, words_of};
-use clap::{Arg, ArgAction};
-use std::alloc::Global;
+//! The words of a command line that are accepted. `.ci/shell` tries those that are refused.
+use crate::support::words_of;
 use std::test::Fail;
-use tkernel_cli::{Command, RunOptions, TaskOptions, command_of};
+use tkernel_cli::{Command, command_of};
 
-/// What `run` is told by itself.
-const DEFAULTS: RunOptions = RunOptions {
-    steps: 1_000_000,
-    quantum: 255,
-    swap: 128,
-};
-
-/// Words behind `run` that are accepted, and what they ask for.
-const ACCEPTED: [(&[&str], RunOptions); 16] = [
-    (&[], DEFAULTS),
+/// Command lines, and what they ask for: the command, and its numbers. A command of the crate `clap` with the three
+/// options of `run` was seen to read each line of `run` alike.
+const ACCEPTED: [(&[&str], &str, [u64; 4]); 28] = [
+    (&["run"], "run", [1_000_000, 255, 128, 0]),
+    (&["run", "--steps", "9"], "run", [9, 255, 128, 0]),
+    (&["run", "--steps=5"], "run", [5, 255, 128, 0]),
+    (&["run", "--steps", "0"], "run", [0, 255, 128, 0]),
+    (&["run", "--steps", "0000000009"], "run", [9, 255, 128, 0]),
     (
-        &["--steps", "9"],
-        RunOptions {
-            steps: 9,
-            ..DEFAULTS
-        },
+        &["run", "--steps=1000000000"],
+        "run",
+        [1_000_000_000, 255, 128, 0],
+    ),
+    (&["run", "--quantum", "1"], "run", [1_000_000, 1, 128, 0]),
+    (&["run", "--quantum=255"], "run", [1_000_000, 255, 128, 0]),
+    (&["run", "--swap", "0"], "run", [1_000_000, 255, 0, 0]),
+    (&["run", "--swap=251"], "run", [1_000_000, 255, 251, 0]),
+    (
+        &["run", "--steps", "1", "--quantum", "2", "--swap", "3"],
+        "run",
+        [1, 2, 3, 0],
     ),
     (
-        &["--steps=5"],
-        RunOptions {
-            steps: 5,
-            ..DEFAULTS
-        },
+        &["run", "--swap=3", "--quantum=2", "--steps=1"],
+        "run",
+        [1, 2, 3, 0],
     ),
     (
-        &["--steps", "0"],
-        RunOptions {
-            steps: 0,
-            ..DEFAULTS
-        },
+        &["run", "--quantum", "2", "--steps=1", "--swap", "3"],
+        "run",
+        [1, 2, 3, 0],
     ),
     (
-        &["--steps", "0000000009"],
-        RunOptions {
-            steps: 9,
-            ..DEFAULTS
-        },
+        &["run", "--steps=1", "--swap", "3", "--quantum", "2"],
+        "run",
+        [1, 2, 3, 0],
     ),
     (
-        &["--steps=1000000000"],
-        RunOptions {
-            steps: 1_000_000_000,
-            ..DEFAULTS
-        },
+        &["run", "--quantum=2", "--swap=3", "--steps", "1"],
+        "run",
+        [1, 2, 3, 0],
     ),
     (
-        &["--quantum", "1"],
-        RunOptions {
-            quantum: 1,
-            ..DEFAULTS
-        },
+        &["run", "--swap", "3", "--steps", "1", "--quantum=2"],
+        "run",
+        [1, 2, 3, 0],
     ),
-    (&["--quantum=255"], DEFAULTS),
-    (
-        &["--swap", "0"],
-        RunOptions {
-            swap: 0,
-            ..DEFAULTS
-        },
-    ),
-    (
-        &["--swap=251"],
-        RunOptions {
-            swap: 251,
-            ..DEFAULTS
-        },
-    ),
-    (
-        &["--steps", "1", "--quantum", "2", "--swap", "3"],
-        RunOptions {
-            steps: 1,
-            quantum: 2,
-            swap: 3,
-        },
-    ),
-    (
-        &["--swap=3", "--quantum=2", "--steps=1"],
-        RunOptions {
-            steps: 1,
-            quantum: 2,
-            swap: 3,
-        },
-    ),
-    (
-        &["--quantum", "2", "--steps=1", "--swap", "3"],
-        RunOptions {
-            steps: 1,
-            quantum: 2,
-            swap: 3,
-        },
-    ),
-    (
-        &["--steps=1", "--swap", "3", "--quantum", "2"],
-        RunOptions {
-            steps: 1,
-            quantum: 2,
-            swap: 3,
-        },
-    ),
-    (
-        &["--quantum=2", "--swap=3", "--steps", "1"],
-        RunOptions {
-            steps: 1,
-            quantum: 2,
-            swap: 3,
-        },
-    ),
-    (
-        &["--swap", "3", "--steps", "1", "--quantum=2"],
-        RunOptions {
-            steps: 1,
-            quantum: 2,
-            swap: 3,
-        },
-    ),
-];
-
-/// The words of the other commands.
-const OTHER_COMMANDS: [(&[&str], Command); 12] = [
-    (&["help"], Command::Help),
-    (&["asm"], Command::Asm),
-    (&["check"], Command::Check),
-    (&["dump"], Command::Dump(DEFAULTS)),
+    (&["help"], "help", [0; 4]),
+    (&["asm"], "asm", [0; 4]),
+    (&["check"], "check", [0; 4]),
+    (&["dump"], "dump", [1_000_000, 255, 128, 0]),
     (
         &["dump", "--swap=3", "--steps", "9"],
-        Command::Dump(RunOptions {
-            steps: 9,
-            swap: 3,
-            ..DEFAULTS
-        }),
+        "dump",
+        [9, 255, 3, 0],
     ),
-    (
-        &["dump", "--quantum=1"],
-        Command::Dump(RunOptions {
-            quantum: 1,
-            ..DEFAULTS
-        }),
-    ),
-    (
-        &["tasks", "--tasks", "2"],
-        Command::Tasks(TaskOptions {
-            count: 2,
-            steps: 1_000_000,
-            quantum: 255,
-            swap: 32,
-        }),
-    ),
+    (&["dump", "--quantum=1"], "dump", [1_000_000, 1, 128, 0]),
+    (&["tasks", "--tasks", "2"], "tasks", [1_000_000, 255, 32, 2]),
     (
         &[
             "tasks",
@@ -162,138 +71,41 @@ const OTHER_COMMANDS: [(&[&str], Command); 12] = [
             "--steps",
             "9",
         ],
-        Command::Tasks(TaskOptions {
-            count: 4,
-            steps: 9,
-            quantum: 1,
-            swap: 62,
-        }),
+        "tasks",
+        [9, 1, 62, 4],
     ),
-    (&["generate", "7"], Command::Generate(7)),
-    (&["generate", "0"], Command::Generate(0)),
-    (&["generate", "0000000007"], Command::Generate(7)),
+    (&["generate", "7"], "generate", [7, 0, 0, 0]),
+    (&["generate", "0"], "generate", [0; 4]),
+    (&["generate", "0000000007"], "generate", [7, 0, 0, 0]),
     (
         &["generate", "4294967295"],
-        Command::Generate(4_294_967_295),
+        "generate",
+        [4_294_967_295, 0, 0, 0],
     ),
 ];
 
-/// Words that are refused, `run` included.
-const REFUSED: [&[&str]; 54] = [
-    &[],
-    &[""],
-    &["Run"],
-    &["Help"],
-    &["help", "run"],
-    &["help", ""],
-    &["run", "help"],
-    &["generate"],
-    &["generate", ""],
-    &["generate", "4294967296"],
-    &["generate", "00000000007"],
-    &["generate", "7", "7"],
-    &["generate", "+7"],
-    &["generate=7"],
-    &["generate", "--seed", "7"],
-    &["asm", ""],
-    &["asm", "asm"],
-    &["check", ""],
-    &["check", "--steps", "1"],
-    &["dump", "run"],
-    &["dump", "--swap", "252"],
-    &["dump", "--swap=1", "--swap=1"],
-    &["tasks"],
-    &["tasks", "2"],
-    &["tasks", "--tasks", "0"],
-    &["tasks", "--tasks", "5"],
-    &["tasks", "--tasks", "2", "--swap", "63"],
-    &["run", "--tasks", "1"],
-    &["--help"],
-    &["--version"],
-    &["run", ""],
-    &["run", "run"],
-    &["run", "--"],
-    &["run", "--steps"],
-    &["run", "--steps", ""],
-    &["run", "--steps="],
-    &["run", "--steps", "+1"],
-    &["run", "--steps", "-1"],
-    &["run", "--steps", " 1"],
-    &["run", "--steps", "1 "],
-    &["run", "--steps", "0x1"],
-    &["run", "--steps", "00000000001"],
-    &["run", "--steps", "1000000001"],
-    &["run", "--steps==1"],
-    &["run", "--steps1"],
-    &["run", "--step", "1"],
-    &["run", "-steps", "1"],
-    &["run", "--steps", "1", "--steps", "2"],
-    &["run", "--quantum", "0"],
-    &["run", "--quantum", "256"],
-    &["run", "--quantum=1", "--quantum=1"],
-    &["run", "--swap", "252"],
-    &["run", "--swap", "1", "--swap=1"],
-    &["run", "--steps", "--swap", "1"],
-];
-
-fn command(alloc: Global, words: &[&str]) -> Result<Option<Command>, Fail> {
-    Ok(command_of(&words_of(alloc, words)?))
+/// The name of a command, and its numbers: steps, quantum, swap slots and tasks, or a seed.
+fn told(command: Option<Command>) -> (&'static str, [u64; 4]) {
+    match command {
+        Some(Command::Help) => ("help", [0; 4]),
+        Some(Command::Asm) => ("asm", [0; 4]),
+        Some(Command::Check) => ("check", [0; 4]),
+        Some(Command::Run(o)) => ("run", [o.steps, o.quantum.into(), o.swap.into(), 0]),
+        Some(Command::Dump(o)) => ("dump", [o.steps, o.quantum.into(), o.swap.into(), 0]),
+        Some(Command::Tasks(o)) => (
+            "tasks",
+            [o.steps, o.quantum.into(), o.swap.into(), o.count.into()],
+        ),
+        Some(Command::Generate(seed)) => ("generate", [seed.into(), 0, 0, 0]),
+        _ => ("another", [0; 4]),
+    }
 }
 
 #[test]
 fn accepted_words_are_their_command(rt: HostRuntime) -> Result<(), Fail> {
-    for (words, wanted) in &ACCEPTED {
-        let wanted = Some(Command::Run(*wanted));
-        assert_eq!(rt;
-            command(rt.alloc(), &behind_run(rt.alloc(), words)?)?,
-            wanted
-        );
-    }
-    for (words, wanted) in &OTHER_COMMANDS {
-        assert_eq!(rt; command(rt.alloc(), words)?, Some(*wanted));
+    for (words, name, numbers) in &ACCEPTED {
+        let owned = words_of(rt.alloc(), words)?;
+        assert!(rt; told(command_of(&owned)) == (*name, *numbers));
     }
     Ok(())
-}
-
-#[test]
-fn other_words_are_refused(rt: HostRuntime) -> Result<(), Fail> {
-    for words in &REFUSED {
-        assert_eq!(rt; command(rt.alloc(), words)?, None);
-    }
-    Ok(())
-}
-
-/// A command of clap with the same options reads the accepted words alike.
-#[test]
-fn clap_reads_the_accepted_words_alike(rt: HostRuntime) -> Result<(), Fail> {
-    let alloc = rt.alloc();
-    for (words, options) in &ACCEPTED {
-        let mut command = clap::Command::new(alloc, "run");
-        for name in ["steps", "quantum", "swap"] {
-            command = command.arg(Arg::new(alloc, name).long(name).action(ArgAction::Set))?;
-        }
-        let mut line = Vec::new(alloc);
-        line.push("run")?;
-        line.extend_from_slice(words)?;
-        let matches = command
-            .try_get_matches_from(&line)
-            .map_err(|_| "clap refuses")?;
-        assert_eq!(rt; number(matches.get_str("steps"), 1_000_000), options.steps);
-        assert_eq!(rt;
-            number(matches.get_str("quantum"), 255),
-            u64::from(options.quantum)
-        );
-        assert_eq!(rt;
-            number(matches.get_str("swap"), 128),
-            u64::from(options.swap)
-        );
-    }
-    Ok(())
-}
-
-fn number(text: Option<&str>, default: u64) -> u64 {
-    match text {
-        Some(text) => text.parse().unwrap_or(u64::MAX),
-        None => default,
-    }
 }

@@ -1,99 +1,79 @@
 //! The first program: `LDI r16, 0x0F`, `OUT PORTA, r16`, and an RJMP to its own address.
-use crate::support::{HEX, LINES, ROOM, answer, run, sink};
+use crate::support::{Ended, ROOM, answer, answer_of};
 use kernel_entry::Stop;
+use std::alloc::Global;
 use std::test::Fail;
-use tk_io::{FlakySink, FlakySource, MemSink, MemSource};
+use tk_io::{FlakySink, FlakySource, MemSink, MemSource, Sink, SlowSink, SlowSource};
 use tk_run::End;
 use tkernel_cli::Status;
 
-const USAGE: &[u8] = b"usage: tkernel run [--steps N] [--quantum Q] [--swap S]\n";
+const HEX: &[u8] = b":060000000FE00BBBFFCF77\n:00000001FF\n";
 
-#[test]
-fn its_lines_are_printed(rt: HostRuntime) -> Result<(), Fail> {
-    let (ended, out) = run(rt.alloc(), HEX)?;
-    assert_eq!(rt; ended.status, Status::Done);
-    assert_eq!(rt; out.taken(), LINES);
-    Ok(())
+const LINES: &[u8] =
+    b"PORTA 0x0F\nhalted 0x0002 steps 2 checkpoints 0\nnatural 3 entries 1 pages 1\n";
+
+const READ_FAULT: &[u8] = b"read fault\n";
+
+/// The bytes of the lines.
+const LENGTH: usize = 75;
+
+/// The program's text.
+fn hex(alloc: Global) -> Result<Vec<u8>, Fail> {
+    Ok(HEX.to_vec(alloc)?)
+}
+
+/// Whether a text is this many bytes of the lines.
+fn is_start(text: &[u8], count: usize) -> bool {
+    LINES.get(..count) == Some(text)
+}
+
+/// The text, as a source of which this call fails.
+fn failing_source(alloc: Global, call: u64) -> Result<FlakySource, Fail> {
+    let failing = [call].to_vec(alloc)?;
+    Ok(FlakySource::new(hex(alloc)?, failing))
+}
+
+/// A sink of which this call fails.
+fn failing_sink(alloc: Global, call: u64) -> Result<FlakySink, Fail> {
+    let failing = [call].to_vec(alloc)?;
+    Ok(FlakySink::new(alloc, ROOM, failing)?)
+}
+
+/// Runs the program into a sink.
+fn run_to<K: Sink>(alloc: Global, out: &mut K) -> Result<Ended, Fail> {
+    let mut input = MemSource::new(hex(alloc)?);
+    answer(alloc, &["run"], &mut input, out)
 }
 
 #[test]
 fn the_machine_is_kept(rt: HostRuntime) -> Result<(), Fail> {
-    let (ended, _) = run(rt.alloc(), HEX)?;
+    let ended = answer_of(rt.alloc(), &["run"], &[0xE00F, 0xBB0B, 0xCFFF], b"", ROOM)?;
+    assert!(rt; ended.status == Status::Done);
     let machine = ended.machine()?;
-    assert_eq!(rt; machine.end, Some(End::Stopped(Stop::Halted(2))));
-    assert_eq!(rt; machine.r[16], 0x0F);
-    assert_eq!(rt; machine.sp, 0x011F);
-    assert_eq!(rt;
-        machine.pool,
-        [
-            0, 3, 0x0005, 0x0106, 0x0207, 0xE00F, 0xBB0B, 0x940E, 0xF00C, 2, 0xFFFF
-        ]
-    );
-    Ok(())
-}
-
-#[test]
-fn other_words_are_usage_and_read_nothing(rt: HostRuntime) -> Result<(), Fail> {
-    let alloc = rt.alloc();
-    let lists: [&[&str]; 9] = [
-        &[],
-        &["run", "--quantum", "0"],
-        &["run", "--steps", "1", "--steps", "2"],
-        &["run", "--steps", "+1"],
-        &["Run"],
-        &[""],
-        &["--help"],
-        &["help", "run"],
-        &["generate", "4294967296"],
-    ];
-    for words in lists {
-        let mut input = MemSource::new(HEX.to_vec(alloc)?);
-        let mut out = sink(alloc)?;
-        let ended = answer(alloc, words, &mut input, &mut out)?;
-        assert_eq!(rt; ended.status, Status::Usage);
-        assert_eq!(rt; out.taken(), USAGE);
-        assert_eq!(rt; input.left(), HEX);
-    }
-    Ok(())
-}
-
-/// The source would fail if it were read.
-#[test]
-fn help_is_the_usage_line_and_reads_nothing(rt: HostRuntime) -> Result<(), Fail> {
-    let alloc = rt.alloc();
-    let mut input = FlakySource::new(HEX.to_vec(alloc)?, [1].to_vec(alloc)?);
-    let mut out = sink(alloc)?;
-    let ended = answer(alloc, &["help"], &mut input, &mut out)?;
-    assert_eq!(rt; ended.status, Status::Done);
-    assert_eq!(rt; out.taken(), USAGE);
-    assert_eq!(rt; ended.kept.is_none(), true);
+    assert!(rt; matches!(machine.end, Some(End::Stopped(Stop::Halted(2)))));
+    assert!(rt; machine.r[16] == 0x0F);
+    assert!(rt; machine.sp == 0x011F);
     Ok(())
 }
 
 #[test]
 fn a_failed_read_is_told(rt: HostRuntime) -> Result<(), Fail> {
-    let alloc = rt.alloc();
-    let mut input = FlakySource::new(HEX.to_vec(alloc)?, [2].to_vec(alloc)?);
-    let mut out = sink(alloc)?;
-    let ended = answer(alloc, &["run"], &mut input, &mut out)?;
-    assert_eq!(rt; ended.status, Status::ReadFault);
-    assert_eq!(rt; out.taken(), b"read fault\n".as_slice());
-    assert_eq!(rt; ended.kept.is_none(), true);
+    let mut input = failing_source(rt.alloc(), 2)?;
+    let mut out = MemSink::new(rt.alloc(), ROOM)?;
+    let ended = answer(rt.alloc(), &["run"], &mut input, &mut out)?;
+    assert!(rt; ended.status == Status::ReadFault);
+    assert!(rt; out.taken() == READ_FAULT);
     Ok(())
 }
 
 /// The sink fails at its first call, its second and so on: what went out is a part of the lines.
 #[test]
 fn a_failed_write_leaves_a_part_of_the_lines(rt: HostRuntime) -> Result<(), Fail> {
-    let alloc = rt.alloc();
     for (call, went_out) in [(1, 0), (2, 11), (3, 47)] {
-        let mut input = MemSource::new(HEX.to_vec(alloc)?);
-        let failing = [call].to_vec(alloc)?;
-        let mut out = FlakySink::new(alloc, ROOM, failing)?;
-        let ended = answer(alloc, &["run"], &mut input, &mut out)?;
-        assert_eq!(rt; ended.status, Status::WriteFault);
-        assert_eq!(rt; out.taken(), &LINES[..went_out], "call {call}");
-        assert_eq!(rt; ended.kept.is_some(), true);
+        let mut out = failing_sink(rt.alloc(), call)?;
+        let ended = run_to(rt.alloc(), &mut out)?;
+        assert!(rt; ended.status == Status::WriteFault);
+        assert!(rt; is_start(out.taken(), went_out), "call {call}");
     }
     Ok(())
 }
@@ -102,19 +82,47 @@ fn a_failed_write_leaves_a_part_of_the_lines(rt: HostRuntime) -> Result<(), Fail
 /// its output, the first, didn't fit.
 #[test]
 fn a_sink_with_too_little_room_takes_what_fits(rt: HostRuntime) -> Result<(), Fail> {
-    let alloc = rt.alloc();
-    for room in 0..=LINES.len() {
-        let mut input = MemSource::new(HEX.to_vec(alloc)?);
-        let mut out = MemSink::new(alloc, room)?;
-        let ended = answer(alloc, &["run"], &mut input, &mut out)?;
-        assert_eq!(rt; out.taken(), &LINES[..room]);
-        let status = if room < LINES.len() {
+    for room in 0..=LENGTH {
+        let mut out = MemSink::new(rt.alloc(), room)?;
+        let ended = run_to(rt.alloc(), &mut out)?;
+        assert!(rt; is_start(out.taken(), room), "room {room}");
+        let status = if room < LENGTH {
             Status::WriteFault
         } else {
             Status::Done
         };
-        assert_eq!(rt; ended.status, status, "room {room}");
-        assert_eq!(rt; ended.machine()?.broken, room < 11, "room {room}");
+        assert!(rt; ended.status == status, "room {room}");
+        assert!(rt; ended.machine()?.broken == (room < 11), "room {room}");
+    }
+    Ok(())
+}
+
+/// A source of the text that gives a few bytes at a time.
+fn slow_source(alloc: Global, most: usize) -> Result<SlowSource, Fail> {
+    if most == 0 {
+        return Err("no byte at a time".into());
+    }
+    Ok(SlowSource::new(hex(alloc)?, most))
+}
+
+/// A sink that takes a few bytes at a time.
+fn slow_sink(alloc: Global, most: usize) -> Result<SlowSink, Fail> {
+    if most == 0 {
+        return Err("no byte at a time".into());
+    }
+    Ok(SlowSink::new(alloc, ROOM, most)?)
+}
+
+/// Streams that move 1, 7 or 4,096 bytes at each call make no difference.
+#[test]
+fn slow_streams_make_no_difference(rt: HostRuntime) -> Result<(), Fail> {
+    for most in [1, 7, 4096] {
+        let mut input = slow_source(rt.alloc(), most)?;
+        let mut out = slow_sink(rt.alloc(), most)?;
+        let ended = answer(rt.alloc(), &["run"], &mut input, &mut out)?;
+        assert!(rt; is_start(out.taken(), LENGTH), "{most} bytes");
+        assert!(rt; ended.status == Status::Done, "{most} bytes");
+        assert!(rt; input.left().is_empty(), "{most} bytes");
     }
     Ok(())
 }

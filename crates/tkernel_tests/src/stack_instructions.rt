@@ -1,10 +1,8 @@
-//! PUSH, POP, and loads and stores by Y: of every register, with SREG full and empty, and at each edge of the
-//! stack window, 0x0D00 to 0x10FF.
-use crate::support::{Ended, Kept, run_image};
+//! PUSH, POP, and loads and stores by Y: of every register, with SREG full and empty, and at addresses inside
+//! and outside the stack window, 0x0D00 to 0x10FF.
+use crate::support::{Ended, ROOM, answer_of};
 use std::alloc::Global;
 use std::test::Fail;
-use tk_io::MemSink;
-use tkernel_cli::Status;
 
 /// What the registers and bytes of these tests hold.
 const VALUE: u8 = 0xA5;
@@ -59,12 +57,7 @@ const MIDST: Before = Before {
 
 /// The stack pointer, Y, r18 and the byte are set, then r17 and SREG; `last` may set another register; the
 /// instruction is the 13th word, and the twelfth step.
-fn run_to(
-    alloc: Global,
-    before: Before,
-    last: u16,
-    instruction: u16,
-) -> Result<(Ended, MemSink), Fail> {
+fn run_to(alloc: Global, before: Before, last: u16, instruction: u16) -> Result<Ended, Fail> {
     let image = [
         ldi(16, before.sp >> 8),
         0xBF0E, // OUT SPH, r16
@@ -81,13 +74,7 @@ fn run_to(
         instruction,
         0xCFFF,
     ];
-    run_image(alloc, &image, &["--steps", "12"], b"")
-}
-
-/// The machine after the instruction.
-fn after(alloc: Global, before: Before, last: u16, instruction: u16) -> Result<Kept, Fail> {
-    let (ended, _) = run_to(alloc, before, last, instruction)?;
-    ended.machine()
+    answer_of(alloc, &["run", "--steps", "12"], &image, b"", ROOM)
 }
 
 /// The registers where `last` has set one to the value.
@@ -109,14 +96,14 @@ fn each_register_is_pushed(rt: HostRuntime) -> Result<(), Fail> {
     for register in 0..32u16 {
         for sreg in [0x00, 0xFF] {
             let before = Before { sreg, ..MIDST };
-            let machine = after(rt.alloc(), before, mov(register), push(register))?;
-            assert_eq!(rt; machine.stack[0x00], VALUE, "r{register}");
-            assert_eq!(rt; machine.program_sp, 0x0DFF, "r{register}");
-            assert_eq!(rt; machine.sreg, sreg, "r{register}");
-            assert_eq!(rt; machine.r, registers(sreg, register), "r{register}");
-            assert_eq!(rt;
-                (machine.natural, machine.entries),
-                counts(register),
+            let ended = run_to(rt.alloc(), before, mov(register), push(register))?;
+            let machine = ended.machine()?;
+            assert!(rt; machine.stack[0x00] == VALUE, "r{register}");
+            assert!(rt; machine.program_sp == 0x0DFF, "r{register}");
+            assert!(rt; machine.sreg == sreg, "r{register}");
+            assert!(rt; machine.r == registers(sreg, register), "r{register}");
+            assert!(rt;
+                (machine.natural, machine.entries) == counts(register),
                 "r{register}"
             );
         }
@@ -129,69 +116,16 @@ fn each_register_is_popped(rt: HostRuntime) -> Result<(), Fail> {
     for register in 0..32u16 {
         for sreg in [0x00, 0xFF] {
             let before = Before { sreg, ..MIDST };
-            let machine = after(rt.alloc(), before, NOP, pop(register))?;
-            assert_eq!(rt; machine.program_sp, 0x0E01, "r{register}");
-            assert_eq!(rt; machine.sreg, sreg, "r{register}");
-            assert_eq!(rt; machine.r, registers(sreg, register), "r{register}");
-            assert_eq!(rt;
-                (machine.natural, machine.entries),
-                counts(register),
+            let ended = run_to(rt.alloc(), before, NOP, pop(register))?;
+            let machine = ended.machine()?;
+            assert!(rt; machine.program_sp == 0x0E01, "r{register}");
+            assert!(rt; machine.sreg == sreg, "r{register}");
+            assert!(rt; machine.r == registers(sreg, register), "r{register}");
+            assert!(rt;
+                (machine.natural, machine.entries) == counts(register),
                 "r{register}"
             );
         }
-    }
-    Ok(())
-}
-
-/// Just inside the window the instruction runs in its page, and just outside it is the kernel that refuses.
-#[test]
-fn the_window_has_two_edges(rt: HostRuntime) -> Result<(), Fail> {
-    const PUSHED: &[u8] = b"spent steps 12 checkpoints 0\nnatural 30 entries 3 pages 1\n";
-    let rows: [(u16, u16, Status, &[u8]); 9] = [
-        (push(5), 0x0D00, Status::Spent, PUSHED),
-        (push(5), 0x10FF, Status::Spent, PUSHED),
-        (
-            push(5),
-            0x0CFF,
-            Status::Fault,
-            b"fault stack 0x000C address 0x0CFF steps 11 checkpoints 0\nnatural 24 entries 4 pages 1\n",
-        ),
-        (
-            push(5),
-            0x1100,
-            Status::Fault,
-            b"fault stack 0x000C address 0x1100 steps 11 checkpoints 0\nnatural 26 entries 4 pages 1\n",
-        ),
-        (pop(5), 0x0CFF, Status::Spent, PUSHED),
-        (pop(5), 0x10FE, Status::Spent, PUSHED),
-        (
-            pop(5),
-            0x0CFE,
-            Status::Fault,
-            b"fault stack 0x000C address 0x0CFF steps 11 checkpoints 0\nnatural 25 entries 4 pages 1\n",
-        ),
-        (
-            pop(5),
-            0x10FF,
-            Status::Fault,
-            b"fault stack 0x000C address 0x1100 steps 11 checkpoints 0\nnatural 27 entries 4 pages 1\n",
-        ),
-        (
-            pop(5),
-            0xFFFF,
-            Status::Fault,
-            b"fault stack 0x000C address 0x0000 steps 11 checkpoints 0\nnatural 25 entries 4 pages 1\n",
-        ),
-    ];
-    for (instruction, sp, status, text) in rows {
-        let before = Before {
-            sp,
-            at: 0x0F00,
-            ..MIDST
-        };
-        let (ended, out) = run_to(rt.alloc(), before, NOP, instruction)?;
-        assert_eq!(rt; out.taken(), text);
-        assert_eq!(rt; ended.status, status);
     }
     Ok(())
 }
@@ -212,9 +146,10 @@ fn a_load_by_y_reaches_every_address(rt: HostRuntime) -> Result<(), Fail> {
     ];
     for (y, q, at, entries) in rows {
         let before = Before { y, at, ..MIDST };
-        let machine = after(rt.alloc(), before, mov(0), ldd(5, q))?;
-        assert_eq!(rt; machine.r[5], VALUE, "{y} {q}");
-        assert_eq!(rt; machine.entries, entries, "{y} {q}");
+        let ended = run_to(rt.alloc(), before, mov(0), ldd(5, q))?;
+        let machine = ended.machine()?;
+        assert!(rt; machine.r[5] == VALUE, "{y} {q}");
+        assert!(rt; machine.entries == entries, "{y} {q}");
     }
     Ok(())
 }
@@ -224,9 +159,10 @@ fn a_load_by_y_reaches_every_address(rt: HostRuntime) -> Result<(), Fail> {
 fn y_is_stored_and_loaded_by_itself(rt: HostRuntime) -> Result<(), Fail> {
     let before = Before { y: 0x0E17, ..MIDST };
     for (register, value) in [(28, 0x17), (29, 0x0E), (18, VALUE)] {
-        let machine = after(rt.alloc(), before, NOP, std(2, register))?;
-        assert_eq!(rt; machine.stack[0x19], value, "r{register}");
-        assert_eq!(rt; machine.entries, 3, "r{register}");
+        let ended = run_to(rt.alloc(), before, NOP, std(2, register))?;
+        let machine = ended.machine()?;
+        assert!(rt; machine.stack[0x19] == value, "r{register}");
+        assert!(rt; machine.entries == 3, "r{register}");
     }
     let before = Before {
         y: 0x0E17,
@@ -234,8 +170,9 @@ fn y_is_stored_and_loaded_by_itself(rt: HostRuntime) -> Result<(), Fail> {
         ..MIDST
     };
     for (register, y) in [(28, [VALUE, 0x0E]), (29, [0x17, VALUE])] {
-        let machine = after(rt.alloc(), before, NOP, ldd(register, 2))?;
-        assert_eq!(rt; [machine.r[28], machine.r[29]], y, "r{register}");
+        let ended = run_to(rt.alloc(), before, NOP, ldd(register, 2))?;
+        let machine = ended.machine()?;
+        assert!(rt; [machine.r[28], machine.r[29]] == y, "r{register}");
     }
     Ok(())
 }

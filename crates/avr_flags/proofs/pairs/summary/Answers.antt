@@ -1,4 +1,4 @@
-use Rattle.std.proofs.Common.{◌<◌, rules}
+use Rattle.std.proofs.Common.{rules}
 use Rattle.std.proofs.lemmas.Nat.{and_mask}
 use Rattle.avr_flags.proofs.PairLaws.{summary_zero, summary_top}
 use Rattle.avr_flags.proofs.pairs.summary.Goals as goal
@@ -8,5 +8,4 @@ returns-else-pair-eq0-clause-zero c = summary_zero _ (rw (and_mask _ 8) at c.if-
 
 pub returns-else-pair-eq0-clause-top : goal.returns-else-pair-eq0-clause-top
 returns-else-pair-eq0-clause-top c =
-    let fits : c.args.pair < 65536 = search rules in
-    summary_top _ fits
+    summary_top c.args.pair (search rules)

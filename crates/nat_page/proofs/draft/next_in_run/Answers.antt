@@ -31,12 +31,12 @@ returns c =
     let E : (a v : ℕ) → Type 0 = λ a v. IsEntry layout words a v in
     let unknown : HasNoEntry layout words pc = λ v entry. (let known = c.requires.known.only (pc % 128) v (omega arith) (subst (λ (a : ℕ). E a v) (sym there) entry) in absurd (cc)) in
     let P : ℕ → Type 0 = λ pc. HasNoEntry layout words pc in
-    let here : c.args.here.now.next ≡ c.read-next.result.pc = cc in
+    let here : c.args.here.now.next ≡ c.read-next.result.pc = sym c.read-next.ensures.pc in
     record {
       next = record {
         read = c.read-next.ensures.read;
-        follows = cc;
-        returns = cc;
+        follows = c.read-next.ensures.pc ∙ c.requires.read.next;
+        returns = sym c.requires.read.ends ∙ c.if-here.false;
         paged = ap (λ pc. pc / 128) (sym here) ∙ c.if-here-2.false;
         inside = omega arith;
         unknown = subst P here unknown;

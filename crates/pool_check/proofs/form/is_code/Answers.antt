@@ -1,41 +1,43 @@
-use Rattle.std.proofs.Common.{◌∙◌, arith, sym, subst, List}
+use Rattle.std.proofs.Common.{◌∙◌, ℕ, ◌<◌, ◌≤◌, arith, refl, sym, subst, List}
 use Rattle.nat_template.specs.declared.piece.Piece.{Piece}
 use Rattle.nat_page.specs.Standing.{Stands}
 use Rattle.nat_page.specs.CodePages.{Anywhere}
 use Rattle.pool_check.specs.Forms.{first_told, last_told}
 use Rattle.pool_check.proofs.FormLaws.{told, page_told, stands_told, rest_told, is_code}
+use Rattle.pool_check.proofs.LinkTests.{is_so_not}
 use Rattle.pool_check.proofs.form.is_code.Goals.{then-words-ge192-via-then-words-ge192, then-words-ge192-via-else-words-ge192+then-count-lt1, then-words-ge192-via-else-words-ge192+else-count-lt1+then-count-ge126}
 use Rattle.pool_check.proofs.form.is_code.Goals as goal
+
+not_both : {n m : ℕ} → n < m → m ≤ n → ⊥
+not_both below from = omega arith
 
 pub returns-then-words-ge192 : goal.returns-then-words-ge192
 returns-then-words-ge192 c =
     record {
       value = (
-        λ no. absurd (cc),
+        λ no. absurd (is_so_not no refl),
         λ code.
             let is = told c.args.image.now c.args.words.now c.requires.short code in
             elim c.then-words-ge192.branch [
-              | then-words-ge192-via-then-words-ge192 w ↦ absurd (omega (arith, is.original, w.if-words-ge192.true))
-              | then-words-ge192-via-else-words-ge192+then-count-lt1 w ↦ absurd (omega (arith, is.some, w.if-count-lt1.true))
-              | then-words-ge192-via-else-words-ge192+else-count-lt1+then-count-ge126 w ↦ absurd (omega (arith, is.few, w.if-count-ge126.true))
+              | then-words-ge192-via-then-words-ge192 w ↦ absurd (not_both is.original w.if-words-ge192.true)
+              | then-words-ge192-via-else-words-ge192+then-count-lt1 w ↦ absurd (not_both w.if-count-lt1.true is.some)
+              | then-words-ge192-via-else-words-ge192+else-count-lt1+then-count-ge126 w ↦ absurd (not_both is.few w.if-count-ge126.true)
             ],
       );
     }
 
 pub returns-in-None : goal.returns-in-None
 returns-in-None c =
-    record { value = (λ no. absurd (cc), λ code. absurd (c.in-None.ensures.page (page_told c.args.image.now c.args.words.now code))) }
+    record { value = (λ no. absurd (is_so_not no refl), λ code. absurd (c.in-None.ensures.page (page_told c.args.image.now c.args.words.now code))) }
 
 pub returns-then-not-stands : goal.returns-then-not-stands
 returns-then-not-stands c =
     record {
       value = (
-        λ no. absurd (cc),
+        λ no. absurd (is_so_not no refl),
         λ code.
             let is = c.deref.ensures.0 ∙ c.in-Some.ensures.page.1 in
-            let yes = c.stands.ensures.value.1 (stands_told c.args.image.now c.args.words.now c.deref.result.now is code) in
-            let no = c.if-not-stands.true in
-            absurd (cc),
+            absurd (is_so_not (c.stands.ensures.value.1 (stands_told c.args.image.now c.args.words.now c.deref.result.now is code)) c.if-not-stands.true),
       );
     }
 

@@ -1,9 +1,7 @@
-use Rattle.std.proofs.Common.{◌≡◌, ◌+◌, ◌*◌, ◌≤◌, ◌^◌, length, sym, ap, ◌∙◌, arith, subst}
-use Rattle.std.specs.Prelude.{slice_get, slice_index_or, sum_by, Some}
-use Rattle.tk_tasks.specs.declared.tasks.Task.{Task}
+use Rattle.std.proofs.Common.{◌≡◌, ◌+◌, ◌^◌, ap, ◌∙◌, arith}
+use Rattle.std.specs.Prelude.{slice_get, sum_by}
 use Rattle.tk_tasks.specs.States.{arrivals_of}
-use Rattle.tk_tasks.specs.Running.{sum_to}
-use Rattle.tk_tasks.proofs.Sums.{to_next, to_all, to_most}
+use Rattle.tk_tasks.proofs.Sums.{to_next, to_most}
 use Rattle.tk_tasks.proofs.Keeping.{sum_has}
 use Rattle.tk_tasks.proofs.Runs.{is_at, get_at, arrivals_few, all_here}
 use Rattle.tk_tasks.proofs.play.others.Goals as goal

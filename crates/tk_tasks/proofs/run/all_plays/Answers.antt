@@ -1,7 +1,5 @@
-use Rattle.std.proofs.Common.{◌≡◌, ◌≢◌, ◌≤◌, ◌<◌, false, true, Bool, refl, sym, ap, ◌∙◌, arith, subst}
-use Rattle.std.specs.Prelude.{slice_get, Some, None, Ok}
+use Rattle.std.proofs.Common.{◌≡◌, false, true, Bool, refl, sym, ap, ◌∙◌, arith}
 use Rattle.std.proofs.lemmas.Result.{err_from_is_err_and}
-use Rattle.tk_tasks.specs.declared.tasks.Task.{Task}
 use Rattle.tk_tasks.specs.States.{Tasks}
 use Rattle.tk_tasks.specs.Trying.{tried_told}
 use Rattle.tk_tasks.proofs.Runs.{way_start, way_cut_in_turn, way_on, way_cut, still_less, room_of, quantum_some, all_ended}

@@ -1,8 +1,7 @@
 use Rattle.std.proofs.Common.{sym, ap₂, ◌∙◌, ◌++◌, ◌/◌, subst}
-use Rattle.std.specs.Prelude.{Some}
 use Rattle.line_text.specs.Gathering.{Gathers}
 use Rattle.line_text.specs.StopLines.{end_line}
-use Rattle.line_text.specs.TaskLines.{task_text}
+use Rattle.text_pieces.specs.Pieces.{task_text}
 use Rattle.tk_tasks.specs.Plays.{told_text}
 use Rattle.tk_tasks.specs.Trying.{end_told}
 use Rattle.tk_tasks.proofs.Telling.{end_line_is}

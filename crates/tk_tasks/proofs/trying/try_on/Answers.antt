@@ -1,8 +1,7 @@
 use Rattle.std.proofs.Common.{refl, sym, ◌∙◌}
 use Rattle.program_steps.specs.Wholes.{whole}
-use Rattle.program_steps.proofs.TakingLaws.{untaken_of}
 use Rattle.tk_tasks.specs.Trying.{HasTried}
-use Rattle.tk_tasks.proofs.Trials.{tried_taken, tried_steps, unrested, own_admits, entered_in}
+use Rattle.tk_tasks.proofs.Trials.{tried_taken, tried_steps, entered_in}
 use Rattle.tk_tasks.proofs.trying.try_on.Goals as goal
 
 pub returns-in-Some-clause-tried : goal.returns-in-Some-clause-tried

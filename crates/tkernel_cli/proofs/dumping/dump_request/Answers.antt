@@ -3,8 +3,9 @@ use Rattle.std.specs.Prelude.{◌⊎◌, codes}
 use Rattle.hex_image.specs.Image.{IsImage}
 use Rattle.pool_check.specs.WrittenDumps.{written}
 use Rattle.program_steps.specs.Machines.{Machine}
-use Rattle.tkernel_cli.specs.declared.status.Status.TheVariants.{Done, NoMemory}
-use Rattle.tkernel_cli.specs.Runs.{Says, stream}
+use Rattle.tk_request.specs.declared.status.Status.TheVariants.{Done, NoMemory}
+use Rattle.tkernel_cli.specs.Runs.{Says}
+use Rattle.tk_request.specs.Reading.{stream}
 use Rattle.tkernel_cli.proofs.dumping.dump_request.Goals as goal
 
 pub run_silently-requires-clause-image : goal.run_silently-requires-clause-image

@@ -1,4 +1,4 @@
-use Rattle.std.proofs.Common.{◌≡◌, sym, ap, ap₂, ◌∙◌, subst}
+use Rattle.std.proofs.Common.{sym, ap, ap₂, ◌∙◌, subst}
 use Rattle.std.specs.Prelude.{IfSome}
 use Rattle.flash_model.specs.Layouts.{IsRight}
 use Rattle.flash_model.specs.Memory.{Memory}
@@ -8,7 +8,7 @@ use Rattle.kernel_entry.specs.Parts.{image_held}
 use Rattle.pool_check.specs.Links.{HaveFormsAround}
 use Rattle.program_steps.specs.Machines.{Machine}
 use Rattle.program_steps.specs.Ready.{IsKept}
-use Rattle.tkernel_cli.specs.RestartCommand.{lost_in, refused_in}
+use Rattle.tkernel_cli.specs.RestartRuns.{lost_in, refused_in}
 use Rattle.tkernel_cli.proofs.LostFlash.{around_machine}
 use Rattle.tkernel_cli.proofs.restarting.lost_flash.Goals as goal
 

@@ -1,10 +1,10 @@
-use Rattle.std.proofs.Common.{subst, refl, sym, ap, ◌∙◌, arith}
+use Rattle.std.proofs.Common.{subst, refl, sym, ◌∙◌, arith}
 use Rattle.std.specs.Io.KnownBytes.{Appends}
 use Rattle.tk_io.specs.Streams.{CutShort}
 use Rattle.program_steps.specs.Ready.{IsKept}
 use Rattle.tk_run.specs.Running.{HasAdvanced}
-use Rattle.tkernel_cli.specs.RestartCommand.{RunsOver, second_start}
-use Rattle.tkernel_cli.specs.Runs.{stream}
+use Rattle.tkernel_cli.specs.RestartRuns.{RunsOver, second_start}
+use Rattle.tk_request.specs.Reading.{stream}
 use Rattle.tkernel_cli.specs.Text.{restart_text}
 use Rattle.tkernel_cli.proofs.RestartEnds.{over_answered, over_cut}
 use Rattle.tkernel_cli.proofs.restarting.run_again.Goals as goal

@@ -1,7 +1,7 @@
 use Rattle.std.proofs.Common.{subst, arith, inl, refl}
 use Rattle.hex_image.specs.Image.{IsImage}
 use Rattle.tk_run.specs.Running.{HasAdvanced}
-use Rattle.tkernel_cli.specs.Runs.{Stream}
+use Rattle.tk_request.specs.Reading.{Stream}
 use Rattle.tkernel_cli.proofs.RunEnds.{answered, answered_cut}
 use Rattle.tkernel_cli.proofs.running.run_request.Goals.{in-Ok-advance, in-Err-advance}
 use Rattle.tkernel_cli.proofs.running.run_request.Goals as goal

@@ -1,6 +1,6 @@
 use Rattle.std.proofs.Common.{subst, ap, ◌∙◌, arith, None}
 use Rattle.program_steps.specs.Machines.{Machine}
-use Rattle.tkernel_cli.specs.declared.request.Request.{Request}
+use Rattle.tk_request.specs.declared.request.Request.{Request}
 use Rattle.tk_run.specs.Running.{HasAdvanced}
 use Rattle.tkernel_cli.proofs.RunEnds.{ran_silently}
 use Rattle.tkernel_cli.proofs.running.run_silently.Goals as goal

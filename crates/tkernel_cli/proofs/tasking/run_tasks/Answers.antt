@@ -1,7 +1,7 @@
 use Rattle.std.proofs.Common.{◌≤◌, ◌∙◌, length, ap, arith, inl, refl, subst}
 use Rattle.tk_tasks.specs.Booted.{turns_at_reset}
 use Rattle.tk_tasks.specs.Plays.{HasRunTasks}
-use Rattle.tkernel_cli.specs.Runs.{Stream}
+use Rattle.tk_request.specs.Reading.{Stream}
 use Rattle.tkernel_cli.proofs.TasksEnds.{can_run, starts_of, tasks_ended, tasks_cut, rose_of}
 use Rattle.tkernel_cli.proofs.tasking.run_tasks.Goals.{in-Ok-run, in-Err-run}
 use Rattle.tkernel_cli.proofs.tasking.run_tasks.Goals as goal

@@ -1,5 +1,4 @@
-use Rattle.tkernel_cli.proofs.Exactly.{answer_is_exact}
-use Rattle.tkernel_cli.proofs.Judging.{answer_of}
+use Rattle.tkernel_cli.proofs.Exactly.{answer_is_exact, answer_of}
 use Rattle.tkernel_cli.proofs.top.tkernel.Goals as goal
 
 pub returns : goal.returns

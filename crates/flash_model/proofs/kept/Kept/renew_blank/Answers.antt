@@ -8,7 +8,7 @@ pub blank-init : goal.blank-init
 blank-init c =
     let words = c.args.cells.now.words in
     let page = c.args.page in
-    let beside = cleared_beside words c.args.self.now _ page c.new.result refl refl c.requires.beside in
+    let beside = cleared_beside words c.args.self.now _ page _ refl refl c.requires.beside in
     let outside = renewed_before words _ c.renew_at.new.self (page_words * page) (page_words * page + page_words) _ beside c.renew_at.ensures.renews (omega arith) (omega arith) (omega arith) in
     let end : page_words * page + page_words ≡ page_words * page + page_words - 1 + 1 = omega arith in
     (subst (λ to. IsKeptOutside words c.renew_at.new.self (page_words * page) to) end outside, omega arith)

@@ -1,4 +1,5 @@
-use Rattle.std.proofs.Common.{◌∙◌, sym}
+use Rattle.std.proofs.Common.{◌∙◌, sym, arith}
+use Rattle.std.proofs.lemmas.Grind.{common_steps}
 use Rattle.page_index.proofs.CursorLaws.{reached_found, reached_set}
 use Rattle.page_index.proofs.cursor.Cursor.find.Goals.{in-Some, in_default}
 use Rattle.page_index.proofs.cursor.Cursor.find.Goals as goal
@@ -17,7 +18,7 @@ returns-clause-cursor c =
     record {
       stretch = told.stretch;
       reached = elim c.match-found.branch [
-        | in-Some w ↦ rw w.self-is (reached_set layout words c.args.self.now.reached _ _ (reached_found layout words c.follow-found.result w.in-Some.address c.args.place c.follow-found.new.stretch w.in-Some.is told.found told.place told.stretch _) c.requires.cursor.reached)
+        | in-Some w ↦ rw w.self-is (reached_set layout words c.args.self.now.kept c.args.self.now.reached w.slot-at.result _ _ (grind (arith, common_steps)) (grind (arith, common_steps)) (reached_found layout words c.follow-found.result w.in-Some.address c.args.place c.follow-found.new.stretch w.in-Some.is told.found told.stretch _) c.requires.cursor.reached)
         | in_default w ↦ rw w.self-is c.requires.cursor.reached
       ];
     }

@@ -1,13 +1,10 @@
-use Rattle.std.proofs.Common.{arith, refl}
-use Rattle.page_index.proofs.CursorLaws.{reached_none}
+use Rattle.page_index.proofs.CursorLaws.{none_kept}
 use Rattle.page_index.proofs.cursor.Cursor.forget.Goals as goal
 
 pub returns : goal.returns
-returns c =
-    let at = c.entries.invariant in
-    record {
-      right = λ layout words. record {
-        stretch = at.stretch layout words;
-        reached = reached_none layout words c.entries.self.reached _ (λ k inside d. at.none k (omega (arith, inside, at.size, c.entries-test.false)) d) refl;
-      };
-    }
+returns c = record {
+  right = λ layout words. record {
+    stretch = c.new-self.ensures.right layout words;
+    reached = λ slot d inside. none_kept layout words slot _ inside;
+  };
+}

@@ -6,7 +6,7 @@ use Rattle.flash_model.specs.Layouts.{layout_of}
 use Rattle.flash_model.specs.Memory.{IsWhole}
 use Rattle.input_script.specs.Script.{Schedule}
 use Rattle.mote_core.specs.Step.{IsAtReset}
-use Rattle.tk_tasks.specs.Images.{task_words}
+use Rattle.task_input.specs.Images.{task_words}
 use Rattle.tk_tasks.specs.States.{AreSound, turns_of}
 use Rattle.tk_tasks.specs.Booted.{IsUnstarted, at_start, waiting_from, turns_at_reset}
 use Rattle.tk_tasks.proofs.Starting.{CanStart, unstarted_at_boot, sound_at_boot, turns_at_boot, some_scripts, words_at_boot}

@@ -1,15 +1,10 @@
-use Rattle.std.proofs.Common.{◌≡◌, ◌+◌, ◌-◌, ◌≤◌, ◌^◌, Bool, true, false, length, refl, sym, ap, ap₂, ◌∙◌, arith, subst}
-use Rattle.std.specs.Prelude.{slice_get, slice_set}
-use Rattle.page_index.specs.Cursors.{IsCursor}
-use Rattle.kernel_entry.specs.declared.kernel.Kernel.{Kernel}
-use Rattle.program_steps.specs.Machines.{Machine}
+use Rattle.std.proofs.Common.{◌≡◌, ◌-◌, true, false, refl, sym, ap, ◌∙◌, arith, subst}
 use Rattle.program_steps.specs.Wholes.{whole}
-use Rattle.tk_tasks.specs.declared.tasks.Task.{Task}
 use Rattle.tk_tasks.specs.States.{Tasks, machine_of, AreSound}
 use Rattle.tk_tasks.specs.Changes.{changed_tasks, IsFree}
 use Rattle.tk_tasks.specs.Trying.{HasTried, HasPlayed, finished, tried_told, kept_tasks}
-use Rattle.tk_tasks.proofs.Playing.{IsPlayed, played}
-use Rattle.tk_tasks.proofs.Runs.{Begins, begins, kept_is, changed_layout, changed_flash, changed_quantum, cursor_on}
+use Rattle.tk_tasks.proofs.Playing.{played}
+use Rattle.tk_tasks.proofs.Runs.{begins, kept_is, changed_layout, changed_flash, changed_quantum, cursor_on}
 use Rattle.tk_tasks.proofs.tasks.Tasks.play.Goals as goal
 
 pub try_on-tried-requires-clause-ready : goal.try_on-tried-requires-clause-ready

@@ -1,6 +1,5 @@
-use Rattle.std.proofs.Common.{◌≡◌, ◌<◌, length, sym, ap, ◌∙◌, arith, subst}
+use Rattle.std.proofs.Common.{◌≡◌, sym, ap, ◌∙◌, arith}
 use Rattle.std.specs.Prelude.{slice_get, slice_index_or, Some}
-use Rattle.tk_tasks.specs.declared.tasks.Task.{Task}
 use Rattle.tk_tasks.specs.States.{Tasks, owed_of, others_of}
 use Rattle.tk_tasks.proofs.Runs.{is_at, get_at, progress_is}
 use Rattle.tk_tasks.proofs.tasks.Tasks.progress.Goals as goal

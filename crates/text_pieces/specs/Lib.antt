@@ -1,0 +1,2 @@
+-- The pieces of printed lines.
+pub mod Pieces

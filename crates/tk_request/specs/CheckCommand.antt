@@ -1,0 +1,41 @@
+-- The command `check`: what its text asks for.
+use Rattle.std.specs.Prelude.{◌≡◌, ℕ, List, length, ◌++◌, codes, decimal}
+use Rattle.flash_model.specs.Layouts.{layout_of}
+use Rattle.pool_check.specs.Dumps.{IsDump, IsNoDump}
+use Rattle.pool_check.specs.Verdicts.{IsVerdict}
+use Rattle.pool_check.specs.declared.checking.Verdict.{Verdict}
+use Rattle.pool_check.specs.declared.checking.Verdict.TheVariants.{Faithful, Form, Links}
+use Rattle.pool_check.specs.declared.dump_line.DumpFault.{DumpFault}
+use Rattle.tk_request.specs.declared.job.Job.{Job}
+use Rattle.tk_request.specs.declared.job.Job.TheVariants.{Print}
+use Rattle.tk_request.specs.declared.status.Status.{Status}
+use Rattle.tk_request.specs.declared.status.Status.TheVariants.{Done, Fault}
+use Rattle.tk_request.specs.Printed.{dump_word}
+use Rattle.tk_request.specs.Reading.{IsJudged}
+use Rattle.tk_request.specs.RunCommand.{HexThen}
+
+-- what is said of a verdict
+abbrev pub verdict_status : Verdict → Status
+verdict_status (Faithful pages) = Done
+verdict_status (Form page) = Fault
+verdict_status (Links page) = Fault
+
+unfoldable pub verdict_text : Verdict → List ℕ
+verdict_text (Faithful pages) = codes "faithful pages " ++ decimal pages ++ codes "\n"
+verdict_text (Form page) = codes "not faithful page " ++ decimal page ++ codes " form\n"
+verdict_text (Links page) = codes "not faithful page " ++ decimal page ++ codes " links\n"
+
+abbrev pub verdict_line : Verdict → Job
+verdict_line verdict = Print (verdict_status verdict) (record { items = verdict_text verdict })
+
+-- a dump, and what its words ask for. Its lines are counted from its own first
+abbrev pub DumpThen : List ℕ → (List ℕ → Job → Type 0) → Job → Type 0
+DumpThen text Then =
+    IsJudged (List ℕ) (codes "bad dump line ") (IsDump text)
+    (λ line word. (fault : DumpFault) × IsNoDump text line fault × (word ≡ dump_word fault))
+    Then
+
+-- a HEX text and a dump behind it ask whether the dump's flash holds the image and faithful rewritten code of it
+abbrev pub CheckAsks : List ℕ → Job → Type 0
+CheckAsks text =
+    HexThen text (λ image behind. DumpThen behind (λ words job. (verdict : Verdict) × IsVerdict (layout_of (length image)) image words verdict × (job ≡ verdict_line verdict)))

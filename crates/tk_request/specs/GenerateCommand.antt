@@ -1,0 +1,10 @@
+-- The command `generate`: the run of a test program, without a script.
+use Rattle.std.specs.Prelude.{ℕ}
+use Rattle.input_script.specs.Script.{nothing}
+use Rattle.program_generator.specs.Generated.{generated}
+use Rattle.tk_request.specs.declared.job.Job.{Job}
+use Rattle.tk_request.specs.declared.job.Job.TheVariants.{Run}
+
+-- the run of a seed
+abbrev pub generated_run : ℕ → Job
+generated_run seed = Run (record { image = generated seed; script = nothing; options = record { steps = 10000000; quantum = 255; swap = 128 } })

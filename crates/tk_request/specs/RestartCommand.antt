@@ -1,0 +1,10 @@
+-- The command `restart`: what its text asks for.
+use Rattle.std.specs.Prelude.{ℕ, List}
+use Rattle.tk_request.specs.declared.command.RunOptions.{RunOptions}
+use Rattle.tk_request.specs.declared.job.Job.{Job}
+use Rattle.tk_request.specs.declared.job.Job.TheVariants.{Restart}
+use Rattle.tk_request.specs.RunCommand.{RequestThen}
+
+-- a HEX text and a script behind it ask for a run, and for a second one with the same events
+abbrev pub RestartAsks : RunOptions → List ℕ → Job → Type 0
+RestartAsks options text = RequestThen options text (λ request. Restart request request.script)

@@ -1,0 +1,39 @@
+//! The command `generate`.
+ghost use Rattle.std.specs.Prelude.{◌≡◌, ◌⊎◌};
+ghost use Rattle.tk_request.specs.Commands.{IsPossibleJob};
+ghost use Rattle.tk_request.specs.GenerateCommand.{generated_run};
+ghost use Rattle.tk_request.specs.Printed.{no_memory};
+
+use crate::command::RunOptions;
+use crate::job::Job;
+use crate::printed::no_memory;
+use crate::request::Request;
+use std::alloc::Global;
+
+/// How the test program is run.
+const GENERATE_OPTIONS: RunOptions = RunOptions {
+    steps: 10_000_000,
+    quantum: 255,
+    swap: 128,
+};
+
+/// The run of the test program of a seed, without a script.
+pub(crate) fn generated_job(alloc: Global, seed: u32) -> Job
+    ensures asks { (result ≡ generated_run seed) ⊎ (result ≡ no_memory) }
+    ensures possible { IsPossibleJob result }
+{
+    let image = match program_generator::generate(alloc, seed) {
+        Ok(image) => image,
+        Err(_) => return no_memory(),
+    };
+    // A text without lines has no faulty one.
+    let script = match input_script::read(alloc, b"") {
+        Ok(script) => script,
+        Err(_) => return no_memory(),
+    };
+    Job::Run(Request {
+        image,
+        script,
+        options: GENERATE_OPTIONS,
+    })
+}

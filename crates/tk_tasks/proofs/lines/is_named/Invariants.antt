@@ -1,9 +1,0 @@
-use Rattle.std.proofs.Common.{◌<◌, ℕ, List, ◌++◌}
-use Rattle.std.specs.Prelude.{◌≢◌}
-use Rattle.line_text.specs.TaskLines.{task_text}
-use Rattle.tk_tasks.specs.Scripts.{at_word}
-use Rattle.tk_tasks.proofs.lines.is_named.Given as goal
-
--- the line names none of the first tasks
-abbrev pub invariant-tasks : goal.invariant-tasks
-invariant-tasks l = (task : ℕ) → (rest : List ℕ) → task < l.task → l.line ≢ task_text task ++ at_word ++ rest

@@ -1,7 +1,0 @@
-use Rattle.text_lines.specs.Lines.{lines_of}
-use Rattle.tk_tasks.specs.Reading.{IsFar}
-use Rattle.tk_tasks.proofs.script.read_scripts.Given as goal
-
--- the texts of the first tasks are read
-abbrev pub invariant-tasks : goal.invariant-tasks
-invariant-tasks l = IsFar l.count (lines_of l.text) l.task l.first l.scripts.items
