@@ -1,8 +1,8 @@
 -- The 160 entries of both tables, numbered in one row, after a write of one.
-use Rattle.std.proofs.Common.{◌≡◌, ℕ, ◌+◌, ◌-◌, ◌*◌, ◌/◌, ◌%◌, ◌<◌, ◌≤◌, ◌⊎◌, List, length, arith, refl, ap, subst, sym, ◌∙◌, inl, inr}
+use Rattle.std.proofs.Common.{◌≡◌, ℕ, ◌+◌, ◌-◌, ◌*◌, ◌/◌, ◌%◌, ◌<◌, ◌≤◌, ◌⊎◌, List, length, arith, ap, subst, sym, ◌∙◌, inl, inr}
 use Rattle.std.specs.Prelude.{◌≢◌}
 use Rattle.std.proofs.lemmas.Bool.{cases_eq, cases_lt}
-use Rattle.flash_model.specs.declared.layout.Layout.{Layout}
+use Rattle.flash_words.specs.declared.layout.Layout.{Layout}
 use Rattle.sram_layout.specs.Bytes.{byte_count, byte_at, with_word}
 use Rattle.sram_layout.specs.Cells.{entry_at, with_entry, way_cell}
 use Rattle.sram_layout.proofs.Laws.{byte_out_of_word}

@@ -2,8 +2,8 @@
 use Rattle.std.proofs.Common.{◌≡◌, ℕ, ◌+◌, ◌*◌, ◌/◌, ◌<◌, ◌≤◌, Bool, true, false, cond, List, length, arith, refl, ap, ap₂, subst, sym, ◌∙◌, inl, inr, eq-eqb, ne_eqb, below_none, below_more}
 use Rattle.std.specs.Prelude.{◌≢◌}
 use Rattle.std.proofs.lemmas.Bool.{cases_eq}
-use Rattle.flash_model.specs.Pages.{page_words}
-use Rattle.flash_model.specs.declared.layout.Layout.{Layout}
+use Rattle.flash_words.specs.Pages.{page_words}
+use Rattle.flash_words.specs.declared.layout.Layout.{Layout}
 use Rattle.sram_layout.specs.Bytes.{byte_count, byte_at, data_word_at}
 use Rattle.sram_layout.specs.Cells.{entry_at, with_entry, way_cell}
 use Rattle.page_index.specs.Entries.{IsEntry}

@@ -6,7 +6,7 @@ use Rattle.std.proofs.lemmas.Bool.{cases_eq, cases_lt}
 use Rattle.std.proofs.lemmas.Bool.Decides.{nat_tests}
 use Rattle.std.proofs.lemmas.List.FromFn.{length-map-range_with_len, get_or-map-range_with_len}
 use Rattle.std.proofs.lemmas.Grind.{same_number_lists}
-use Rattle.flash_model.specs.Pages.{page_words}
+use Rattle.flash_words.specs.Pages.{page_words}
 use Rattle.sram_layout.specs.Bytes.{byte_count, byte_at}
 use Rattle.sram_layout.specs.Cells.{entry_at}
 use Rattle.sram_layout.specs.Regions.{place_tables, is_within}

@@ -1,6 +1,6 @@
 -- When the tables are right, and stay right.
 use Rattle.std.proofs.Common.{◌≡◌, ℕ, ◌+◌, ◌*◌, ◌<◌, ◌≤◌, List, arith, sym, ap₂, subst, inl}
-use Rattle.flash_model.specs.declared.layout.Layout.{Layout}
+use Rattle.flash_words.specs.declared.layout.Layout.{Layout}
 use Rattle.sram_layout.specs.Bytes.{byte_at, data_word_at}
 use Rattle.sram_layout.specs.Cells.{entry_at, aside_cell, way_cell}
 use Rattle.sram_layout.specs.Boot.{at_boot}

@@ -1,8 +1,8 @@
 -- What the calls leave in SRAM (docs/LOADER.md, "The tables of places").
 use Rattle.std.specs.Prelude.{◌≡◌, ◌≢◌, ℕ, ◌+◌, ◌*◌, ◌/◌, ◌<◌, ◌⊎◌, ◌==◌, ◌&&◌, ◌||◌, Bool, if◌then◌else◌, List, map, Option, Some, None}
 use Rattle.std.specs.List.{range_with_len}
-use Rattle.flash_model.specs.Pages.{page_words}
-use Rattle.flash_model.specs.declared.layout.Layout.{Layout}
+use Rattle.flash_words.specs.Pages.{page_words}
+use Rattle.flash_words.specs.declared.layout.Layout.{Layout}
 use Rattle.sram_layout.specs.Bytes.{first_address, byte_count, byte_at}
 use Rattle.sram_layout.specs.Cells.{aside_cell, entry_at, with_entry}
 use Rattle.sram_layout.specs.Regions.{place_tables, is_within, KeepsOutside}

@@ -1,7 +1,7 @@
 -- When the look-aside table and the two-way table are right: the profile's map of 0x0180 to 0x03FF
 -- (docs/MOTE.md) says where their entries stand.
 use Rattle.std.specs.Prelude.{◌≢◌, ℕ, ◌<◌, List}
-use Rattle.flash_model.specs.declared.layout.Layout.{Layout}
+use Rattle.flash_words.specs.declared.layout.Layout.{Layout}
 use Rattle.sram_layout.specs.Cells.{entry_at, aside_cell, way_cell}
 use Rattle.page_index.specs.Entries.{IsEntry}
 

@@ -1,9 +1,9 @@
 //! The search, and what changes in the tables.
 
-ghost use Rattle.std.specs.Prelude.{◌≡◌, ℕ, ◌+◌, ◌*◌, ◌/◌, ◌<◌, ◌↔◌, ◌≢◌, List, Option, length, Some as Just, None as Nothing, IfErr};
+ghost use Rattle.std.specs.Prelude.{◌≡◌, ℕ, ◌/◌, ◌<◌, ◌↔◌, List, Option, length, Some as Just, None as Nothing, IfErr};
 ghost use Rattle.std.specs.Result.{result_ok};
-ghost use Rattle.flash_model.specs.Layouts.{IsRight};
-ghost use Rattle.flash_model.specs.declared.layout.Layout.{Layout as LayoutOf};
+ghost use Rattle.flash_words.specs.Layouts.{IsRight};
+ghost use Rattle.flash_words.specs.declared.layout.Layout.{Layout as LayoutOf};
 ghost use Rattle.sram_layout.specs.Bytes.{byte_count};
 ghost use Rattle.sram_layout.specs.Cells.{aside_cell, way_cell};
 ghost use Rattle.page_index.specs.Entries.{IsEntry, IsMapped};

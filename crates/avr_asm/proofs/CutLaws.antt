@@ -1,6 +1,6 @@
 -- Parts of a line.
-use Rattle.std.proofs.Common.{◌≡◌, ℕ, ◌+◌, ◌-◌, ◌≤◌, get_or, drop, Bool, true, false, cond, eqb, List, [], ◌∷◌, ◌++◌, length, take, arith, ap, refl, sym, ◌∙◌}
-use Rattle.std.specs.Prelude.{◌≢◌, ◌&&◌, not, map, position, bytes_eq}
+use Rattle.std.proofs.Common.{◌≡◌, ℕ, ◌+◌, ◌-◌, ◌<◌, ◌≤◌, get_or, drop, Bool, true, false, cond, eqb, List, [], ◌∷◌, ◌++◌, length, take, arith, ap, refl, sym, ◌∙◌, lt-ltb, le-ltb}
+use Rattle.std.specs.Prelude.{◌≢◌, ◌&&◌, not, map, position, bytes_eq, Some, None}
 use Rattle.std.specs.List.{list_all, list_any, position_or_len}
 use Rattle.std.specs.Borrow.{Bor}
 use Rattle.std.proofs.lemmas.List.{length-map, take-append-drop, drop_more, drop_all}
@@ -73,6 +73,23 @@ prefix_len-now (name ∷ names) text = ap (λ n. cond (not (bytes_eq name.now te
 
 pub place_of-now : (names : List (Bor (List ℕ))) (text : List ℕ) → position (λ (name : Bor (List ℕ)). bytes_eq name.now text) names ≡ place_of (map (λ name. name.now) names) text
 place_of-now names text = rw (prefix_len-now names text, length-map names (λ (name : Bor (List ℕ)). name.now)) refl
+
+-- the first place where a test passes, by what is left from there on, and none
+pub place_here : (names : List (Bor (List ℕ))) (text : List ℕ) (i : ℕ) (d : Bor (List ℕ)) → i < length names
+    → i + position_or_len (λ (name : Bor (List ℕ)). bytes_eq name.now text) (drop i names) ≡ position_or_len (λ (name : Bor (List ℕ)). bytes_eq name.now text) names
+    → bytes_eq (get_or names i d).now text ≡ true → Some i ≡ place_of (map (λ name. name.now) names) text
+place_here names text i d inside left passes =
+    let test = λ (name : Bor (List ℕ)). bytes_eq name.now text in
+    let here : position_or_len test (drop i names) ≡ 0 = ap (position_or_len test) (drop_more names i d inside) ∙ rw passes refl in
+    let first : position_or_len test names ≡ i = omega (arith, left, here) in
+    rw (first, lt-ltb i (length names) inside) refl ∙ place_of-now names text
+
+pub place_nowhere : (names : List (Bor (List ℕ))) (text : List ℕ) (i : ℕ) → length names ≤ i
+    → i + position_or_len (λ (name : Bor (List ℕ)). bytes_eq name.now text) (drop i names) ≡ position_or_len (λ (name : Bor (List ℕ)). bytes_eq name.now text) names
+    → None ≡ place_of (map (λ name. name.now) names) text
+place_nowhere names text i outside left =
+    let test = λ (name : Bor (List ℕ)). bytes_eq name.now text in
+    rw (le-ltb (position_or_len test names) (length names) (omega (arith, left, outside))) refl ∙ place_of-now names text
 
 -- the first word of a text
 word_take : (blank : Bool) (b : ℕ) (text : List ℕ) → take (length (front_word text)) text ≡ front_word text → take (length (cond blank [] (b ∷ front_word text))) (b ∷ text) ≡ cond blank [] (b ∷ front_word text)

@@ -7,8 +7,8 @@ use crate::fault::AsmError;
 use crate::first_pass::first_pass;
 use crate::second_pass::second_pass;
 use hex_image::Image;
+use no_memory::NoMemory;
 use std::alloc::Global;
-use tk_io::NoMemory;
 
 /// The image of a text.
 ///
@@ -25,7 +25,10 @@ pub fn assemble(alloc: Global, text: &[u8]) -> Result<Image, AsmError>
     // The first line with a fault, and its first.
     ensures bad { IfErr result (IsRefusal text.now) }
 {
-    let words = words_of(alloc, text)?;
+    let words = match words_of(alloc, text) {
+        Ok(words) => words,
+        Err(error) => return Err(error),
+    };
     match Image::from_words(alloc, words.as_slice()) {
         Ok(image) => Ok(image),
         Err(NoMemory) => Err(AsmError::NoMemory),
@@ -40,6 +43,8 @@ fn words_of(alloc: Global, text: &[u8]) -> Result<Vec<u16>, AsmError>
     ensures few { IfOk result (λ words. length words.items ≤ 24576) }
     ensures bad { IfErr result (IsRefusal text.now) }
 {
-    let pass = first_pass(alloc, text)?;
-    second_pass(alloc, text, &pass.labels)
+    match first_pass(alloc, text) {
+        Ok(pass) => second_pass(alloc, text, &pass.labels),
+        Err(error) => Err(error),
+    }
 }

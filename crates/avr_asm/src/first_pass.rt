@@ -15,9 +15,9 @@ use crate::name::Name;
 use crate::statement::Statement;
 use crate::text::{trimmed, up_to};
 use avr_isa::size;
+use no_memory::NoMemory;
 use std::alloc::Global;
 use text_lines::first_line;
-use tk_io::NoMemory;
 
 /// The most words of an image.
 const MOST_WORDS: u32 = 24_576;

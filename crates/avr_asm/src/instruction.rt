@@ -16,38 +16,42 @@ use avr_isa::{Base, Bit, EvenReg, Form, HighReg, Instr, IoAddr, LowIo, MidReg, P
 fn byte(n: u64) -> Option<u8>
     ensures value { SomeIff result (n < 256) n }
 {
-    u8::try_from(n).ok()
+    if n < 256 { Some(n as u8) } else { None }
 }
 
 /// A number as an address of 16 bits.
 pub(crate) fn address(n: u64) -> Option<u16>
     ensures value { SomeIff result (n < 65536) n }
 {
-    match u16::try_from(n) {
-        Ok(address) => Some(address),
-        Err(_) => None,
-    }
+    if n < 65536 { Some(n as u16) } else { None }
 }
 
 /// A number as a bit's.
 fn bit(n: u64) -> Option<Bit>
     ensures value { SomeIff result (n < 8) n }
 {
-    Bit::new(byte(n)?)
+    if n < 8 { Bit::new(n as u8) } else { None }
 }
 
 /// A number of six bits.
 fn six_bits(n: u64) -> Option<Six>
     ensures value { SomeIff result (n < 64) n }
 {
-    Six::new(byte(n)?)
+    if n < 64 { Six::new(n as u8) } else { None }
 }
 
 /// A number as the field of IN and OUT.
 fn io_address(n: u64) -> Option<IoAddr>
     ensures value { SomeIff result (n < 64) n }
 {
-    IoAddr::new(byte(n)?)
+    if n < 64 { IoAddr::new(n as u8) } else { None }
+}
+
+/// A number as the field of SBI and CBI.
+fn low_io(n: u64) -> Option<LowIo>
+    ensures value { SomeIff result (n < 32) n }
+{
+    if n < 32 { LowIo::new(n as u8) } else { None }
 }
 
 /// The instruction of a form whose operands are in their fields: none at the undefined pairs.
@@ -61,135 +65,212 @@ pub(crate) fn defined(form: Form) -> Option<Instr>
 pub(crate) fn bare(op: Bare) -> Option<Instr>
     ensures value { result ≡ valid_form (bare_of op) }
 {
-    match op {
-        Bare::Nop => defined(Form::Nop),
-        Bare::Ret => defined(Form::Ret),
-        Bare::Reti => defined(Form::Reti),
-        Bare::Ijmp => defined(Form::Ijmp),
-        Bare::Icall => defined(Form::Icall),
-        Bare::Sleep => defined(Form::Sleep),
-        Bare::Break => defined(Form::Break),
-        Bare::Wdr => defined(Form::Wdr),
-        Bare::Spm => defined(Form::Spm),
-    }
+    let form = match op {
+        Bare::Nop => Form::Nop,
+        Bare::Ret => Form::Ret,
+        Bare::Reti => Form::Reti,
+        Bare::Ijmp => Form::Ijmp,
+        Bare::Icall => Form::Icall,
+        Bare::Sleep => Form::Sleep,
+        Bare::Break => Form::Break,
+        Bare::Wdr => Form::Wdr,
+        Bare::Spm => Form::Spm,
+    };
+    defined(form)
 }
 
 #[tactic(auto, unfolding(avr_isa::specs::Instruction::is_valid, avr_isa::specs::Instruction::fields_in_range))]
 pub(crate) fn two_registers(op: TwoRegisters, d: u8, r: u8) -> Option<Instr>
     ensures value { result ≡ valid_form (two_registers_of op d r) }
 {
-    match op {
-        TwoRegisters::Movw => defined(Form::Movw(EvenReg::new(d)?, EvenReg::new(r)?)),
-        TwoRegisters::Muls => defined(Form::Muls(HighReg::new(d)?, HighReg::new(r)?)),
-        TwoRegisters::Cpse => defined(Form::Cpse(Reg::new(d)?, Reg::new(r)?)),
-        TwoRegisters::Product(op) => {
-            defined(Form::Product(op, MidReg::new(d)?, MidReg::new(r)?))
+    let form = match op {
+        TwoRegisters::Movw => {
+            let (Some(d), Some(r)) = (EvenReg::new(d), EvenReg::new(r)) else {
+                return None;
+            };
+            Form::Movw(d, r)
         }
-        TwoRegisters::Two(op) => defined(Form::Two(op, Reg::new(d)?, Reg::new(r)?)),
-    }
+        TwoRegisters::Muls => {
+            let (Some(d), Some(r)) = (HighReg::new(d), HighReg::new(r)) else {
+                return None;
+            };
+            Form::Muls(d, r)
+        }
+        TwoRegisters::Product(op) => {
+            let (Some(d), Some(r)) = (MidReg::new(d), MidReg::new(r)) else {
+                return None;
+            };
+            Form::Product(op, d, r)
+        }
+        TwoRegisters::Cpse => {
+            let (Some(d), Some(r)) = (Reg::new(d), Reg::new(r)) else {
+                return None;
+            };
+            Form::Cpse(d, r)
+        }
+        TwoRegisters::Two(op) => {
+            let (Some(d), Some(r)) = (Reg::new(d), Reg::new(r)) else {
+                return None;
+            };
+            Form::Two(op, d, r)
+        }
+    };
+    defined(form)
 }
 
 #[tactic(auto, unfolding(avr_isa::specs::Instruction::is_valid, avr_isa::specs::Instruction::fields_in_range))]
 pub(crate) fn one_register(op: OneRegister, d: u8) -> Option<Instr>
     ensures value { result ≡ valid_form (one_register_of op d) }
 {
-    let d = Reg::new(d)?;
-    match op {
-        OneRegister::One(op) => defined(Form::One(op, d)),
-        OneRegister::Push => defined(Form::Push(d)),
-        OneRegister::Pop => defined(Form::Pop(d)),
-    }
+    let Some(d) = Reg::new(d) else {
+        return None;
+    };
+    let form = match op {
+        OneRegister::One(op) => Form::One(op, d),
+        OneRegister::Push => Form::Push(d),
+        OneRegister::Pop => Form::Pop(d),
+    };
+    defined(form)
 }
 
 #[tactic(auto, unfolding(avr_isa::specs::Instruction::is_valid, avr_isa::specs::Instruction::fields_in_range))]
 fn register_and_bit(op: BitOp, d: u8, n: u64) -> Option<Instr>
     ensures value { result ≡ valid_form (register_and_number_of (numbered.Bit op) d n) }
 {
-    let r = Reg::new(d)?;
-    let b = bit(n)?;
-    match op {
-        BitOp::Bld => defined(Form::Bld(r, b)),
-        BitOp::Bst => defined(Form::Bst(r, b)),
-        BitOp::Sbrc => defined(Form::Sbrc(r, b)),
-        BitOp::Sbrs => defined(Form::Sbrs(r, b)),
-    }
+    let (Some(r), Some(b)) = (Reg::new(d), bit(n)) else {
+        return None;
+    };
+    let form = match op {
+        BitOp::Bld => Form::Bld(r, b),
+        BitOp::Bst => Form::Bst(r, b),
+        BitOp::Sbrc => Form::Sbrc(r, b),
+        BitOp::Sbrs => Form::Sbrs(r, b),
+    };
+    defined(form)
 }
 
 #[tactic(auto, unfolding(avr_isa::specs::Instruction::is_valid, avr_isa::specs::Instruction::fields_in_range))]
 pub(crate) fn register_and_number(op: RegisterAndNumber, d: u8, n: u64) -> Option<Instr>
     ensures value { result ≡ valid_form (register_and_number_of op d n) }
 {
-    match op {
-        RegisterAndNumber::Imm(op) => defined(Form::Imm(op, HighReg::new(d)?, byte(n)?)),
-        RegisterAndNumber::Word(op) => { defined(Form::Word(op, PairReg::new(d)?, six_bits(n)?)) }
-        RegisterAndNumber::Lds => defined(Form::Lds(Reg::new(d)?, address(n)?)),
-        RegisterAndNumber::In => defined(Form::InIo(Reg::new(d)?, io_address(n)?)),
-        RegisterAndNumber::Bit(op) => register_and_bit(op, d, n),
-    }
+    let form = match op {
+        RegisterAndNumber::Imm(op) => {
+            let (Some(d), Some(n)) = (HighReg::new(d), byte(n)) else {
+                return None;
+            };
+            Form::Imm(op, d, n)
+        }
+        RegisterAndNumber::Word(op) => {
+            let (Some(d), Some(n)) = (PairReg::new(d), six_bits(n)) else {
+                return None;
+            };
+            Form::Word(op, d, n)
+        }
+        RegisterAndNumber::Lds => {
+            let (Some(d), Some(n)) = (Reg::new(d), address(n)) else {
+                return None;
+            };
+            Form::Lds(d, n)
+        }
+        RegisterAndNumber::In => {
+            let (Some(d), Some(n)) = (Reg::new(d), io_address(n)) else {
+                return None;
+            };
+            Form::InIo(d, n)
+        }
+        RegisterAndNumber::Bit(op) => return register_and_bit(op, d, n),
+    };
+    defined(form)
 }
 
 #[tactic(auto, unfolding(avr_isa::specs::Instruction::is_valid, avr_isa::specs::Instruction::fields_in_range))]
 pub(crate) fn number_and_register(op: NumberAndRegister, a: u64, r: u8) -> Option<Instr>
     ensures value { result ≡ valid_form (number_and_register_of op a r) }
 {
-    match op {
-        NumberAndRegister::Sts => defined(Form::Sts(address(a)?, Reg::new(r)?)),
-        NumberAndRegister::Out => defined(Form::OutIo(io_address(a)?, Reg::new(r)?)),
-    }
+    let Some(r) = Reg::new(r) else {
+        return None;
+    };
+    let form = match op {
+        NumberAndRegister::Sts => match address(a) {
+            Some(a) => Form::Sts(a, r),
+            None => return None,
+        },
+        NumberAndRegister::Out => match io_address(a) {
+            Some(a) => Form::OutIo(a, r),
+            None => return None,
+        },
+    };
+    defined(form)
 }
 
 #[tactic(auto, unfolding(avr_isa::specs::Instruction::is_valid, avr_isa::specs::Instruction::fields_in_range))]
 pub(crate) fn two_numbers(op: TwoNumbers, a: u64, b: u64) -> Option<Instr>
     ensures value { result ≡ valid_form (two_numbers_of op a b) }
 {
-    let a = LowIo::new(byte(a)?)?;
-    let b = bit(b)?;
-    match op {
-        TwoNumbers::Cbi => defined(Form::Cbi(a, b)),
-        TwoNumbers::Sbi => defined(Form::Sbi(a, b)),
-        TwoNumbers::Sbic => defined(Form::Sbic(a, b)),
-        TwoNumbers::Sbis => defined(Form::Sbis(a, b)),
-    }
+    let (Some(a), Some(b)) = (low_io(a), bit(b)) else {
+        return None;
+    };
+    let form = match op {
+        TwoNumbers::Cbi => Form::Cbi(a, b),
+        TwoNumbers::Sbi => Form::Sbi(a, b),
+        TwoNumbers::Sbic => Form::Sbic(a, b),
+        TwoNumbers::Sbis => Form::Sbis(a, b),
+    };
+    defined(form)
 }
 
 #[tactic(auto, unfolding(avr_isa::specs::Instruction::is_valid, avr_isa::specs::Instruction::fields_in_range))]
 pub(crate) fn load(d: u8, pointer: Pointer) -> Option<Instr>
     ensures value { result ≡ valid_form (load_of d pointer) }
 {
-    let d = Reg::new(d)?;
-    match pointer {
-        Pointer::At(pointer) => defined(Form::LoadAt(d, pointer)),
-        Pointer::Alone(base) => defined(Form::LoadOff(d, base, Six::new(0)?)),
-    }
+    let Some(d) = Reg::new(d) else {
+        return None;
+    };
+    let form = match pointer {
+        Pointer::At(pointer) => Form::LoadAt(d, pointer),
+        Pointer::Alone(base) => match Six::new(0) {
+            Some(q) => Form::LoadOff(d, base, q),
+            None => return None,
+        },
+    };
+    defined(form)
 }
 
 #[tactic(auto, unfolding(avr_isa::specs::Instruction::is_valid, avr_isa::specs::Instruction::fields_in_range))]
 pub(crate) fn store(pointer: Pointer, r: u8) -> Option<Instr>
     ensures value { result ≡ valid_form (store_of pointer r) }
 {
-    let r = Reg::new(r)?;
-    match pointer {
-        Pointer::At(pointer) => defined(Form::StoreAt(pointer, r)),
-        Pointer::Alone(base) => defined(Form::StoreOff(base, Six::new(0)?, r)),
-    }
+    let Some(r) = Reg::new(r) else {
+        return None;
+    };
+    let form = match pointer {
+        Pointer::At(pointer) => Form::StoreAt(pointer, r),
+        Pointer::Alone(base) => match Six::new(0) {
+            Some(q) => Form::StoreOff(base, q, r),
+            None => return None,
+        },
+    };
+    defined(form)
 }
 
 #[tactic(auto, unfolding(avr_isa::specs::Instruction::is_valid, avr_isa::specs::Instruction::fields_in_range))]
 pub(crate) fn displaced_load(d: u8, base: Base, q: u64) -> Option<Instr>
     ensures value { result ≡ valid_form (forms.LoadOff d base q) }
 {
-    let d = Reg::new(d)?;
-    let q = six_bits(q)?;
-    defined(Form::LoadOff(d, base, q))
+    match (Reg::new(d), six_bits(q)) {
+        (Some(d), Some(q)) => defined(Form::LoadOff(d, base, q)),
+        _ => None,
+    }
 }
 
 #[tactic(auto, unfolding(avr_isa::specs::Instruction::is_valid, avr_isa::specs::Instruction::fields_in_range))]
 pub(crate) fn displaced_store(base: Base, q: u64, r: u8) -> Option<Instr>
     ensures value { result ≡ valid_form (forms.StoreOff base q r) }
 {
-    let q = six_bits(q)?;
-    let r = Reg::new(r)?;
-    defined(Form::StoreOff(base, q, r))
+    match (six_bits(q), Reg::new(r)) {
+        (Some(q), Some(r)) => defined(Form::StoreOff(base, q, r)),
+        _ => None,
+    }
 }
 
 /// BSET, or BCLR.
@@ -197,12 +278,10 @@ pub(crate) fn displaced_store(base: Base, q: u64, r: u8) -> Option<Instr>
 pub(crate) fn flag(set: bool, s: u64) -> Option<Instr>
     ensures value { result ≡ valid_form (flag_of set s) }
 {
-    let s = bit(s)?;
-    if set {
-        defined(Form::Bset(s))
-    } else {
-        defined(Form::Bclr(s))
-    }
+    let Some(s) = bit(s) else {
+        return None;
+    };
+    defined(if set { Form::Bset(s) } else { Form::Bclr(s) })
 }
 
 /// LPM or ELPM without operands.
@@ -210,11 +289,7 @@ pub(crate) fn flag(set: bool, s: u64) -> Option<Instr>
 pub(crate) fn load_program(extended: bool) -> Option<Instr>
     ensures value { result ≡ valid_form (load_program_of extended) }
 {
-    if extended {
-        defined(Form::Elpm0)
-    } else {
-        defined(Form::Lpm0)
-    }
+    defined(if extended { Form::Elpm0 } else { Form::Lpm0 })
 }
 
 /// LPM or ELPM with operands.
@@ -222,10 +297,12 @@ pub(crate) fn load_program(extended: bool) -> Option<Instr>
 pub(crate) fn load_program_to(extended: bool, d: u8, increment: bool) -> Option<Instr>
     ensures value { result ≡ valid_form (load_program_to_of extended d increment) }
 {
-    let d = Reg::new(d)?;
-    if extended {
-        defined(Form::Elpm(d, increment))
+    let Some(d) = Reg::new(d) else {
+        return None;
+    };
+    defined(if extended {
+        Form::Elpm(d, increment)
     } else {
-        defined(Form::Lpm(d, increment))
-    }
+        Form::Lpm(d, increment)
+    })
 }

@@ -5,9 +5,9 @@ ghost use Rattle.avr_asm.specs.Addresses.{Label, Place, is_twice, with_label};
 ghost use Rattle.avr_asm.specs.Labels.{address_in, label_after, HasLabels};
 
 use crate::name::Name;
+use no_memory::NoMemory;
 use std::alloc::Global;
 use std::collections::BTreeMap;
-use tk_io::NoMemory;
 
 /// Labels and their addresses. The names are parts of the text.
 #[derive(Drop)]

@@ -97,5 +97,12 @@ fn is_mnemonic(text: &[u8]) -> bool
 fn are_small(text: &[u8]) -> bool
     ensures value { result ≡ list_all is_small text.now }
 {
-    text.iter().all(|byte| byte.is_ascii_lowercase())
+    let mut rest = text;
+    while let [first, behind @ ..] = rest {
+        if !first.is_ascii_lowercase() {
+            return false;
+        }
+        rest = behind;
+    }
+    true
 }

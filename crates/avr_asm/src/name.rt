@@ -68,7 +68,14 @@ fn is_word(text: &[u8]) -> bool
 fn are_inner(text: &[u8]) -> bool
     ensures value { result ≡ list_all is_inner_test text.now }
 {
-    text.iter().all(|byte| is_inner(*byte))
+    let mut rest = text;
+    while let [first, behind @ ..] = rest {
+        if !is_inner(*first) {
+            return false;
+        }
+        rest = behind;
+    }
+    true
 }
 
 /// Whether a name may begin with this byte.

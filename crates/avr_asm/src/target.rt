@@ -1,7 +1,6 @@
 //! Jumps to addresses and to labels.
 
 ghost use Rattle.std.specs.Prelude.{◌≡◌, List, pos, negsuc, ◌≤ℤ◌, SomeIff};
-ghost use Rattle.avr_asm.specs.declared.mnemonic.Jump.TheVariants.{Call, If, Jmp, Rcall, Rjmp};
 ghost use Rattle.avr_asm.specs.Addresses.{Label};
 ghost use Rattle.avr_asm.specs.Labels.{HasLabels};
 ghost use Rattle.avr_asm.specs.Targets.{distance as distance_of, in_reach as in_reach_of, jump_of, jump_to as jump_to_of, jump_to_label as jump_to_label_of};
@@ -47,15 +46,58 @@ fn in_reach(jump: Option<Instr>) -> Result<Instr, AsmFault>
 }
 
 /// The jump at `pc` to an address, where its field holds the distance.
+#[tactic(auto, unfolding(avr_isa::specs::Instruction::is_valid, avr_isa::specs::Instruction::fields_in_range))]
 fn jump_to(jump: Jump, pc: u32, target: u32) -> Option<Instr>
     ensures value { result ≡ jump_to_of jump pc target }
 {
-    match jump {
-        Jump::If(set, s) => branch(set, s, pc, target),
-        Jump::Rjmp => relative_jump(pc, target),
-        Jump::Rcall => relative_call(pc, target),
-        Jump::Jmp => absolute_jump(pc, target),
-        Jump::Call => absolute_call(pc, target),
+    let form = match jump {
+        Jump::If(set, s) => {
+            let (Some(s), Some(k)) = (Bit::new(s), branch_distance(pc, target)) else {
+                return None;
+            };
+            if set {
+                Form::Brbs(s, k)
+            } else {
+                Form::Brbc(s, k)
+            }
+        }
+        Jump::Rjmp => match jump_distance(pc, target) {
+            Some(k) => Form::Rjmp(k),
+            None => return None,
+        },
+        Jump::Rcall => match jump_distance(pc, target) {
+            Some(k) => Form::Rcall(k),
+            None => return None,
+        },
+        Jump::Jmp => match address(u64::from(target)) {
+            Some(a) => Form::Jmp(a),
+            None => return None,
+        },
+        Jump::Call => match address(u64::from(target)) {
+            Some(a) => Form::Call(a),
+            None => return None,
+        },
+    };
+    defined(form)
+}
+
+/// The distance as the field of a branch.
+fn branch_distance(pc: u32, target: u32) -> Option<Rel7>
+    ensures value { SomeIff result ((negsuc 63 ≤ℤ distance_of pc target) × (distance_of pc target ≤ℤ pos 63)) (distance_of pc target) }
+{
+    match distance(pc, target) {
+        Some(k) => Rel7::new(k),
+        None => None,
+    }
+}
+
+/// The distance as the field of RJMP and RCALL.
+fn jump_distance(pc: u32, target: u32) -> Option<Rel12>
+    ensures value { SomeIff result ((negsuc 2047 ≤ℤ distance_of pc target) × (distance_of pc target ≤ℤ pos 2047)) (distance_of pc target) }
+{
+    match distance(pc, target) {
+        Some(k) => Rel12::new(k),
+        None => None,
     }
 }
 
@@ -64,47 +106,4 @@ fn distance(pc: u32, target: u32) -> Option<i16>
     ensures value { SomeIff result ((negsuc 32767 ≤ℤ distance_of pc target) × (distance_of pc target ≤ℤ pos 32767)) (distance_of pc target) }
 {
     i16::try_from(i64::from(target) - (i64::from(pc) + 1)).ok()
-}
-
-#[tactic(auto, unfolding(avr_isa::specs::Instruction::is_valid, avr_isa::specs::Instruction::fields_in_range))]
-fn branch(set: bool, s: u8, pc: u32, target: u32) -> Option<Instr>
-    ensures value { result ≡ jump_to_of (If set s) pc target }
-{
-    let s = Bit::new(s)?;
-    let k = Rel7::new(distance(pc, target)?)?;
-    if set {
-        defined(Form::Brbs(s, k))
-    } else {
-        defined(Form::Brbc(s, k))
-    }
-}
-
-#[tactic(auto, unfolding(avr_isa::specs::Instruction::is_valid, avr_isa::specs::Instruction::fields_in_range))]
-fn relative_jump(pc: u32, target: u32) -> Option<Instr>
-    ensures value { result ≡ jump_to_of Rjmp pc target }
-{
-    let k = Rel12::new(distance(pc, target)?)?;
-    defined(Form::Rjmp(k))
-}
-
-#[tactic(auto, unfolding(avr_isa::specs::Instruction::is_valid, avr_isa::specs::Instruction::fields_in_range))]
-fn relative_call(pc: u32, target: u32) -> Option<Instr>
-    ensures value { result ≡ jump_to_of Rcall pc target }
-{
-    let k = Rel12::new(distance(pc, target)?)?;
-    defined(Form::Rcall(k))
-}
-
-#[tactic(auto, unfolding(avr_isa::specs::Instruction::is_valid, avr_isa::specs::Instruction::fields_in_range))]
-fn absolute_jump(pc: u32, target: u32) -> Option<Instr>
-    ensures value { result ≡ jump_to_of Jmp pc target }
-{
-    defined(Form::Jmp(address(u64::from(target))?))
-}
-
-#[tactic(auto, unfolding(avr_isa::specs::Instruction::is_valid, avr_isa::specs::Instruction::fields_in_range))]
-fn absolute_call(pc: u32, target: u32) -> Option<Instr>
-    ensures value { result ≡ jump_to_of Call pc target }
-{
-    defined(Form::Call(address(u64::from(target))?))
 }

@@ -62,7 +62,12 @@ pub(crate) fn place_in(names: &[&str], text: &[u8]) -> Option<usize>
     ensures value { result ≡ place_of (map (λ name. name.now) names.now) text.now }
     ensures bound { IfSome result (λ place. place < length names.now) }
 {
-    names.iter().position(|name| name.as_bytes() == text)
+    for (i, name) in names.iter().enumerate() {
+        if name.as_bytes() == text {
+            return Some(i);
+        }
+    }
+    None
 }
 
 /// The text before its first blank, and the text from it on.

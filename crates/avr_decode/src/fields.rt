@@ -1,6 +1,6 @@
 //! The operands in an instruction's word, by their bits.
 ghost use Rattle.std.specs.Prelude.{◌≡◌, ℕ, ◌+◌, ◌*◌, ◌/◌, ◌%◌};
-ghost use Rattle.avr_decode.specs.Decoding.{bit_of, branch_of, constant_of, destination_of, displacement_of, flag_of, high_destination_of, io_of, jump_of, low_io_of, mid_destination_of, mid_source_of, pair_of, six_bits_of, source_of};
+ghost use Rattle.avr_decode.specs.Decoding.{bit_of, branch_of, constant_of, destination_of, displacement_of, io_of, jump_of, low_io_of, mid_source_of, pair_of, six_bits_of, source_of};
 
 use avr_isa::{Bit, EvenReg, HighReg, IoAddr, LowIo, MidReg, PairReg, Reg, Rel7, Rel12, Six};
 
@@ -18,43 +18,22 @@ pub(crate) fn source(w: u16) -> Reg
     Reg::new((16 * (w >> 9 & 1) + (w & 0xF)) as u8).unwrap()
 }
 
-// .... .... dddd ....
-pub(crate) fn pair_destination(w: u16) -> EvenReg
-    ensures value { result ≡ 2 * (w / 16 % 16) }
-{
-    EvenReg::new((2 * (w >> 4 & 0xF)) as u8).unwrap()
-}
-
 // .... .... .... rrrr
-pub(crate) fn pair_source(w: u16) -> EvenReg
+pub(crate) fn even_register(w: u16) -> EvenReg
     ensures value { result ≡ 2 * (w % 16) }
 {
     EvenReg::new((2 * (w & 0xF)) as u8).unwrap()
 }
 
-// .... .... dddd ....
-pub(crate) fn high_destination(w: u16) -> HighReg
-    ensures value { result ≡ high_destination_of w }
-{
-    HighReg::new((16 + (w >> 4 & 0xF)) as u8).unwrap()
-}
-
 // .... .... .... rrrr
-pub(crate) fn high_source(w: u16) -> HighReg
+pub(crate) fn high_register(w: u16) -> HighReg
     ensures value { result ≡ 16 + w % 16 }
 {
     HighReg::new((16 + (w & 0xF)) as u8).unwrap()
 }
 
-// .... .... .ddd ....
-pub(crate) fn mid_destination(w: u16) -> MidReg
-    ensures value { result ≡ mid_destination_of w }
-{
-    MidReg::new((16 + (w >> 4 & 7)) as u8).unwrap()
-}
-
 // .... .... .... .rrr
-pub(crate) fn mid_source(w: u16) -> MidReg
+pub(crate) fn mid_register(w: u16) -> MidReg
     ensures value { result ≡ mid_source_of w }
 {
     MidReg::new((16 + (w & 7)) as u8).unwrap()
@@ -107,13 +86,6 @@ pub(crate) fn bit(w: u16) -> Bit
     ensures value { result ≡ bit_of w }
 {
     Bit::new((w & 7) as u8).unwrap()
-}
-
-// .... .... .sss ....
-pub(crate) fn flag(w: u16) -> Bit
-    ensures value { result ≡ flag_of w }
-{
-    Bit::new((w >> 4 & 7) as u8).unwrap()
 }
 
 // .... ..kk kkkk k...

@@ -27,10 +27,14 @@ mod rows;
 pub fn decode(w0: u16, w1: u16) -> Option<Instr>
     ensures value { result ≡ the_form w0 w1 }
 {
-    if two_words(w0) {
-        Instr::new(rows::two_word(w0, w1))
+    let form = if two_words(w0) {
+        Some(rows::two_word(w0, w1))
     } else {
-        Instr::new(rows::one_word(w0)?)
+        rows::one_word(w0)
+    };
+    match form {
+        Some(form) => Instr::new(form),
+        None => None,
     }
 }
 

@@ -1,11 +1,10 @@
 //! The instructions by the bits of their first word (AVR Instruction Set Manual, "16-bit Opcode").
 ghost use Rattle.std.specs.Prelude.{◌≡◌, Some};
-ghost use Rattle.avr_decode.specs.Decoding.{displaced_form, form_0000, flag_or_plain_form, immediate_of, io_bit_form, io_form, form_1111, load_form, move_or_product_form, one_register_form, one_word_form, plain_form, product_form, register_bit_form, register_or_pair_form, form_0001, store_form, form_1001, form_0010, transfer_form, two_of, two_word_form};
+ghost use Rattle.avr_decode.specs.Decoding.{displaced_form, form_0000, flag_or_plain_form, io_bit_form, io_form, form_1111, load_form, move_or_product_form, one_register_form, one_word_form, plain_form, product_form, register_bit_form, register_or_pair_form, form_0001, store_form, form_1001, form_0010, transfer_form, two_of, two_word_form};
 
 use crate::fields::{
-    bit, branch_distance, constant, destination, displacement, flag, high_destination, high_source,
-    io_address, jump_distance, low_io_address, mid_destination, mid_source, pair_destination,
-    pair_source, register_pair, six_bits, source,
+    bit, branch_distance, constant, destination, displacement, even_register, high_register,
+    io_address, jump_distance, low_io_address, mid_register, register_pair, six_bits, source,
 };
 use avr_isa::{Base, Form, ImmOp, OneOp, ProductOp, Ptr, TwoOp, WordOp};
 
@@ -14,23 +13,24 @@ use avr_isa::{Base, Form, ImmOp, OneOp, ProductOp, Ptr, TwoOp, WordOp};
 pub(crate) fn one_word(w: u16) -> Option<Form>
     ensures value { result ≡ one_word_form w }
 {
-    match w >> 12 {
-        0 => leading_0000(w),
-        1 => leading_0001(w),
-        2 => leading_0010(w),
-        3 => immediate(ImmOp::Cpi, w),
-        4 => immediate(ImmOp::Sbci, w),
-        5 => immediate(ImmOp::Subi, w),
-        6 => immediate(ImmOp::Ori, w),
-        7 => immediate(ImmOp::Andi, w),
-        8 | 10 => displaced(w),
-        9 => leading_1001(w),
-        11 => input_or_output(w),
-        12 => Some(Form::Rjmp(jump_distance(w))),
-        13 => Some(Form::Rcall(jump_distance(w))),
-        14 => immediate(ImmOp::Ldi, w),
-        _ => leading_1111(w),
-    }
+    let op = match w >> 12 {
+        0 => return leading_0000(w),
+        1 => return leading_0001(w),
+        2 => return leading_0010(w),
+        3 => ImmOp::Cpi,
+        4 => ImmOp::Sbci,
+        5 => ImmOp::Subi,
+        6 => ImmOp::Ori,
+        7 => ImmOp::Andi,
+        8 | 10 => return displaced(w),
+        9 => return leading_1001(w),
+        11 => return input_or_output(w),
+        12 => return Some(Form::Rjmp(jump_distance(w))),
+        13 => return Some(Form::Rcall(jump_distance(w))),
+        14 => ImmOp::Ldi,
+        _ => return leading_1111(w),
+    };
+    Some(Form::Imm(op, high_register(w >> 4), constant(w)))
 }
 
 // The instruction of two words whose first is LDS, STS, JMP or CALL.
@@ -52,23 +52,18 @@ fn two(op: TwoOp, w: u16) -> Option<Form>
     Some(Form::Two(op, destination(w), source(w)))
 }
 
-fn immediate(op: ImmOp, w: u16) -> Option<Form>
-    ensures value { result ≡ Some (immediate_of op w) }
-{
-    Some(Form::Imm(op, high_destination(w), constant(w)))
-}
-
 // 0000
 #[tactic(auto, unfolding(crate::specs::Decoding::form_0000))]
 fn leading_0000(w: u16) -> Option<Form>
     ensures value { result ≡ form_0000 w }
 {
-    match w >> 10 & 3 {
-        0 => move_or_product(w),
-        1 => two(TwoOp::Cpc, w),
-        2 => two(TwoOp::Sbc, w),
-        _ => two(TwoOp::Add, w),
-    }
+    let op = match w >> 10 & 3 {
+        0 => return move_or_product(w),
+        1 => TwoOp::Cpc,
+        2 => TwoOp::Sbc,
+        _ => TwoOp::Add,
+    };
+    two(op, w)
 }
 
 // 0000 00
@@ -77,8 +72,8 @@ fn move_or_product(w: u16) -> Option<Form>
     ensures value { result ≡ move_or_product_form w }
 {
     match w >> 8 & 3 {
-        1 => Some(Form::Movw(pair_destination(w), pair_source(w))),
-        2 => Some(Form::Muls(high_destination(w), high_source(w))),
+        1 => Some(Form::Movw(even_register(w >> 4), even_register(w))),
+        2 => Some(Form::Muls(high_register(w >> 4), high_register(w))),
         3 => product(w),
         _ if w == 0 => Some(Form::Nop),
         _ => None,
@@ -96,7 +91,7 @@ fn product(w: u16) -> Option<Form>
         (_, 0) => ProductOp::Fmuls,
         _ => ProductOp::Fmulsu,
     };
-    Some(Form::Product(op, mid_destination(w), mid_source(w)))
+    Some(Form::Product(op, mid_register(w >> 4), mid_register(w)))
 }
 
 // 0001
@@ -104,12 +99,13 @@ fn product(w: u16) -> Option<Form>
 fn leading_0001(w: u16) -> Option<Form>
     ensures value { result ≡ form_0001 w }
 {
-    match w >> 10 & 3 {
-        0 => Some(Form::Cpse(destination(w), source(w))),
-        1 => two(TwoOp::Cp, w),
-        2 => two(TwoOp::Sub, w),
-        _ => two(TwoOp::Adc, w),
-    }
+    let op = match w >> 10 & 3 {
+        0 => return Some(Form::Cpse(destination(w), source(w))),
+        1 => TwoOp::Cp,
+        2 => TwoOp::Sub,
+        _ => TwoOp::Adc,
+    };
+    two(op, w)
 }
 
 // 0010
@@ -133,11 +129,11 @@ fn displaced(w: u16) -> Option<Form>
 {
     let r = destination(w);
     let q = displacement(w);
-    match (w >> 9 & 1, w >> 3 & 1) {
-        (0, 0) => Some(Form::LoadOff(r, Base::Z, q)),
-        (0, _) => Some(Form::LoadOff(r, Base::Y, q)),
-        (_, 0) => Some(Form::StoreOff(Base::Z, q, r)),
-        _ => Some(Form::StoreOff(Base::Y, q, r)),
+    let base = if w >> 3 & 1 == 0 { Base::Z } else { Base::Y };
+    if w >> 9 & 1 == 0 {
+        Some(Form::LoadOff(r, base, q))
+    } else {
+        Some(Form::StoreOff(base, q, r))
     }
 }
 
@@ -168,21 +164,22 @@ fn load(w: u16) -> Option<Form>
     ensures value { result ≡ load_form w }
 {
     let d = destination(w);
-    match w & 0xF {
-        1 => Some(Form::LoadAt(d, Ptr::ZInc)),
-        2 => Some(Form::LoadAt(d, Ptr::ZDec)),
-        4 => Some(Form::Lpm(d, false)),
-        5 => Some(Form::Lpm(d, true)),
-        6 => Some(Form::Elpm(d, false)),
-        7 => Some(Form::Elpm(d, true)),
-        9 => Some(Form::LoadAt(d, Ptr::YInc)),
-        10 => Some(Form::LoadAt(d, Ptr::YDec)),
-        12 => Some(Form::LoadAt(d, Ptr::X)),
-        13 => Some(Form::LoadAt(d, Ptr::XInc)),
-        14 => Some(Form::LoadAt(d, Ptr::XDec)),
-        15 => Some(Form::Pop(d)),
-        _ => None,
-    }
+    let pointer = match w & 0xF {
+        1 => Ptr::ZInc,
+        2 => Ptr::ZDec,
+        4 => return Some(Form::Lpm(d, false)),
+        5 => return Some(Form::Lpm(d, true)),
+        6 => return Some(Form::Elpm(d, false)),
+        7 => return Some(Form::Elpm(d, true)),
+        9 => Ptr::YInc,
+        10 => Ptr::YDec,
+        12 => Ptr::X,
+        13 => Ptr::XInc,
+        14 => Ptr::XDec,
+        15 => return Some(Form::Pop(d)),
+        _ => return None,
+    };
+    Some(Form::LoadAt(d, pointer))
 }
 
 // 1001 001
@@ -191,17 +188,18 @@ fn store(w: u16) -> Option<Form>
     ensures value { result ≡ store_form w }
 {
     let r = destination(w);
-    match w & 0xF {
-        1 => Some(Form::StoreAt(Ptr::ZInc, r)),
-        2 => Some(Form::StoreAt(Ptr::ZDec, r)),
-        9 => Some(Form::StoreAt(Ptr::YInc, r)),
-        10 => Some(Form::StoreAt(Ptr::YDec, r)),
-        12 => Some(Form::StoreAt(Ptr::X, r)),
-        13 => Some(Form::StoreAt(Ptr::XInc, r)),
-        14 => Some(Form::StoreAt(Ptr::XDec, r)),
-        15 => Some(Form::Push(r)),
-        _ => None,
-    }
+    let pointer = match w & 0xF {
+        1 => Ptr::ZInc,
+        2 => Ptr::ZDec,
+        9 => Ptr::YInc,
+        10 => Ptr::YDec,
+        12 => Ptr::X,
+        13 => Ptr::XInc,
+        14 => Ptr::XDec,
+        15 => return Some(Form::Push(r)),
+        _ => return None,
+    };
+    Some(Form::StoreAt(pointer, r))
 }
 
 // 1001 01
@@ -221,21 +219,21 @@ fn register_or_pair(w: u16) -> Option<Form>
 fn one_register(w: u16) -> Option<Form>
     ensures value { result ≡ one_register_form w }
 {
-    let d = destination(w);
-    match w & 0xF {
-        0 => Some(Form::One(OneOp::Com, d)),
-        1 => Some(Form::One(OneOp::Neg, d)),
-        2 => Some(Form::One(OneOp::Swap, d)),
-        3 => Some(Form::One(OneOp::Inc, d)),
-        5 => Some(Form::One(OneOp::Asr, d)),
-        6 => Some(Form::One(OneOp::Lsr, d)),
-        7 => Some(Form::One(OneOp::Ror, d)),
-        10 => Some(Form::One(OneOp::Dec, d)),
-        8 => flag_or_plain(w),
-        _ if w == 0x9409 => Some(Form::Ijmp),
-        _ if w == 0x9509 => Some(Form::Icall),
-        _ => None,
-    }
+    let op = match w & 0xF {
+        0 => OneOp::Com,
+        1 => OneOp::Neg,
+        2 => OneOp::Swap,
+        3 => OneOp::Inc,
+        5 => OneOp::Asr,
+        6 => OneOp::Lsr,
+        7 => OneOp::Ror,
+        10 => OneOp::Dec,
+        8 => return flag_or_plain(w),
+        _ if w == 0x9409 => return Some(Form::Ijmp),
+        _ if w == 0x9509 => return Some(Form::Icall),
+        _ => return None,
+    };
+    Some(Form::One(op, destination(w)))
 }
 
 // 1001 010. .... 1000
@@ -243,7 +241,7 @@ fn one_register(w: u16) -> Option<Form>
 fn flag_or_plain(w: u16) -> Option<Form>
     ensures value { result ≡ flag_or_plain_form w }
 {
-    let s = flag(w);
+    let s = bit(w >> 4);
     match w >> 7 & 3 {
         0 => Some(Form::Bset(s)),
         1 => Some(Form::Bclr(s)),
@@ -256,17 +254,17 @@ fn flag_or_plain(w: u16) -> Option<Form>
 fn plain(w: u16) -> Option<Form>
     ensures value { result ≡ plain_form w }
 {
-    match w >> 4 & 0xF {
-        0 => Some(Form::Ret),
-        1 => Some(Form::Reti),
-        8 => Some(Form::Sleep),
-        9 => Some(Form::Break),
-        10 => Some(Form::Wdr),
-        12 => Some(Form::Lpm0),
-        13 => Some(Form::Elpm0),
-        14 => Some(Form::Spm),
-        _ => None,
-    }
+    Some(match w >> 4 & 0xF {
+        0 => Form::Ret,
+        1 => Form::Reti,
+        8 => Form::Sleep,
+        9 => Form::Break,
+        10 => Form::Wdr,
+        12 => Form::Lpm0,
+        13 => Form::Elpm0,
+        14 => Form::Spm,
+        _ => return None,
+    })
 }
 
 // 1001 10
@@ -276,12 +274,12 @@ fn io_bit(w: u16) -> Option<Form>
 {
     let a = low_io_address(w);
     let b = bit(w);
-    match w >> 8 & 3 {
-        0 => Some(Form::Cbi(a, b)),
-        1 => Some(Form::Sbic(a, b)),
-        2 => Some(Form::Sbi(a, b)),
-        _ => Some(Form::Sbis(a, b)),
-    }
+    Some(match w >> 8 & 3 {
+        0 => Form::Cbi(a, b),
+        1 => Form::Sbic(a, b),
+        2 => Form::Sbi(a, b),
+        _ => Form::Sbis(a, b),
+    })
 }
 
 // 1011
@@ -317,11 +315,11 @@ fn register_bit(w: u16) -> Option<Form>
 {
     let r = destination(w);
     let b = bit(w);
-    match w >> 9 & 3 {
-        _ if w >> 3 & 1 == 1 => None,
-        0 => Some(Form::Bld(r, b)),
-        1 => Some(Form::Bst(r, b)),
-        2 => Some(Form::Sbrc(r, b)),
-        _ => Some(Form::Sbrs(r, b)),
-    }
+    Some(match w >> 9 & 3 {
+        _ if w >> 3 & 1 == 1 => return None,
+        0 => Form::Bld(r, b),
+        1 => Form::Bst(r, b),
+        2 => Form::Sbrc(r, b),
+        _ => Form::Sbrs(r, b),
+    })
 }

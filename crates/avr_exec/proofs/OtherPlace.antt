@@ -6,7 +6,8 @@ use Rattle.avr_isa.specs.declared.form.Form.TheVariants.{Nop, Movw, Muls, Produc
 use Rattle.avr_isa.specs.Instruction.{size_of}
 use Rattle.avr_exec.specs.declared.cpu.Cpu.{Cpu}
 use Rattle.avr_exec.specs.declared.answer.Answer.{Answer}
-use Rattle.avr_exec.specs.Registers.{register, with_register, wrapping_sum, own_byte, pair}
+use Rattle.avr_isa.specs.Addresses.{wrapping_sum}
+use Rattle.avr_exec.specs.Registers.{register, with_register, own_byte, pair}
 use Rattle.avr_exec.specs.Spaces.{Outcome, Went, Stopped, Calls}
 use Rattle.avr_exec.specs.Asks.{ask_of, displaced, target, pointer_value}
 use Rattle.avr_isa.specs.IoTable.{io_address}

@@ -13,7 +13,8 @@ pub use Rattle.avr_isa.specs.IoTable.{io_address}
 use Rattle.avr_exec.specs.declared.cpu.Cpu.{Cpu}
 use Rattle.avr_exec.specs.declared.ask.Ask.{Ask}
 use Rattle.avr_exec.specs.declared.ask.Ask.TheVariants.{Nothing, Load, Store, Modify, PushByte, PopByte, PushReturn, PopReturn, Program, ExtendedProgram, ExtendedProgramRaising}
-use Rattle.avr_exec.specs.Registers.{register, pair, is_own, wrapping_sum, wrapping_difference}
+use Rattle.avr_isa.specs.Addresses.{wrapping_sum, wrapping_difference}
+use Rattle.avr_exec.specs.Registers.{register, pair, is_own}
 
 -- the low register of Y and of Z
 abbrev pub base_register : Base → ℕ

@@ -10,7 +10,8 @@ use Rattle.avr_flags.specs.Products.{muls_of}
 use Rattle.avr_exec.specs.declared.cpu.Cpu.{Cpu}
 use Rattle.avr_exec.specs.declared.answer.Answer.{Answer}
 use Rattle.avr_exec.specs.declared.answer.Answer.TheVariants.{Done, Byte, Address}
-use Rattle.avr_exec.specs.Registers.{register, with_register, pair, with_pair, with_status, with_stack, with_counter, is_own, own_byte, with_own_byte, wrapping_sum, wrapping_difference, relative}
+use Rattle.avr_isa.specs.Addresses.{wrapping_sum, wrapping_difference, relative}
+use Rattle.avr_exec.specs.Registers.{register, with_register, pair, with_pair, with_status, with_stack, with_counter, is_own, own_byte, with_own_byte}
 use Rattle.avr_exec.specs.Asks.{displaced, target, pointer_value}
 use Rattle.avr_isa.specs.IoTable.{io_address}
 use Rattle.avr_exec.specs.Arithmetic.{with_pair_result, two_of, immediate_of, word_of, one_of, product_of}

@@ -1,6 +1,6 @@
 -- The registers of the core, and the data addresses at which a program sees them.
 -- ATmega128 datasheet, "AVR CPU Core": "General Purpose Register File", "Stack Pointer"; "Register Summary".
-use Rattle.std.specs.Prelude.{ℕ, Bool, ◌+◌, ◌-◌, ◌*◌, ◌/◌, ◌%◌, ◌==◌, ◌||◌, nat_lt, nat_le, ◌&&◌, if◌then◌else◌, slice_index, slice_set, ℤ, pos, negsuc}
+use Rattle.std.specs.Prelude.{ℕ, Bool, ◌+◌, ◌*◌, ◌/◌, ◌%◌, ◌==◌, ◌||◌, nat_lt, nat_le, ◌&&◌, if◌then◌else◌, slice_index, slice_set}
 use Rattle.avr_exec.specs.declared.cpu.Cpu.{Cpu}
 
 -- register r0 to r31
@@ -46,15 +46,3 @@ with_own_byte cpu a v =
     else if a == 0x5D then with_stack cpu (cpu.sp / 256 * 256 + v)
     else if a == 0x5E then with_stack cpu (v * 256 + cpu.sp % 256)
     else with_status cpu v
-
--- sums modulo 65,536
-abbrev pub wrapping_sum : ℕ → ℕ → ℕ
-wrapping_sum a by = (a + by) % 65536
-
-abbrev pub wrapping_difference : ℕ → ℕ → ℕ
-wrapping_difference a by = (a + 65536 - by) % 65536
-
--- pc + 1 + k
-unfoldable pub relative : ℕ → ℤ → ℕ
-relative pc (pos n) = (pc + 1 + n) % 65536
-relative pc (negsuc n) = (pc + 65536 - n) % 65536

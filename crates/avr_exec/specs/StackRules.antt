@@ -2,7 +2,7 @@
 -- (AVR Instruction Set Manual, "Operation" of PUSH, POP, CALL and RET).
 use Rattle.std.specs.Prelude.{ℕ, ◌+◌, ◌*◌, ◌/◌, ◌%◌, Bool, if◌then◌else◌}
 use Rattle.avr_exec.specs.declared.stop.BusStop.{BusStop}
-use Rattle.avr_exec.specs.Registers.{wrapping_sum, wrapping_difference}
+use Rattle.avr_isa.specs.Addresses.{wrapping_sum, wrapping_difference}
 use Rattle.avr_exec.specs.Spaces.{Outcome, Went, Stopped}
 
 -- in what the rules differ: the addresses that a stack may use, the byte at one, the space with another byte

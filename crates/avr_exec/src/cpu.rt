@@ -9,7 +9,7 @@ use avr_isa::Reg;
 pub(crate) const OWN_END: u16 = 0x60;
 
 /// The registers of an AVR core.
-#[derive(Clone, Copy, PartialEq, Eq, Debug)]
+#[derive(Clone, Copy, PartialEq, Eq)]
 pub struct Cpu {
     /// r0 to r31.
     pub r: [u8; 32],
@@ -23,7 +23,8 @@ pub struct Cpu {
 
 impl Cpu {
     ghost use Rattle.std.specs.Prelude.{◌≡◌, ℕ, ◌+◌, ◌-◌, ◌*◌, ◌/◌, ◌%◌, ◌<◌, ◌≤◌, IsTrue, true};
-    ghost use Rattle.avr_exec.specs.Registers.{register as register_of, with_register, pair as pair_of, with_pair, with_status, with_stack, with_counter, is_own, own_byte as own_byte_of, with_own_byte, wrapping_sum, wrapping_difference, relative};
+    ghost use Rattle.avr_isa.specs.Addresses.{wrapping_sum, wrapping_difference, relative};
+    ghost use Rattle.avr_exec.specs.Registers.{register as register_of, with_register, pair as pair_of, with_pair, with_status, with_stack, with_counter, is_own, own_byte as own_byte_of, with_own_byte};
 
     /// The register of this number.
     pub(crate) fn register(&self, number: u8) -> u8

@@ -1,7 +1,8 @@
 //! What an instruction does to the registers.
 
 ghost use Rattle.std.specs.Prelude.{ℕ, ◌≡◌, ◌≤◌};
-ghost use Rattle.avr_exec.specs.Registers.{wrapping_sum, relative as relative_of, with_counter};
+ghost use Rattle.avr_isa.specs.Addresses.{wrapping_sum};
+ghost use Rattle.avr_exec.specs.Registers.{with_counter};
 ghost use Rattle.avr_exec.specs.declared.answer.Answer.TheVariants.{Done};
 ghost use Rattle.avr_exec.specs.declared.ask.Ask.TheVariants.{Nothing};
 ghost use Rattle.avr_exec.specs.Asks.{ask_of};
@@ -12,7 +13,7 @@ use crate::arithmetic::{keep_word, product};
 use crate::bits::{has_bit, with_bit};
 use crate::cpu::Cpu;
 use avr_flags::muls;
-use avr_isa::{Form, Ptr};
+use avr_isa::{Form, Ptr, relative};
 
 /// The bit of SREG that BST writes and BLD copies.
 const TRANSFER: u8 = 6;
@@ -47,14 +48,6 @@ pub(crate) fn advance(cpu: &mut Cpu, words: u16)
     ensures { cpu.new ≡ with_counter cpu.old (wrapping_sum cpu.old.pc words) }
 {
     cpu.pc = cpu.pc.wrapping_add(words);
-}
-
-/// pc + 1 + k: where a relative jump, call or branch at the pc leads. Word addresses wrap at 65,536.
-#[tactic(auto, unfolding(crate::specs::Registers::relative))]
-pub fn relative(pc: u16, k: i16) -> u16
-    ensures value { result ≡ relative_of pc k }
-{
-    pc.wrapping_add(1).wrapping_add(k.cast_unsigned())
 }
 
 /// Passes over the next instruction, of this many words, where `passed` is true.

@@ -33,6 +33,5 @@ pub use answer::Answer;
 pub use ask::{Ask, asks};
 pub use bus::Bus;
 pub use cpu::Cpu;
-pub use effect::relative;
 pub use execution::exec;
 pub use stop::BusStop;

@@ -1,7 +1,7 @@
 //! Why a bus refuses a call.
 
 /// Why a call of a bus, and so the instruction that made it, stopped. Nothing was changed.
-#[derive(Clone, Copy, PartialEq, Eq, Debug)]
+#[derive(Clone, Copy, PartialEq, Eq)]
 pub enum BusStop {
     /// An access to this I/O register, by its data address, that the device doesn't allow.
     Io(u16),

@@ -5,7 +5,8 @@ ghost use Rattle.avr_exec.specs.declared.answer.Answer.{Answer};
 ghost use Rattle.avr_exec.specs.declared.ask.Ask.TheVariants.{PushReturn};
 ghost use Rattle.avr_exec.specs.Asks.{load_of, store_of};
 ghost use Rattle.avr_exec.specs.Effects.{called, loaded, stored};
-ghost use Rattle.avr_exec.specs.Registers.{register, with_counter, with_register, wrapping_sum};
+ghost use Rattle.avr_isa.specs.Addresses.{wrapping_sum};
+ghost use Rattle.avr_exec.specs.Registers.{register, with_counter, with_register};
 ghost use Rattle.avr_exec.specs.Execution.{answer_of, answered_by, exec_of, finished};
 ghost use Rattle.avr_exec.specs.Kinds.{kind_of, Fetch, Read, Deposit, Probe, Reach};
 ghost use Rattle.avr_exec.specs.Spaces.{Went};
@@ -14,10 +15,10 @@ use crate::ask::{displaced, low_register, target};
 use crate::bits::{bit_weight, has_bit, with_bit};
 use crate::bus::Bus;
 use crate::cpu::Cpu;
-use crate::effect::{advance, call, move_pointer, raise_z, relative, return_to, skip};
+use crate::effect::{advance, call, move_pointer, raise_z, return_to, skip};
 use crate::memory::{extended, extended_byte_raising, load, store};
 use crate::stop::BusStop;
-use avr_isa::{Form, Reg};
+use avr_isa::{Form, Reg, relative};
 
 /// The bit of SREG that enables interrupts.
 const INTERRUPTS: u8 = 7;

@@ -1,6 +1,7 @@
 -- Laws of instructions, for the crates above.
 use Rattle.std.specs.Prelude.{All}
-use Rattle.std.proofs.Common.{ℕ, zero, suc, ◌<◌, ◌/◌, ◌%◌, false, cond, List, [], ◌∷◌, ◌≡◌, ◌≤◌, Bool, true, ◌&&◌, ◌==◌, is_none, IsTrue, refl, arith}
+use Rattle.std.proofs.Common.{ℕ, zero, suc, ◌<◌, ◌/◌, ◌%◌, false, cond, List, [], ◌∷◌, ◌≡◌, ◌≤◌, Bool, true, ◌==◌, is_none, IsTrue, refl, arith}
+use Rattle.std.proofs.lemmas.Bool.{and_parts}
 use Rattle.avr_isa.specs.declared.form.Form.{Form}
 use Rattle.avr_isa.specs.declared.form.Form.TheVariants.{Lds, Sts, Jmp, Call}
 use Rattle.avr_isa.specs.Instruction.{fields_in_range, is_valid, size_of}
@@ -25,14 +26,10 @@ size_of-second_word (Jmp a) = refl
 size_of-second_word (Call a) = refl
 size_of-second_word _ = refl
 
-both : (a b : Bool) → a && b ≡ true → (a ≡ true) × (b ≡ true)
-both true b h = (refl, h)
-both _ b h = absurd (cc)
-
 -- the operands of a valid instruction are in their ranges
 pub valid_in_range : (f : Form) → IsTrue (is_valid f) → IsTrue (fields_in_range f)
 unfolding is_valid
-valid_in_range f valid = (both _ _ valid).0
+valid_in_range f valid = (and_parts _ _ valid).0
 
 choice : (b : Bool) (x y : ℕ) → x < 256 → y < 256 → cond b x y < 256
 choice true x y first second = first

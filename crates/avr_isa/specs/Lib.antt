@@ -3,4 +3,5 @@ pub mod Encoding
 pub mod IoTable
 pub mod Image
 pub mod Crossing
+pub mod Addresses
 pub mod OperandKinds

@@ -73,10 +73,8 @@ fn is_undefined_pair(form: &Form) -> bool
     ensures value { result ≡ is_undefined form.now }
 {
     match form {
-        Form::LoadAt(d, pointer) => is_own_pair(d.get(), pointer),
-        Form::StoreAt(pointer, r) => is_own_pair(r.get(), pointer),
-        Form::Lpm(d, increment) => *increment && d.get() >= 30,
-        Form::Elpm(d, increment) => *increment && d.get() >= 30,
+        Form::LoadAt(r, pointer) | Form::StoreAt(pointer, r) => is_own_pair(r.get(), pointer),
+        Form::Lpm(d, increment) | Form::Elpm(d, increment) => *increment && d.get() >= 30,
         _ => false,
     }
 }
@@ -93,33 +91,12 @@ fn is_own_pair(register: u8, pointer: &Ptr) -> bool
 }
 
 /// Reads each operand once, which tells the proof the ranges that the operands keep.
-#[tactic(auto, unfolding(crate::specs::Instruction::fields_in_range))]
 fn read_fields(form: &Form)
     ensures ranges { IsTrue (fields_in_range form.now) }
 {
-    match form {
-        Form::Movw(..)
-        | Form::Muls(..)
-        | Form::Product(..)
-        | Form::Two(..)
-        | Form::Cpse(..)
-        | Form::Imm(..)
-        | Form::Word(..)
-        | Form::One(..) => read_result_operands(form),
-        Form::LoadOff(..)
-        | Form::StoreOff(..)
-        | Form::LoadAt(..)
-        | Form::StoreAt(..)
-        | Form::Lds(..)
-        | Form::Sts(..)
-        | Form::Pop(_)
-        | Form::Push(_)
-        | Form::Lpm(..)
-        | Form::Elpm(..)
-        | Form::InIo(..)
-        | Form::OutIo(..) => read_access_operands(form),
-        _ => read_other_operands(form),
-    }
+    read_result_operands(form);
+    read_access_operands(form);
+    read_other_operands(form);
 }
 
 /// The operands of an instruction that makes a result of registers and a constant.

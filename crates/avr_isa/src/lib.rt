@@ -2,7 +2,8 @@
 //!
 //! A [`Form`] is an operation with its operands; each operand has a type of its own, which keeps its
 //! range. An [`Instr`] is a form whose effect the manual defines. [`io_access`] says which I/O
-//! registers a program may read and write, and [`is_crossing`] which steps are counted.
+//! registers a program may read and write, [`relative`] where a relative jump leads, and [`is_crossing`] which
+//! steps are counted.
 //!
 //! ```rust
 //! use avr_isa::{Form, HighReg, ImmOp, Instr, size};
@@ -14,10 +15,11 @@
 //!
 //! The definitions that other crates cite stand in `specs/`: `Instruction` (ranges, undefined pairs,
 //! number of words), `Encoding` (the words of each instruction), `IoTable`, `Image` (a program's words
-//! and bytes) and `Crossing` (transfers between pages of flash). In a clause an operand is its number,
+//! and bytes), `Addresses` (sums of addresses) and `Crossing` (transfers between pages of flash). In a clause an operand is its number,
 //! and an `Instr` is its `Form`.
 #![tactic(auto)]
 
+mod address;
 mod crossing;
 mod form;
 mod instr;
@@ -26,6 +28,7 @@ mod operand;
 mod operation;
 mod register;
 
+pub use address::relative;
 pub use crossing::is_crossing;
 pub use form::Form;
 pub use instr::{Instr, size};

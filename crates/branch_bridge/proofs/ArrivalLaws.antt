@@ -1,19 +1,19 @@
 -- Arrivals: which operations on flash they try.
-use Rattle.std.proofs.Common.{◌≡◌, ℕ, zero, suc, ◌+◌, ◌/◌, ◌<◌, ◌≤◌, Bool, true, false, List, [], ◌∷◌, length, Option, Some, None, Result, Ok, Err, arith, refl, sym, ap, ◌∙◌, subst}
+use Rattle.std.proofs.Common.{◌≡◌, ℕ, zero, suc, ◌+◌, ◌/◌, ◌<◌, ◌≤◌, Bool, true, false, List, [], ◌∷◌, length, Option, Some, None, Result, Ok, Err, arith, refl, sym, ap, ◌∙◌, subst, ◌↔◌}
 use Rattle.std.specs.Prelude.{if◌then◌else◌, MatchOption, ⊤}
 use Rattle.std.specs.Option.{option_map}
-use Rattle.flash_model.specs.Pages.{word_count, page_words, page_of, blank}
-use Rattle.flash_model.specs.Memory.{Memory}
-use Rattle.flash_model.specs.Operations.{erased_page}
-use Rattle.flash_model.specs.Layouts.{IsRight, image_of}
-use Rattle.flash_model.specs.declared.layout.Layout.{Layout}
-use Rattle.flash_model.proofs.PageLaws.{length-page_of}
+use Rattle.flash_words.specs.Pages.{word_count, page_words, page_of, blank}
+use Rattle.flash_words.specs.Memory.{Memory}
+use Rattle.flash_words.specs.Operations.{next_op, erased_page}
+use Rattle.flash_words.specs.Layouts.{IsRight, image_of}
+use Rattle.flash_words.specs.declared.layout.Layout.{Layout}
+use Rattle.flash_words.proofs.PageLaws.{length-page_of}
 use Rattle.page_index.specs.Maps.{IsPool, IsFree}
-use Rattle.nat_page.specs.Standing.{jump_word}
+use Rattle.page_draft.specs.Standing.{jump_word}
 use Rattle.nat_page.specs.Links.{IsUnresolved, with_two_words}
 use Rattle.nat_page.specs.Making.{IsPrepared}
 use Rattle.nat_page.specs.Unlinking.{with_calls, stubs_into}
-use Rattle.nat_page.specs.CodePages.{page_pieces}
+use Rattle.page_draft.specs.CodePages.{page_pieces}
 use Rattle.nat_template.specs.Stubs.{words_of}
 use Rattle.nat_page.proofs.MadeLaws.{length-filled}
 use Rattle.nat_page.proofs.TwoWords.{length-with_two_words}
@@ -27,6 +27,7 @@ use Rattle.branch_bridge.specs.declared.through.Arrival.{Arrival}
 use Rattle.branch_bridge.specs.Operating.{Erase, Program, Performed, perform, rewriting, then_on, stop_at}
 use Rattle.branch_bridge.specs.Resolving.{resolving}
 use Rattle.branch_bridge.specs.Unresolving.{has_stubs_into, unlinking, unresolved, unresolved_in}
+use Rattle.branch_bridge.specs.declared.arrival.ArriveStop.TheVariants.{Wild}
 use Rattle.branch_bridge.specs.Tried.{torn_at, Tried}
 use Rattle.branch_bridge.specs.Arrivals.{Store, ring_of, CameThrough, refused_by, torn_by, torn_in, stopped_by, refusal_in, Makes, Made, NotMade, Recycles, NotUnlinked, NotErased, Erased, Arrives, Beyond, Found, Free, Full, ArrivesFrom, Stopped, Went, Resolved}
 use Rattle.branch_bridge.proofs.PerformLaws.{perform_refused, perform_done, erased_blank}
@@ -194,3 +195,22 @@ flash_left layout old new t stub arrival right whole ring came arrives =
       image = tried_image layout old.flash new.flash (stopped_by arrival.refused) right whole tried;
       torn = subst P (sym (from_torn layout old new t stub arrival arrives)) (tried_torn layout old.flash new.flash (stopped_by arrival.refused) tried);
     }
+
+-- only an address outside the image is told as one
+made_not_wild : (layout : Layout) (old new : Store) (page t address : ℕ) (again : Bool) (result : Result Moved Refused) → Makes layout old new page t again result → result ≡ Err (record { why = Wild address; torn = None }) → ⊥
+made_not_wild layout old new page t address again result (Made words place prepared performed noted_there answer) is = absurd (cc)
+made_not_wild layout old new page t address again result (NotMade words place prepared stop performed same answer) is =
+    absurd (let told : Some (record { op = stop.op; torn = stop.torn }) ≡ None = ap (λ r. stopped_by (refusal_in r)) (sym answer ∙ is) in cc)
+
+recycled_not_wild : (layout : Layout) (old new : Store) (victim t address : ℕ) (result : Result Moved Refused) → Recycles layout old new victim t result → result ≡ Err (record { why = Wild address; torn = None }) → ⊥
+recycled_not_wild layout old new victim t address result (NotUnlinked stop performed same answer) is =
+    absurd (let told : Some (record { op = stop.op; torn = stop.torn }) ≡ None = ap (λ r. stopped_by (refusal_in r)) (sym answer ∙ is) in cc)
+recycled_not_wild layout old new victim t address result (NotErased unlinked performed listed after forgot answer) is =
+    absurd (let told : Some (record { op = next_op unlinked; torn = None }) ≡ None = ap (λ r. stopped_by (refusal_in r)) (sym answer ∙ is) in cc)
+recycled_not_wild layout old new victim t address result (Erased unlinked performed unlisted makes) is = made_not_wild layout _ new victim t address true result makes is
+
+pub only_wild : (layout : Layout) (old new : Store) (t : ℕ) (result : Result Moved Refused) → Arrives layout old new t result → (result ≡ Err (record { why = Wild t; torn = None })) ↔ (layout.image_words ≤ t)
+only_wild layout old new t result (Beyond outside same answer) = (λ is. outside, λ beyond. answer)
+only_wild layout old new t result (Found place inside finds same answer) = (λ is. absurd (cc), λ beyond. absurd (omega arith))
+only_wild layout old new t result (Free page inside finds lowest makes) = (λ is. absurd (made_not_wild layout old new page t t false result makes is), λ beyond. absurd (omega arith))
+only_wild layout old new t result (Full inside finds full recycles) = (λ is. absurd (recycled_not_wild layout old new _ t t result recycles is), λ beyond. absurd (omega arith))

@@ -1,11 +1,11 @@
 -- The page that RING names, erased: what the next page is made in.
 use Rattle.std.proofs.Common.{◌≡◌, ℕ, ◌+◌, ◌*◌, ◌/◌, ◌%◌, ◌<◌, ◌≤◌, ◌⊎◌, List, length, Some, Result, Ok, Err, arith, refl, sym, ap, ◌∙◌, subst}
 use Rattle.std.specs.Prelude.{◌≢◌, IfOk}
-use Rattle.flash_model.specs.Pages.{page_words, set_page, blank}
-use Rattle.flash_model.specs.Memory.{Memory}
-use Rattle.flash_model.specs.Operations.{erased_page}
-use Rattle.flash_model.specs.Layouts.{IsRight, image_of}
-use Rattle.flash_model.specs.declared.layout.Layout.{Layout}
+use Rattle.flash_words.specs.Pages.{page_words, set_page, blank}
+use Rattle.flash_words.specs.Memory.{Memory}
+use Rattle.flash_words.specs.Operations.{erased_page}
+use Rattle.flash_words.specs.Layouts.{IsRight, image_of}
+use Rattle.flash_words.specs.declared.layout.Layout.{Layout}
 use Rattle.sram_layout.specs.Bytes.{byte_count}
 use Rattle.sram_layout.specs.Cells.{ring_cell}
 use Rattle.sram_layout.proofs.Laws.{byte_out_of_word}

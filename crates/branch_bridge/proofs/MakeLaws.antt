@@ -1,10 +1,10 @@
 -- A page made by one operation, done or refused.
 use Rattle.std.proofs.Common.{◌≡◌, ℕ, ◌+◌, ◌*◌, ◌≤◌, Bool, true, false, List, [], ◌∷◌, length, Option, Some, None, Result, Ok, Err, arith, refl, sym, ap, ap₂, ◌∙◌, inl, subst}
-use Rattle.flash_model.specs.Pages.{set_page}
-use Rattle.flash_model.specs.Layouts.{IsRight, image_of}
-use Rattle.flash_model.specs.declared.layout.Layout.{Layout}
-use Rattle.flash_model.specs.Memory.{Memory}
-use Rattle.flash_model.specs.Operations.{fails, left_by_refusal, programmed_page, next_op}
+use Rattle.flash_words.specs.Pages.{set_page}
+use Rattle.flash_words.specs.Layouts.{IsRight, image_of}
+use Rattle.flash_words.specs.declared.layout.Layout.{Layout}
+use Rattle.flash_words.specs.Memory.{Memory}
+use Rattle.flash_words.specs.Operations.{fails, left_by_refusal, programmed_page, next_op}
 use Rattle.sram_layout.specs.Bytes.{byte_count}
 use Rattle.sram_layout.specs.Cells.{ring_cell}
 use Rattle.page_index.specs.Maps.{IsPool, IsFree}

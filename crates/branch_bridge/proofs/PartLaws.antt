@@ -2,16 +2,16 @@
 use Rattle.std.proofs.Common.{◌≡◌, ℕ, zero, suc, ◌+◌, ◌-◌, ◌*◌, ◌/◌, ◌<◌, ◌≤◌, Bool, true, false, List, [], length, Option, Some, None, Result, Ok, Err, arith, refl, sym, ap, ◌∙◌, inl, inr, subst}
 use Rattle.std.specs.Prelude.{◌≢◌, ◌==◌, ◌||◌, not, if◌then◌else◌, IfOk}
 use Rattle.std.proofs.lemmas.Bool.{cases_eq}
-use Rattle.flash_model.specs.Pages.{page_words, word_at, page_of, set_page}
-use Rattle.flash_model.specs.Layouts.{IsRight, image_of}
-use Rattle.flash_model.specs.declared.layout.Layout.{Layout}
-use Rattle.flash_model.specs.Memory.{Memory}
-use Rattle.flash_model.specs.Operations.{erased_page}
+use Rattle.flash_words.specs.Pages.{page_words, word_at, page_of, set_page}
+use Rattle.flash_words.specs.Layouts.{IsRight, image_of}
+use Rattle.flash_words.specs.declared.layout.Layout.{Layout}
+use Rattle.flash_words.specs.Memory.{Memory}
+use Rattle.flash_words.specs.Operations.{erased_page}
 use Rattle.page_index.specs.Maps.{IsPool, IsFree, address_of, entry_count}
 use Rattle.page_index.specs.Entries.{IsEntry}
 use Rattle.page_index.proofs.ChangeLaws.{SamePage}
-use Rattle.nat_page.specs.Standing.{size, jump_word}
-use Rattle.nat_page.specs.CodePages.{page_pieces, HoldsRun}
+use Rattle.page_draft.specs.Standing.{size, jump_word}
+use Rattle.page_draft.specs.CodePages.{page_pieces, HoldsRun}
 use Rattle.nat_page.specs.Faithful.{IsFaithful, IsRewritten}
 use Rattle.nat_page.specs.Links.{IsUnresolved, with_two_words}
 use Rattle.nat_page.specs.Making.{MakesPage}

@@ -2,10 +2,10 @@
 use Rattle.std.proofs.Common.{◌≡◌, ℕ, ◌+◌, ◌*◌, ◌≤◌, Bool, true, false, List, [], ◌∷◌, ◌++◌, length, Some, None, arith, refl, sym, ap, ◌∙◌, subst}
 use Rattle.std.specs.Prelude.{if◌then◌else◌}
 use Rattle.list_parts.proofs.ManyLaws.{length-many}
-use Rattle.flash_model.specs.Pages.{page_words, page_of, set_page, blank}
-use Rattle.flash_model.specs.Memory.{Memory}
-use Rattle.flash_model.specs.Operations.{fails, left_by_refusal, erased_page, programmed_page}
-use Rattle.flash_model.proofs.PageLaws.{page_same, set_page_twice}
+use Rattle.flash_words.specs.Pages.{page_words, page_of, set_page, blank}
+use Rattle.flash_words.specs.Memory.{Memory}
+use Rattle.flash_words.specs.Operations.{fails, left_by_refusal, erased_page, programmed_page}
+use Rattle.flash_words.proofs.PageLaws.{page_same, set_page_twice}
 use Rattle.branch_bridge.specs.declared.rewriting.ResolveStop.{ResolveStop}
 use Rattle.branch_bridge.specs.Operating.{Operation, Erase, Program, operated_page, operated, stop_at, Performed, perform, rewriting, mended}
 

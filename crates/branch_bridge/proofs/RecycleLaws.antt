@@ -3,10 +3,10 @@ use Rattle.std.proofs.Common.{◌≡◌, ℕ, ◌+◌, ◌-◌, ◌*◌, ◌/◌
 use Rattle.std.specs.Prelude.{◌≢◌}
 use Rattle.std.proofs.lemmas.Bool.{cases_eq}
 use Rattle.list_parts.proofs.ManyLaws.{length-many}
-use Rattle.flash_model.specs.Pages.{page_words, word_at, set_page, blank}
-use Rattle.flash_model.specs.Layouts.{IsRight, image_of}
-use Rattle.flash_model.specs.declared.layout.Layout.{Layout}
-use Rattle.flash_model.proofs.PageLaws.{length-set_page, word_out_of_page, take-set_page, page_same}
+use Rattle.flash_words.specs.Pages.{page_words, word_at, set_page, blank}
+use Rattle.flash_words.specs.Layouts.{IsRight, image_of}
+use Rattle.flash_words.specs.declared.layout.Layout.{Layout}
+use Rattle.flash_words.proofs.PageLaws.{length-set_page, word_out_of_page, take-set_page, page_same}
 use Rattle.page_index.specs.Maps.{IsPool, IsFree}
 use Rattle.page_index.specs.Entries.{Lists, IsEntry}
 use Rattle.page_index.proofs.ChangeLaws.{SamePage, same_back, lists_alike, free_alike, page_left}
@@ -16,7 +16,7 @@ use Rattle.nat_page.specs.Faithful.{IsFaithful}
 use Rattle.nat_page.specs.Unlinking.{Outside}
 use Rattle.nat_page.specs.Used.{is_used, used_pages}
 use Rattle.nat_page.proofs.UsedLaws.{used_among-more, free_unused, same_used, holds_run_used}
-use Rattle.nat_page.specs.CodePages.{HoldsRun}
+use Rattle.page_draft.specs.CodePages.{HoldsRun}
 use Rattle.nat_page.specs.Links.{IsUnresolved}
 use Rattle.nat_page.proofs.LinkLaws.{link_room}
 use Rattle.nat_page.proofs.StayLaws.{holds_alike, held_used, same_run}

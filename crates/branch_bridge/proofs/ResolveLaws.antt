@@ -1,18 +1,18 @@
 -- A stub that is resolved: what stays.
 use Rattle.std.proofs.Common.{◌≡◌, ◌≢◌, ℕ, ◌+◌, ◌*◌, ◌/◌, ◌≤◌, List, length, arith, refl, sym, ap, ◌∙◌, inr, subst}
 use Rattle.std.specs.Prelude.{◌↔◌}
-use Rattle.flash_model.specs.Pages.{page_words, word_at, page_of, set_page, blank}
-use Rattle.flash_model.specs.Layouts.{IsRight, image_of}
-use Rattle.flash_model.specs.declared.layout.Layout.{Layout}
+use Rattle.flash_words.specs.Pages.{page_words, word_at, page_of, set_page, blank}
+use Rattle.flash_words.specs.Layouts.{IsRight, image_of}
+use Rattle.flash_words.specs.declared.layout.Layout.{Layout}
 use Rattle.list_parts.proofs.ManyLaws.{length-many}
-use Rattle.flash_model.proofs.PageLaws.{page_same, set_page_twice}
+use Rattle.flash_words.proofs.PageLaws.{page_same, set_page_twice}
 use Rattle.nat_template.specs.Stubs.{call_word, bridge_entry}
 use Rattle.page_index.specs.Entries.{IsEntry}
-use Rattle.nat_page.specs.Standing.{IsLink, jump_word}
+use Rattle.page_draft.specs.Standing.{IsLink, jump_word}
 use Rattle.nat_page.specs.Links.{IsLinkIn, IsUnresolved, with_two_words}
 use Rattle.nat_page.specs.Faithful.{IsFaithful}
 use Rattle.nat_page.specs.Used.{used_pages}
-use Rattle.flash_model.specs.Memory.{Memory}
+use Rattle.flash_words.specs.Memory.{Memory}
 use Rattle.nat_page.proofs.TwoWords.{word_beside_two}
 use Rattle.nat_page.proofs.UnlinkLaws.{page_of_two}
 use Rattle.branch_bridge.specs.Operating.{Performed, perform, mended}

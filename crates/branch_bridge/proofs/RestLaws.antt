@@ -1,12 +1,12 @@
 -- Bytes beside RING and the tables.
-use Rattle.std.proofs.Common.{◌≡◌, ℕ, ◌+◌, ◌%◌, ◌<◌, ◌≤◌, ◌⊎◌, List, arith, refl, ◌∙◌, inl, inr, ap₂, ◌*◌}
+use Rattle.std.proofs.Common.{◌≡◌, ℕ, ◌+◌, ◌%◌, ◌<◌, ◌≤◌, ◌⊎◌, List, arith, inl, inr, ap₂, ◌*◌}
 use Rattle.sram_layout.specs.Bytes.{data_word_at}
 use Rattle.sram_layout.specs.Boot.{at_boot}
 use Rattle.sram_layout.specs.Cells.{ring_cell}
 use Rattle.sram_layout.specs.Regions.{place_cells, place_tables}
 use Rattle.sram_layout.proofs.BootLaws.{boot_zero}
 use Rattle.sram_layout.proofs.Laws.{length-with_word, byte_out_of_word}
-use Rattle.flash_model.specs.declared.layout.Layout.{Layout}
+use Rattle.flash_words.specs.declared.layout.Layout.{Layout}
 use Rattle.addr_tables.specs.Changes.{KeepsRest}
 use Rattle.branch_bridge.specs.Arrivals.{ring_of, turned, KeepsOtherBytes}
 

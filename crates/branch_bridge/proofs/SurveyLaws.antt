@@ -1,7 +1,7 @@
 -- What a survey tells of the page that is made next.
 use Rattle.std.proofs.Common.{◌≡◌, ℕ, ◌<◌, List, Option, Some, None, subst}
 use Rattle.std.specs.Prelude.{IfSome, IfNone}
-use Rattle.flash_model.specs.declared.layout.Layout.{Layout}
+use Rattle.flash_words.specs.declared.layout.Layout.{Layout}
 use Rattle.page_index.specs.Maps.{IsPool, IsFree}
 use Rattle.page_index.specs.Surveys.{IsSurvey}
 use Rattle.page_index.specs.declared.survey.Survey.{Survey}

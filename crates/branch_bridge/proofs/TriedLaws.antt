@@ -6,12 +6,12 @@ use Rattle.std.proofs.lemmas.Bool.{cases_eq, cases_lt}
 use Rattle.std.proofs.lemmas.Grind.{same_number_lists}
 use Rattle.std.proofs.lemmas.List.{get_or-take}
 use Rattle.list_parts.proofs.ManyLaws.{length-many}
-use Rattle.flash_model.specs.Pages.{word_count, page_words, word_at, page_of, set_page, blank}
-use Rattle.flash_model.specs.Memory.{Memory}
-use Rattle.flash_model.specs.Operations.{next_op, fails, left_by_refusal, erased_page, programmed_page}
-use Rattle.flash_model.specs.Layouts.{IsRight, image_of}
-use Rattle.flash_model.specs.declared.layout.Layout.{Layout}
-use Rattle.flash_model.proofs.PageLaws.{length-set_page, word_out_of_page}
+use Rattle.flash_words.specs.Pages.{word_count, page_words, word_at, page_of, set_page, blank}
+use Rattle.flash_words.specs.Memory.{Memory}
+use Rattle.flash_words.specs.Operations.{next_op, fails, left_by_refusal, erased_page, programmed_page}
+use Rattle.flash_words.specs.Layouts.{IsRight, image_of}
+use Rattle.flash_words.specs.declared.layout.Layout.{Layout}
+use Rattle.flash_words.proofs.PageLaws.{length-set_page, word_out_of_page}
 use Rattle.page_index.specs.Maps.{IsPool, IsFree}
 use Rattle.branch_bridge.specs.declared.rewriting.ResolveStop.{ResolveStop}
 use Rattle.branch_bridge.specs.declared.rewriting.Torn.{Torn}

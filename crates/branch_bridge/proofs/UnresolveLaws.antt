@@ -3,23 +3,23 @@ use Rattle.std.proofs.Common.{◌≡◌, ℕ, ◌+◌, ◌-◌, ◌*◌, ◌/◌
 use Rattle.std.specs.Prelude.{◌≢◌, ◌==◌, ◌||◌, not, if◌then◌else◌}
 use Rattle.std.proofs.lemmas.Bool.{cases_eq}
 use Rattle.std.proofs.lemmas.Bool.Decides.{nat_tests}
-use Rattle.flash_model.specs.Pages.{page_words, word_at, page_of, set_page}
-use Rattle.flash_model.specs.Layouts.{IsRight, image_of}
-use Rattle.flash_model.specs.declared.layout.Layout.{Layout}
-use Rattle.flash_model.specs.Memory.{Memory}
+use Rattle.flash_words.specs.Pages.{page_words, word_at, page_of, set_page}
+use Rattle.flash_words.specs.Layouts.{IsRight, image_of}
+use Rattle.flash_words.specs.declared.layout.Layout.{Layout}
+use Rattle.flash_words.specs.Memory.{Memory}
 use Rattle.nat_template.specs.declared.piece.Piece.{Piece}
 use Rattle.nat_template.specs.declared.piece.Piece.TheVariants.{Link}
 use Rattle.nat_template.specs.Stubs.{call_word, bridge_entry}
 use Rattle.page_index.specs.Maps.{IsPool, IsFree, address_of, entry_count}
 use Rattle.page_index.specs.Entries.{IsEntry}
 use Rattle.page_index.proofs.ChangeLaws.{SamePage}
-use Rattle.nat_page.specs.Standing.{IsLink, Stands, size, jump_word}
-use Rattle.nat_page.specs.CodePages.{page_pieces, HoldsRun, IsCodePage}
+use Rattle.page_draft.specs.Standing.{IsLink, Stands, size, jump_word}
+use Rattle.page_draft.specs.CodePages.{page_pieces, HoldsRun, IsCodePage}
 use Rattle.nat_page.specs.Faithful.{IsFaithful, IsRewritten}
 use Rattle.nat_page.specs.Links.{IsUnresolved, with_two_words}
 use Rattle.nat_page.specs.Used.{is_used}
 use Rattle.nat_page.specs.Unlinking.{leads_into, with_calls, stubs_into, are_some, Outside}
-use Rattle.nat_page.proofs.PieceLaws.{stands_split}
+use Rattle.page_draft.proofs.PieceLaws.{stands_split}
 use Rattle.nat_page.proofs.TwoWords.{length-with_two_words, word_beside_two, first_of_two, second_of_two}
 use Rattle.nat_page.proofs.UsedLaws.{free_unused, holds_run_used, same_used}
 use Rattle.nat_page.proofs.KeptLaws.{KeepsRun, kept_entries, kept_entries_back, kept_holds, kept_image, kept_faithful}

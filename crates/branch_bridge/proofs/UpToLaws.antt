@@ -2,9 +2,9 @@
 use Rattle.std.proofs.Common.{◌≡◌, ℕ, zero, suc, ◌+◌, ◌*◌, ◌<◌, ◌≤◌, ◌⊎◌, List, Some, None, arith, refl, sym, ap, ◌∙◌, inl, inr, subst}
 use Rattle.std.specs.Prelude.{◌≢◌}
 use Rattle.std.proofs.lemmas.Bool.{cases_eq}
-use Rattle.flash_model.specs.Layouts.{IsRight, image_of}
-use Rattle.flash_model.specs.declared.layout.Layout.{Layout}
-use Rattle.flash_model.specs.Memory.{Memory}
+use Rattle.flash_words.specs.Layouts.{IsRight, image_of}
+use Rattle.flash_words.specs.declared.layout.Layout.{Layout}
+use Rattle.flash_words.specs.Memory.{Memory}
 use Rattle.page_index.specs.Maps.{IsPool, IsFree}
 use Rattle.page_index.specs.Entries.{IsEntry}
 use Rattle.page_index.proofs.ChangeLaws.{free_alike}

@@ -1,16 +1,16 @@
 -- Arrivals: what becomes of flash and SRAM, and what is answered, where control arrives at an original address
 -- (docs/LOADER.md, "An arrival"). An operation on flash that is refused ends it: what comes before is done, it and
 -- what comes after is not.
-use Rattle.std.specs.Prelude.{◌≡◌, ◌≢◌, ℕ, ◌+◌, ◌*◌, ◌/◌, ◌%◌, ◌<◌, ◌≤◌, ◌==◌, ◌⊎◌, Bool, true, false, if◌then◌else◌, List, length, [], ◌∷◌, min, Option, Some, None, Result, Ok, Err, IfOk, IfSome, MatchOption, ⊤}
+use Rattle.std.specs.Prelude.{◌≡◌, ◌≢◌, ℕ, ◌+◌, ◌*◌, ◌/◌, ◌%◌, ◌<◌, ◌≤◌, ◌==◌, Bool, true, false, if◌then◌else◌, List, [], ◌∷◌, min, Option, Some, None, Result, Ok, Err, IfOk, IfSome, MatchOption, ⊤}
 use Rattle.sram_layout.specs.Bytes.{data_word_at, with_word}
 use Rattle.sram_layout.specs.Cells.{ring_cell}
 use Rattle.sram_layout.specs.Regions.{place_cells, KeepsOutside}
-use Rattle.flash_model.specs.Memory.{Memory}
-use Rattle.flash_model.specs.Operations.{next_op, fails, left_by_refusal, erased_page}
-use Rattle.flash_model.specs.Layouts.{image_of}
-use Rattle.flash_model.specs.declared.layout.Layout.{Layout}
+use Rattle.flash_words.specs.Memory.{Memory}
+use Rattle.flash_words.specs.Operations.{next_op, fails, left_by_refusal, erased_page}
+use Rattle.flash_words.specs.Layouts.{image_of}
+use Rattle.flash_words.specs.declared.layout.Layout.{Layout}
 use Rattle.nat_page.specs.Making.{HasNoFree, IsLowestFree, IsPrepared}
-use Rattle.flash_model.specs.Pages.{page_words, page_of, blank}
+use Rattle.flash_words.specs.Pages.{page_words, page_of, blank}
 use Rattle.nat_page.specs.Links.{IsUnresolved}
 use Rattle.nat_page.specs.Faithful.{IsFaithful}
 use Rattle.nat_page.specs.Used.{used_pages}

@@ -1,9 +1,9 @@
 -- Operations on flash, one after another: they are done up to the first that is refused, which isn't done, nor
 -- what follows it (docs/LOADER.md).
 use Rattle.std.specs.Prelude.{ℕ, Bool, true, if◌then◌else◌, List, [], ◌∷◌, Option, Some, None, Result, Ok, Err}
-use Rattle.flash_model.specs.Pages.{set_page}
-use Rattle.flash_model.specs.Memory.{Memory}
-use Rattle.flash_model.specs.Operations.{next_op, fails, left_by_refusal, erased_page, programmed_page}
+use Rattle.flash_words.specs.Pages.{set_page}
+use Rattle.flash_words.specs.Memory.{Memory}
+use Rattle.flash_words.specs.Operations.{next_op, fails, left_by_refusal, erased_page, programmed_page}
 use Rattle.branch_bridge.specs.declared.rewriting.ResolveStop.{ResolveStop}
 use Rattle.branch_bridge.specs.declared.rewriting.Torn.{Torn}
 

@@ -1,10 +1,10 @@
 -- Resolving a stub: its call of the kernel's bridge becomes a jump to the place of the address that the stub
 -- leads to (docs/LOADER.md, "What stands for an instruction").
 use Rattle.std.specs.Prelude.{ℕ, ◌/◌, List}
-use Rattle.flash_model.specs.Pages.{page_words, page_of}
-use Rattle.flash_model.specs.declared.layout.Layout.{Layout}
+use Rattle.flash_words.specs.Pages.{page_words, page_of}
+use Rattle.flash_words.specs.declared.layout.Layout.{Layout}
 use Rattle.page_index.specs.Entries.{IsEntry}
-use Rattle.nat_page.specs.Standing.{jump_word}
+use Rattle.page_draft.specs.Standing.{jump_word}
 use Rattle.nat_page.specs.Links.{IsUnresolved, with_two_words}
 use Rattle.branch_bridge.specs.Operating.{Operation, rewriting}
 

@@ -1,11 +1,11 @@
 -- The stubs of other pages that jump into a page call the kernel's bridge again (docs/LOADER.md, "Recycling").
 use Rattle.std.specs.Prelude.{ℕ, zero, suc, ◌+◌, ◌==◌, ◌||◌, not, Bool, false, if◌then◌else◌, List, [], None}
-use Rattle.flash_model.specs.Pages.{page_of}
-use Rattle.flash_model.specs.Memory.{Memory}
-use Rattle.flash_model.specs.Layouts.{image_of}
-use Rattle.flash_model.specs.declared.layout.Layout.{Layout}
+use Rattle.flash_words.specs.Pages.{page_of}
+use Rattle.flash_words.specs.Memory.{Memory}
+use Rattle.flash_words.specs.Layouts.{image_of}
+use Rattle.flash_words.specs.declared.layout.Layout.{Layout}
 use Rattle.page_index.specs.Entries.{IsEntry}
-use Rattle.nat_page.specs.CodePages.{HoldsRun}
+use Rattle.page_draft.specs.CodePages.{HoldsRun}
 use Rattle.nat_page.specs.Used.{is_used}
 use Rattle.nat_page.specs.Unlinking.{with_calls, stubs_into, are_some, Outside}
 use Rattle.branch_bridge.specs.Operating.{Operation, Performed, perform, rewriting, then_on}

@@ -1,10 +1,10 @@
 //! One stub resolved.
 
 ghost use Rattle.std.specs.Prelude.{◌≡◌, ℕ, ◌+◌, ◌/◌, ◌%◌, ◌<◌, ◌≤◌, ◌^◌, ◌↔◌};
-ghost use Rattle.flash_model.specs.Pages.{page_of};
-ghost use Rattle.flash_model.specs.Layouts.{IsRight, image_of};
+ghost use Rattle.flash_words.specs.Pages.{page_of};
+ghost use Rattle.flash_words.specs.Layouts.{IsRight, image_of};
 ghost use Rattle.page_index.specs.Entries.{IsEntry};
-ghost use Rattle.nat_page.specs.Standing.{jump_word};
+ghost use Rattle.page_draft.specs.Standing.{jump_word};
 ghost use Rattle.nat_page.specs.Faithful.{IsFaithful};
 ghost use Rattle.nat_page.specs.Links.{with_two_words};
 ghost use Rattle.nat_page.specs.Used.{used_pages};

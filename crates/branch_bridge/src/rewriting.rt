@@ -1,7 +1,7 @@
 //! One page of flash that gets other words.
 
 ghost use Rattle.std.specs.Prelude.{◌≡◌, ◌+◌, ◌<◌, ◌^◌};
-ghost use Rattle.flash_model.specs.Memory.{IsWhole};
+ghost use Rattle.flash_words.specs.Memory.{IsWhole};
 ghost use Rattle.branch_bridge.specs.Operating.{perform, rewriting, stop_of};
 
 use flash_model::Flash;

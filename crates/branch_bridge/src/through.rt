@@ -2,7 +2,7 @@
 
 ghost use Rattle.std.specs.Prelude.{◌≡◌, ℕ, ◌<◌, ◌^◌, ◌↔◌, Option, Some as Just, None as Nothing, IfSome};
 ghost use Rattle.std.specs.Option.{option_map};
-ghost use Rattle.flash_model.specs.Layouts.{IsRight, image_of};
+ghost use Rattle.flash_words.specs.Layouts.{IsRight, image_of};
 ghost use Rattle.nat_page.specs.Faithful.{IsFaithful};
 ghost use Rattle.page_index.specs.Entries.{IsEntry};
 ghost use Rattle.addr_tables.specs.Tables.{IsTables};

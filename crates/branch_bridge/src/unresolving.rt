@@ -1,7 +1,7 @@
 //! The stubs into a page that call the kernel's bridge again.
 
 ghost use Rattle.std.specs.Prelude.{◌≡◌, ◌≢◌, ℕ, ◌+◌, ◌*◌, ◌<◌, ◌≤◌, ◌^◌, ◌⊎◌, OnOk};
-ghost use Rattle.flash_model.specs.Layouts.{IsRight, image_of};
+ghost use Rattle.flash_words.specs.Layouts.{IsRight, image_of};
 ghost use Rattle.page_index.specs.Maps.{IsPool, IsFree};
 ghost use Rattle.page_index.specs.Entries.{IsEntry};
 ghost use Rattle.nat_page.specs.Faithful.{IsFaithful};

@@ -9,7 +9,8 @@ use Rattle.avr_isa.specs.Encoding.{first_word, second_word, IsRow, BeginsTwoWord
 use Rattle.avr_isa.proofs.Laws.{size_of-second_word}
 use Rattle.avr_decode.specs.Decoding.{one_word_form, is_long, size_by_first_word, two_word_form, defined_form, if_defined, the_form}
 use Rattle.decode_laws.proofs.Complete.{complete}
-use Rattle.decode_laws.proofs.Sound.{is_one_word, one_word_fits, sound}
+use Rattle.decode_laws.proofs.Own.{is_one_word}
+use Rattle.decode_laws.proofs.Sound.{one_word_fits, sound}
 
 -- without a second word in its instruction, the word after it is free
 pub the_form-second : (first a b : ℕ) → is_long first ≡ false → the_form first a ≡ the_form first b

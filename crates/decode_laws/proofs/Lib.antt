@@ -1,5 +1,8 @@
 pub mod Decoded
 pub mod Lengths
+mod Bounds
 mod Complete
+mod Leading
+mod Own
 mod Sound
 mod Tables

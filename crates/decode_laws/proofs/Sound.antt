@@ -1,5 +1,5 @@
--- What words mean has these words: by computing it at all 65,536 first words.
-use Rattle.std.proofs.Common.{◌≡◌, ℕ, ◌+◌, ◌*◌, ◌/◌, ◌%◌, ◌<◌, Bool, true, false, cond, ◌&&◌, ◌||◌, ◌==◌, Option, Some, None, MatchOption, is_none, IfSome, IsTrue, refl, sym, arith}
+-- What words mean has these words: by computing it at all first words that `Own` leaves, 8,192.
+use Rattle.std.proofs.Common.{◌≡◌, ℕ, ◌+◌, ◌*◌, ◌/◌, ◌%◌, ◌<◌, Bool, true, false, cond, ◌||◌, ◌==◌, Option, Some, None, MatchOption, is_none, IfSome, IsTrue, refl, sym, arith}
 use Rattle.std.specs.Bool.{⊤}
 use Rattle.std.proofs.lemmas.Bool.{and_parts, eqb-true}
 use Rattle.std.proofs.lemmas.Bool.Decides.{nat_tests}
@@ -7,27 +7,31 @@ use Rattle.avr_isa.specs.declared.form.Form.{Form}
 use Rattle.avr_isa.specs.declared.form.Form.TheVariants.{Lds, Sts, Jmp, Call}
 use Rattle.avr_isa.specs.Instruction.{fields_in_range, is_undefined, is_valid}
 use Rattle.avr_isa.specs.Encoding.{first_word, second_word, IsRow}
+use Rattle.decode_laws.proofs.Own.{begins_own, is_one_word, own_fits}
 use Rattle.decode_laws.proofs.Tables.{below, below-at}
 use Rattle.avr_decode.specs.Decoding.{product_form, move_or_product_form, form_0000, form_0001, form_0010, displaced_form, load_form, store_form, plain_form, flag_or_plain_form, one_register_form, register_or_pair_form, io_bit_form, transfer_form, form_1001, io_form, register_bit_form, form_1111, one_word_form, destination_of, is_direct, is_long, two_word_form, defined_form, if_defined, the_form}
 
--- the form, if there is one, has one word, this one, and operands in range
-unfoldable pub is_one_word : ℕ → Option Form → Bool
-is_one_word w None = true
-is_one_word w (Some f) = (first_word f == w) && fields_in_range f && is_none (second_word f)
+-- the words that begin with one byte, unless the byte tells the instruction
+abbrev page : ℕ → Bool
+page p = begins_own p || below (λ n. is_one_word (256 * p + n) (one_word_form (256 * p + n))) 256
 
-every_word : below (λ p. below (λ n. is_one_word (256 * p + n) (one_word_form (256 * p + n))) 256) 256 ≡ true
+every_word : below page 256 ≡ true
 unfolding is_one_word first_word second_word fields_in_range product_form move_or_product_form form_0000 form_0001 form_0010 displaced_form load_form
     store_form plain_form flag_or_plain_form one_register_form register_or_pair_form io_bit_form transfer_form form_1001 io_form register_bit_form
     form_1111 one_word_form
 every_word = refl
 
-pub one_word_fits : (w : ℕ) → w < 65536 → is_one_word w (one_word_form w) ≡ true
-one_word_fits w bound =
-    let column : ℕ → ℕ → Bool = λ p n. is_one_word (256 * p + n) (one_word_form (256 * p + n)) in
-    let page : below (column (w / 256)) 256 ≡ true = below-at (λ p. below (column p) 256) 256 every_word (w / 256) (omega arith) in
-    let here : column (w / 256) (w % 256) ≡ true = below-at (column (w / 256)) 256 page (w % 256) (omega arith) in
+on_page : (own : Bool) (w : ℕ) → begins_own (w / 256) ≡ own → own || below (λ n. is_one_word (256 * (w / 256) + n) (one_word_form (256 * (w / 256) + n))) 256 ≡ true
+    → is_one_word w (one_word_form w) ≡ true
+on_page true w own h = own_fits w own
+on_page false w own h =
+    let column : ℕ → Bool = λ n. is_one_word (256 * (w / 256) + n) (one_word_form (256 * (w / 256) + n)) in
+    let here : column (w % 256) ≡ true = below-at column 256 h (w % 256) (omega arith) in
     let whole : 256 * (w / 256) + w % 256 ≡ w = omega arith in
     rw whole at here
+
+pub one_word_fits : (w : ℕ) → w < 65536 → is_one_word w (one_word_form w) ≡ true
+one_word_fits w bound = on_page (begins_own (w / 256)) w refl (below-at page 256 every_word (w / 256) (omega arith))
 
 -- what is to be shown of the answer at two words
 abbrev IsSound : ℕ → ℕ → Option Form → Type 0

@@ -1,10 +1,11 @@
 -- A claim about each number below a bound, by computing it at all of them.
-use Rattle.std.proofs.Common.{◌≡◌, ℕ, zero, suc, ◌<◌, Bool, true, false, cond, ◌&&◌, List, [], ◌∷◌, Option, Some, None, IsTrue, ◌⊎◌, inl, inr, refl, arith}
+use Rattle.std.proofs.Common.{◌≡◌, ℕ, zero, suc, ◌<◌, Bool, true, cond, ◌&&◌, List, [], ◌∷◌, Option, Some, None, IsTrue, ◌⊎◌, inl, inr, arith}
 use Rattle.std.proofs.lemmas.Bool.{and_parts}
 use Rattle.avr_isa.specs.declared.form.Form.{Form}
-use Rattle.avr_isa.specs.Instruction.{is_valid}
+use Rattle.avr_isa.specs.Instruction.{fields_in_range, is_valid}
 use Rattle.avr_isa.specs.Encoding.{first_word}
 use Rattle.avr_decode.specs.Decoding.{the_form}
+use Rattle.decode_laws.proofs.Bounds.{fields_fit}
 
 -- the values of a function at the numbers below a bound
 abbrev pub table : {A : Type 0} → ℕ → (ℕ → A) → List A
@@ -41,12 +42,13 @@ abbrev pub itself : (ℕ → Form) → ℕ → Option Form
 itself form a = cond (is_valid (form a)) (Some (form a)) None
 
 -- one operand
-pub by_one : (n : ℕ) (form : ℕ → Form) (w : ℕ) → table n (meaning form w) ≡ table n (itself form) → (a : ℕ) → a < n → IsTrue (is_valid (form a)) → the_form (first_word (form a)) w ≡ Some (form a)
+pub by_one : (n : ℕ) (form : ℕ → Form) (w : ℕ) → table n (meaning form w) ≡ table n (itself form) → (a : ℕ) → (IsTrue (fields_in_range (form a)) → a < n) → IsTrue (is_valid (form a)) → the_form (first_word (form a)) w ≡ Some (form a)
 by_one n form w same a bound valid =
-    let at : meaning form w a ≡ itself form a = table-same n (meaning form w) (itself form) same a bound in
+    let at : meaning form w a ≡ itself form a = table-same n (meaning form w) (itself form) same a (bound (fields_fit (form a) valid)) in
     rw valid at at
 
 -- two operands
-pub by_two : (n m : ℕ) (form : ℕ → ℕ → Form) (w : ℕ) → table n (λ a. table m (meaning (form a) w)) ≡ table n (λ a. table m (itself (form a))) → (a b : ℕ) → a < n → b < m → IsTrue (is_valid (form a b)) → the_form (first_word (form a b)) w ≡ Some (form a b)
-by_two n m form w same a b first second valid =
-    by_one m (form a) w (table-same n (λ a. table m (meaning (form a) w)) (λ a. table m (itself (form a))) same a first) b second valid
+pub by_two : (n m : ℕ) (form : ℕ → ℕ → Form) (w : ℕ) → table n (λ a. table m (meaning (form a) w)) ≡ table n (λ a. table m (itself (form a))) → (a b : ℕ) → (IsTrue (fields_in_range (form a b)) → (a < n) × (b < m)) → IsTrue (is_valid (form a b)) → the_form (first_word (form a b)) w ≡ Some (form a b)
+by_two n m form w same a b bounds valid =
+    let within : (a < n) × (b < m) = bounds (fields_fit (form a b) valid) in
+    by_one m (form a) w (table-same n (λ a. table m (meaning (form a) w)) (λ a. table m (itself (form a))) same a within.0) b (λ fits. within.1) valid

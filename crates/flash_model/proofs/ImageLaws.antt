@@ -1,8 +1,10 @@
 -- The words of the image, which is the front of flash's words.
-use Rattle.std.proofs.Common.{◌≡◌, ℕ, ◌<◌, ◌≤◌, List, length, take, arith, ◌∙◌}
+use Rattle.std.proofs.Common.{◌≡◌, ℕ, ◌<◌, ◌≤◌, List, length, take, arith, inl, inr, ◌∙◌}
 use Rattle.std.proofs.lemmas.List.{get_or-take, get_or_default, get_or_past, length-take}
+use Rattle.std.proofs.lemmas.Bool.{cases_lt}
 use Rattle.avr_isa.specs.Image.{word}
-use Rattle.flash_model.specs.Pages.{word_at}
+use Rattle.flash_words.specs.Pages.{word_at}
+use Rattle.flash_words.specs.Memory.{AreWords}
 
 -- a word of the image is flash's word at the same address
 pub word_of_image : (n a : ℕ) (words : List ℕ) → a < n → n ≤ length words → word (take n words) a ≡ word_at words a
@@ -11,3 +13,13 @@ word_of_image n a words below fits = get_or-take n words a 0xFFFF below ∙ get_
 -- behind the image every word is 0xFFFF
 pub word_behind_image : (n a : ℕ) (words : List ℕ) → n ≤ a → word (take n words) a ≡ 0xFFFF
 word_behind_image n a words behind = get_or_past (take n words) a 0xFFFF (omega (arith, length-take n words))
+
+below : (n m : ℕ) → n ≡ m → m < 65536 → n < 65536
+below n m same fits = omega arith
+
+-- the first n words, with 0xFFFF behind them, have 16 bits
+pub front_fits : (words : List ℕ) (n a : ℕ) → AreWords words → word (take n words) a < 65536
+front_fits words n a fit = elim (cases_lt a (length (take n words))) [
+  | inl inside ↦ below _ _ (get_or_default (take n words) a 0xFFFF 0 inside ∙ get_or-take n words a 0 (omega (arith, length-take n words))) (fit a)
+  | inr behind ↦ below _ 0xFFFF (get_or_past (take n words) a 0xFFFF behind) (omega arith)
+]

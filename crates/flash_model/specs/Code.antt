@@ -4,7 +4,7 @@ use Rattle.std.specs.Option.{unwrap_or}
 use Rattle.avr_isa.specs.declared.form.Form.TheVariants.{Nop}
 use Rattle.avr_decode.specs.Decoding.{the_form, size_by_first_word}
 use Rattle.flash_model.specs.declared.decoded.Decoded.{Decoded}
-use Rattle.flash_model.specs.Pages.{word_count, word_at}
+use Rattle.flash_words.specs.Pages.{word_count, word_at}
 
 -- the word address behind a; behind the last word comes the first
 abbrev pub behind : ℕ → ℕ

@@ -1,10 +1,3 @@
-pub mod Pages
-pub mod Memory
-pub mod Operations
-pub mod Failing
-pub mod Layouts
 pub mod Code
-pub mod Jumps
 pub mod Kept
 pub mod Seen
-pub mod Heads

@@ -1,40 +1,36 @@
 //! Flash: its words, and what is kept beside them.
 
 ghost use Rattle.std.specs.Prelude.{◌≡◌, ◌≢◌, ℕ, ◌≤◌, ◌<◌, ◌^◌, true, false, [], ◌∷◌, length, OnOk, OnErr, IfOk, IfErr, IfSome, IfNone, slice_index};
-ghost use Rattle.flash_model.specs.Pages.{page_count, word_at, page_of, blank, programmed};
-ghost use Rattle.flash_model.specs.Memory.{IsWhole, erased_flash, new_flash};
-ghost use Rattle.flash_model.specs.Operations.{next_op, fails, left_by_refusal, erased_page, programmed_page, renewed, Erase, Program, perform, refusal_of};
+ghost use Rattle.flash_words.specs.Pages.{page_count, word_at, page_of, blank, programmed};
+ghost use Rattle.flash_words.specs.Memory.{IsWhole, erased_flash, new_flash};
+ghost use Rattle.flash_words.specs.Operations.{next_op, fails, left_by_refusal, erased_page, programmed_page, renewed, Erase, Program, perform, refusal_of};
 ghost use Rattle.flash_model.specs.Code.{decoded_at};
-ghost use Rattle.flash_model.specs.Jumps.{HasNoJumpInto};
-ghost use Rattle.flash_model.specs.Heads.{head};
+ghost use Rattle.flash_words.specs.Jumps.{HasNoJumpInto};
+ghost use Rattle.flash_words.specs.Heads.{head};
 
-use crate::cells::{Cells, PAGE_WORDS};
 use crate::decoded::Decoded;
-use crate::failing::FlashStop;
-use crate::heads::Heads;
-use crate::kept::{Kept, words_to_program};
+use crate::kept::{Kept, PAGE_WORDS};
+use flash_words::{Cells, FlashStop};
+use no_memory::NoMemory;
 use std::alloc::Global;
 use std::marker::Model;
-use tk_io::NoMemory;
 
 /// The program memory, by word addresses.
 #[derive(Drop)]
 pub struct Flash {
     cells: Cells,
     kept: Kept,
-    heads: Heads,
 }
 
 impl Model for Flash {
-    ghost use Rattle.flash_model.specs.Memory.{Memory, IsWhole};
+    ghost use Rattle.flash_words.specs.Memory.{Memory, IsWhole};
     ghost use Rattle.flash_model.specs.Kept.{IsKept};
-    ghost use Rattle.flash_model.specs.Heads.{AreHeads};
 
     ghost Value = { Memory };
 
     ghost view = { λ f. f.cells };
 
-    ghost invariant = { λ f. IsWhole f.cells × IsKept f.cells.words f.kept × AreHeads f.cells.words f.heads };
+    ghost invariant = { λ f. IsWhole f.cells × IsKept f.cells.words f.kept.code.items };
 }
 
 impl Flash {
@@ -45,10 +41,7 @@ impl Flash {
         ensures new { IfOk result (λ flash. flash ≡ new_flash image.now failing.now) }
         ensures whole { IfOk result IsWhole }
     {
-        let cells = Cells::new(alloc, image, failing)?;
-        let kept = Kept::new(alloc, &cells)?;
-        let heads = Heads::new(alloc, &cells)?;
-        Ok(Flash { cells, kept, heads })
+        Flash::of(alloc, Cells::new(alloc, image, failing)?)
     }
 
     /// A flash whose words are all erased, the kernel's too, before any operation; none is to fail.
@@ -56,10 +49,17 @@ impl Flash {
         ensures new { IfOk result (λ flash. flash ≡ erased_flash) }
         ensures whole { IfOk result IsWhole }
     {
-        let cells = Cells::erased(alloc)?;
+        Flash::of(alloc, Cells::erased(alloc)?)
+    }
+
+    /// A flash of these words.
+    fn of(alloc: Global, cells: Cells) -> Result<Flash, NoMemory>
+        requires { IsWhole cells }
+        ensures new { IfOk result (λ flash. flash ≡ cells) }
+        ensures whole { IfOk result IsWhole }
+    {
         let kept = Kept::new(alloc, &cells)?;
-        let heads = Heads::new(alloc, &cells)?;
-        Ok(Flash { cells, kept, heads })
+        Ok(Flash { cells, kept })
     }
 
     /// The word at a word address.
@@ -95,7 +95,7 @@ impl Flash {
         ensures none { result ≡ false → HasNoJumpInto self.now.words page target }
         ensures whole { IsWhole self.now }
     {
-        self.kept.may_jump_into(page, target)
+        self.cells.may_jump_into(page, target)
     }
 
     /// The lowest page from one on and below another that may begin with this word; None where none does.
@@ -106,7 +106,7 @@ impl Flash {
         ensures lowest { IfSome result (λ page. (lower : ℕ) → from ≤ lower → lower < page → head self.now.words lower ≢ first) }
         ensures none { IfNone result ((page : ℕ) → from ≤ page → page < to → head self.now.words page ≢ first) }
     {
-        self.heads.next(from, to, first)
+        self.cells.page_beginning(from, to, first)
     }
 
     /// How often the page was erased, 4,294,967,295 for this many times or more.
@@ -158,10 +158,8 @@ impl Flash {
         ensures performed { perform self.old (Erase page ∷ []) ≡ record { memory = self.new; refusal = refusal_of (Erase page) result } }
         ensures whole { IsWhole self.old × IsWhole self.new }
     {
-        let first = self.cells.word(page * PAGE_WORDS as u16);
         self.cells.erase(page)?;
         self.kept.renew_blank(&self.cells, page);
-        self.heads.renew(&self.cells, page, first);
         Ok(())
     }
 
@@ -184,12 +182,9 @@ impl Flash {
         ensures performed { page_of self.old.words page ≡ blank → perform self.old (Program page words.now ∷ []) ≡ record { memory = self.new; refusal = refusal_of (Program page words.now) result } }
         ensures whole { IsWhole self.old × IsWhole self.new }
     {
-        let head = self.cells.word(page * PAGE_WORDS as u16);
-        self.cells.program(page, words)?;
+        let count = self.cells.program(page, words)?;
         let first = PAGE_WORDS * page as usize;
-        self.kept
-            .renew_changed(&self.cells, first, first + words_to_program(words));
-        self.heads.renew(&self.cells, page, head);
+        self.kept.renew_changed(&self.cells, first, first + count);
         Ok(())
     }
 }

@@ -2,10 +2,10 @@
 
 ghost use Rattle.std.specs.Prelude.{◌≡◌};
 ghost use Rattle.avr_isa.specs.Image.{word};
-ghost use Rattle.flash_model.specs.Layouts.{image_of};
+ghost use Rattle.flash_words.specs.Layouts.{image_of};
 
 use crate::flash::Flash;
-use crate::layout::Layout;
+use flash_words::Layout;
 
 /// A word outside the image.
 const OUTSIDE: u16 = 0xFFFF;

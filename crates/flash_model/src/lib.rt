@@ -1,4 +1,4 @@
-//! The mote's program memory: 65,536 words of flash in 512 pages of 128 words.
+//! The mote's program memory: 65,536 words of flash in 512 pages of 128 words, each kept decoded.
 //!
 //! A page is erased as a whole, which makes each of its words 0xFFFF, and programming a page can
 //! only clear bits: each word becomes the old AND the new. [`Flash`] counts the erases of each
@@ -13,41 +13,29 @@
 //! flash.program(130, &words) // Err(FlashStop { op: 2, page: 130 })
 //! ```
 //!
-//! Contracts see the record of its words, these counts, the list, the number of operations that were tried, and
-//! the page of the last one that was refused (`specs/Memory.antt`). `specs/Pages.antt` has one page of words, and
-//! `specs/Operations.antt` says what an operation leaves, and a list of operations up to the first that is
-//! refused. `proofs/PageLaws.antt` has the laws of one page set and then one word or page read,
-//! `proofs/WordLaws.antt` that words of 16 bits stay so, and `proofs/OperationLaws.antt` those of operations in
-//! a row.
+//! The words themselves and the operations on them are those of the crate `flash_words`, whose `specs/` have what
+//! contracts see of a flash: the record of its words, the counts, the list, the number of operations that were tried,
+//! and the page of the last one that was refused.
 //!
-//! [`Flash::decoded`] gives what is kept decoded at a word address (`decoded.rt`), and [`Flash::may_jump_into`] asks
-//! the set that is kept for a page (`page_set.rt`), which has each page that a jump in it leads into.
-//! [`Flash::page_beginning`] finds pages by their first words (`heads.rt`, `specs/Heads.antt`). The words themselves are
-//! in `cells.rt`; behind each operation on a page, `kept.rt` makes anew what is kept of the words that changed. Words
-//! that were decoded already are not decoded again (`seen.rt`, `specs/Seen.antt`). That what is kept is what the words
-//! mean (`specs/Kept.antt`) is an invariant of [`Flash`], and contracts see the words alone. `failing.rt` finds the next
-//! number that is listed, so an operation compares its own with one (`specs/Failing.antt`).
+//! [`Flash::decoded`] gives what is kept decoded at a word address (`decoded.rt`, `specs/Code.antt`). Behind each
+//! operation on a page, `kept.rt` makes anew what is kept of the words that changed. Words that were decoded already are
+//! not decoded again (`seen.rt`, `specs/Seen.antt`). That what is kept is what the words mean (`specs/Kept.antt`) is an
+//! invariant of [`Flash`], and contracts see the words alone.
 //!
 //! Each call ensures that the flash is whole: 65,536 words of 16 bits in 512 pages (`IsWhole`). So a
 //! caller has a word's range from any call, as `c.word.ensures.whole.words_fit a`.
 //!
-//! [`Layout`] says which pages are the code pool's, and `specs/Layouts.antt` when it is right, which one an
-//! image has, and what the image is. [`word_in_image`] reads that.
+//! [`Layout`] says which words of flash are the image's. [`word_in_image`] reads these, and `proofs/ImageLaws.antt`
+//! has the laws of that.
 #![tactic(auto)]
 
-mod cells;
 mod decoded;
-mod failing;
 mod flash;
-mod heads;
 mod image;
 mod kept;
-mod layout;
-mod page_set;
 mod seen;
 
 pub use decoded::Decoded;
-pub use failing::FlashStop;
 pub use flash::Flash;
+pub use flash_words::{BLANK, FlashStop, KERNEL_FIRST, Layout, PAGE_WORDS};
 pub use image::word_in_image;
-pub use layout::{BLANK, KERNEL_FIRST, Layout, PAGE_WORDS};

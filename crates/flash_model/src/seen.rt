@@ -1,12 +1,12 @@
 //! Two words that were decoded already.
 
-ghost use Rattle.std.specs.Prelude.{◌≡◌, IfSome};
+ghost use Rattle.std.specs.Prelude.{◌≡◌};
 ghost use Rattle.flash_model.specs.Code.{decoded_of};
 
 use crate::decoded::Decoded;
+use no_memory::NoMemory;
 use std::alloc::Global;
 use std::marker::Model;
-use tk_io::NoMemory;
 
 /// How many pairs of words are kept.
 const PAIRS: usize = 1024;

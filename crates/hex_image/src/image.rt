@@ -2,9 +2,9 @@
 ghost use Rattle.std.specs.Prelude.{◌≡◌, ◌≤◌, ◌<◌, ◌^◌, ℕ, List, length, All, IfOk, OnErr, slice_index_or};
 ghost use Rattle.hex_image.specs.Image.{IsImage};
 
+use no_memory::NoMemory;
 use std::alloc::Global;
 use std::marker::Model;
-use tk_io::NoMemory;
 
 /// A program image: its words from word address 0 on, at most 24,576.
 #[derive(Drop)]

@@ -9,8 +9,8 @@ use crate::image::Image;
 use crate::kind::Kind;
 use crate::line::byte_sum;
 use arrayvec::ArrayVec;
+use no_memory::NoMemory;
 use std::alloc::{AllocError, Global};
-use tk_io::NoMemory;
 
 /// The most bytes of a record that is written: 16 of content, and 5 beside it.
 const MOST_BYTES: usize = 21;

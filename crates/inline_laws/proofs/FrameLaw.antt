@@ -8,7 +8,7 @@ use Rattle.avr_isa.specs.declared.operation.WordOp.TheVariants.{Adiw}
 use Rattle.avr_isa.specs.declared.operation.Base.TheVariants.{Z}
 use Rattle.avr_isa.specs.Encoding.{second_word}
 use Rattle.avr_flags.specs.Pairs.{adiw_of}
-use Rattle.avr_exec.specs.Registers.{wrapping_sum}
+use Rattle.avr_isa.specs.Addresses.{wrapping_sum}
 use Rattle.sram_layout.specs.Bytes.{byte_at, with_byte}
 use Rattle.sram_layout.specs.Regions.{stack_window}
 use Rattle.nat_template.specs.Words.{width_of}

@@ -6,7 +6,7 @@ use Rattle.sram_layout.specs.Cells.{sreg_cell, vsp_cell, z_cell, kernel_stack_to
 use Rattle.sram_layout.specs.Regions.{stack_window}
 use Rattle.nat_template.specs.Stubs.{mem_entry}
 use Rattle.nat_template.specs.Inline.{push_forms, pop_forms, load_forms, store_forms}
-use Rattle.avr_exec.specs.Registers.{wrapping_sum}
+use Rattle.avr_isa.specs.Addresses.{wrapping_sum}
 use Rattle.mote_core.specs.declared.mote.Mote.{Mote}
 use Rattle.mote_core.specs.QuietSteps.{IsQuiet, held}
 use Rattle.inline_laws.specs.Rows.{Row}

@@ -2,8 +2,8 @@
 use Rattle.std.specs.Prelude.{◌≡◌, ℕ, ◌+◌, List, [], ◌∷◌, Some}
 use Rattle.avr_isa.specs.declared.form.Form.{Form}
 use Rattle.avr_decode.specs.Decoding.{the_form}
-use Rattle.avr_exec.specs.Registers.{wrapping_sum}
-use Rattle.flash_model.specs.Pages.{word_at}
+use Rattle.avr_isa.specs.Addresses.{wrapping_sum}
+use Rattle.flash_words.specs.Pages.{word_at}
 use Rattle.nat_template.specs.Words.{width_of}
 
 -- the first at the word address a

@@ -12,7 +12,7 @@ use Rattle.sram_layout.specs.Cells.{count_cell, vsp_cell}
 use Rattle.sram_layout.proofs.Laws.{byte_out_of_word}
 use Rattle.nat_template.specs.declared.shapes.TemplateShape.TheVariants.{Fault}
 use Rattle.nat_template.specs.Shapes.{shape_of}
-use Rattle.nat_template.proofs.ShapeLaws.{runs_or_faults}
+use Rattle.kernel_entry.proofs.ShapeLaws.{runs_or_faults}
 use Rattle.mem_guard.specs.FlatMachine.{next_size}
 use Rattle.mem_guard.specs.Guarded.{Guarded}
 use Rattle.mem_guard.specs.Left.{IsKept, HeapAfter}
@@ -21,7 +21,7 @@ use Rattle.kernel_entry.specs.declared.kernel.Kernel.{Kernel}
 use Rattle.kernel_entry.specs.declared.execution.Ran.{Ran}
 use Rattle.kernel_entry.specs.Parts.{descriptor, instruction, memory_of, core_of, image_held}
 use Rattle.kernel_entry.specs.Services.{executed, execution, execution_by, if_instruction, resumed_by, resumed, gone_by, gone}
-use Rattle.kernel_entry.specs.Conditions.{CanExecute, CanCount, CanServe, IsCalled, shape_behind, executes, counts}
+use Rattle.kernel_entry.specs.Conditions.{CanExecute, CanCount, CanServe, IsCalled, shape_behind, executes}
 
 -- the answer by the result of the execution
 pub resumed_is : (k next : Kernel) (form : Form) (told result : Result Ran BusStop) → instruction k ≡ Some form → ◌≡◌ {A = Result Ran BusStop × Kernel} (told, next) (execution k form)
@@ -90,13 +90,3 @@ called k (CanServe.AtReturn is shape can count) at = called_by k (λ e. cc) can
 called k (CanServe.AtIndirect is shape can count) at = called_by k (λ e. cc) can
 called k (CanServe.AtSelf is shape can count) at = called_by k (λ e. cc) can
 called k (CanServe.AtFault is shape can) at = absurd (elsewhere executes k.mote.cpu.pc 0xF00E is at refl)
-
-pub counted : (k : Kernel) → CanServe k → counts k.mote.cpu.pc ≡ true → CanCount k
-counted k (CanServe.AtBridge is) at = absurd (elsewhere counts k.mote.cpu.pc 0xF000 is at refl)
-counted k (CanServe.AtQuantum is) at = absurd (elsewhere counts k.mote.cpu.pc 0xF002 is at refl)
-counted k (CanServe.AtMem is shape can) at = absurd (elsewhere counts k.mote.cpu.pc 0xF004 is at refl)
-counted k (CanServe.AtPushReturn is shape can) at = absurd (elsewhere counts k.mote.cpu.pc 0xF006 is at refl)
-counted k (CanServe.AtReturn is shape can count) at = count
-counted k (CanServe.AtIndirect is shape can count) at = count
-counted k (CanServe.AtSelf is shape can count) at = count
-counted k (CanServe.AtFault is shape can) at = absurd (elsewhere counts k.mote.cpu.pc 0xF00E is at refl)

@@ -11,13 +11,14 @@ use Rattle.avr_flags.specs.Status.{has_bit, interrupts}
 use Rattle.avr_exec.specs.declared.ask.Ask.TheVariants.{Nothing, Load, Store, Modify}
 use Rattle.avr_exec.specs.declared.answer.Answer.TheVariants.{Done, Byte}
 use Rattle.avr_exec.specs.declared.stop.BusStop.TheVariants.{Io as IoStop}
-use Rattle.avr_exec.specs.Registers.{relative, register, is_own}
+use Rattle.avr_isa.specs.Addresses.{relative}
+use Rattle.avr_exec.specs.Registers.{register, is_own}
 use Rattle.avr_exec.specs.Asks.{ask_of, load_of, store_of}
 use Rattle.avr_exec.specs.Execution.{answered_by, answer_of, is_executed}
 use Rattle.avr_exec.specs.Spaces.{Stopped}
 use Rattle.avr_exec.proofs.OneAnswer.{exec_stopped}
-use Rattle.flash_model.specs.Memory.{AreWords}
-use Rattle.flash_model.proofs.WordLaws.{front_fits}
+use Rattle.flash_words.specs.Memory.{AreWords}
+use Rattle.flash_model.proofs.ImageLaws.{front_fits}
 use Rattle.mote_devices.specs.State.{State}
 use Rattle.mote_devices.specs.Accesses.{Refused, read, modify as modify_device, written_back}
 use Rattle.mote_devices.proofs.AccessLaws.{read_refused, write_refused}

@@ -1,9 +1,10 @@
 -- An interrupt that is taken is the original program's.
 use Rattle.std.specs.Prelude.{◌≤◌, ◌<◌}
 use Rattle.std.proofs.Common.{arith, ◌≡◌, ℕ, ◌+◌, Bool, true, false, cond, refl, sym, ap, ap₂, subst, ◌∙◌}
-use Rattle.std.specs.Prelude.{None, ◌&&◌}
+use Rattle.std.specs.Prelude.{◌≢◌, ◌==◌, not, None, Result, Ok, Err, ◌&&◌}
+use Rattle.std.proofs.lemmas.Bool.Decides.{nat_tests}
 use Rattle.avr_flags.specs.Status.{has_bit, with_bit, interrupts}
-use Rattle.avr_exec.specs.Registers.{wrapping_difference}
+use Rattle.avr_isa.specs.Addresses.{wrapping_difference}
 use Rattle.avr_exec.specs.Spaces.{Outcome, Went, Stopped}
 use Rattle.avr_exec.specs.Likeness.{over, Leaves}
 use Rattle.avr_exec.specs.declared.stop.BusStop.{BusStop}
@@ -29,7 +30,7 @@ use Rattle.kernel_entry.specs.declared.kernel.Taken.{Taken}
 use Rattle.kernel_entry.specs.declared.kernel.Taken.TheVariants as answers
 use Rattle.kernel_entry.specs.Parts.{virtual_sp, memory_of}
 use Rattle.kernel_entry.specs.Services.{stop_of}
-use Rattle.kernel_entry.specs.Interrupts.{pushed, pushed_by, taken, taken_by}
+use Rattle.kernel_entry.specs.Interrupts.{is_wanted, pushed, pushed_by, taken, taken_by}
 use Rattle.kernel_entry.specs.Seen.{View, program, state_at, end_of}
 use Rattle.kernel_entry.proofs.ViewLaws.{view_put}
 
@@ -78,9 +79,42 @@ taken_as k target (Went done g) is paged left here = λ s c.
       due = false;
     })) (sym (view_put k (record { r = k.mote.cpu.r; sreg = with_bit k.mote.cpu.sreg interrupts false; sp = wrapping_difference (virtual_sp k) 2; pc = vector k.part n }) (record g { devices = with_taken g.devices n }) left.0.paged.sized.sram))
 
+-- none is taken where interrupts are off, or none is enabled
+off_right : (b c : Bool) → c ≡ false → b && c ≡ false
+off_right true c off = off
+off_right false c off = refl
+
+untaken : (k : Kernel) (target : ℕ) → is_wanted k ≡ false → (answers.Nothing, k) ≡ taken k target
+untaken k target off = sym (ap (λ b. cond b (taken_by k (lowest (enabled k.mote.devices)) target (pushed k target).0 (pushed k target).1) (answers.Nothing, k)) off)
+
+pub taken_off : (k : Kernel) (target : ℕ) → has_bit k.mote.cpu.sreg interrupts ≡ false → (answers.Nothing, k) ≡ taken k target
+taken_off k target off = untaken k target (ap (λ b. b && is_enabled k.mote.devices) off)
+
+pub taken_none : (k : Kernel) (target : ℕ) → enabled k.mote.devices ≡ 0 → (answers.Nothing, k) ≡ taken k target
+taken_none k target none = untaken k target (off_right (has_bit k.mote.cpu.sreg interrupts) (is_enabled k.mote.devices) (ap (λ n. not (n == 0)) none))
+
+some_enabled : (d : Devices) (n : ℕ) → n ≡ enabled d → n ≢ 0 → is_enabled d ≡ true
+some_enabled d n is some = let apart : enabled d ≢ 0 = (λ none. some (is ∙ none)) in grind (arith, nat_tests)
+
 taken_is : (k : Kernel) (target : ℕ) → has_bit k.mote.cpu.sreg interrupts ≡ true → is_enabled k.mote.devices ≡ true
     → taken k target ≡ taken_by k (lowest (enabled k.mote.devices)) target (pushed k target).0 (pushed k target).1
 taken_is k target on some = ap₂ (λ a b. cond (a && b) (taken_by k (lowest (enabled k.mote.devices)) target (pushed k target).0 (pushed k target).1) (answers.Nothing, k)) on some
+
+pub taken_stops : (k next : Kernel) (target n : ℕ) (stop : BusStop) → n ≡ enabled k.mote.devices → n ≢ 0 → has_bit k.mote.cpu.sreg interrupts ≡ true → ◌≡◌ {A = Result (Unit {0}) BusStop × Kernel} (Err stop, next) (pushed k target)
+    → (answers.Stopped (stop_of target stop), next) ≡ taken k target
+taken_stops k next target n stop is some on told =
+    ap (λ (p : Result (Unit {0}) BusStop × Kernel). taken_by k (lowest (enabled k.mote.devices)) target p.0 p.1) told ∙ sym (taken_is k target on (some_enabled k.mote.devices n is some))
+
+-- the devices, SREG and the place are those of the one that is taken
+pub taken_goes : (k next : Kernel) (target n number place sreg : ℕ) (devices : Devices) → n ≡ enabled k.mote.devices → n ≢ 0 → has_bit k.mote.cpu.sreg interrupts ≡ true
+    → number ≡ lowest n → place ≡ vector k.part number → ◌≡◌ {A = Result (Unit {0}) BusStop × Kernel} (Ok tt, next) (pushed k target)
+    → sreg ≡ with_bit next.mote.cpu.sreg interrupts false → devices ≡ with_taken next.mote.devices number
+    → (answers.Vector place, record next { mote = record next.mote { cpu = record next.mote.cpu { sreg = sreg }; devices = devices } }) ≡ taken k target
+taken_goes k next target n number place sreg devices is some on least there told off after =
+    ap₂ (λ s d. (answers.Vector place, record next { mote = record next.mote { cpu = record next.mote.cpu { sreg = s }; devices = d } })) off after
+    ∙ ap (λ p. (answers.Vector p, (taken_by k number target (Ok tt) next).1)) there
+    ∙ ap (λ m. taken_by k m target (Ok tt) next) (least ∙ ap lowest is)
+    ∙ ap (λ (p : Result (Unit {0}) BusStop × Kernel). taken_by k (lowest (enabled k.mote.devices)) target p.0 p.1) told ∙ sym (taken_is k target on (some_enabled k.mote.devices n is some))
 
 -- where interrupts are on and one is enabled, it is taken as the original program takes it
 pub interrupt_taken : (k : Kernel) (target : ℕ) → has_bit k.mote.cpu.sreg interrupts ≡ true → is_enabled k.mote.devices ≡ true → IsPaged k.mote.sram k.mote.swap → AsTaken k target (taken k target)

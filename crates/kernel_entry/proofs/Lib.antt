@@ -10,5 +10,7 @@ pub mod FaultLaws
 pub mod TriedLaws
 pub mod ServedLaws
 pub mod InterruptLaws
+mod LowestBit
+mod Sleeping
 pub mod TakingRows
 mod WorkedTexts

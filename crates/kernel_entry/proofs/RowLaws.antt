@@ -11,7 +11,7 @@ use Rattle.avr_exec.specs.Asks.{ask_of}
 use Rattle.avr_exec.specs.Effects.{finish_of}
 use Rattle.avr_exec.specs.declared.answer.Answer.TheVariants.{Done, Address}
 use Rattle.avr_exec.specs.Execution.{exec_of, answer_of, answered_by}
-use Rattle.avr_exec.specs.Registers.{wrapping_sum, wrapping_difference, relative}
+use Rattle.avr_isa.specs.Addresses.{wrapping_sum, wrapping_difference, relative}
 use Rattle.avr_exec.specs.Spaces.{Outcome, Went, Stopped}
 use Rattle.avr_exec.specs.Likeness.{over, moved, Leaves as LeavesSpace}
 use Rattle.avr_exec.proofs.OtherPlace.{exec_moved}

@@ -8,7 +8,7 @@ use Rattle.avr_exec.specs.declared.ask.Ask.{Ask}
 use Rattle.avr_exec.specs.Asks.{ask_of}
 use Rattle.avr_exec.specs.Spaces.{Outcome, Went, Stopped}
 use Rattle.avr_exec.specs.Likeness.{Leaves as LeavesSpace}
-use Rattle.flash_model.specs.Memory.{AreWords}
+use Rattle.flash_words.specs.Memory.{AreWords}
 use Rattle.sram_layout.specs.Bytes.{with_byte, byte_count, data_word_at, with_word}
 use Rattle.sram_layout.specs.Cells.{count_cell, vsp_cell}
 use Rattle.sram_layout.proofs.Laws.{byte_same, byte_other, word_out_of_byte}
@@ -36,7 +36,7 @@ use Rattle.kernel_entry.specs.declared.kernel.Served.{Served}
 use Rattle.kernel_entry.specs.declared.kernel.Stop.TheVariants.{Halted, Asleep, Read}
 use Rattle.kernel_entry.specs.Parts.{return_address, descriptor, instruction, memory_of, core_of, virtual_sp, rested, with_sram}
 use Rattle.avr_isa.specs.Instruction.{size_of}
-use Rattle.avr_exec.specs.Registers.{wrapping_sum}
+use Rattle.avr_isa.specs.Addresses.{wrapping_sum}
 use Rattle.heap_frames.specs.SamePaging.{SamePaging}
 use Rattle.mem_guard.specs.FlatSpace.{push_return, pop_return}
 use Rattle.kernel_entry.specs.Services.{bridged, faulted, foreign_in, foreign_read, read_by, accessed, executed, execution, execution_by, if_instruction, resumed_by, resumed, gone_by, gone, halted, halted_or_gone, quantum_ended, fault_of, is_sleep, slept, slept_by, woken, served, served_at}

@@ -5,13 +5,21 @@ use Rattle.std.proofs.lemmas.Bool.Decides.{nat_tests}
 use Rattle.avr_isa.specs.declared.form.Form.{Form}
 use Rattle.avr_isa.specs.declared.form.Form.TheVariants as forms
 use Rattle.avr_isa.specs.IoTable.{can_read, can_write, io_address}
-use Rattle.avr_exec.specs.Registers.{relative}
+use Rattle.avr_isa.specs.Addresses.{relative}
+use Rattle.avr_exec.specs.Execution.{is_executed}
 use Rattle.avr_exec.specs.Likeness.{is_transfer}
 use Rattle.nat_template.specs.declared.shapes.TemplateShape.{TemplateShape}
 use Rattle.nat_template.specs.declared.shapes.TemplateShape.TheVariants.{Native, Mem, Jump, Branch, Skip, Call, Ret, Ind, SelfJump, Fault}
 use Rattle.nat_template.specs.Shapes.{shape_of_form, is_stack_pointer, can_modify}
 use Rattle.mem_guard.specs.FlatMachine.{jumps_to_itself}
 use Rattle.mem_guard.proofs.ReadLaws.{reads_program}
+
+-- what may not be executed has a shape of its own
+pub runs_or_faults : (pc : ℕ) (form : Form) → shape_of_form pc form ≢ Fault → is_executed form ≡ true
+unfolding shape_of_form is_executed
+runs_or_faults pc forms.Sleep apart = absurd (apart refl)
+runs_or_faults pc forms.Spm apart = absurd (apart refl)
+runs_or_faults pc _ apart = refl
 
 -- a call, a return, a jump or a call through Z
 abbrev pub is_service_jump : TemplateShape → Bool

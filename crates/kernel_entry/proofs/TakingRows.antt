@@ -1,7 +1,7 @@
 -- When an interrupt is taken, and what that leaves.
 use Rattle.std.proofs.Common.{◌≡◌, ℕ, Bool, true, false, cond, refl, sym, ap, ap₂, subst, ◌∙◌}
 use Rattle.std.specs.Prelude.{Some, None}
-use Rattle.avr_exec.specs.Registers.{wrapping_difference}
+use Rattle.avr_isa.specs.Addresses.{wrapping_difference}
 use Rattle.avr_exec.specs.Spaces.{Outcome, Went, Stopped}
 use Rattle.avr_exec.specs.declared.stop.BusStop.TheVariants as bus
 use Rattle.heap_frames.specs.Addresses.{is_stack}

@@ -1,7 +1,7 @@
 -- What the program sees after an execution, and what it doesn't see.
-use Rattle.std.proofs.Common.{◌≡◌, ℕ, ◌+◌, ◌*◌, ◌≤◌, List, length, ap, ap₂, ◌∙◌, arith}
+use Rattle.std.proofs.Common.{◌≡◌, ℕ, ◌+◌, ◌*◌, List, length, ap, ap₂, ◌∙◌, arith}
 use Rattle.avr_exec.specs.declared.cpu.Cpu.{Cpu}
-use Rattle.sram_layout.specs.Bytes.{byte_at, with_word, data_word_at}
+use Rattle.sram_layout.specs.Bytes.{with_word, data_word_at}
 use Rattle.sram_layout.specs.Cells.{vsp_cell}
 use Rattle.sram_layout.specs.Regions.{stack_window, KeepsRegion}
 use Rattle.sram_layout.proofs.Laws.{word_same, byte_out_of_word}

@@ -1,5 +1,5 @@
 -- What a service leaves of the kernel and of the mote's own parts.
-use Rattle.std.specs.Prelude.{◌≡◌, ◌≢◌, ℕ, ◌+◌, ◌≤◌, max, length}
+use Rattle.std.specs.Prelude.{◌≡◌, ◌≢◌, ◌+◌, ◌≤◌, max, length}
 use Rattle.avr_exec.specs.declared.ask.Ask.{Ask}
 use Rattle.sram_layout.specs.Bytes.{with_word}
 use Rattle.sram_layout.specs.Cells.{vsp_cell, kernel_stack_top}

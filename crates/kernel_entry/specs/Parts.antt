@@ -3,8 +3,8 @@ use Rattle.std.specs.Prelude.{ℕ, ◌+◌, ◌-◌, ◌*◌, List, Option, None
 use Rattle.avr_isa.specs.declared.form.Form.{Form}
 use Rattle.avr_decode.specs.Program.{instruction_at}
 use Rattle.avr_exec.specs.declared.cpu.Cpu.{Cpu}
-use Rattle.flash_model.specs.Pages.{word_at}
-use Rattle.flash_model.specs.Layouts.{image_of}
+use Rattle.flash_words.specs.Pages.{word_at}
+use Rattle.flash_words.specs.Layouts.{image_of}
 use Rattle.sram_layout.specs.Bytes.{byte_at, with_word, data_word_at as cell_at}
 use Rattle.sram_layout.specs.Cells.{vsp_cell, kernel_stack_top}
 use Rattle.mem_guard.specs.Guarded.{Guarded}

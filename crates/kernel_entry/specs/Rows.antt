@@ -7,7 +7,8 @@ use Rattle.avr_isa.specs.Crossing.{is_crossing}
 use Rattle.avr_isa.specs.Instruction.{size_of}
 use Rattle.avr_flags.specs.Status.{has_bit, with_bit, interrupts}
 use Rattle.avr_exec.specs.declared.cpu.Cpu.{Cpu}
-use Rattle.avr_exec.specs.Registers.{pair, wrapping_sum, wrapping_difference, with_stack, with_status}
+use Rattle.avr_isa.specs.Addresses.{wrapping_sum, wrapping_difference}
+use Rattle.avr_exec.specs.Registers.{pair, with_stack, with_status}
 use Rattle.avr_exec.specs.Spaces.{Outcome, Went, Stopped}
 use Rattle.avr_exec.specs.Asks.{ask_of}
 use Rattle.avr_exec.specs.Execution.{exec_of}

@@ -1,6 +1,6 @@
 //! An interrupt, taken before the program goes on.
 
-ghost use Rattle.std.specs.Prelude.{◌≡◌, ◌≢◌, ◌<◌, ◌≤◌, ◌^◌, nat_eq};
+ghost use Rattle.std.specs.Prelude.{◌≡◌, ◌≢◌, ◌<◌, ◌≤◌, ◌^◌, false};
 ghost use Rattle.std.specs.Int.{bit_at};
 ghost use Rattle.avr_flags.specs.Status.{with_bit, interrupts};
 ghost use Rattle.heap_frames.specs.Paged.{IsPaged};
@@ -24,16 +24,6 @@ pub fn interrupt(k: &mut Kernel, target: u16) -> Taken
     // When each answer comes, and what it leaves.
     ensures row { TakesLeast k.old target result k.new }
 {
-    take_least(k, target)
-}
-
-/// The same, one step after another.
-fn take_least(k: &mut Kernel, target: u16) -> Taken
-    requires paged { IsPaged k.old.mote.sram k.old.mote.swap }
-    requires room { k.old.mote.devices.polls < 2 ^ 63 }
-    requires low { k.old.part.first < 65520 }
-    ensures taken { (result, k.new) ≡ taken k.old target }
-{
     let enabled = k.mote.devices.enabled();
     if enabled == 0 {
         return Taken::Nothing;
@@ -41,15 +31,23 @@ fn take_least(k: &mut Kernel, target: u16) -> Taken
     if !has_interrupts(k) {
         return Taken::Nothing;
     }
+    let number = lowest(enabled);
+    let place = vector(&k.part, number);
     match push(k, target) {
         Err(stop) => Taken::Stopped(stop_of(target, stop)),
         Ok(()) => {
-            let number = lowest(enabled);
             k.mote.devices.take(number);
-            k.mote.cpu.sreg &= 0x7F;
-            Taken::Vector(vector(&k.part, number))
+            k.mote.cpu.sreg = without_interrupts(k.mote.cpu.sreg);
+            Taken::Vector(place)
         }
     }
+}
+
+/// SREG with interrupts off.
+fn without_interrupts(sreg: u8) -> u8
+    ensures value { result ≡ with_bit sreg interrupts false }
+{
+    sreg & 0x7F
 }
 
 /// An address pushed onto the program's stack.
@@ -93,29 +91,5 @@ fn lowest(n: u8) -> u8
     ensures bit { bit_at n result ≡ 1 }
     ensures small { result < 8 }
 {
-    if has(n, 0) {
-        0
-    } else if has(n, 1) {
-        1
-    } else if has(n, 2) {
-        2
-    } else if has(n, 3) {
-        3
-    } else if has(n, 4) {
-        4
-    } else if has(n, 5) {
-        5
-    } else if has(n, 6) {
-        6
-    } else {
-        7
-    }
-}
-
-/// Whether bit k is set.
-fn has(n: u8, k: u8) -> bool
-    requires small { k < 8 }
-    ensures value { result ≡ nat_eq (bit_at n k) 1 }
-{
-    n >> k & 1 == 1
+    n.trailing_zeros() as u8
 }

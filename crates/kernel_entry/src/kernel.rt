@@ -18,7 +18,7 @@ pub struct Kernel {
 
 /// Why the program stopped: the address of the instruction in the image; with it, for `Read` the word address, and for
 /// the last three the data address that it would have touched.
-#[derive(Clone, Copy, PartialEq, Eq)]
+#[derive(Clone, Copy)]
 pub enum Stop {
     /// An RJMP or JMP to its own address with interrupts off.
     Halted(u16),
@@ -39,7 +39,7 @@ pub enum Stop {
 }
 
 /// How the program goes on.
-#[derive(Clone, Copy, PartialEq, Eq)]
+#[derive(Clone, Copy)]
 pub enum Served {
     /// Behind the descriptor, where the pc is now. What a device showed comes with it.
     Resume(Option<Line>),
@@ -52,7 +52,7 @@ pub enum Served {
 }
 
 /// What becomes of an interrupt before the program goes on.
-#[derive(Clone, Copy, PartialEq, Eq)]
+#[derive(Clone, Copy)]
 pub enum Taken {
     /// None is taken.
     Nothing,

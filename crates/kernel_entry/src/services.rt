@@ -4,12 +4,12 @@ ghost use Rattle.std.specs.Prelude.{◌≡◌, ◌≢◌, true, false, length, i
 ghost use Rattle.std.specs.Option.{option_map};
 ghost use Rattle.avr_exec.specs.Execution.{is_executed};
 ghost use Rattle.avr_flags.specs.Status.{has_bit, interrupts};
-ghost use Rattle.flash_model.specs.Memory.{IsWhole};
+ghost use Rattle.flash_words.specs.Memory.{IsWhole};
 ghost use Rattle.sram_layout.specs.Bytes.{byte_count};
 ghost use Rattle.nat_template.specs.Stubs.{bridge_entry, quantum_entry, mem_entry, push_return_entry, return_entry, indirect_entry, self_entry, fault_entry};
 ghost use Rattle.kernel_entry.specs.Conditions.{IsCalled, CanCount, CanServe};
 ghost use Rattle.kernel_entry.specs.Parts.{return_address, descriptor as descriptor_of, instruction};
-ghost use Rattle.kernel_entry.specs.Services.{bridged, quantum_ended, foreign_read as foreign_read_of, read_by, halted, faulted, slept, is_sleep as is_sleep_form, is_run, due_by, is_due, served, stop_of as stop_of_bus, fault_of as fault_of_form};
+ghost use Rattle.kernel_entry.specs.Services.{bridged, quantum_ended, foreign_read as foreign_read_of, read_by, halted, faulted, slept, is_run, due_by, is_due, served, stop_of as stop_of_bus, fault_of as fault_of_form};
 ghost use Rattle.kernel_entry.specs.Left.{Leaves, LeavesHeap};
 ghost use Rattle.kernel_entry.specs.Rows.{Bridges, EndsQuantum, Executes, PushesReturn, Returns, GoesThrough, LoopsOrHalts, Faults, AsTried};
 
@@ -256,11 +256,12 @@ fn fault(k: &mut Kernel, at: u16) -> Served
     ensures served { (result, k.new) ≡ faulted k.old }
 {
     let instr = instruction_in_image(&k.mote.flash, &k.layout, at);
-    if is_sleep(instr.as_ref()) {
+    let stop = fault_of(at, instr.as_ref());
+    if let Stop::Asleep(_) = stop {
         return sleep(k, at);
     }
     k.mote.cpu.sp = KERNEL_STACK_TOP;
-    Served::Stopped(fault_of(at, instr.as_ref()))
+    Served::Stopped(stop)
 }
 
 /// SLEEP: the program goes on behind it once an interrupt is enabled; it stops where interrupts are off, or where none will be.
@@ -279,19 +280,6 @@ fn sleep(k: &mut Kernel, at: u16) -> Served
     let target = at.wrapping_add(1);
     cross(&mut k.mote.sram, k.quantum, at, target);
     Served::Woke { target }
-}
-
-/// Whether an instruction is SLEEP.
-fn is_sleep(instr: Option<&Instr>) -> bool
-    ensures value { result ≡ is_sleep_form (option_map (λ borrowed. borrowed.now) instr.entry) }
-{
-    match instr {
-        Some(instr) => match instr.form() {
-            Form::Sleep => true,
-            _ => false,
-        },
-        None => false,
-    }
 }
 
 /// The flash address behind the call, where the descriptor is: the call left it with its high byte at the

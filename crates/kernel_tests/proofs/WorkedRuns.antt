@@ -3,13 +3,13 @@ use Rattle.std.proofs.Common.{◌≡◌, ℕ, ◌<◌, ◌≤◌, ◌/◌, Bool,
 use Rattle.avr_decode.specs.Decoding.{the_form, if_defined, defined_form, one_word_form, two_word_form, form_0000, form_1001, form_1111, move_or_product_form, transfer_form, store_form, register_or_pair_form, one_register_form, flag_or_plain_form, plain_form, register_bit_form, is_long}
 use Rattle.avr_isa.specs.Encoding.{first_word}
 use Rattle.avr_isa.specs.Instruction.{is_undefined}
-use Rattle.avr_exec.specs.Registers.{relative}
-use Rattle.flash_model.specs.Pages.{page_words}
+use Rattle.avr_isa.specs.Addresses.{relative}
+use Rattle.flash_words.specs.Pages.{page_words}
 use Rattle.nat_template.specs.Shapes.{shape_of_form}
 use Rattle.nat_template.specs.Stubs.{stub, words_of}
 use Rattle.nat_template.specs.Templates.{template_by}
-use Rattle.nat_page.specs.Runs.{address, ends_at, closing_at, IsRun}
-use Rattle.nat_page.specs.CodePages.{map_words, code, page_pieces}
+use Rattle.page_draft.specs.Runs.{address, ends_at, closing_at, IsRun}
+use Rattle.page_draft.specs.CodePages.{map_words, code, page_pieces}
 
 -- this word at address 4, with NOP around it
 abbrev at_four : ℕ → List ℕ

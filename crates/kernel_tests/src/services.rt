@@ -151,99 +151,68 @@ fn left(k: &Kernel) -> (u16, u8, u8) {
 }
 
 /// The call with Z 0xFFFF is answered so, and leaves these.
-fn is_served(rt: &impl Abort, k: &mut Kernel, call: Call, want: Served, after: (u16, u8, u8))
+fn is_served(rt: &impl Abort, k: &mut Kernel, call: Call, want: Told, after: (u16, u8, u8))
     requires paged { IsPaged k.old.mote.sram k.old.mote.swap }
     ensures paged { IsPaged k.new.mote.sram k.new.mote.swap }
 {
     k.mote.cpu.r[30] = 0xFF;
     k.mote.cpu.r[31] = 0xFF;
-    assert!(rt; served(rt, k, call) == want, "{} {}", call.entry, call.at);
+    assert!(rt;
+        told(served(rt, k, call)) == want,
+        "{} {}",
+        call.entry,
+        call.at
+    );
     assert!(rt; left(k) == after, "{} {}", call.entry, call.at);
     assert!(rt; k.mote.cpu.sp == 0x011F);
 }
 
+/// What a service answered: its name, and the address with a second one, or 0.
+type Told = (&'static str, u16, u16);
+
 /// Control goes on behind the call.
-const ON: Served = Served::Resume(None);
+const ON: Told = ("resume", 0, 0);
+
+fn told(answer: Served) -> Told {
+    match answer {
+        Served::Resume(None) => ON,
+        Served::Resume(Some(_)) => ("shown", 0, 0),
+        Served::Goto { target, stub: None } => ("goto", target, 0),
+        Served::Goto {
+            target,
+            stub: Some(stub),
+        } => ("bridge", target, stub),
+        Served::Woke { target } => ("woke", target, 0),
+        Served::Stopped(stop) => told_stop(stop),
+    }
+}
+
+fn told_stop(stop: Stop) -> Told {
+    match stop {
+        Stop::Halted(at) => ("halted", at, 0),
+        Stop::Asleep(at) => ("asleep", at, 0),
+        Stop::Illegal(at) => ("illegal", at, 0),
+        Stop::SelfProgram(at) => ("selfprogram", at, 0),
+        Stop::Read(at, word) => ("read", at, word),
+        Stop::Io(at, address) => ("io", at, address),
+        Stop::Stack(at, address) => ("stack", at, address),
+        Stop::SwapFull(at, address) => ("swap", at, address),
+    }
+}
 
 /// Entry, address and SP; the answer, and what is left. A return finds what an earlier call pushed.
-const WINDOW: [(u16, u16, u16, Served, (u16, u8, u8)); 11] = [
-    (
-        PUSH_RETURN,
-        2,
-        0x0CFF,
-        Served::Stopped(Stop::Stack(2, 0x0CFF)),
-        (0x0CFF, 0, 3),
-    ),
-    (
-        PUSH_RETURN,
-        2,
-        0x0D00,
-        Served::Stopped(Stop::Stack(2, 0x0CFF)),
-        (0x0D00, 0, 3),
-    ),
+const WINDOW: [(u16, u16, u16, Told, (u16, u8, u8)); 11] = [
+    (PUSH_RETURN, 2, 0x0CFF, ("stack", 2, 0x0CFF), (0x0CFF, 0, 3)),
+    (PUSH_RETURN, 2, 0x0D00, ("stack", 2, 0x0CFF), (0x0D00, 0, 3)),
     (PUSH_RETURN, 2, 0x0D01, ON, (0x0CFF, 0, 3)),
-    (
-        PUSH_RETURN,
-        2,
-        0x1100,
-        Served::Stopped(Stop::Stack(2, 0x1100)),
-        (0x1100, 0, 3),
-    ),
+    (PUSH_RETURN, 2, 0x1100, ("stack", 2, 0x1100), (0x1100, 0, 3)),
     (PUSH_RETURN, 28, 0x10FF, ON, (0x10FD, 0, 3)),
-    (
-        RETURN,
-        3,
-        0x10FD,
-        Served::Goto {
-            target: 30,
-            stub: None,
-        },
-        (0x10FF, 0, 3),
-    ),
-    (
-        RETURN,
-        4,
-        0x0CFF,
-        Served::Goto {
-            target: 3,
-            stub: None,
-        },
-        (0x0D01, 0x80, 2),
-    ),
-    (
-        RETURN,
-        3,
-        0x10FE,
-        Served::Stopped(Stop::Stack(3, 0x1100)),
-        (0x10FE, 0, 3),
-    ),
-    (
-        INDIRECT,
-        5,
-        0,
-        Served::Goto {
-            target: 0xFFFF,
-            stub: None,
-        },
-        (0, 0, 2),
-    ),
-    (
-        INDIRECT,
-        6,
-        0x0D01,
-        Served::Goto {
-            target: 0xFFFF,
-            stub: None,
-        },
-        (0x0CFF, 0, 2),
-    ),
-    (
-        INDIRECT,
-        6,
-        0x0CFF,
-        Served::Stopped(Stop::Stack(6, 0x0CFF)),
-        (0x0CFF, 0, 3),
-    ),
+    (RETURN, 3, 0x10FD, ("goto", 30, 0), (0x10FF, 0, 3)),
+    (RETURN, 4, 0x0CFF, ("goto", 3, 0), (0x0D01, 0x80, 2)),
+    (RETURN, 3, 0x10FE, ("stack", 3, 0x1100), (0x10FE, 0, 3)),
+    (INDIRECT, 5, 0, ("goto", 0xFFFF, 0), (0, 0, 2)),
+    (INDIRECT, 6, 0x0D01, ("goto", 0xFFFF, 0), (0x0CFF, 0, 2)),
+    (INDIRECT, 6, 0x0CFF, ("stack", 6, 0x0CFF), (0x0CFF, 0, 3)),
 ];
 
 #[test]
@@ -262,46 +231,16 @@ fn calls_and_returns_use_the_stack_window(rt: HostRuntime) -> Result<(), Fail> {
 }
 
 /// Entry, address and SREG; the answer, and SREG and COUNT then. QUANTUM gives r24 and SREG back.
-const ENDS: [(u16, u16, u8, Served, u8, u8); 9] = [
-    (SELF, 7, 0x7F, Served::Stopped(Stop::Halted(7)), 0x7F, 3),
-    (
-        SELF,
-        7,
-        0x80,
-        Served::Goto {
-            target: 7,
-            stub: None,
-        },
-        0x80,
-        2,
-    ),
-    (FAULT, 8, 0, Served::Stopped(Stop::Asleep(8)), 0, 3),
-    (FAULT, 9, 0, Served::Stopped(Stop::SelfProgram(9)), 0, 3),
-    (FAULT, 10, 0, Served::Stopped(Stop::Illegal(10)), 0, 3),
-    (FAULT, 11, 0, Served::Stopped(Stop::Io(11, 0x3C)), 0, 3),
-    (FAULT, 12, 0, Served::Stopped(Stop::Io(12, 0x39)), 0, 3),
-    (
-        QUANTUM,
-        30,
-        0,
-        Served::Goto {
-            target: 30,
-            stub: None,
-        },
-        0x15,
-        3,
-    ),
-    (
-        BRIDGE,
-        31,
-        0,
-        Served::Goto {
-            target: 31,
-            stub: Some(61),
-        },
-        0,
-        3,
-    ),
+const ENDS: [(u16, u16, u8, Told, u8, u8); 9] = [
+    (SELF, 7, 0x7F, ("halted", 7, 0), 0x7F, 3),
+    (SELF, 7, 0x80, ("goto", 7, 0), 0x80, 2),
+    (FAULT, 8, 0, ("asleep", 8, 0), 0, 3),
+    (FAULT, 9, 0, ("selfprogram", 9, 0), 0, 3),
+    (FAULT, 10, 0, ("illegal", 10, 0), 0, 3),
+    (FAULT, 11, 0, ("io", 11, 0x3C), 0, 3),
+    (FAULT, 12, 0, ("io", 12, 0x39), 0, 3),
+    (QUANTUM, 30, 0, ("goto", 30, 0), 0x15, 3),
+    (BRIDGE, 31, 0, ("bridge", 31, 61), 0, 3),
 ];
 
 #[test]
@@ -330,33 +269,26 @@ fn an_interrupt_ends_a_sleep(rt: HostRuntime) -> Result<(), Fail> {
         sp: 0x10FF,
         sreg: 0x80,
     };
-    is_served(
-        &rt,
-        &mut k,
-        call,
-        Served::Stopped(Stop::Asleep(8)),
-        (0x10FF, 0x80, 3),
-    );
-    assert!(rt; taken(&rt, &mut k, 9, 0x10FF) == Taken::Nothing);
+    is_served(&rt, &mut k, call, ("asleep", 8, 0), (0x10FF, 0x80, 3));
+    assert!(rt; matches!(taken(&rt, &mut k, 9, 0x10FF), Taken::Nothing));
     assert!(rt; k.mote.devices.polls() == 0);
     assert!(rt; k.mote.devices.write(0x59, 0x24) == Ok(None));
-    is_served(
-        &rt,
-        &mut k,
-        call,
-        Served::Woke { target: 9 },
-        (0x10FF, 0x80, 3),
-    );
+    is_served(&rt, &mut k, call, ("woke", 9, 0), (0x10FF, 0x80, 3));
     assert!(rt; k.mote.devices.polls() == 7);
     assert!(rt; k.mote.devices.enabled() == 0x24);
-    assert!(rt; taken(&rt, &mut k, 9, 0x0D00) == Taken::Stopped(Stop::Stack(9, 0x0CFF)));
+    assert!(rt;
+        matches!(
+            taken(&rt, &mut k, 9, 0x0D00),
+            Taken::Stopped(Stop::Stack(9, 0x0CFF))
+        )
+    );
     assert!(rt; left(&k) == (0x0D00, 0x80, 3));
-    assert!(rt; taken(&rt, &mut k, 0x1234, 0x10FF) == Taken::Vector(6));
+    assert!(rt; matches!(taken(&rt, &mut k, 0x1234, 0x10FF), Taken::Vector(6)));
     assert!(rt; left(&k) == (0x10FD, 0x00, 3));
     assert!(rt; k.mote.sram.byte(0x10FF) == 0x34);
     assert!(rt; k.mote.sram.byte(0x10FE) == 0x12);
     assert!(rt; k.mote.devices.enabled() == 0x20);
-    assert!(rt; taken(&rt, &mut k, 6, 0x10FD) == Taken::Nothing);
+    assert!(rt; matches!(taken(&rt, &mut k, 6, 0x10FD), Taken::Nothing));
     Ok(())
 }
 
@@ -385,35 +317,21 @@ fn accessed(rt: &impl Abort, k: &mut Kernel, at: u16, pointer: u16, sp: u16) -> 
 }
 
 /// Address, pointer and SP; the answer, r17 and SP then. One page has a slot.
-const ACCESSES: [(u16, u16, u16, Served, u8, u16); 18] = [
+const ACCESSES: [(u16, u16, u16, Told, u8, u16); 18] = [
     (13, 0, 0, ON, 0, 0),
     (15, 0, 0, ON, 0x77, 0),
-    (
-        17,
-        0x0200,
-        0,
-        Served::Stopped(Stop::SwapFull(17, 0x0200)),
-        0,
-        0,
-    ),
+    (17, 0x0200, 0, ("swap", 17, 0x0200), 0, 0),
     (17, 0x0D00, 0, ON, 0, 0),
     (18, 0x00FF, 0, ON, 0x77, 0),
     (23, 0x0D01, 0, ON, 0x77, 0),
     (24, 0x10FF, 0, ON, 0, 0),
     (25, 0x1100, 0, ON, 0x77, 0),
-    (26, 0x00FF, 0, Served::Stopped(Stop::Io(26, 0x00FF)), 0, 0),
+    (26, 0x00FF, 0, ("io", 26, 0x00FF), 0, 0),
     (26, 0x01FF, 0, ON, 0, 0),
     (27, 0x0200, 0, ON, 0x77, 0),
     (21, 0, 0x1234, ON, 0x34, 0x1234),
     (22, 0, 0x1234, ON, 0, 0x7734),
-    (
-        0,
-        0,
-        0x0CFF,
-        Served::Stopped(Stop::Stack(0, 0x0CFF)),
-        0,
-        0x0CFF,
-    ),
+    (0, 0, 0x0CFF, ("stack", 0, 0x0CFF), 0, 0x0CFF),
     (0, 0, 0x10FF, ON, 0, 0x10FE),
     (1, 0, 0x10FE, ON, 0, 0x10FF),
     (19, 1, 0, ON, 0, 0),
@@ -424,7 +342,8 @@ const ACCESSES: [(u16, u16, u16, Served, u8, u16); 18] = [
 fn loads_and_stores_reach_the_programs_memory(rt: HostRuntime) -> Result<(), Fail> {
     let mut k = kernel_at_boot(&rt, 1)?;
     for (at, pointer, sp, want, r17, sp_after) in ACCESSES {
-        assert!(rt; accessed(&rt, &mut k, at, pointer, sp) == want, "{at}");
+        let answer = told(accessed(&rt, &mut k, at, pointer, sp));
+        assert!(rt; answer == want, "{at}");
         assert!(rt; left(&k) == (sp_after, 0, 3), "{at}");
         let pc = if want == ON { at.wrapping_add(33) } else { MEM };
         assert!(rt; k.mote.cpu.r[17] == r17, "{at}");
@@ -441,7 +360,7 @@ fn no_program_byte_stands_behind_the_image(rt: HostRuntime) -> Result<(), Fail> 
     let mut k = kernel_at_boot(&rt, 0)?;
     k.mote.devices.set_rampz(1);
     let answer = accessed(&rt, &mut k, 20, 1, 0);
-    assert!(rt; answer == Served::Resume(None));
+    assert!(rt; told(answer) == ON);
     assert!(rt; k.mote.cpu.r[20] == 0xFF);
     assert!(rt; k.mote.sram.count() == 3);
     Ok(())

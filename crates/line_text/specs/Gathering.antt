@@ -1,7 +1,7 @@
 -- Lines that are gathered before they go out.
 use Rattle.std.specs.Prelude.{ℕ, ◌++◌, List, Option, Result, Ok, Err}
-use Rattle.tk_io.specs.Streams.{CutShort, IsSent}
-use Rattle.tk_io.specs.declared.failure.Failed.{Failed}
+use Rattle.byte_streams.specs.Streams.{CutShort, IsSent}
+use Rattle.byte_streams.specs.declared.failure.Failed.{Failed}
 
 -- Bytes were gathered behind others. Of all of these some went out, from the front, and the rest is gathered;
 -- or the sink failed, and what went out is a shorter part of them.

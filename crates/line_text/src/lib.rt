@@ -23,5 +23,5 @@ mod task;
 pub use device::device_line;
 pub use sending::{Gathered, add, send, send_in_turn, up_to_turn};
 pub use stop::stop_line;
-pub use task::{task_line, task_stop};
+pub use task::{TaskLines, add_task};
 pub use text_pieces::{Text, push, push_address, push_byte, push_number, whole};

@@ -1,13 +1,13 @@
 //! Lines, gathered so that many go out by one write.
 
 ghost use Rattle.std.specs.Prelude.{◌≡◌, ◌-◌, ◌%◌, ◌≤◌, [], OnOk};
-ghost use Rattle.tk_io.specs.Faults.{HasCause};
-ghost use Rattle.tk_io.specs.Streams.{Puts};
+ghost use Rattle.byte_streams.specs.Faults.{HasCause};
+ghost use Rattle.byte_streams.specs.Streams.{Puts};
 ghost use Rattle.line_text.specs.Gathering.{Gathers};
 
 use arrayvec::ArrayVec;
+use byte_streams::{Failed, Sink, put};
 use text_pieces::Text;
-use tk_io::{Failed, Sink, put};
 
 /// How many bytes are gathered at most.
 const ROOM: usize = 4096;

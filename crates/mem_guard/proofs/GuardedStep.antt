@@ -12,7 +12,7 @@ use Rattle.avr_exec.specs.Asks.{ask_of}
 use Rattle.avr_exec.specs.Execution.{exec_of, is_executed, finished}
 use Rattle.avr_exec.specs.Likeness.{over, Leaves}
 use Rattle.heap_frames.specs.Paged.{IsPaged}
-use Rattle.flash_model.specs.Layouts.{image_of}
+use Rattle.flash_words.specs.Layouts.{image_of}
 use Rattle.mem_guard.specs.declared.part.Part.{Part}
 use Rattle.mem_guard.specs.FlatSpace.{flat_calls}
 use Rattle.mote_devices.specs.State.{stored, rampz_address}

@@ -5,7 +5,7 @@ use Rattle.std.proofs.lemmas.Bool.Decides.{nat_tests}
 use Rattle.avr_isa.specs.Image.{word}
 use Rattle.avr_decode.specs.Decoding.{the_form, size_by_first_word}
 use Rattle.avr_decode.specs.Program.{instruction_at}
-use Rattle.flash_model.specs.Pages.{word_at}
+use Rattle.flash_words.specs.Pages.{word_at}
 use Rattle.flash_model.proofs.ImageLaws.{word_of_image, word_behind_image}
 use Rattle.mem_guard.specs.FlatMachine.{next_size}
 

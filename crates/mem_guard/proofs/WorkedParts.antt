@@ -4,7 +4,8 @@ use Rattle.input_script.specs.declared.input.Input.TheVariants.{Int}
 use Rattle.avr_isa.specs.Instruction.{is_undefined}
 use Rattle.avr_isa.specs.IoTable.{can_read, can_write}
 use Rattle.avr_decode.specs.Decoding.{product_form, move_or_product_form, form_0000, form_0001, form_0010, displaced_form, load_form, store_form, plain_form, flag_or_plain_form, one_register_form, register_or_pair_form, io_bit_form, transfer_form, form_1001, io_form, register_bit_form, form_1111, one_word_form, is_long, two_word_form, defined_form, if_defined, the_form}
-use Rattle.avr_exec.specs.Registers.{own_byte, with_own_byte, relative}
+use Rattle.avr_isa.specs.Addresses.{relative}
+use Rattle.avr_exec.specs.Registers.{own_byte, with_own_byte}
 use Rattle.avr_exec.specs.Arithmetic.{two_of, immediate_of, word_of, one_of}
 use Rattle.avr_exec.specs.Asks.{ask_of, load_of, store_of, pointed}
 use Rattle.avr_exec.specs.Effects.{finish_of, loaded, stored, with_pointer}

@@ -7,7 +7,8 @@ use Rattle.avr_decode.specs.Decoding.{product_form, move_or_product_form, form_0
 use Rattle.avr_flags.specs.Logic.{bitwise_status}
 use Rattle.avr_flags.specs.Status.{with_result_flags}
 use Rattle.avr_flags.specs.Sums.{sum_status, difference_status, inc_status, dec_status}
-use Rattle.avr_exec.specs.Registers.{own_byte, with_own_byte, relative}
+use Rattle.avr_isa.specs.Addresses.{relative}
+use Rattle.avr_exec.specs.Registers.{own_byte, with_own_byte}
 use Rattle.avr_exec.specs.Arithmetic.{two_of, immediate_of, word_of, one_of}
 use Rattle.avr_exec.specs.Asks.{ask_of, load_of, store_of, pointed}
 use Rattle.avr_exec.specs.Effects.{finish_of, loaded, stored, with_pointer}

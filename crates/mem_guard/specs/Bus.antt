@@ -1,7 +1,7 @@
 -- What a VirtualBus stands for.
 use Rattle.std.specs.Borrow.{GName}
-use Rattle.flash_model.specs.Memory.{Memory}
-use Rattle.flash_model.specs.declared.layout.Layout.{Layout}
+use Rattle.flash_words.specs.Memory.{Memory}
+use Rattle.flash_words.specs.declared.layout.Layout.{Layout}
 use Rattle.mem_guard.specs.declared.virtual_bus.VirtualBus.{VirtualBus}
 use Rattle.mem_guard.specs.FlatSpace.{FlatSpace}
 use Rattle.mem_guard.specs.Guarded.{Guarded, flat_of}

@@ -15,7 +15,7 @@ use Rattle.avr_exec.specs.declared.ask.Ask.{Ask}
 use Rattle.avr_exec.specs.declared.ask.Ask.TheVariants.{Program as ProgramAsk, ExtendedProgram as ExtendedAsk, ExtendedProgramRaising as RaisingAsk}
 use Rattle.avr_exec.specs.declared.stop.BusStop.{BusStop}
 use Rattle.avr_exec.specs.declared.stop.BusStop.TheVariants.{Io as IoStop, Stack as StackStop, SwapFull as FullStop}
-use Rattle.avr_exec.specs.Registers.{wrapping_sum, wrapping_difference, relative}
+use Rattle.avr_isa.specs.Addresses.{wrapping_sum, wrapping_difference, relative}
 use Rattle.avr_exec.specs.Spaces.{Outcome, Went, Stopped}
 use Rattle.avr_exec.specs.Asks.{ask_of}
 use Rattle.avr_exec.specs.Execution.{exec_of, extended}

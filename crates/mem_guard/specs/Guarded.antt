@@ -6,8 +6,8 @@ use Rattle.avr_exec.specs.declared.cpu.Cpu.{Cpu}
 use Rattle.avr_exec.specs.declared.stop.BusStop.TheVariants.{Stack as StackStop, SwapFull as FullStop}
 use Rattle.avr_exec.specs.Spaces.{Outcome, Went, Stopped, Calls}
 use Rattle.avr_exec.specs.StackRules.{StackRule, push_on, pop_from, push_return_on, pop_return_from}
-use Rattle.flash_model.specs.declared.layout.Layout.{Layout}
-use Rattle.flash_model.specs.Layouts.{image_of}
+use Rattle.flash_words.specs.declared.layout.Layout.{Layout}
+use Rattle.flash_words.specs.Layouts.{image_of}
 use Rattle.sram_layout.specs.Bytes.{byte_at, with_byte}
 use Rattle.heap_frames.specs.Addresses.{is_stack}
 use Rattle.heap_frames.specs.Frames.{pages}

@@ -3,7 +3,7 @@
 ghost use Rattle.std.specs.Prelude.{◌≡◌, ◌+◌, ◌%◌, ◌<◌, ◌≤◌, ◌↔◌, IsTrue, true, Some as Just, is_some};
 ghost use Rattle.avr_isa.specs.Image.{word};
 ghost use Rattle.avr_decode.specs.Program.{instruction_at};
-ghost use Rattle.flash_model.specs.Layouts.{image_of};
+ghost use Rattle.flash_words.specs.Layouts.{image_of};
 ghost use Rattle.mem_guard.specs.FlatMachine.{next_size};
 
 use avr_decode::{decode, size_by_first_word};

@@ -11,8 +11,6 @@ ghost use Rattle.mem_guard.specs.Readiness.{IsReady};
 use crate::address::{AddrClass, class};
 use crate::virtual_bus::VirtualBus;
 use avr_exec::BusStop;
-use heap_frames::SwapFull;
-use mote_devices::IoStop;
 
 impl VirtualBus<'_> {
     /// The byte at a data address.
@@ -28,7 +26,10 @@ impl VirtualBus<'_> {
         match class(a) {
             AddrClass::Stack => Ok(self.sram.byte(a)),
             AddrClass::Heap => Ok(heap_frames::load(self.sram, self.swap, a)),
-            _ => self.devices.read(a).map_err(stop_of),
+            _ => match self.devices.read(a) {
+                Ok(value) => Ok(value),
+                Err(stop) => Err(BusStop::Io(stop.address)),
+            },
         }
     }
 
@@ -43,11 +44,22 @@ impl VirtualBus<'_> {
         ensures lent { lent_of self.new ≡ lent_of self.old }
     {
         match class(a) {
-            AddrClass::Stack => self.sram.set(a, v),
-            AddrClass::Heap => heap_frames::store(self.sram, self.swap, a, v).map_err(full_of)?,
-            _ => self.line = self.devices.write(a, v).map_err(stop_of)?,
+            AddrClass::Stack => {
+                self.sram.set(a, v);
+                Ok(())
+            }
+            AddrClass::Heap => match heap_frames::store(self.sram, self.swap, a, v) {
+                Ok(()) => Ok(()),
+                Err(full) => Err(BusStop::SwapFull(full.address)),
+            },
+            _ => match self.devices.write(a, v) {
+                Ok(line) => {
+                    self.line = line;
+                    Ok(())
+                }
+                Err(stop) => Err(BusStop::Io(stop.address)),
+            },
         }
-        Ok(())
     }
 
     /// A read and a write in one, of a register of the devices.
@@ -60,8 +72,13 @@ impl VirtualBus<'_> {
         ensures stop { OnErr result (guarded_of self.new ≡ guarded_of self.old) }
         ensures lent { lent_of self.new ≡ lent_of self.old }
     {
-        self.line = self.devices.modify(a, clear, set).map_err(stop_of)?;
-        Ok(())
+        match self.devices.modify(a, clear, set) {
+            Ok(line) => {
+                self.line = line;
+                Ok(())
+            }
+            Err(stop) => Err(BusStop::Io(stop.address)),
+        }
     }
 
     /// A byte pushed at `sp`.
@@ -135,18 +152,4 @@ fn is_stack(a: u16) -> bool
     ensures value { result ≡ is_stack_test a }
 {
     0x0D00 <= a && a <= 0x10FF
-}
-
-/// An access that the devices refused, as a stop of the bus.
-fn stop_of(stop: IoStop) -> BusStop
-    ensures value { result ≡ BusStop.Io stop.address }
-{
-    BusStop::Io(stop.address)
-}
-
-/// A store for which the heap had no slot left, as a stop of the bus.
-fn full_of(full: SwapFull) -> BusStop
-    ensures value { result ≡ BusStop.SwapFull full.address }
-{
-    BusStop::SwapFull(full.address)
 }

@@ -11,14 +11,15 @@ use Rattle.avr_exec.specs.declared.ask.Ask.TheVariants.{Nothing, Store, PushRetu
 use Rattle.avr_exec.specs.declared.stop.BusStop.TheVariants.{Io}
 use Rattle.avr_exec.specs.declared.answer.Answer.{Answer}
 use Rattle.avr_exec.specs.declared.answer.Answer.TheVariants.{Done}
-use Rattle.avr_exec.specs.Registers.{register, with_register, with_counter, with_own_byte, is_own, wrapping_sum, wrapping_difference}
+use Rattle.avr_isa.specs.Addresses.{wrapping_sum, wrapping_difference}
+use Rattle.avr_exec.specs.Registers.{register, with_register, with_counter, with_own_byte, is_own}
 use Rattle.avr_exec.specs.Arithmetic.{immediate_of}
 use Rattle.avr_exec.specs.Asks.{ask_of, store_of}
 use Rattle.avr_exec.specs.Effects.{finish_of, called, stored as stored_by_core}
 use Rattle.avr_exec.specs.Execution.{answered_by, answer_of, is_executed}
 use Rattle.avr_exec.specs.Spaces.{Outcome, Went as WentOn, Stopped}
 use Rattle.avr_exec.proofs.OneAnswer.{exec_went}
-use Rattle.flash_model.specs.Memory.{Memory}
+use Rattle.flash_words.specs.Memory.{Memory}
 use Rattle.sram_layout.specs.Bytes.{with_byte}
 use Rattle.mote_devices.specs.declared.line.Line.{Line}
 use Rattle.mote_devices.specs.declared.line.Port.{Port}

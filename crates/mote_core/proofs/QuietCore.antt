@@ -10,7 +10,8 @@ use Rattle.avr_flags.specs.Status.{has_bit, carry, zero_flag}
 use Rattle.avr_flags.specs.Sums.{sub_of, dec_of}
 use Rattle.avr_flags.specs.Pairs.{adiw_of, sbiw_of}
 use Rattle.avr_exec.specs.declared.answer.Answer.TheVariants.{Done}
-use Rattle.avr_exec.specs.Registers.{own_byte, with_own_byte, wrapping_sum, relative}
+use Rattle.avr_isa.specs.Addresses.{wrapping_sum, relative}
+use Rattle.avr_exec.specs.Registers.{own_byte, with_own_byte}
 use Rattle.avr_exec.specs.Arithmetic.{immediate_of, word_of, one_of}
 use Rattle.avr_exec.specs.Asks.{ask_of, load_of, store_of}
 use Rattle.avr_exec.specs.Effects.{finish_of, loaded, stored}

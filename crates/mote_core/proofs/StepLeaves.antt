@@ -9,7 +9,7 @@ use Rattle.avr_exec.specs.declared.ask.Ask.TheVariants.{Nothing, Load, Store, Mo
 use Rattle.avr_exec.specs.declared.answer.Answer.{Answer}
 use Rattle.avr_exec.specs.declared.answer.Answer.TheVariants.{Done, Byte, Address}
 use Rattle.avr_exec.specs.declared.stop.BusStop.TheVariants.{Io}
-use Rattle.avr_exec.specs.Registers.{wrapping_sum, wrapping_difference}
+use Rattle.avr_isa.specs.Addresses.{wrapping_sum, wrapping_difference}
 use Rattle.avr_exec.specs.Spaces.{Outcome, Went as WentOn, Stopped}
 use Rattle.avr_exec.specs.Asks.{ask_of}
 use Rattle.avr_exec.specs.Execution.{answered_by, answer_of, exec_of}

@@ -5,7 +5,7 @@ use Rattle.avr_isa.specs.IoTable.{can_read, can_write}
 use Rattle.avr_exec.specs.declared.cpu.Cpu.{Cpu}
 use Rattle.avr_exec.specs.declared.ask.Ask.{Ask}
 use Rattle.avr_exec.specs.declared.ask.Ask.TheVariants.{Nothing, Load, Store, Modify, PushByte, PopByte, PushReturn, PopReturn, Program, ExtendedProgram, ExtendedProgramRaising}
-use Rattle.avr_exec.specs.Registers.{wrapping_sum, wrapping_difference}
+use Rattle.avr_isa.specs.Addresses.{wrapping_sum, wrapping_difference}
 use Rattle.avr_exec.specs.Asks.{ask_of}
 use Rattle.avr_exec.specs.Execution.{is_executed}
 use Rattle.mote_core.specs.Physical.{is_sram}

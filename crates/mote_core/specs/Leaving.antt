@@ -2,7 +2,7 @@
 use Rattle.std.specs.Prelude.{◌≡◌, ℕ, ◌+◌, ◌≤◌, Bool, true, false, not, ◌||◌, ◌==◌, length}
 use Rattle.avr_exec.specs.declared.ask.Ask.{Ask}
 use Rattle.avr_exec.specs.declared.ask.Ask.TheVariants.{Load, Store, Modify, PushByte, PushReturn, ExtendedProgramRaising}
-use Rattle.avr_exec.specs.Registers.{wrapping_difference}
+use Rattle.avr_isa.specs.Addresses.{wrapping_difference}
 use Rattle.sram_layout.specs.Bytes.{first_address, byte_at}
 use Rattle.mote_core.specs.declared.mote.Mote.{Mote}
 use Rattle.mote_core.specs.declared.mote.Plain.{Plain}

@@ -4,7 +4,7 @@ use Rattle.std.specs.Prelude.{ℕ, ◌/◌, ◌%◌, Bool, ◌==◌, if◌then�
 use Rattle.avr_exec.specs.declared.stop.BusStop.TheVariants.{Io}
 use Rattle.avr_exec.specs.Spaces.{Outcome, Went, Calls}
 use Rattle.avr_exec.specs.StackRules.{StackRule, push_on, pop_from, push_return_on, pop_return_from}
-use Rattle.flash_model.specs.Pages.{word_at}
+use Rattle.flash_words.specs.Pages.{word_at}
 use Rattle.sram_layout.specs.Bytes.{byte_at, with_byte}
 use Rattle.sram_layout.specs.Regions.{whole_sram, is_within}
 use Rattle.mote_devices.specs.declared.line.Line.{Line}

@@ -4,8 +4,8 @@ use Rattle.std.specs.Prelude.{◌≡◌, ℕ, ◌+◌, ◌*◌, ◌/◌, ◌%◌
 use Rattle.avr_isa.specs.declared.form.Form.{Form}
 use Rattle.avr_decode.specs.Decoding.{the_form}
 use Rattle.avr_exec.specs.declared.cpu.Cpu.{Cpu}
-use Rattle.avr_exec.specs.Registers.{wrapping_sum}
-use Rattle.flash_model.specs.Pages.{word_at}
+use Rattle.avr_isa.specs.Addresses.{wrapping_sum}
+use Rattle.flash_words.specs.Pages.{word_at}
 use Rattle.sram_layout.specs.Regions.{template_cells, kernel_stack, frames, between, KeepsRegion}
 use Rattle.mote_core.specs.declared.mote.Mote.{Mote}
 use Rattle.mote_core.specs.declared.mote.Plain.TheVariants.{Went}

@@ -5,11 +5,11 @@ use Rattle.input_script.specs.Script.{Schedule}
 use Rattle.avr_isa.specs.declared.form.Form.{Form}
 use Rattle.avr_decode.specs.Decoding.{the_form, size_by_first_word}
 use Rattle.avr_exec.specs.declared.cpu.Cpu.{Cpu}
-use Rattle.avr_exec.specs.Registers.{wrapping_sum}
+use Rattle.avr_isa.specs.Addresses.{wrapping_sum}
 use Rattle.avr_exec.specs.Spaces.{Outcome, Went}
 use Rattle.avr_exec.specs.Execution.{exec_of}
-use Rattle.flash_model.specs.Memory.{new_flash}
-use Rattle.flash_model.specs.Pages.{word_at}
+use Rattle.flash_words.specs.Memory.{new_flash}
+use Rattle.flash_words.specs.Pages.{word_at}
 use Rattle.list_parts.specs.Lists.{many}
 use Rattle.sram_layout.specs.Boot.{at_boot}
 use Rattle.sram_layout.specs.Cells.{kernel_stack_top}

@@ -14,13 +14,13 @@ use avr_isa::Instr;
 use flash_model::Flash;
 use input_script::Script;
 use mote_devices::{Devices, Line};
+use no_memory::NoMemory;
 use sram_layout::{KERNEL_STACK_TOP, Sram};
 use std::alloc::Global;
 use swap_store::Swap;
-use tk_io::NoMemory;
 
 /// What a plain step shows outside.
-#[derive(Clone, Copy, Debug, PartialEq, Eq)]
+#[derive(Clone, Copy)]
 pub enum Plain {
     /// Nothing.
     Went,
@@ -42,7 +42,7 @@ pub struct Mote {
 
 impl Mote {
     ghost use Rattle.std.specs.Prelude.{◌≡◌, ◌<◌, ◌≤◌, ◌^◌, true, length, IfOk};
-    ghost use Rattle.flash_model.specs.Memory.{IsWhole};
+    ghost use Rattle.flash_words.specs.Memory.{IsWhole};
     ghost use Rattle.swap_store.specs.Slots.{most_slots};
     ghost use Rattle.mote_core.specs.Step.{IsAtReset, cpu_at_reset, form_at, IsPlainStep};
     ghost use Rattle.mote_devices.specs.State.{at_reset};
@@ -58,14 +58,14 @@ impl Mote {
         ensures reset { IfOk result (IsAtReset image.now script slots) }
         ensures whole { IfOk result (λ mote. IsWhole mote.flash) }
     {
-        let flash = Flash::new(alloc, image, script.failing())?;
         let swap = Swap::new(alloc, slots)?;
+        let flash = Flash::new(alloc, image, script.failing())?;
         Ok(Mote::over(flash, script, swap))
     }
 
     /// A mote at reset over this flash and these swap slots, with the kernel's memory as at boot. Of the script the
     /// events alone are taken. The stack pointer is at the top of the kernel's own stack.
-    #[tactic(auto, unfolding(flash_model::specs::Pages::many))]
+    #[tactic(auto, unfolding(flash_words::specs::Pages::many))]
     pub fn over(flash: Flash, script: Script, swap: Swap) -> Mote
         ensures reset { result ≡ record { cpu = cpu_at_reset; sram = at_boot; flash = flash; devices = at_reset script.events; swap = swap } }
     {

@@ -28,7 +28,7 @@ pub(crate) fn is_sram(a: u16) -> bool
 impl Bus for PhysicalSpace<'_> {
     ghost use Rattle.std.specs.Prelude.{ℕ, ◌<◌, ◌^◌};
     ghost use Rattle.std.specs.Borrow.{GName};
-    ghost use Rattle.flash_model.specs.Memory.{Memory};
+    ghost use Rattle.flash_words.specs.Memory.{Memory};
     ghost use Rattle.mote_core.specs.Physical.{Physical, physical_calls};
 
     ghost Space = { Physical };

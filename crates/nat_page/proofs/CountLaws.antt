@@ -2,7 +2,7 @@
 use Rattle.std.proofs.Common.{◌≡◌, ℕ, suc, ◌+◌, ◌*◌, true, false, cond, eqb, List, arith, refl, sym, ap, ◌∙◌}
 use Rattle.std.specs.Prelude.{◌≢◌, not}
 use Rattle.std.proofs.lemmas.Bool.Decides.{nat_tests}
-use Rattle.flash_model.specs.Pages.{word_at}
+use Rattle.flash_words.specs.Pages.{word_at}
 use Rattle.nat_page.specs.Used.{is_used, used_among}
 
 pub none_used : (words : List ℕ) (first : ℕ) → 0 ≡ used_among words first 0

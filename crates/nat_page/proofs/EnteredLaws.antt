@@ -3,19 +3,19 @@ use Rattle.std.proofs.Common.{◌≡◌, ℕ, suc, ◌+◌, ◌*◌, ◌/◌, �
 use Rattle.std.proofs.lemmas.Bool.{cases_lt}
 use Rattle.std.proofs.lemmas.Bool.Decides.{nat_tests}
 use Rattle.avr_isa.specs.Crossing.{is_crossing}
-use Rattle.flash_model.specs.Pages.{page_words}
-use Rattle.flash_model.specs.Layouts.{IsRight}
-use Rattle.flash_model.specs.declared.layout.Layout.{Layout}
+use Rattle.flash_words.specs.Pages.{page_words}
+use Rattle.flash_words.specs.Layouts.{IsRight}
+use Rattle.flash_words.specs.declared.layout.Layout.{Layout}
 use Rattle.page_index.specs.Maps.{IsPool, place_of}
 use Rattle.page_index.specs.Entries.{Lists, IsEntry, IsMapped}
 use Rattle.page_index.proofs.MapLaws.{free_lists_nothing}
-use Rattle.nat_page.specs.Standing.{Stands, size}
-use Rattle.nat_page.specs.Runs.{template_at, closing_at, address, templates, next_of}
-use Rattle.nat_page.specs.CodePages.{page_pieces, place_in_page, HoldsRun}
+use Rattle.page_draft.specs.Standing.{Stands, size}
+use Rattle.page_draft.specs.Runs.{template_at, closing_at, address, templates, next_of}
+use Rattle.page_draft.specs.CodePages.{page_pieces, place_in_page, HoldsRun}
 use Rattle.nat_page.specs.Links.{IsLinkOf, IsLinkIn, EachLink}
 use Rattle.nat_page.specs.Entered.{HasNoPlace, page_end, HasNext, IsLast, Behind, StandsIn}
 use Rattle.nat_page.specs.Faithful.{IsFaithful}
-use Rattle.nat_page.proofs.RunLaws.{address-rises, size-templates, page_size-is}
+use Rattle.page_draft.proofs.RunLaws.{address-rises, size-templates, page_size-is}
 use Rattle.nat_page.proofs.HeldLaws.{parts_of, template_stands, place_range, place_held, count_held, lists_held, held_listed, map_held}
 use Rattle.nat_page.proofs.LinkLaws.{each_link_more, page_links}
 use Rattle.nat_page.proofs.PlaceLaws.{between_entries, behind_last}

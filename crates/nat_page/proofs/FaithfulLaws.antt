@@ -1,9 +1,9 @@
 -- A faithful pool: it is mapped, and that of a new flash is faithful.
 use Rattle.std.proofs.Common.{◌≡◌, ℕ, ◌≤◌, List, length, take, arith, sym, ap, ◌∙◌, inl, inr, subst}
-use Rattle.flash_model.specs.Layouts.{IsRight, image_of}
-use Rattle.flash_model.specs.Memory.{kernel_first, loaded}
-use Rattle.flash_model.specs.declared.layout.Layout.{Layout}
-use Rattle.flash_model.proofs.LoadedLaws.{length-loaded, loaded_image, loaded_blank, loaded_kernel}
+use Rattle.flash_words.specs.Layouts.{IsRight, image_of}
+use Rattle.flash_words.specs.Memory.{kernel_first, loaded}
+use Rattle.flash_words.specs.declared.layout.Layout.{Layout}
+use Rattle.flash_words.proofs.LoadedLaws.{length-loaded, loaded_image, loaded_blank, loaded_kernel}
 use Rattle.page_index.specs.Maps.{IsPool, IsFree}
 use Rattle.page_index.specs.Entries.{IsEntry, IsMapped}
 use Rattle.page_index.proofs.ChangeLaws.{new_flash_free, new_flash_mapped}

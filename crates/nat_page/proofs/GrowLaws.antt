@@ -1,34 +1,23 @@
 -- A run while it is read: it begins with one instruction, takes one more, or stops.
-use Rattle.std.specs.List.{range_with_len}
-use Rattle.std.proofs.Common.{◌≡◌, map, ℕ, suc, ◌+◌, ◌*◌, ◌/◌, ◌%◌, ◌<◌, ◌≤◌, false, List, [], ◌∷◌, ◌++◌, length, arith, refl, sym, ap, ap₂, ◌∙◌, inl, inr, subst}
-use Rattle.std.specs.Prelude.{Option, Some, None, MatchOption}
+use Rattle.std.proofs.Common.{◌≡◌, ℕ, suc, ◌+◌, ◌/◌, ◌<◌, ◌≤◌, false, List, ◌++◌, length, arith, refl, sym, ap, ap₂, ◌∙◌, inl, inr, subst, ◌-◌}
+use Rattle.std.specs.Prelude.{Option, Some, None, MatchOption, All}
 use Rattle.std.proofs.lemmas.Bool.{cases_lt}
-use Rattle.std.proofs.lemmas.List.FromFn.{map-range_with_len_more, length-map-range_with_len}
-use Rattle.flash_model.specs.Pages.{page_words}
-use Rattle.flash_model.specs.declared.layout.Layout.{Layout}
+use Rattle.flash_words.specs.Pages.{page_words}
+use Rattle.flash_words.specs.declared.layout.Layout.{Layout}
 use Rattle.arrayvec.specs.ArrayVec.{ArrayVec}
 use Rattle.page_index.specs.Maps.{IsFree}
 use Rattle.page_index.proofs.MapLaws.{free_lists_nothing}
-use Rattle.nat_page.specs.declared.instruction.Instruction.{Instruction}
-use Rattle.nat_page.specs.declared.draft.Draft.{Draft}
-use Rattle.nat_page.specs.Standing.{size}
-use Rattle.nat_page.specs.Runs.{template_at, closing_at, ends_at, address, templates}
-use Rattle.nat_page.specs.CodePages.{code}
+use Rattle.page_draft.specs.declared.instruction.Instruction.{Instruction}
+use Rattle.page_draft.specs.declared.draft.Draft.{Draft}
+use Rattle.page_draft.specs.Standing.{size}
+use Rattle.page_draft.specs.Runs.{template_at, closing_at, ends_at, address, templates}
+use Rattle.page_draft.specs.CodePages.{code}
 use Rattle.nat_page.specs.Making.{HasNoEntry, Stops}
-use Rattle.nat_page.specs.Drafts.{starts, size_with, StopsBehind, GoesOn, IsRead, IsBegun, Adds, IsDrafting, IsDrafted, code_of, closing_of}
-use Rattle.nat_page.proofs.RunLaws.{template_at-range, closing_at-range, size-templates, size-code, page_size-is}
-
--- the first entries, and one more
-pub length-starts : (image : List ℕ) (t n : ℕ) → length (starts image t n) ≡ n
-unfolding starts
-length-starts image t n = length-map-range_with_len _ 0 n
-
-pub starts-more : (image : List ℕ) (t n : ℕ) → starts image t (suc n) ≡ starts image t n ++ (256 * (address image t n % page_words) + size (templates image t n)) ∷ []
-unfolding starts
-starts-more image t n =
-    let start : ℕ → ℕ = λ i. 256 * (address image t i % page_words) + size (templates image t i) in
-    let one : suc n ≡ n + 1 = omega arith in
-    ap (λ m. map start (range_with_len 0 m)) one ∙ map-range_with_len_more start 0 n n (omega arith)
+use Rattle.page_draft.specs.Drafts.{Adds, code_of, closing_of}
+use Rattle.nat_page.specs.Drafts.{size_with, StopsBehind, GoesOn, IsBegun, IsDrafting, IsDrafted}
+use Rattle.page_draft.proofs.RunLaws.{template_at-range, closing_at-range, size-templates, size-code, page_size-is}
+use Rattle.page_draft.proofs.StartLaws.{length-starts, entries_more, code_more, size_more}
+use Rattle.page_draft.proofs.PageWords.{small_starts}
 
 -- a run begins with one instruction, which fits with any closing
 pub begun_first : (layout : Layout) (image words : List ℕ) (t : ℕ) → t < length image → HasNoEntry layout words t → IsBegun layout image words t 0
@@ -120,23 +109,6 @@ counts_of layout image words t draft here drafting =
       room = omega arith;
     }
 
--- the draft with that instruction
-pub entries_more : (image : List ℕ) (t last : ℕ) (old new : Draft) (here : Instruction) → here.pc ≡ address image t last → old.entries.items ≡ starts image t last → old.size ≡ size (templates image t last) → Adds old new here
-    → new.entries.items ≡ starts image t (suc last)
-entries_more image t last old new here reached before sized adds =
-    let start : 256 * (here.pc % 128) + old.size ≡ 256 * (address image t last % 128) + size (templates image t last) = ap₂ (λ pc n. 256 * (pc % 128) + n) reached sized in
-    adds.entries ∙ ap₂ (λ front x. front ++ x ∷ []) before start ∙ sym (starts-more image t last)
-
-pub code_more : (image : List ℕ) (t last : ℕ) (old new : Draft) (here : Instruction) → here.pc ≡ address image t last → old.code.items ≡ templates image t last → IsRead image here → Adds old new here
-    → new.code.items ≡ templates image t (suc last)
-code_more image t last old new here reached before read adds =
-    adds.code ∙ ap₂ (λ front back. front ++ back) before (read.code ∙ ap (λ pc. template_at image pc) reached)
-
-pub size_more : (image : List ℕ) (t last : ℕ) (old new : Draft) (here : Instruction) → here.pc ≡ address image t last → old.size ≡ size (templates image t last) → IsRead image here → Adds old new here
-    → new.size ≡ size (templates image t (suc last))
-size_more image t last old new here reached before read adds =
-    adds.size ∙ ap₂ (λ front back. front + back) before (read.code_size ∙ ap (λ pc. size (template_at image pc)) reached) ∙ sym (size-templates image t last)
-
 -- what is known behind an instruction, said of the run
 behind : (layout : Layout) (image words : List ℕ) (t others : ℕ) (draft : Draft) (here : Instruction)
     → (drafting : IsDrafting layout image words t draft here)
@@ -192,3 +164,20 @@ drafted layout image words t others draft more whole here drafting told stops ad
       code = closed ∙ ap₂ (λ front back. front ++ back) body end;
       sized = omega (arith, sized, body_size, end_size, size-code image t last);
     }
+
+-- the pieces of the whole draft fit into a page
+pub draft_room : (layout : Layout) (image words : List ℕ) (t : ℕ) (draft : Draft) → IsDrafted layout image words t draft → 2 + length draft.entries.items + draft.size ≤ page_words
+draft_room layout image words t draft drafted =
+    let last = drafted.last in
+    let count : length draft.entries.items ≡ suc last = ap length drafted.entries ∙ length-starts image t (suc last) in
+    let whole = page_size-is image t last in
+    let parts = size-code image t last in
+    let fits = drafted.begun.fits in
+    omega (arith, drafted.sized)
+
+pub draft_small : (layout : Layout) (image words : List ℕ) (t : ℕ) (draft : Draft) → IsDrafted layout image words t draft → All (λ entry. entry < 65536 - 128) draft.entries.items
+draft_small layout image words t draft drafted =
+    let whole = page_size-is image t drafted.last in
+    let fits = drafted.begun.fits in
+    let P : List ℕ → Type 0 = λ entries. All (λ entry. entry < 65536 - 128) entries in
+    subst P (sym drafted.entries) (small_starts image t drafted.last (omega arith))

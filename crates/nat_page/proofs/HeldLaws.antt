@@ -2,16 +2,16 @@
 use Rattle.std.proofs.Common.{◌≡◌, ℕ, zero, suc, ◌+◌, ◌*◌, ◌/◌, ◌%◌, ◌<◌, ◌≤◌, List, ◌++◌, length, get_or, map, arith, sym, ap, ◌∙◌, inl, inr, subst}
 use Rattle.std.proofs.lemmas.Bool.{cases_lt}
 use Rattle.std.proofs.lemmas.List.FromFn.{get_or-map-range_with_len}
-use Rattle.flash_model.specs.Pages.{page_words, word_at}
+use Rattle.flash_words.specs.Pages.{page_words, word_at}
 use Rattle.nat_template.specs.declared.piece.Piece.{Piece}
 use Rattle.nat_template.specs.declared.piece.Piece.TheVariants.{Fixed}
 use Rattle.page_index.specs.Maps.{page_word, original_page, entry_count, address_of, place_of, IsMap}
 use Rattle.page_index.specs.Entries.{Lists}
-use Rattle.nat_page.specs.Standing.{Stands, size}
-use Rattle.nat_page.specs.Runs.{template_at, closing_at, address, templates}
-use Rattle.nat_page.specs.CodePages.{map_words, map_word, place_in_page, code, page_pieces, HoldsRun}
-use Rattle.nat_page.proofs.PieceLaws.{stands_split, stands_fixed, size-fixed}
-use Rattle.nat_page.proofs.RunLaws.{address-rises, template_at-range, templates-rise, page_size-is, length-map_words}
+use Rattle.page_draft.specs.Standing.{Stands, size}
+use Rattle.page_draft.specs.Runs.{template_at, closing_at, address, templates}
+use Rattle.page_draft.specs.CodePages.{map_words, map_word, place_in_page, code, page_pieces, HoldsRun}
+use Rattle.page_draft.proofs.PieceLaws.{stands_split, stands_fixed, size-fixed}
+use Rattle.page_draft.proofs.RunLaws.{address-rises, template_at-range, templates-rise, page_size-is, length-map_words}
 
 -- the parts of a page at the word address a
 pub record Parts (leads : ℕ → ℕ → Type 0) (image words : List ℕ) (a t last : ℕ) : Type 0 where

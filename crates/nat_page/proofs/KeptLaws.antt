@@ -5,13 +5,13 @@ use Rattle.std.specs.Prelude.{◌≢◌}
 use Rattle.std.proofs.lemmas.Bool.{cases_eq}
 use Rattle.std.proofs.lemmas.Grind.{same_number_lists}
 use Rattle.std.proofs.lemmas.List.{get_or-take}
-use Rattle.flash_model.specs.Pages.{word_count, page_words, word_at}
-use Rattle.flash_model.specs.Layouts.{IsRight, image_of}
-use Rattle.flash_model.specs.declared.layout.Layout.{Layout}
+use Rattle.flash_words.specs.Pages.{word_count, page_words, word_at}
+use Rattle.flash_words.specs.Layouts.{IsRight, image_of}
+use Rattle.flash_words.specs.declared.layout.Layout.{Layout}
 use Rattle.page_index.specs.Maps.{IsPool, IsFree}
 use Rattle.page_index.specs.Entries.{Lists, IsEntry}
 use Rattle.page_index.proofs.ChangeLaws as change
-use Rattle.nat_page.specs.CodePages.{place_in_page, HoldsRun}
+use Rattle.page_draft.specs.CodePages.{place_in_page, HoldsRun}
 use Rattle.nat_page.specs.Faithful.{IsFaithful}
 use Rattle.nat_page.proofs.HeldLaws.{lists_held, held_listed}
 use Rattle.nat_page.proofs.StayLaws.{held_used, same_run, holds_alike, holds_more}

@@ -1,15 +1,15 @@
 -- Where the links of a page stand: those of each template, and of the closing, are links of the page.
 use Rattle.std.proofs.Common.{◌≡◌, ℕ, zero, suc, ◌+◌, ◌*◌, ◌<◌, ◌≤◌, List, [], ◌∷◌, ◌++◌, map, append_assoc, arith, refl, sym, ap, ◌∙◌, inl, inr, subst}
 use Rattle.std.proofs.lemmas.Bool.{cases_lt}
-use Rattle.flash_model.specs.Pages.{page_words}
+use Rattle.flash_words.specs.Pages.{page_words}
 use Rattle.nat_template.specs.declared.piece.Piece.{Piece}
 use Rattle.nat_template.specs.declared.piece.Piece.TheVariants.{Fixed, Link}
-use Rattle.nat_page.specs.Standing.{size}
-use Rattle.nat_page.specs.Runs.{template_at, closing_at, address, templates}
-use Rattle.nat_page.specs.CodePages.{map_words, code, page_pieces, page_size, place_in_page}
+use Rattle.page_draft.specs.Standing.{size}
+use Rattle.page_draft.specs.Runs.{template_at, closing_at, address, templates}
+use Rattle.page_draft.specs.CodePages.{map_words, code, page_pieces, page_size, place_in_page}
 use Rattle.nat_page.specs.Links.{IsLinkOf, EachLink}
-use Rattle.nat_page.proofs.PieceLaws.{size-cons, size-append, size-fixed}
-use Rattle.nat_page.proofs.RunLaws.{length-map_words}
+use Rattle.page_draft.proofs.PieceLaws.{size-cons, size-append, size-fixed}
+use Rattle.page_draft.proofs.RunLaws.{length-map_words}
 
 -- pieces in a row, as two rows
 pub each_link_split : (links : ℕ → ℕ → Type 0) (a : ℕ) (front back : List Piece) → EachLink links a (front ++ back) → EachLink links a front × EachLink links (a + size front) back

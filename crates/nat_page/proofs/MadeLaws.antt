@@ -3,23 +3,23 @@ use Rattle.std.proofs.Common.{◌≡◌, ℕ, ◌+◌, ◌-◌, ◌*◌, ◌<◌
 use Rattle.std.specs.Prelude.{◌≢◌, slice_index}
 use Rattle.std.proofs.lemmas.Bool.{cases_eq}
 use Rattle.std.proofs.lemmas.List.{length-append, get_or_append_left, get_or-append_right}
-use Rattle.flash_model.specs.Pages.{word_count, page_words, word_at, set_page}
+use Rattle.flash_words.specs.Pages.{word_count, page_words, word_at, set_page}
 use Rattle.list_parts.specs.Lists.{many}
-use Rattle.flash_model.specs.Layouts.{IsRight, image_of}
-use Rattle.flash_model.specs.declared.layout.Layout.{Layout}
-use Rattle.flash_model.proofs.PageLaws.{length-set_page, word_in_page, word_out_of_page, take-set_page}
+use Rattle.flash_words.specs.Layouts.{IsRight, image_of}
+use Rattle.flash_words.specs.declared.layout.Layout.{Layout}
+use Rattle.flash_words.proofs.PageLaws.{length-set_page, word_in_page, word_out_of_page, take-set_page}
 use Rattle.list_parts.proofs.ManyLaws.{get_or-many, length-many}
 use Rattle.nat_template.specs.Stubs.{words_of}
 use Rattle.page_index.specs.Maps.{IsPool, IsFree}
 use Rattle.page_index.specs.Entries.{Lists, IsEntry}
 use Rattle.page_index.proofs.MapLaws.{free_lists_nothing}
 use Rattle.page_index.proofs.ChangeLaws as change
-use Rattle.nat_page.specs.Runs.{address, IsRun}
-use Rattle.nat_page.specs.CodePages.{page_pieces, page_size, HoldsRun}
+use Rattle.page_draft.specs.Runs.{address, IsRun}
+use Rattle.page_draft.specs.CodePages.{page_pieces, page_size, HoldsRun, filled, made_words}
 use Rattle.nat_page.specs.Links.{IsLinkIn, IsUnresolved}
 use Rattle.nat_page.specs.Faithful.{IsRewritten, IsFaithful}
-use Rattle.nat_page.specs.Making.{HasNoEntry, filled, made_words, MakesPage}
-use Rattle.nat_page.proofs.PieceLaws.{stands_unresolved}
+use Rattle.nat_page.specs.Making.{HasNoEntry, MakesPage}
+use Rattle.page_draft.proofs.PieceLaws.{stands_unresolved}
 use Rattle.nat_page.proofs.HeldLaws.{lists_held, held_listed, map_held, IsHeld}
 use Rattle.nat_page.proofs.LinkLaws.{link_room}
 use Rattle.nat_page.proofs.StayLaws.{held_used, holds_alike}

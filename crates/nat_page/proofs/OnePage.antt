@@ -1,12 +1,12 @@
 -- The page that is made is determined: its run stops where it must, and nowhere before.
 use Rattle.std.proofs.Common.{◌≡◌, ℕ, suc, ◌+◌, ◌*◌, ◌<◌, ◌≤◌, List, arith, sym, ap, ◌∙◌, inl, inr}
 use Rattle.std.proofs.lemmas.Bool.{cases_order}
-use Rattle.flash_model.specs.Pages.{page_words}
-use Rattle.flash_model.specs.declared.layout.Layout.{Layout}
-use Rattle.nat_page.specs.Runs.{address, IsRun}
-use Rattle.nat_page.specs.CodePages.{page_size, place_in_page}
-use Rattle.nat_page.specs.Making.{HasNoEntry, made_words, Stops, IsPrepared}
-use Rattle.nat_page.proofs.RunLaws.{page_size-rises}
+use Rattle.flash_words.specs.Pages.{page_words}
+use Rattle.flash_words.specs.declared.layout.Layout.{Layout}
+use Rattle.page_draft.specs.Runs.{address, IsRun}
+use Rattle.page_draft.specs.CodePages.{page_size, place_in_page, made_words}
+use Rattle.nat_page.specs.Making.{HasNoEntry, Stops, IsPrepared}
+use Rattle.page_draft.proofs.RunLaws.{page_size-rises}
 
 -- a run that goes on behind an instruction doesn't stop there
 goes_on : (layout : Layout) (image words : List ℕ) (page t last further : ℕ) → IsRun image t further → ((i : ℕ) → i ≤ further → HasNoEntry layout words (address image t i)) → page_size image t further ≤ page_words → last < further → Stops layout image words page t last → ⊥

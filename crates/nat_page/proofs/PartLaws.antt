@@ -2,9 +2,9 @@
 use Rattle.std.proofs.Common.{◌≡◌, ℕ, ◌+◌, ◌-◌, ◌*◌, ◌/◌, ◌<◌, ◌≤◌, ◌⊎◌, List, [], ◌∷◌, length, arith, refl, sym, ap, ◌∙◌, inl, inr, subst}
 use Rattle.std.specs.Prelude.{◌≢◌}
 use Rattle.std.proofs.lemmas.Bool.{cases_eq}
-use Rattle.flash_model.specs.Pages.{page_words, word_at, word_count}
-use Rattle.flash_model.specs.Layouts.{IsRight}
-use Rattle.flash_model.specs.declared.layout.Layout.{Layout}
+use Rattle.flash_words.specs.Pages.{page_words, word_at, word_count}
+use Rattle.flash_words.specs.Layouts.{IsRight}
+use Rattle.flash_words.specs.declared.layout.Layout.{Layout}
 use Rattle.nat_template.specs.declared.piece.Piece.{Piece}
 use Rattle.nat_template.specs.declared.piece.Piece.TheVariants.{Fixed, Link}
 use Rattle.nat_template.specs.Stubs.{call_word, bridge_entry}
@@ -12,15 +12,15 @@ use Rattle.page_index.specs.Maps.{IsPool, IsFree}
 use Rattle.page_index.specs.Entries.{IsEntry}
 use Rattle.page_index.proofs.ChangeLaws as change
 use Rattle.page_index.proofs.MapLaws.{free_lists_nothing}
-use Rattle.nat_page.specs.Standing.{IsLink, Stands, StandsAt, jump_word}
-use Rattle.nat_page.specs.Runs.{address}
-use Rattle.nat_page.specs.CodePages.{page_pieces, HoldsRun, Anywhere}
+use Rattle.page_draft.specs.Standing.{IsLink, Stands, StandsAt, jump_word}
+use Rattle.page_draft.specs.Runs.{address}
+use Rattle.page_draft.specs.CodePages.{page_pieces, HoldsRun, Anywhere}
 use Rattle.nat_page.specs.Links.{IsLinkOf, IsLinkIn, IsUnresolved, EachLink, with_two_words}
 use Rattle.nat_page.specs.Faithful.{IsFaithful}
 use Rattle.nat_page.specs.Making.{MakesPage}
 use Rattle.nat_page.specs.Entered.{StandsIn}
 use Rattle.nat_page.specs.Parts.{IsByPage, EntersPart, IsLinkFrom, IsParted}
-use Rattle.nat_page.proofs.PieceLaws.{stands_split}
+use Rattle.page_draft.proofs.PieceLaws.{stands_split}
 use Rattle.nat_page.proofs.HeldLaws.{held_listed}
 use Rattle.nat_page.proofs.LinkLaws.{all_links, each_link_more, link_room}
 use Rattle.nat_page.proofs.StayLaws.{held_used, same_run, holds_alike}

@@ -3,15 +3,15 @@ use Rattle.std.proofs.Common.{◌≡◌, ℕ, suc, ◌+◌, ◌/◌, ◌%◌, �
 use Rattle.std.specs.Prelude.{slice_index_or, if◌then◌else◌}
 use Rattle.std.proofs.Math.Seq.{take-suc}
 use Rattle.std.proofs.lemmas.List.{take-append-drop}
-use Rattle.flash_model.specs.Pages.{page_words, page_of}
+use Rattle.flash_words.specs.Pages.{page_words, page_of}
 use Rattle.nat_template.specs.declared.piece.Piece.{Piece}
 use Rattle.nat_template.specs.declared.piece.Piece.TheVariants.{Link}
 use Rattle.nat_template.specs.Stubs.{call_word, bridge_entry}
 use Rattle.nat_page.specs.declared.unlinking.Unlinked.{Unlinked}
-use Rattle.nat_page.specs.Standing.{width, size}
+use Rattle.page_draft.specs.Standing.{width, size}
 use Rattle.nat_page.specs.Links.{with_two_words}
 use Rattle.nat_page.specs.Unlinking.{is_picked, links_where, with_calls, are_some, IsPatched}
-use Rattle.nat_page.proofs.PieceLaws.{size-cons, size-append}
+use Rattle.page_draft.proofs.PieceLaws.{size-cons, size-append}
 use Rattle.nat_page.proofs.UnlinkLaws.{page_of_two, length-with_calls, links_where-append, with_calls-append}
 
 -- the next piece of a row

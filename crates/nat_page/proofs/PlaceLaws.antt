@@ -1,8 +1,8 @@
 -- Between the places of two entries that follow in a page, and behind the last, no entry begins.
 use Rattle.std.proofs.Common.{◌≡◌, ℕ, suc, ◌+◌, ◌*◌, ◌/◌, ◌<◌, ◌≤◌, List, arith, ap, ◌∙◌, inl, inr, subst}
 use Rattle.std.proofs.lemmas.Bool.{cases_order}
-use Rattle.flash_model.specs.Pages.{page_words}
-use Rattle.flash_model.specs.declared.layout.Layout.{Layout}
+use Rattle.flash_words.specs.Pages.{page_words}
+use Rattle.flash_words.specs.declared.layout.Layout.{Layout}
 use Rattle.page_index.specs.Maps.{entry_count, place_of, IsMap}
 use Rattle.page_index.specs.Entries.{Lists, IsEntry, IsMapped}
 use Rattle.page_index.proofs.EntryLaws.{page_of_place}

@@ -1,17 +1,17 @@
 -- One link of a page is resolved, or leads to the kernel's bridge again: its two first words are exchanged.
 -- The page holds its run, and all that makes the pool faithful stays.
 use Rattle.std.proofs.Common.{◌≡◌, ℕ, ◌+◌, ◌*◌, ◌/◌, ◌%◌, ◌<◌, ◌≤◌, List, ◌∷◌, ◌++◌, length, arith, sym, ap, ◌∙◌, subst}
-use Rattle.flash_model.specs.Pages.{word_count, page_words, word_at, page_of, set_page}
-use Rattle.flash_model.specs.Layouts.{IsRight, image_of}
-use Rattle.flash_model.specs.declared.layout.Layout.{Layout}
+use Rattle.flash_words.specs.Pages.{word_count, page_words, word_at, page_of, set_page}
+use Rattle.flash_words.specs.Layouts.{IsRight, image_of}
+use Rattle.flash_words.specs.declared.layout.Layout.{Layout}
 use Rattle.nat_template.specs.declared.piece.Piece.{Piece}
 use Rattle.nat_template.specs.declared.piece.Piece.TheVariants.{Link}
 use Rattle.page_index.specs.Entries.{IsEntry}
-use Rattle.nat_page.specs.Standing.{IsLink, Stands, size}
-use Rattle.nat_page.specs.CodePages.{page_pieces, page_size, HoldsRun}
+use Rattle.page_draft.specs.Standing.{IsLink, Stands, size}
+use Rattle.page_draft.specs.CodePages.{page_pieces, page_size, HoldsRun}
 use Rattle.nat_page.specs.Links.{IsLinkOf, IsLinkIn, with_two_words}
 use Rattle.nat_page.specs.Faithful.{IsFaithful}
-use Rattle.nat_page.proofs.PieceLaws.{size-append, size-cons, stands_split, stands_join, stands_same}
+use Rattle.page_draft.proofs.PieceLaws.{size-append, size-cons, stands_split, stands_join, stands_same}
 use Rattle.nat_page.proofs.LinkLaws.{link_room}
 use Rattle.nat_page.proofs.TwoWords.{length-with_two_words, first_of_two, second_of_two, word_beside_two, two_in_page}
 use Rattle.nat_page.proofs.KeptLaws.{KeepsRun, kept_entries, kept_entries_back, kept_holds, kept_image, kept_faithful}

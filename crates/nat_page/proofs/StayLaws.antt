@@ -1,11 +1,11 @@
 -- A page that holds a run, where flash changes: its run is determined, and stays where its words stay.
 use Rattle.std.proofs.Common.{◌≡◌, ℕ, ◌*◌, ◌/◌, ◌<◌, ◌≤◌, List, length, arith, refl, sym, ◌∙◌}
-use Rattle.flash_model.specs.Pages.{page_words}
+use Rattle.flash_words.specs.Pages.{page_words}
 use Rattle.page_index.specs.Maps.{IsFree, page_word}
 use Rattle.page_index.proofs.MapLaws.{free_word}
 use Rattle.page_index.proofs.ChangeLaws.{SamePage}
-use Rattle.nat_page.specs.CodePages.{page_pieces, HoldsRun}
-use Rattle.nat_page.proofs.PieceLaws.{stands_same}
+use Rattle.page_draft.specs.CodePages.{page_pieces, HoldsRun}
+use Rattle.page_draft.proofs.PieceLaws.{stands_same}
 use Rattle.nat_page.proofs.HeldLaws.{original_held, count_held, address_held}
 
 -- a page that holds a run isn't free

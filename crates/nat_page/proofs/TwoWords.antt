@@ -4,8 +4,8 @@ use Rattle.std.specs.Prelude.{◌≢◌, slice_index}
 use Rattle.std.proofs.lemmas.Bool.{cases_eq, cases_lt}
 use Rattle.std.proofs.lemmas.List.{length-set, get_or-set_same, get_or-set_other}
 use Rattle.std.proofs.lemmas.Grind.{same_number_lists}
-use Rattle.flash_model.specs.Pages.{page_words, word_at, page_of, set_page}
-use Rattle.flash_model.proofs.PageLaws.{length-set_page, word_in_page, word_out_of_page, page_word, length-page_of}
+use Rattle.flash_words.specs.Pages.{page_words, word_at, page_of, set_page}
+use Rattle.flash_words.proofs.PageLaws.{length-set_page, word_in_page, word_out_of_page, page_word, length-page_of}
 use Rattle.nat_page.specs.Links.{with_two_words}
 
 pub length-with_two_words : (words : List ℕ) (s first second : ℕ) → length (with_two_words words s first second) ≡ length words

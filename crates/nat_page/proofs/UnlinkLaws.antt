@@ -5,19 +5,19 @@ use Rattle.std.specs.Prelude.{◌≢◌, ◌==◌, ◌&&◌, if◌then◌else◌
 use Rattle.std.proofs.lemmas.Bool.{cases_lt, cases_eq}
 use Rattle.std.proofs.lemmas.Bool.Decides.{nat_tests}
 use Rattle.std.proofs.lemmas.Grind.{same_number_lists}
-use Rattle.flash_model.specs.Pages.{word_count, page_words, word_at, page_of, set_page}
-use Rattle.flash_model.specs.declared.layout.Layout.{Layout}
-use Rattle.flash_model.proofs.PageLaws.{length-set_page, word_in_page, word_out_of_page, page_word, length-page_of, page_same}
+use Rattle.flash_words.specs.Pages.{word_count, page_words, word_at, page_of, set_page}
+use Rattle.flash_words.specs.declared.layout.Layout.{Layout}
+use Rattle.flash_words.proofs.PageLaws.{length-set_page, word_in_page, word_out_of_page, page_word, length-page_of, page_same}
 use Rattle.nat_template.specs.declared.piece.Piece.{Piece}
 use Rattle.nat_template.specs.declared.piece.Piece.TheVariants.{Fixed, Link}
 use Rattle.nat_template.specs.Stubs.{call_word, bridge_entry}
 use Rattle.page_index.specs.Entries.{IsEntry}
 use Rattle.page_index.proofs.ChangeLaws.{SamePage}
-use Rattle.nat_page.specs.Standing.{IsLink, StandsAt, Stands, size, jump_word}
-use Rattle.nat_page.specs.CodePages.{page_pieces, HoldsRun}
+use Rattle.page_draft.specs.Standing.{IsLink, StandsAt, Stands, size, jump_word}
+use Rattle.page_draft.specs.CodePages.{page_pieces, HoldsRun}
 use Rattle.nat_page.specs.Links.{with_two_words}
 use Rattle.nat_page.specs.Unlinking.{is_picked, links_where, with_calls}
-use Rattle.nat_page.proofs.PieceLaws.{size-cons, stands_same}
+use Rattle.page_draft.proofs.PieceLaws.{size-cons, stands_same}
 use Rattle.nat_page.proofs.TwoWords.{length-with_two_words, first_of_two, second_of_two, word_beside_two, two_in_page}
 use Rattle.nat_page.proofs.KeptLaws.{KeepsRun}
 

@@ -4,14 +4,14 @@ use Rattle.std.proofs.Common.{◌≡◌, ℕ, zero, suc, ◌+◌, ◌<◌, ◌�
 use Rattle.std.specs.Prelude.{◌≢◌, if◌then◌else◌}
 use Rattle.std.proofs.lemmas.Bool.{cases_eq}
 use Rattle.std.proofs.lemmas.Bool.Decides.{nat_tests}
-use Rattle.flash_model.specs.Layouts.{IsRight}
-use Rattle.flash_model.specs.declared.layout.Layout.{Layout}
+use Rattle.flash_words.specs.Layouts.{IsRight}
+use Rattle.flash_words.specs.declared.layout.Layout.{Layout}
 use Rattle.page_index.specs.Maps.{IsPool, IsFree, IsMap, original_page}
 use Rattle.page_index.specs.Entries.{IsEntry, IsMapped}
 use Rattle.page_index.proofs.MapLaws.{free_word}
 use Rattle.page_index.proofs.ChangeLaws.{SamePage}
-use Rattle.nat_page.specs.Standing.{IsLink}
-use Rattle.nat_page.specs.CodePages.{HoldsRun}
+use Rattle.page_draft.specs.Standing.{IsLink}
+use Rattle.page_draft.specs.CodePages.{HoldsRun}
 use Rattle.nat_page.specs.Links.{IsLinkIn, with_two_words}
 use Rattle.nat_page.specs.Used.{is_used, used_among, used_pages}
 use Rattle.nat_page.specs.Faithful.{IsFaithful}

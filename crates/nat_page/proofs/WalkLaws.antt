@@ -2,17 +2,17 @@
 use Rattle.std.proofs.Common.{◌≡◌, ℕ, ◌+◌, ◌-◌, ◌*◌, ◌<◌, ◌≤◌, Bool, true, false, List, [], ◌∷◌, arith, refl, sym, ap, subst}
 use Rattle.std.specs.Prelude.{if◌then◌else◌, Option, Some, None, MatchOption}
 use Rattle.arrayvec.specs.ArrayVec.{ArrayVec}
-use Rattle.flash_model.specs.Pages.{page_words}
-use Rattle.flash_model.specs.declared.layout.Layout.{Layout}
+use Rattle.flash_words.specs.Pages.{page_words}
+use Rattle.flash_words.specs.declared.layout.Layout.{Layout}
 use Rattle.nat_template.specs.declared.piece.Piece.{Piece}
 use Rattle.nat_template.specs.declared.piece.Piece.TheVariants.{Fixed, Link}
 use Rattle.page_index.specs.Maps.{address_of, entry_count}
 use Rattle.page_index.specs.Entries.{IsEntry}
-use Rattle.nat_page.specs.Standing.{size}
-use Rattle.nat_page.specs.CodePages.{page_pieces, HoldsRun, Anywhere, IsCodePage, IsPage}
+use Rattle.page_draft.specs.Standing.{size}
+use Rattle.page_draft.specs.CodePages.{page_pieces, HoldsRun, Anywhere, IsCodePage, IsPage}
 use Rattle.nat_page.specs.Faithful.{IsRewritten}
 use Rattle.nat_page.specs.Unlinking.{leads_into, is_picked, links_where, stubs_into, are_some}
-use Rattle.nat_page.proofs.PieceLaws.{size-cons}
+use Rattle.page_draft.proofs.PieceLaws.{size-cons}
 use Rattle.nat_page.proofs.HeldLaws.{address_held, count_held, place_range}
 use Rattle.nat_page.proofs.StayLaws.{holds_more}
 

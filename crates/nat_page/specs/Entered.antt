@@ -2,12 +2,12 @@
 -- page's closing (docs/LOADER.md).
 use Rattle.std.specs.Prelude.{◌≡◌, ℕ, ◌+◌, ◌*◌, ◌/◌, ◌%◌, ◌<◌, ◌≤◌, false, List, length}
 use Rattle.avr_isa.specs.Crossing.{is_crossing}
-use Rattle.flash_model.specs.Pages.{page_words}
-use Rattle.flash_model.specs.declared.layout.Layout.{Layout}
+use Rattle.flash_words.specs.Pages.{page_words}
+use Rattle.flash_words.specs.declared.layout.Layout.{Layout}
 use Rattle.page_index.specs.Maps.{IsPool}
 use Rattle.page_index.specs.Entries.{IsEntry}
-use Rattle.nat_page.specs.Standing.{Stands, size}
-use Rattle.nat_page.specs.Runs.{next_of, template_at, closing_at}
+use Rattle.page_draft.specs.Standing.{Stands, size}
+use Rattle.page_draft.specs.Runs.{next_of, template_at, closing_at}
 use Rattle.nat_page.specs.Links.{EachLink}
 
 -- v is the place of an entry

@@ -1,12 +1,12 @@
 -- When a code pool is faithful to the image: all that it holds is rewritten code of the image.
 use Rattle.std.specs.Prelude.{◌≡◌, ℕ, ◌*◌, ◌<◌, ◌≤◌, ◌⊎◌, List, length}
-use Rattle.flash_model.specs.Pages.{word_count, page_words, word_at}
-use Rattle.flash_model.specs.Memory.{kernel_first}
-use Rattle.flash_model.specs.declared.layout.Layout.{Layout}
-use Rattle.flash_model.specs.Layouts.{image_of}
+use Rattle.flash_words.specs.Pages.{word_count, page_words, word_at}
+use Rattle.flash_words.specs.Memory.{kernel_first}
+use Rattle.flash_words.specs.declared.layout.Layout.{Layout}
+use Rattle.flash_words.specs.Layouts.{image_of}
 use Rattle.page_index.specs.Maps.{IsPool, IsFree}
 use Rattle.page_index.specs.Entries.{Lists, IsEntry}
-use Rattle.nat_page.specs.CodePages.{HoldsRun}
+use Rattle.page_draft.specs.CodePages.{HoldsRun}
 
 -- the page holds the run from some address, and its resolved links lead to entries
 pub record IsRewritten (layout : Layout) (image words : List ℕ) (page : ℕ) : Type 0 where

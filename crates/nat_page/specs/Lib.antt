@@ -1,7 +1,4 @@
--- What a page of rewritten code holds, when a pool is faithful to its image, and what making a page leaves.
-pub mod Standing
-pub mod Runs
-pub mod CodePages
+-- When a pool is faithful to its image, what making a page leaves, and which links call the kernel's bridge again.
 pub mod Links
 pub mod Entered
 pub mod Parts
@@ -9,5 +6,4 @@ pub mod Faithful
 pub mod Making
 pub mod Used
 pub mod Drafts
-pub mod Remaking
 pub mod Unlinking

@@ -1,15 +1,15 @@
 -- Links: where rewritten code leads to an original address (docs/LOADER.md). Of a page that stays, the first
 -- two words of its links are all that changes.
 use Rattle.std.specs.Prelude.{◌≡◌, ℕ, ◌+◌, ◌*◌, List, [], ◌∷◌, ◌++◌, slice_set}
-use Rattle.flash_model.specs.Pages.{page_words, word_at}
-use Rattle.flash_model.specs.declared.layout.Layout.{Layout}
+use Rattle.flash_words.specs.Pages.{page_words, word_at}
+use Rattle.flash_words.specs.declared.layout.Layout.{Layout}
 use Rattle.nat_template.specs.declared.piece.Piece.{Piece}
 use Rattle.nat_template.specs.declared.piece.Piece.TheVariants.{Fixed, Link}
 use Rattle.nat_template.specs.Stubs.{call_word, bridge_entry}
 use Rattle.page_index.specs.Maps.{IsPool}
 use Rattle.page_index.specs.Entries.{IsEntry}
-use Rattle.nat_page.specs.Standing.{size}
-use Rattle.nat_page.specs.CodePages.{page_pieces, HoldsRun}
+use Rattle.page_draft.specs.Standing.{size}
+use Rattle.page_draft.specs.CodePages.{page_pieces, HoldsRun}
 
 -- of pieces in a row, the first at the word address `base`, one at s is a link to t
 pub record IsLinkOf (pieces : List Piece) (base s t : ℕ) : Type 0 where

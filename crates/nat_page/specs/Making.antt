@@ -1,16 +1,14 @@
 -- Making a page: a page that is free gets the run from an address, as far as it goes (docs/LOADER.md).
-use Rattle.std.specs.Prelude.{◌≡◌, ◌≢◌, ℕ, suc, ◌+◌, ◌-◌, ◌*◌, ◌/◌, ◌<◌, ◌≤◌, true, List, ◌++◌, length}
-use Rattle.flash_model.specs.Pages.{page_words, set_page}
-use Rattle.list_parts.specs.Lists.{many}
-use Rattle.flash_model.specs.Memory.{Memory}
-use Rattle.flash_model.specs.Operations.{programmed_page}
-use Rattle.flash_model.specs.Layouts.{image_of}
-use Rattle.flash_model.specs.declared.layout.Layout.{Layout}
+use Rattle.std.specs.Prelude.{◌≡◌, ◌≢◌, ℕ, suc, ◌+◌, ◌*◌, ◌/◌, ◌<◌, ◌≤◌, true, List, length}
+use Rattle.flash_words.specs.Pages.{page_words, set_page}
+use Rattle.flash_words.specs.Memory.{Memory}
+use Rattle.flash_words.specs.Operations.{programmed_page}
+use Rattle.flash_words.specs.Layouts.{image_of}
+use Rattle.flash_words.specs.declared.layout.Layout.{Layout}
 use Rattle.page_index.specs.Maps.{IsPool, IsFree}
 use Rattle.page_index.specs.Entries.{Lists, IsEntry}
-use Rattle.nat_template.specs.Stubs.{words_of}
-use Rattle.nat_page.specs.Runs.{address, ends_at, IsRun}
-use Rattle.nat_page.specs.CodePages.{page_pieces, page_size, place_in_page}
+use Rattle.page_draft.specs.Runs.{address, ends_at, IsRun}
+use Rattle.page_draft.specs.CodePages.{page_size, place_in_page, made_words}
 
 -- no page of the pool has an entry of t
 abbrev pub HasNoEntry : Layout → List ℕ → ℕ → Type 0
@@ -25,14 +23,6 @@ pub record IsLowestFree (layout : Layout) (words : List ℕ) (page : ℕ) : Type
 -- no page of the pool is free
 abbrev pub HasNoFree : Layout → List ℕ → Type 0
 HasNoFree layout words = (page : ℕ) → IsPool layout page → ¬ IsFree words page
-
--- the 128 words of a page with these, and erased words behind them
-abbrev pub filled : List ℕ → List ℕ
-filled front = front ++ many (page_words - length front) 0xFFFF
-
--- the words of the page that is made of the run from t to its last instruction
-abbrev pub made_words : List ℕ → (t last : ℕ) → List ℕ
-made_words image t last = filled (words_of (page_pieces image t last))
 
 -- Why the run from t in this page stops behind its last instruction: that is a transfer without return;
 -- the next address is in another original page, or outside the image; another page of the pool has its

@@ -1,10 +1,10 @@
 -- Code of several programs in one pool: a page is of the part of the image that its run is in, and its resolved links lead
 -- into that part (docs/LOADER.md, "Parts").
 use Rattle.std.specs.Prelude.{◌≡◌, ℕ, ◌/◌, List}
-use Rattle.flash_model.specs.Pages.{page_words, word_at}
-use Rattle.flash_model.specs.declared.layout.Layout.{Layout}
+use Rattle.flash_words.specs.Pages.{page_words, word_at}
+use Rattle.flash_words.specs.declared.layout.Layout.{Layout}
 use Rattle.page_index.specs.Entries.{IsEntry}
-use Rattle.nat_page.specs.Standing.{jump_word}
+use Rattle.page_draft.specs.Standing.{jump_word}
 use Rattle.nat_page.specs.Links.{IsLinkIn}
 
 -- A number for the part of each address. No original page of 128 words is in two parts.

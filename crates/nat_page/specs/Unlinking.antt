@@ -1,14 +1,14 @@
 -- Links of a page that are resolved, and call the kernel's bridge again: those that a test picks (docs/LOADER.md,
 -- "Recycling").
 use Rattle.std.specs.Prelude.{◌≡◌, ◌≢◌, ℕ, ◌+◌, ◌-◌, ◌*◌, ◌/◌, ◌==◌, ◌&&◌, Bool, true, false, if◌then◌else◌, List, [], ◌∷◌}
-use Rattle.flash_model.specs.Pages.{page_words, word_at, page_of}
+use Rattle.flash_words.specs.Pages.{page_words, word_at, page_of}
 use Rattle.nat_template.specs.declared.piece.Piece.{Piece}
 use Rattle.nat_template.specs.declared.piece.Piece.TheVariants.{Fixed, Link}
 use Rattle.nat_template.specs.Stubs.{call_word, bridge_entry}
 use Rattle.page_index.specs.Maps.{address_of, entry_count}
 use Rattle.nat_page.specs.declared.unlinking.Unlinked.{Unlinked}
-use Rattle.nat_page.specs.Standing.{jump_word}
-use Rattle.nat_page.specs.CodePages.{page_pieces}
+use Rattle.page_draft.specs.Standing.{jump_word}
+use Rattle.page_draft.specs.CodePages.{page_pieces}
 use Rattle.nat_page.specs.Links.{with_two_words}
 
 -- whether links that are resolved, to an address and with a place, are picked: those that lead into this page

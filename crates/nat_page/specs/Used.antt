@@ -1,6 +1,6 @@
 -- How many pages of the pool are used.
 use Rattle.std.specs.Prelude.{ℕ, zero, suc, ◌+◌, ◌==◌, Bool, not, if◌then◌else◌, List}
-use Rattle.flash_model.specs.declared.layout.Layout.{Layout}
+use Rattle.flash_words.specs.declared.layout.Layout.{Layout}
 use Rattle.page_index.specs.Maps.{original_page}
 
 -- Word 0 of a page that is used is the number of its original page, and in one that is free it is erased.

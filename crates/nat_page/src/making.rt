@@ -1,8 +1,8 @@
 //! Making a page.
 
 ghost use Rattle.std.specs.Prelude.{◌≡◌, ℕ, List, ◌+◌, ◌*◌, ◌/◌, ◌<◌, ◌^◌, true, false, IfOk, IfErr, OnOk, OnErr};
-ghost use Rattle.flash_model.specs.Layouts.{IsRight, image_of};
-ghost use Rattle.flash_model.specs.Operations.{next_op, fails, left_by_refusal};
+ghost use Rattle.flash_words.specs.Layouts.{IsRight, image_of};
+ghost use Rattle.flash_words.specs.Operations.{next_op, fails, left_by_refusal};
 ghost use Rattle.page_index.specs.Maps.{IsPool, IsFree};
 ghost use Rattle.nat_page.specs.declared.making.NatStop.TheVariants as stops;
 ghost use Rattle.page_index.specs.Entries.{IsEntry, AreKnown};
@@ -11,9 +11,9 @@ ghost use Rattle.nat_page.specs.Links.{IsUnresolved};
 ghost use Rattle.nat_page.specs.Used.{used_pages};
 ghost use Rattle.nat_page.specs.Making.{HasNoEntry, IsPrepared, NaturalisesIn};
 
-use crate::draft::draft_of;
-use crate::pieces::page_with;
+use crate::drafting::draft_of;
 use flash_model::{Flash, Layout, PAGE_WORDS};
+use page_draft::page_with;
 use page_index::known_offsets;
 
 /// Why no page was made.

@@ -1,21 +1,20 @@
 //! The links of one page that call the kernel's bridge again.
 
 ghost use Rattle.std.specs.Prelude.{◌≡◌, ◌+◌, ◌*◌, ◌/◌, ◌%◌, ◌<◌, ◌≤◌, [], true, false, length};
-ghost use Rattle.flash_model.specs.Pages.{page_of};
-ghost use Rattle.flash_model.specs.Layouts.{IsRight, image_of};
-ghost use Rattle.flash_model.specs.Memory.{IsWhole};
+ghost use Rattle.flash_words.specs.Pages.{page_of};
+ghost use Rattle.flash_words.specs.Layouts.{IsRight, image_of};
+ghost use Rattle.flash_words.specs.Memory.{IsWhole};
 ghost use Rattle.nat_template.specs.Stubs.{call_word, bridge_entry};
 ghost use Rattle.page_index.specs.Maps.{IsPool};
-ghost use Rattle.nat_page.specs.Standing.{size};
-ghost use Rattle.nat_page.specs.CodePages.{IsCodePage};
+ghost use Rattle.page_draft.specs.Standing.{size};
+ghost use Rattle.page_draft.specs.CodePages.{IsCodePage};
 ghost use Rattle.nat_page.specs.Links.{with_two_words};
 ghost use Rattle.nat_page.specs.Unlinking.{leads_into, is_picked, links_where, with_calls, stubs_where, stubs_into, are_some, IsPatched};
 
-use crate::pieces::CALL_BRIDGE;
-use crate::remaking::remade;
-use crate::words::FlashImage;
+use crate::image::FlashImage;
 use flash_model::{Flash, Layout, PAGE_WORDS};
 use nat_template::Piece;
+use page_draft::{CALL_BRIDGE, remade};
 
 /// JMP, the first of its two words.
 const JMP: u16 = 0x940C;

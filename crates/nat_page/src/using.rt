@@ -1,8 +1,8 @@
 //! How many pages of the pool are used.
 
 ghost use Rattle.std.specs.Prelude.{◌≡◌};
-ghost use Rattle.flash_model.specs.Layouts.{IsRight};
-ghost use Rattle.flash_model.specs.Memory.{IsWhole};
+ghost use Rattle.flash_words.specs.Layouts.{IsRight};
+ghost use Rattle.flash_words.specs.Memory.{IsWhole};
 ghost use Rattle.nat_page.specs.Used.{used_pages};
 
 use flash_model::{BLANK, Flash, Layout, PAGE_WORDS};

@@ -3,7 +3,7 @@ use Rattle.std.specs.Prelude.{ℕ, ◌==◌, ◌&&◌, ◌||◌, Bool, if◌then
 use Rattle.avr_isa.specs.declared.form.Form.{Form}
 use Rattle.avr_isa.specs.declared.form.Form.TheVariants as forms
 use Rattle.avr_isa.specs.IoTable.{can_read, can_write, io_address}
-use Rattle.avr_exec.specs.Registers.{relative}
+use Rattle.avr_isa.specs.Addresses.{relative}
 use Rattle.nat_template.specs.declared.shapes.TemplateShape.{TemplateShape}
 use Rattle.nat_template.specs.declared.shapes.TemplateShape.TheVariants.{Native, Mem, Jump, Branch, Skip, Call, Ret, Ind, SelfJump, Fault}
 

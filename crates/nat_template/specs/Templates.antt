@@ -4,7 +4,7 @@ use Rattle.avr_isa.specs.declared.form.Form.{Form}
 use Rattle.avr_isa.specs.declared.form.Form.TheVariants as forms
 use Rattle.avr_isa.specs.declared.operation.Base.TheVariants.{Y}
 use Rattle.avr_isa.specs.Encoding.{first_word}
-use Rattle.avr_exec.specs.Registers.{wrapping_sum, relative}
+use Rattle.avr_isa.specs.Addresses.{wrapping_sum, relative}
 use Rattle.nat_template.specs.declared.shapes.TemplateShape.{TemplateShape}
 use Rattle.nat_template.specs.declared.shapes.TemplateShape.TheVariants.{Native, Mem, Jump, Branch, Skip, Call, Ret, Ind, SelfJump, Fault}
 use Rattle.nat_template.specs.declared.piece.Piece.{Piece}

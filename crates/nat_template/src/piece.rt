@@ -7,7 +7,7 @@ use crate::entries::BRIDGE;
 use arrayvec::ArrayVec;
 
 /// What a template is made of.
-#[derive(Clone, Copy, Debug, PartialEq, Eq)]
+#[derive(Clone, Copy)]
 pub enum Piece {
     /// One word.
     Fixed(u16),

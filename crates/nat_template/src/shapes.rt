@@ -5,11 +5,10 @@ ghost use Rattle.nat_template.specs.declared.shapes.TemplateShape.TheVariants as
 ghost use Rattle.nat_template.specs.Shapes.{can_modify as can_modify_test, if_allowed as if_allowed_of, is_stack_pointer as is_stack_pointer_test, jump_shape as jump_shape_of, shape_of, shape_of_form};
 ghost use Rattle.avr_isa.specs.IoTable.{can_read as can_read_test, can_write as can_write_test, io_address};
 
-use avr_exec::relative;
-use avr_isa::{Form, Instr, IoAddr, io_access};
+use avr_isa::{Form, Instr, IoAddr, io_access, relative};
 
 /// How an instruction is rewritten.
-#[derive(Clone, Copy, Debug, PartialEq, Eq)]
+#[derive(Clone, Copy, PartialEq, Eq)]
 pub enum TemplateShape {
     /// It stands in the page as it is.
     Native,

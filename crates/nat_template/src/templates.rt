@@ -3,7 +3,6 @@ ghost use Rattle.std.specs.Prelude.{◌≡◌, ℕ, ◌≤◌, ◌++◌, ◌∷�
 ghost use Rattle.std.specs.Option.{option_map};
 ghost use Rattle.arrayvec.specs.ArrayVec.{array_vec_len};
 ghost use Rattle.avr_decode.specs.Decoding.{the_form};
-ghost use Rattle.avr_exec.specs.Registers.{relative as relative_of};
 ghost use Rattle.nat_template.specs.Stubs.{mem_entry, service as service_of, stub as stub_of, words_of};
 ghost use Rattle.nat_template.specs.Templates.{is_z as is_z_test, jump_over, mem_pieces, short_branch as short_branch_of, target_of, template_by, template_of, with_pc as with_pc_of};
 
@@ -14,8 +13,7 @@ use crate::shapes::{TemplateShape, shape};
 use crate::stubs::{service, stub, stub_size};
 use arrayvec::ArrayVec;
 use avr_decode::decode;
-use avr_exec::relative;
-use avr_isa::{Base, Form, Instr, Reg};
+use avr_isa::{Base, Form, Instr, Reg, relative};
 
 /// The words of the template: what stands in a new page in the place of the instruction at the pc.
 ///
@@ -88,11 +86,21 @@ fn mem_size(instr: Option<&Instr>) -> u16
     ensures size { (pc : ℕ) → result ≡ length (words_of (mem_pieces pc (option_map (λ borrowed. borrowed.now) instr.entry))) }
     ensures bounds { (1 ≤ result) × (result ≤ 39) }
 {
-    match instr.map(Instr::form) {
-        Some(Form::Push(r) | Form::Pop(r)) if !is_z(*r) => 39,
-        Some(Form::LoadOff(r, Base::Y, _) | Form::StoreOff(Base::Y, _, r)) if !is_z(*r) => 32,
-        _ => 3,
+    match instr {
+        Some(instr) => match instr.form() {
+            Form::Push(r) | Form::Pop(r) => inline_size(*r, 39),
+            Form::LoadOff(r, Base::Y, _) | Form::StoreOff(Base::Y, _, r) => inline_size(*r, 32),
+            _ => 3,
+        },
+        None => 3,
     }
+}
+
+/// How many words an inline template has, where it may stand; else those of a call of MEM.
+fn inline_size(register: Reg, words: u16) -> u16
+    ensures size { result ≡ if is_z_test register then 3 else words }
+{
+    if is_z(register) { 3 } else { words }
 }
 
 /// What reaches data memory.
@@ -100,12 +108,15 @@ fn mem_size(instr: Option<&Instr>) -> u16
 fn mem(pc: u16, instr: Option<&Instr>) -> ArrayVec<Piece, 40>
     ensures pieces { result.items ≡ mem_pieces pc (option_map (λ borrowed. borrowed.now) instr.entry) }
 {
-    match instr.map(Instr::form) {
-        Some(Form::Push(r)) => inline_or_mem(*r, &push_words(*r), pc),
-        Some(Form::Pop(d)) => inline_or_mem(*d, &pop_words(*d), pc),
-        Some(Form::LoadOff(d, Base::Y, q)) => inline_or_mem(*d, &load_words(*d, *q), pc),
-        Some(Form::StoreOff(Base::Y, q, r)) => inline_or_mem(*r, &store_words(*q, *r), pc),
-        _ => call_of(MEM, pc),
+    match instr {
+        Some(instr) => match instr.form() {
+            Form::Push(r) => inline_or_mem(*r, &push_words(*r), pc),
+            Form::Pop(d) => inline_or_mem(*d, &pop_words(*d), pc),
+            Form::LoadOff(d, Base::Y, q) => inline_or_mem(*d, &load_words(*d, *q), pc),
+            Form::StoreOff(Base::Y, q, r) => inline_or_mem(*r, &store_words(*q, *r), pc),
+            _ => call_of(MEM, pc),
+        },
+        None => call_of(MEM, pc),
     }
 }
 
@@ -145,11 +156,14 @@ fn with_pc(words: &[u16], pc: u16) -> ArrayVec<Piece, 40>
 fn target(pc: u16, instr: Option<&Instr>) -> u16
     ensures target { result ≡ target_of pc (option_map (λ borrowed. borrowed.now) instr.entry) }
 {
-    match instr.map(Instr::form) {
-        Some(Form::Brbs(_, k) | Form::Brbc(_, k)) => relative(pc, k.get()),
-        Some(Form::Rjmp(k) | Form::Rcall(k)) => relative(pc, k.get()),
-        Some(Form::Jmp(a) | Form::Call(a)) => *a,
-        _ => pc,
+    match instr {
+        Some(instr) => match instr.form() {
+            Form::Brbs(_, k) | Form::Brbc(_, k) => relative(pc, k.get()),
+            Form::Rjmp(k) | Form::Rcall(k) => relative(pc, k.get()),
+            Form::Jmp(a) | Form::Call(a) => *a,
+            _ => pc,
+        },
+        None => pc,
     }
 }
 
@@ -197,9 +211,12 @@ fn passed_over(word: u16, from: u16, to: u16) -> ArrayVec<Piece, 40>
 fn short_branch(instr: Option<&Instr>) -> u16
     ensures word { result ≡ short_branch_of (option_map (λ borrowed. borrowed.now) instr.entry) }
 {
-    match instr.map(Instr::form) {
-        Some(Form::Brbs(s, _)) => 0xF008 + u16::from(s.get()),
-        Some(Form::Brbc(s, _)) => 0xF408 + u16::from(s.get()),
-        _ => 0,
+    match instr {
+        Some(instr) => match instr.form() {
+            Form::Brbs(s, _) => 0xF008 + u16::from(s.get()),
+            Form::Brbc(s, _) => 0xF408 + u16::from(s.get()),
+            _ => 0,
+        },
+        None => 0,
     }
 }

@@ -3,12 +3,12 @@
 use Rattle.std.proofs.Common.{◌≡◌, ℕ, ◌+◌, ◌*◌, ◌/◌, ◌%◌, ◌<◌, ◌≤◌, List, length, arith, sym, ap, ap₂, subst, ◌∙◌, inl, inr}
 use Rattle.std.specs.Prelude.{◌≢◌}
 use Rattle.std.proofs.lemmas.Bool.{cases_eq, cases_lt}
-use Rattle.flash_model.specs.Pages.{word_count, page_words, set_page}
-use Rattle.flash_model.specs.Layouts.{IsRight}
-use Rattle.flash_model.specs.Memory.{loaded}
-use Rattle.flash_model.specs.declared.layout.Layout.{Layout}
-use Rattle.flash_model.proofs.PageLaws as pages
-use Rattle.flash_model.proofs.LoadedLaws.{loaded_page}
+use Rattle.flash_words.specs.Pages.{word_count, page_words, set_page}
+use Rattle.flash_words.specs.Layouts.{IsRight}
+use Rattle.flash_words.specs.Memory.{loaded}
+use Rattle.flash_words.specs.declared.layout.Layout.{Layout}
+use Rattle.flash_words.proofs.PageLaws as pages
+use Rattle.flash_words.proofs.LoadedLaws.{loaded_page}
 use Rattle.page_index.specs.Maps.{IsPool, page_word, entry_count, address_of, place_of, IsFree, IsMap}
 use Rattle.page_index.specs.Entries.{Lists, IsEntry, IsMapped}
 use Rattle.page_index.proofs.MapLaws.{map_bound, free_lists_nothing, same_address}

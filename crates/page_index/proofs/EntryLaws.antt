@@ -1,7 +1,7 @@
 -- An address has one place and a place one address, and what a pool that stays mapped needs.
 use Rattle.std.proofs.Common.{◌≡◌, ℕ, ◌/◌, List, sym, ap₂, subst, ◌∙◌}
-use Rattle.flash_model.specs.Pages.{page_words}
-use Rattle.flash_model.specs.declared.layout.Layout.{Layout}
+use Rattle.flash_words.specs.Pages.{page_words}
+use Rattle.flash_words.specs.declared.layout.Layout.{Layout}
 use Rattle.page_index.specs.Maps.{address_of, place_of}
 use Rattle.page_index.specs.Entries.{Lists, IsEntry, IsMapped}
 use Rattle.page_index.proofs.MapLaws.{map_of_entry, entry_words, same_place}

@@ -1,8 +1,8 @@
 -- What a page lists, by its first word.
 use Rattle.std.proofs.Common.{◌≡◌, ℕ, ◌+◌, ◌*◌, ◌/◌, ◌<◌, ◌⊎◌, List, arith, ap, ◌∙◌}
 use Rattle.std.specs.Prelude.{◌≢◌}
-use Rattle.flash_model.specs.Pages.{word_at}
-use Rattle.flash_model.specs.Heads.{head}
+use Rattle.flash_words.specs.Pages.{word_at}
+use Rattle.flash_words.specs.Heads.{head}
 use Rattle.page_index.specs.Maps.{IsFree, IsMap, original_page}
 use Rattle.page_index.specs.Entries.{Lists}
 use Rattle.page_index.proofs.MapLaws.{free_word, map_of_entry, entry_words}

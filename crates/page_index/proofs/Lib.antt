@@ -1,6 +1,5 @@
 pub mod MapLaws
 pub mod EntryLaws
 pub mod ChangeLaws
-mod CursorLaws
 mod KnownLaws
 mod HeadLaws

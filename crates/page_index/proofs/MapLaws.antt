@@ -2,8 +2,8 @@
 use Rattle.std.proofs.Common.{◌≡◌, ℕ, zero, suc, ◌+◌, ◌/◌, ◌%◌, ◌<◌, ◌⊎◌, List, arith, refl, sym, subst, ap, ◌∙◌, inl, inr}
 use Rattle.std.specs.Prelude.{◌≢◌, slice_index}
 use Rattle.std.proofs.lemmas.Bool.{cases_lt, cases_order}
-use Rattle.flash_model.specs.Pages.{page_words, blank}
-use Rattle.flash_model.proofs.PageLaws as pages
+use Rattle.flash_words.specs.Pages.{page_words, blank}
+use Rattle.flash_words.proofs.PageLaws as pages
 use Rattle.list_parts.proofs.ManyLaws.{get_or-many}
 use Rattle.page_index.specs.Maps.{page_word, original_page, entry_count, address_of, place_of, IsFree, IsMap}
 use Rattle.page_index.specs.Entries.{Lists}

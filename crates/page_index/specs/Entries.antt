@@ -1,7 +1,7 @@
 -- Entries: where a pool page lists an original address.
 use Rattle.std.specs.Prelude.{◌≡◌, ℕ, ◌+◌, ◌*◌, ◌<◌, ◌⊎◌, Bool, true, false, List, length, slice_index_or}
-use Rattle.flash_model.specs.Pages.{page_words}
-use Rattle.flash_model.specs.declared.layout.Layout.{Layout}
+use Rattle.flash_words.specs.Pages.{page_words}
+use Rattle.flash_words.specs.declared.layout.Layout.{Layout}
 use Rattle.page_index.specs.Maps.{IsPool, IsFree, IsMap, original_page, entry_count, address_of, place_of}
 
 -- entry i of the page is of the address t, at the place v of flash

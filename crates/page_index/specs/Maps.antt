@@ -2,8 +2,8 @@
 -- entries, and words 2 to n + 1 are the entries, each the offset in the original page times 256 plus the
 -- place in this page. A page that is free is all 0xFFFF (docs/LOADER.md).
 use Rattle.std.specs.Prelude.{◌≡◌, ℕ, ◌+◌, ◌*◌, ◌/◌, ◌%◌, ◌<◌, ◌≤◌, List}
-use Rattle.flash_model.specs.Pages.{page_words, word_at, page_of, blank}
-use Rattle.flash_model.specs.declared.layout.Layout.{Layout}
+use Rattle.flash_words.specs.Pages.{page_words, word_at, page_of, blank}
+use Rattle.flash_words.specs.declared.layout.Layout.{Layout}
 
 -- the page is one of the code pool
 pub record IsPool (layout : Layout) (page : ℕ) : Type 0 where

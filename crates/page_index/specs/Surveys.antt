@@ -1,6 +1,6 @@
 -- What a page for the addresses of one original page wants to know of the pool (docs/LOADER.md, "An arrival").
 use Rattle.std.specs.Prelude.{ℕ, ◌<◌, List, IfSome, IfNone}
-use Rattle.flash_model.specs.declared.layout.Layout.{Layout}
+use Rattle.flash_words.specs.declared.layout.Layout.{Layout}
 use Rattle.page_index.specs.Maps.{IsPool, IsFree}
 use Rattle.page_index.specs.Entries.{AreKnown}
 use Rattle.page_index.specs.declared.survey.Survey.{Survey}

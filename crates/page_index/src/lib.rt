@@ -7,9 +7,9 @@
 //! page that is free. Nothing has to be kept beside flash: each search reads the maps themselves, of the pages that
 //! flash tells by their first words where these decide.
 //! [`known_offsets`] tells of all addresses of one original page at once whether they have entries. [`Places`] keeps
-//! hints at entries, for any state of flash, and gives a [`Survey`] where an address has none; a [`Cursor`] keeps what
-//! was found at places, for one state of flash. Of one page, which is free or has a map whatever
-//! the others hold, [`is_free`], [`entries`], [`address_at`] and [`place_in`] tell what its map says.
+//! hints at entries, for any state of flash, and gives a [`Survey`] where an address has none. Of one page, which is
+//! free or has a map whatever the others hold, [`is_free`], [`entries`], [`address_at`], [`place_at`] and [`place_in`]
+//! tell what its map says.
 //!
 //! `specs/Maps.antt` says what a map is, and `specs/Entries.antt` what an entry of the pool is and when
 //! a pool is mapped, which every search asks for; `specs/Surveys.antt` says what a survey tells. Laws for the
@@ -18,15 +18,12 @@
 //! (`proofs/ChangeLaws.antt`).
 #![tactic(auto)]
 
-mod cursor;
 mod page;
 mod places;
 mod pool;
-mod stretch;
 mod survey;
 
-pub use cursor::Cursor;
-pub use page::{address_at, entries, is_free, place_in};
+pub use page::{FIRST_ENTRY, address_at, entries, is_free, place_at, place_in};
 pub use places::Places;
-pub use pool::{entry, free_page, known_offsets, origin};
+pub use pool::{entry, free_page, is_in_pool, known_offsets, origin};
 pub use survey::Survey;

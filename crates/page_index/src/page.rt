@@ -1,13 +1,13 @@
 //! One page of the pool and its map.
 
-ghost use Rattle.std.specs.Prelude.{◌≡◌, ℕ, ◌+◌, ◌*◌, ◌/◌, ◌%◌, ◌<◌, ◌≤◌, ◌↔◌, ◌⊎◌, true, false, length, slice_index_or, IsTrue, IfSome};
+ghost use Rattle.std.specs.Prelude.{◌≡◌, ℕ, ◌+◌, ◌*◌, ◌/◌, ◌%◌, ◌<◌, ◌↔◌, ◌⊎◌, true, false, length, slice_index_or, IsTrue, IfSome};
 ghost use Rattle.page_index.specs.Maps.{page_word, entry_count, address_of, place_of, IsFree, IsMap};
 ghost use Rattle.page_index.specs.Entries.{Lists};
 
 use flash_model::{BLANK, Flash, PAGE_WORDS};
 
 /// Where in a map its entries begin.
-pub(crate) const FIRST_ENTRY: u16 = 2;
+pub const FIRST_ENTRY: u16 = 2;
 
 /// An entry of a map.
 #[derive(Clone, Copy)]
@@ -126,34 +126,13 @@ pub fn address_at(flash: &Flash, page: u16, i: u16) -> u16
 }
 
 /// The place of entry `i` of the page.
-pub(crate) fn place_at(flash: &Flash, page: u16, i: u16) -> u16
+pub fn place_at(flash: &Flash, page: u16, i: u16) -> u16
     requires below_kernel { page < 480 }
     requires map { IsMap flash.now.words page }
     requires listed { i < entry_count flash.now.words page }
     ensures value { result ≡ place_of flash.now.words page i }
 {
     PAGE_WORDS * page + map_entry(flash, page, i).place
-}
-
-/// How many entries of the page begin at most at this place: places ascend, so the search halves.
-pub(crate) fn count_up_to(flash: &Flash, page: u16, place: u16) -> u16
-    requires below_kernel { page < 480 }
-    requires map { IsMap flash.now.words page }
-    ensures most { result ≤ entry_count flash.now.words page }
-    ensures earlier { (i : ℕ) → i < result → place_of flash.now.words page i ≤ place }
-    ensures later { (i : ℕ) → result ≤ i → i < entry_count flash.now.words page → place < place_of flash.now.words page i }
-{
-    let mut low = 0;
-    let mut high = entries(flash, page);
-    'halving: while low < high {
-        let middle = (low + high) / 2;
-        if place_at(flash, page, middle) <= place {
-            low = middle + 1;
-        } else {
-            high = middle;
-        }
-    }
-    low
 }
 
 /// Entry `i` of the page.

@@ -1,8 +1,8 @@
 //! Where entries of original addresses were seen last, so that most are found without a search of all pages.
 
 ghost use Rattle.std.specs.Prelude.{◌≡◌, ℕ, ◌/◌, ◌<◌, IfSome, IfOk, IfErr};
-ghost use Rattle.flash_model.specs.Layouts.{IsRight};
-ghost use Rattle.flash_model.specs.Pages.{page_count};
+ghost use Rattle.flash_words.specs.Layouts.{IsRight};
+ghost use Rattle.flash_words.specs.Pages.{page_count};
 ghost use Rattle.page_index.specs.Entries.{IsEntry, IsMapped};
 ghost use Rattle.page_index.specs.Surveys.{IsSurvey};
 
@@ -67,13 +67,15 @@ impl Places {
         requires mapped { IsMapped layout.now flash.now.words }
         ensures found { IfSome result (λ v. IsEntry layout.now flash.now.words t v) }
     {
-        let listed = *self.listed.get(t as usize)?;
-        let page = listed / PAGE_WORDS;
-        let index = (listed % PAGE_WORDS).checked_sub(FIRST_ENTRY)?;
-        if !is_in_pool(layout, page) {
+        if usize::from(t) >= ADDRESSES {
             return None;
         }
-        place_if_listed(flash, page, index, t)
+        let listed = self.listed[usize::from(t)];
+        let page = listed / PAGE_WORDS;
+        if listed % PAGE_WORDS < FIRST_ENTRY || !is_in_pool(layout, page) {
+            return None;
+        }
+        place_if_listed(flash, page, listed % PAGE_WORDS - FIRST_ENTRY, t)
     }
 
     /// The same by a search of all pages. The entries of a page that has one of `t` get their hints.
@@ -107,8 +109,8 @@ impl Places {
         for i in 0..flash.word(first + 1).min(PAGE_WORDS - FIRST_ENTRY) {
             let listed = first + FIRST_ENTRY + i;
             let address = original + usize::from(flash.word(listed) / 256);
-            if let Some(hint) = self.listed.get_mut(address) {
-                *hint = listed;
+            if address < ADDRESSES {
+                self.listed[address] = listed;
             }
         }
     }

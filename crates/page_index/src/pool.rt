@@ -1,7 +1,7 @@
 //! The search in all pages of the pool.
 
 ghost use Rattle.std.specs.Prelude.{◌≡◌, ℕ, ◌<◌, ◌↔◌, IsTrue, IfSome, IfNone};
-ghost use Rattle.flash_model.specs.Layouts.{IsRight};
+ghost use Rattle.flash_words.specs.Layouts.{IsRight};
 ghost use Rattle.page_index.specs.Maps.{IsPool, IsFree};
 ghost use Rattle.page_index.specs.Entries.{IsEntry, IsMapped, AreKnown};
 
@@ -78,7 +78,7 @@ pub fn free_page(flash: &Flash, layout: &Layout) -> Option<u16>
 }
 
 /// Whether the page is one of the pool.
-pub(crate) fn is_in_pool(layout: &Layout, page: u16) -> bool
+pub fn is_in_pool(layout: &Layout, page: u16) -> bool
     requires right { IsRight layout.now }
     ensures value { IsTrue result ↔ IsPool layout.now page }
 {

@@ -1,7 +1,7 @@
 //! What a page for an original page's addresses wants to know of the pool.
 
 ghost use Rattle.std.specs.Prelude.{◌<◌};
-ghost use Rattle.flash_model.specs.Layouts.{IsRight};
+ghost use Rattle.flash_words.specs.Layouts.{IsRight};
 ghost use Rattle.page_index.specs.Entries.{IsMapped};
 ghost use Rattle.page_index.specs.Surveys.{IsSurvey};
 

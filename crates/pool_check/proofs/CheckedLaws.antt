@@ -5,25 +5,25 @@ use Rattle.std.proofs.lemmas.Bool.{cases_lt, cases_order}
 use Rattle.std.proofs.lemmas.Grind.{same_number_lists}
 use Rattle.std.proofs.lemmas.List.{get_or-take, get_or_past, get_or_default}
 use Rattle.avr_isa.specs.Image.{word}
-use Rattle.flash_model.proofs.PageLaws.{page_word}
-use Rattle.flash_model.specs.Pages.{word_count, page_count, page_words, word_at, page_of}
-use Rattle.flash_model.specs.Layouts.{IsRight, image_of}
-use Rattle.flash_model.specs.declared.layout.Layout.{Layout}
+use Rattle.flash_words.proofs.PageLaws.{page_word}
+use Rattle.flash_words.specs.Pages.{word_count, page_count, page_words, word_at, page_of}
+use Rattle.flash_words.specs.Layouts.{IsRight, image_of}
+use Rattle.flash_words.specs.declared.layout.Layout.{Layout}
 use Rattle.page_index.specs.Maps.{IsPool, IsFree, IsMap}
 use Rattle.page_index.specs.Entries.{Lists, IsEntry}
 use Rattle.page_index.proofs.EntryLaws.{one_place}
 use Rattle.page_index.proofs.MapLaws.{same_address, map_of_entry}
 use Rattle.nat_template.specs.declared.piece.Piece.{Piece}
 use Rattle.nat_template.specs.declared.piece.Piece.TheVariants.{Link}
-use Rattle.nat_page.specs.Standing.{jump_word, size, Stands}
-use Rattle.nat_page.specs.CodePages.{page_pieces, HoldsRun, Anywhere}
+use Rattle.page_draft.specs.Standing.{jump_word, size, Stands}
+use Rattle.page_draft.specs.CodePages.{page_pieces, HoldsRun, Anywhere}
 use Rattle.nat_page.specs.Links.{IsLinkOf}
 use Rattle.nat_page.specs.Faithful.{IsFaithful, IsRewritten}
 use Rattle.nat_page.proofs.LinkLaws.{all_links, each_link_more}
 use Rattle.nat_page.proofs.StayLaws.{holds_more, held_used, same_run}
 use Rattle.nat_page.proofs.HeldLaws.{map_held}
 use Rattle.nat_page.proofs.FaithfulLaws.{faithful_mapped}
-use Rattle.nat_page.proofs.PieceLaws.{stands_split}
+use Rattle.page_draft.proofs.PieceLaws.{stands_split}
 use Rattle.pool_check.specs.Forms.{HasForm}
 use Rattle.pool_check.specs.Links.{IsOneEntry, HasLinks, HaveForms, HaveFormsAround, IsChecked}
 use Rattle.pool_check.proofs.MovedLaws.{holds_alone, holds_in_flash, stands_leading}

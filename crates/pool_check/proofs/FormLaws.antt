@@ -1,10 +1,10 @@
 -- Rewritten code tells its first address and its number of instructions itself.
 use Rattle.std.proofs.Common.{◌≡◌, ℕ, ◌+◌, ◌*◌, ◌<◌, ◌≤◌, List, length, arith, sym, ap, ◌∙◌, subst}
-use Rattle.flash_model.specs.Pages.{word_at}
+use Rattle.flash_words.specs.Pages.{word_at}
 use Rattle.page_index.specs.Maps.{address_of}
 use Rattle.nat_template.specs.declared.piece.Piece.{Piece}
-use Rattle.nat_page.specs.Standing.{Stands, size}
-use Rattle.nat_page.specs.CodePages.{page_pieces, page_size, HoldsRun, Anywhere, IsCodePage, IsPage}
+use Rattle.page_draft.specs.Standing.{Stands, size}
+use Rattle.page_draft.specs.CodePages.{page_pieces, page_size, HoldsRun, Anywhere, IsCodePage, IsPage}
 use Rattle.nat_page.proofs.WalkLaws.{OwnRun, own_run}
 use Rattle.pool_check.specs.Forms.{first_told, last_told}
 

@@ -4,9 +4,4 @@ mod FormLaws
 pub mod MovedLaws
 pub mod CheckedLaws
 mod LinkTests
-mod DumpLineLaws
-mod DumpLaws
-mod WrittenLaws
-mod DumpBack
 pub mod Judgement
-pub mod ErasedLaws

@@ -3,14 +3,14 @@ use Rattle.std.proofs.Common.{◌≡◌, ℕ, Bool, true, false, ◌+◌, ◌*�
 use Rattle.std.specs.Prelude.{Option, None}
 use Rattle.std.proofs.lemmas.List.{drop_more, get_or_default}
 use Rattle.pool_check.proofs.WidthLaws.{size_more}
-use Rattle.flash_model.specs.Pages.{page_words, page_of}
-use Rattle.flash_model.specs.declared.layout.Layout.{Layout}
+use Rattle.flash_words.specs.Pages.{page_words, page_of}
+use Rattle.flash_words.specs.declared.layout.Layout.{Layout}
 use Rattle.nat_template.specs.declared.piece.Piece.{Piece}
 use Rattle.nat_template.specs.declared.piece.Piece.TheVariants.{Fixed, Link}
 use Rattle.page_index.specs.Maps.{IsFree}
 use Rattle.page_index.proofs.MapLaws.{free_lists_nothing}
-use Rattle.nat_page.specs.Standing.{size, width}
-use Rattle.nat_page.specs.CodePages.{page_pieces, Anywhere, IsCodePage}
+use Rattle.page_draft.specs.Standing.{size, width}
+use Rattle.page_draft.specs.CodePages.{page_pieces, Anywhere, IsCodePage}
 use Rattle.nat_page.specs.Links.{IsLinkOf, EachLink}
 use Rattle.nat_page.proofs.LinkLaws.{all_links, each_link_more, each_link_split}
 use Rattle.nat_page.proofs.StayLaws.{held_used, same_run}

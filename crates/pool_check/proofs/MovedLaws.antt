@@ -1,13 +1,13 @@
 -- A page that holds a run holds it wherever its words stand.
 use Rattle.std.proofs.Common.{◌≡◌, ℕ, ◌+◌, ◌*◌, ◌<◌, List, [], ◌∷◌, arith, sym, ap, ◌∙◌, inl, inr}
-use Rattle.flash_model.specs.Pages.{page_words, word_at, page_of}
-use Rattle.flash_model.proofs.PageLaws.{page_word}
+use Rattle.flash_words.specs.Pages.{page_words, word_at, page_of}
+use Rattle.flash_words.proofs.PageLaws.{page_word}
 use Rattle.nat_template.specs.declared.piece.Piece.{Piece}
 use Rattle.nat_template.specs.declared.piece.Piece.TheVariants.{Fixed, Link}
-use Rattle.nat_page.specs.Standing.{IsLink, Stands, jump_word, size}
-use Rattle.nat_page.specs.CodePages.{page_pieces, HoldsRun, Anywhere}
+use Rattle.page_draft.specs.Standing.{IsLink, Stands, jump_word, size}
+use Rattle.page_draft.specs.CodePages.{page_pieces, HoldsRun, Anywhere}
 use Rattle.nat_page.specs.Links.{EachLink}
-use Rattle.nat_page.proofs.PieceLaws.{size-cons}
+use Rattle.page_draft.proofs.PieceLaws.{size-cons}
 
 -- pieces that stand at one word address, at another with the same words
 pub shift : (words words' : List ℕ) (a a' n k : ℕ) → ((j : ℕ) → j < n + k → word_at words' (a' + j) ≡ word_at words (a + j)) → (j : ℕ) → j < k → word_at words' (a' + n + j) ≡ word_at words (a + n + j)

@@ -2,8 +2,8 @@
 use Rattle.std.proofs.Common.{◌≡◌, ℕ, ◌+◌, ◌<◌, List, ◌∷◌, length, get_or, drop, ap, ◌∙◌}
 use Rattle.std.proofs.lemmas.List.{drop_more}
 use Rattle.nat_template.specs.declared.piece.Piece.{Piece}
-use Rattle.nat_page.specs.Standing.{size, width}
-use Rattle.nat_page.proofs.PieceLaws.{size-cons}
+use Rattle.page_draft.specs.Standing.{size, width}
+use Rattle.page_draft.proofs.PieceLaws.{size-cons}
 
 -- the pieces from one on
 pub size_more : (pieces : List Piece) (i : ℕ) (piece : Piece) → i < length pieces → get_or pieces i piece ≡ piece → size (drop i pieces) ≡ width piece + size (drop (i + 1) pieces)

@@ -1,12 +1,12 @@
 -- When a page of flash, by itself, has the form that it must have (docs/LOADER.md, "A pool that is faithful").
 use Rattle.std.specs.Prelude.{◌≡◌, ℕ, ◌+◌, ◌-◌, ◌*◌, ◌<◌, ◌≤◌, ◌⊎◌, List}
 use Rattle.avr_isa.specs.Image.{word}
-use Rattle.flash_model.specs.Pages.{page_words, word_at, blank}
-use Rattle.flash_model.specs.declared.layout.Layout.{Layout}
+use Rattle.flash_words.specs.Pages.{page_words, word_at, blank}
+use Rattle.flash_words.specs.declared.layout.Layout.{Layout}
 use Rattle.page_index.specs.Maps.{IsPool, address_of, entry_count}
 use Rattle.nat_template.specs.Stubs.{call_word, bridge_entry}
-use Rattle.nat_page.specs.Standing.{jump_word}
-use Rattle.nat_page.specs.CodePages.{IsCodePage}
+use Rattle.page_draft.specs.Standing.{jump_word}
+use Rattle.page_draft.specs.CodePages.{IsCodePage}
 
 -- The 128 words of a page: below the pool the image's, erased behind its end; in the kernel's pages RET; in a page
 -- of the pool all erased, or those of a run of the image, wherever its links lead.

@@ -2,7 +2,3 @@
 pub mod Forms
 pub mod Links
 pub mod Verdicts
-pub mod DumpLines
-pub mod Dumps
-pub mod DumpAnswers
-pub mod WrittenDumps

@@ -1,14 +1,14 @@
 -- Whether the links of a page, and its entries, agree with the other pages of the pool; and when a flash is right
 -- as a whole.
 use Rattle.std.specs.Prelude.{◌≡◌, ℕ, ◌+◌, ◌*◌, ◌<◌, ◌≤◌, ◌⊎◌, List}
-use Rattle.flash_model.specs.Pages.{page_words, page_count, word_at, page_of}
-use Rattle.flash_model.specs.declared.layout.Layout.{Layout}
+use Rattle.flash_words.specs.Pages.{page_words, page_count, word_at, page_of}
+use Rattle.flash_words.specs.declared.layout.Layout.{Layout}
 use Rattle.page_index.specs.Maps.{IsPool, IsFree, IsMap}
 use Rattle.page_index.specs.Entries.{Lists, IsEntry}
 use Rattle.nat_template.specs.declared.piece.Piece.{Piece}
 use Rattle.nat_template.specs.declared.piece.Piece.TheVariants.{Fixed, Link}
-use Rattle.nat_page.specs.Standing.{jump_word}
-use Rattle.nat_page.specs.CodePages.{page_pieces, HoldsRun, Anywhere}
+use Rattle.page_draft.specs.Standing.{jump_word}
+use Rattle.page_draft.specs.CodePages.{page_pieces, HoldsRun, Anywhere}
 use Rattle.nat_page.specs.Links.{IsLinkOf}
 use Rattle.pool_check.specs.Forms.{HasForm}
 

@@ -1,7 +1,7 @@
 //! All pages of a flash.
 
 ghost use Rattle.std.specs.Prelude.{◌≡◌, length, MatchOption};
-ghost use Rattle.flash_model.specs.Layouts.{IsRight};
+ghost use Rattle.flash_words.specs.Layouts.{IsRight};
 ghost use Rattle.nat_page.specs.Faithful.{IsFaithful};
 ghost use Rattle.nat_page.specs.Used.{used_pages};
 ghost use Rattle.pool_check.specs.Links.{HaveForms, HaveLinks};

@@ -2,16 +2,16 @@
 
 ghost use Rattle.std.specs.Prelude.{◌≡◌, ℕ, ◌+◌, ◌*◌, ◌<◌, ◌≤◌, ◌⊎◌, ◌↔◌, length, IsTrue};
 ghost use Rattle.avr_isa.specs.Image.{word};
-ghost use Rattle.flash_model.specs.Pages.{word_at, blank};
-ghost use Rattle.flash_model.specs.Layouts.{IsRight};
-ghost use Rattle.nat_page.specs.CodePages.{IsCodePage};
+ghost use Rattle.flash_words.specs.Pages.{word_at, blank};
+ghost use Rattle.flash_words.specs.Layouts.{IsRight};
+ghost use Rattle.page_draft.specs.CodePages.{IsCodePage};
 ghost use Rattle.pool_check.specs.Forms.{HasForm};
-ghost use Rattle.pool_check.specs.WrittenDumps.{is_erased as is_erased_test};
 
 use crate::image::GivenImage;
 use crate::standing::stands;
+use flash_dump::is_erased;
 use flash_model::{BLANK, KERNEL_FIRST, Layout, PAGE_WORDS};
-use nat_page::{ImageWords, remade, size};
+use page_draft::{ImageWords, remade, size};
 
 /// RET, each word of the kernel's pages, and the first of these.
 const RET: u16 = 0x9508;
@@ -71,18 +71,11 @@ pub fn is_code(image: &[u16], words: &[u16; 128]) -> bool
 }
 
 /// Whether a page is free.
-#[tactic(auto, using(crate::proofs::ErasedLaws::all_are_blank))]
+#[tactic(auto, using(flash_dump::proofs::ErasedLaws::all_are_blank))]
 pub fn is_blank(words: &[u16; 128]) -> bool
     ensures value { IsTrue result ↔ (words.now ≡ blank) }
 {
     is_erased(words)
-}
-
-/// Whether the words are all erased.
-pub(crate) fn is_erased(words: &[u16]) -> bool
-    ensures value { result ≡ is_erased_test words.now }
-{
-    words.iter().all(|word| *word == BLANK)
 }
 
 /// Whether the words from a place on are erased.

@@ -2,7 +2,7 @@
 
 ghost use Rattle.std.specs.Prelude.{◌≡◌, length};
 
-use nat_page::ImageWords;
+use page_draft::ImageWords;
 
 /// The image with these words.
 #[derive(Clone, Copy)]

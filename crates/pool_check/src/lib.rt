@@ -16,21 +16,17 @@
 //!
 //! `specs/Forms` says which form a page must have, `specs/Links` what it owes to the others, and `specs/Verdicts`
 //! what the checker answers. That all forms and all links together are just what a faithful pool is
-//! (`nat_page/specs/Faithful`), is the law `CheckedLaws`.
+//! (`nat_page/specs/Faithful`), is the law `CheckedLaws`. [`read_dump`] and [`write_dump`], from and to a text, are those of
+//! crate `flash_dump`.
 #![tactic(auto)]
 
 mod checking;
-mod dump;
-mod dump_line;
-mod dump_writing;
 mod form;
 mod image;
 mod links;
 mod standing;
 
 pub use checking::{Verdict, check};
-pub use dump::{DumpError, read_dump};
-pub use dump_line::DumpFault;
-pub use dump_writing::write_dump;
+pub use flash_dump::{DumpError, DumpFault, read_dump, write_dump};
 pub use form::{is_blank, is_code, page_form};
 pub use links::is_alone;

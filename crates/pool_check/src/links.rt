@@ -1,20 +1,21 @@
 //! Whether a page agrees with the other pages of the pool.
 
-ghost use Rattle.std.specs.Prelude.{◌≡◌, ℕ, ◌+◌, ◌<◌, ◌≤◌, ◌↔◌, length, IsTrue};
-ghost use Rattle.flash_model.specs.Layouts.{IsRight};
-ghost use Rattle.flash_model.specs.Pages.{page_of, word_at};
+ghost use Rattle.std.specs.Prelude.{◌≡◌, ◌+◌, ◌<◌, ◌≤◌, ◌↔◌, length, IsTrue};
+ghost use Rattle.flash_words.specs.Layouts.{IsRight};
+ghost use Rattle.flash_words.specs.Pages.{page_of, word_at};
 ghost use Rattle.page_index.specs.Maps.{IsPool};
-ghost use Rattle.nat_page.specs.CodePages.{page_pieces, IsCodePage};
+ghost use Rattle.page_draft.specs.CodePages.{page_pieces, IsCodePage};
 ghost use Rattle.nat_page.specs.Links.{EachLink};
-ghost use Rattle.nat_page.specs.Standing.{size as size_of_pieces, width as width_of};
+ghost use Rattle.page_draft.specs.Standing.{size as size_of_pieces, width as width_of};
 ghost use Rattle.pool_check.specs.Forms.{HasForm, first_told, last_told};
 ghost use Rattle.pool_check.specs.Links.{ArePages, ArePagesTo, HasLinks, IsAlone, IsHere, IsOneEntry, IsRightLink, IsUnlisted};
 
 use crate::image::GivenImage;
 use arrayvec::ArrayVec;
 use flash_model::{Flash, Layout, PAGE_WORDS};
-use nat_page::{page_words, remade, width};
+use nat_page::page_words;
 use nat_template::Piece;
+use page_draft::{remade, width};
 use page_index::{address_at, entries, is_free, place_in};
 
 /// JMP, the first of its two words.

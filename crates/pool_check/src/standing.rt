@@ -1,14 +1,13 @@
 //! Pieces of code where they stand.
 
 ghost use Rattle.std.specs.Prelude.{◌+◌, ◌≤◌, ◌↔◌, IsTrue};
-ghost use Rattle.flash_model.specs.Pages.{word_at};
-ghost use Rattle.nat_page.specs.Standing.{size as size_of_pieces, Stands, StandsAt, width as width_of};
-ghost use Rattle.nat_page.specs.CodePages.{Anywhere};
+ghost use Rattle.page_draft.specs.Standing.{size as size_of_pieces, Stands, StandsAt, width as width_of};
+ghost use Rattle.page_draft.specs.CodePages.{Anywhere};
 ghost use Rattle.pool_check.specs.Forms.{IsLinkWords};
 
-use nat_page::width;
 use nat_template::Piece;
 use nat_template::entries::BRIDGE;
+use page_draft::width;
 
 /// CALL and JMP, the first of their two words.
 const CALL: u16 = 0x940E;

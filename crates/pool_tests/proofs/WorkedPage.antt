@@ -3,15 +3,15 @@ use Rattle.std.proofs.Common.{◌≡◌, ℕ, ◌+◌, List, [], ◌∷◌, arit
 use Rattle.avr_decode.specs.Decoding.{the_form, if_defined, defined_form, one_word_form, is_long}
 use Rattle.avr_isa.specs.Encoding.{first_word, second_word}
 use Rattle.avr_isa.specs.Instruction.{is_undefined}
-use Rattle.avr_exec.specs.Registers.{relative}
-use Rattle.flash_model.specs.Layouts.{IsRight}
-use Rattle.flash_model.specs.declared.layout.Layout.{Layout}
+use Rattle.avr_isa.specs.Addresses.{relative}
+use Rattle.flash_words.specs.Layouts.{IsRight}
+use Rattle.flash_words.specs.declared.layout.Layout.{Layout}
 use Rattle.nat_template.specs.declared.piece.Piece.{Piece}
 use Rattle.nat_template.specs.Shapes.{shape_of_form}
 use Rattle.nat_template.specs.Stubs.{crossing_stub, stub}
 use Rattle.nat_template.specs.Templates.{template_by}
 use Rattle.page_index.specs.Entries.{IsEntry}
-use Rattle.nat_page.specs.Runs.{template_at}
+use Rattle.page_draft.specs.Runs.{template_at}
 use Rattle.nat_page.specs.Links.{EachLink, IsLinkIn}
 use Rattle.nat_page.specs.Faithful.{IsFaithful}
 use Rattle.nat_page.proofs.EnteredLaws.{entry_law}

@@ -1,7 +1,7 @@
 //! Pages that are used again, in small pools, and what a refused operation on flash leaves.
 
 ghost use Rattle.std.specs.Prelude.{◌≡◌, ◌+◌, ◌<◌, ◌≤◌, ◌^◌, [], ◌∷◌, IfSome, OnOk};
-ghost use Rattle.flash_model.specs.Layouts.{IsRight, image_of};
+ghost use Rattle.flash_words.specs.Layouts.{IsRight, image_of};
 ghost use Rattle.nat_page.specs.Faithful.{IsFaithful};
 ghost use Rattle.nat_page.specs.Links.{IsUnresolved};
 ghost use Rattle.branch_bridge.specs.Arrivals.{ring_of};

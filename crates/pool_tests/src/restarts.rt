@@ -1,17 +1,16 @@
 //! Restarts over pools that a loss of power may leave, and machines over the flash that they leave.
 
 ghost use Rattle.std.specs.Prelude.{◌≡◌, ◌<◌, ◌≤◌, ◌^◌, [], length, IfOk};
-ghost use Rattle.flash_model.specs.Layouts.{IsRight, layout_of};
+ghost use Rattle.flash_words.specs.Layouts.{IsRight, layout_of};
 ghost use Rattle.nat_page.specs.Faithful.{IsFaithful};
 ghost use Rattle.pool_check.specs.Links.{HaveFormsAround};
 
 use crate::recycling::{ROUND, go_round, small};
-use crate::runs::{boot, counts, run};
+use crate::runs::{boot, counts, halted_at, run};
 use crate::support::{LOOP, loaded, loaded_to_fail, loop_page, sram_at_boot};
 use flash_model::{Flash, Layout};
 use hex_image::Image;
 use input_script::read;
-use kernel_entry::Stop;
 use nat_page::page_words;
 use std::test::Fail;
 use swap_store::Swap;
@@ -130,7 +129,7 @@ fn what_is_kept_of_two_pages(rt: HostRuntime) -> Result<(), Fail> {
 fn a_jump_into_a_page_that_is_lost_calls_the_bridge_again(rt: HostRuntime) -> Result<(), Fail> {
     let mut out = MemSink::new(rt.alloc(), 100)?;
     let mut machine = boot(&rt, &JUMP, 255)?;
-    assert!(rt; run(&mut machine, 1000, &mut out)? == End::Stopped(Stop::Halted(4)));
+    assert!(rt; halted_at(run(&mut machine, 1000, &mut out)?) == Some(4));
     let first = page_words(&machine.kernel.mote.flash, 128);
     let mut expected = first;
     for k in 0..127usize {
@@ -179,7 +178,7 @@ fn run_again(rt: &HostRuntime, words: &[u16], pages: &[[u16; 128]; 3]) -> Result
 fn a_run_over_a_kept_page(rt: HostRuntime) -> Result<(), Fail> {
     let kept = loop_words([0x940C, 0x4007]);
     let second = run_again(&rt, &LOOP, &[kept, [0; 128], [0xFFFF; 128]])?;
-    assert!(rt; second.end == End::Stopped(Stop::Halted(3)));
+    assert!(rt; halted_at(second.end) == Some(3));
     assert!(rt; second.counts == [7, 2, 31, 1, 1]);
     Ok(())
 }
@@ -229,6 +228,7 @@ fn run_calls(rt: &HostRuntime, script: &[u8]) -> Result<Gone, Fail> {
 fn each_operation_is_lost_with_each_content(rt: HostRuntime) -> Result<(), Fail> {
     let fresh = run_calls(&rt, b"")?;
     assert!(rt; fresh.ops == SCRIPTS.len() as u64);
+    assert!(rt; halted_at(fresh.end).is_some());
     let made = fresh.pages;
     let mut wrong = made[0];
     wrong[127] = 0x1234;
@@ -249,7 +249,7 @@ fn each_operation_is_lost_with_each_content(rt: HostRuntime) -> Result<(), Fail>
             let mut lost = pages;
             lost[place] = words;
             let second = run_again(&rt, &CALLS, &lost)?;
-            assert!(rt; second.end == fresh.end);
+            assert!(rt; halted_at(second.end) == halted_at(fresh.end));
             assert!(rt; second.out.taken() == fresh.out.taken());
         }
     }

@@ -1,10 +1,10 @@
 //! What the tests share: flashes with and without pages in the pool, and a program that loops.
 
 ghost use Rattle.std.specs.Prelude.{◌≡◌, ◌+◌, ◌<◌, ◌≤◌, ◌^◌, length, IfOk, OnOk};
-ghost use Rattle.flash_model.specs.Layouts.{IsRight};
+ghost use Rattle.flash_words.specs.Layouts.{IsRight};
 ghost use Rattle.page_index.specs.Entries.{IsMapped};
 ghost use Rattle.nat_page.specs.Faithful.{IsFaithful};
-ghost use Rattle.flash_model.specs.Layouts.{image_of};
+ghost use Rattle.flash_words.specs.Layouts.{image_of};
 ghost use Rattle.sram_layout.specs.Boot.{at_boot};
 ghost use Rattle.branch_bridge.specs.Arrivals.{ring_of};
 

@@ -21,8 +21,8 @@ ghost use Rattle.program_generator.specs.Generated.{generated, instruction_of, n
 use avr_encode::encode;
 use avr_isa::{Form, Instr, OneOp, Reg, TwoOp};
 use hex_image::Image;
+use no_memory::NoMemory;
 use std::alloc::{AllocError, Global};
-use tk_io::NoMemory;
 
 // How many words a program has.
 const LENGTH: usize = 8014;

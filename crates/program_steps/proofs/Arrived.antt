@@ -4,9 +4,9 @@ use Rattle.std.specs.Prelude.{min, Option, Some, None, IfSome}
 use Rattle.std.proofs.lemmas.Bool.{cases_lt}
 use Rattle.sram_layout.specs.Bytes.{data_word_at}
 use Rattle.sram_layout.specs.Cells.{vsp_cell}
-use Rattle.flash_model.specs.Memory.{Memory, IsWhole}
-use Rattle.flash_model.specs.Layouts.{IsRight, image_of, layout_of}
-use Rattle.flash_model.specs.declared.layout.Layout.{Layout}
+use Rattle.flash_words.specs.Memory.{Memory, IsWhole}
+use Rattle.flash_words.specs.Layouts.{IsRight, image_of, layout_of}
+use Rattle.flash_words.specs.declared.layout.Layout.{Layout}
 use Rattle.heap_frames.specs.Paged.{IsPaged}
 use Rattle.heap_frames.specs.Memory.{vmem}
 use Rattle.heap_frames.specs.Frames.{pages}
@@ -22,7 +22,7 @@ use Rattle.branch_bridge.specs.declared.rewriting.ResolveStop.{ResolveStop}
 use Rattle.branch_bridge.specs.declared.rewriting.Torn.{Torn}
 use Rattle.branch_bridge.specs.declared.through.Arrival.{Arrival}
 use Rattle.branch_bridge.specs.Operating.{with_torn}
-use Rattle.flash_model.specs.Operations.{is_listed}
+use Rattle.flash_words.specs.Operations.{is_listed}
 use Rattle.branch_bridge.specs.Tried.{IsTorn, Tried}
 use Rattle.branch_bridge.specs.Arrivals.{Store, IsOwnStub, KeptThrough, KeepsOtherBytes, refused_by, stopped_by, torn_by, ring_of}
 use Rattle.kernel_entry.specs.Parts.{image_held}

@@ -35,13 +35,6 @@ twice_by (Some owed) due = refl
 pub state_settled : (m : Machine) (to : ℕ) → state_of (settled m to) ≡ state_of m
 state_settled m to = ap (λ o. record { kernel = m.kernel; owed = o; end = m.end; torn = m.torn }) (twice_by m.owed m.due)
 
-again_by : (o : Option Owed) (due : Bool) → is_some o && (is_some o && due) ≡ is_some o && due
-again_by None due = refl
-again_by (Some owed) due = refl
-
-pub awaits_settled : (m : Machine) (to : ℕ) → awaits (settled m to) ≡ awaits m
-awaits_settled m to = again_by m.owed m.due
-
 -- whether an interrupt is due, where control has come to
 owing_by : (o : Option Owed) (due d : Bool) (t : ℕ) (stub : Option ℕ) → awaited o due ≡ Some (record { target = t; stub = stub; due = d }) → is_some o && due ≡ d
 owing_by None due d t stub is = absurd (cc)

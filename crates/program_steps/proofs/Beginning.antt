@@ -9,10 +9,10 @@ use Rattle.sram_layout.specs.Bytes.{byte_at, with_byte, data_word_at}
 use Rattle.sram_layout.specs.Cells.{count_cell, vsp_cell}
 use Rattle.sram_layout.proofs.Laws.{byte_same, byte_other, word_out_of_byte, length-with_byte}
 use Rattle.sram_layout.proofs.BootLaws.{length-at_boot, boot_zero}
-use Rattle.flash_model.specs.Memory.{loaded, new_flash, Memory, IsWhole}
-use Rattle.flash_model.specs.Layouts.{layout_of}
-use Rattle.flash_model.specs.declared.layout.Layout.{Layout}
-use Rattle.flash_model.proofs.LayoutLaws.{layout_right}
+use Rattle.flash_words.specs.Memory.{loaded, new_flash, Memory, IsWhole}
+use Rattle.flash_words.specs.Layouts.{layout_of}
+use Rattle.flash_words.specs.declared.layout.Layout.{Layout}
+use Rattle.flash_words.proofs.LayoutLaws.{layout_right}
 use Rattle.page_index.specs.Maps.{IsPool}
 use Rattle.page_index.proofs.ChangeLaws.{new_flash_free}
 use Rattle.nat_page.specs.Faithful.{IsFaithful}

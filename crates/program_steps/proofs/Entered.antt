@@ -9,15 +9,15 @@ use Rattle.mem_guard.specs.FlatMachine.{is_own}
 use Rattle.mem_guard.specs.declared.part.Part.{Part}
 use Rattle.step_laws.specs.Links.{part_number, number_of}
 use Rattle.program_steps.proofs.Owning.{beyond_own, admitted_own, admitted_number, open_admits}
-use Rattle.flash_model.specs.Memory.{IsWhole}
-use Rattle.flash_model.specs.declared.layout.Layout.{Layout}
+use Rattle.flash_words.specs.Memory.{IsWhole}
+use Rattle.flash_words.specs.declared.layout.Layout.{Layout}
 use Rattle.page_index.specs.Entries.{IsEntry}
 use Rattle.mote_devices.specs.State.{State as Devices}
 use Rattle.branch_bridge.specs.declared.arrival.Refused.{Refused}
 use Rattle.branch_bridge.specs.declared.rewriting.ResolveStop.{ResolveStop}
 use Rattle.branch_bridge.specs.declared.through.Arrival.{Arrival}
 use Rattle.branch_bridge.specs.Operating.{with_torn}
-use Rattle.flash_model.specs.Operations.{is_listed}
+use Rattle.flash_words.specs.Operations.{is_listed}
 use Rattle.branch_bridge.specs.Tried.{Tried}
 use Rattle.branch_bridge.specs.Arrivals.{KeepsOtherBytes, refused_by, stopped_by, torn_by}
 use Rattle.kernel_entry.specs.Parts.{image_held}

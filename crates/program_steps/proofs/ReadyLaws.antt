@@ -4,19 +4,20 @@ use Rattle.std.proofs.Common.{suc, ◌≡◌, ℕ, ◌+◌, ◌-◌, ◌*◌, �
 use Rattle.std.proofs.Math.Nat.{mod-lt, mod-eq_of_lt, mod_self, suc-mod}
 use Rattle.std.proofs.Math.Numerals.{suc-eq-add-one}
 use Rattle.std.specs.Prelude.{◌≢◌, ◌&&◌, ◌||◌, min, Option, Some, None, IfSome, if◌then◌else◌}
+use Rattle.std.proofs.lemmas.Bool.{and_parts}
 use Rattle.std.proofs.lemmas.Bool.Decides.{nat_tests}
 use Rattle.avr_isa.specs.Crossing.{is_crossing}
-use Rattle.flash_model.specs.Memory.{Memory, IsWhole}
-use Rattle.flash_model.specs.Layouts.{IsRight, image_of}
-use Rattle.flash_model.specs.declared.layout.Layout.{Layout}
-use Rattle.flash_model.specs.Layouts.{layout_of}
+use Rattle.flash_words.specs.Memory.{Memory, IsWhole}
+use Rattle.flash_words.specs.Layouts.{IsRight, image_of}
+use Rattle.flash_words.specs.declared.layout.Layout.{Layout}
+use Rattle.flash_words.specs.Layouts.{layout_of}
 use Rattle.sram_layout.specs.Bytes.{byte_at, data_word_at}
 use Rattle.page_index.specs.Maps.{IsPool}
 use Rattle.nat_page.specs.Faithful.{IsFaithful}
 use Rattle.branch_bridge.specs.declared.rewriting.Torn.{Torn}
 use Rattle.branch_bridge.specs.Operating.{with_torn}
 use Rattle.branch_bridge.specs.Arrivals.{ring_of}
-use Rattle.flash_model.specs.Operations.{is_listed}
+use Rattle.flash_words.specs.Operations.{is_listed}
 use Rattle.branch_bridge.specs.Tried.{IsTorn}
 use Rattle.step_laws.specs.declared.moves.Owed.{Owed}
 use Rattle.step_laws.specs.declared.moves.End.TheVariants as ends
@@ -168,14 +169,9 @@ arrivals_on n n' owed owed' pages began others ops steps before =
     record { pages = omega arith; ops = omega arith; few = omega arith }
 
 -- behind a checkpoint no plain step has been made since the last service
-both_true : (b c : Bool) → b && c ≡ true → (b ≡ true) × (c ≡ true)
-both_true true true is = (refl, refl)
-both_true true false is = absurd (cc)
-both_true false c is = absurd (cc)
-
 fresh_by : (from to count : ℕ) (wakes : Bool) (since : ℕ) → (wakes ≡ true → since ≡ 0) → (is_crossing from to ≡ true → count ≡ 1 → since ≡ 0) → (wakes || is_checkpoint from to count) ≡ true → since ≡ 0
 fresh_by from to count true since fresh reset on = fresh refl
-fresh_by from to count false since fresh reset on = let both = both_true (is_crossing from to) (count == 1) on in reset both.0 (is_one count both.1)
+fresh_by from to count false since fresh reset on = let both = and_parts (is_crossing from to) (count == 1) on in reset both.0 (is_one count both.1)
 
 -- the step that goes on
 pub ready_on : (old new : Machine) (law : LawOf old) (to : ℕ) → IsGoing old → Taken old new law → new.at ≡ to → new.crossings ≡ crossings_over old.at to old.crossings

@@ -1,7 +1,7 @@
 -- Where an arrival leaves flash, the cursor stays right.
 use Rattle.std.proofs.Common.{◌≡◌, Bool, true, false, refl, sym, subst}
-use Rattle.page_index.specs.declared.cursor.Cursor.{Cursor}
-use Rattle.page_index.specs.Cursors.{IsCursor, IsCursorAnywhere}
+use Rattle.page_cursor.specs.declared.cursor.Cursor.{Cursor}
+use Rattle.page_cursor.specs.Cursors.{IsCursor, IsCursorAnywhere}
 use Rattle.program_steps.specs.Machines.{Machine, state_of}
 use Rattle.program_steps.specs.Loop.{HasArrived}
 use Rattle.program_steps.proofs.Told.{cursor_same}

@@ -9,9 +9,9 @@ use Rattle.program_steps.proofs.Awaiting.{state_settled, due_reached, free_of}
 use Rattle.std.proofs.Common.{◌≡◌, ℕ, ◌+◌, ◌-◌, ◌%◌, ◌<◌, length, Bool, true, false, List, [], ◌∷◌, refl, sym, ap, ap₂, ◌∙◌, arith, subst, map}
 use Rattle.std.specs.Prelude.{◌&&◌, ◌||◌, ◌==◌, is_some, ◌^◌, Option, Some, None}
 use Rattle.mote_devices.specs.declared.line.Line.{Line}
-use Rattle.flash_model.specs.Memory.{Memory}
-use Rattle.flash_model.specs.declared.layout.Layout.{Layout}
-use Rattle.flash_model.specs.Layouts.{image_of}
+use Rattle.flash_words.specs.Memory.{Memory}
+use Rattle.flash_words.specs.declared.layout.Layout.{Layout}
+use Rattle.flash_words.specs.Layouts.{image_of}
 use Rattle.page_index.specs.Entries.{IsMapped}
 use Rattle.mem_guard.specs.FlatMachine as flat_ends
 use Rattle.kernel_entry.specs.declared.kernel.Kernel.{Kernel}

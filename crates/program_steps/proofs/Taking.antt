@@ -5,9 +5,9 @@ use Rattle.std.specs.Prelude.{◌≢◌, Option, Some, None}
 use Rattle.std.specs.Option.{option_or}
 use Rattle.mote_devices.specs.declared.line.Line.{Line}
 use Rattle.page_index.specs.Entries.{IsEntry, IsMapped}
-use Rattle.flash_model.specs.Memory.{Memory}
-use Rattle.flash_model.specs.Layouts.{IsRight}
-use Rattle.flash_model.specs.declared.layout.Layout.{Layout}
+use Rattle.flash_words.specs.Memory.{Memory}
+use Rattle.flash_words.specs.Layouts.{IsRight}
+use Rattle.flash_words.specs.declared.layout.Layout.{Layout}
 use Rattle.program_steps.specs.Machines.{Machine, state_of, numbers_of}
 use Rattle.step_laws.specs.Moves.{Inner, Plain, Serve, Within, lines_of, line_before, line_within}
 use Rattle.step_laws.proofs.NumberLaws.{length_is}

@@ -1,14 +1,15 @@
 -- An interrupt that is taken is a step of the program.
 use Rattle.std.proofs.Common.{◌≡◌, ℕ, ◌+◌, ◌<◌, Bool, true, false, [], ◌∷◌, length, refl, sym, ap, ap₂, ◌∙◌, arith, subst}
 use Rattle.std.specs.Prelude.{◌^◌, ◌&&◌, ◌-◌, ◌%◌, is_some, min, Some, None, Option}
+use Rattle.std.proofs.lemmas.Bool.{and_parts}
 use Rattle.mem_guard.specs.FlatMachine.{is_own}
 use Rattle.mem_guard.specs.declared.part.Part.{Part}
 use Rattle.nat_page.specs.Parts.{IsParted}
 use Rattle.step_laws.specs.Links.{part_number}
 use Rattle.avr_flags.specs.Status.{has_bit, interrupts}
-use Rattle.flash_model.specs.Memory.{Memory, IsWhole}
-use Rattle.flash_model.specs.Layouts.{IsRight, image_of, layout_of}
-use Rattle.flash_model.specs.declared.layout.Layout.{Layout}
+use Rattle.flash_words.specs.Memory.{Memory, IsWhole}
+use Rattle.flash_words.specs.Layouts.{IsRight, image_of, layout_of}
+use Rattle.flash_words.specs.declared.layout.Layout.{Layout}
 use Rattle.nat_page.specs.Faithful.{IsFaithful}
 use Rattle.nat_page.specs.Used.{used_pages}
 use Rattle.addr_tables.specs.Tables.{IsTables}
@@ -24,7 +25,7 @@ use Rattle.kernel_entry.specs.declared.kernel.Taken.{Taken}
 use Rattle.kernel_entry.specs.declared.kernel.Taken.TheVariants as answers
 use Rattle.kernel_entry.specs.Parts.{image_held}
 use Rattle.kernel_entry.specs.Seen.{program, state_at, end_of}
-use Rattle.kernel_entry.specs.Interrupts.{taken}
+use Rattle.kernel_entry.specs.Interrupts.{is_wanted, taken}
 use Rattle.kernel_entry.proofs.InterruptLaws.{AsTaken, KeepsTaken, interrupt_taken, interrupt_keeps, interrupt_stays}
 use Rattle.step_laws.specs.declared.moves.Owed.{Owed}
 use Rattle.step_laws.specs.declared.moves.End.TheVariants as ends
@@ -44,11 +45,6 @@ use Rattle.program_steps.proofs.Laws.{tables_going}
 use Rattle.program_steps.proofs.ReadyLaws.{ring_kept, tried_on}
 use Rattle.program_steps.proofs.Awaiting.{awaits_some, some_same}
 
-both : (b c : Bool) → b && c ≡ true → (b ≡ true) × (c ≡ true)
-both true true is = (refl, refl)
-both true false is = absurd (cc)
-both false c is = absurd (cc)
-
 -- what is known where one is to be taken
 record Wanted (m : Machine) (owed : Owed) : Type 0 where
   due : m.due ≡ true
@@ -58,15 +54,20 @@ record Wanted (m : Machine) (owed : Owed) : Type 0 where
 
 wanted_of : (m : Machine) (owed : Owed) → m.owed ≡ Some owed → is_to_be_taken m ≡ true → Wanted m owed
 wanted_of m owed owes is =
-    let one = both m.due (is_wanted_at m.kernel m.owed) is in
-    let two = both (is_own m.kernel.part owed.target) (has_bit m.kernel.mote.cpu.sreg interrupts && is_enabled m.kernel.mote.devices) (sym (ap (is_wanted_at m.kernel) owes) ∙ one.1) in
-    let three = both (has_bit m.kernel.mote.cpu.sreg interrupts) (is_enabled m.kernel.mote.devices) two.1 in
+    let one = and_parts m.due (is_wanted_at m.kernel m.owed) is in
+    let two = and_parts (is_own m.kernel.part owed.target) (has_bit m.kernel.mote.cpu.sreg interrupts && is_enabled m.kernel.mote.devices) (sym (ap (is_wanted_at m.kernel) owes) ∙ one.1) in
+    let three = and_parts (has_bit m.kernel.mote.cpu.sreg interrupts) (is_enabled m.kernel.mote.devices) two.1 in
     record { due = one.0; inside = two.0; on = three.0; some = three.1 }
 
 pub none_wanted : (m : Machine) → m.owed ≡ None → is_to_be_taken m ≡ true → ⊥
 none_wanted m free is =
-    let one = both m.due (is_wanted_at m.kernel m.owed) is in
+    let one = and_parts m.due (is_wanted_at m.kernel m.owed) is in
     absurd (let e : false ≡ true = sym (ap (is_wanted_at m.kernel) free) ∙ one.1 in cc)
+
+pub none_taken : (m : Machine) (owed : Owed) → m.owed ≡ Some owed → is_to_be_taken m ≡ true → is_wanted m.kernel ≡ false → ⊥
+none_taken m owed owes is none =
+    let w = wanted_of m owed owes is in
+    absurd (let e : true ≡ false = sym (ap₂ (λ b c. b && c) w.on w.some) ∙ none in cc)
 
 abbrev awaited_of : Machine → Owed → Awaited
 awaited_of m owed = record { target = owed.target; stub = owed.stub; due = m.due }

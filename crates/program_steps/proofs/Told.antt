@@ -1,7 +1,7 @@
 -- What one call tells of a move.
 use Rattle.program_steps.proofs.Awaiting.{owes_of}
 use Rattle.std.proofs.Common.{◌≡◌, ℕ, ◌+◌, ◌-◌, ◌<◌, ◌≤◌, Bool, false, List, [], ◌∷◌, refl, sym, ap, ap₂, ◌∙◌, arith, subst, inl, inr}
-use Rattle.std.specs.Prelude.{◌⊎◌, ◌^◌, max, is_some, IfNone, Option, Some, None}
+use Rattle.std.specs.Prelude.{◌⊎◌, ◌≢◌, ◌^◌, max, is_some, IfNone, Option, Some, None}
 use Rattle.mote_devices.specs.declared.line.Line.{Line}
 use Rattle.mote_core.specs.declared.mote.Mote.{Mote}
 use Rattle.mote_core.specs.declared.mote.Plain.{Plain}
@@ -16,12 +16,12 @@ use Rattle.step_laws.specs.declared.moves.End.{End}
 use Rattle.step_laws.specs.Moves.{Inner, Plain as PlainMove, Serve, Within}
 use Rattle.step_laws.specs.Numbers.{Numbers, moved, one_if}
 use Rattle.page_index.specs.Entries.{IsEntry, IsMapped}
-use Rattle.page_index.specs.Cursors.{IsCursor}
-use Rattle.page_index.specs.declared.cursor.Cursor.{Cursor}
+use Rattle.page_cursor.specs.Cursors.{IsCursor}
+use Rattle.page_cursor.specs.declared.cursor.Cursor.{Cursor}
 use Rattle.page_index.specs.Maps.{IsFree, IsMap}
 use Rattle.page_index.proofs.MapLaws.{free_lists_nothing}
-use Rattle.flash_model.specs.Layouts.{IsRight}
-use Rattle.flash_model.specs.declared.layout.Layout.{Layout}
+use Rattle.flash_words.specs.Layouts.{IsRight}
+use Rattle.flash_words.specs.declared.layout.Layout.{Layout}
 use Rattle.program_steps.specs.Machines.{Machine}
 use Rattle.program_steps.specs.Machines.{state_of, numbers_of}
 use Rattle.program_steps.specs.Loop.{IsHalted, is_small, IsOver, CanPlain, CanServeNow, HasPlain, HasServed, CanMove, HasMoved, moves_made}
@@ -69,13 +69,15 @@ same_state k o o' e e' t t' eo ee et =
 pub none_behind : (n : ℕ) → n + 0 ≡ n
 none_behind n = omega arith
 
+pub none_off : (n : ℕ) → n ≡ n - 0
+none_off n = omega arith
+
+pub is_there : {A : Type 0} (a : A) → Some a ≢ None
+is_there a is = cc
+
 -- at a service `longest` is raised to what it stood for, and nothing is behind it
 pub raised : (longest since reach : ℕ) → reach ≡ max longest since → max reach 0 ≡ max longest since
 raised longest since reach is = omega (arith, is)
-
--- nothing is owed and there is no end
-pub not_owed : (x : State) (line : Option Line) (stops : Bool) (y : State) → MakesServe x line stops y → (x.owed ≡ None) × (x.end ≡ None)
-not_owed x line stops y makes = (makes.free, makes.going)
 
 pub not_over : (x : State) → x.owed ≡ None → x.end ≡ None → ((t : ℕ) → ¬ IsEntry x.kernel.layout (mote_of x).flash.words t (mote_of x).cpu.pc) → ¬ IsOver x
 not_over x free going none (IsOver.Owes owes) = owes free

@@ -1,8 +1,8 @@
 -- A program that waits stands as it did, over what another one has made of flash and the tables.
 use Rattle.std.proofs.Common.{◌≡◌, ℕ, ◌+◌, ◌-◌, ◌*◌, ◌%◌, ◌≤◌, Bool, true, false, List, length, refl, sym, ap, ◌∙◌, arith, subst}
 use Rattle.std.specs.Prelude.{◌≢◌, min, Option, Some, None, IfSome}
-use Rattle.flash_model.specs.Operations.{is_listed}
-use Rattle.flash_model.specs.declared.layout.Layout.{Layout}
+use Rattle.flash_words.specs.Operations.{is_listed}
+use Rattle.flash_words.specs.declared.layout.Layout.{Layout}
 use Rattle.sram_layout.specs.Bytes.{data_word_at}
 use Rattle.sram_layout.specs.Cells.{vsp_cell}
 use Rattle.heap_frames.specs.Memory.{vmem}

@@ -3,8 +3,8 @@ use Rattle.std.specs.Prelude.{◌≡◌, ◌≢◌, ℕ, ◌+◌, ◌-◌, ◌*�
 use Rattle.sram_layout.specs.Bytes.{byte_at}
 use Rattle.sram_layout.specs.Cells.{vsp_cell, kernel_stack_top}
 use Rattle.heap_frames.specs.Paged.{IsPaged}
-use Rattle.flash_model.specs.Layouts.{IsRight, layout_of}
-use Rattle.flash_model.specs.Memory.{IsWhole}
+use Rattle.flash_words.specs.Layouts.{IsRight, layout_of}
+use Rattle.flash_words.specs.Memory.{IsWhole}
 use Rattle.page_index.specs.Maps.{IsPool}
 use Rattle.nat_page.specs.Faithful.{IsFaithful}
 use Rattle.nat_page.specs.Used.{used_pages}
@@ -13,7 +13,7 @@ use Rattle.mem_guard.specs.declared.part.Part.{Part}
 use Rattle.step_laws.specs.Links.{part_number}
 use Rattle.addr_tables.specs.Tables.{IsTables}
 use Rattle.branch_bridge.specs.Operating.{with_torn}
-use Rattle.flash_model.specs.Operations.{is_listed}
+use Rattle.flash_words.specs.Operations.{is_listed}
 use Rattle.branch_bridge.specs.Tried.{IsTorn}
 use Rattle.branch_bridge.specs.Arrivals.{ring_of}
 use Rattle.kernel_entry.specs.Parts.{image_held}

@@ -1,6 +1,6 @@
 -- What one step of the program, and one arrival, leave of the machine.
 use Rattle.std.specs.Prelude.{◌≡◌, ◌≢◌, ℕ, ◌+◌, Bool, true, false, List, [], ◌∷◌, Option, Some, None, IfSome, flat_map}
-use Rattle.flash_model.specs.Operations.{is_listed}
+use Rattle.flash_words.specs.Operations.{is_listed}
 use Rattle.mote_devices.specs.declared.line.Line.{Line}
 use Rattle.mem_guard.specs.FlatMachine.{Ends, is_own, next_of, is_taken}
 use Rattle.mem_guard.specs.FlatMachine as flat_ends

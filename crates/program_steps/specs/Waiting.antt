@@ -1,7 +1,7 @@
 -- A program that waits while another one runs on the same mote (docs/TASKS.md, "While a task waits").
 use Rattle.std.specs.Prelude.{◌≡◌, ℕ, ◌+◌, ◌≤◌, ◌^◌, false, List}
 use Rattle.sram_layout.specs.Regions.{place_cells, KeepsRegion}
-use Rattle.flash_model.specs.Operations.{is_listed}
+use Rattle.flash_words.specs.Operations.{is_listed}
 use Rattle.branch_bridge.specs.Arrivals.{KeepsOtherBytes}
 use Rattle.kernel_entry.specs.Parts.{image_held}
 use Rattle.program_steps.specs.Machines.{Machine, numbers_of}

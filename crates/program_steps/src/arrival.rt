@@ -1,9 +1,9 @@
 //! The arrival that is owed: made before the next step, or refused.
 
 ghost use Rattle.std.specs.Prelude.{◌≡◌, ◌+◌, ◌<◌, ◌≤◌, ◌^◌, true, false, Some, None};
-ghost use Rattle.flash_model.specs.Layouts.{IsRight};
-ghost use Rattle.flash_model.specs.Memory.{IsWhole};
-ghost use Rattle.page_index.specs.Cursors.{IsCursor, IsCursorAnywhere};
+ghost use Rattle.flash_words.specs.Layouts.{IsRight};
+ghost use Rattle.flash_words.specs.Memory.{IsWhole};
+ghost use Rattle.page_cursor.specs.Cursors.{IsCursor, IsCursorAnywhere};
 ghost use Rattle.nat_page.specs.Faithful.{IsFaithful};
 ghost use Rattle.addr_tables.specs.Tables.{IsTables};
 ghost use Rattle.branch_bridge.specs.Arrivals.{CameThrough, ring_of};
@@ -19,7 +19,8 @@ use crate::progress::Progress;
 use branch_bridge::{Arrival, ArriveStop, arrive_from, arrive_known};
 use flash_model::Flash;
 use kernel_entry::Kernel;
-use page_index::{Cursor, Places};
+use page_cursor::Cursor;
+use page_index::Places;
 use step_laws::{End, Owed};
 
 /// Whether the program may go on where it stands: one that is shut in its part may not outside it, and then ends there

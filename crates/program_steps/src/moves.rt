@@ -2,7 +2,7 @@
 
 ghost use Rattle.std.specs.Prelude.{◌≡◌, ◌<◌, ◌^◌, max, false, None};
 ghost use Rattle.std.specs.Option.{option_or};
-ghost use Rattle.flash_model.specs.Layouts.{IsRight};
+ghost use Rattle.flash_words.specs.Layouts.{IsRight};
 ghost use Rattle.program_steps.specs.Machines.{state_of, numbers_of};
 ghost use Rattle.program_steps.specs.Loop.{CanPlain, HasPlain, CanServeNow, HasServed, CanMove, HasMoved, Halts, is_small};
 ghost use Rattle.program_steps.specs.Wholes.{whole};

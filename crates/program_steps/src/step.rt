@@ -1,9 +1,9 @@
 //! Steps of the program: each from one entry of its code to the next, or to the kernel.
 
 ghost use Rattle.std.specs.Prelude.{◌≡◌, ◌≢◌, ℕ, ◌+◌, ◌<◌, ◌≤◌, ◌^◌, true, false, None, IfSome, IfNone};
-ghost use Rattle.flash_model.specs.Layouts.{IsRight};
+ghost use Rattle.flash_words.specs.Layouts.{IsRight};
 ghost use Rattle.page_index.specs.Entries.{IsEntry, IsMapped};
-ghost use Rattle.page_index.specs.Cursors.{IsCursor};
+ghost use Rattle.page_cursor.specs.Cursors.{IsCursor};
 ghost use Rattle.mote_devices.specs.Waking.{Timely};
 ghost use Rattle.mem_guard.specs.FlatMachine.{is_taken};
 ghost use Rattle.program_steps.specs.Machines.{state_of, numbers_of, flat_of};
@@ -19,7 +19,7 @@ use crate::moves::one_move;
 use crate::progress::Progress;
 use kernel_entry::Kernel;
 use mote_devices::Devices;
-use page_index::Cursor;
+use page_cursor::Cursor;
 use preempt_count::is_crossing;
 
 /// Whole steps of the program, one behind the other: at most so many, and none behind one that writes a device

@@ -6,7 +6,7 @@ use Rattle.avr_isa.specs.declared.form.Form.{Form}
 use Rattle.avr_flags.specs.Status.{has_bit, interrupts}
 use Rattle.avr_exec.specs.declared.cpu.Cpu.{Cpu}
 use Rattle.avr_exec.specs.declared.stop.BusStop.{BusStop}
-use Rattle.avr_exec.specs.Registers.{wrapping_sum}
+use Rattle.avr_isa.specs.Addresses.{wrapping_sum}
 use Rattle.avr_exec.specs.Execution.{is_executed}
 use Rattle.avr_exec.specs.Spaces.{Outcome, Went as WentOn, Stopped as StoppedOn}
 use Rattle.sram_layout.specs.Bytes.{byte_at, with_word}
@@ -16,7 +16,7 @@ use Rattle.heap_frames.specs.Paged.{IsPaged}
 use Rattle.heap_frames.proofs.SamePagingLaws.{same_paging_word, paged_same}
 use Rattle.nat_template.specs.declared.shapes.TemplateShape.TheVariants.{SelfJump}
 use Rattle.nat_template.specs.Shapes.{shape_of_form}
-use Rattle.nat_page.specs.Runs.{shape_at}
+use Rattle.page_draft.specs.Runs.{shape_at}
 use Rattle.mem_guard.specs.FlatMachine.{Goes, Stops, tried, next_size, jumps_to_itself, word_asked, if_foreign}
 use Rattle.mote_devices.specs.State.{stored, rampz_address}
 use Rattle.avr_exec.specs.Asks.{ask_of}

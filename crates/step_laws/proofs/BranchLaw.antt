@@ -13,11 +13,12 @@ use Rattle.decode_laws.proofs.Lengths.{the_form-size}
 use Rattle.avr_flags.specs.Status.{has_bit}
 use Rattle.avr_exec.specs.declared.ask.Ask.TheVariants as asks
 use Rattle.avr_exec.specs.declared.answer.Answer.TheVariants.{Done}
-use Rattle.avr_exec.specs.Registers.{relative, wrapping_sum, with_counter}
+use Rattle.avr_isa.specs.Addresses.{relative, wrapping_sum}
+use Rattle.avr_exec.specs.Registers.{with_counter}
 use Rattle.avr_exec.specs.Asks.{ask_of}
 use Rattle.avr_exec.specs.Effects.{finish_of}
 use Rattle.avr_exec.specs.Execution.{is_executed}
-use Rattle.flash_model.specs.Pages.{word_at}
+use Rattle.flash_words.specs.Pages.{word_at}
 use Rattle.mote_core.specs.Step.{form_at as form_at_mote, next_size as mote_next_size}
 use Rattle.nat_template.specs.declared.shapes.TemplateShape.TheVariants.{Native, Jump, Branch, Skip, SelfJump, Fault}
 use Rattle.nat_template.specs.declared.piece.Piece.{Piece}
@@ -25,8 +26,8 @@ use Rattle.nat_template.specs.declared.piece.Piece.TheVariants.{Fixed}
 use Rattle.nat_template.specs.Shapes.{shape_of_form, is_stack_pointer, can_modify}
 use Rattle.nat_template.specs.Stubs.{stub}
 use Rattle.nat_template.specs.Templates.{template_by, target_of, jump_over, short_branch}
-use Rattle.nat_page.specs.Standing.{Stands}
-use Rattle.nat_page.specs.Runs.{shape_at, template_at, size_at, next_of, is_closed}
+use Rattle.page_draft.specs.Standing.{Stands}
+use Rattle.page_draft.specs.Runs.{shape_at, template_at, size_at, next_of, is_closed}
 use Rattle.mem_guard.specs.FlatMachine.{next_size, jumps_to_itself}
 use Rattle.step_laws.specs.Settings.{IsSetting}
 use Rattle.step_laws.specs.Links.{Links}

@@ -5,7 +5,7 @@ use Rattle.avr_isa.specs.Image.{word}
 use Rattle.avr_isa.specs.declared.form.Form.{Form}
 use Rattle.avr_exec.specs.declared.cpu.Cpu.{Cpu}
 use Rattle.avr_exec.specs.declared.answer.Answer.{Answer}
-use Rattle.avr_exec.specs.Registers.{wrapping_sum}
+use Rattle.avr_isa.specs.Addresses.{wrapping_sum}
 use Rattle.avr_exec.specs.Asks.{ask_of}
 use Rattle.avr_exec.specs.Effects.{finish_of}
 use Rattle.avr_exec.specs.Execution.{answered_by, answer_of, is_executed}
@@ -18,9 +18,9 @@ use Rattle.nat_template.specs.Shapes.{shape_of_form}
 use Rattle.nat_template.specs.Stubs.{stub, call_word, push_return_entry}
 use Rattle.nat_template.specs.Templates.{template_by, target_of}
 use Rattle.nat_template.proofs.Sizes.{stub_bound}
-use Rattle.nat_page.specs.Standing.{Stands, size}
-use Rattle.nat_page.specs.Runs.{template_at, size_at}
-use Rattle.nat_page.proofs.PieceLaws.{size-cons}
+use Rattle.page_draft.specs.Standing.{Stands, size}
+use Rattle.page_draft.specs.Runs.{template_at, size_at}
+use Rattle.page_draft.proofs.PieceLaws.{size-cons}
 use Rattle.mem_guard.specs.FlatMachine.{next_size}
 use Rattle.mem_guard.specs.Guarded.{Guarded, guarded_calls}
 use Rattle.kernel_entry.specs.declared.kernel.Kernel.{Kernel}
@@ -32,7 +32,6 @@ use Rattle.step_laws.specs.Settings.{IsSetting}
 use Rattle.step_laws.proofs.Stretches.{IsStretch, stretch_of, stretch_behind}
 use Rattle.step_laws.specs.StepLaws.{ShapeLaw, StepLaw}
 use Rattle.step_laws.proofs.Onward.{by_way}
-use Rattle.nat_template.proofs.ShapeLaws.{runs_or_faults}
 use Rattle.step_laws.proofs.CodeLaws.{form_of_shape}
 use Rattle.step_laws.proofs.StubLaw.{stub_law}
 use Rattle.avr_decode.specs.Program.{instruction_at}
@@ -42,7 +41,7 @@ use Rattle.kernel_entry.specs.Parts.{core_of, memory_of, image_held}
 use Rattle.kernel_entry.specs.Services.{served, stop_of}
 use Rattle.kernel_entry.specs.Conditions.{CanServe}
 use Rattle.step_laws.proofs.Executed.{executed_at, returned}
-use Rattle.kernel_entry.proofs.ShapeLaws.{is_service_jump, by_service_jump, reads_by_mem}
+use Rattle.kernel_entry.proofs.ShapeLaws.{runs_or_faults, is_service_jump, by_service_jump, reads_by_mem}
 
 -- where a call leads
 call_goes : (k : Kernel) (a : ℕ) (form : Form) (n : ℕ) (answer : Answer) → shape_of_form a form ≡ Call → (finish_of form (core_of k a) n answer).pc ≡ target_of a (Some form)

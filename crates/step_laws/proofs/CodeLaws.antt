@@ -7,8 +7,8 @@ use Rattle.nat_template.specs.declared.shapes.TemplateShape.{TemplateShape}
 use Rattle.nat_template.specs.declared.shapes.TemplateShape.TheVariants.{Fault}
 use Rattle.nat_template.specs.Shapes.{shape_of, shape_of_form}
 use Rattle.step_laws.specs.States.{State, mote_of}
-use Rattle.flash_model.specs.Layouts.{IsRight}
-use Rattle.flash_model.proofs.WordLaws.{front_fits}
+use Rattle.flash_words.specs.Layouts.{IsRight}
+use Rattle.flash_model.proofs.ImageLaws.{front_fits}
 use Rattle.kernel_entry.specs.declared.kernel.Kernel.{Kernel}
 use Rattle.step_laws.specs.Settings.{IsBounded}
 use Rattle.std.proofs.lemmas.List.{length-take}

@@ -5,14 +5,15 @@ use Rattle.std.proofs.lemmas.Bool.Decides.{nat_tests}
 use Rattle.avr_isa.specs.Encoding.{first_word, second_word}
 use Rattle.avr_flags.specs.Status.{has_bit, with_bit, with_result_flags}
 use Rattle.avr_flags.specs.Sums.{dec_of, dec_status, byte_difference}
-use Rattle.avr_exec.specs.Registers.{register, wrapping_sum, relative}
-use Rattle.flash_model.specs.declared.layout.Layout.{Layout}
-use Rattle.flash_model.specs.Pages.{word_at}
+use Rattle.avr_isa.specs.Addresses.{wrapping_sum, relative}
+use Rattle.avr_exec.specs.Registers.{register}
+use Rattle.flash_words.specs.declared.layout.Layout.{Layout}
+use Rattle.flash_words.specs.Pages.{word_at}
 use Rattle.sram_layout.specs.Bytes.{byte_at, with_byte}
 use Rattle.sram_layout.proofs.Laws.{byte_same, byte_other, length-with_byte}
 use Rattle.nat_template.specs.Words.{words_of_forms}
 use Rattle.nat_template.specs.Stubs.{count_down, plain_stub, call_word}
-use Rattle.nat_page.specs.Standing.{Stands}
+use Rattle.page_draft.specs.Standing.{Stands}
 use Rattle.nat_page.specs.Links.{EachLink}
 use Rattle.mote_core.specs.declared.mote.Mote.{Mote}
 use Rattle.step_laws.specs.States.{Begins, State, mote_of, with_mote}

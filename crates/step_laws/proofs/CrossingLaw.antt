@@ -6,7 +6,7 @@ use Rattle.std.proofs.lemmas.Bool.Decides.{nat_tests}
 use Rattle.avr_isa.specs.declared.form.Form.TheVariants as forms
 use Rattle.avr_flags.specs.Sums.{byte_difference}
 use Rattle.avr_exec.specs.Registers.{register}
-use Rattle.flash_model.specs.Pages.{word_at}
+use Rattle.flash_words.specs.Pages.{word_at}
 use Rattle.sram_layout.specs.Bytes.{byte_at, with_byte}
 use Rattle.sram_layout.proofs.Laws.{byte_same, byte_other, length-with_byte}
 use Rattle.mote_core.specs.declared.mote.Mote.{Mote}

@@ -2,7 +2,7 @@
 use Rattle.std.proofs.Common.{ℕ, Bool, true, false, refl, subst, arith}
 use Rattle.nat_template.specs.declared.shapes.TemplateShape.{TemplateShape}
 use Rattle.nat_template.specs.declared.shapes.TemplateShape.TheVariants as shapes
-use Rattle.nat_page.specs.Runs.{shape_at}
+use Rattle.page_draft.specs.Runs.{shape_at}
 use Rattle.step_laws.specs.States.{State, mote_of}
 use Rattle.step_laws.specs.Settings.{IsSetting, IsAtEntry}
 use Rattle.step_laws.specs.StepLaws.{ShapeLaw, HasShapeLaws, HasEntryLaws, links_at}

@@ -5,7 +5,7 @@ use Rattle.avr_isa.specs.declared.form.Form.{Form}
 use Rattle.avr_isa.specs.declared.form.Form.TheVariants as forms
 use Rattle.avr_exec.specs.declared.cpu.Cpu.{Cpu}
 use Rattle.avr_exec.specs.declared.stop.BusStop.{BusStop}
-use Rattle.avr_exec.specs.Registers.{wrapping_sum}
+use Rattle.avr_isa.specs.Addresses.{wrapping_sum}
 use Rattle.avr_exec.specs.Execution.{answered_by, exec_of, is_executed}
 use Rattle.avr_exec.specs.Spaces.{Outcome, Went as WentOn}
 use Rattle.avr_exec.specs.Likeness.{is_transfer, moved, Leaves}
@@ -24,7 +24,7 @@ use Rattle.mem_guard.specs.Left.{IsKept, HeapAfter}
 use Rattle.mem_guard.proofs.Leaves.{executed_leaves}
 use Rattle.kernel_entry.specs.declared.kernel.Kernel.{Kernel}
 use Rattle.avr_exec.specs.declared.stop.BusStop.TheVariants as bus
-use Rattle.nat_page.specs.Standing.{size}
+use Rattle.page_draft.specs.Standing.{size}
 use Rattle.kernel_entry.specs.Parts.{core_of, memory_of, put_back, with_pc, descriptor, image_held}
 use Rattle.kernel_entry.specs.Services.{stop_of, executed}
 use Rattle.kernel_entry.specs.Seen.{state_at, end_of}

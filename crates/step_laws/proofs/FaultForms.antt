@@ -9,7 +9,8 @@ use Rattle.avr_flags.specs.Status.{has_bit, interrupts}
 use Rattle.avr_exec.specs.declared.ask.Ask.TheVariants as asks
 use Rattle.avr_exec.specs.declared.answer.Answer.TheVariants.{Done, Byte}
 use Rattle.avr_exec.specs.declared.stop.BusStop.TheVariants as bus
-use Rattle.avr_exec.specs.Registers.{relative, register, is_own}
+use Rattle.avr_isa.specs.Addresses.{relative}
+use Rattle.avr_exec.specs.Registers.{register, is_own}
 use Rattle.avr_exec.specs.Asks.{ask_of, load_of, store_of}
 use Rattle.avr_exec.specs.Execution.{answered_by, answer_of, is_executed}
 use Rattle.avr_exec.specs.Spaces.{Stopped as StoppedOn}

@@ -4,7 +4,7 @@ use Rattle.std.proofs.Common.{[], ℕ, ◌≡◌, ◌+◌, ◌∷◌, ◌∙◌,
 use Rattle.std.specs.Prelude.{Option, Some, None}
 use Rattle.avr_isa.specs.Image.{word}
 use Rattle.avr_flags.specs.Status.{has_bit, interrupts}
-use Rattle.avr_exec.specs.Registers.{wrapping_sum}
+use Rattle.avr_isa.specs.Addresses.{wrapping_sum}
 use Rattle.decode_laws.proofs.Decoded.{valid_at}
 use Rattle.avr_decode.specs.Program.{instruction_at}
 use Rattle.sram_layout.specs.Bytes.{byte_at}
@@ -14,7 +14,7 @@ use Rattle.mote_devices.proofs.WakeLaws.{wake_polls}
 use Rattle.nat_template.specs.declared.shapes.TemplateShape.TheVariants.{Fault}
 use Rattle.nat_template.specs.Stubs.{fault_entry}
 use Rattle.nat_template.specs.Templates.{template_by}
-use Rattle.nat_page.specs.Runs.{size_at}
+use Rattle.page_draft.specs.Runs.{size_at}
 use Rattle.mem_guard.specs.FlatMachine.{Wakes, tried}
 use Rattle.preempt_count.specs.Counting.{count_over, crossed}
 use Rattle.preempt_count.proofs.CountLaws.{count_crossed}

@@ -5,7 +5,7 @@ use Rattle.avr_isa.specs.Crossing.{is_crossing}
 use Rattle.avr_isa.specs.Instruction.{is_undefined}
 use Rattle.avr_isa.specs.declared.form.Form.TheVariants as forms
 use Rattle.avr_decode.specs.Decoding.{the_form, is_long, two_word_form, one_word_form, transfer_form, defined_form, if_defined}
-use Rattle.flash_model.specs.Pages.{word_at}
+use Rattle.flash_words.specs.Pages.{word_at}
 use Rattle.sram_layout.specs.Bytes.{byte_at}
 use Rattle.mote_devices.specs.State.{State as Devices}
 use Rattle.mote_core.specs.declared.mote.Mote.{Mote}
@@ -17,9 +17,9 @@ use Rattle.nat_template.specs.declared.piece.Piece.TheVariants.{Fixed}
 use Rattle.nat_template.specs.Stubs.{stub}
 use Rattle.nat_template.specs.Templates.{jump_over}
 use Rattle.nat_template.proofs.Sizes.{stub_size, stub_bound}
-use Rattle.nat_page.specs.Standing.{Stands, size}
-use Rattle.nat_page.specs.Runs.{shape_at, template_at, next_of, is_closed}
-use Rattle.nat_page.proofs.PieceLaws.{size-cons}
+use Rattle.page_draft.specs.Standing.{Stands, size}
+use Rattle.page_draft.specs.Runs.{shape_at, template_at, next_of, is_closed}
+use Rattle.page_draft.proofs.PieceLaws.{size-cons}
 use Rattle.mem_guard.specs.FlatMachine.{Goes, tried}
 use Rattle.kernel_entry.specs.declared.kernel.Kernel.{Kernel}
 use Rattle.step_laws.specs.Links.{Links}

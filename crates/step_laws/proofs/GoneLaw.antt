@@ -16,7 +16,7 @@ use Rattle.heap_frames.proofs.SamePagingLaws.{same_paging_word, paged_same}
 use Rattle.nat_template.specs.declared.shapes.TemplateShape.TheVariants.{Ret, Ind}
 use Rattle.nat_template.specs.Stubs.{quantum_entry, return_entry, indirect_entry}
 use Rattle.nat_template.specs.Templates.{template_by}
-use Rattle.nat_page.specs.Runs.{size_at}
+use Rattle.page_draft.specs.Runs.{size_at}
 use Rattle.mem_guard.specs.FlatMachine.{Goes, tried, next_size}
 use Rattle.mem_guard.specs.Guarded.{Guarded, guarded_calls, state_of}
 use Rattle.mem_guard.specs.Left.{IsKept}
@@ -37,7 +37,6 @@ use Rattle.step_laws.proofs.KernelCalls.{due_is, called_of, pushed_kept, serve_b
 use Rattle.step_laws.proofs.Counting.{count_crossed, same_crossed}
 use Rattle.avr_exec.proofs.RegistersKept.{exec_kept}
 use Rattle.step_laws.proofs.Executed.{flat_put, kept_of, executed_at, returned, executed_is}
-use Rattle.nat_template.proofs.ShapeLaws.{runs_or_faults}
 use Rattle.step_laws.proofs.CodeLaws.{form_of_shape}
 use Rattle.step_laws.specs.Numbers.{moved}
 use Rattle.avr_decode.specs.Program.{instruction_at}
@@ -47,7 +46,7 @@ use Rattle.kernel_entry.specs.Conditions.{CanServe}
 use Rattle.kernel_entry.specs.declared.kernel.Served.{Served}
 use Rattle.mem_guard.proofs.LineLaws.{transfer_line}
 use Rattle.kernel_entry.specs.Seen.{program}
-use Rattle.kernel_entry.proofs.ShapeLaws.{is_service_jump}
+use Rattle.kernel_entry.proofs.ShapeLaws.{runs_or_faults, is_service_jump}
 use Rattle.kernel_entry.proofs.TriedLaws.{transfers}
 use Rattle.avr_isa.specs.declared.form.Form.TheVariants as forms
 use Rattle.mem_guard.proofs.ReadLaws.{reads_program}

@@ -7,7 +7,7 @@ use Rattle.avr_isa.specs.declared.form.Form.TheVariants as forms
 use Rattle.avr_isa.specs.declared.operation.OneOp.TheVariants as ops
 use Rattle.avr_flags.specs.Status.{has_bit}
 use Rattle.avr_flags.specs.Sums.{dec_of}
-use Rattle.avr_exec.specs.Registers.{wrapping_sum, relative}
+use Rattle.avr_isa.specs.Addresses.{wrapping_sum, relative}
 use Rattle.sram_layout.specs.Bytes.{byte_at, with_byte}
 use Rattle.mote_core.specs.declared.mote.Mote.{Mote}
 use Rattle.mote_core.specs.QuietSteps.{IsQuiet, flash_form}

@@ -4,9 +4,9 @@ use Rattle.std.specs.Prelude.{◌&&◌, ◌==◌, None, slice_index}
 use Rattle.avr_isa.specs.Crossing.{is_crossing}
 use Rattle.avr_isa.specs.Instruction.{size_of}
 use Rattle.avr_isa.specs.declared.form.Form.{Form}
-use Rattle.avr_exec.specs.Registers.{wrapping_sum}
+use Rattle.avr_isa.specs.Addresses.{wrapping_sum}
 use Rattle.avr_exec.specs.Spaces.{Went as WentOn}
-use Rattle.flash_model.specs.Pages.{word_at as flash_word}
+use Rattle.flash_words.specs.Pages.{word_at as flash_word}
 use Rattle.sram_layout.specs.Bytes.{byte_at, with_byte, data_word_at}
 use Rattle.sram_layout.specs.Cells.{vsp_cell}
 use Rattle.sram_layout.specs.Regions.{stack_window}
@@ -20,8 +20,8 @@ use Rattle.mote_core.specs.QuietSteps.{IsQuiet, held}
 use Rattle.nat_template.specs.Shapes.{shape_of}
 use Rattle.nat_template.specs.Stubs.{mem_entry}
 use Rattle.nat_template.proofs.Sizes.{stub_bound}
-use Rattle.nat_page.specs.Standing.{size}
-use Rattle.nat_page.specs.Runs.{template_at, next_of, is_closed}
+use Rattle.page_draft.specs.Standing.{size}
+use Rattle.page_draft.specs.Runs.{template_at, next_of, is_closed}
 use Rattle.nat_page.specs.Entered.{IsPlace}
 use Rattle.avr_decode.specs.Program.{instruction_at}
 use Rattle.mem_guard.specs.FlatMachine.{Goes, tried}

@@ -6,13 +6,13 @@ use Rattle.avr_isa.specs.declared.form.Form.{Form}
 use Rattle.avr_isa.specs.Encoding.{first_word, second_word, IsRow}
 use Rattle.avr_isa.specs.Instruction.{is_valid}
 use Rattle.decode_laws.proofs.Decoded.{the_form_only}
-use Rattle.avr_exec.specs.Registers.{wrapping_sum}
-use Rattle.flash_model.specs.Pages.{word_at}
+use Rattle.avr_isa.specs.Addresses.{wrapping_sum}
+use Rattle.flash_words.specs.Pages.{word_at}
 use Rattle.nat_template.specs.declared.piece.Piece.{Piece}
 use Rattle.nat_template.specs.declared.piece.Piece.TheVariants.{Fixed}
 use Rattle.nat_template.specs.Words.{second_words, words_of_form, words_of_forms, width_of}
 use Rattle.nat_template.specs.Templates.{inline}
-use Rattle.nat_page.specs.Standing.{Stands}
+use Rattle.page_draft.specs.Standing.{Stands}
 use Rattle.inline_laws.specs.Rows.{Row}
 
 -- each is an instruction

@@ -6,7 +6,7 @@ use Rattle.avr_isa.specs.declared.form.Form.TheVariants as forms
 use Rattle.avr_isa.specs.declared.operation.Base.TheVariants.{Y}
 use Rattle.avr_decode.specs.Program.{instruction_at}
 use Rattle.avr_exec.specs.declared.cpu.Cpu.{Cpu}
-use Rattle.avr_exec.specs.Registers.{wrapping_sum}
+use Rattle.avr_isa.specs.Addresses.{wrapping_sum}
 use Rattle.avr_exec.specs.Execution.{is_executed}
 use Rattle.avr_exec.specs.Spaces.{Outcome, Went as WentOn, Stopped as StoppedOn}
 use Rattle.heap_frames.specs.Paged.{IsPaged}
@@ -16,7 +16,7 @@ use Rattle.nat_template.specs.Shapes.{shape_of, shape_of_form}
 use Rattle.nat_template.specs.Inline.{push_forms, pop_forms, load_forms, store_forms}
 use Rattle.nat_template.specs.Stubs.{mem_entry}
 use Rattle.nat_template.specs.Templates.{is_z, mem_pieces, mem_or}
-use Rattle.nat_page.specs.Runs.{shape_at}
+use Rattle.page_draft.specs.Runs.{shape_at}
 use Rattle.mem_guard.specs.FlatMachine.{FlatState, Goes, tried}
 use Rattle.mem_guard.specs.Guarded.{Guarded, state_of}
 use Rattle.mem_guard.proofs.GuardedStep.{guarded_goes, guarded_stops}

@@ -9,7 +9,8 @@ use Rattle.avr_exec.specs.declared.cpu.Cpu.{Cpu}
 use Rattle.avr_exec.specs.declared.ask.Ask.TheVariants.{Nothing, Load, Store, PushByte, PopByte}
 use Rattle.avr_exec.specs.declared.answer.Answer.TheVariants.{Done, Byte}
 use Rattle.avr_exec.specs.declared.stop.BusStop.TheVariants.{Stack as StackStop}
-use Rattle.avr_exec.specs.Registers.{is_own, own_byte, with_own_byte, with_counter, wrapping_sum, wrapping_difference}
+use Rattle.avr_isa.specs.Addresses.{wrapping_sum, wrapping_difference}
+use Rattle.avr_exec.specs.Registers.{is_own, own_byte, with_own_byte, with_counter}
 use Rattle.avr_exec.specs.Asks.{ask_of, load_of, store_of}
 use Rattle.avr_exec.specs.Effects.{finish_of, loaded, stored}
 use Rattle.avr_exec.specs.Execution.{answered_by, answer_of}

@@ -11,8 +11,8 @@ use Rattle.sram_layout.specs.Bytes.{byte_at, with_byte}
 use Rattle.nat_template.specs.declared.piece.Piece.{Piece}
 use Rattle.nat_template.specs.Inline.{push_forms, pop_forms, load_forms, store_forms}
 use Rattle.nat_template.specs.Templates.{mem_or, inline, is_z}
-use Rattle.nat_page.specs.Standing.{Stands, size}
-use Rattle.nat_page.specs.Runs.{template_at}
+use Rattle.page_draft.specs.Standing.{Stands, size}
+use Rattle.page_draft.specs.Runs.{template_at}
 use Rattle.kernel_entry.specs.Parts.{image_held}
 use Rattle.inline_laws.specs.InlineWays.{saved_of, with_pushed, with_pointer, pointer_of, above_pointer, from_frame}
 use Rattle.inline_laws.proofs.Cells.{saved_same, stack_written, pushed_same, pointer_same, pointer_written, pointer_low, pointer_saved, pointer_apart, pointer_byte_saved}

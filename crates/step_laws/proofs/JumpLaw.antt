@@ -9,7 +9,7 @@ use Rattle.avr_isa.specs.IoTable.{can_read, can_write, io_address}
 use Rattle.avr_flags.specs.Status.{has_bit, interrupts}
 use Rattle.avr_exec.specs.declared.answer.Answer.TheVariants.{Done}
 use Rattle.avr_exec.specs.declared.ask.Ask.TheVariants.{Nothing}
-use Rattle.avr_exec.specs.Registers.{relative}
+use Rattle.avr_isa.specs.Addresses.{relative}
 use Rattle.avr_exec.specs.Asks.{ask_of}
 use Rattle.avr_exec.specs.Effects.{finish_of}
 use Rattle.avr_exec.specs.Execution.{is_executed}
@@ -22,8 +22,8 @@ use Rattle.nat_template.specs.Shapes.{shape_of_form, is_stack_pointer, can_modif
 use Rattle.nat_template.specs.declared.piece.Piece.{Piece}
 use Rattle.nat_template.specs.Stubs.{stub}
 use Rattle.nat_template.specs.Templates.{template_by, target_of}
-use Rattle.nat_page.specs.Standing.{Stands, size}
-use Rattle.nat_page.specs.Runs.{template_at, size_at}
+use Rattle.page_draft.specs.Standing.{Stands, size}
+use Rattle.page_draft.specs.Runs.{template_at, size_at}
 use Rattle.mem_guard.specs.FlatMachine.{Goes, tried, next_size, jumps_to_itself, if_foreign, word_asked}
 use Rattle.mem_guard.specs.Guarded.{guarded_calls}
 use Rattle.mem_guard.proofs.GuardedStep.{guarded_goes}

@@ -2,8 +2,8 @@
 use Rattle.std.proofs.Common.{true, ℕ, ◌≡◌, ◌+◌, ◌*◌, ◌/◌, ◌%◌, ◌<◌, ◌≤◌, ◌∙◌, Bool, false, List, length, sym, ap, ap₂, arith, subst}
 use Rattle.std.specs.Prelude.{◌≢◌, ◌==◌, Some, None, Option}
 use Rattle.avr_isa.specs.declared.form.Form.TheVariants as forms
-use Rattle.avr_exec.specs.Registers.{wrapping_difference}
-use Rattle.flash_model.specs.Pages.{word_at}
+use Rattle.avr_isa.specs.Addresses.{wrapping_difference}
+use Rattle.flash_words.specs.Pages.{word_at}
 use Rattle.sram_layout.specs.Bytes.{byte_at, with_byte}
 use Rattle.sram_layout.specs.Cells.{count_cell}
 use Rattle.sram_layout.proofs.Laws.{byte_same, byte_other, length-with_byte}

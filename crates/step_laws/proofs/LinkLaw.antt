@@ -2,10 +2,10 @@
 use Rattle.std.proofs.Common.{[], ℕ, ◌≡◌, ◌+◌, ◌∷◌, ◌∙◌, Bool, false, refl, sym, ap, arith, subst, inl, inr}
 use Rattle.std.specs.Prelude.{Some, None}
 use Rattle.avr_isa.specs.declared.form.Form.TheVariants as forms
-use Rattle.flash_model.specs.Pages.{word_at}
+use Rattle.flash_words.specs.Pages.{word_at}
 use Rattle.sram_layout.specs.Bytes.{byte_at}
 use Rattle.nat_template.specs.Stubs.{plain_stub}
-use Rattle.nat_page.specs.Standing.{Stands, size, jump_word}
+use Rattle.page_draft.specs.Standing.{Stands, size, jump_word}
 use Rattle.mote_core.specs.declared.mote.Mote.{Mote}
 use Rattle.step_laws.specs.States.{Begins, InPool, State, mote_of, with_mote}
 use Rattle.step_laws.specs.Links.{Links}

@@ -7,7 +7,7 @@ use Rattle.avr_isa.specs.declared.operation.Base.TheVariants.{Y}
 use Rattle.avr_decode.specs.Program.{instruction_at}
 use Rattle.nat_template.specs.declared.shapes.TemplateShape.TheVariants.{Mem}
 use Rattle.nat_template.specs.Templates.{mem_pieces, is_z}
-use Rattle.nat_page.specs.Runs.{template_at}
+use Rattle.page_draft.specs.Runs.{template_at}
 use Rattle.kernel_entry.specs.Parts.{image_held}
 use Rattle.step_laws.specs.Settings.{IsSetting}
 use Rattle.step_laws.specs.Links.{Links}

@@ -6,14 +6,14 @@ use Rattle.avr_isa.specs.Instruction.{size_of}
 use Rattle.avr_isa.specs.Image.{word}
 use Rattle.avr_decode.specs.Program.{instruction_at}
 use Rattle.avr_exec.specs.declared.cpu.Cpu.{Cpu}
-use Rattle.avr_exec.specs.Registers.{wrapping_sum}
+use Rattle.avr_isa.specs.Addresses.{wrapping_sum}
 use Rattle.avr_exec.specs.Execution.{is_executed}
 use Rattle.avr_exec.specs.Likeness.{is_transfer}
 use Rattle.avr_exec.specs.Spaces.{Outcome, Went as WentOn, Stopped as StoppedOn}
 use Rattle.nat_template.specs.declared.shapes.TemplateShape.TheVariants.{Mem}
 use Rattle.nat_template.specs.Stubs.{service, mem_entry}
-use Rattle.nat_page.specs.Standing.{size}
-use Rattle.nat_page.specs.Runs.{shape_at, template_at, size_at, next_of, is_closed}
+use Rattle.page_draft.specs.Standing.{size}
+use Rattle.page_draft.specs.Runs.{shape_at, template_at, size_at, next_of, is_closed}
 use Rattle.mem_guard.specs.Guarded.{Guarded}
 use Rattle.kernel_entry.specs.Parts.{image_held}
 use Rattle.kernel_entry.specs.Services.{served, stop_of}
@@ -33,8 +33,7 @@ use Rattle.decode_laws.proofs.Lengths.{the_form-size}
 use Rattle.avr_isa.proofs.Laws.{size_of-range}
 use Rattle.nat_template.specs.Shapes.{shape_of, shape_of_form}
 use Rattle.nat_template.specs.Templates.{template_by, mem_pieces}
-use Rattle.kernel_entry.proofs.ShapeLaws.{mem_straight}
-use Rattle.nat_template.proofs.ShapeLaws.{runs_or_faults}
+use Rattle.kernel_entry.proofs.ShapeLaws.{runs_or_faults, mem_straight}
 use Rattle.step_laws.proofs.CodeLaws.{setting_short, image_words}
 
 -- the instruction at a, of which MEM is the service

@@ -4,7 +4,7 @@ use Rattle.std.specs.Prelude.{if◌then◌else◌, ◌&&◌, Option, Some, None,
 use Rattle.avr_isa.specs.Image.{word}
 use Rattle.avr_isa.specs.declared.form.Form.{Form}
 use Rattle.avr_exec.specs.declared.cpu.Cpu.{Cpu}
-use Rattle.avr_exec.specs.Registers.{wrapping_sum}
+use Rattle.avr_isa.specs.Addresses.{wrapping_sum}
 use Rattle.avr_exec.specs.Asks.{ask_of}
 use Rattle.avr_exec.specs.Effects.{finish_of}
 use Rattle.avr_exec.specs.Execution.{answered_by, exec_of}
@@ -27,15 +27,15 @@ use Rattle.mote_core.specs.Step.{space_of, stepped, IsPlainStep, next_size as mo
 use Rattle.avr_decode.specs.Decoding.{the_form, is_long}
 use Rattle.decode_laws.proofs.Lengths.{the_form-second, the_form-size}
 use Rattle.avr_flags.specs.Status.{has_bit, interrupts}
-use Rattle.flash_model.specs.Pages.{word_at}
+use Rattle.flash_words.specs.Pages.{word_at}
 use Rattle.heap_frames.specs.Frames.{pages}
 use Rattle.heap_frames.specs.Memory.{vmem}
 use Rattle.nat_template.specs.declared.piece.Piece.{Piece}
 use Rattle.nat_template.specs.declared.piece.Piece.TheVariants.{Fixed}
 use Rattle.nat_template.specs.Templates.{template_by}
 use Rattle.nat_template.proofs.Sizes.{native_size, stub_bound}
-use Rattle.nat_page.specs.Standing.{Stands, size}
-use Rattle.nat_page.specs.Runs.{template_at, size_at, next_of, is_closed}
+use Rattle.page_draft.specs.Standing.{Stands, size}
+use Rattle.page_draft.specs.Runs.{template_at, size_at, next_of, is_closed}
 use Rattle.mem_guard.specs.FlatMachine.{Goes, tried, next_size}
 use Rattle.mem_guard.proofs.GuardedStep.{guarded_goes}
 use Rattle.kernel_entry.specs.declared.kernel.Kernel.{Kernel}

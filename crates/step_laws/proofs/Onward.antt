@@ -5,8 +5,8 @@ use Rattle.avr_isa.specs.Crossing.{is_crossing}
 use Rattle.sram_layout.specs.Bytes.{byte_at}
 use Rattle.nat_template.specs.declared.piece.Piece.{Piece}
 use Rattle.nat_template.specs.Stubs.{stub}
-use Rattle.nat_page.specs.Standing.{Stands, size}
-use Rattle.nat_page.specs.Runs.{template_at, closing_at, next_of, is_closed, shape_at}
+use Rattle.page_draft.specs.Standing.{Stands, size}
+use Rattle.page_draft.specs.Runs.{template_at, closing_at, next_of, is_closed, shape_at}
 use Rattle.preempt_count.specs.Counting.{count_after, count_over}
 use Rattle.step_laws.proofs.Stretches.{IsStretch, stretch_behind, stretch_closed}
 use Rattle.step_laws.specs.Links.{Links}
@@ -21,7 +21,7 @@ use Rattle.step_laws.proofs.SameProgram.{same_program}
 use Rattle.step_laws.proofs.StubLaw.{stub_law}
 use Rattle.nat_page.specs.Links.{EachLink}
 use Rattle.nat_page.specs.Entered.{IsPlace, Behind, Next, Closed, StandsIn}
-use Rattle.flash_model.specs.Layouts.{IsRight}
+use Rattle.flash_words.specs.Layouts.{IsRight}
 
 -- a walk on to t, from any point of a template or from behind it; `more` allows for moves before it
 pub record Onward (more : ℕ) (links : Links) (y : State) (t c : ℕ) (crosses : Bool) : Type 0 where

@@ -6,11 +6,11 @@ use Rattle.avr_decode.specs.Decoding.{the_form}
 use Rattle.avr_exec.specs.declared.cpu.Cpu.{Cpu}
 use Rattle.avr_exec.specs.declared.ask.Ask.TheVariants.{Nothing}
 use Rattle.avr_exec.specs.declared.answer.Answer.TheVariants.{Done}
-use Rattle.avr_exec.specs.Registers.{wrapping_sum}
+use Rattle.avr_isa.specs.Addresses.{wrapping_sum}
 use Rattle.avr_exec.specs.Asks.{ask_of}
 use Rattle.avr_exec.specs.Effects.{finish_of}
 use Rattle.avr_exec.specs.Execution.{answer_of, is_executed}
-use Rattle.flash_model.specs.Pages.{word_at}
+use Rattle.flash_words.specs.Pages.{word_at}
 use Rattle.mote_core.specs.declared.mote.Mote.{Mote}
 use Rattle.mote_core.specs.declared.mote.Plain.TheVariants.{Went}
 use Rattle.mote_core.specs.Physical.{physical_calls}

@@ -9,7 +9,7 @@ use Rattle.nat_template.specs.declared.shapes.TemplateShape.TheVariants.{SelfJum
 use Rattle.nat_template.specs.Shapes.{shape_of_form}
 use Rattle.nat_template.specs.Stubs.{self_entry}
 use Rattle.nat_template.specs.Templates.{template_by}
-use Rattle.nat_page.specs.Runs.{size_at}
+use Rattle.page_draft.specs.Runs.{size_at}
 use Rattle.mem_guard.proofs.MachineLaws.{tried_halt}
 use Rattle.kernel_entry.specs.declared.kernel.Kernel.{Kernel}
 use Rattle.kernel_entry.specs.declared.kernel.Stop.TheVariants as stops
@@ -19,7 +19,6 @@ use Rattle.step_laws.specs.Settings.{IsSetting}
 use Rattle.step_laws.specs.Links.{Links}
 use Rattle.step_laws.specs.StepLaws.{ShapeLaw, StepLaw}
 use Rattle.step_laws.specs.States.{State, mote_of}
-use Rattle.nat_template.proofs.ShapeLaws.{runs_or_faults}
 use Rattle.step_laws.proofs.CodeLaws.{form_of_shape}
 use Rattle.step_laws.proofs.GoneLaw.{gone_law}
 use Rattle.avr_decode.specs.Program.{instruction_at}
@@ -27,7 +26,7 @@ use Rattle.kernel_entry.specs.Parts.{rested, descriptor, image_held}
 use Rattle.kernel_entry.specs.Services.{gone, halted_or_gone, served}
 use Rattle.kernel_entry.specs.Conditions.{CanServe}
 use Rattle.kernel_entry.specs.Seen.{program, state_at}
-use Rattle.kernel_entry.proofs.ShapeLaws.{self_jumps, by_self_form, reads_by_mem}
+use Rattle.kernel_entry.proofs.ShapeLaws.{runs_or_faults, self_jumps, by_self_form, reads_by_mem}
 use Rattle.avr_exec.specs.Likeness.{is_transfer}
 use Rattle.step_laws.proofs.AskedLaw.{owns_by}
 

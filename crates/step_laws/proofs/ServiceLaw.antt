@@ -5,18 +5,18 @@ use Rattle.avr_isa.specs.Crossing.{is_crossing}
 use Rattle.avr_isa.specs.declared.form.Form.{Form}
 use Rattle.avr_exec.specs.declared.cpu.Cpu.{Cpu}
 use Rattle.avr_exec.specs.declared.stop.BusStop.{BusStop}
-use Rattle.avr_exec.specs.Registers.{wrapping_sum}
+use Rattle.avr_isa.specs.Addresses.{wrapping_sum}
 use Rattle.avr_exec.specs.Execution.{is_executed}
 use Rattle.avr_exec.specs.Spaces.{Went as WentOn, Stopped as StoppedOn}
-use Rattle.flash_model.specs.Pages.{word_at as flash_word}
+use Rattle.flash_words.specs.Pages.{word_at as flash_word}
 use Rattle.sram_layout.specs.Bytes.{byte_at}
 use Rattle.nat_template.specs.declared.piece.Piece.{Piece}
 use Rattle.nat_template.specs.declared.piece.Piece.TheVariants.{Fixed}
 use Rattle.nat_template.specs.Shapes.{shape_of}
 use Rattle.nat_template.specs.Stubs.{call_word}
-use Rattle.nat_page.specs.Standing.{Stands, size}
-use Rattle.nat_page.specs.Runs.{shape_at, template_at}
-use Rattle.nat_page.proofs.PieceLaws.{size-cons}
+use Rattle.page_draft.specs.Standing.{Stands, size}
+use Rattle.page_draft.specs.Runs.{shape_at, template_at}
+use Rattle.page_draft.proofs.PieceLaws.{size-cons}
 use Rattle.mem_guard.specs.FlatMachine.{Stops, tried}
 use Rattle.mem_guard.specs.Guarded.{Guarded}
 use Rattle.kernel_entry.specs.declared.kernel.Kernel.{Kernel}

@@ -2,7 +2,7 @@
 use Rattle.std.proofs.Common.{◌≡◌, Bool, length, Option, refl, sym, ap, ◌∙◌, subst}
 use Rattle.mote_devices.specs.declared.line.Line.{Line}
 use Rattle.sram_layout.specs.Bytes.{byte_count}
-use Rattle.flash_model.specs.Memory.{AreWords}
+use Rattle.flash_words.specs.Memory.{AreWords}
 use Rattle.kernel_entry.specs.declared.kernel.Kernel.{Kernel}
 use Rattle.kernel_entry.specs.declared.kernel.Served.{Served}
 use Rattle.kernel_entry.specs.declared.kernel.Served.TheVariants as answers

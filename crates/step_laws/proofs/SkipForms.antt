@@ -10,7 +10,8 @@ use Rattle.avr_flags.specs.Status.{has_bit}
 use Rattle.avr_exec.specs.declared.cpu.Cpu.{Cpu}
 use Rattle.avr_exec.specs.declared.ask.Ask.TheVariants as asks
 use Rattle.avr_exec.specs.declared.answer.Answer.{Answer}
-use Rattle.avr_exec.specs.Registers.{relative, wrapping_sum, register, is_own, own_byte}
+use Rattle.avr_isa.specs.Addresses.{relative, wrapping_sum}
+use Rattle.avr_exec.specs.Registers.{register, is_own, own_byte}
 use Rattle.avr_exec.specs.Asks.{ask_of, load_of}
 use Rattle.avr_exec.specs.Effects.{finish_of, loaded, byte_of, skip_if}
 use Rattle.avr_exec.specs.Execution.{is_executed}

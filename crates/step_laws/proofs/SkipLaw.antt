@@ -10,14 +10,14 @@ use Rattle.avr_decode.specs.Decoding.{the_form, is_long, size_by_first_word}
 use Rattle.decode_laws.proofs.Lengths.{the_form-second, the_form-size}
 use Rattle.avr_flags.specs.Status.{has_bit, interrupts}
 use Rattle.avr_exec.specs.declared.cpu.Cpu.{Cpu}
-use Rattle.avr_exec.specs.Registers.{wrapping_sum}
+use Rattle.avr_isa.specs.Addresses.{wrapping_sum}
 use Rattle.avr_exec.specs.Asks.{ask_of}
 use Rattle.avr_exec.specs.Effects.{finish_of}
 use Rattle.avr_exec.specs.Execution.{answer_of, exec_of}
 use Rattle.avr_exec.specs.Spaces.{Went as WentOn}
 use Rattle.avr_exec.specs.Likeness.{placed}
 use Rattle.avr_exec.proofs.OneAnswer.{exec_went}
-use Rattle.flash_model.specs.Pages.{word_at}
+use Rattle.flash_words.specs.Pages.{word_at}
 use Rattle.mote_core.specs.Physical.{physical_calls}
 use Rattle.mote_core.specs.Conditions.{can_step, is_device_ask}
 use Rattle.mote_core.specs.Step.{form_at as form_at_mote, next_size as mote_next_size, space_of, stepped}
@@ -27,8 +27,8 @@ use Rattle.nat_template.specs.declared.piece.Piece.TheVariants.{Fixed}
 use Rattle.nat_template.specs.Stubs.{stub}
 use Rattle.nat_template.specs.Templates.{template_by, jump_over, skip_target}
 use Rattle.nat_template.proofs.Sizes.{stub_size}
-use Rattle.nat_page.specs.Standing.{Stands}
-use Rattle.nat_page.specs.Runs.{shape_at, template_at, size_at, next_of, is_closed}
+use Rattle.page_draft.specs.Standing.{Stands}
+use Rattle.page_draft.specs.Runs.{shape_at, template_at, size_at, next_of, is_closed}
 use Rattle.mem_guard.specs.FlatMachine.{next_size}
 use Rattle.mem_guard.specs.Guarded.{Guarded, guarded_calls}
 use Rattle.mem_guard.proofs.GuardedStep.{guarded_goes}

@@ -1,10 +1,10 @@
 -- Words of the pool in a row, behind the first of which no entry's place stands.
 use Rattle.std.proofs.Common.{◌≡◌, ℕ, ◌+◌, ◌%◌, ◌<◌, ◌≤◌, List, arith, subst}
-use Rattle.flash_model.specs.Pages.{page_words}
-use Rattle.flash_model.specs.Layouts.{IsRight}
-use Rattle.flash_model.specs.declared.layout.Layout.{Layout}
-use Rattle.nat_page.specs.Standing.{size}
-use Rattle.nat_page.specs.Runs.{template_at, closing_at}
+use Rattle.flash_words.specs.Pages.{page_words}
+use Rattle.flash_words.specs.Layouts.{IsRight}
+use Rattle.flash_words.specs.declared.layout.Layout.{Layout}
+use Rattle.page_draft.specs.Standing.{size}
+use Rattle.page_draft.specs.Runs.{template_at, closing_at}
 use Rattle.nat_page.specs.Entered.{IsPlace, HasNoPlace, IsLast, Behind, Next, Closed, StandsIn}
 use Rattle.step_laws.specs.States.{InPool}
 use Rattle.step_laws.specs.Links.{Links}

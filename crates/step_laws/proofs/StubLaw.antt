@@ -4,14 +4,14 @@ use Rattle.std.specs.Prelude.{if◌then◌else◌}
 use Rattle.avr_isa.specs.Crossing.{is_crossing}
 use Rattle.avr_isa.specs.declared.form.Form.TheVariants as forms
 use Rattle.avr_isa.specs.Encoding.{second_word}
-use Rattle.flash_model.specs.declared.layout.Layout.{Layout}
-use Rattle.flash_model.specs.Pages.{word_at}
+use Rattle.flash_words.specs.declared.layout.Layout.{Layout}
+use Rattle.flash_words.specs.Pages.{word_at}
 use Rattle.sram_layout.specs.Bytes.{byte_at}
 use Rattle.nat_template.specs.declared.piece.Piece.TheVariants.{Fixed, Link}
 use Rattle.nat_template.specs.Words.{words_of_forms}
 use Rattle.nat_template.specs.Stubs.{count_down, call_word, stub, crossing_stub, plain_stub, service, quantum_entry}
-use Rattle.nat_page.specs.Standing.{Stands, size}
-use Rattle.nat_page.proofs.PieceLaws.{stands_split, stands_fixed}
+use Rattle.page_draft.specs.Standing.{Stands, size}
+use Rattle.page_draft.proofs.PieceLaws.{stands_split, stands_fixed}
 use Rattle.preempt_count.specs.Counting.{count_after, count_over}
 use Rattle.step_laws.specs.States.{Begins, State, mote_of}
 use Rattle.step_laws.proofs.CountDown.{CrossingStub, count_words_are}

@@ -4,7 +4,7 @@ use Rattle.avr_isa.specs.declared.form.Form.{Form}
 use Rattle.avr_isa.specs.declared.form.Form.TheVariants.{Push, Pop, LoadOff, StoreOff}
 use Rattle.avr_isa.specs.declared.operation.Base.TheVariants.{Y}
 use Rattle.avr_decode.specs.Program.{instruction_at}
-use Rattle.avr_exec.specs.Registers.{wrapping_sum}
+use Rattle.avr_isa.specs.Addresses.{wrapping_sum}
 use Rattle.sram_layout.specs.Regions.{crossing_cells, inline_cells, kernel_stack, stack_window, between, KeepsRegion}
 use Rattle.mote_core.specs.declared.mote.Mote.{Mote}
 use Rattle.nat_template.specs.Stubs.{mem_entry}

@@ -1,8 +1,8 @@
 -- Where control may go on from rewritten code, and which exit stubs lead there (docs/RUN.md, "Links").
 use Rattle.std.specs.Prelude.{◌≡◌, ℕ, ◌+◌, ◌/◌, Bool, true, false, List, Option, Some, None}
-use Rattle.flash_model.specs.Pages.{word_at}
-use Rattle.flash_model.specs.declared.layout.Layout.{Layout}
-use Rattle.flash_model.specs.Layouts.{image_of}
+use Rattle.flash_words.specs.Pages.{word_at}
+use Rattle.flash_words.specs.declared.layout.Layout.{Layout}
+use Rattle.flash_words.specs.Layouts.{image_of}
 use Rattle.nat_template.specs.Stubs.{call_word, bridge_entry}
 use Rattle.nat_page.specs.Parts.{EntersPart, IsLinkFrom}
 use Rattle.mem_guard.specs.declared.part.Part.{Part}

@@ -2,7 +2,7 @@
 use Rattle.std.specs.Prelude.{◌≡◌, ◌≢◌, Bool, length, Option}
 use Rattle.mote_devices.specs.declared.line.Line.{Line}
 use Rattle.sram_layout.specs.Bytes.{byte_count}
-use Rattle.flash_model.specs.Memory.{AreWords}
+use Rattle.flash_words.specs.Memory.{AreWords}
 use Rattle.nat_template.specs.Stubs.{bridge_entry, quantum_entry, mem_entry, push_return_entry, return_entry, indirect_entry, self_entry, fault_entry}
 use Rattle.kernel_entry.specs.declared.kernel.Kernel.{Kernel}
 use Rattle.kernel_entry.specs.declared.kernel.Served.{Served}

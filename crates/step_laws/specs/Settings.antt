@@ -4,8 +4,8 @@ use Rattle.sram_layout.specs.Bytes.{byte_count, byte_at}
 use Rattle.sram_layout.specs.Cells.{count_cell, vsp_cell, kernel_stack_top}
 use Rattle.heap_frames.specs.Paged.{IsPaged}
 use Rattle.mote_devices.specs.Waking.{Timely}
-use Rattle.flash_model.specs.Layouts.{IsRight}
-use Rattle.flash_model.specs.Memory.{IsWhole}
+use Rattle.flash_words.specs.Layouts.{IsRight}
+use Rattle.flash_words.specs.Memory.{IsWhole}
 use Rattle.page_index.specs.Entries.{IsEntry}
 use Rattle.nat_page.specs.Entered.{StandsIn}
 use Rattle.nat_page.specs.Faithful.{IsFaithful}

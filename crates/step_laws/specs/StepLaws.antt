@@ -8,7 +8,7 @@ use Rattle.sram_layout.specs.Regions.{place_cells, KeepsRegion}
 use Rattle.heap_frames.specs.Paged.{IsPaged}
 use Rattle.mote_devices.specs.declared.line.Line.{Line}
 use Rattle.nat_template.specs.declared.shapes.TemplateShape.{TemplateShape}
-use Rattle.nat_page.specs.Runs.{shape_at}
+use Rattle.page_draft.specs.Runs.{shape_at}
 use Rattle.mem_guard.specs.FlatMachine.{FlatState, Tried, Stops, Goes, Wakes, tried}
 use Rattle.preempt_count.specs.Counting.{count_over, is_checkpoint}
 use Rattle.kernel_entry.specs.declared.kernel.Stop.{Stop}

@@ -12,7 +12,7 @@ pub struct Owed {
 
 /// How a run ends. `Spent` is an answer alone: a run that is spent has not ended, and goes on when it is asked
 /// for more.
-#[derive(Clone, Copy, PartialEq, Eq)]
+#[derive(Clone, Copy)]
 pub enum End {
     /// The bound of steps was reached.
     Spent,

@@ -3,9 +3,9 @@
 ghost use Rattle.std.specs.Prelude.{◌≡◌, ◌≤◌, ◌<◌, length, IfOk};
 ghost use Rattle.swap_store.specs.Slots.{IsWhole, most_slots, page_in, with_page, zero_page, zero_slots};
 
+use no_memory::NoMemory;
 use std::alloc::Global;
 use std::marker::Model;
-use tk_io::NoMemory;
 
 /// The swap area. Contracts see the list of its pages.
 #[derive(Drop)]

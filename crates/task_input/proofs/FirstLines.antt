@@ -21,16 +21,6 @@ forms_more count lines number line rest have form = record {
   all = All-push (IsTaskLine count) have.front line have.all form;
 }
 
-pub forms_end : (count : ℕ) (lines : List (List ℕ)) (number : ℕ) (line : List ℕ) (rest : List (List ℕ)) → HaveForms count lines number (line ∷ rest) → ¬ IsTaskLine count line → IsFormless count lines (number + 1)
-forms_end count lines number line rest have none = record {
-  front = have.front;
-  line = line;
-  rest = rest;
-  cut = have.cut;
-  number_is = ap (λ n. n + 1) have.number_is;
-  none = none;
-}
-
 pub forms_all : (count : ℕ) (lines : List (List ℕ)) (number : ℕ) → HaveForms count lines number [] → All (IsTaskLine count) lines
 forms_all count lines number have =
     let P : List (List ℕ) → Type 0 = λ l. All (IsTaskLine count) l in

@@ -3,10 +3,10 @@
 ghost use Rattle.std.specs.Prelude.{◌≡◌, ◌≤◌, ◌↔◌, ℕ, IsTrue, IfOk, MatchOption};
 ghost use Rattle.task_input.specs.Images.{IsApart, IsMisplaced, IsFirstMisplaced, task_words};
 
-use flash_model::BLANK;
+use flash_words::BLANK;
 use hex_image::Image;
+use no_memory::NoMemory;
 use std::alloc::Global;
-use tk_io::NoMemory;
 
 /// The words of a task's quarter.
 pub const QUARTER: u16 = 4096;

@@ -6,9 +6,9 @@ ghost use Rattle.text_pieces.specs.Pieces.{task_text};
 ghost use Rattle.task_input.specs.Scripts.{at_word, IsNamed, IsTaskLine, IsFormless, own_line, own_lines};
 ghost use Rattle.task_input.specs.Reading.{ended};
 
+use no_memory::NoMemory;
 use std::alloc::Global;
 use text_lines::first_line;
-use tk_io::NoMemory;
 
 /// How many bytes name a line's task.
 const NAME_LENGTH: usize = 7;

@@ -1,8 +1,8 @@
 -- The acts of a walk, and what each of them is.
 use Rattle.std.proofs.Common.{◌≡◌, ◌≢◌, ℕ, ◌+◌, ◌*◌, ◌/◌, ◌≤◌, Bool, true, false, ◌%◌, ◌-◌, slice_index, nat_le, if◌then◌else◌, cond, List, [], ◌∷◌, length, Option, Some, None, refl, sym, ap, ◌∙◌, subst, arith}
 use Rattle.sram_layout.specs.Bytes.{byte_at, with_byte}
-use Rattle.flash_model.specs.declared.layout.Layout.{Layout}
-use Rattle.flash_model.specs.Layouts.{layout_of}
+use Rattle.flash_words.specs.declared.layout.Layout.{Layout}
+use Rattle.flash_words.specs.Layouts.{layout_of}
 use Rattle.mote_devices.specs.declared.line.Line.{Line}
 use Rattle.mote_core.specs.declared.mote.Mote.{Mote}
 use Rattle.mote_core.specs.Step.{stepped}
@@ -17,7 +17,7 @@ use Rattle.kernel_entry.specs.declared.kernel.Taken.TheVariants as taken
 use Rattle.kernel_entry.proofs.TakingRows.{taking_row}
 use Rattle.heap_frames.specs.Addresses.{is_stack}
 use Rattle.heap_frames.proofs.MemoryLaws.{stack_from}
-use Rattle.avr_exec.specs.Registers.{wrapping_difference}
+use Rattle.avr_isa.specs.Addresses.{wrapping_difference}
 use Rattle.sram_layout.specs.Cells.{vsp_cell}
 use Rattle.sram_layout.proofs.Laws.{byte_other, byte_out_of_word}
 use Rattle.kernel_entry.specs.Left.{Leaves, LeavesHeap}

@@ -1,10 +1,10 @@
 -- What is answered, in lists and numbers.
 use Rattle.std.proofs.Common.{◌≡◌, ℕ, ◌+◌, ◌*◌, ◌≤◌, true, false, List, [], ◌++◌, Option, Some, None, refl, sym, ap, ◌∙◌, subst, arith, zero-add, inl, inr}
 use Rattle.std.specs.Io.KnownBytes.{Appends}
-use Rattle.tk_io.specs.Faults.{Rose}
+use Rattle.byte_streams.specs.Faults.{Rose}
 use Rattle.sram_layout.specs.Bytes.{byte_at, data_word_at}
 use Rattle.list_parts.specs.Lists.{many}
-use Rattle.flash_model.specs.Memory.{Memory, loaded, new_flash}
+use Rattle.flash_words.specs.Memory.{Memory, loaded, new_flash}
 use Rattle.input_script.specs.Script.{Schedule}
 use Rattle.mem_guard.specs.FlatMachine.{Moment}
 use Rattle.step_laws.specs.Numbers.{Numbers}
@@ -15,12 +15,13 @@ use Rattle.program_steps.specs.Ready.{IsReady}
 use Rattle.step_laws.proofs.NumberLaws.{unmoved}
 use Rattle.tk_run.specs.Booted.{started}
 use Rattle.tk_run.specs.Running.{Leads}
-use Rattle.tk_request.specs.declared.command.Command.TheVariants.{Run as RunCommand}
-use Rattle.tk_request.specs.declared.status.Status.{Status}
+use Rattle.tk_words.specs.declared.command.Command.TheVariants.{Run as RunCommand}
+use Rattle.tk_words.specs.declared.status.Status.{Status}
 use Rattle.tkernel_cli.specs.declared.top.Exit.{Exit}
-use Rattle.tk_request.specs.Status.{number_of}
-use Rattle.tk_request.specs.Reading.{Good, Stream}
-use Rattle.tkernel_cli.specs.Runs.{Says, Runs, RunsToTheEnd, RunsIntoAFault, Follows}
+use Rattle.tk_words.specs.Status.{number_of}
+use Rattle.tk_request.specs.Reading.{Good}
+use Rattle.tk_words.specs.Stream.{Stream}
+use Rattle.run_jobs.specs.Runs.{Says, Runs, RunsToTheEnd, RunsIntoAFault, Follows}
 use Rattle.tkernel_cli.specs.Answer.{IsExact}
 use Rattle.theorem_reader.specs.Acts.{HasActs, IsBoot, pool_from, tried_in}
 use Rattle.theorem_reader.specs.Runs.{Asked, Asks, original_of, StandsFrom, Stands, EndsWell, EndsInAFault, IsRun, NoMemory, Ended, Failed}
@@ -155,8 +156,8 @@ pub answered : (words : List (List ℕ)) (source source' sink sink' : Stream) (e
     → Asks words text asked → IsExact words source source' sink sink' exit → IsRun asked (number_of exit.status) taken exit.kept
 answered words source source' sink sink' exit text taken asked told read written first last asks exact =
     elim (exact _ (inl (RunCommand (record { steps = asked.steps; quantum = asked.quantum; swap = asked.slots }), asks.command, (text, record { told = told; read = read }, inr (asks.input.short, Good (asked.image, asks.input.position) asks.input.hex (Good (script_of asked) asks.input.script refl))))) written) [
-      | inl none ↦ NoMemory (ap number_of none.0) (taken_is sink.told sink'.told taken _ first last none.1) none.2.0
-      | inr done ↦ ran asked sink sink' exit taken done.0.machine written first last done.0.kept done.0.runs
+      | inl none ↦ NoMemory (ap number_of none.0.0) (taken_is sink.told sink'.told taken _ first last none.0.1) none.0.2
+      | inr done ↦ ran asked sink sink' exit taken done.0.0.machine written first last done.0.0.kept done.0.0.runs
     ]
 
 pub not_risen : (a b : ℕ) → a ≡ 0 → b ≡ 0 → Rose a b → ⊥

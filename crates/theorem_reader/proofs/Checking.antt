@@ -1,19 +1,19 @@
 -- What `check` answers.
 use Rattle.std.proofs.Common.{◌≡◌, ℕ, zero, suc, ◌+◌, ◌-◌, ◌*◌, ◌/◌, ◌==◌, Bool, true, false, nat_le, not, if◌then◌else◌, List, [], ◌++◌, length, slice_index, Some, codes, decimal, refl, ap, ap₂, ◌∙◌, arith}
-use Rattle.tk_io.specs.Faults.{Rose}
-use Rattle.flash_model.specs.Layouts.{layout_of, IsRight}
-use Rattle.flash_model.specs.Pages.{page_of}
-use Rattle.flash_model.proofs.LayoutLaws.{layout_right}
+use Rattle.byte_streams.specs.Faults.{Rose}
+use Rattle.flash_words.specs.Layouts.{layout_of, IsRight}
+use Rattle.flash_words.specs.Pages.{page_of}
+use Rattle.flash_words.proofs.LayoutLaws.{layout_right}
 use Rattle.page_index.specs.Maps.{IsPool}
 use Rattle.nat_page.specs.Used.{used_among}
 use Rattle.pool_check.specs.Verdicts.{IsVerdict}
 use Rattle.pool_check.specs.declared.checking.Verdict.{Verdict}
 use Rattle.pool_check.specs.declared.checking.Verdict.TheVariants as verdicts
 use Rattle.pool_check.proofs.CheckedLaws.{code_checked}
-use Rattle.tk_request.specs.declared.status.Status.{Status}
+use Rattle.tk_words.specs.declared.status.Status.{Status}
 use Rattle.tkernel_cli.specs.declared.top.Exit.{Exit}
-use Rattle.tk_request.specs.Status.{number_of}
-use Rattle.tk_request.specs.Reading.{Stream}
+use Rattle.tk_words.specs.Status.{number_of}
+use Rattle.tk_words.specs.Stream.{Stream}
 use Rattle.tk_request.specs.CheckCommand.{verdict_status, verdict_text}
 use Rattle.tkernel_cli.specs.Answer.{IsAnswer}
 use Rattle.theorem_reader.proofs.Checks.{Wanting, Verdicts, check_answers}
@@ -82,7 +82,7 @@ pub check_told : (words : List (List ℕ)) (source source' sink sink' : Stream) 
     → AsksCheck words text image flash → IsAnswer words source source' sink sink' exit → IsJudged image flash (number_of exit.status) taken exit.kept
 check_told words source source' sink sink' exit text taken image flash told read written first last asks answer =
     elim (check_answers words image flash text asks.position source source' sink sink' exit asks.command (record { told = told; read = read }) asks.short asks.hex asks.dump written answer) [
-      | Wanting none ↦ record { checked = NoMemory (ap number_of none.0) (taken_is sink.told sink'.told taken _ first last none.1); none = none.2.0 }
+      | Wanting none ↦ record { checked = NoMemory (ap number_of none.0.0) (taken_is sink.told sink'.told taken _ first last none.0.1); none = none.0.2 }
       | Verdicts verdict is own said none ↦ record {
         checked = judged image flash taken verdict exit.status (layout_right (length image) (few_words text image asks.position asks.hex)) is own (taken_is sink.told sink'.told taken _ first last said);
         none = none;

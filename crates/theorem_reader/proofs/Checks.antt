@@ -1,26 +1,27 @@
 -- What `check` answers to a HEX text and a dump behind it is what the checker says of them.
 use Rattle.std.proofs.Common.{◌≡◌, ℕ, ◌+◌, ◌≤◌, List, length, drop, subst, arith, inl, inr, None}
 use Rattle.std.specs.Io.KnownBytes.{Appends}
-use Rattle.tk_io.specs.Faults.{Rose}
-use Rattle.flash_model.specs.Layouts.{layout_of}
+use Rattle.byte_streams.specs.Faults.{Rose}
+use Rattle.flash_words.specs.Layouts.{layout_of}
 use Rattle.hex_image.specs.HexText.{HexText}
 use Rattle.hex_image.proofs.LawLemmas.{never_both, same_image}
-use Rattle.pool_check.specs.Dumps.{IsDump, IsNoDump}
+use Rattle.flash_dump.specs.Dumps.{IsDump, IsNoDump}
 use Rattle.pool_check.specs.Verdicts.{IsVerdict}
 use Rattle.pool_check.specs.declared.checking.Verdict.{Verdict}
-use Rattle.pool_check.proofs.Judgement as dumps
-use Rattle.tk_request.specs.declared.command.Command.TheVariants.{Check}
-use Rattle.tk_request.specs.declared.job.Job.{Job}
+use Rattle.flash_dump.proofs.Judgement as dumps
+use Rattle.tk_words.specs.declared.command.Command.TheVariants.{Check}
+use Rattle.tk_words.specs.declared.job.Job.{Job}
 use Rattle.tkernel_cli.specs.declared.top.Exit.{Exit}
 use Rattle.tk_request.specs.CheckCommand.{CheckAsks, verdict_line, verdict_status, verdict_text}
-use Rattle.tk_request.specs.Commands.{IsCommand}
-use Rattle.tk_request.specs.Printed.{no_memory}
-use Rattle.tk_request.specs.Reading.{AsksByText, IsUnread, Bad, Good, most_input, Stream}
+use Rattle.tk_words.specs.Commands.{IsCommand}
+use Rattle.tk_words.specs.Printed.{no_memory}
+use Rattle.tk_request.specs.Reading.{AsksByText, IsUnread, Bad, Good, most_input}
+use Rattle.tk_words.specs.Stream.{Stream}
 use Rattle.tk_request.specs.Asking.{Asks, Tells}
 use Rattle.tkernel_cli.specs.Answer.{Does, DoesWhole, IsAnswer}
 use Rattle.tk_request.proofs.Reasons.{all_taken, taken_of}
 use Rattle.tkernel_cli.proofs.Exactly.{done_whole}
-use Rattle.tk_request.proofs.OneCommand.{one_command}
+use Rattle.tk_words.proofs.OneCommand.{one_command}
 
 -- the line of a verdict on this flash
 record IsLine (image flash : List ℕ) (job : Job) : Type 0 where
@@ -53,7 +54,7 @@ pub data Answers (image flash : List ℕ) (sink sink' : Stream) (exit : Exit) : 
 line_told : (image flash : List ℕ) (sink sink' : Stream) (exit : Exit) (job : Job) → (Rose sink.faults sink'.faults → ⊥) → Does job sink sink' exit → IsLine image flash job → Answers image flash sink sink' exit
 line_told image flash sink sink' exit job well done line =
     let whole = done_whole (verdict_line line.verdict) sink sink' exit well (subst (λ j. Does j sink sink' exit) line.line done) in
-    Verdicts line.verdict line.is whole.0 whole.1 whole.2.0
+    Verdicts line.verdict line.is whole.0.0 whole.0.1 whole.0.2
 
 by_source : (image flash text : List ℕ) (position : ℕ) (source source' sink sink' : Stream) (exit : Exit) (job : Job) → Tells source source' text → length text ≤ most_input → HexText text image position → IsDump (drop position text) flash
     → (Rose sink.faults sink'.faults → ⊥) → Does job sink sink' exit → AsksByText CheckAsks source source' job → Answers image flash sink sink' exit

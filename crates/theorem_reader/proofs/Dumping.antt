@@ -1,18 +1,19 @@
 -- What `dump` answers.
 use Rattle.std.proofs.Common.{◌≡◌, ℕ, Bool, true, false, if◌then◌else◌, List, [], ◌∷◌, ◌++◌, flat_map, Some, refl, ap, ◌∙◌, inl, inr}
 use Rattle.std.specs.List.{range_with_len}
-use Rattle.tk_io.specs.Faults.{Rose}
-use Rattle.flash_model.specs.Pages.{page_of}
+use Rattle.byte_streams.specs.Faults.{Rose}
+use Rattle.flash_words.specs.Pages.{page_of}
 use Rattle.text_lines.specs.Written.{fed}
-use Rattle.pool_check.specs.WrittenDumps.{written, lines_of_page, page_line, is_erased}
+use Rattle.flash_dump.specs.WrittenDumps.{written, lines_of_page, page_line, is_erased}
 use Rattle.program_steps.specs.Machines.{Machine}
-use Rattle.tk_request.specs.declared.command.Command.TheVariants.{Dump}
-use Rattle.tk_request.specs.declared.status.Status.{Status}
+use Rattle.tk_words.specs.declared.command.Command.TheVariants.{Dump}
+use Rattle.tk_words.specs.declared.status.Status.{Status}
 use Rattle.tkernel_cli.specs.declared.top.Exit.{Exit}
-use Rattle.tk_request.specs.Status.{number_of}
-use Rattle.tk_request.specs.Reading.{Good, Stream}
-use Rattle.tkernel_cli.specs.Runs.{Runs}
-use Rattle.tkernel_cli.specs.DumpRuns.{HasDumped, silent}
+use Rattle.tk_words.specs.Status.{number_of}
+use Rattle.tk_request.specs.Reading.{Good}
+use Rattle.tk_words.specs.Stream.{Stream}
+use Rattle.run_jobs.specs.Runs.{Runs}
+use Rattle.run_jobs.specs.DumpRuns.{HasDumped, silent}
 use Rattle.tkernel_cli.specs.Answer.{IsExact}
 use Rattle.theorem_reader.specs.Runs.{Asked}
 use Rattle.theorem_reader.specs.Dumps.{AsksDump, page_text, dump_text, HasEnded, Well, InAFault, IsDumped, NoMemory, Unwritten, Dumped}
@@ -39,7 +40,7 @@ has_ended asked told m (Runs.Failed run) = InAFault run.op (ends_in_a_fault aske
 has_ended asked told m (Runs.Cut run) = absurd (not_risen 0 0 refl refl run.rose)
 
 dumped : (asked : Asked) (before now : Stream) (exit : Exit) (taken : List ℕ) → (Rose before.faults now.faults → ⊥) → before.told ≡ Some [] → now.told ≡ Some taken
-    → HasDumped (record { image = asked.image; script = script_of asked; options = record { steps = asked.steps; quantum = asked.quantum; swap = asked.slots } }) before now exit → IsDumped asked (number_of exit.status) taken exit.kept
+    → HasDumped (record { image = asked.image; script = script_of asked; options = record { steps = asked.steps; quantum = asked.quantum; swap = asked.slots } }) before now exit.status exit.kept → IsDumped asked (number_of exit.status) taken exit.kept
 dumped asked before now exit taken well first last done =
     let ended = has_ended asked done.ended done.machine done.runs in
     elim done.said [
@@ -56,6 +57,6 @@ pub dump_told : (words : List (List ℕ)) (source source' sink sink' : Stream) (
     → AsksDump words text asked → IsExact words source source' sink sink' exit → IsDumped asked (number_of exit.status) taken exit.kept
 dump_told words source source' sink sink' exit text taken asked told read written first last asks exact =
     elim (exact _ (inl (Dump (record { steps = asked.steps; quantum = asked.quantum; swap = asked.slots }), asks.command, (text, record { told = told; read = read }, inr (asks.input.short, Good (asked.image, asks.input.position) asks.input.hex (Good (script_of asked) asks.input.script refl))))) written) [
-      | inl none ↦ NoMemory (ap number_of none.0) (taken_is sink.told sink'.told taken _ first last none.1) none.2.0
-      | inr done ↦ dumped asked sink sink' exit taken written first last done.0
+      | inl none ↦ NoMemory (ap number_of none.0.0) (taken_is sink.told sink'.told taken _ first last none.0.1) none.0.2
+      | inr done ↦ dumped asked sink sink' exit taken written first last done.0.0
     ]

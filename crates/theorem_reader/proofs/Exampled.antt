@@ -7,7 +7,7 @@ use Rattle.hex_image.specs.Lines.{bytes_at}
 use Rattle.hex_image.specs.HexText.{HexText, IsBeforeEnd}
 use Rattle.hex_image.proofs.GrammarLemmas.{AreSound, sound_row}
 use Rattle.input_script.proofs.WorkedLines.{three_lines}
-use Rattle.tk_request.proofs.WorkedWords.{with_options}
+use Rattle.tk_words.proofs.WorkedWords.{with_options}
 use Rattle.theorem_reader.specs.Runs.{Asks, IsTextOf, example}
 
 -- the text

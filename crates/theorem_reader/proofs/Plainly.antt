@@ -11,11 +11,11 @@ use Rattle.hex_image.proofs.GrammarLemmas.{extent-small}
 use Rattle.hex_image.specs.Written.{bytes_of_words, checksum_of, fields_of, record_bytes, record_line, record_content, data_line, record_count, written}
 use Rattle.hex_image.specs.HexText.{HexText, meanings_of}
 use Rattle.input_script.specs.Script.{IsScript, nothing}
-use Rattle.tk_request.specs.declared.command.Command.TheVariants.{Run as RunCommand}
-use Rattle.tk_request.specs.Commands.{IsCommand}
-use Rattle.tk_request.specs.Options as options
+use Rattle.tk_words.specs.declared.command.Command.TheVariants.{Run as RunCommand}
+use Rattle.tk_words.specs.Commands.{IsCommand}
+use Rattle.tk_words.specs.Options as options
 use Rattle.std.specs.Prelude.{Result, Ok, Err, IfOk}
-use Rattle.tk_io.specs.declared.failure.NoMemory.{NoMemory}
+use Rattle.no_memory.specs.declared.NoMemory.{NoMemory}
 use Rattle.theorem_reader.specs.declared.reader.Told.{Told}
 use Rattle.theorem_reader.specs.Runs.{Asked, Asks, IsRun, plainly}
 

@@ -2,21 +2,21 @@
 use Rattle.std.proofs.Common.{◌≡◌, ◌≢◌, ℕ, zero, suc, ◌+◌, ◌-◌, ◌*◌, ◌/◌, ◌%◌, ◌≤◌, ◌<◌, Bool, true, false, not, ◌&&◌, if◌then◌else◌, List, [], ◌++◌, length, slice_index, Option, Some, None, codes, decimal, refl, sym, ap, ap₂, ◌∙◌, subst, arith, inl, inr, ◌⊎◌}
 use Rattle.std.specs.Prelude.{IfSome}
 use Rattle.std.proofs.lemmas.Bool.{cases_lt}
-use Rattle.tk_io.specs.Faults.{Rose}
+use Rattle.byte_streams.specs.Faults.{Rose}
 use Rattle.list_parts.proofs.ManyLaws.{length-many, get_or-many}
-use Rattle.flash_model.specs.Layouts.{layout_of}
-use Rattle.flash_model.specs.declared.layout.Layout.{Layout}
-use Rattle.flash_model.specs.Memory.{Memory}
-use Rattle.flash_model.specs.Operations.{renewed}
-use Rattle.flash_model.specs.Pages.{page_of, set_page, blank, page_words}
-use Rattle.flash_model.proofs.LayoutLaws.{layout_right}
-use Rattle.flash_model.proofs.PageLaws as pages
+use Rattle.flash_words.specs.Layouts.{layout_of}
+use Rattle.flash_words.specs.declared.layout.Layout.{Layout}
+use Rattle.flash_words.specs.Memory.{Memory}
+use Rattle.flash_words.specs.Operations.{renewed}
+use Rattle.flash_words.specs.Pages.{page_of, set_page, blank, page_words}
+use Rattle.flash_words.proofs.LayoutLaws.{layout_right}
+use Rattle.flash_words.proofs.PageLaws as pages
 use Rattle.page_index.specs.Maps.{IsPool, IsFree, original_page, address_of, place_of}
 use Rattle.page_index.specs.Entries.{Lists}
-use Rattle.nat_page.specs.CodePages.{Anywhere}
+use Rattle.page_draft.specs.CodePages.{Anywhere}
 use Rattle.nat_page.specs.Used.{used_pages}
 use Rattle.nat_page.proofs.HeldLaws.{map_held}
-use Rattle.pool_check.specs.WrittenDumps.{is_erased}
+use Rattle.flash_dump.specs.WrittenDumps.{is_erased}
 use Rattle.pool_check.proofs.CheckedLaws.{code_checked}
 use Rattle.pool_check.proofs.MovedLaws.{holds_alone, holds_in_flash}
 use Rattle.nat_page.specs.Faithful.{IsFaithful}
@@ -31,20 +31,22 @@ use Rattle.tk_run.specs.Running.{flat_end}
 use Rattle.tk_restart.specs.declared.sweeping.Kept.{Kept}
 use Rattle.tk_restart.specs.Keeping.{count_where, is_dropped}
 use Rattle.tk_restart.specs.Keeping as keeping
+use Rattle.tk_restart.specs.Losing.{lost_in, torn_words}
 use Rattle.tk_restart.specs.Restarting.{Restarts}
 use Rattle.tk_restart.proofs.KeepingLaws.{kept_page, kept_lists, lists_before}
-use Rattle.tk_request.specs.declared.command.Command.TheVariants.{Restart}
-use Rattle.tk_request.specs.declared.status.Status.{Status}
+use Rattle.tk_words.specs.declared.command.Command.TheVariants.{Restart}
+use Rattle.tk_words.specs.declared.status.Status.{Status}
 use Rattle.tkernel_cli.specs.declared.top.Exit.{Exit}
-use Rattle.tk_request.specs.Status.{number_of}
-use Rattle.tk_request.specs.Reading.{Good, Stream}
-use Rattle.tkernel_cli.specs.Runs.{Runs, KeepsEnd}
-use Rattle.tkernel_cli.specs.DumpRuns.{silent}
-use Rattle.tkernel_cli.specs.RestartRuns.{HasRestarted, RunsOver, RunsOverToTheEnd, lost_flash, lost_in, refused_in, torn_words}
-use Rattle.tkernel_cli.specs.Text.{restart_text}
+use Rattle.tk_words.specs.Status.{number_of}
+use Rattle.tk_request.specs.Reading.{Good}
+use Rattle.tk_words.specs.Stream.{Stream}
+use Rattle.run_jobs.specs.Runs.{Runs, KeepsEnd}
+use Rattle.run_jobs.specs.DumpRuns.{silent}
+use Rattle.run_jobs.specs.RestartRuns.{HasRestarted, RunsOver, RunsOverToTheEnd, lost_flash, refused_in}
+use Rattle.run_jobs.specs.Text.{restart_text}
 use Rattle.tkernel_cli.specs.Answer.{IsExact}
 use Rattle.tk_request.proofs.ImageLength.{few_words}
-use Rattle.tkernel_cli.proofs.TornWords.{number_at, torn_word, length_torn}
+use Rattle.tk_restart.proofs.TornWords.{number_at, torn_word, length_torn}
 use Rattle.theorem_reader.specs.Acts.{pool_from}
 use Rattle.theorem_reader.specs.Checks.{AreFaithful, used_of}
 use Rattle.theorem_reader.specs.Runs.{Asked, StandsFrom, original_of}
@@ -255,7 +257,7 @@ line_same image lost left kept n d used dropped = ap₂ (λ a b. codes "restart 
 -- The second run. -----------------------------------------------------------------------------------------
 
 second : (asked : Asked) (before now : Stream) (exit : Exit) (taken : List ℕ) → length asked.image ≤ 24576 → (Rose before.faults now.faults → ⊥) → before.told ≡ Some [] → now.told ≡ Some taken
-    → (done : HasRestarted (record { image = asked.image; script = script_of asked; options = record { steps = asked.steps; quantum = asked.quantum; swap = asked.slots } }) before now exit)
+    → (done : HasRestarted (record { image = asked.image; script = script_of asked; options = record { steps = asked.steps; quantum = asked.quantum; swap = asked.slots } }) before now exit.status exit.kept)
     → RunsOverToTheEnd (record { image = asked.image; script = script_of asked; options = record { steps = asked.steps; quantum = asked.quantum; swap = asked.slots } }) done.left (restart_text done.told.kept done.told.dropped) before now exit.status done.machine
     → IsSecond asked (number_of exit.status) taken done.machine
 second asked before now exit taken few well first last done run =
@@ -286,7 +288,7 @@ second asked before now exit taken few well first last done run =
     }
 
 restarted : (asked : Asked) (before now : Stream) (exit : Exit) (taken : List ℕ) → length asked.image ≤ 24576 → (Rose before.faults now.faults → ⊥) → before.told ≡ Some [] → now.told ≡ Some taken
-    → (done : HasRestarted (record { image = asked.image; script = script_of asked; options = record { steps = asked.steps; quantum = asked.quantum; swap = asked.slots } }) before now exit)
+    → (done : HasRestarted (record { image = asked.image; script = script_of asked; options = record { steps = asked.steps; quantum = asked.quantum; swap = asked.slots } }) before now exit.status exit.kept)
     → RunsOver (record { image = asked.image; script = script_of asked; options = record { steps = asked.steps; quantum = asked.quantum; swap = asked.slots } }) done.left (restart_text done.told.kept done.told.dropped) before now exit.status done.machine
     → IsRestarted asked (number_of exit.status) taken exit.kept
 restarted asked before now exit taken few well first last done (RunsOver.Unbegun none) = absurd (well none.rose)
@@ -298,6 +300,6 @@ pub restart_told : (words : List (List ℕ)) (source source' sink sink' : Stream
     → AsksRestart words text asked → IsExact words source source' sink sink' exit → IsRestarted asked (number_of exit.status) taken exit.kept
 restart_told words source source' sink sink' exit text taken asked told read written first last asks exact =
     elim (exact _ (inl (Restart (record { steps = asked.steps; quantum = asked.quantum; swap = asked.slots }), asks.command, (text, record { told = told; read = read }, inr (asks.input.short, Good (asked.image, asks.input.position) asks.input.hex (Good (script_of asked) asks.input.script refl))))) written) [
-      | inl none ↦ NoMemory (ap number_of none.0) (taken_is sink.told sink'.told taken _ first last none.1) none.2.0
-      | inr done ↦ restarted asked sink sink' exit taken (few_words text asked.image asks.input.position asks.input.hex) written first last done.0 done.0.over
+      | inl none ↦ NoMemory (ap number_of none.0.0) (taken_is sink.told sink'.told taken _ first last none.0.1) none.0.2
+      | inr done ↦ restarted asked sink sink' exit taken (few_words text asked.image asks.input.position asks.input.hex) written first last done.0.0 done.0.0.over
     ]

@@ -10,9 +10,9 @@ use Rattle.line_text.specs.StopLines.{end_line}
 use Rattle.step_laws.specs.declared.moves.End.TheVariants as ends
 use Rattle.program_steps.specs.Machines.{Machine}
 use Rattle.program_steps.specs.Stepping.{lines_text}
-use Rattle.tkernel_cli.specs.Runs.{status_of_end}
-use Rattle.tk_request.specs.Status.{number_of}
-use Rattle.tkernel_cli.specs.Text.{count_text}
+use Rattle.run_jobs.specs.Runs.{status_of_end}
+use Rattle.tk_words.specs.Status.{number_of}
+use Rattle.run_jobs.specs.Text.{count_text}
 use Rattle.theorem_reader.specs.Texts.{port_word, device_line, end_words, stop_line, count_line, end_status}
 use Rattle.theorem_reader.specs.Runs.{text_of}
 

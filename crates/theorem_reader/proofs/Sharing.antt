@@ -5,33 +5,35 @@ use Rattle.std.specs.List.{range_with_len, find}
 use Rattle.std.proofs.lemmas.Bool.{cases_eq}
 use Rattle.std.proofs.lemmas.Bool.Decides.{nat_tests}
 use Rattle.std.proofs.lemmas.List.Elements.{All-nil, All-cons, All-append, All-head, All-tail}
-use Rattle.tk_io.specs.Faults.{Rose}
+use Rattle.byte_streams.specs.Faults.{Rose}
 use Rattle.mote_devices.specs.declared.line.Line.{Line}
 use Rattle.input_script.specs.Script.{Schedule}
 use Rattle.avr_isa.specs.Image.{word}
 use Rattle.mem_guard.specs.declared.part.Part.{Part}
 use Rattle.mem_guard.specs.FlatMachine.{End as FlatEnd, Moment, Run, run, at_reset, is_own}
 use Rattle.mem_guard.specs.Masked.{masked, masked_from}
-use Rattle.tk_tasks.specs.declared.tasks.Task.{Task}
-use Rattle.tk_tasks.specs.declared.tasks.TaskEnd.{TaskEnd}
-use Rattle.tk_tasks.specs.Booted.{turns_at_reset, players_at_reset}
-use Rattle.tk_tasks.specs.Quarters.{quarter_part}
+use Rattle.parked_tasks.specs.declared.task.Task.{Task}
+use Rattle.parked_tasks.specs.declared.task.TaskEnd.{TaskEnd}
+use Rattle.task_turns.specs.Reset.{turns_at_reset, players_at_reset}
+use Rattle.task_turns.specs.Quarters.{quarter_part}
 use Rattle.task_input.specs.Images.{task_words}
 use Rattle.tk_tasks.specs.Plays.{shown_text, told_text}
-use Rattle.tk_tasks.specs.States.{Tasks, flat_end, flat_end_of, player_of}
-use Rattle.tk_tasks.specs.Turns.{Player, Turns, Told, Shown, Wrote, Stops, After, others, has_ended, ends_of, next_in, changed_to, with_player, once, continued, go_on, tries, shown_by, own_told}
-use Rattle.tk_tasks.proofs.Isolation.{once_follows}
-use Rattle.tk_request.specs.declared.command.Command.TheVariants.{Tasks as TasksCommand}
-use Rattle.tk_request.specs.declared.status.Status.{Status}
-use Rattle.tk_request.specs.declared.status.Status.TheVariants as status
+use Rattle.tk_tasks.specs.States.{Tasks, player_of}
+use Rattle.parked_tasks.specs.Ends.{flat_end, flat_end_of}
+use Rattle.task_turns.specs.Turns.{Player, Turns, Told, Shown, Wrote, Stops, After, others, has_ended, ends_of, next_in, changed_to, with_player, once, continued, go_on, tries, shown_by, own_told}
+use Rattle.task_turns.proofs.Isolation.{once_follows}
+use Rattle.tk_words.specs.declared.command.Command.TheVariants.{Tasks as TasksCommand}
+use Rattle.tk_words.specs.declared.status.Status.{Status}
+use Rattle.tk_words.specs.declared.status.Status.TheVariants as status
 use Rattle.tkernel_cli.specs.declared.top.Exit.{Exit}
 use Rattle.tkernel_cli.specs.Answer.{IsExact}
-use Rattle.tk_request.specs.Reading.{Good, Stream}
-use Rattle.tkernel_cli.specs.Runs.{status_of_end}
-use Rattle.tk_request.specs.Status.{number_of}
+use Rattle.tk_request.specs.Reading.{Good}
+use Rattle.tk_words.specs.Stream.{Stream}
+use Rattle.run_jobs.specs.Runs.{status_of_end}
+use Rattle.tk_words.specs.Status.{number_of}
 use Rattle.tk_request.specs.TasksCommand.{Placed}
 use Rattle.tkernel_cli.specs.TasksRuns.{RunsTasks, RunsTasksToTheEnd, EachIsAlone, run_of_task, all_told, start_by, worse, worst, status_of_task}
-use Rattle.tkernel_cli.specs.Text.{tasks_count_text}
+use Rattle.run_jobs.specs.Text.{tasks_count_text}
 use Rattle.theorem_reader.specs.Tasks.{AskedTasks, AsksTasks, image_of, events_of, alone_of, lines_alone, Printed, printed_text, lines_of_task, last_line, greatest, worst_status, AreApart, AreRun, NoMemory, Ended}
 use Rattle.theorem_reader.specs.Texts.{device_line, end_words, stop_line, end_status}
 use Rattle.theorem_reader.proofs.Answering.{said_is, taken_is}
@@ -305,6 +307,6 @@ tasks_told words source source' sink sink' exit text taken asked told read writt
     let values = asks.command.values_are in
     let some = count_least asked.count values.0 _ values.1 values.2 values.3.least in
     elim (exact _ (inl (TasksCommand (record { count = asked.count; steps = asked.steps; quantum = asked.quantum; swap = asked.slots }), asks.command, (text, record { told = told; read = read }, inr (asks.short, Good (asked.image, asks.position) asks.hex (Good asked.scripts asks.scripts (Placed asks.placed refl)))))) written) [
-      | inl none ↦ NoMemory (ap number_of none.0) (taken_is sink.told sink'.told taken _ first last none.1) none.2.0
+      | inl none ↦ NoMemory (ap number_of none.0.0) (taken_is sink.told sink'.told taken _ first last none.0.1) none.0.2
       | inr done ↦ are_run asked sink sink' exit taken done.0.tasks asks.scripts.each_task some written first last done.0.none done.0.runs
     ]

@@ -6,8 +6,8 @@ use Rattle.std.proofs.lemmas.List.FromFn.{length-map-range_with_len}
 use Rattle.std.proofs.lemmas.List.Sums.{sum_by-cons}
 use Rattle.list_parts.specs.Lists.{many}
 use Rattle.sram_layout.specs.Bytes.{byte_count, byte_at, data_word_at}
-use Rattle.flash_model.specs.Memory.{loaded}
-use Rattle.flash_model.specs.Layouts.{layout_of}
+use Rattle.flash_words.specs.Memory.{loaded}
+use Rattle.flash_words.specs.Layouts.{layout_of}
 use Rattle.input_script.specs.Script.{Schedule}
 use Rattle.avr_isa.specs.Image.{word}
 use Rattle.heap_frames.specs.Paged.{IsPaged}
@@ -18,16 +18,19 @@ use Rattle.kernel_entry.specs.declared.kernel.Kernel.{Kernel}
 use Rattle.kernel_entry.specs.Seen.{state_at}
 use Rattle.step_laws.specs.Numbers.{Numbers}
 use Rattle.program_steps.specs.Machines.{state_of, numbers_of, flat_of}
-use Rattle.tk_tasks.specs.declared.tasks.Task.{Task}
-use Rattle.tk_tasks.specs.Booted.{mote_at_boot, parked_at_boot, at_start, waiting_from, turns_at_reset}
+use Rattle.parked_tasks.specs.declared.task.Task.{Task}
+use Rattle.parked_tasks.specs.AtBoot.{mote_at_boot, parked_at_boot, at_start, waiting_from}
+use Rattle.task_turns.specs.Reset.{turns_at_reset}
 use Rattle.task_input.specs.Images.{task_words}
-use Rattle.tk_tasks.specs.Parking.{Shares, IsBack}
-use Rattle.tk_tasks.specs.declared.parked.Parked.{Parked}
+use Rattle.parked_tasks.specs.Parking.{Shares, IsBack}
+use Rattle.parked_tasks.specs.declared.parked.Parked.{Parked}
 use Rattle.tk_tasks.specs.Plays.{Play, IsPlay, TaskPath, counted}
-use Rattle.tk_tasks.specs.States.{Tasks, machine_of, AreSound, flat_end_of, player_of, players_from, turns_of}
-use Rattle.tk_tasks.specs.Turns.{Player, Turns, HaveEnded}
-use Rattle.tk_tasks.proofs.Isolation.{once_follows}
-use Rattle.tk_tasks.proofs.OwnPrograms.{player_at, reset_player, each_first, boot_player}
+use Rattle.tk_tasks.specs.States.{Tasks, machine_of, AreSound, player_of, players_from, turns_of}
+use Rattle.parked_tasks.specs.Ends.{flat_end_of}
+use Rattle.task_turns.specs.Turns.{Player, Turns, HaveEnded}
+use Rattle.task_turns.proofs.Isolation.{once_follows}
+use Rattle.task_turns.proofs.OwnPrograms.{player_at, reset_player}
+use Rattle.tk_tasks.proofs.FirstPlayers.{each_first, boot_player}
 use Rattle.tk_tasks.proofs.Stints.{AreLeft, first_motes, left_at_boot, mote_before, mote_behind, is_here, left_behind, sum_play, pages_play, turned_play, last_play, has_back, left_counted}
 use Rattle.tkernel_cli.specs.TasksRuns.{start_by}
 use Rattle.theorem_reader.specs.Acts.{Follow, IsBoot, pool_from, steps_in, services_in, made_in}

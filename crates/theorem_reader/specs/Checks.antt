@@ -1,14 +1,14 @@
 -- What `check` answers about a flash, page by page. Which form a page has, and which links, the crate `pool_check` defines
 -- (`Forms` and `Links`): below the pool the image's words, in the kernel's pages RET, in the pool erased words or a run.
 use Rattle.std.specs.Prelude.{◌≡◌, ℕ, zero, suc, ◌+◌, ◌-◌, ◌*◌, ◌/◌, ◌<◌, ◌≤◌, ◌==◌, if◌then◌else◌, List, ◌++◌, codes, decimal, drop, take, length, slice_index, Option, None}
-use Rattle.flash_model.specs.Layouts.{layout_of}
+use Rattle.flash_words.specs.Layouts.{layout_of}
 use Rattle.hex_image.specs.HexText.{HexText}
-use Rattle.pool_check.specs.Dumps.{IsDump}
+use Rattle.flash_dump.specs.Dumps.{IsDump}
 use Rattle.pool_check.specs.Forms.{HasForm}
 use Rattle.pool_check.specs.Links.{HasLinks}
 use Rattle.program_steps.specs.Machines.{Machine}
-use Rattle.tk_request.specs.declared.command.Command.TheVariants.{Check}
-use Rattle.tk_request.specs.Commands.{IsCommand}
+use Rattle.tk_words.specs.declared.command.Command.TheVariants.{Check}
+use Rattle.tk_words.specs.Commands.{IsCommand}
 use Rattle.theorem_reader.specs.Acts.{pool_from}
 
 -- The word is `check`; the text is a HEX text of the image, and behind it a dump of these 65,536 words of flash.

@@ -2,8 +2,8 @@
 use Rattle.std.specs.Prelude.{◌≡◌, ℕ, ◌+◌, ◌*◌, ◌/◌, ◌%◌, ◌==◌, if◌then◌else◌, List, [], ◌∷◌, ◌++◌, codes, flat_map, drop, take, Option, Some, None}
 use Rattle.std.specs.List.{list_all, range_with_len}
 use Rattle.program_steps.specs.Machines.{Machine}
-use Rattle.tk_request.specs.declared.command.Command.TheVariants.{Dump}
-use Rattle.tk_request.specs.Commands.{IsCommand}
+use Rattle.tk_words.specs.declared.command.Command.TheVariants.{Dump}
+use Rattle.tk_words.specs.Commands.{IsCommand}
 use Rattle.theorem_reader.specs.Runs.{Asked, IsTextOf, EndsWell, EndsInAFault}
 use Rattle.theorem_reader.specs.Texts.{hex}
 

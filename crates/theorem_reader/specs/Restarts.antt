@@ -4,8 +4,8 @@ use Rattle.std.specs.List.{list_all}
 use Rattle.mote_core.specs.declared.mote.Mote.{Mote}
 use Rattle.step_laws.specs.declared.moves.End.TheVariants as ends
 use Rattle.program_steps.specs.Machines.{Machine}
-use Rattle.tk_request.specs.declared.command.Command.TheVariants.{Restart}
-use Rattle.tk_request.specs.Commands.{IsCommand}
+use Rattle.tk_words.specs.declared.command.Command.TheVariants.{Restart}
+use Rattle.tk_words.specs.Commands.{IsCommand}
 use Rattle.theorem_reader.specs.Acts.{pool_from}
 use Rattle.theorem_reader.specs.Checks.{is_formed, IsInPool, AreFaithful, used_of}
 use Rattle.theorem_reader.specs.Dumps.{HasEnded}

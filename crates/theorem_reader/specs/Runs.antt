@@ -9,8 +9,8 @@ use Rattle.step_laws.specs.declared.moves.End.TheVariants as ends
 use Rattle.program_steps.specs.Machines.{Machine}
 use Rattle.hex_image.specs.HexText.{HexText}
 use Rattle.input_script.specs.Script.{IsScript}
-use Rattle.tk_request.specs.declared.command.Command.TheVariants.{Run as RunCommand}
-use Rattle.tk_request.specs.Commands.{IsCommand}
+use Rattle.tk_words.specs.declared.command.Command.TheVariants.{Run as RunCommand}
+use Rattle.tk_words.specs.Commands.{IsCommand}
 use Rattle.theorem_reader.specs.Acts.{HasActs, IsBoot}
 use Rattle.theorem_reader.specs.Memory.{HasMemory}
 use Rattle.theorem_reader.specs.Texts.{device_line, end_words, stop_line, count_line, end_status}

@@ -10,8 +10,8 @@ use Rattle.mem_guard.specs.FlatMachine.{FlatState, Run, run, at_reset}
 use Rattle.program_steps.specs.Machines.{Machine}
 use Rattle.task_input.specs.Images.{IsMisplaced}
 use Rattle.task_input.specs.Scripts.{Schedules}
-use Rattle.tk_request.specs.declared.command.Command.TheVariants.{Tasks as TasksCommand}
-use Rattle.tk_request.specs.Commands.{IsCommand}
+use Rattle.tk_words.specs.declared.command.Command.TheVariants.{Tasks as TasksCommand}
+use Rattle.tk_words.specs.Commands.{IsCommand}
 use Rattle.theorem_reader.specs.Acts.{IsBoot, pool_from}
 use Rattle.theorem_reader.specs.Stints.{HaveStints}
 use Rattle.theorem_reader.specs.Texts.{device_line, end_words, stop_line, end_status}

@@ -1,4 +1,2 @@
--- What streams do, and the states of those in memory.
-pub mod Faults
-pub mod Streams
+-- The states of streams in memory.
 pub mod Memory

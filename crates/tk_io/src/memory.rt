@@ -2,10 +2,10 @@
 ghost use Rattle.std.specs.Prelude.{◌≡◌, ◌↔◌, ℕ, ◌<◌, ◌≤◌, ◌-◌, List, [], ◌++◌, Some, drop, take, length, min, IsOk, IsErr, IfOk, OnErr, vec_capacity, if◌then◌else◌, is_ok};
 ghost use Rattle.std.specs.Io.{ReadsAtMost, WritesAtMost};
 ghost use Rattle.std.specs.Io.KnownBytes.{ReadConsumes, WriteAppends};
-ghost use Rattle.tk_io.specs.Faults.{HasCause, next_count};
+ghost use Rattle.byte_streams.specs.Faults.{HasCause, next_count};
 ghost use Rattle.tk_io.specs.Memory.{SinkState, room_left};
 
-use crate::{Failed, NoMemory, Sink, Source};
+use byte_streams::{Failed, NoMemory, Sink, Source};
 use std::alloc::Global;
 use std::marker::Model;
 

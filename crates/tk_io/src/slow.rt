@@ -2,10 +2,11 @@
 ghost use Rattle.std.specs.Prelude.{◌≡◌, ◌↔◌, ℕ, ◌<◌, ◌≤◌, ◌-◌, List, [], ◌++◌, Some, take, length, min, IsOk, IsErr, IfOk, if◌then◌else◌, is_ok};
 ghost use Rattle.std.specs.Io.{ReadsAtMost, WritesAtMost};
 ghost use Rattle.std.specs.Io.KnownBytes.{ReadConsumes, WriteAppends};
-ghost use Rattle.tk_io.specs.Faults.{HasCause, next_count};
+ghost use Rattle.byte_streams.specs.Faults.{HasCause, next_count};
 ghost use Rattle.tk_io.specs.Memory.{SlowSourceState, SlowSinkState};
 
-use crate::{Failed, MemSink, MemSource, NoMemory, Sink, Source};
+use crate::memory::{MemSink, MemSource};
+use byte_streams::{Failed, NoMemory, Sink, Source};
 use std::alloc::Global;
 use std::marker::Model;
 

@@ -1,21 +1,23 @@
 -- What is asked for may want memory before it is done.
-use Rattle.std.proofs.Common.{◌≡◌, ℕ, ◌≤◌, List, length, refl, ◌+◌, arith, subst, inl, inr}
+use Rattle.std.proofs.Common.{◌≡◌, ℕ, ◌≤◌, List, drop, length, length-drop, refl, ◌+◌, ◌-◌, arith, subst, take, inl, inr}
 use Rattle.std.specs.Prelude.{◌⊎◌}
+use Rattle.std.proofs.lemmas.List.{take_all}
 use Rattle.hex_image.specs.HexText.{HexText}
 use Rattle.text_lines.proofs.TextLaws.{front-short}
-use Rattle.tk_io.specs.Streams.{TakesAtMost}
-use Rattle.tk_request.specs.declared.command.Command.{Command}
-use Rattle.tk_request.specs.declared.command.Command.TheVariants.{Help, Run, Dump, Restart, Tasks, Check, Generate, Asm}
-use Rattle.tk_request.specs.declared.job.Job.{Job}
+use Rattle.byte_streams.specs.Streams.{TakesAtMost}
+use Rattle.tk_words.specs.declared.command.Command.{Command}
+use Rattle.tk_words.specs.declared.command.Command.TheVariants.{Help, Run, Dump, Restart, Tasks, Check, Generate, Asm}
+use Rattle.tk_words.specs.declared.job.Job.{Job}
+use Rattle.tk_words.specs.Commands.{RunsAProgram}
+use Rattle.tk_words.specs.Printed.{no_memory}
+use Rattle.tk_words.specs.Stream.{Stream}
 use Rattle.tk_request.specs.AsmCommand.{AsmAsks}
 use Rattle.tk_request.specs.CheckCommand.{CheckAsks}
-use Rattle.tk_request.specs.Commands.{RunsAProgram}
 use Rattle.tk_request.specs.DumpCommand.{DumpAsks}
 use Rattle.tk_request.specs.RestartCommand.{RestartAsks}
 use Rattle.tk_request.specs.RunCommand.{RunAsks}
 use Rattle.tk_request.specs.TasksCommand.{TasksAsks}
-use Rattle.tk_request.specs.Printed.{no_memory}
-use Rattle.tk_request.specs.Reading.{AsksByText, Gave, IsUnread, most_input, Stream}
+use Rattle.tk_request.specs.Reading.{AsksByText, Gave, IsUnread, most_input}
 use Rattle.tk_request.specs.Asking.{Asks, IsAsked}
 
 -- what was read, as a number of bytes
@@ -55,3 +57,7 @@ memory_asked words before now job runs (inr none) = absurd (subst RunsAProgram n
 pub position_inside : (text words : List ℕ) (position : ℕ) → HexText text words position → position ≤ length text
 position_inside text words position hex =
     omega (arith, hex.cut, front-short (hex.before + 1) text)
+
+-- the part of a text from a place to its end is what stands behind that place
+pub rest_whole : (text : List ℕ) (position : ℕ) → take (length text - position) (drop position text) ≡ drop position text
+rest_whole text position = take_all _ _ (grind (arith, length-drop position text))

@@ -1,10 +1,5 @@
--- Lemmas on the words of a command line, and on what its text asks for.
-pub mod FirstWord
-pub mod NumberWords
-pub mod NumberChoices
-pub mod OneCommand
+-- Lemmas on what the text of a command asks for.
 pub mod ImageLength
 pub mod OneJob
 pub mod Judging
 pub mod Reasons
-pub mod WorkedWords

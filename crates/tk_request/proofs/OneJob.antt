@@ -9,27 +9,28 @@ use Rattle.input_script.proofs.Judgement.{one_judgement}
 use Rattle.text_lines.specs.Lines.{lines_of}
 use Rattle.task_input.specs.Scripts.{IsFirst, Schedules}
 use Rattle.task_input.proofs.FirstFaults.{first_one, schedules_apart, schedules_one}
-use Rattle.tk_request.specs.declared.command.RunOptions.{RunOptions}
-use Rattle.tk_request.specs.declared.command.TaskOptions.{TaskOptions}
-use Rattle.tk_request.specs.declared.job.Job.{Job}
-use Rattle.tk_request.specs.Printed.{asm_word, bad_part, dump_word, hex_word, script_word}
+use Rattle.tk_words.specs.declared.command.RunOptions.{RunOptions}
+use Rattle.tk_words.specs.declared.command.TaskOptions.{TaskOptions}
+use Rattle.tk_words.specs.declared.job.Job.{Job}
+use Rattle.tk_words.specs.Printed.{bad_part, hex_word, script_word}
 use Rattle.tk_request.specs.Reading.{IsJudged, Bad, Good}
-use Rattle.tk_request.specs.AsmCommand.{AsmAsks}
+use Rattle.tk_request.specs.AsmCommand.{AsmAsks, asm_word}
 use Rattle.tk_request.specs.RunCommand.{RequestThen, RunAsks}
 use Rattle.avr_asm.specs.AsmText.{AsmText, fault_of}
 use Rattle.avr_asm.specs.declared.fault.AsmFault.{AsmFault}
 use Rattle.avr_asm.proofs.OneImage.{same_words}
 use Rattle.std.specs.Prelude.{Option, Some, None}
-use Rattle.flash_model.proofs.LayoutLaws.{layout_right}
-use Rattle.pool_check.specs.Dumps.{IsDump, IsNoDump}
-use Rattle.pool_check.specs.declared.dump_line.DumpFault.{DumpFault}
-use Rattle.pool_check.proofs.Judgement as dumps
-use Rattle.tk_request.specs.declared.request.Request.{Request}
-use Rattle.tk_request.specs.CheckCommand.{CheckAsks, verdict_line}
+use Rattle.flash_words.proofs.LayoutLaws.{layout_right}
+use Rattle.flash_dump.specs.Dumps.{IsDump, IsNoDump}
+use Rattle.flash_dump.specs.declared.dump_line.DumpFault.{DumpFault}
+use Rattle.flash_dump.proofs.Judgement as dumps
+use Rattle.pool_check.proofs.Judgement.{one_verdict}
+use Rattle.tk_words.specs.declared.request.Request.{Request}
+use Rattle.tk_words.specs.declared.job.Job.TheVariants as jobs
+use Rattle.tk_request.specs.CheckCommand.{CheckAsks, dump_word, verdict_line}
 use Rattle.tk_request.specs.DumpCommand.{DumpAsks}
 use Rattle.tk_request.specs.RestartCommand.{RestartAsks}
 use Rattle.tk_request.specs.TasksCommand.{IsPlaced, Refused, Placed, bad_image, TasksAsks}
-use Rattle.tk_request.specs.declared.job.Job.TheVariants as jobs
 use Rattle.tk_request.proofs.ImageLength.{few_words}
 
 -- one job is asked for
@@ -152,7 +153,7 @@ pub one_check : (text : List ℕ) → IsOne (CheckAsks text)
 one_check text =
     one_judged _ _ _ _ _ (one_hex text)
     (λ hex is. one_judged _ _ _ _ _ (one_flash (drop hex.1 text)) (λ words is' a b first second.
-    first.2 ∙ ap verdict_line (dumps.one_verdict _ hex.0 words first.0 second.0 (layout_right _ (few_words text hex.0 hex.1 is)) first.1 second.1) ∙ sym second.2))
+    first.2 ∙ ap verdict_line (one_verdict _ hex.0 words first.0 second.0 (layout_right _ (few_words text hex.0 hex.1 is)) first.1 second.1) ∙ sym second.2))
 
 pub one_source : (text : List ℕ) → IsOne (AsmAsks text)
 one_source text = one_judged _ _ _ _ _ (one_assembled text) (λ words is a b first second. first ∙ sym second)

@@ -1,14 +1,15 @@
 -- What words and input ask for is one thing.
 use Rattle.std.proofs.Common.{◌≡◌, ℕ, ◌+◌, ◌≤◌, List, ◌++◌, length, sym, ap, ◌∙◌, subst, arith, append-nil, length-append, Option, Some, None, inl, inr}
 use Rattle.std.specs.Io.KnownBytes.{Consumes, IsAtEnd}
-use Rattle.tk_io.specs.Streams.{Takes}
-use Rattle.tk_request.specs.declared.command.Command.{Command}
-use Rattle.tk_request.specs.declared.command.Command.TheVariants.{Help, Run, Dump, Restart, Tasks, Check, Generate, Asm}
-use Rattle.tk_request.specs.declared.job.Job.{Job}
-use Rattle.tk_request.specs.Printed.{no_memory}
-use Rattle.tk_request.specs.Reading.{Stream, AsksByText, IsUnread, Limited, most_input}
+use Rattle.byte_streams.specs.Streams.{Takes}
+use Rattle.tk_words.specs.declared.command.Command.{Command}
+use Rattle.tk_words.specs.declared.command.Command.TheVariants.{Help, Run, Dump, Restart, Tasks, Check, Generate, Asm}
+use Rattle.tk_words.specs.declared.job.Job.{Job}
+use Rattle.tk_words.specs.Printed.{no_memory}
+use Rattle.tk_words.specs.Stream.{Stream}
+use Rattle.tk_words.proofs.OneCommand.{one_command}
+use Rattle.tk_request.specs.Reading.{AsksByText, IsUnread, Limited, most_input}
 use Rattle.tk_request.specs.Asking.{Asks, AsksWith, IsAsked, IsWarranted, Tells}
-use Rattle.tk_request.proofs.OneCommand.{one_command}
 use Rattle.tk_request.proofs.OneJob.{IsOne, one_check, one_dump, one_restart, one_run, one_source, one_tasks}
 
 -- what a source that told its text gave is that text

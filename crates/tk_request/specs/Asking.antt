@@ -1,13 +1,14 @@
 -- Which job words and an input ask for.
 use Rattle.std.specs.Prelude.{◌≡◌, ◌⊎◌, ℕ, List, Some}
-use Rattle.tk_io.specs.Faults.{Rose}
-use Rattle.tk_request.specs.declared.command.Command.{Command}
-use Rattle.tk_request.specs.declared.command.Command.TheVariants.{Help, Run, Dump, Restart, Tasks, Check, Generate, Asm}
-use Rattle.tk_request.specs.declared.job.Job.{Job}
-use Rattle.tk_request.specs.declared.status.Status.TheVariants as status
-use Rattle.tk_request.specs.Commands.{IsCommand, IsNoCommand}
-use Rattle.tk_request.specs.Printed.{no_memory, usage}
-use Rattle.tk_request.specs.Reading.{Stream, AsksByText, Limited}
+use Rattle.byte_streams.specs.Faults.{Rose}
+use Rattle.tk_words.specs.declared.command.Command.{Command}
+use Rattle.tk_words.specs.declared.command.Command.TheVariants.{Help, Run, Dump, Restart, Tasks, Check, Generate, Asm}
+use Rattle.tk_words.specs.declared.job.Job.{Job}
+use Rattle.tk_words.specs.declared.status.Status.TheVariants as status
+use Rattle.tk_words.specs.Commands.{IsCommand, IsNoCommand}
+use Rattle.tk_words.specs.Printed.{no_memory, usage}
+use Rattle.tk_words.specs.Stream.{Stream}
+use Rattle.tk_request.specs.Reading.{AsksByText, Limited}
 use Rattle.tk_request.specs.AsmCommand.{AsmAsks}
 use Rattle.tk_request.specs.CheckCommand.{CheckAsks}
 use Rattle.tk_request.specs.DumpCommand.{DumpAsks}

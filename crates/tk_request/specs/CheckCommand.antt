@@ -1,16 +1,16 @@
 -- The command `check`: what its text asks for.
 use Rattle.std.specs.Prelude.{◌≡◌, ℕ, List, length, ◌++◌, codes, decimal}
-use Rattle.flash_model.specs.Layouts.{layout_of}
-use Rattle.pool_check.specs.Dumps.{IsDump, IsNoDump}
+use Rattle.flash_words.specs.Layouts.{layout_of}
+use Rattle.flash_dump.specs.Dumps.{IsDump, IsNoDump}
 use Rattle.pool_check.specs.Verdicts.{IsVerdict}
 use Rattle.pool_check.specs.declared.checking.Verdict.{Verdict}
 use Rattle.pool_check.specs.declared.checking.Verdict.TheVariants.{Faithful, Form, Links}
-use Rattle.pool_check.specs.declared.dump_line.DumpFault.{DumpFault}
-use Rattle.tk_request.specs.declared.job.Job.{Job}
-use Rattle.tk_request.specs.declared.job.Job.TheVariants.{Print}
-use Rattle.tk_request.specs.declared.status.Status.{Status}
-use Rattle.tk_request.specs.declared.status.Status.TheVariants.{Done, Fault}
-use Rattle.tk_request.specs.Printed.{dump_word}
+use Rattle.flash_dump.specs.declared.dump_line.DumpFault.{DumpFault}
+use Rattle.flash_dump.specs.declared.dump_line.DumpFault.TheVariants as dump_faults
+use Rattle.tk_words.specs.declared.job.Job.{Job}
+use Rattle.tk_words.specs.declared.job.Job.TheVariants.{Print}
+use Rattle.tk_words.specs.declared.status.Status.{Status}
+use Rattle.tk_words.specs.declared.status.Status.TheVariants.{Done, Fault}
 use Rattle.tk_request.specs.Reading.{IsJudged}
 use Rattle.tk_request.specs.RunCommand.{HexThen}
 
@@ -27,6 +27,12 @@ verdict_text (Links page) = codes "not faithful page " ++ decimal page ++ codes 
 
 abbrev pub verdict_line : Verdict → Job
 verdict_line verdict = Print (verdict_status verdict) (record { items = verdict_text verdict })
+
+-- the word of a fault
+abbrev pub dump_word : DumpFault → List ℕ
+dump_word dump_faults.Form = codes "form"
+dump_word dump_faults.Order = codes "order"
+dump_word dump_faults.Range = codes "range"
 
 -- a dump, and what its words ask for. Its lines are counted from its own first
 abbrev pub DumpThen : List ℕ → (List ℕ → Job → Type 0) → Job → Type 0

@@ -2,8 +2,8 @@
 use Rattle.std.specs.Prelude.{ℕ}
 use Rattle.input_script.specs.Script.{nothing}
 use Rattle.program_generator.specs.Generated.{generated}
-use Rattle.tk_request.specs.declared.job.Job.{Job}
-use Rattle.tk_request.specs.declared.job.Job.TheVariants.{Run}
+use Rattle.tk_words.specs.declared.job.Job.{Job}
+use Rattle.tk_words.specs.declared.job.Job.TheVariants.{Run}
 
 -- the run of a seed
 abbrev pub generated_run : ℕ → Job

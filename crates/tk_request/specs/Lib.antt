@@ -1,9 +1,4 @@
 -- What words and an input ask for.
-pub mod Options
-pub mod OptionReading
-pub mod Commands
-pub mod Status
-pub mod Printed
 pub mod Reading
 pub mod RunCommand
 pub mod DumpCommand

@@ -1,19 +1,11 @@
 -- Commands that read: each has a rule, which says for what a whole text asks.
-use Rattle.std.specs.Prelude.{◌≡◌, ◌⊎◌, ℕ, ◌+◌, ◌<◌, ◌≤◌, List, length, Option}
+use Rattle.std.specs.Prelude.{◌≡◌, ◌⊎◌, ℕ, ◌+◌, ◌<◌, ◌≤◌, List, length}
 use Rattle.std.specs.Io.KnownBytes.{Consumes, IsAtEnd}
-use Rattle.tk_io.specs.Faults.{Rose}
-use Rattle.tk_io.specs.Streams.{Takes, TakesAtMost}
-use Rattle.tk_request.specs.declared.job.Job.{Job}
-use Rattle.tk_request.specs.Printed.{bad_part, no_memory, read_fault, too_long}
-
--- a stream at a moment: the bytes that it tells, and how often it failed
-pub record Stream : Type 0 where
-  pub told : Option (List ℕ)
-  pub faults : ℕ
-
--- a source or a sink as a stream, by the two functions that tell its bytes and its faults
-abbrev pub stream : {X : Type 0} → (X → Option (List ℕ)) → (X → ℕ) → X → Stream
-stream told faults x = record { told = told x; faults = faults x }
+use Rattle.byte_streams.specs.Faults.{Rose}
+use Rattle.byte_streams.specs.Streams.{Takes, TakesAtMost}
+use Rattle.tk_words.specs.declared.job.Job.{Job}
+use Rattle.tk_words.specs.Stream.{Stream}
+use Rattle.tk_words.specs.Printed.{bad_part, no_memory, read_fault, too_long}
 
 -- the most bytes of an input
 abbrev pub most_input : ℕ

@@ -4,11 +4,11 @@ use Rattle.hex_image.specs.HexText.{HexBad, HexText}
 use Rattle.hex_image.specs.declared.fault.HexFault.{HexFault}
 use Rattle.input_script.specs.Script.{Schedule, IsBad, IsScript}
 use Rattle.input_script.specs.declared.fault.ScriptFault.{ScriptFault}
-use Rattle.tk_request.specs.declared.command.RunOptions.{RunOptions}
-use Rattle.tk_request.specs.declared.job.Job.{Job}
-use Rattle.tk_request.specs.declared.job.Job.TheVariants.{Run}
-use Rattle.tk_request.specs.declared.request.Request.{Request}
-use Rattle.tk_request.specs.Printed.{hex_word, script_word}
+use Rattle.tk_words.specs.declared.command.RunOptions.{RunOptions}
+use Rattle.tk_words.specs.declared.job.Job.{Job}
+use Rattle.tk_words.specs.declared.job.Job.TheVariants.{Run}
+use Rattle.tk_words.specs.declared.request.Request.{Request}
+use Rattle.tk_words.specs.Printed.{hex_word, script_word}
 use Rattle.tk_request.specs.Reading.{IsJudged}
 
 -- a HEX text in front, and what its image and the text behind it ask for

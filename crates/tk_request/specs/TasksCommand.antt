@@ -6,11 +6,11 @@ use Rattle.text_lines.specs.Lines.{lines_of}
 use Rattle.text_pieces.specs.Pieces.{address_text}
 use Rattle.task_input.specs.Images.{IsFirstMisplaced, IsMisplaced}
 use Rattle.task_input.specs.Scripts.{IsFirst, Schedules}
-use Rattle.tk_request.specs.declared.command.TaskOptions.{TaskOptions}
-use Rattle.tk_request.specs.declared.job.Job.{Job}
-use Rattle.tk_request.specs.declared.job.Job.TheVariants.{Print, Tasks}
-use Rattle.tk_request.specs.declared.status.Status.TheVariants.{BadInput}
-use Rattle.tk_request.specs.Printed.{script_word}
+use Rattle.tk_words.specs.declared.command.TaskOptions.{TaskOptions}
+use Rattle.tk_words.specs.declared.job.Job.{Job}
+use Rattle.tk_words.specs.declared.job.Job.TheVariants.{Print, Tasks}
+use Rattle.tk_words.specs.declared.status.Status.TheVariants.{BadInput}
+use Rattle.tk_words.specs.Printed.{script_word}
 use Rattle.tk_request.specs.Reading.{IsJudged}
 use Rattle.tk_request.specs.RunCommand.{HexThen}
 

@@ -1,22 +1,19 @@
 //! The job that words and an input ask for.
 ghost use Rattle.std.specs.Prelude.{map, string_bytes};
+ghost use Rattle.tk_words.specs.Commands.{IsPossibleJob};
+ghost use Rattle.tk_words.specs.Stream.{stream};
 ghost use Rattle.tk_request.specs.Asking.{IsAsked};
-ghost use Rattle.tk_request.specs.Commands.{IsPossibleJob};
-ghost use Rattle.tk_request.specs.Reading.{stream};
 
 use crate::asm_command::asm_job;
 use crate::check_command::check_job;
-use crate::command::{Command, command_of};
 use crate::dump_command::dump_job;
 use crate::generate_command::generated_job;
-use crate::job::Job;
-use crate::printed::usage;
 use crate::restart_command::restart_job;
 use crate::run_command::run_job;
-use crate::status::Status;
 use crate::tasks_command::tasks_job;
+use byte_streams::Source;
 use std::alloc::Global;
-use tk_io::Source;
+use tk_words::{Command, Job, Status, command_of, usage};
 
 /// What the words ask for, and the input where they have it read.
 pub fn job_of<S: Source>(alloc: Global, words: &[String], input: &mut S) -> Job

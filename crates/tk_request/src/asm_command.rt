@@ -1,17 +1,17 @@
 //! The command `asm`.
 ghost use Rattle.std.specs.Prelude.{◌≡◌, ◌⊎◌, ◌≤◌, length};
+ghost use Rattle.tk_words.specs.Commands.{IsPossibleJob};
+ghost use Rattle.tk_words.specs.Printed.{no_memory};
+ghost use Rattle.tk_words.specs.Stream.{stream};
 ghost use Rattle.tk_request.specs.AsmCommand.{AsmAsks};
-ghost use Rattle.tk_request.specs.Commands.{IsPossibleJob};
-ghost use Rattle.tk_request.specs.Printed.{no_memory};
-ghost use Rattle.tk_request.specs.Reading.{AsksByText, most_input, stream};
+ghost use Rattle.tk_request.specs.Reading.{AsksByText, most_input};
 
-use crate::job::Job;
-use crate::output::Output;
-use crate::printed::{bad_asm, no_memory};
+use crate::printed::bad_asm;
 use crate::reading::read_input;
 use avr_asm::{AsmError, assemble};
+use byte_streams::Source;
 use std::alloc::Global;
-use tk_io::Source;
+use tk_words::{Job, Output, no_memory};
 
 /// Reads the source, and assembles it.
 pub(crate) fn asm_job<S: Source>(alloc: Global, input: &mut S) -> Job

@@ -1,20 +1,22 @@
 //! The command `check`.
 ghost use Rattle.std.specs.Prelude.{◌≡◌, ◌⊎◌, ◌≤◌, length};
-ghost use Rattle.flash_model.specs.Layouts.{layout_of};
+ghost use Rattle.flash_words.specs.Layouts.{layout_of};
 ghost use Rattle.pool_check.specs.Verdicts.{IsVerdict};
+ghost use Rattle.tk_words.specs.Commands.{IsPossibleJob};
+ghost use Rattle.tk_words.specs.Printed.{no_memory};
+ghost use Rattle.tk_words.specs.Stream.{stream};
 ghost use Rattle.tk_request.specs.CheckCommand.{CheckAsks};
-ghost use Rattle.tk_request.specs.Commands.{IsPossibleJob};
-ghost use Rattle.tk_request.specs.Printed.{no_memory};
-ghost use Rattle.tk_request.specs.Reading.{AsksByText, most_input, stream};
+ghost use Rattle.tk_request.specs.Reading.{AsksByText, most_input};
 
-use crate::job::Job;
-use crate::printed::{bad_dump, bad_hex, no_memory, verdict_line};
+use crate::printed::{bad_dump, verdict_line};
 use crate::reading::read_input;
+use byte_streams::Source;
+use flash_dump::{DumpError, read_dump};
 use flash_model::{Flash, Layout};
 use hex_image::{HexError, Image};
-use pool_check::{DumpError, Verdict, check, read_dump};
+use pool_check::{Verdict, check};
 use std::alloc::Global;
-use tk_io::Source;
+use tk_words::{Job, bad_hex, no_memory};
 
 /// Reads an image and a dump, and checks the dump's flash.
 pub(crate) fn check_job<S: Source>(alloc: Global, input: &mut S) -> Job

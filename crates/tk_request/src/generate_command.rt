@@ -1,14 +1,11 @@
 //! The command `generate`.
 ghost use Rattle.std.specs.Prelude.{◌≡◌, ◌⊎◌};
-ghost use Rattle.tk_request.specs.Commands.{IsPossibleJob};
+ghost use Rattle.tk_words.specs.Commands.{IsPossibleJob};
+ghost use Rattle.tk_words.specs.Printed.{no_memory};
 ghost use Rattle.tk_request.specs.GenerateCommand.{generated_run};
-ghost use Rattle.tk_request.specs.Printed.{no_memory};
 
-use crate::command::RunOptions;
-use crate::job::Job;
-use crate::printed::no_memory;
-use crate::request::Request;
 use std::alloc::Global;
+use tk_words::{Job, Request, RunOptions, no_memory};
 
 /// How the test program is run.
 const GENERATE_OPTIONS: RunOptions = RunOptions {

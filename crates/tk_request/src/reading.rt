@@ -1,12 +1,12 @@
 //! The input of a command that reads.
 ghost use Rattle.std.specs.Prelude.{MatchResult, IfErr};
-ghost use Rattle.tk_request.specs.Commands.{IsPossibleJob};
-ghost use Rattle.tk_request.specs.Reading.{Gave, IsUnread, stream};
+ghost use Rattle.tk_words.specs.Commands.{IsPossibleJob};
+ghost use Rattle.tk_words.specs.Stream.{stream};
+ghost use Rattle.tk_request.specs.Reading.{Gave, IsUnread};
 
-use crate::job::Job;
-use crate::printed::{no_memory, read_fault, too_long};
+use byte_streams::{ReadAll, Source, read_all};
 use std::alloc::Global;
-use tk_io::{ReadAll, Source, read_all};
+use tk_words::{Job, no_memory, read_fault, too_long};
 
 /// The most bytes of an input.
 const MOST_INPUT: usize = 2_097_152;

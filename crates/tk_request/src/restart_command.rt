@@ -1,16 +1,16 @@
 //! The command `restart`.
 ghost use Rattle.std.specs.Prelude.{◌≡◌, ◌⊎◌, ◌≤◌, length};
-ghost use Rattle.tk_request.specs.Commands.{AreOptions, IsPossibleJob};
-ghost use Rattle.tk_request.specs.Printed.{no_memory};
-ghost use Rattle.tk_request.specs.Reading.{AsksByText, most_input, stream};
+ghost use Rattle.tk_words.specs.Commands.{AreOptions, IsPossibleJob};
+ghost use Rattle.tk_words.specs.Printed.{no_memory};
+ghost use Rattle.tk_words.specs.Stream.{stream};
+ghost use Rattle.tk_request.specs.Reading.{AsksByText, most_input};
 ghost use Rattle.tk_request.specs.RestartCommand.{RestartAsks};
 
-use crate::command::RunOptions;
-use crate::job::Job;
 use crate::reading::read_input;
 use crate::run_command::request_in;
+use byte_streams::Source;
 use std::alloc::Global;
-use tk_io::Source;
+use tk_words::{Job, RunOptions};
 
 /// Reads the input of `restart`, which is that of `run`, and judges it.
 pub(crate) fn restart_job<S: Source>(alloc: Global, options: RunOptions, input: &mut S) -> Job

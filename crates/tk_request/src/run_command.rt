@@ -1,22 +1,20 @@
 //! The command `run`.
 ghost use Rattle.std.specs.Prelude.{◌≡◌, ◌⊎◌, ◌≤◌, length, MatchResult};
-ghost use Rattle.tk_request.specs.declared.command.Command.TheVariants.{Run};
-ghost use Rattle.tk_request.specs.declared.job.Job.{Job};
-ghost use Rattle.tk_request.specs.declared.request.Request.{Request};
-ghost use Rattle.tk_request.specs.Commands.{AreOptions, IsPossible, IsPossibleJob};
-ghost use Rattle.tk_request.specs.Printed.{no_memory};
-ghost use Rattle.tk_request.specs.Reading.{AsksByText, most_input, stream};
+ghost use Rattle.tk_words.specs.declared.command.Command.TheVariants.{Run};
+ghost use Rattle.tk_words.specs.declared.job.Job.{Job};
+ghost use Rattle.tk_words.specs.declared.request.Request.{Request};
+ghost use Rattle.tk_words.specs.Commands.{AreOptions, IsPossible, IsPossibleJob};
+ghost use Rattle.tk_words.specs.Printed.{no_memory};
+ghost use Rattle.tk_words.specs.Stream.{stream};
+ghost use Rattle.tk_request.specs.Reading.{AsksByText, most_input};
 ghost use Rattle.tk_request.specs.RunCommand.{RequestThen, RunAsks};
 
-use crate::command::RunOptions;
-use crate::job::Job;
-use crate::printed::{bad_hex, bad_script, no_memory};
 use crate::reading::read_input;
-use crate::request::Request;
+use byte_streams::Source;
 use hex_image::HexError;
 use input_script::ScriptError;
 use std::alloc::Global;
-use tk_io::Source;
+use tk_words::{Job, Request, RunOptions, bad_hex, bad_script, no_memory};
 
 /// Reads the input of `run`, and judges it.
 pub(crate) fn run_job<S: Source>(alloc: Global, options: RunOptions, input: &mut S) -> Job

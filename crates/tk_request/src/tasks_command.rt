@@ -1,20 +1,19 @@
 //! The command `tasks`.
 ghost use Rattle.std.specs.Prelude.{◌≡◌, ◌⊎◌, ◌≤◌, length};
-ghost use Rattle.tk_request.specs.Commands.{AreTaskOptions, IsPossibleJob};
-ghost use Rattle.tk_request.specs.Printed.{no_memory};
-ghost use Rattle.tk_request.specs.Reading.{AsksByText, most_input, stream};
+ghost use Rattle.tk_words.specs.Commands.{AreTaskOptions, IsPossibleJob};
+ghost use Rattle.tk_words.specs.Printed.{no_memory};
+ghost use Rattle.tk_words.specs.Stream.{stream};
+ghost use Rattle.tk_request.specs.Reading.{AsksByText, most_input};
 ghost use Rattle.tk_request.specs.TasksCommand.{TasksAsks};
 
-use crate::command::TaskOptions;
-use crate::job::Job;
-use crate::printed::{bad_hex, bad_image, bad_script, no_memory};
+use crate::printed::bad_image;
 use crate::reading::read_input;
-use crate::request::{Scripts, TaskRequest};
+use byte_streams::Source;
 use hex_image::HexError;
 use input_script::ScriptError;
 use std::alloc::Global;
 use task_input::{misplaced_word, read_scripts};
-use tk_io::Source;
+use tk_words::{Job, Scripts, TaskOptions, TaskRequest, bad_hex, bad_script, no_memory};
 
 /// Reads the input of `tasks`, and judges it.
 pub(crate) fn tasks_job<S: Source>(alloc: Global, options: TaskOptions, input: &mut S) -> Job

@@ -1,27 +1,10 @@
 //! The lines that are printed in place of a run.
 ghost use Rattle.std.specs.Prelude.{◌≡◌, ◌≤◌, ◌++◌, decimal, length};
 ghost use Rattle.tk_request.specs.CheckCommand.{verdict_text};
-ghost use Rattle.tk_request.specs.Printed.{bad_line_text};
 ghost use Rattle.tk_request.specs.TasksCommand.{bad_image_text};
 
 use pool_check::Verdict;
 use text_pieces::{Text, push, push_address, push_number, whole};
-
-/// The line that names a faulty line of the input, and its fault.
-#[tactic(auto, unfolding(crate::specs::Printed::bad_line_text))]
-pub(crate) fn bad_line(part: &[u8], line: u32, word: &[u8]) -> Text
-    requires part { length part.now ≤ 40 }
-    requires word { length word.now ≤ 40 }
-    ensures text { result.items ≡ bad_line_text part.now line word.now }
-{
-    let mut text = Text::new();
-    push(&mut text, part);
-    push_number(&mut text, u64::from(line));
-    push(&mut text, b" ");
-    push(&mut text, word);
-    push(&mut text, b"\n");
-    text
-}
 
 /// The line that names the first word of an image that no task has.
 #[tactic(auto, unfolding(crate::specs::TasksCommand::bad_image_text))]

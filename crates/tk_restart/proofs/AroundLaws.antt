@@ -1,11 +1,10 @@
 -- A page of the pool that is rewritten leaves the pages outside the pool.
-use Rattle.std.proofs.Common.{◌≡◌, ℕ, ◌+◌, ◌*◌, ◌≤◌, List, length, arith, sym, ap, ◌∙◌, subst}
-use Rattle.flash_model.specs.Pages.{page_words, page_of, set_page, blank}
-use Rattle.flash_model.specs.Layouts.{IsRight}
-use Rattle.flash_model.specs.Memory.{Memory}
-use Rattle.flash_model.specs.Operations.{erased_page, programmed_page}
-use Rattle.flash_model.specs.declared.layout.Layout.{Layout}
-use Rattle.flash_model.proofs.PageLaws as pages
+use Rattle.std.proofs.Common.{◌≡◌, ℕ, ◌+◌, ◌*◌, ◌≤◌, List, length, arith, sym, subst}
+use Rattle.flash_words.specs.Pages.{page_words, set_page, blank}
+use Rattle.flash_words.specs.Memory.{Memory}
+use Rattle.flash_words.specs.Operations.{erased_page, programmed_page}
+use Rattle.flash_words.specs.declared.layout.Layout.{Layout}
+use Rattle.flash_words.proofs.PageLaws as pages
 use Rattle.page_index.specs.Maps.{IsPool}
 use Rattle.pool_check.specs.Forms.{HasForm}
 use Rattle.pool_check.specs.Links.{HaveFormsAround}

@@ -2,11 +2,11 @@
 use Rattle.std.proofs.Common.{◌≡◌, ℕ, ◌+◌, ◌*◌, ◌≤◌, true, false, List, length, ap, ◌∙◌}
 use Rattle.std.proofs.lemmas.Bool.{false_from_ne_true}
 use Rattle.list_parts.specs.Lists.{many}
-use Rattle.flash_model.specs.Pages.{page_words, page_of, blank}
-use Rattle.flash_model.proofs.PageLaws.{length-page_of}
+use Rattle.flash_words.specs.Pages.{page_words, page_of, blank}
+use Rattle.flash_words.proofs.PageLaws.{length-page_of}
 use Rattle.page_index.specs.Maps.{IsFree}
-use Rattle.pool_check.specs.WrittenDumps.{is_erased}
-use Rattle.pool_check.proofs.ErasedLaws.{all_erased, erased_all}
+use Rattle.flash_dump.specs.WrittenDumps.{is_erased}
+use Rattle.flash_dump.proofs.ErasedLaws.{all_erased, erased_all}
 
 pub blank_free : (words : List ℕ) (page : ℕ) → page_words * page + page_words ≤ length words → is_erased (page_of words page) ≡ true → IsFree words page
 unfolding blank

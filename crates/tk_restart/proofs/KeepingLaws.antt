@@ -2,14 +2,14 @@
 use Rattle.std.proofs.Common.{◌≡◌, ℕ, zero, suc, ◌+◌, ◌-◌, ◌<◌, ◌≤◌, ◌&&◌, Bool, true, false, not, List, length, arith, refl, sym, ap, ap₂, ◌∙◌, inl, inr, subst}
 use Rattle.std.specs.Prelude.{◌⊎◌}
 use Rattle.std.proofs.lemmas.Bool.{cases_lt, cases_order}
-use Rattle.flash_model.specs.Pages.{word_count, page_of}
-use Rattle.flash_model.specs.Layouts.{IsRight}
-use Rattle.flash_model.specs.Memory.{Memory}
-use Rattle.flash_model.specs.declared.layout.Layout.{Layout}
+use Rattle.flash_words.specs.Pages.{word_count, page_of}
+use Rattle.flash_words.specs.Layouts.{IsRight}
+use Rattle.flash_words.specs.Memory.{Memory}
+use Rattle.flash_words.specs.declared.layout.Layout.{Layout}
 use Rattle.page_index.specs.Maps.{IsPool, IsFree, address_of, entry_count}
 use Rattle.page_index.specs.Entries.{Lists, IsEntry}
 use Rattle.page_index.proofs.MapLaws.{free_lists_nothing, same_address}
-use Rattle.nat_page.specs.CodePages.{Anywhere, HoldsRun}
+use Rattle.page_draft.specs.CodePages.{Anywhere, HoldsRun}
 use Rattle.nat_page.specs.Faithful.{IsFaithful, IsRewritten}
 use Rattle.nat_page.specs.Unlinking.{with_calls, stubs_where}
 use Rattle.nat_page.proofs.HeldLaws.{map_held}
@@ -18,7 +18,7 @@ use Rattle.nat_page.proofs.StayLaws.{holds_alike, holds_more}
 use Rattle.nat_page.proofs.UnlinkLaws.{holds_unlinked}
 use Rattle.pool_check.specs.Forms.{HasForm}
 use Rattle.pool_check.specs.Links.{HaveFormsAround}
-use Rattle.pool_check.specs.WrittenDumps.{is_erased}
+use Rattle.flash_dump.specs.WrittenDumps.{is_erased}
 use Rattle.pool_check.proofs.CheckedLaws.{below_pool, held_image, kernel_word, outside}
 use Rattle.tk_restart.specs.declared.sweeping.Kept.{Kept}
 use Rattle.tk_restart.specs.Keeping.{AreKept, IsKeptEntry, AreStray, Keeps, is_dropped}

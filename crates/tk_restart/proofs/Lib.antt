@@ -8,3 +8,4 @@ mod PageLaws
 mod UnlinkingLaws
 pub mod KeepingLaws
 mod RestartLaws
+pub mod TornWords

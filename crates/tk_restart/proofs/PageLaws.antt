@@ -2,14 +2,14 @@
 use Rattle.std.proofs.Common.{◌≡◌, ℕ, ◌+◌, ◌*◌, ◌/◌, ◌%◌, ◌<◌, ◌≤◌, List, length, take, length-take, arith, sym, ap, ◌∙◌}
 use Rattle.std.proofs.lemmas.Grind.{same_number_lists}
 use Rattle.std.proofs.lemmas.List.{get_or-take}
-use Rattle.flash_model.specs.Pages.{word_count, page_words, word_at, page_of}
-use Rattle.flash_model.specs.Layouts.{IsRight, image_of}
-use Rattle.flash_model.specs.declared.layout.Layout.{Layout}
-use Rattle.flash_model.proofs.PageLaws as pages
+use Rattle.flash_words.specs.Pages.{word_count, page_words, word_at, page_of}
+use Rattle.flash_words.specs.Layouts.{IsRight, image_of}
+use Rattle.flash_words.specs.declared.layout.Layout.{Layout}
+use Rattle.flash_words.proofs.PageLaws as pages
 use Rattle.page_index.specs.Maps.{IsPool, IsMap}
 use Rattle.page_index.specs.Entries.{Lists}
 use Rattle.page_index.proofs.ChangeLaws.{SamePage, lists_alike}
-use Rattle.nat_page.specs.CodePages.{Anywhere, IsCodePage}
+use Rattle.page_draft.specs.CodePages.{Anywhere, IsCodePage}
 use Rattle.nat_page.proofs.HeldLaws.{map_held}
 use Rattle.nat_page.proofs.StayLaws.{holds_alike}
 use Rattle.pool_check.proofs.MovedLaws.{holds_alone, holds_in_flash}

@@ -1,19 +1,19 @@
 -- Both passes are a restart.
 use Rattle.std.proofs.Common.{◌≡◌, ℕ, ◌+◌, ◌*◌, ◌≤◌, ◌&&◌, Bool, true, false, not, List, [], length, refl, sym, ap, ap₂, ◌∙◌, inl, inr}
 use Rattle.std.specs.Prelude.{◌⊎◌, if◌then◌else◌, slice_index}
-use Rattle.flash_model.specs.Pages.{page_of}
-use Rattle.flash_model.specs.Layouts.{IsRight, image_of}
-use Rattle.flash_model.specs.Memory.{Memory}
-use Rattle.flash_model.specs.declared.layout.Layout.{Layout}
+use Rattle.flash_words.specs.Pages.{page_of}
+use Rattle.flash_words.specs.Layouts.{IsRight, image_of}
+use Rattle.flash_words.specs.Memory.{Memory}
+use Rattle.flash_words.specs.declared.layout.Layout.{Layout}
 use Rattle.page_index.specs.Maps.{IsPool, IsFree}
 use Rattle.page_index.specs.Entries.{Lists}
 use Rattle.page_index.proofs.MapLaws.{free_lists_nothing}
-use Rattle.nat_page.specs.CodePages.{IsCodePage}
+use Rattle.page_draft.specs.CodePages.{IsCodePage}
 use Rattle.nat_page.specs.Used.{is_used, used_pages}
 use Rattle.nat_page.specs.Unlinking.{with_calls, stubs_where, are_some}
 use Rattle.nat_page.proofs.UsedLaws.{free_unused, holds_run_used}
 use Rattle.pool_check.specs.Links.{HaveFormsAround}
-use Rattle.pool_check.specs.WrittenDumps.{is_erased}
+use Rattle.flash_dump.specs.WrittenDumps.{is_erased}
 use Rattle.pool_check.proofs.CheckedLaws.{held_image}
 use Rattle.tk_restart.specs.declared.sweeping.Kept.{Kept}
 use Rattle.tk_restart.specs.Keeping.{AreStray, IsKeptEntry, Keeps, is_dropped, is_changed}

@@ -4,21 +4,21 @@ use Rattle.std.specs.Prelude.{◌≢◌, ◌&&◌, if◌then◌else◌, slice_in
 use Rattle.std.proofs.lemmas.Bool.{cases_lt}
 use Rattle.std.proofs.lemmas.Bool.Decides.{nat_tests}
 use Rattle.std.proofs.lemmas.List.{get_or-set_same, get_or-set_other}
-use Rattle.flash_model.specs.Pages.{page_words, page_count, page_of, set_page, blank, raised}
-use Rattle.flash_model.specs.Memory.{Memory, IsWhole}
-use Rattle.flash_model.specs.Operations.{erased_page}
-use Rattle.flash_model.specs.Layouts.{IsRight}
-use Rattle.flash_model.specs.declared.layout.Layout.{Layout}
-use Rattle.flash_model.proofs.PageLaws as pages
+use Rattle.flash_words.specs.Pages.{page_words, page_count, page_of, set_page, blank, raised}
+use Rattle.flash_words.specs.Memory.{Memory, IsWhole}
+use Rattle.flash_words.specs.Operations.{erased_page}
+use Rattle.flash_words.specs.Layouts.{IsRight}
+use Rattle.flash_words.specs.declared.layout.Layout.{Layout}
+use Rattle.flash_words.proofs.PageLaws as pages
 use Rattle.list_parts.proofs.ManyLaws.{length-many}
 use Rattle.page_index.specs.Maps.{IsPool, IsFree}
 use Rattle.page_index.proofs.MapLaws.{free_lists_nothing}
-use Rattle.nat_page.specs.CodePages.{Anywhere, IsCodePage}
+use Rattle.page_draft.specs.CodePages.{Anywhere, IsCodePage}
 use Rattle.nat_page.specs.Used.{is_used}
 use Rattle.nat_page.proofs.StayLaws.{held_used}
 use Rattle.nat_page.proofs.UsedLaws.{free_unused, map_used, same_used}
 use Rattle.pool_check.specs.Links.{IsAlone}
-use Rattle.pool_check.specs.WrittenDumps.{is_erased}
+use Rattle.flash_dump.specs.WrittenDumps.{is_erased}
 use Rattle.tk_restart.specs.declared.judging.Fate.{Fate}
 use Rattle.tk_restart.specs.declared.judging.Fate.TheVariants.{Stays, Blank, Goes}
 use Rattle.tk_restart.specs.declared.sweeping.Kept.{Kept}

@@ -4,21 +4,21 @@ use Rattle.std.proofs.Common.{◌≡◌, ℕ, ◌+◌, ◌-◌, ◌*◌, ◌/◌
 use Rattle.std.specs.Prelude.{◌≢◌, ◌⊎◌, if◌then◌else◌, slice_index}
 use Rattle.std.proofs.lemmas.Bool.{cases_lt}
 use Rattle.std.proofs.lemmas.List.{get_or-set_same, get_or-set_other}
-use Rattle.flash_model.specs.Pages.{page_words, page_count, word_at, page_of, set_page, blank, raised}
-use Rattle.flash_model.specs.Memory.{Memory, IsWhole}
-use Rattle.flash_model.specs.Operations.{erased_page, programmed_page}
-use Rattle.flash_model.specs.Layouts.{IsRight}
-use Rattle.flash_model.specs.declared.layout.Layout.{Layout}
-use Rattle.flash_model.proofs.PageLaws as pages
+use Rattle.flash_words.specs.Pages.{page_words, page_count, word_at, page_of, set_page, blank, raised}
+use Rattle.flash_words.specs.Memory.{Memory, IsWhole}
+use Rattle.flash_words.specs.Operations.{erased_page, programmed_page}
+use Rattle.flash_words.specs.Layouts.{IsRight}
+use Rattle.flash_words.specs.declared.layout.Layout.{Layout}
+use Rattle.flash_words.proofs.PageLaws as pages
 use Rattle.nat_template.specs.declared.piece.Piece.{Piece}
 use Rattle.nat_template.specs.declared.piece.Piece.TheVariants.{Fixed, Link}
 use Rattle.page_index.specs.Maps.{IsPool, IsFree, address_of, entry_count}
 use Rattle.page_index.specs.Entries.{Lists}
-use Rattle.nat_page.specs.Standing.{jump_word, size}
-use Rattle.nat_page.specs.CodePages.{page_pieces, Anywhere, HoldsRun, IsCodePage}
+use Rattle.page_draft.specs.Standing.{jump_word, size}
+use Rattle.page_draft.specs.CodePages.{page_pieces, Anywhere, HoldsRun, IsCodePage}
 use Rattle.nat_page.specs.Used.{is_used}
 use Rattle.nat_page.specs.Unlinking.{is_picked, links_where, with_calls, pieces_in, stubs_where, are_some}
-use Rattle.nat_page.proofs.PieceLaws.{size-cons}
+use Rattle.page_draft.proofs.PieceLaws.{size-cons}
 use Rattle.nat_page.proofs.KeptLaws.{lists_again}
 use Rattle.nat_page.proofs.UnlinkLaws.{Each, length-with_calls, calls_alike, links_among, among_inside, holds_unlinked}
 use Rattle.nat_page.proofs.UsedLaws.{free_unused, map_used}

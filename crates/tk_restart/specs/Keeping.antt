@@ -3,13 +3,13 @@
 -- target's place in a page that is kept calls the kernel's bridge again. All other pages are erased
 -- (docs/RESTART.md).
 use Rattle.std.specs.Prelude.{◌≡◌, ℕ, zero, suc, ◌+◌, ◌<◌, ◌&&◌, ◌↔◌, not, Bool, true, false, if◌then◌else◌, List, length}
-use Rattle.flash_model.specs.Pages.{page_of}
-use Rattle.flash_model.specs.declared.layout.Layout.{Layout}
+use Rattle.flash_words.specs.Pages.{page_of}
+use Rattle.flash_words.specs.declared.layout.Layout.{Layout}
 use Rattle.page_index.specs.Maps.{IsPool, IsFree}
 use Rattle.page_index.specs.Entries.{Lists}
-use Rattle.nat_page.specs.CodePages.{IsCodePage}
+use Rattle.page_draft.specs.CodePages.{IsCodePage}
 use Rattle.nat_page.specs.Unlinking.{with_calls, stubs_where, are_some}
-use Rattle.pool_check.specs.WrittenDumps.{is_erased}
+use Rattle.flash_dump.specs.WrittenDumps.{is_erased}
 
 -- a page that is kept, where it is told which of the lower ones are
 pub record IsKeeper (layout : Layout) (image words : List ℕ) (kept : ℕ → Bool) (page : ℕ) : Type 0 where

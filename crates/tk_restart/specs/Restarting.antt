@@ -1,8 +1,8 @@
 -- What a restart does and answers.
 use Rattle.std.specs.Prelude.{◌≡◌, ℕ, ◌+◌, ◌*◌, ◌||◌, Bool, if◌then◌else◌, List, slice_index}
-use Rattle.flash_model.specs.Pages.{raised}
-use Rattle.flash_model.specs.Memory.{Memory}
-use Rattle.flash_model.specs.declared.layout.Layout.{Layout}
+use Rattle.flash_words.specs.Pages.{raised}
+use Rattle.flash_words.specs.Memory.{Memory}
+use Rattle.flash_words.specs.declared.layout.Layout.{Layout}
 use Rattle.page_index.specs.Maps.{IsPool}
 use Rattle.tk_restart.specs.declared.sweeping.Kept.{Kept}
 use Rattle.tk_restart.specs.Keeping.{Keeps, count_where, is_dropped, is_changed}

@@ -1,8 +1,8 @@
 -- Serves private functions: whether a link leads to an entry, by the words of the page of its place alone. Where
 -- each page of the pool is free or has a map, this says what `IsEntry` says (`StrayLaws`).
 use Rattle.std.specs.Prelude.{ℕ, zero, suc, ◌+◌, ◌-◌, ◌/◌, ◌%◌, ◌==◌, ◌&&◌, ◌||◌, nat_le, nat_lt, not, Bool, false, List}
-use Rattle.flash_model.specs.Pages.{page_words}
-use Rattle.flash_model.specs.declared.layout.Layout.{Layout}
+use Rattle.flash_words.specs.Pages.{page_words}
+use Rattle.flash_words.specs.declared.layout.Layout.{Layout}
 use Rattle.page_index.specs.Maps.{page_word, original_page, entry_count, address_of}
 
 -- entry i of the page of a place is of t, and at the place

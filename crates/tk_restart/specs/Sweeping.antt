@@ -1,12 +1,12 @@
 -- Serves private functions: the first pass of a restart. Going up through the pool, a page that isn't kept is erased.
 use Rattle.std.specs.Prelude.{◌≡◌, ℕ, ◌+◌, ◌<◌, ◌≤◌, ◌⊎◌, true, List, length, slice_index}
-use Rattle.flash_model.specs.Pages.{page_of}
-use Rattle.flash_model.specs.Memory.{Memory}
-use Rattle.flash_model.specs.Operations.{erased_page}
-use Rattle.flash_model.specs.declared.layout.Layout.{Layout}
+use Rattle.flash_words.specs.Pages.{page_of}
+use Rattle.flash_words.specs.Memory.{Memory}
+use Rattle.flash_words.specs.Operations.{erased_page}
+use Rattle.flash_words.specs.declared.layout.Layout.{Layout}
 use Rattle.page_index.specs.Maps.{IsPool, IsFree, IsMap}
 use Rattle.page_index.specs.Entries.{Lists}
-use Rattle.nat_page.specs.CodePages.{IsCodePage}
+use Rattle.page_draft.specs.CodePages.{IsCodePage}
 use Rattle.nat_page.specs.Used.{is_used}
 use Rattle.pool_check.specs.Links.{IsAlone}
 use Rattle.tk_restart.specs.declared.judging.Fate.{Fate}

@@ -1,12 +1,12 @@
 -- Serves private functions: the second pass of a restart. Stubs of pages that are used call the kernel's bridge again
 -- where they jump to no entry.
 use Rattle.std.specs.Prelude.{◌≡◌, ℕ, ◌+◌, ◌*◌, ◌<◌, ◌≤◌, ◌⊎◌, Bool, if◌then◌else◌, List, [], length, slice_index}
-use Rattle.flash_model.specs.Pages.{page_of}
-use Rattle.flash_model.specs.Memory.{Memory}
-use Rattle.flash_model.specs.Operations.{erased_page, programmed_page}
-use Rattle.flash_model.specs.declared.layout.Layout.{Layout}
+use Rattle.flash_words.specs.Pages.{page_of}
+use Rattle.flash_words.specs.Memory.{Memory}
+use Rattle.flash_words.specs.Operations.{erased_page, programmed_page}
+use Rattle.flash_words.specs.declared.layout.Layout.{Layout}
 use Rattle.page_index.specs.Maps.{IsPool, IsFree}
-use Rattle.nat_page.specs.CodePages.{IsCodePage}
+use Rattle.page_draft.specs.CodePages.{IsCodePage}
 use Rattle.nat_page.specs.Used.{is_used}
 use Rattle.nat_page.specs.Unlinking.{with_calls, stubs_where, are_some}
 use Rattle.tk_restart.specs.Keeping.{count_where}

@@ -1,8 +1,8 @@
 //! What becomes of one page.
 
 ghost use Rattle.std.specs.Prelude.{◌≡◌, length};
-ghost use Rattle.flash_model.specs.Layouts.{IsRight};
-ghost use Rattle.flash_model.specs.Memory.{IsWhole};
+ghost use Rattle.flash_words.specs.Layouts.{IsRight};
+ghost use Rattle.flash_words.specs.Memory.{IsWhole};
 ghost use Rattle.page_index.specs.Maps.{IsPool};
 ghost use Rattle.tk_restart.specs.Sweeping.{ArePagesBelow, IsJudged};
 

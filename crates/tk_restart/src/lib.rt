@@ -12,10 +12,12 @@
 //!
 //! `specs/Keeping` says which pages are kept, and what flash holds then, and `specs/Restarting` what the call answers
 //! and which operations it makes. That a pool is then faithful to the image, and that the rules leave no choice, are
-//! clauses of [`restart`]. [`tear`] gives a page any words, to try a restart on.
+//! clauses of [`restart`]. [`tear`] gives a page any words, to try a restart on, and [`lose`] those that stand for a loss of
+//! power in the operation of a number (`specs/Losing`).
 #![tactic(auto)]
 
 mod judging;
+mod losing;
 mod operating;
 mod restarting;
 mod strays;
@@ -23,6 +25,7 @@ mod sweeping;
 mod tearing;
 mod unlinking;
 
+pub use losing::lose;
 pub use restarting::restart;
 pub use sweeping::Kept;
 pub use tearing::tear;

@@ -1,9 +1,9 @@
 //! Operations on a flash of which none is to fail.
 
 ghost use Rattle.std.specs.Prelude.{◌≡◌, ◌<◌, ◌^◌, [], length};
-ghost use Rattle.flash_model.specs.Pages.{page_of, blank};
-ghost use Rattle.flash_model.specs.Memory.{IsWhole};
-ghost use Rattle.flash_model.specs.Operations.{erased_page, programmed_page};
+ghost use Rattle.flash_words.specs.Pages.{page_of, blank};
+ghost use Rattle.flash_words.specs.Memory.{IsWhole};
+ghost use Rattle.flash_words.specs.Operations.{erased_page, programmed_page};
 
 use flash_model::Flash;
 

@@ -1,10 +1,10 @@
 //! The second pass over the pool: stubs that lead to no entry call the kernel's bridge again.
 
 ghost use Rattle.std.specs.Prelude.{◌≡◌, ◌+◌, ◌<◌, ◌^◌, ◌⊎◌, [], length};
-ghost use Rattle.flash_model.specs.Layouts.{IsRight, image_of};
-ghost use Rattle.flash_model.specs.Memory.{IsWhole};
+ghost use Rattle.flash_words.specs.Layouts.{IsRight, image_of};
+ghost use Rattle.flash_words.specs.Memory.{IsWhole};
 ghost use Rattle.page_index.specs.Maps.{IsPool, IsFree};
-ghost use Rattle.nat_page.specs.CodePages.{IsCodePage};
+ghost use Rattle.page_draft.specs.CodePages.{IsCodePage};
 ghost use Rattle.tk_restart.specs.Unlinking.{AreCodes, unlinked_page, Unlinks};
 
 use crate::operating::{erase, program};

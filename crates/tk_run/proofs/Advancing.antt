@@ -3,9 +3,9 @@ use Rattle.std.proofs.Common.{◌≡◌, ℕ, suc, ◌+◌, ◌-◌, ◌<◌, �
 use Rattle.std.specs.Prelude.{◌^◌, ◌≢◌, Option, Some, None, Result, Ok, Err}
 use Rattle.std.proofs.lemmas.List.{append-nil}
 use Rattle.std.specs.Io.KnownBytes.{Appends}
-use Rattle.tk_io.specs.Streams.{CutShort}
-use Rattle.tk_io.proofs.KnownBytes.{appends-both, appends-nothing}
-use Rattle.tk_io.specs.declared.failure.Failed.{Failed}
+use Rattle.byte_streams.specs.Streams.{CutShort}
+use Rattle.byte_streams.proofs.KnownBytes.{appends-both, appends-nothing}
+use Rattle.byte_streams.specs.declared.failure.Failed.{Failed}
 use Rattle.mote_devices.specs.declared.line.Line.{Line}
 use Rattle.mem_guard.specs.FlatMachine.{Program, is_own, is_inside, Moment, Run, run, ended, is_taken}
 use Rattle.mem_guard.specs.FlatMachine as flat_ends

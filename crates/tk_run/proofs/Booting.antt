@@ -5,10 +5,10 @@ use Rattle.hex_image.specs.Image.{IsImage}
 use Rattle.sram_layout.specs.Boot.{at_boot}
 use Rattle.sram_layout.specs.Bytes.{with_byte}
 use Rattle.sram_layout.specs.Cells.{count_cell}
-use Rattle.flash_model.specs.Memory.{new_flash, Memory, IsWhole}
-use Rattle.flash_model.specs.Operations.{renewed}
-use Rattle.flash_model.specs.Layouts.{layout_of}
-use Rattle.flash_model.specs.declared.layout.Layout.{Layout}
+use Rattle.flash_words.specs.Memory.{new_flash, Memory, IsWhole}
+use Rattle.flash_words.specs.Operations.{renewed}
+use Rattle.flash_words.specs.Layouts.{layout_of}
+use Rattle.flash_words.specs.declared.layout.Layout.{Layout}
 use Rattle.nat_page.specs.Faithful.{IsFaithful}
 use Rattle.nat_page.specs.Used.{used_pages}
 use Rattle.input_script.specs.Script.{Schedule}

@@ -2,8 +2,8 @@
 use Rattle.std.proofs.Common.{true, ◌≡◌, ℕ, ◌+◌, List, [], ◌++◌, refl, sym, subst}
 use Rattle.std.specs.Prelude.{Option, Some, None}
 use Rattle.std.proofs.lemmas.List.{append-nil}
-use Rattle.tk_io.specs.Streams.{CutShort, IsSent}
-use Rattle.tk_io.proofs.KnownBytes.{nothing_sent}
+use Rattle.byte_streams.specs.Streams.{CutShort, IsSent}
+use Rattle.byte_streams.proofs.KnownBytes.{nothing_sent}
 use Rattle.line_text.proofs.Gathered.{sent_on, cut_on}
 use Rattle.mote_devices.specs.declared.line.Line.{Line}
 use Rattle.step_laws.specs.Moves.{line_before}

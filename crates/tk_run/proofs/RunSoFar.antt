@@ -4,7 +4,7 @@ use Rattle.std.specs.Prelude.{Option, Some, None}
 use Rattle.std.proofs.lemmas.List.{append-nil}
 use Rattle.std.proofs.lemmas.Grind.{flat_map-append}
 use Rattle.std.specs.Io.KnownBytes.{Appends}
-use Rattle.tk_io.proofs.KnownBytes.{appends-both, appends-nothing}
+use Rattle.byte_streams.proofs.KnownBytes.{appends-both, appends-nothing}
 use Rattle.mote_devices.specs.declared.line.Line.{Line}
 use Rattle.mem_guard.specs.FlatMachine.{Program, is_own, is_inside, Moment, End as FlatEnd, Run, run, with_line, ended, next_of}
 use Rattle.mem_guard.specs.FlatMachine as flat_ends

@@ -3,8 +3,8 @@ use Rattle.std.proofs.Common.{◌≡◌, ℕ, zero, suc, ◌+◌, ◌<◌, ◌�
 use Rattle.std.specs.Prelude.{Option, Some, None}
 use Rattle.mote_devices.specs.declared.line.Line.{Line}
 use Rattle.step_laws.specs.Moves.{line_before}
-use Rattle.tk_io.specs.Streams.{IsSent}
-use Rattle.tk_io.proofs.KnownBytes.{appends-nothing}
+use Rattle.byte_streams.specs.Streams.{IsSent}
+use Rattle.byte_streams.proofs.KnownBytes.{appends-nothing}
 use Rattle.program_steps.specs.Machines.{Machine}
 use Rattle.program_steps.specs.Ready.{IsGoing}
 use Rattle.program_steps.specs.Stepping.{lines_text, HasStepped, StepWay}

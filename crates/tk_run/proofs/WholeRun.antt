@@ -1,11 +1,11 @@
 -- A whole run, from a start to its answer.
-use Rattle.std.proofs.Common.{◌≡◌, ℕ, ◌≤◌, Bool, true, false, List, [], length, refl, sym, ap, ◌∙◌, arith, subst}
+use Rattle.std.proofs.Common.{◌≡◌, ℕ, ◌≤◌, Bool, true, false, List, length, refl, sym, ap, ◌∙◌, arith, subst}
 use Rattle.std.specs.Prelude.{◌^◌, Option, Some, None, Result, Ok, Err}
 use Rattle.std.specs.Io.KnownBytes.{Appends}
 use Rattle.hex_image.specs.Image.{IsImage}
-use Rattle.flash_model.specs.Memory.{Memory, IsWhole, new_flash}
-use Rattle.flash_model.specs.Layouts.{layout_of}
-use Rattle.flash_model.specs.Operations.{is_listed, renewed}
+use Rattle.flash_words.specs.Memory.{Memory, IsWhole, new_flash}
+use Rattle.flash_words.specs.Layouts.{layout_of}
+use Rattle.flash_words.specs.Operations.{is_listed, renewed}
 use Rattle.nat_page.specs.Faithful.{IsFaithful}
 use Rattle.nat_page.specs.Used.{used_pages}
 use Rattle.input_script.specs.Script.{Schedule}
@@ -18,8 +18,8 @@ use Rattle.step_laws.specs.declared.moves.End.{End}
 use Rattle.step_laws.specs.declared.moves.End.TheVariants as ends
 use Rattle.step_laws.specs.Moves.{Move}
 use Rattle.kernel_entry.specs.Seen.{end_of, program as program_of}
-use Rattle.tk_io.specs.declared.failure.Failed.{Failed}
-use Rattle.tk_io.specs.Streams.{CutShort}
+use Rattle.byte_streams.specs.declared.failure.Failed.{Failed}
+use Rattle.byte_streams.specs.Streams.{CutShort}
 use Rattle.step_laws.specs.Numbers.{Numbers}
 use Rattle.step_laws.proofs.NumberLaws.{unmoved}
 use Rattle.tk_run.proofs.Advancing.{others_led}

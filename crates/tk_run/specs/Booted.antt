@@ -3,10 +3,10 @@ use Rattle.std.specs.Prelude.{ℕ, false, List, length, Some, None}
 use Rattle.sram_layout.specs.Boot.{at_boot}
 use Rattle.sram_layout.specs.Bytes.{with_byte}
 use Rattle.sram_layout.specs.Cells.{count_cell}
-use Rattle.flash_model.specs.Memory.{Memory, new_flash}
-use Rattle.flash_model.specs.Operations.{renewed}
-use Rattle.flash_model.specs.Layouts.{layout_of}
-use Rattle.flash_model.specs.declared.layout.Layout.{Layout}
+use Rattle.flash_words.specs.Memory.{Memory, new_flash}
+use Rattle.flash_words.specs.Operations.{renewed}
+use Rattle.flash_words.specs.Layouts.{layout_of}
+use Rattle.flash_words.specs.declared.layout.Layout.{Layout}
 use Rattle.input_script.specs.Script.{Schedule}
 use Rattle.mote_devices.specs.State.{at_reset}
 use Rattle.mote_core.specs.declared.mote.Mote.{Mote}

@@ -1,7 +1,7 @@
 -- A run whose last lines are still gathered. This serves private functions alone.
 use Rattle.std.specs.Prelude.{ℕ, true, List, [], Option, Some, Result, Ok, Err}
-use Rattle.tk_io.specs.Streams.{IsSent}
-use Rattle.tk_io.specs.declared.failure.Failed.{Failed}
+use Rattle.byte_streams.specs.Streams.{IsSent}
+use Rattle.byte_streams.specs.declared.failure.Failed.{Failed}
 use Rattle.step_laws.specs.declared.moves.End.{End}
 use Rattle.program_steps.specs.Machines.{Machine}
 use Rattle.tk_run.specs.Running.{HasAdvanced}

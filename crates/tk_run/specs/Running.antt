@@ -4,8 +4,8 @@ use Rattle.std.specs.Prelude.{◌≡◌, ◌≢◌, ℕ, ◌+◌, ◌<◌, ◌�
 use Rattle.mote_devices.specs.declared.line.Line.{Line}
 use Rattle.mem_guard.specs.FlatMachine.{Moment, End as FlatEnd, Run, run}
 use Rattle.mem_guard.specs.FlatMachine as flat_ends
-use Rattle.tk_io.specs.declared.failure.Failed.{Failed}
-use Rattle.tk_io.specs.Streams.{Puts}
+use Rattle.byte_streams.specs.declared.failure.Failed.{Failed}
+use Rattle.byte_streams.specs.Streams.{Puts}
 use Rattle.step_laws.specs.declared.moves.End.{End}
 use Rattle.step_laws.specs.declared.moves.End.TheVariants as ends
 use Rattle.step_laws.specs.Moves.{Move}

@@ -1,14 +1,14 @@
 //! The device lines of a run.
 
 ghost use Rattle.std.specs.Prelude.{◌≢◌, None, [], OnErr};
-ghost use Rattle.tk_io.specs.Faults.{HasCause};
+ghost use Rattle.byte_streams.specs.Faults.{HasCause};
 ghost use Rattle.step_laws.specs.Moves.{line_before};
 ghost use Rattle.line_text.specs.Gathering.{Gathers};
 ghost use Rattle.program_steps.specs.Stepping.{lines_text};
 
+use byte_streams::{Failed, Sink};
 use line_text::{Gathered, add, device_line};
 use mote_devices::Line;
-use tk_io::{Failed, Sink};
 
 /// Adds the line of a step, if it has one, to what was gathered.
 pub(crate) fn gather<K: Sink>(

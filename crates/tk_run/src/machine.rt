@@ -1,9 +1,9 @@
 //! The machine: a mote that runs a program, how far it has come, and what was counted.
 
 ghost use Rattle.std.specs.Prelude.{◌≡◌, ◌≤◌, ◌+◌, ◌^◌, false, length, IfOk};
-ghost use Rattle.tk_io.specs.Faults.{HasCause};
+ghost use Rattle.byte_streams.specs.Faults.{HasCause};
 ghost use Rattle.tk_run.specs.Running.{HasAdvanced};
-ghost use Rattle.flash_model.specs.Layouts.{layout_of};
+ghost use Rattle.flash_words.specs.Layouts.{layout_of};
 ghost use Rattle.nat_page.specs.Faithful.{IsFaithful};
 ghost use Rattle.swap_store.specs.Slots.{zero_slots};
 ghost use Rattle.program_steps.specs.Ready.{IsKept};
@@ -12,6 +12,7 @@ ghost use Rattle.tk_run.specs.Booted.{begun as begun_by, booted, started_over};
 use crate::run::run_on;
 use crate::{End, Owed};
 use branch_bridge::Torn;
+use byte_streams::{Failed, NoMemory, Sink};
 use flash_model::{Flash, Layout};
 use hex_image::Image;
 use input_script::Script;
@@ -23,7 +24,6 @@ use program_steps::Progress;
 use std::alloc::Global;
 use std::marker::Model;
 use swap_store::Swap;
-use tk_io::{Failed, NoMemory, Sink};
 
 /// How a machine is to run its program.
 #[derive(Clone, Copy)]
@@ -92,6 +92,7 @@ impl Machine {
         requires quantum { 1 ≤ options.quantum }
         requires swap { options.swap ≤ 251 }
         ensures booted { IfOk result (λ m. m ≡ booted image.now script options.quantum options.swap) }
+        ensures kept { IfOk result (λ m. IsKept m) }
     {
         let mut mote = Mote::new(alloc, image.words(), script, options.swap)?;
         mote.sram.set_count(options.quantum);

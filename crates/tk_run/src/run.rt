@@ -1,7 +1,7 @@
 //! The run loop: arrival, step and device line, up to a bound.
 
 ghost use Rattle.std.specs.Prelude.{◌≡◌, ◌≤◌, ◌+◌, ◌^◌, false, None, []};
-ghost use Rattle.tk_io.specs.Faults.{HasCause};
+ghost use Rattle.byte_streams.specs.Faults.{HasCause};
 ghost use Rattle.tk_run.specs.Gathering.{HasGathered, HasPut};
 ghost use Rattle.program_steps.specs.Ready.{IsGoing, IsQuiet};
 ghost use Rattle.tk_run.specs.Running.{HasAdvanced};
@@ -9,11 +9,11 @@ ghost use Rattle.program_steps.specs.Wholes.{whole};
 
 use crate::End;
 use crate::lines::gather;
+use byte_streams::{Failed, Sink};
 use kernel_entry::Kernel;
 use line_text::{Gathered, send, send_in_turn, up_to_turn};
-use page_index::Cursor;
+use page_cursor::Cursor;
 use program_steps::{Progress, at_bound, enter, must_take, steps, take};
-use tk_io::{Failed, Sink};
 
 /// Does up to n further steps, and puts the lines of each.
 pub(crate) fn run_on<K: Sink>(

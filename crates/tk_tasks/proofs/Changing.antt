@@ -1,146 +1,30 @@
 -- The change of the task that runs leaves what each task stands for.
-use Rattle.std.proofs.Common.{◌≡◌, ℕ, zero, suc, ◌+◌, ◌-◌, ◌<◌, ◌≤◌, ◌⊎◌, Bool, true, false, cond, not, List, [], ◌∷◌, length, get_or, refl, sym, ap, ap₂, ◌∙◌, arith, subst, inl, inr}
-use Rattle.std.specs.Prelude.{◌≢◌, ◌*◌, All, map, is_some, slice_get, slice_set, slice_index_or, sum_by, Option, Some, None, IfSome}
-use Rattle.std.specs.List.{range_with_len, find}
-use Rattle.std.specs.Option.{option_or}
+use Rattle.std.proofs.Common.{◌≡◌, ℕ, zero, suc, ◌+◌, ◌-◌, ◌<◌, ◌⊎◌, List, [], ◌∷◌, length, get_or, refl, sym, ap, ap₂, ◌∙◌, arith, subst, inl, inr}
+use Rattle.std.specs.Prelude.{◌≢◌, ◌*◌, map, slice_get, sum_by, Option, Some, None, IfSome}
 use Rattle.std.proofs.lemmas.Bool.{cases_eq}
-use Rattle.std.proofs.lemmas.List.{get_or-map, set-get_or}
-use Rattle.std.proofs.lemmas.List.Folds.{find-append}
-use Rattle.std.proofs.lemmas.List.Elements.{All-append}
-use Rattle.std.proofs.lemmas.List.FromFn.{get_or-range_with_len, length-range_with_len}
 use Rattle.std.proofs.lemmas.Option.{slice_get-get_or}
 use Rattle.sram_layout.specs.Bytes.{byte_count}
-use Rattle.flash_model.specs.Layouts.{layout_of}
+use Rattle.flash_words.specs.Layouts.{layout_of}
 use Rattle.mote_core.specs.declared.mote.Mote.{Mote}
 use Rattle.kernel_entry.specs.Seen.{program as program_of}
 use Rattle.step_laws.specs.declared.moves.Owed.{Owed}
 use Rattle.program_steps.specs.Machines.{Machine, flat_of}
 use Rattle.program_steps.proofs.Marked.{order_marked}
 use Rattle.program_steps.specs.Ready.{IsSound, IsGoing, IsQuiet}
-use Rattle.tk_tasks.specs.declared.parked.Parked.{Parked}
-use Rattle.tk_tasks.specs.declared.tasks.Task.{Task}
-use Rattle.tk_tasks.specs.declared.tasks.TaskEnd.{TaskEnd}
+use Rattle.parked_tasks.specs.declared.parked.Parked.{Parked}
+use Rattle.parked_tasks.specs.declared.task.Task.{Task}
 use Rattle.task_input.specs.Images.{quarter}
-use Rattle.tk_tasks.specs.Quarters.{quarter_part}
-use Rattle.tk_tasks.specs.Parking.{IsSized, parked_of, taken_up}
-use Rattle.tk_tasks.specs.Turns.{Player, others, has_ended, next_in, ends_of, changed, changed_to}
-use Rattle.tk_tasks.specs.States.{Tasks, owed_of, stub_of, arrivals_of, machine_of, mote_for, IsTask, AreSound, flat_end_of, player_of, players_from, turns_of}
-use Rattle.tk_tasks.specs.Changes.{parking, with_parked, parked_by, given_by, given_to, next_task, changed_tasks, IsFree}
-use Rattle.tk_tasks.proofs.Parkings.{taken_twice, taken_back, sized_of}
-use Rattle.tk_tasks.proofs.Ending.{found_holds}
-use Rattle.tk_tasks.proofs.Sums.{sum_set}
-
--- What is parked of one of the tasks. ---------------------------------------------------------------------
-
-parking_here : (tasks : List Task) (i : ℕ) (parked : Option Parked) (task : Task) → slice_get tasks i ≡ Some task → slice_get (parking tasks i parked (slice_get tasks i)) i ≡ Some (record task { parked = parked })
-parking_here [] i parked task is = absurd (cc)
-parking_here (t ∷ tasks) zero parked task is = let e : t ≡ task = cc in ap (λ (x : Task). Some (record x { parked = parked })) e
-parking_here (t ∷ tasks) (suc i) parked task is =
-    ap (λ o. slice_get (parking (t ∷ tasks) (suc i) parked o) (suc i)) is ∙ ap (λ o. slice_get (parking tasks i parked o) i) (sym is) ∙ parking_here tasks i parked task is
-
-pub elsewhere_by : {T : Type 0} → (tasks : List T) (i k : ℕ) (x : T) → k ≢ i → slice_get (slice_set tasks i x) k ≡ slice_get tasks k
-elsewhere_by [] i k x apart = refl
-elsewhere_by (t ∷ tasks) zero zero x apart = absurd (apart refl)
-elsewhere_by (t ∷ tasks) zero (suc k) x apart = refl
-elsewhere_by (t ∷ tasks) (suc i) zero x apart = refl
-elsewhere_by (t ∷ tasks) (suc i) (suc k) x apart = elsewhere_by tasks i k x (λ e. apart (ap suc e))
-
-parking_elsewhere : (tasks : List Task) (i k : ℕ) (parked : Option Parked) (o : Option Task) → k ≢ i → slice_get (parking tasks i parked o) k ≡ slice_get tasks k
-parking_elsewhere tasks i k parked None apart = refl
-parking_elsewhere tasks i k parked (Some task) apart = elsewhere_by tasks i k (record task { parked = parked }) apart
-
-pub length_by : (tasks : List Task) (i : ℕ) (x : Task) → length (slice_set tasks i x) ≡ length tasks
-length_by [] i x = refl
-length_by (t ∷ tasks) zero x = refl
-length_by (t ∷ tasks) (suc i) x = ap (λ n. suc n) (length_by tasks i x)
-
-parking_length : (tasks : List Task) (i : ℕ) (parked : Option Parked) (o : Option Task) → length (parking tasks i parked o) ≡ length tasks
-parking_length tasks i parked None = refl
-parking_length tasks i parked (Some task) = length_by tasks i (record task { parked = parked })
-
--- nothing is counted with it
-abbrev pub IsUnparked : (Task → ℕ) → Type 0
-IsUnparked f = (task : Task) (parked : Option Parked) → f (record task { parked = parked }) ≡ f task
-
-parking_sum : (f : Task → ℕ) (tasks : List Task) (i : ℕ) (parked : Option Parked) (o : Option Task) → IsUnparked f → slice_get tasks i ≡ o → sum_by f (parking tasks i parked o) ≡ sum_by f tasks
-parking_sum f tasks i parked None same is = refl
-parking_sum f tasks i parked (Some task) same is = omega (arith, sum_set f tasks i task (record task { parked = parked }) is, same task parked)
-
--- The next task. ------------------------------------------------------------------------------------------
-
--- one of them has ended or not
-some_end : (end : Option TaskEnd) → is_some (flat_end_of end) ≡ is_some end
-some_end None = refl
-some_end (Some end) = refl
-
-abbrev pub goes_in : List Task → ℕ → Bool
-goes_in tasks i = not (has_ended (map (λ (x : Task). flat_end_of x.end) tasks) i)
-
-pub goes_flat : (tasks : List Task) (i : ℕ) (x : Task) → i < length tasks → x ≡ slice_index_or tasks i x → goes_in tasks i ≡ not (is_some (flat_end_of x.end))
-goes_flat tasks i x below is = ap (λ e. not (is_some e)) (get_or-map (λ (y : Task). flat_end_of y.end) tasks i x None below ∙ ap (λ (y : Task). flat_end_of y.end) (sym is))
-
-goes_by : (tasks : List Task) (i : ℕ) (x : Task) → i < length tasks → x ≡ slice_index_or tasks i x → goes_in tasks i ≡ not (is_some x.end)
-goes_by tasks i x below is = goes_flat tasks i x below is ∙ ap not (some_end x.end)
-
-range_step : (a n : ℕ) → a < n → range_with_len a (n - a) ≡ a ∷ range_with_len (a + 1) (n - (a + 1))
-range_step a n less = let more : n - a ≡ suc (n - (a + 1)) = omega arith in ap (range_with_len a) more
-
-range_done : (a n : ℕ) → n ≤ a → range_with_len a (n - a) ≡ []
-range_done a n less = let none : n - a ≡ 0 = omega arith in ap (range_with_len a) none
-
-cond_true : (test : Bool) (x : ℕ) (rest : Option ℕ) → test ≡ true → cond test (Some x) rest ≡ Some x
-cond_true true x rest is = refl
-cond_true false x rest is = absurd (cc)
-
-cond_false : (test : Bool) (x : ℕ) (rest : Option ℕ) → test ≡ false → cond test (Some x) rest ≡ rest
-cond_false true x rest is = absurd (cc)
-cond_false false x rest is = refl
-
--- the first that goes on, from this one or from the next
-pub first_here : (tasks : List Task) (i n : ℕ) (x : Task) → i < n → n ≤ length tasks → x ≡ slice_index_or tasks i x → is_some x.end ≡ false → find (goes_in tasks) (range_with_len i (n - i)) ≡ Some i
-first_here tasks i n x less inside is going =
-    ap (find (goes_in tasks)) (range_step i n less) ∙ cond_true (goes_in tasks i) i (find (goes_in tasks) (range_with_len (i + 1) (n - (i + 1)))) (goes_by tasks i x (omega arith) is ∙ ap not going)
-
-pub first_later : (tasks : List Task) (i n : ℕ) (x : Task) → i < n → n ≤ length tasks → x ≡ slice_index_or tasks i x → is_some x.end ≡ true → find (goes_in tasks) (range_with_len i (n - i)) ≡ find (goes_in tasks) (range_with_len (i + 1) (n - (i + 1)))
-first_later tasks i n x less inside is over =
-    ap (find (goes_in tasks)) (range_step i n less) ∙ cond_false (goes_in tasks i) i (find (goes_in tasks) (range_with_len (i + 1) (n - (i + 1)))) (goes_by tasks i x (omega arith) is ∙ ap not over)
-
-pub first_none : (tasks : List Task) (i n : ℕ) → n ≤ i → find (goes_in tasks) (range_with_len i (n - i)) ≡ None
-first_none tasks i n less = ap (find (goes_in tasks)) (range_done i n less)
-
--- of the others: those behind, and then those before
-pub first_of_others : (t : Tasks) (first then : Option ℕ) → first ≡ find (goes_in t.tasks) (range_with_len (t.running + 1) (length t.tasks - (t.running + 1))) → then ≡ find (goes_in t.tasks) (range_with_len 0 t.running) → option_or first then ≡ next_task t
-first_of_others t first then is is' =
-    ap₂ option_or is is' ∙ sym (find-append (goes_in t.tasks) (range_with_len (t.running + 1) (length t.tasks - (t.running + 1))) (range_with_len 0 t.running))
-
--- a task of which nothing is parked
-pub given_nothing : (t : Tasks) (next : ℕ) (x : Task) → next < length t.tasks → x ≡ slice_index_or t.tasks next x → x.parked ≡ None → given_by t next (parked_by (slice_get t.tasks next)) ≡ t
-given_nothing t next x below is none = ap (λ o. given_by t next (parked_by o)) (slice_get-get_or t.tasks next x below ∙ ap Some (sym is)) ∙ ap (given_by t next) none
-
-pub same_items : (tasks : List Task) (next : ℕ) (x y : Task) → x ≡ slice_index_or tasks next x → y ≡ x → slice_set tasks next y ≡ tasks
-same_items tasks next x y is same = ap (slice_set tasks next) (same ∙ is) ∙ set-get_or tasks next x
-
--- it is one of the others, and has not ended
-pub record IsNext (t : Tasks) (next : ℕ) : Type 0 where
-  pub below : next < length t.tasks
-  pub apart : next ≢ t.running
-  pub going : goes_in t.tasks next ≡ true
-
-pub is_next : (t : Tasks) (next : ℕ) → t.running < length t.tasks → next_task t ≡ Some next → IsNext t next
-is_next t next one is =
-    let n = length t.tasks in
-    let r = t.running in
-    let P : ℕ → Type 0 = λ j. (j < n) × (j ≢ r) in
-    let behind : All P (range_with_len (r + 1) (n - (r + 1))) = λ k d below.
-    let inside : k < n - (r + 1) = omega (arith, length-range_with_len (r + 1) (n - (r + 1))) in
-    let at = get_or-range_with_len (r + 1) (n - (r + 1)) k d inside in
-    (omega arith, λ e. omega arith) in
-    let before : All P (range_with_len 0 r) = λ k d below.
-    let inside : k < r = omega (arith, length-range_with_len 0 r) in
-    let at = get_or-range_with_len 0 r k d inside in
-    (omega arith, λ e. omega arith) in
-    let holds = found_holds P (λ task. not (has_ended (map (λ (x : Task). flat_end_of x.end) t.tasks) task)) (others r n) next (All-append P (range_with_len (r + 1) (n - (r + 1))) (range_with_len 0 r) behind before) is in
-    record { below = holds.0.0; apart = holds.0.1; going = holds.1 }
+use Rattle.task_turns.specs.Quarters.{quarter_part}
+use Rattle.parked_tasks.specs.Parking.{IsSized, parked_of, taken_up}
+use Rattle.task_turns.specs.Turns.{Player, others, next_in, ends_of, changed, changed_to}
+use Rattle.tk_tasks.specs.States.{Tasks, owed_of, stub_of, arrivals_of, machine_of, mote_for, IsTask, AreSound, player_of, players_from, turns_of}
+use Rattle.parked_tasks.specs.Ends.{flat_end_of}
+use Rattle.parked_tasks.specs.Handing.{with_parked, parked_by, given_to_task, handed_over}
+use Rattle.tk_tasks.specs.Changes.{given_by, given_to, next_task, changed_tasks, IsFree}
+use Rattle.parked_tasks.proofs.Parkings.{taken_twice, taken_back, sized_of}
+use Rattle.parked_tasks.proofs.TaskLists.{parking_here, parking_elsewhere, parking_length, IsUnparked, parking_sum}
+use Rattle.parked_tasks.proofs.NextTasks.{is_next}
+use Rattle.kernel_entry.specs.declared.kernel.Kernel.{Kernel}
 
 -- Each task. ----------------------------------------------------------------------------------------------
 
@@ -317,7 +201,7 @@ given_at t next first last (Some parked) sound is apart there runs holds =
 
 pub has_changed : (t : Tasks) (next : ℕ) (last : Task) → AreSound t → slice_get t.tasks t.running ≡ Some last → next_task t ≡ Some next → HasChanged t next
 has_changed t next last sound runs is =
-    let found = is_next t next sound.one_runs is in
+    let found = is_next t.running t.tasks next sound.one_runs is in
     let first = get_or t.tasks next last in
     let there : slice_get t.tasks next ≡ Some first = slice_get-get_or t.tasks next last found.below in
     given_at t next first last first.parked sound is found.apart there runs refl
@@ -373,7 +257,7 @@ sound_to : (t : Tasks) (last : Task) (found : Option ℕ) → AreSound t → IsF
 sound_to t last None sound free runs is = subst AreSound (sym (ap (given_to t) is)) sound
 sound_to t last (Some next) sound free runs is =
     let changed = has_changed t next last sound runs is in
-    subst AreSound (sym changed.is) (sound_given t next changed.parked sound free (is_next t next sound.one_runs is).below changed.given)
+    subst AreSound (sym changed.is) (sound_given t next changed.parked sound free (is_next t.running t.tasks next sound.one_runs is).below changed.given)
 
 -- In turn. ------------------------------------------------------------------------------------------------
 
@@ -438,3 +322,33 @@ pub changed_turns : (n : ℕ) (t : Tasks) → AreSound t → turns_of n (changed
 changed_turns n t sound =
     let last = running_task t (slice_get t.tasks t.running) sound.one_runs refl in
     turns_to n t last.0 (next_task t) sound last.1 refl ∙ ap (changed_to (turns_of n t)) (sym (same_next n t))
+
+-- The call that gives the mote on makes the change. --------------------------------------------------------
+
+-- what it tells, of tasks whose fields are these
+pub record IsGivenOn (s : Tasks) (all tasks : List Task) (k : Kernel) (found : Option ℕ) : Type 0 where
+  pub next : found ≡ next_in s.running (length all) (map (λ (x : Task). flat_end_of x.end) all)
+  pub given : (next : ℕ) → (parked : Parked) → found ≡ Some next → parked_by (slice_get all next) ≡ Some parked → (k ≡ given_to_task s.kernel next parked) × (tasks ≡ handed_over all s.running next s.kernel.mote)
+
+pub next_is : (t s : Tasks) (all tasks : List Task) (k : Kernel) (found : Option ℕ) → s ≡ t → all ≡ s.tasks → IsGivenOn s all tasks k found → found ≡ next_task t
+next_is t s all tasks k found same listed on =
+    on.next ∙ ap₂ (λ r (l : List Task). next_in r (length l) (map (λ (x : Task). flat_end_of x.end) l)) (ap (λ (u : Tasks). u.running) same) (listed ∙ ap (λ (u : Tasks). u.tasks) same)
+
+pub given_is : (t s : Tasks) (next : ℕ) (all tasks : List Task) (k : Kernel) (found : Option ℕ) → s ≡ t → all ≡ s.tasks → AreSound t → IsGivenOn s all tasks k found → found ≡ Some next
+    → record s { kernel = k; running = next; stub = None; tasks = tasks; switches = s.switches + 1 } ≡ changed_tasks t
+given_is t s next all tasks k found same listed sound on is =
+    let last = running_task t (slice_get t.tasks t.running) sound.one_runs refl in
+    let changed = has_changed t next last.0 sound last.1 (sym (next_is t s all tasks k found same listed on) ∙ is) in
+    let parked = changed.parked in
+    let whole : all ≡ t.tasks = listed ∙ ap (λ (u : Tasks). u.tasks) same in
+    let done = on.given next parked is (ap (λ l. parked_by (slice_get l next)) whole ∙ ap parked_by changed.given.waits ∙ changed.given.gets) in
+    let F : Tasks → Kernel → List Task → Tasks = λ u k l. record u { kernel = k; running = next; stub = None; tasks = l; switches = u.switches + 1 } in
+    ap (λ u. F u k tasks) same
+    ∙ ap₂ (F t) (done.0 ∙ ap (λ (u : Tasks). given_to_task u.kernel next parked) same)
+    (done.1 ∙ ap (λ l. handed_over l s.running next s.kernel.mote) whole ∙ ap (λ (u : Tasks). handed_over t.tasks u.running next u.kernel.mote) same)
+    ∙ sym changed.is
+
+-- where there is no next, none changes
+pub kept_is : (t s : Tasks) (all tasks : List Task) (k : Kernel) (found : Option ℕ) → s ≡ t → all ≡ s.tasks → IsGivenOn s all tasks k found → found ≡ None → (k ≡ s.kernel) × (tasks ≡ all) → record s { kernel = k; tasks = tasks } ≡ changed_tasks t
+kept_is t s all tasks k found same listed on none kept =
+    ap₂ (λ k l. record s { kernel = k; tasks = l }) kept.0 (kept.1 ∙ listed) ∙ same ∙ ap (given_to t) (sym none ∙ next_is t s all tasks k found same listed on)

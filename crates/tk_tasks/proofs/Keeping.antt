@@ -3,10 +3,10 @@ use Rattle.std.proofs.Common.{◌≡◌, ℕ, zero, suc, ◌+◌, ◌-◌, ◌*�
 use Rattle.std.specs.Prelude.{◌≢◌, ◌^◌, slice_get, slice_set, sum_by, Option, Some, None}
 use Rattle.std.proofs.lemmas.Bool.{cases_eq, cases_lt}
 use Rattle.std.proofs.lemmas.List.Sums.{sum_by-cons}
-use Rattle.flash_model.specs.Operations.{is_listed}
-use Rattle.flash_model.specs.Memory.{Memory}
-use Rattle.flash_model.specs.Layouts.{layout_of}
-use Rattle.flash_model.specs.declared.layout.Layout.{Layout}
+use Rattle.flash_words.specs.Operations.{is_listed}
+use Rattle.flash_words.specs.Memory.{Memory}
+use Rattle.flash_words.specs.Layouts.{layout_of}
+use Rattle.flash_words.specs.declared.layout.Layout.{Layout}
 use Rattle.sram_layout.specs.Bytes.{byte_count, byte_at}
 use Rattle.branch_bridge.specs.declared.rewriting.Torn.{Torn}
 use Rattle.branch_bridge.specs.Arrivals.{KeepsOtherBytes}
@@ -22,18 +22,20 @@ use Rattle.program_steps.specs.Ready.{most_arrivals, IsSound, IsGoing, IsQuiet}
 use Rattle.program_steps.specs.Stepping.{Stays}
 use Rattle.program_steps.specs.Waiting.{over, IsLeft, HasWaited}
 use Rattle.program_steps.proofs.Waiting.{untorn_left, sound_waiting, going_waiting, flat_waiting, program_waiting}
-use Rattle.tk_tasks.specs.declared.parked.Parked.{Parked}
-use Rattle.tk_tasks.specs.declared.tasks.Task.{Task}
-use Rattle.tk_tasks.specs.declared.tasks.TaskEnd.{TaskEnd}
+use Rattle.parked_tasks.specs.declared.parked.Parked.{Parked}
+use Rattle.parked_tasks.specs.declared.task.Task.{Task}
+use Rattle.parked_tasks.specs.declared.task.TaskEnd.{TaskEnd}
 use Rattle.task_input.specs.Images.{quarter}
-use Rattle.tk_tasks.specs.Quarters.{quarter_part}
-use Rattle.tk_tasks.specs.Parking.{IsSized, taken_up}
-use Rattle.tk_tasks.specs.Turns.{Player, with_player}
-use Rattle.tk_tasks.specs.States.{Tasks, owed_of, stub_of, mote_for, machine_end, arrivals_of, others_of, machine_of, IsTask, AreSound, flat_end_of, player_of, players_from, turns_of}
+use Rattle.task_turns.specs.Quarters.{quarter_part}
+use Rattle.parked_tasks.specs.Parking.{IsSized, taken_up}
+use Rattle.task_turns.specs.Turns.{Player, with_player}
+use Rattle.tk_tasks.specs.States.{Tasks, owed_of, stub_of, mote_for, machine_end, arrivals_of, others_of, machine_of, IsTask, AreSound, player_of, players_from, turns_of}
+use Rattle.parked_tasks.specs.Ends.{flat_end_of}
 use Rattle.tk_tasks.specs.Trying.{target_of, stub_in, kept_task, kept_tasks}
-use Rattle.tk_tasks.proofs.Parkings.{both_size, both_in_low, both_in_high, both_between}
-use Rattle.tk_tasks.proofs.Sums.{sum_set}
-use Rattle.tk_tasks.proofs.Changing.{here_is, elsewhere_by, length_by, players_same}
+use Rattle.parked_tasks.proofs.Parkings.{both_size, both_in_low, both_in_high, both_between}
+use Rattle.parked_tasks.proofs.Sums.{sum_set, sum_has}
+use Rattle.tk_tasks.proofs.Changing.{here_is, players_same}
+use Rattle.parked_tasks.proofs.TaskLists.{elsewhere_by, length_by}
 
 -- what the running task's machine came to, where it leaves the task with this end
 pub record IsCome (t : Tasks) (task : Task) (m : Machine) (end : Option TaskEnd) : Type 0 where
@@ -54,13 +56,6 @@ set_same [] i task x is = absurd (cc)
 set_same (y ∷ tasks) zero task x is = refl
 set_same (y ∷ tasks) (suc i) task x is = set_same tasks i task x is
 
-pub sum_has : (tasks : List Task) (i : ℕ) (task : Task) → slice_get tasks i ≡ Some task → arrivals_of task ≤ sum_by arrivals_of tasks
-sum_has [] i task is = absurd (cc)
-sum_has (y ∷ tasks) zero task is =
-    let its : arrivals_of y ≡ arrivals_of task = ap arrivals_of (here_is (y ∷ tasks) 0 y task refl is) in
-    omega (arith, its, sum_by-cons arrivals_of y tasks)
-sum_has (y ∷ tasks) (suc i) task is = omega (arith, sum_has tasks i task is, sum_by-cons arrivals_of y tasks)
-
 mul_most : (a n k : ℕ) → n ≤ k → a * n ≤ a * k
 mul_most a n k below = grind (arith)
 
@@ -71,10 +66,6 @@ most_at (Some owed) steps = omega arith
 pub sum_most : (tasks : List Task) (most : ℕ) → ((i : ℕ) (task : Task) → slice_get tasks i ≡ Some task → task.steps ≤ most) → sum_by arrivals_of tasks ≤ (most + 1) * length tasks
 sum_most [] most few = omega arith
 sum_most (y ∷ tasks) most few = omega (arith, sum_most tasks most (λ i task is. few (suc i) task is), sum_by-cons arrivals_of y tasks, few 0 y refl, most_at (owed_of y.owed None) y.steps)
-
-most_stub : (owed stub : Option ℕ) (steps : ℕ) → most_arrivals (owed_of owed stub) steps ≡ most_arrivals (owed_of owed None) steps
-most_stub None stub steps = refl
-most_stub (Some target) stub steps = refl
 
 most_back : (owed : Option Owed) (steps : ℕ) → most_arrivals (owed_of (target_of owed) None) steps ≡ most_arrivals owed steps
 most_back None steps = refl
@@ -89,7 +80,7 @@ owed_back (Some owed) = refl
 -- the sum of arrivals but its own is what it was
 others_kept : (t : Tasks) (task : Task) (m : Machine) (end : Option TaskEnd) → slice_get t.tasks t.running ≡ Some task → others_of (kept_tasks t task m end) (kept_task task m end) ≡ others_of t task
 others_kept t task m end here =
-    omega (arith, sum_set arrivals_of t.tasks t.running task (kept_task task m end) here, sum_has t.tasks t.running task here)
+    omega (arith, sum_set arrivals_of t.tasks t.running task (kept_task task m end) here, sum_has arrivals_of t.tasks t.running task here)
 
 -- its machine is just that one
 pub machine_kept : (t : Tasks) (task : Task) (m : Machine) (end : Option TaskEnd) → slice_get t.tasks t.running ≡ Some task → task.parked ≡ None → t.kernel.part ≡ quarter_part t.running → IsCome t task m end
@@ -192,9 +183,9 @@ waited t task m end i u q before come apart there sized =
     let new = kept_tasks t task m end in
     let y = machine_of t i (parked_as u q) in
     let there' : slice_get new.tasks i ≡ Some (parked_as u q) = elsewhere_by t.tasks t.running i (kept_task task m end) apart ∙ there in
-    let has = sum_has new.tasks i (parked_as u q) there' in
+    let has = sum_has arrivals_of new.tasks i (parked_as u q) there' in
     let set = sum_set arrivals_of t.tasks t.running task (kept_task task m end) before.here in
-    let own = sum_has t.tasks t.running task before.here in
+    let own = sum_has arrivals_of t.tasks t.running task before.here in
     let mine = most_back m.owed m.steps in
     let others = come.others in
     let few = few_others t task m end before come in

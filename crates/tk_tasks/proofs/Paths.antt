@@ -3,12 +3,13 @@ use Rattle.std.proofs.Common.{◌≡◌, ℕ, zero, suc, ◌+◌, ◌-◌, ◌�
 use Rattle.std.specs.Prelude.{slice_get, is_some, sum_by}
 use Rattle.std.proofs.lemmas.List.{append_assoc, append-nil}
 use Rattle.mem_guard.specs.FlatMachine.{End}
-use Rattle.tk_tasks.specs.declared.tasks.Task.{Task}
-use Rattle.tk_tasks.specs.Turns.{Player, Turns, Told, After, once, continued, go_on, tries, turns, alone, own_told, Follows, Ended, Going, Over, HaveEnded}
-use Rattle.tk_tasks.specs.States.{Tasks, player_of, players_from, turns_of, flat_end_of}
+use Rattle.parked_tasks.specs.declared.task.Task.{Task}
+use Rattle.task_turns.specs.Turns.{Player, Turns, Told, After, once, continued, go_on, tries, turns, alone, own_told, Follows, Ended, Going, Over, HaveEnded}
+use Rattle.tk_tasks.specs.States.{Tasks, player_of, players_from, turns_of}
+use Rattle.parked_tasks.specs.Ends.{flat_end_of}
 use Rattle.tk_tasks.specs.Plays.{Play, TaskPath, told_of, AreInTurn, EndsAsAlone, HaveRun}
-use Rattle.tk_tasks.proofs.Isolation.{once_follows, apart_from_others}
-use Rattle.tk_tasks.proofs.Ending.{Ready, ready_once, still, still_set, still_sum}
+use Rattle.task_turns.proofs.Isolation.{once_follows, apart_from_others}
+use Rattle.task_turns.proofs.Ending.{Ready, ready_once, still, still_set, still_sum}
 
 -- ---- the tasks as players
 
@@ -114,9 +115,6 @@ ended_tries : (k : ℕ) (t : Turns) → HaveEnded t → tries k t ≡ record { t
 unfolding tries
 ended_tries zero t ended = refl
 ended_tries (suc k) t ended = ended_by t (slice_get t.players t.running) (tries k) refl ended
-
-none_more : (told : List Told) (t : Turns) (a : After) → a ≡ record { told = []; turns = t } → continued (record { told = told; turns = t }) a ≡ record { told = told; turns = t }
-none_more told t a is = ap (continued (record { told = told; turns = t })) is ∙ ap (λ l. record { told = l; turns = t }) (append-nil told)
 
 more_by : (k m : ℕ) (t : Turns) (p : Player) (b : Bool) → ((next : Turns) → HaveEnded (tries k next).turns → tries (k + m) next ≡ tries k next)
     → HaveEnded (cond b (record { told = []; turns = t }) (continued (once t p) (tries k (once t p).turns))).turns

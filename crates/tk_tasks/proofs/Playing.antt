@@ -5,7 +5,7 @@ use Rattle.std.proofs.lemmas.List.{append-nil}
 use Rattle.std.proofs.lemmas.Bool.Decides.{nat_tests}
 use Rattle.mote_devices.specs.declared.line.Line.{Line}
 use Rattle.mem_guard.specs.declared.part.Part.{Part}
-use Rattle.mem_guard.specs.FlatMachine.{Program, is_own, is_inside, Moment, End as FlatEnd, Spent as FlatSpent, Wild as FlatWild, Next, Ends, On, Run, run, ended, next_of}
+use Rattle.mem_guard.specs.FlatMachine.{Program, is_own, is_inside, Moment, End as FlatEnd, Spent as FlatSpent, Wild as FlatWild, Next, Ends, On, Run, run, next_of}
 use Rattle.mem_guard.proofs.MachineLaws.{run_wild, run_spent}
 use Rattle.kernel_entry.specs.declared.kernel.Stop.{Stop}
 use Rattle.kernel_entry.specs.declared.kernel.Stop.TheVariants as stops
@@ -24,16 +24,17 @@ use Rattle.program_steps.proofs.Arrived.{place_inside}
 use Rattle.program_steps.proofs.Bounds.{bounded_counted}
 use Rattle.program_steps.proofs.Leading.{stays_self}
 use Rattle.program_steps.proofs.Waiting.{left_going}
-use Rattle.tk_tasks.specs.declared.tasks.Task.{Task}
-use Rattle.tk_tasks.specs.declared.tasks.TaskEnd.{TaskEnd}
-use Rattle.tk_tasks.specs.declared.tasks.TaskEnd.TheVariants.{Spent, Stopped, Wild, Read}
+use Rattle.parked_tasks.specs.declared.task.Task.{Task}
+use Rattle.parked_tasks.specs.declared.task.TaskEnd.{TaskEnd}
+use Rattle.parked_tasks.specs.declared.task.TaskEnd.TheVariants.{Spent, Wild}
 use Rattle.tk_tasks.specs.declared.trying.Tried.{Tried}
-use Rattle.tk_tasks.specs.Turns.{Turns, Told, Stops, After, rests_by, rests, played_by, tried_by, once_by, once, changed, with_player, told_line, stopped, at_checkpoint, stepped, after_line}
-use Rattle.tk_tasks.specs.States.{Tasks, machine_of, machine_end, AreSound, flat_end, flat_end_of, player_of, turns_of}
+use Rattle.task_turns.specs.Turns.{Turns, Stops, After, rests_by, rests, played_by, tried_by, once_by, once, changed, with_player, told_line, stopped, at_checkpoint, stepped, after_line}
+use Rattle.tk_tasks.specs.States.{Tasks, machine_of, machine_end, AreSound, player_of, turns_of}
+use Rattle.parked_tasks.specs.Ends.{flat_end, flat_end_of}
 use Rattle.tk_tasks.specs.Changes.{IsFree}
 use Rattle.tk_tasks.specs.Plays.{Play, GoesOn, IsPlay, TaskPath, told_of, lines_told}
 use Rattle.tk_tasks.specs.Trying.{rest_at, rest_if, ended_by, Went, checks, Quietly, IsBehind, HasTried, target_of, stub_in, kept_task, kept_tasks, finished, line_told, end_told, tried_told, HasPlayed}
-use Rattle.tk_tasks.proofs.Crossings.{undue_unchecked}
+use Rattle.task_turns.proofs.Crossings.{undue_unchecked}
 use Rattle.tk_tasks.proofs.Trials.{unrested}
 use Rattle.tk_tasks.proofs.Changing.{here_is, changed_turns}
 use Rattle.tk_tasks.proofs.Keeping.{IsCome, IsBefore, set_same, machine_kept, sound_kept, player_by, turns_kept}
@@ -215,9 +216,6 @@ next_player n u task m going program steps =
     let less : n - task.steps - 1 ≡ n - m.steps = omega arith in
     ap (λ e. record (player_of n u u.running task) { moment = flat_of m; left = n - task.steps - 1; end = e }) (ap flat_end_of going)
     ∙ ap₂ (λ p l. record { program = p; moment = flat_of m; left = l; end = None }) (sym program) less
-
-told_none : (front : List Told) (task steps crossings : ℕ) → front ++ [] ≡ front ++ end_told task None steps crossings
-told_none front task steps crossings = refl
 
 step_rests : (t : Turns) (n : ℕ) (m : Machine) (line : Option Line) (rest : Option TaskEnd) (found : Option FlatEnd) → found ≡ flat_end_of rest
     → after_line (told_line t line) (at_checkpoint t (player_by n m None) found) ≡ record { told = told_line t line ++ end_told t.running rest m.steps m.crossings; turns = changed (with_player t (player_by n m rest)) }

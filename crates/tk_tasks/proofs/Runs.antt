@@ -2,48 +2,45 @@
 use Rattle.std.proofs.Common.{◌≡◌, ℕ, ◌+◌, ◌-◌, ◌*◌, ◌<◌, ◌≤◌, Bool, true, false, List, [], ◌∷◌, ◌++◌, length, refl, sym, ap, ap₂, ◌∙◌, arith, subst, inl, inr}
 use Rattle.std.specs.Prelude.{◌≢◌, ◌^◌, max, is_some, slice_get, slice_set, slice_index_or, sum_by, Option, Some, None, Result, Ok, Err}
 use Rattle.std.proofs.lemmas.List.{append-nil}
-use Rattle.std.proofs.lemmas.Option.{get_or_from_slice_get, slice_get-get_or}
-use Rattle.flash_model.specs.Memory.{Memory}
-use Rattle.page_index.specs.declared.cursor.Cursor.{Cursor}
-use Rattle.page_index.specs.Cursors.{IsCursor}
+use Rattle.flash_words.specs.Memory.{Memory}
+use Rattle.page_cursor.specs.declared.cursor.Cursor.{Cursor}
+use Rattle.page_cursor.specs.Cursors.{IsCursor}
 use Rattle.mem_guard.specs.FlatMachine.{End as FlatEnd}
 use Rattle.kernel_entry.specs.declared.kernel.Kernel.{Kernel}
 use Rattle.step_laws.specs.declared.moves.Owed.{Owed}
 use Rattle.step_laws.specs.declared.moves.End.{End}
-use Rattle.tk_io.specs.declared.failure.Failed.{Failed}
-use Rattle.tk_io.specs.Streams.{CutShort, IsSent, Puts}
-use Rattle.tk_io.proofs.KnownBytes.{nothing_sent, appends-nothing}
+use Rattle.byte_streams.specs.declared.failure.Failed.{Failed}
+use Rattle.byte_streams.specs.Streams.{CutShort, IsSent, Puts}
+use Rattle.byte_streams.proofs.KnownBytes.{nothing_sent, appends-nothing}
 use Rattle.line_text.proofs.Gathered.{sent_on, cut_on, all_on, rest_cut}
 use Rattle.program_steps.specs.declared.progress.Progress.{Progress}
 use Rattle.program_steps.specs.Machines.{Machine}
-use Rattle.program_steps.specs.Ready.{IsGoing, IsQuiet}
+use Rattle.program_steps.specs.Ready.{most_arrivals, IsGoing, IsQuiet}
+use Rattle.parked_tasks.specs.Counting.{arrivals_by, arrivals_made}
+use Rattle.std.proofs.lemmas.List.Sums.{sum_by-cons}
 use Rattle.program_steps.specs.Wholes.{whole}
-use Rattle.tk_tasks.specs.declared.parked.Parked.{Parked}
-use Rattle.tk_tasks.specs.declared.tasks.Task.{Task}
-use Rattle.tk_tasks.specs.declared.tasks.TaskEnd.{TaskEnd}
-use Rattle.tk_tasks.specs.Quarters.{quarter_part}
-use Rattle.tk_tasks.specs.Turns.{Player, Turns, Told, next_in, ends_of, changed, changed_to, with_player, once, After, HaveEnded}
-use Rattle.tk_tasks.specs.States.{Tasks, arrivals_of, owed_of, stub_of, mote_for, machine_end, others_of, machine_of, AreSound, flat_end_of, player_of, players_from, turns_of}
-use Rattle.tk_tasks.specs.Changes.{parked_by, given_by, given_to, next_task, changed_tasks}
+use Rattle.parked_tasks.specs.declared.parked.Parked.{Parked}
+use Rattle.parked_tasks.specs.declared.task.Task.{Task}
+use Rattle.parked_tasks.specs.declared.task.TaskEnd.{TaskEnd}
+use Rattle.task_turns.specs.Quarters.{quarter_part}
+use Rattle.task_turns.specs.Turns.{Player, Turns, Told, next_in, ends_of, changed, changed_to, with_player, once, After, HaveEnded}
+use Rattle.tk_tasks.specs.States.{Tasks, arrivals_of, owed_of, stub_of, mote_for, machine_end, others_of, machine_of, AreSound, player_of, players_from, turns_of}
+use Rattle.parked_tasks.specs.Ends.{flat_end_of}
+use Rattle.parked_tasks.specs.Handing.{parked_by}
+use Rattle.tk_tasks.specs.Changes.{given_by, given_to, next_task, changed_tasks}
 use Rattle.tk_tasks.specs.Plays.{Play, IsPlay, TaskPath, told_of, told_text, counted, is_failed, HasRunTasks}
 use Rattle.tk_tasks.specs.Trying.{stub_in, kept_task, kept_tasks, HasPlayed}
-use Rattle.tk_tasks.specs.Running.{IsUnderWay, IsCut, HaveGathered, sum_to}
-use Rattle.tk_tasks.proofs.Sums.{to_all}
-use Rattle.tk_tasks.proofs.Isolation.{IsOnce, once_follows, weight, weight_going, weight_ended}
-use Rattle.tk_tasks.proofs.Ending.{Ready, still}
+use Rattle.tk_tasks.specs.Running.{IsUnderWay, IsCut, HaveGathered}
+use Rattle.task_turns.proofs.Isolation.{IsOnce, once_follows, weight, weight_going, weight_ended}
+use Rattle.task_turns.proofs.Ending.{Ready, still}
 use Rattle.step_laws.proofs.Ways.{walks_on}
 use Rattle.tk_tasks.proofs.Paths.{player_here, path_still, path_in_turn, path_ready, told_on, path_runs}
 use Rattle.tk_tasks.proofs.Changing.{running_task}
-use Rattle.tk_tasks.proofs.Keeping.{IsBefore, most_at}
+use Rattle.tk_tasks.proofs.Keeping.{IsBefore}
 use Rattle.tk_tasks.proofs.Telling.{told_text_on}
+use Rattle.parked_tasks.proofs.TaskLists.{is_at}
 
 -- ---- reading a task
-
-pub is_at : (tasks : List Task) (i : ℕ) (x task : Task) → x ≡ slice_index_or tasks i x → slice_get tasks i ≡ Some task → x ≡ task
-is_at tasks i x task is there = is ∙ get_or_from_slice_get tasks i task x there
-
-pub get_at : (tasks : List Task) (i : ℕ) (x : Task) → i < length tasks → x ≡ slice_index_or tasks i x → slice_get tasks i ≡ Some x
-get_at tasks i x below is = slice_get-get_or tasks i x below ∙ ap (λ z. Some z) (sym is)
 
 -- ---- the machine of the running task
 
@@ -66,6 +63,18 @@ progress_is t task x owed others pages sound here going same same_pages owes all
     ∙ ap (λ e. make (machine_of t t.running task).kernel task (machine_of t t.running task).owed e (task.natural - task.since + task.since) (max task.longest task.since) pages others) (sym (ap machine_end going))
     ∙ ap₂ (λ n g. make (machine_of t t.running task).kernel task (machine_of t t.running task).owed (machine_end task.end) n g pages others) natural (max_left task.longest task.since since)
     ∙ ap₂ (λ p h. make (machine_of t t.running task).kernel task (machine_of t t.running task).owed (machine_end task.end) task.natural task.longest p h) same_pages all
+
+-- the arrivals of the others, as they are counted
+same_arrivals : (owed : Option ℕ) (steps : ℕ) → arrivals_by owed steps ≡ most_arrivals (owed_of owed None) steps
+same_arrivals None steps = refl
+same_arrivals (Some target) steps = refl
+
+same_sums : (tasks : List Task) → sum_by arrivals_made tasks ≡ sum_by arrivals_of tasks
+same_sums [] = refl
+same_sums (x ∷ xs) = sum_by-cons arrivals_made x xs ∙ ap₂ (λ a b. a + b) (same_arrivals x.owed x.steps) (same_sums xs) ∙ sym (sum_by-cons arrivals_of x xs)
+
+pub others_are : (t : Tasks) (task : Task) (tasks : List Task) → tasks ≡ t.tasks → sum_by arrivals_made tasks - arrivals_made task ≡ others_of t task
+others_are t task tasks same = ap₂ (λ a b. a - b) (same_sums tasks ∙ ap (sum_by arrivals_of) same) (same_arrivals task.owed task.steps)
 
 -- the running task, where it has not ended
 pub record Begins (t : Tasks) (k : Kernel) (p : Progress) : Type 0 where
@@ -331,12 +340,6 @@ entries_most t sound i task there =
     omega arith
 
 -- ---- sums over tasks
-
-pub arrivals_few : (tasks : List Task) → ((i : ℕ) (task : Task) → slice_get tasks i ≡ Some task → task.steps ≤ 10 ^ 12) → (i : ℕ) (task : Task) → slice_get tasks i ≡ Some task → arrivals_of task ≤ 10 ^ 12 + 1
-arrivals_few tasks few i task there = omega (arith, few i task there, most_at (owed_of task.owed None) task.steps)
-
-pub all_here : (tasks : List Task) (k sum : ℕ) → sum ≡ sum_to arrivals_of k tasks → k ≡ length tasks → sum ≡ sum_by arrivals_of tasks
-all_here tasks k sum is all = is ∙ ap (λ j. sum_to arrivals_of j tasks) all ∙ to_all arrivals_of tasks
 
 pub quantum_some : (t : Tasks) → AreSound t → t.broken ≡ false → ((task : Task) → slice_get t.tasks t.running ≡ Some task → task.end ≡ None) → 1 ≤ t.kernel.quantum
 quantum_some t sound unbroken going =

@@ -2,17 +2,10 @@
 use Rattle.std.proofs.Common.{true, ◌≡◌, ℕ, zero, suc, ◌+◌, ◌-◌, ◌*◌, ◌<◌, ◌≤◌, List, [], ◌∷◌, length, refl, sym, ap, ap₂, ◌∙◌, arith, subst}
 use Rattle.std.specs.Prelude.{◌≢◌, ◌^◌, Option, Some, None, IfSome, sum_by, slice_get}
 use Rattle.std.proofs.lemmas.List.Sums.{sum_by-cons}
-use Rattle.std.proofs.lemmas.List.FromFn.{length-map-range_with_len}
-use Rattle.avr_isa.specs.Image.{word}
-use Rattle.sram_layout.specs.Boot.{at_boot}
-use Rattle.sram_layout.specs.Bytes.{byte_count}
-use Rattle.sram_layout.specs.Cells.{count_cell}
-use Rattle.sram_layout.proofs.Laws.{length-with_byte}
-use Rattle.sram_layout.proofs.BootLaws.{length-at_boot}
-use Rattle.flash_model.specs.Memory.{loaded, new_flash, IsWhole}
-use Rattle.flash_model.specs.Layouts.{layout_of}
-use Rattle.flash_model.specs.declared.layout.Layout.{Layout}
-use Rattle.flash_model.proofs.LayoutLaws.{layout_right}
+use Rattle.flash_words.specs.Memory.{loaded, new_flash, IsWhole}
+use Rattle.flash_words.specs.Layouts.{layout_of}
+use Rattle.flash_words.specs.declared.layout.Layout.{Layout}
+use Rattle.flash_words.proofs.LayoutLaws.{layout_right}
 use Rattle.page_index.specs.Entries.{IsEntry}
 use Rattle.page_index.proofs.ChangeLaws.{new_flash_free}
 use Rattle.nat_page.specs.Parts.{IsParted}
@@ -25,16 +18,19 @@ use Rattle.kernel_entry.specs.declared.kernel.Kernel.{Kernel}
 use Rattle.program_steps.specs.Machines.{Machine, numbers_of, flat_of}
 use Rattle.program_steps.specs.Ready.{IsGoing, IsRightPart, IsSound, count_in}
 use Rattle.program_steps.proofs.Bounds.{bounded_counted}
-use Rattle.program_steps.proofs.Beginning.{begun_bytes, begun_machine, begun_new, flat_begun, going_begun, program_begun}
-use Rattle.tk_tasks.specs.declared.parked.Parked.{Parked}
-use Rattle.tk_tasks.specs.declared.tasks.Task.{Task}
+use Rattle.program_steps.proofs.Beginning.{begun_machine, begun_new, flat_begun, going_begun, program_begun}
+use Rattle.parked_tasks.specs.declared.parked.Parked.{Parked}
+use Rattle.parked_tasks.specs.declared.task.Task.{Task}
 use Rattle.task_input.specs.Images.{quarter, task_words}
-use Rattle.tk_tasks.specs.Quarters.{quarter_part}
-use Rattle.tk_tasks.specs.Parking.{IsSized, taken_up}
-use Rattle.tk_tasks.specs.Turns.{Player, Turns, at_reset_in, from_start}
+use Rattle.task_turns.specs.Quarters.{quarter_part}
+use Rattle.parked_tasks.specs.Parking.{IsSized, taken_up}
+use Rattle.task_turns.specs.Turns.{Player, Turns, at_reset_in, from_start}
 use Rattle.tk_tasks.specs.States.{Tasks, arrivals_of, others_of, machine_of, IsTask, AreSound, players_from, turns_of}
-use Rattle.tk_tasks.specs.Booted.{IsUnstarted, mote_at_boot, at_start, parked_at_boot, waiting_from, booted, players_at_reset, turns_at_reset}
-use Rattle.tk_tasks.proofs.Parkings.{both_own, sized_of}
+use Rattle.tk_tasks.specs.Booted.{IsUnstarted, booted}
+use Rattle.parked_tasks.specs.AtBoot.{mote_at_boot, at_start, parked_at_boot, waiting_from}
+use Rattle.task_turns.specs.Reset.{players_at_reset, turns_at_reset}
+use Rattle.parked_tasks.proofs.Parkings.{sized_of}
+use Rattle.parked_tasks.proofs.Waiting.{size_at_boot, taken_at_boot, some_task, waiting_at, waiting_length, each_going}
 
 -- the machine that a task is at boot, with these words in flash
 abbrev pub first_machine : (words : List ℕ) (script : Schedule) (quantum slots i others : ℕ) → Machine
@@ -69,13 +65,6 @@ player_by words script quantum slots i others n few =
 
 -- The tasks at boot. --------------------------------------------------------------------------------------
 
-pub size_at_boot : (quantum : ℕ) → length (begun_bytes quantum) ≡ byte_count
-size_at_boot quantum = length-with_byte at_boot count_cell quantum ∙ length-at_boot
-
--- the mote that a waiting task would have is that of boot with its own script
-taken_at_boot : (words : List ℕ) (first script : Schedule) (quantum slots : ℕ) → taken_up (mote_at_boot words first quantum slots) (parked_at_boot script quantum slots) ≡ mote_at_boot words script quantum slots
-taken_at_boot words first script quantum slots = ap (λ s. record (mote_at_boot words script quantum slots) { sram = s }) (both_own (begun_bytes quantum) (size_at_boot quantum))
-
 first_is : (t : Tasks) (words : List ℕ) (first script : Schedule) (quantum slots i : ℕ) → t.kernel ≡ first_kernel words first quantum slots 0 → t.pages ≡ 0
     → machine_of t i (at_start i (Some (parked_at_boot script quantum slots))) ≡ first_machine words script quantum slots i (others_of t (at_start i (Some (parked_at_boot script quantum slots))))
 first_is t words first script quantum slots i kernel pages =
@@ -83,30 +72,6 @@ first_is t words first script quantum slots i kernel pages =
     let others = others_of t task in
     let M : Kernel → ℕ → Machine = λ k n. record (first_machine words script quantum slots i others) { kernel = record k { mote = taken_up k.mote (parked_at_boot script quantum slots); part = quarter_part i }; pages = n } in
     ap₂ M kernel pages ∙ ap (λ m. record (first_machine words script quantum slots i others) { kernel = record (first_kernel words first quantum slots 0) { mote = m; part = quarter_part i } }) (taken_at_boot words first script quantum slots)
-
--- one of the waiting tasks
-record IsWaiting (task : ℕ) (scripts : List Schedule) (quantum slots k : ℕ) (its : Task) : Type 0 where
-  script : Schedule
-  is : its ≡ at_start (task + k) (Some (parked_at_boot script quantum slots))
-  below : k < length scripts
-
-some_task : (a b : Task) → ◌≡◌ {A = Option Task} (Some a) (Some b) → a ≡ b
-some_task a b is = cc
-
-waiting_at : (task : ℕ) (scripts : List Schedule) (quantum slots k : ℕ) (its : Task) → slice_get (waiting_from task scripts quantum slots) k ≡ Some its → IsWaiting task scripts quantum slots k its
-waiting_at task [] quantum slots k its is = absurd (cc)
-waiting_at task (script ∷ scripts) quantum slots zero its is =
-    let at : task ≡ task + 0 = omega arith in
-    record { script = script; is = sym (some_task _ _ is) ∙ ap (λ i. at_start i (Some (parked_at_boot script quantum slots))) at; below = omega arith }
-waiting_at task (script ∷ scripts) quantum slots (suc k) its is =
-    let rest = waiting_at (task + 1) scripts quantum slots k its is in
-    let at : task + 1 + k ≡ task + suc k = omega arith in
-    let below = rest.below in
-    record { script = rest.script; is = rest.is ∙ ap (λ i. at_start i (Some (parked_at_boot rest.script quantum slots))) at; below = omega arith }
-
-waiting_length : (task : ℕ) (scripts : List Schedule) (quantum slots : ℕ) → length (waiting_from task scripts quantum slots) ≡ length scripts
-waiting_length task [] quantum slots = refl
-waiting_length task (script ∷ scripts) quantum slots = ap (λ n. suc n) (waiting_length (task + 1) scripts quantum slots)
 
 -- no arrival was made
 waiting_sum : (task : ℕ) (scripts : List Schedule) (quantum slots : ℕ) → sum_by arrivals_of (waiting_from task scripts quantum slots) ≡ 0
@@ -188,14 +153,6 @@ sound_at_boot image first others quantum slots can =
       each = λ i task there. each_at_boot image first others quantum slots i task can there;
     }
 
--- a list of scripts that is not empty
-pub some_scripts : (scripts : List Schedule) → 1 ≤ length scripts → (first : Schedule) × (others : List Schedule) × (scripts ≡ first ∷ others)
-some_scripts [] some = absurd (omega arith)
-some_scripts (first ∷ others) some = (first, others, refl)
-
-pub words_at_boot : (count : ℕ) (image : List ℕ) → length (task_words count image) ≡ quarter * count
-words_at_boot count image = length-map-range_with_len (word image) 0 (quarter * count)
-
 -- The tasks in turn are at reset. -------------------------------------------------------------------------
 
 waiting_players : (n : ℕ) (t : Tasks) (words : List ℕ) (first : Schedule) (scripts : List Schedule) (quantum slots task : ℕ) → t.kernel ≡ first_kernel words first quantum slots 0 → t.pages ≡ 0 → length words ≤ 24576
@@ -219,15 +176,6 @@ turns_at_boot n image first others quantum slots can =
     ap (λ l. record { players = l; running = 0; switches = 0 })
     (ap₂ (λ p l. p ∷ l) (player_by words first quantum slots 0 (others_of t (at_start 0 None)) n few) (waiting_players n t words first others quantum slots 1 refl refl few))
     ∙ ap (λ c. turns_from (task_words c image) (first ∷ others) quantum slots n) count
-
-waiting_going : (task : ℕ) (scripts : List Schedule) (quantum slots i : ℕ) (x : Task) → slice_get (waiting_from task scripts quantum slots) i ≡ Some x → x.end ≡ None
-waiting_going task [] quantum slots i x is = absurd (cc)
-waiting_going task (script ∷ scripts) quantum slots zero x is = let its : at_start task (Some (parked_at_boot script quantum slots)) ≡ x = cc in ap (λ (z : Task). z.end) (sym its)
-waiting_going task (script ∷ scripts) quantum slots (suc i) x is = waiting_going (task + 1) scripts quantum slots i x is
-
-each_going : (others : List Schedule) (quantum slots i : ℕ) (x : Task) → slice_get (at_start 0 None ∷ waiting_from 1 others quantum slots) i ≡ Some x → x.end ≡ None
-each_going others quantum slots zero x is = let its : at_start 0 None ≡ x = cc in ap (λ (z : Task). z.end) (sym its)
-each_going others quantum slots (suc i) x is = waiting_going 1 others quantum slots i x is
 
 -- at boot no task was run
 pub unstarted_at_boot : (image : List ℕ) (first : Schedule) (others : List Schedule) (quantum slots : ℕ) → IsUnstarted (booted image first others quantum slots)

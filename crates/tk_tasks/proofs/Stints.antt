@@ -7,20 +7,25 @@ use Rattle.input_script.specs.Script.{Schedule}
 use Rattle.sram_layout.specs.Bytes.{byte_count}
 use Rattle.mote_core.specs.declared.mote.Mote.{Mote}
 use Rattle.kernel_entry.specs.declared.kernel.Kernel.{Kernel}
-use Rattle.tk_tasks.specs.declared.parked.Parked.{Parked}
-use Rattle.tk_tasks.specs.declared.tasks.Task.{Task}
-use Rattle.tk_tasks.specs.Parking.{parked_of, Shares, IsBack}
-use Rattle.tk_tasks.specs.Turns.{HaveEnded}
-use Rattle.tk_tasks.specs.States.{Tasks, mote_for, machine_of, AreSound, flat_end_of, turns_of}
-use Rattle.tk_tasks.specs.Booted.{mote_at_boot, waiting_from, booted}
-use Rattle.tk_tasks.specs.Changes.{parked_by, given_by, given_to, next_task, changed_tasks}
+use Rattle.parked_tasks.specs.declared.parked.Parked.{Parked}
+use Rattle.parked_tasks.specs.declared.task.Task.{Task}
+use Rattle.parked_tasks.specs.Parking.{parked_of, Shares, IsBack}
+use Rattle.task_turns.specs.Turns.{HaveEnded}
+use Rattle.tk_tasks.specs.States.{Tasks, mote_for, machine_of, AreSound, turns_of}
+use Rattle.parked_tasks.specs.Ends.{flat_end_of}
+use Rattle.parked_tasks.specs.AtBoot.{mote_at_boot, waiting_from}
+use Rattle.tk_tasks.specs.Booted.{booted}
+use Rattle.parked_tasks.specs.Handing.{parked_by}
+use Rattle.tk_tasks.specs.Changes.{given_by, given_to, next_task, changed_tasks}
 use Rattle.tk_tasks.specs.Plays.{Play, GoesOn, IsPlay, counted}
-use Rattle.tk_tasks.proofs.Parkings.{shared, back}
+use Rattle.parked_tasks.proofs.Parkings.{shared, back}
 use Rattle.tk_tasks.proofs.Paths.{player_here}
-use Rattle.tk_tasks.proofs.Changing.{IsUnparked, IsGiven, here_is, elsewhere_by, goes_flat, is_next, first_of, last_of, other_of, same_sum_of, running_size, has_changed, running_task}
+use Rattle.parked_tasks.proofs.TaskLists.{IsUnparked, elsewhere_by}
+use Rattle.tk_tasks.proofs.Changing.{IsGiven, here_is, first_of, last_of, other_of, same_sum_of, running_size, has_changed, running_task}
+use Rattle.parked_tasks.proofs.NextTasks.{goes_flat, is_next}
 use Rattle.tk_tasks.proofs.Keeping.{set_same}
-use Rattle.tk_tasks.proofs.Starting.{size_at_boot}
-use Rattle.tk_tasks.proofs.Sums.{sum_set}
+use Rattle.parked_tasks.proofs.Sums.{sum_set}
+use Rattle.parked_tasks.proofs.Waiting.{size_at_boot}
 
 -- A task that was left with this mote has it back, or waits, and that is parked.
 pub data IsHeld (t : Tasks) (i : ℕ) (task : Task) (own : Mote) : Type 0 where
@@ -229,7 +234,7 @@ none_given n t last (Some next) sound runs is ended =
     let changed = has_changed t next last sound runs is in
     let given = changed.given in
     let u = given_by t next (Some changed.parked) in
-    let found = is_next t next sound.one_runs is in
+    let found = is_next t.running t.tasks next sound.one_runs is in
     let first = given.first in
     let at = sym (get_or_from_slice_get t.tasks next first first given.waits) in
     let all = subst (λ (v : Tasks). HaveEnded (turns_of n v)) changed.is ended in

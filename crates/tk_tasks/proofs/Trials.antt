@@ -1,8 +1,8 @@
 -- A try of the running task, as its machine makes it: an arrival and a step, or an interrupt.
 use Rattle.std.proofs.Common.{◌≡◌, ℕ, zero, suc, ◌+◌, ◌-◌, ◌≤◌, Bool, true, false, cond, List, [], ◌∷◌, ◌++◌, refl, sym, ap, ap₂, ◌∙◌, arith, subst, inl}
-use Rattle.std.specs.Prelude.{◌≢◌, ◌==◌, not, ◌||◌, ◌&&◌, Option, Some, None}
+use Rattle.std.specs.Prelude.{◌≢◌, ◌==◌, ◌&&◌, Option, Some, None}
 use Rattle.mote_devices.specs.declared.line.Line.{Line}
-use Rattle.flash_model.specs.Operations.{is_listed}
+use Rattle.flash_words.specs.Operations.{is_listed}
 use Rattle.mem_guard.specs.declared.part.Part.{Part}
 use Rattle.mem_guard.specs.FlatMachine.{Moment, Next, On, is_own, is_taken, next_of}
 use Rattle.kernel_entry.specs.Seen.{program as program_of}
@@ -12,7 +12,6 @@ use Rattle.step_laws.specs.declared.moves.Owed.{Owed}
 use Rattle.step_laws.specs.declared.moves.End.{End}
 use Rattle.step_laws.specs.declared.moves.End.TheVariants as ends
 use Rattle.step_laws.specs.Moves.{Move, lines_of, line_before}
-use Rattle.step_laws.specs.States.{admits}
 use Rattle.program_steps.specs.Machines.{Machine, flat_of}
 use Rattle.program_steps.specs.Ready.{IsGoing}
 use Rattle.program_steps.specs.Stepping.{HasStepped, StepWay, HasEntered, Entering, Stays, ends_in_arrive}
@@ -23,10 +22,11 @@ use Rattle.program_steps.proofs.Arrived.{place_inside}
 use Rattle.program_steps.proofs.Undue.{undue_untaken}
 use Rattle.program_steps.proofs.Leading.{goes_on, last_on, stays_on, stays_self}
 use Rattle.program_steps.proofs.Waiting.{left_stepped, entered_own}
-use Rattle.tk_tasks.specs.declared.tasks.TaskEnd.TheVariants.{Spent, Stopped, Wild}
+use Rattle.parked_tasks.specs.declared.task.TaskEnd.TheVariants.{Spent, Wild}
 use Rattle.tk_tasks.specs.declared.trying.Tried.{Tried}
-use Rattle.tk_tasks.specs.Trying.{rest_at, rest_if, task_end, Went, checks_by, checks, Quietly, IsBehind, HasMade, HasTried}
-use Rattle.tk_tasks.proofs.Crossings.{same_unchecked, taken_counts, undue_unchecked, Passes, pass_on, last_checks}
+use Rattle.tk_tasks.specs.Trying.{rest_at, rest_if, task_end, Went, checks, Quietly, IsBehind, HasMade, HasTried}
+use Rattle.task_turns.specs.Checkpoints.{checks_by}
+use Rattle.task_turns.proofs.Crossings.{same_unchecked, taken_counts, undue_unchecked, Passes, pass_on, last_checks}
 
 -- ---- an arrival, and a step
 
@@ -146,13 +146,6 @@ pub tried_taken : (x y : Machine) (left : ℕ) (tried : Tried) → rest_at x.ker
 tried_taken x y left tried none step behind =
     let some = unrested x.kernel.part x.at left none in
     HasTried.Steps 0 x none (omega (arith, some.1)) refl (went_stepped x y tried.line step) (behind (left - (0 + 1)))
-
-or_true : (b : Bool) → b || true ≡ true
-or_true true = refl
-or_true false = refl
-
-pub own_admits : (part : Part) (at : ℕ) → is_own part at ≡ true → admits part at ≡ true
-own_admits part at own = ap (λ b. not part.shut || b) own ∙ or_true (not part.shut)
 
 -- ---- the machine behind an arrival, and behind steps
 

@@ -1,6 +1,3 @@
-pub mod Quarters
-pub mod Parking
-pub mod Turns
 pub mod States
 pub mod Booted
 pub mod Changes

@@ -1,16 +1,16 @@
 -- A run of the tasks on the mote, play by play, beside the tasks in turn (docs/TASKS.md, "A run on the mote").
-use Rattle.std.specs.Prelude.{◌≡◌, ℕ, ◌+◌, ◌/◌, Bool, true, false, List, [], ◌∷◌, ◌++◌, length, flat_map, slice_get, slice_set, sum_by, Option, Some, None, Result, Ok, Err}
+use Rattle.std.specs.Prelude.{◌≡◌, ℕ, ◌/◌, Bool, true, false, List, [], ◌∷◌, ◌++◌, length, flat_map, slice_get, slice_set, sum_by, Option, Some, None, Result, Ok, Err}
 use Rattle.mote_devices.specs.declared.line.Line.{Line}
 use Rattle.mem_guard.specs.FlatMachine.{Run}
 use Rattle.kernel_entry.specs.Texts.{line_text, stop_text}
-use Rattle.tk_io.specs.declared.failure.Failed.{Failed}
-use Rattle.tk_io.specs.Streams.{Puts}
+use Rattle.byte_streams.specs.declared.failure.Failed.{Failed}
+use Rattle.byte_streams.specs.Streams.{Puts}
 use Rattle.step_laws.specs.Moves.{Move}
 use Rattle.step_laws.specs.Walks.{Walks}
 use Rattle.program_steps.specs.Stepping.{Goes, AreMadeAt, ends_in_arrive}
-use Rattle.tk_tasks.specs.declared.tasks.Task.{Task}
+use Rattle.parked_tasks.specs.declared.task.Task.{Task}
 use Rattle.text_pieces.specs.Pieces.{task_text}
-use Rattle.tk_tasks.specs.Turns.{Player, Turns, Shown, Wrote, Stops, Told, once, tries, turns, alone, shown_by, own_told, HaveEnded}
+use Rattle.task_turns.specs.Turns.{Player, Turns, Shown, Wrote, Stops, Told, once, tries, turns, alone, shown_by, own_told, HaveEnded}
 use Rattle.tk_tasks.specs.States.{Tasks, AreSound, machine_of, player_of, turns_of}
 use Rattle.tk_tasks.specs.Changes.{changed_tasks}
 

@@ -1,13 +1,13 @@
 -- Serves private functions: the run of the tasks, with lines that are gathered before they go out.
-use Rattle.std.specs.Prelude.{ℕ, suc, zero, ◌+◌, List, [], ◌∷◌, Option, Result, Ok, Err}
-use Rattle.tk_io.specs.declared.failure.Failed.{Failed}
-use Rattle.tk_io.specs.Streams.{CutShort, IsSent}
+use Rattle.std.specs.Prelude.{ℕ, List, Option, Some, None, Result, Ok, Err}
+use Rattle.byte_streams.specs.declared.failure.Failed.{Failed}
+use Rattle.byte_streams.specs.Streams.{CutShort, IsSent}
 use Rattle.step_laws.specs.declared.moves.End.{End}
 use Rattle.step_laws.specs.declared.moves.End.TheVariants as ends
 use Rattle.kernel_entry.specs.declared.kernel.Stop.TheVariants as stops
-use Rattle.tk_tasks.specs.declared.tasks.TaskEnd.{TaskEnd}
-use Rattle.tk_tasks.specs.declared.tasks.TaskEnd.TheVariants.{Spent, Stopped, Wild, Read}
-use Rattle.tk_tasks.specs.Turns.{HaveEnded}
+use Rattle.parked_tasks.specs.declared.task.TaskEnd.{TaskEnd}
+use Rattle.parked_tasks.specs.declared.task.TaskEnd.TheVariants.{Spent, Stopped, Wild, Read}
+use Rattle.task_turns.specs.Turns.{HaveEnded}
 use Rattle.tk_tasks.specs.States.{Tasks, turns_of}
 use Rattle.tk_tasks.specs.Plays.{Play, TaskPath, told_of, told_text}
 
@@ -17,6 +17,10 @@ end_shown Spent = ends.Spent
 end_shown (Stopped stop) = ends.Stopped stop
 end_shown (Wild a) = ends.Wild a
 end_shown (Read pc a) = ends.Stopped (stops.Read pc a)
+
+abbrev pub end_shown_of : Option TaskEnd → Option End
+end_shown_of None = None
+end_shown_of (Some end) = Some (end_shown end)
 
 -- plays lead to the tasks; some of what they told, from the front, went out, and the rest is gathered
 pub record IsUnderWay (n : ℕ) (old now : Tasks) (gathered : List ℕ) (before after : Option (List ℕ)) : Type 0 where
@@ -34,9 +38,3 @@ pub record IsCut (n : ℕ) (old now : Tasks) (before after : Option (List ℕ)) 
 abbrev pub HaveGathered : (n : ℕ) (old now : Tasks) (gathered : List ℕ) (before after : Option (List ℕ)) → Result (Unit {0}) Failed → Type 0
 HaveGathered n old now gathered before after (Ok done) = IsUnderWay n old now gathered before after × HaveEnded (turns_of n now)
 HaveGathered n old now gathered before after (Err e) = IsCut n old now before after
-
--- the sum over the first tasks
-abbrev pub sum_to : {T : Type 0} → (T → ℕ) → ℕ → List T → ℕ
-sum_to f zero xs = 0
-sum_to f (suc k) [] = 0
-sum_to f (suc k) (x ∷ xs) = f x + sum_to f k xs

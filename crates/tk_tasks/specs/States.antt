@@ -1,25 +1,24 @@
 -- The tasks of a mote as their contracts see them, and what each stands for (docs/TASKS.md, "The tasks on a mote").
 use Rattle.std.specs.Prelude.{◌≡◌, ◌≢◌, ℕ, ◌+◌, ◌-◌, ◌*◌, ◌<◌, ◌≤◌, Bool, false, List, [], ◌∷◌, length, slice_get, sum_by, Option, Some, None, IfSome}
-use Rattle.flash_model.specs.Layouts.{layout_of}
+use Rattle.flash_words.specs.Layouts.{layout_of}
 use Rattle.mote_core.specs.declared.mote.Mote.{Mote}
-use Rattle.mem_guard.specs.FlatMachine.{End as FlatEnd}
-use Rattle.mem_guard.specs.FlatMachine as flat_ends
 use Rattle.kernel_entry.specs.declared.kernel.Kernel.{Kernel}
 use Rattle.kernel_entry.specs.declared.kernel.Stop.TheVariants as stops
-use Rattle.kernel_entry.specs.Seen.{program as program_of, end_of}
+use Rattle.kernel_entry.specs.Seen.{program as program_of}
 use Rattle.step_laws.specs.declared.moves.Owed.{Owed}
 use Rattle.step_laws.specs.declared.moves.End.{End}
 use Rattle.step_laws.specs.declared.moves.End.TheVariants as ends
 use Rattle.program_steps.specs.Machines.{Machine, flat_of}
 use Rattle.program_steps.specs.Ready.{most_arrivals, IsSound, IsGoing, IsQuiet}
-use Rattle.tk_tasks.specs.declared.parked.Parked.{Parked}
-use Rattle.tk_tasks.specs.declared.tasks.Task.{Task}
-use Rattle.tk_tasks.specs.declared.tasks.TaskEnd.{TaskEnd}
-use Rattle.tk_tasks.specs.declared.tasks.TaskEnd.TheVariants.{Spent, Stopped, Wild, Read}
+use Rattle.parked_tasks.specs.declared.parked.Parked.{Parked}
+use Rattle.parked_tasks.specs.declared.task.Task.{Task}
+use Rattle.parked_tasks.specs.declared.task.TaskEnd.{TaskEnd}
+use Rattle.parked_tasks.specs.declared.task.TaskEnd.TheVariants.{Spent, Stopped, Wild, Read}
 use Rattle.task_input.specs.Images.{quarter}
-use Rattle.tk_tasks.specs.Quarters.{quarter_part}
-use Rattle.tk_tasks.specs.Parking.{IsSized, taken_up}
-use Rattle.tk_tasks.specs.Turns.{Player, Turns}
+use Rattle.task_turns.specs.Quarters.{quarter_part}
+use Rattle.parked_tasks.specs.Parking.{IsSized, taken_up}
+use Rattle.task_turns.specs.Turns.{Player, Turns}
+use Rattle.parked_tasks.specs.Ends.{flat_end_of}
 
 -- the fields of the type `Tasks`
 pub record Tasks : Type 0 where
@@ -102,17 +101,6 @@ pub record AreSound (t : Tasks) : Type 0 where
   pub layout : t.kernel.layout ≡ layout_of (quarter * length t.tasks)
   pub unfailing : t.kernel.mote.flash.failing ≡ []
   pub each : (i : ℕ) → (task : Task) → slice_get t.tasks i ≡ Some task → IsTask t i task
-
--- how a task ended, as its program did
-abbrev pub flat_end : TaskEnd → FlatEnd
-flat_end Spent = flat_ends.Spent
-flat_end (Wild a) = flat_ends.Wild a
-flat_end (Stopped stop) = end_of stop
-flat_end (Read pc a) = flat_ends.Read pc a
-
-abbrev pub flat_end_of : Option TaskEnd → Option FlatEnd
-flat_end_of None = None
-flat_end_of (Some end) = Some (flat_end end)
 
 -- The task as it stands in turn with the others, where each may do n steps.
 abbrev pub player_of : (n : ℕ) → Tasks → ℕ → Task → Player

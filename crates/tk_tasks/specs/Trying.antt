@@ -1,5 +1,5 @@
 -- Serves private functions: tries of the running task, one behind the other, as its machine makes them.
-use Rattle.std.specs.Prelude.{◌≡◌, ◌≢◌, ℕ, zero, suc, ◌+◌, ◌-◌, ◌<◌, ◌==◌, ◌&&◌, nat_lt, ◌%◌, Bool, true, false, if◌then◌else◌, List, [], ◌∷◌, ◌++◌, slice_set, Option, Some, None}
+use Rattle.std.specs.Prelude.{◌≡◌, ◌≢◌, ℕ, zero, suc, ◌+◌, ◌-◌, ◌<◌, ◌==◌, Bool, true, false, if◌then◌else◌, List, [], ◌∷◌, ◌++◌, slice_set, Option, Some, None}
 use Rattle.mote_devices.specs.declared.line.Line.{Line}
 use Rattle.mem_guard.specs.declared.part.Part.{Part}
 use Rattle.mem_guard.specs.FlatMachine.{is_own}
@@ -14,14 +14,16 @@ use Rattle.program_steps.specs.Ready.{IsGoing}
 use Rattle.program_steps.specs.Stepping.{Goes, Stays, StepWay, HasStepped, AreMadeAt, ends_in_arrive}
 use Rattle.program_steps.specs.Several.{Silently}
 use Rattle.program_steps.specs.Waiting.{IsLeft}
-use Rattle.tk_tasks.specs.declared.tasks.Task.{Task}
-use Rattle.tk_tasks.specs.declared.tasks.TaskEnd.{TaskEnd}
-use Rattle.tk_tasks.specs.declared.tasks.TaskEnd.TheVariants.{Spent, Stopped, Wild, Read}
+use Rattle.parked_tasks.specs.declared.task.Task.{Task}
+use Rattle.parked_tasks.specs.declared.task.TaskEnd.{TaskEnd}
+use Rattle.parked_tasks.specs.declared.task.TaskEnd.TheVariants.{Spent, Stopped, Wild, Read}
 use Rattle.tk_tasks.specs.declared.trying.Tried.{Tried}
-use Rattle.tk_tasks.specs.Turns.{Told, Wrote, Stops}
-use Rattle.tk_tasks.specs.States.{Tasks, flat_end}
+use Rattle.task_turns.specs.Turns.{Told, Wrote, Stops}
+use Rattle.tk_tasks.specs.States.{Tasks}
+use Rattle.parked_tasks.specs.Ends.{flat_end}
 use Rattle.tk_tasks.specs.Changes.{changed_tasks}
 use Rattle.tk_tasks.specs.Plays.{Play, TaskPath, told_of}
+use Rattle.task_turns.specs.Checkpoints.{checks_by}
 
 -- a task that makes no further step, with so many left, where its next would begin
 abbrev pub rest_at : Part → (at left : ℕ) → Option TaskEnd
@@ -48,10 +50,6 @@ pub record Went (old new : Machine) (line : Option Line) : Type 0 where
   pub broken : new.broken ≡ old.broken
   pub left : IsLeft new
   pub way : StepWay old new line
-
--- the last of steps was a checkpoint, where the crossings were counted from one number to the other
-abbrev pub checks_by : (quantum before crossings : ℕ) → Bool
-checks_by quantum before crossings = nat_lt before crossings && (crossings % quantum == 0)
 
 abbrev pub checks : Machine → Machine → Bool
 checks old new = checks_by old.kernel.quantum old.crossings new.crossings

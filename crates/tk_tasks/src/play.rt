@@ -1,16 +1,17 @@
 //! Plays of the running task, with the mote changed from one task to the next.
 
-ghost use Rattle.std.specs.Prelude.{◌≡◌, ◌≢◌, ℕ, ◌+◌, ◌-◌, ◌<◌, ◌≤◌, ◌^◌, ◌↔◌, false, Some, None, IsTrue, length, slice_get, slice_set, sum_by};
-ghost use Rattle.page_index.specs.Cursors.{IsCursor};
+ghost use Rattle.std.specs.Prelude.{◌≡◌, ◌≢◌, ℕ, ◌+◌, ◌-◌, ◌<◌, ◌≤◌, ◌^◌, ◌↔◌, false, Some, None, IsTrue, length, slice_get, sum_by};
+ghost use Rattle.page_cursor.specs.Cursors.{IsCursor};
 ghost use Rattle.program_steps.specs.Wholes.{whole};
-ghost use Rattle.tk_tasks.specs.declared.tasks.Task.{Task as TaskOf};
+ghost use Rattle.parked_tasks.specs.declared.task.Task.{Task as TaskOf};
 ghost use Rattle.tk_tasks.specs.States.{AreSound, arrivals_of, machine_of, owed_of, Tasks as TasksOf};
 ghost use Rattle.tk_tasks.specs.Trying.{HasPlayed, tried_told, kept_task, stub_in};
 
-use crate::tasks::{Task, TaskEnd, Tasks};
+use crate::tasks::Tasks;
 use crate::trying::try_on;
 use mote_devices::Line;
-use page_index::Cursor;
+use page_cursor::Cursor;
+use parked_tasks::{Task, TaskEnd, arrivals_of_others};
 use program_steps::Progress;
 use step_laws::Owed;
 
@@ -24,32 +25,6 @@ pub(crate) struct Shown {
     pub steps: u64,
     pub crossings: u64,
     pub count: u64,
-}
-
-/// How many arrivals a task may have made.
-fn arrivals(task: &Task) -> u64
-    requires steps { task.now.steps ≤ 10 ^ 12 }
-    ensures value { result ≡ arrivals_of task.now }
-{
-    if task.owed.is_some() {
-        task.steps
-    } else {
-        task.steps + 1
-    }
-}
-
-/// How many arrivals all tasks but the running one may have made.
-fn others(tasks: &[Task], running: u8) -> u64
-    requires few { length tasks.now ≤ 4 }
-    requires steps { (i : ℕ) → (task : TaskOf) → slice_get tasks.now i ≡ Some task → task.steps ≤ 10 ^ 12 }
-    requires one_runs { running < length tasks.now }
-    ensures value { (task : TaskOf) → slice_get tasks.now running ≡ Some task → result ≡ sum_by arrivals_of tasks.now - arrivals_of task }
-{
-    let mut sum = 0;
-    'tasks: for i in 0..tasks.len() {
-        sum += arrivals(&tasks[i]);
-    }
-    sum - arrivals(&tasks[usize::from(running)])
 }
 
 /// Writes down how far a task has come, and how it ended, if it did.
@@ -114,7 +89,7 @@ impl Tasks {
             since: task.since,
             longest: task.longest,
             began: 0,
-            others: others(&self.tasks, self.running),
+            others: arrivals_of_others(&self.tasks, self.running),
             line: None,
         }
     }

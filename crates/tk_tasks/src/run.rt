@@ -1,75 +1,33 @@
 //! The run of the tasks: plays, one after another, until every task has ended.
 
-ghost use Rattle.std.specs.Prelude.{◌≡◌, ℕ, ◌+◌, ◌*◌, ◌<◌, ◌≤◌, ◌^◌, ◌++◌, false, Some, None, [], length, slice_get, sum_by};
-ghost use Rattle.tk_io.specs.Faults.{HasCause};
-ghost use Rattle.tk_io.specs.Streams.{Puts};
+ghost use Rattle.std.specs.Prelude.{◌≡◌, ℕ, ◌+◌, ◌*◌, ◌<◌, ◌≤◌, ◌^◌, ◌++◌, false, Some, None, [], slice_get, sum_by};
+ghost use Rattle.byte_streams.specs.Faults.{HasCause};
 ghost use Rattle.line_text.specs.Gathering.{Gathers};
-ghost use Rattle.tk_tasks.specs.declared.tasks.Task.{Task as TaskOf};
-ghost use Rattle.tk_tasks.specs.States.{AreSound, flat_end};
+ghost use Rattle.parked_tasks.specs.declared.task.Task.{Task as TaskOf};
+ghost use Rattle.tk_tasks.specs.States.{AreSound};
 ghost use Rattle.tk_tasks.specs.Plays.{HasRunTasks, is_failed, told_text};
-ghost use Rattle.tk_tasks.specs.Trying.{line_told, end_told, tried_told};
-ghost use Rattle.tk_tasks.specs.Running.{end_shown, HaveGathered, sum_to};
+ghost use Rattle.tk_tasks.specs.Trying.{tried_told};
+ghost use Rattle.tk_tasks.specs.Running.{end_shown_of, HaveGathered};
 
 use crate::play::Shown;
-use crate::tasks::{Task, TaskEnd, Tasks};
+use crate::tasks::Tasks;
+use byte_streams::{Failed, Sink};
 use kernel_entry::Stop;
-use line_text::{Gathered, add, send, send_in_turn, task_line, task_stop, up_to_turn};
-use mote_devices::Line;
-use page_index::Cursor;
+use line_text::{Gathered, TaskLines, add_task, send, send_in_turn, up_to_turn};
+use page_cursor::Cursor;
+use parked_tasks::{Counts, TaskEnd, counts_of};
 use step_laws::End;
-use tk_io::{Failed, Sink};
 
-/// A task's end, as its stop line shows it.
-fn end_shown(end: TaskEnd) -> End
-    ensures value { result ≡ end_shown end }
+/// A task's end, as its stop line shows it, if it ended.
+fn end_shown(end: Option<TaskEnd>) -> Option<End>
+    ensures value { result ≡ end_shown_of end }
 {
     match end {
-        TaskEnd::Spent => End::Spent,
-        TaskEnd::Stopped(stop) => End::Stopped(stop),
-        TaskEnd::Wild(address) => End::Wild(address),
-        TaskEnd::Read(pc, word) => End::Stopped(Stop::Read(pc, word)),
-    }
-}
-
-/// Adds the device line of a task, if it wrote one.
-fn put_line<K: Sink>(
-    shown: &Shown,
-    quantum: u8,
-    gathered: &mut Gathered,
-    out: &mut K,
-) -> Result<(), Failed>
-    requires task { shown.now.task < 4 }
-    ensures text { Gathers gathered.old.items gathered.new.items (K.taken out.old) (K.taken out.new) result (told_text quantum (line_told shown.now.task shown.now.line)) }
-    ensures cause { HasCause (K.faults out.old) (K.faults out.new) result }
-{
-    match shown.line {
-        None => Ok(()),
-        Some(line) => add(&task_line(shown.task, line), gathered, out),
-    }
-}
-
-/// Adds the stop line of a task, if it ended.
-fn put_end<K: Sink>(
-    shown: &Shown,
-    quantum: u8,
-    gathered: &mut Gathered,
-    out: &mut K,
-) -> Result<(), Failed>
-    requires task { shown.now.task < 4 }
-    requires quantum { 1 ≤ quantum }
-    ensures text { Gathers gathered.old.items gathered.new.items (K.taken out.old) (K.taken out.new) result (told_text quantum (end_told shown.now.task shown.now.end shown.now.steps shown.now.crossings)) }
-    ensures cause { HasCause (K.faults out.old) (K.faults out.new) result }
-{
-    match shown.end {
-        None => Ok(()),
-        Some(end) => {
-            let checkpoints = shown.crossings / u64::from(quantum);
-            add(
-                &task_stop(shown.task, end_shown(end), shown.steps, checkpoints),
-                gathered,
-                out,
-            )
-        }
+        None => None,
+        Some(TaskEnd::Spent) => Some(End::Spent),
+        Some(TaskEnd::Stopped(stop)) => Some(End::Stopped(stop)),
+        Some(TaskEnd::Wild(address)) => Some(End::Wild(address)),
+        Some(TaskEnd::Read(pc, word)) => Some(End::Stopped(Stop::Read(pc, word))),
     }
 }
 
@@ -85,35 +43,17 @@ fn put_shown<K: Sink>(
     ensures text { Gathers gathered.old.items gathered.new.items (K.taken out.old) (K.taken out.new) result (told_text quantum (tried_told shown.now.task shown.now.line shown.now.end shown.now.steps shown.now.crossings)) }
     ensures cause { HasCause (K.faults out.old) (K.faults out.new) result }
 {
-    put_line(shown, quantum, gathered, out)?;
-    put_end(shown, quantum, gathered, out)
+    let lines = TaskLines {
+        task: shown.task,
+        line: shown.line,
+        end: end_shown(shown.end),
+        steps: shown.steps,
+        checkpoints: shown.crossings / u64::from(quantum),
+    };
+    add_task(&lines, gathered, out)
 }
 
-/// What the tasks on a mote have done together: their plain steps, and their services.
-#[derive(Drop)]
-struct Counts {
-    natural: u64,
-    entries: u64,
-}
-
-/// The counts of all tasks.
-fn counts_of(tasks: &[Task]) -> Counts
-    requires few { length tasks.now ≤ 4 }
-    requires natural { (i : ℕ) → (task : TaskOf) → slice_get tasks.now i ≡ Some task → task.natural ≤ 10 ^ 14 }
-    requires entries { (i : ℕ) → (task : TaskOf) → slice_get tasks.now i ≡ Some task → task.entries ≤ 10 ^ 14 }
-    ensures natural { result.natural ≡ sum_by (λ task. task.natural) tasks.now }
-    ensures entries { result.entries ≡ sum_by (λ task. task.entries) tasks.now }
-{
-    let mut natural = 0;
-    let mut entries = 0;
-    'tasks: for i in 0..tasks.len() {
-        natural += tasks[i].natural;
-        entries += tasks[i].entries;
-    }
-    Counts { natural, entries }
-}
-
-/// Those of the tasks on a mote.
+/// What the tasks have done together.
 fn all_counts(t: &Tasks) -> Counts
     requires sound { AreSound t.now }
     ensures natural { result.natural ≡ sum_by (λ task. task.natural) t.now.tasks }

@@ -3,96 +3,17 @@
 ghost use Rattle.std.specs.Prelude.{◌≡◌, ◌≤◌, ◌<◌, ◌+◌, ◌∷◌, ℕ, [], List, All, IfOk, length};
 ghost use Rattle.input_script.specs.Script.{Schedule};
 ghost use Rattle.task_input.specs.Images.{IsMisplaced};
-ghost use Rattle.tk_tasks.specs.Quarters.{quarter_part};
 ghost use Rattle.tk_tasks.specs.States.{AreSound, turns_of};
-ghost use Rattle.tk_tasks.specs.Booted.{IsUnstarted, booted, at_start, turns_at_reset};
+ghost use Rattle.tk_tasks.specs.Booted.{IsUnstarted, booted};
+ghost use Rattle.task_turns.specs.Reset.{turns_at_reset};
 
-use crate::parked::Parked;
-use flash_model::Layout;
 use hex_image::Image;
 use input_script::Script;
-use kernel_entry::{Kernel, Stop};
-use mem_guard::Part;
-use mote_core::Mote;
+use kernel_entry::Kernel;
+use no_memory::NoMemory;
+use parked_tasks::{Task, boot_tasks};
 use std::alloc::Global;
 use std::marker::Model;
-use task_input::{QUARTER, task_image};
-use tk_io::NoMemory;
-
-/// How a task ended.
-#[derive(Clone, Copy)]
-pub enum TaskEnd {
-    /// All steps that it may do are done.
-    Spent,
-    /// Its program stopped.
-    Stopped(Stop),
-    /// It went to this address, which is not in its quarter.
-    Wild(u16),
-    /// The instruction at this address would read this word, which is not in its quarter.
-    Read(u16, u16),
-}
-
-/// A task: what is parked of it, and how far it has come.
-#[derive(Drop)]
-pub struct Task {
-    /// Its parts of the mote, unless it is the one that has the mote.
-    pub parked: Option<Parked>,
-    /// The original address where its next step begins, or where it stopped.
-    pub at: u16,
-    /// The address of the arrival that is to be made before its next step.
-    pub owed: Option<u16>,
-    /// Whether an interrupt may be taken before that step.
-    pub due: bool,
-    /// How it ended, once it has.
-    pub end: Option<TaskEnd>,
-    /// Steps of its program.
-    pub steps: u64,
-    /// Steps that went backward, stayed, or left their page of 128 words.
-    pub crossings: u64,
-    /// Plain AVR steps in code pages.
-    pub natural: u64,
-    /// Kernel services.
-    pub entries: u64,
-    /// Plain steps after the last service.
-    pub since: u64,
-    /// The greatest value that `since` had.
-    pub longest: u64,
-}
-
-/// The words of the image that a task has for its own, and out of which it may not read.
-pub(crate) fn quarter_of(task: u8) -> Part
-    requires { task < 4 }
-    ensures value { result ≡ quarter_part task }
-{
-    Part {
-        first: QUARTER * u16::from(task),
-        count: QUARTER,
-        shut: true,
-    }
-}
-
-impl Task {
-    /// A task that has done nothing, and owes an arrival at the first word of its quarter.
-    fn at_start(task: u8, parked: Option<Parked>) -> Task
-        requires { task < 4 }
-        ensures value { result ≡ at_start task parked }
-    {
-        let first = QUARTER * u16::from(task);
-        Task {
-            parked,
-            at: first,
-            owed: Some(first),
-            due: false,
-            end: None,
-            steps: 0,
-            crossings: 0,
-            natural: 0,
-            entries: 0,
-            since: 0,
-            longest: 0,
-        }
-    }
-}
 
 /// Up to four tasks that share a mote, its flash and its pool of code pages.
 #[derive(Drop)]
@@ -145,29 +66,12 @@ impl Tasks {
         ensures unstarted { IfOk result (λ tasks. IsUnstarted tasks) }
         ensures turns { IfOk result (λ tasks. (n : ℕ) → turns_of n tasks ≡ turns_at_reset image.now scripts.items quantum swap n) }
     {
-        let mut scripts = scripts;
-        let count = scripts.len() as u8;
-        let whole = task_image(alloc, image, count)?;
-        let mut mote = Mote::new(alloc, whole.words(), scripts.remove(0), swap)?;
-        mote.sram.set_count(quantum);
-        let mut tasks = Vec::new(alloc);
-        tasks.push(Task::at_start(0, None)).map_err(|_| NoMemory)?;
-        'waiting: for task in 1..count {
-            let parked = Parked::at_boot(alloc, scripts.remove(0), quantum, swap)?;
-            tasks
-                .push(Task::at_start(task, Some(parked)))
-                .map_err(|_| NoMemory)?;
-        }
+        let booted = boot_tasks(alloc, image, scripts, quantum, swap)?;
         Ok(Tasks {
-            kernel: Kernel {
-                mote,
-                layout: Layout::of(whole.len_words()),
-                part: quarter_of(0),
-                quantum,
-            },
+            kernel: booted.kernel,
             running: 0,
             stub: None,
-            tasks,
+            tasks: booted.tasks,
             broken: false,
             natural: 0,
             entries: 0,

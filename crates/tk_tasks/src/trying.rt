@@ -1,7 +1,7 @@
 //! Tries of the task that has the mote.
 
 ghost use Rattle.std.specs.Prelude.{◌≡◌, ℕ, ◌+◌, ◌<◌, ◌≤◌, ◌^◌, true, false, [], Some, None};
-ghost use Rattle.page_index.specs.Cursors.{IsCursor};
+ghost use Rattle.page_cursor.specs.Cursors.{IsCursor};
 ghost use Rattle.mem_guard.specs.FlatMachine.{is_taken};
 ghost use Rattle.step_laws.specs.declared.moves.End.{End as Ends};
 ghost use Rattle.program_steps.specs.Machines.{flat_of};
@@ -9,13 +9,14 @@ ghost use Rattle.program_steps.specs.Ready.{IsGoing, IsQuiet};
 ghost use Rattle.program_steps.specs.Stepping.{HasStepped};
 ghost use Rattle.program_steps.specs.Interrupts.{is_to_be_taken};
 ghost use Rattle.program_steps.specs.Wholes.{whole};
-ghost use Rattle.tk_tasks.specs.Trying.{rest_at, rest_if, task_end, checks_by, IsBehind, HasMade, HasTried};
+ghost use Rattle.tk_tasks.specs.Trying.{rest_at, rest_if, task_end, IsBehind, HasMade, HasTried};
+ghost use Rattle.task_turns.specs.Checkpoints.{checks_by};
 
-use crate::tasks::TaskEnd;
 use kernel_entry::{Kernel, Stop};
 use mem_guard::Part;
 use mote_devices::Line;
-use page_index::Cursor;
+use page_cursor::Cursor;
+use parked_tasks::TaskEnd;
 use program_steps::{Progress, enter, must_take, steps, take};
 use step_laws::End;
 

@@ -1,10 +1,4 @@
--- Lemmas on a whole run, and on texts that are put one after another.
-pub mod Putting
-pub mod BootedFlash
-pub mod RunEnds
-pub mod TornWords
-pub mod LostFlash
-pub mod RestartEnds
+-- Lemmas on the runs of several tasks, and on what words and an input ask for.
 mod TasksEnds
-pub mod WholeRuns
+pub mod WholeTasks
 pub mod Exactly

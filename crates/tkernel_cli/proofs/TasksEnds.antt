@@ -1,29 +1,32 @@
 -- A run of several programs, with its last line, as the answer tells it.
 use Rattle.std.proofs.Common.{◌≡◌, ℕ, ◌*◌, ◌<◌, ◌≤◌, false, List, [], ◌∷◌, ◌++◌, length, Option, Some, None, refl, sym, ap, ◌∙◌, subst, arith}
 use Rattle.std.specs.Prelude.{Result, Ok, Err, OnErr, slice_get, slice_index_or}
-use Rattle.tk_io.specs.declared.failure.Failed.{Failed}
-use Rattle.tk_io.specs.Faults.{Rose}
-use Rattle.tk_io.specs.Streams.{CutShort}
+use Rattle.byte_streams.specs.declared.failure.Failed.{Failed}
+use Rattle.byte_streams.specs.Faults.{Rose}
+use Rattle.byte_streams.specs.Streams.{CutShort}
 use Rattle.input_script.specs.Script.{Schedule, nothing}
 use Rattle.mem_guard.specs.FlatMachine.{Run}
 use Rattle.mem_guard.specs.Masked as masked
-use Rattle.tk_tasks.specs.declared.tasks.Task.{Task}
+use Rattle.parked_tasks.specs.declared.task.Task.{Task}
 use Rattle.task_input.specs.Images.{quarter, IsMisplaced, task_words}
 use Rattle.tk_tasks.specs.Booted.{booted}
+use Rattle.task_turns.specs.Reset.{turns_at_reset}
 use Rattle.tk_tasks.specs.States.{Tasks, AreSound, player_of, turns_of}
-use Rattle.tk_tasks.specs.Turns.{Told, Turns, alone, at_reset_in, turns}
+use Rattle.task_turns.specs.Turns.{Told, Turns, alone, at_reset_in, turns}
 use Rattle.tk_tasks.specs.Plays.{AreInTurn, EndsAsAlone, HasRunTasks, HaveRun, TaskPath, counted, told_of, told_text}
-use Rattle.tk_tasks.proofs.Telling.{told_text_on, cut_less}
-use Rattle.tk_tasks.proofs.OwnPrograms.{program_at, player_at, boot_player, each_first, each_last, first_going, own_run}
-use Rattle.tk_request.specs.declared.request.TaskRequest.{TaskRequest}
-use Rattle.tk_request.specs.declared.status.Status.{Status}
-use Rattle.tk_request.specs.declared.status.Status.TheVariants as status
-use Rattle.tk_request.specs.Commands.{AreTasks}
-use Rattle.tk_request.specs.Reading.{Stream}
-use Rattle.tkernel_cli.specs.Runs.{Says}
+use Rattle.tk_tasks.proofs.Telling.{told_text_on}
+use Rattle.line_text.proofs.Gathered.{cut_less}
+use Rattle.task_turns.proofs.OwnPrograms.{program_at, player_at, own_run}
+use Rattle.tk_tasks.proofs.FirstPlayers.{boot_player, each_first, each_last, first_going}
+use Rattle.tk_words.specs.declared.request.TaskRequest.{TaskRequest}
+use Rattle.tk_words.specs.declared.status.Status.{Status}
+use Rattle.tk_words.specs.declared.status.Status.TheVariants as status
+use Rattle.tk_words.specs.Commands.{AreTasks}
+use Rattle.tk_words.specs.Stream.{Stream}
+use Rattle.run_jobs.specs.Runs.{Says}
 use Rattle.tkernel_cli.specs.TasksRuns.{RunsTasks, EachIsAlone, all_told, run_of_task, start_by, start_of, turns_by, worst}
-use Rattle.tkernel_cli.specs.Text.{tasks_count_text}
-use Rattle.tkernel_cli.proofs.RunEnds.{said_on}
+use Rattle.run_jobs.specs.Text.{tasks_count_text}
+use Rattle.run_jobs.proofs.Putting.{said_on}
 
 -- what stands of the tasks at boot
 pub record Starts (request : TaskRequest) (start : Tasks) : Type 0 where
@@ -51,11 +54,19 @@ can_run request start starts = (
 )
 
 -- the tasks that boot made
-pub starts_of : (request : TaskRequest) (start : Tasks) → (scripts : List Schedule) → 1 ≤ length scripts → request.scripts ≡ scripts
+starts_of : (request : TaskRequest) (start : Tasks) → (scripts : List Schedule) → 1 ≤ length scripts → request.scripts ≡ scripts
     → ((first : Schedule) (others : List Schedule) → request.scripts ≡ first ∷ others → start ≡ booted request.image first others request.options.quantum request.options.swap)
     → turns_of request.options.steps start ≡ turns_by request → Starts request start
 starts_of request start [] some is made same = absurd (omega arith)
 starts_of request start (first ∷ others) some is made same = record { is = made first others is ∙ sym (ap (start_by request) is); in_turn = same }
+
+pub starts_at_boot : (request : TaskRequest) (start : Tasks) (list : List Schedule) → AreTasks request → list ≡ request.scripts
+    → ((first : Schedule) (others : List Schedule) → list ≡ first ∷ others → start ≡ booted request.image first others request.options.quantum request.options.swap)
+    → ((n : ℕ) → turns_of n start ≡ turns_at_reset request.image list request.options.quantum request.options.swap n) → Starts request start
+starts_at_boot request start list may is made in_turn =
+    let some : 1 ≤ length request.scripts = omega (arith, may.each_task, may.possible.0) in
+    starts_of request start request.scripts some refl (λ first others same. made first others (is ∙ same))
+    (in_turn request.options.steps ∙ ap (λ scripts. turns_at_reset request.image scripts request.options.quantum request.options.swap request.options.steps) is)
 
 -- the run of a task alone is that of its player at boot
 own_alone : (request : TaskRequest) (i : ℕ) → AreTasks request → i < length request.scripts

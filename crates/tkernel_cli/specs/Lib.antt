@@ -1,7 +1,3 @@
 -- What is done for a job, and what the program answers.
-pub mod Text
-pub mod Runs
-pub mod DumpRuns
-pub mod RestartRuns
 pub mod TasksRuns
 pub mod Answer

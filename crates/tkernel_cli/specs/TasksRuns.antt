@@ -1,27 +1,29 @@
 -- Several programs that are run in turn on one mote: what was printed, what is kept, and how both follow each program as it
 -- runs alone.
 use Rattle.std.specs.Prelude.{◌≡◌, ℕ, ◌*◌, ◌<◌, ◌++◌, nat_lt, true, false, if◌then◌else◌, List, [], ◌∷◌, slice_get, slice_index_or, Option, Some, None}
-use Rattle.tk_io.specs.Faults.{Rose}
-use Rattle.tk_io.specs.Streams.{CutShort}
+use Rattle.byte_streams.specs.Faults.{Rose}
+use Rattle.byte_streams.specs.Streams.{CutShort}
 use Rattle.input_script.specs.Script.{Schedule, nothing}
 use Rattle.mem_guard.specs.FlatMachine.{Program, Run}
 use Rattle.mem_guard.specs.Masked as masked
-use Rattle.tk_tasks.specs.declared.tasks.Task.{Task}
-use Rattle.tk_tasks.specs.declared.tasks.TaskEnd.{TaskEnd}
+use Rattle.parked_tasks.specs.declared.task.Task.{Task}
+use Rattle.parked_tasks.specs.declared.task.TaskEnd.{TaskEnd}
 use Rattle.task_input.specs.Images.{quarter, task_words}
-use Rattle.tk_tasks.specs.Quarters.{quarter_part}
-use Rattle.tk_tasks.specs.Booted.{booted, turns_at_reset}
-use Rattle.tk_tasks.specs.States.{Tasks, AreSound, flat_end, player_of, turns_of}
-use Rattle.tk_tasks.specs.Turns.{Turns, Told, alone, at_reset_in, turns, HaveEnded}
+use Rattle.task_turns.specs.Quarters.{quarter_part}
+use Rattle.tk_tasks.specs.Booted.{booted}
+use Rattle.task_turns.specs.Reset.{turns_at_reset}
+use Rattle.tk_tasks.specs.States.{Tasks, AreSound, player_of, turns_of}
+use Rattle.parked_tasks.specs.Ends.{flat_end}
+use Rattle.task_turns.specs.Turns.{Turns, Told, alone, at_reset_in, turns, HaveEnded}
 use Rattle.tk_tasks.specs.Plays.{Play, TaskPath, AreInTurn, EndsAsAlone, counted, told_of, told_text}
-use Rattle.tk_request.specs.declared.request.TaskRequest.{TaskRequest}
-use Rattle.tk_request.specs.declared.status.Status.{Status}
-use Rattle.tk_request.specs.declared.status.Status.TheVariants as status
+use Rattle.tk_words.specs.declared.request.TaskRequest.{TaskRequest}
+use Rattle.tk_words.specs.declared.status.Status.{Status}
+use Rattle.tk_words.specs.declared.status.Status.TheVariants as status
 use Rattle.tkernel_cli.specs.declared.top.Exit.{Exit}
-use Rattle.tk_request.specs.Reading.{Stream}
-use Rattle.tkernel_cli.specs.Runs.{Says, status_of_end}
-use Rattle.tk_request.specs.Status.{number_of}
-use Rattle.tkernel_cli.specs.Text.{tasks_count_text}
+use Rattle.tk_words.specs.Stream.{Stream}
+use Rattle.run_jobs.specs.Runs.{Says, status_of_end}
+use Rattle.tk_words.specs.Status.{number_of}
+use Rattle.run_jobs.specs.Text.{tasks_count_text}
 
 -- a task's program: its quarter of the words of all
 abbrev pub program_in : TaskRequest → ℕ → Program

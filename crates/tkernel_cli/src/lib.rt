@@ -1,7 +1,7 @@
 //! The command line of tkernel as a library: words and an input in, lines and a status out.
 //!
 //! [`tkernel`] is the whole program but for the process around it. The words and the input ask for a job (crate
-//! `tk_request`), which is done here. The words are one of eight commands:
+//! `tk_request`), which is done by crate `run_jobs`, or here where it is several tasks. The words are one of eight commands:
 //!
 //! - `run` reads and judges a program, runs it, and prints its lines;
 //! - `dump` does so without them, and prints the dump of the flash that the run leaves (crate `pool_check`);
@@ -24,13 +24,8 @@
 //! ```
 #![tactic(auto)]
 
-mod dumping;
-mod job;
-mod restarting;
-mod running;
 mod tasking;
-mod text;
 mod top;
 
-pub use tk_request::{Command, RunOptions, Status, TaskOptions, command_of};
+pub use tk_words::{Command, RunOptions, Status, TaskOptions, command_of};
 pub use top::{Exit, tkernel};

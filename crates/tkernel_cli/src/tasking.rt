@@ -1,22 +1,21 @@
 //! A run of several programs on one mote, and its printed lines.
-ghost use Rattle.std.specs.Prelude.{◌≡◌, ◌⊎◌, ◌≤◌};
+ghost use Rattle.std.specs.Prelude.{◌≡◌, ◌⊎◌};
 ghost use Rattle.tkernel_cli.specs.Answer.{Does};
-ghost use Rattle.tk_request.specs.Commands.{AreTasks};
-ghost use Rattle.tk_request.specs.declared.status.Status.TheVariants.{Done};
-ghost use Rattle.tk_request.specs.Printed.{no_memory};
-ghost use Rattle.tkernel_cli.specs.Runs.{Says};
-ghost use Rattle.tk_request.specs.Reading.{stream};
+ghost use Rattle.tk_words.specs.Commands.{AreTasks};
+ghost use Rattle.tk_words.specs.declared.status.Status.TheVariants.{Done};
+ghost use Rattle.tk_words.specs.Printed.{no_memory};
+ghost use Rattle.run_jobs.specs.Runs.{Says};
+ghost use Rattle.tk_words.specs.Stream.{stream};
 ghost use Rattle.tkernel_cli.specs.TasksRuns.{HasTasksRun, status_of_task as status_at, worse as worse_of, worst};
-ghost use Rattle.tkernel_cli.specs.Text.{tasks_count_text};
+ghost use Rattle.run_jobs.specs.Text.{tasks_count_text};
 
-use crate::job::{say, tell_no_memory};
-use crate::text::task_counts;
 use crate::top::Exit;
+use byte_streams::Sink;
 use kernel_entry::Stop;
+use run_jobs::{say, task_counts};
 use std::alloc::Global;
-use tk_io::Sink;
-use tk_request::{Status, TaskRequest};
 use tk_tasks::{Task, TaskEnd, Tasks};
+use tk_words::{NO_MEMORY, Status, TaskRequest};
 
 /// Runs several programs in turn, each to its end, and puts their lines.
 pub(crate) fn run_tasks<K: Sink>(alloc: Global, request: TaskRequest, out: &mut K) -> Exit
@@ -32,7 +31,13 @@ pub(crate) fn run_tasks<K: Sink>(alloc: Global, request: TaskRequest, out: &mut 
     let booted = Tasks::boot(alloc, &image, scripts.list(), options.quantum, options.swap);
     let mut tasks = match booted {
         Ok(tasks) => tasks,
-        Err(_) => return tell_no_memory(out),
+        Err(_) => {
+            return Exit {
+                status: say(Status::NoMemory, NO_MEMORY, out),
+                kept: None,
+                tasks: None,
+            };
+        }
     };
     let status = match tasks.run(options.steps, out) {
         Ok(()) => tell_counts(&tasks, out),

@@ -1,14 +1,16 @@
 //! The top call: words and input in, lines and a status out.
 ghost use Rattle.std.specs.Prelude.{map, string_bytes};
 ghost use Rattle.tkernel_cli.specs.Answer.{IsAnswer, IsExact};
-ghost use Rattle.tk_request.specs.Reading.{stream};
+ghost use Rattle.tk_words.specs.Stream.{stream};
 
-use crate::job::do_job;
+use crate::tasking::run_tasks;
+use byte_streams::{Sink, Source};
+use run_jobs::{Outcome, do_job};
 use std::alloc::Global;
-use tk_io::{Sink, Source};
-use tk_request::{Status, job_of};
+use tk_request::job_of;
 use tk_run::Machine;
 use tk_tasks::Tasks;
+use tk_words::Status;
 
 /// How a call ended.
 #[derive(Drop)]
@@ -54,5 +56,12 @@ pub fn tkernel<S: Source, K: Sink>(
         result }
 {
     let job = job_of(alloc, words, input);
-    do_job(alloc, job, out)
+    match do_job(alloc, job, out) {
+        Ok(Outcome { status, kept }) => Exit {
+            status,
+            kept,
+            tasks: None,
+        },
+        Err(request) => run_tasks(alloc, request, out),
+    }
 }

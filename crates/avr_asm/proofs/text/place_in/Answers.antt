@@ -1,10 +1,11 @@
-use Rattle.std.proofs.Common.{rules, tests, bytes_eq, ◌∙◌}
-use Rattle.std.proofs.lemmas.Iterator.{YieldsList-from_slice}
-use Rattle.std.proofs.lemmas.Iterator.Search.{position_from_yields_List}
-use Rattle.avr_asm.proofs.CutLaws.{place_of-now}
+use Rattle.std.proofs.Common.{ap, bytes_eq, sym, ◌∙◌}
+use Rattle.avr_asm.proofs.CutLaws.{place_here, place_nowhere}
 use Rattle.avr_asm.proofs.text.place_in.Goals as goal
 
+pub returns-then-eq-clause-value : goal.returns-then-eq-clause-value
+returns-then-eq-clause-value c =
+    place_here c.args.names.now c.args.text.now c.loop-i.i _ c.loop-i-test.true c.loop-i.invariant
+    (ap (λ name. bytes_eq name c.args.text.now) (sym c.as_bytes.ensures.value) ∙ sym c.eq.ensures ∙ c.if-eq.true)
+
 pub returns-clause-value : goal.returns-clause-value
-returns-clause-value c =
-    position_from_yields_List (λ name. bytes_eq name.now c.args.text.now) _ _ c.position.result c.position.ensures.ran (YieldsList-from_slice _ c.iter.ensures.rest) (λ x b q k. search (rules, tests))
-    ∙ place_of-now c.args.names.now c.args.text.now
+returns-clause-value c = place_nowhere c.args.names.now c.args.text.now c.loop-i.i c.loop-i-test.false c.loop-i.invariant

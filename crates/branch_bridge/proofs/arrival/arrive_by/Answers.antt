@@ -1,6 +1,6 @@
 use Rattle.std.proofs.Common.{◌≡◌, ℕ, ◌+◌, ◌/◌, ◌≤◌, min, List, None, false, arith, refl, sym, ap, ◌∙◌, subst}
 use Rattle.std.specs.Result.{result_ok}
-use Rattle.flash_model.specs.Layouts.{image_of}
+use Rattle.flash_words.specs.Layouts.{image_of}
 use Rattle.nat_page.specs.Making.{IsLowestFree}
 use Rattle.nat_page.proofs.FaithfulLaws.{faithful_mapped}
 use Rattle.nat_page.specs.Used.{used_pages}
@@ -12,8 +12,8 @@ use Rattle.addr_tables.specs.Changes.{noted}
 use Rattle.addr_tables.proofs.NoteLaws.{rest_noted}
 use Rattle.branch_bridge.proofs.MakeLaws.{ring_kept}
 use Rattle.branch_bridge.proofs.SurveyLaws.{surveyed_free, surveyed_full}
-use Rattle.branch_bridge.specs.Arrivals.{Store, Makes, Recycles, Found, Free, Full, ring_of, torn_in, made_in, one_if}
-use Rattle.branch_bridge.proofs.ArrivalLaws.{tried_made, tried_recycled}
+use Rattle.branch_bridge.specs.Arrivals.{Store, Makes, Recycles, Kept, Found, Free, Full, ring_of, torn_in, made_in, one_if}
+use Rattle.branch_bridge.proofs.ArrivalLaws.{tried_made, tried_recycled, only_wild}
 use Rattle.branch_bridge.specs.Arrivals.{KeepsOtherBytes}
 use Rattle.sram_layout.proofs.RegionLaws.{outside_same}
 use Rattle.branch_bridge.proofs.RestLaws.{others_rest}
@@ -191,3 +191,25 @@ returns-in-None-clause-rest c =
     let words = c.args.flash.now.words in
     let none : HasNone layout words c.args.sram.now c.find_by.new.sram c.args.t = found_none layout words c.args.sram.now c.find_by.new.sram c.args.t (result_ok c.find_by.result) (ap result_ok c.in-Err.is) c.find_by.ensures.finds in
     subst (λ m. KeepsOtherBytes m c.recycle.new.sram) none.left c.recycle.ensures.rest
+
+pub returns-in-Some-clause-kept : goal.returns-in-Some-clause-kept
+returns-in-Some-clause-kept c =
+    let layout = c.args.layout.now in
+    let words = c.args.flash.now.words in
+    let none : HasNone layout words c.args.sram.now c.find_by.new.sram c.args.t = found_none layout words c.args.sram.now c.find_by.new.sram c.args.t (result_ok c.find_by.result) (ap result_ok c.in-Err.is) c.find_by.ensures.finds in
+    let new : Store = record { flash = c.make_page.new.flash; sram = c.make_page.new.sram } in
+    subst (λ m. Kept layout (record { flash = c.args.flash.now; sram = m }) new c.args.t c.make_page.result) none.left c.make_page.ensures.kept
+
+pub returns-in-None-clause-kept : goal.returns-in-None-clause-kept
+returns-in-None-clause-kept c =
+    let layout = c.args.layout.now in
+    let words = c.args.flash.now.words in
+    let none : HasNone layout words c.args.sram.now c.find_by.new.sram c.args.t = found_none layout words c.args.sram.now c.find_by.new.sram c.args.t (result_ok c.find_by.result) (ap result_ok c.in-Err.is) c.find_by.ensures.finds in
+    let new : Store = record { flash = c.recycle.new.flash; sram = c.recycle.new.sram } in
+    subst (λ m. Kept layout (record { flash = c.args.flash.now; sram = m }) new c.args.t c.recycle.result) none.left c.recycle.ensures.kept
+
+pub returns-in-Some-clause-wild : goal.returns-in-Some-clause-wild
+returns-in-Some-clause-wild c = only_wild c.args.layout.now (record { flash = c.args.flash.now; sram = c.args.sram.now }) (record { flash = c.make_page.new.flash; sram = c.make_page.new.sram }) c.args.t c.make_page.result (returns-in-Some-clause-arrives c)
+
+pub returns-in-None-clause-wild : goal.returns-in-None-clause-wild
+returns-in-None-clause-wild c = only_wild c.args.layout.now (record { flash = c.args.flash.now; sram = c.args.sram.now }) (record { flash = c.recycle.new.flash; sram = c.recycle.new.sram }) c.args.t c.recycle.result (returns-in-None-clause-arrives c)

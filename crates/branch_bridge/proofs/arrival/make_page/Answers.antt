@@ -1,5 +1,5 @@
 use Rattle.std.proofs.Common.{ℕ, true, Option, Ok, Err, sym, ap, subst}
-use Rattle.flash_model.specs.declared.failing.FlashStop.{FlashStop}
+use Rattle.flash_words.specs.declared.failing.FlashStop.{FlashStop}
 use Rattle.branch_bridge.specs.declared.rewriting.Torn.{Torn}
 use Rattle.branch_bridge.specs.declared.arrival.ArriveStop.TheVariants.{Flash}
 use Rattle.addr_tables.specs.Changes.{noted}

@@ -1,8 +1,8 @@
 use Rattle.std.proofs.Common.{◌≡◌, ℕ, ◌+◌, List, Some, None, Err, true, arith, refl, sym, ap, ap₂, ◌∙◌, subst}
-use Rattle.flash_model.specs.declared.failing.FlashStop.{FlashStop}
-use Rattle.flash_model.specs.Memory.{Memory}
-use Rattle.flash_model.specs.Operations.{next_op, erased_page}
-use Rattle.flash_model.specs.Layouts.{image_of}
+use Rattle.flash_words.specs.declared.failing.FlashStop.{FlashStop}
+use Rattle.flash_words.specs.Memory.{Memory}
+use Rattle.flash_words.specs.Operations.{next_op, erased_page}
+use Rattle.flash_words.specs.Layouts.{image_of}
 use Rattle.page_index.specs.Maps.{IsPool}
 use Rattle.nat_page.specs.Used.{is_used, used_pages}
 use Rattle.nat_page.proofs.UsedLaws.{used_among-same, all_used}

@@ -1,7 +1,7 @@
 use Rattle.std.proofs.Common.{◌≡◌, ◌+◌, ◌*◌, ◌/◌, ◌≤◌, length, arith, refl, sym, ap, ◌∙◌, subst}
-use Rattle.flash_model.specs.Pages.{page_words}
-use Rattle.flash_model.specs.Layouts.{image_of}
-use Rattle.nat_page.specs.Standing.{jump_word}
+use Rattle.flash_words.specs.Pages.{page_words}
+use Rattle.flash_words.specs.Layouts.{image_of}
+use Rattle.page_draft.specs.Standing.{jump_word}
 use Rattle.nat_page.proofs.RelinkLaws.{link_placed}
 use Rattle.nat_page.proofs.UnlinkLaws.{page_of_two}
 use Rattle.branch_bridge.specs.Operating.{Performed, perform, rewriting, stop_of}

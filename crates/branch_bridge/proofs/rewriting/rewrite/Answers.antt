@@ -1,7 +1,7 @@
 use Rattle.std.proofs.Common.{◌≡◌, ◌+◌, ◌*◌, ◌≤◌, [], ◌∷◌, length, None, true, false, arith, sym, ap, ◌∙◌}
-use Rattle.flash_model.specs.Pages.{page_words, page_of, blank}
-use Rattle.flash_model.specs.Memory.{Memory}
-use Rattle.flash_model.specs.Operations.{fails, programmed_page, erased_page}
+use Rattle.flash_words.specs.Pages.{page_words, page_of, blank}
+use Rattle.flash_words.specs.Memory.{Memory}
+use Rattle.flash_words.specs.Operations.{fails, programmed_page, erased_page}
 use Rattle.branch_bridge.specs.Operating.{Erase, Program, Performed}
 use Rattle.branch_bridge.proofs.PerformLaws.{perform_done, erased_blank}
 use Rattle.branch_bridge.proofs.rewriting.rewrite.Goals as goal

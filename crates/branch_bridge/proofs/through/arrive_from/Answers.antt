@@ -1,5 +1,5 @@
 use Rattle.std.proofs.Common.{arith, ◌≡◌, ℕ, List, Option, Some, None, Ok, Err, false, refl, sym, ap, ◌∙◌, subst}
-use Rattle.flash_model.specs.Layouts.{image_of}
+use Rattle.flash_words.specs.Layouts.{image_of}
 use Rattle.nat_page.specs.Links.{IsUnresolved}
 use Rattle.branch_bridge.specs.declared.arrival.Refused.{Refused}
 use Rattle.branch_bridge.specs.declared.through.Arrival.{Arrival}

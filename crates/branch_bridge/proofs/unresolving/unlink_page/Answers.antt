@@ -1,8 +1,8 @@
 use Rattle.std.proofs.Common.{◌≡◌, ℕ, ◌+◌, ◌*◌, true, arith, sym, ap, ◌∙◌}
 use Rattle.std.specs.Prelude.{◌≢◌, ◌==◌, not}
 use Rattle.std.proofs.lemmas.Bool.Decides.{nat_tests}
-use Rattle.flash_model.specs.Pages.{word_at}
-use Rattle.flash_model.specs.Layouts.{image_of}
+use Rattle.flash_words.specs.Pages.{word_at}
+use Rattle.flash_words.specs.Layouts.{image_of}
 use Rattle.page_index.specs.Maps.{original_page}
 use Rattle.nat_page.specs.Used.{is_used}
 use Rattle.nat_page.proofs.WalkLaws.{code_page}

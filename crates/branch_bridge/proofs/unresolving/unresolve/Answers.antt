@@ -1,6 +1,6 @@
 use Rattle.std.proofs.Common.{ℕ, ◌+◌, arith, ap, sym, subst}
-use Rattle.flash_model.specs.Layouts.{image_of}
-use Rattle.flash_model.specs.Memory.{Memory}
+use Rattle.flash_words.specs.Layouts.{image_of}
+use Rattle.flash_words.specs.Memory.{Memory}
 use Rattle.page_index.specs.Maps.{IsPool}
 use Rattle.nat_page.specs.Faithful.{IsFaithful}
 use Rattle.branch_bridge.specs.Operating.{perform}

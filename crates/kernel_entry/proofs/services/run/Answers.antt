@@ -1,6 +1,6 @@
-use Rattle.std.proofs.Common.{ap, ap₂, sym, ◌∙◌}
+use Rattle.std.proofs.Common.{ap, ap₂, ◌∙◌, arith}
 use Rattle.std.specs.Prelude.{None, Ok, Err}
-use Rattle.avr_exec.specs.Registers.{wrapping_sum}
+use Rattle.avr_isa.specs.Addresses.{wrapping_sum}
 use Rattle.sram_layout.specs.Bytes.{byte_at}
 use Rattle.sram_layout.specs.Cells.{count_cell}
 use Rattle.preempt_count.specs.Counting.{crossed, is_checkpoint}
@@ -10,6 +10,14 @@ use Rattle.kernel_entry.specs.Services.{stop_of, resumed_by, gone_by}
 use Rattle.kernel_entry.proofs.Answering.{can_count, count_stays, quantum_left}
 use Rattle.kernel_entry.proofs.Running.{resumes, goes, stops, run_counts, due_is, due_behind}
 use Rattle.kernel_entry.proofs.services.run.Goals as goal
+
+pub called_instruction-instr-requires : goal.called_instruction-instr-requires
+called_instruction-instr-requires c = record { at = c.requires.at; called = c.requires.called }
+
+pub execute-requires : goal.execute-requires
+execute-requires c =
+    let can = c.requires.called.can in
+    record { at = c.requires.at; executed = c.called_instruction-instr.ensures.executed; paged = can.paged; room = can.room }
 
 pub returns-then-entry-lt-RETURN-clause-served : goal.returns-then-entry-lt-RETURN-clause-served
 returns-then-entry-lt-RETURN-clause-served c =
@@ -25,9 +33,10 @@ returns-then-entry-lt-RETURN-clause-due c =
     due_is k (resumed_by k (Ok c.in-Ok.ran) next)
     (resumes k next c.called_instruction-instr.result c.execute.result c.in-Ok.ran c.requires.can c.requires.run c.if-entry-lt-RETURN.true c.called_instruction-instr.ensures.value c.execute.ensures.executed c.in-Ok.is)
 
-pub cross-due-requires-clause-count : goal.cross-due-requires-clause-count
-cross-due-requires-clause-count c =
-    can_count c.args.k.now c.execute.new.k c.called_instruction-instr.result c.execute.result c.requires.called.can (run_counts c.args.k.now c.requires.can c.requires.run c.if-entry-lt-RETURN.false) c.execute.ensures.executed
+pub cross-due-requires : goal.cross-due-requires
+cross-due-requires c =
+    let count = can_count c.args.k.now c.execute.new.k c.called_instruction-instr.result c.execute.result c.requires.called.can (run_counts c.args.k.now c.requires.can c.requires.run c.if-entry-lt-RETURN.false) c.execute.ensures.executed in
+    record { quantum = omega (arith, count); count = count }
 
 pub returns-else-entry-lt-RETURN-clause-served : goal.returns-else-entry-lt-RETURN-clause-served
 returns-else-entry-lt-RETURN-clause-served c =

@@ -1,9 +1,9 @@
 use Rattle.std.proofs.Common.{◌≡◌, sym, ap, subst}
-use Rattle.flash_model.specs.Pages.{set_page}
-use Rattle.flash_model.specs.Memory.{Memory}
-use Rattle.flash_model.specs.declared.failing.FlashStop.{FlashStop}
+use Rattle.flash_words.specs.Pages.{set_page}
+use Rattle.flash_words.specs.Memory.{Memory}
+use Rattle.flash_words.specs.declared.failing.FlashStop.{FlashStop}
 use Rattle.nat_page.specs.declared.making.NatStop.TheVariants as stops
-use Rattle.flash_model.specs.Layouts.{image_of}
+use Rattle.flash_words.specs.Layouts.{image_of}
 use Rattle.page_index.specs.Entries.{IsEntry}
 use Rattle.nat_page.specs.Faithful.{IsFaithful}
 use Rattle.nat_page.specs.Links.{IsUnresolved}

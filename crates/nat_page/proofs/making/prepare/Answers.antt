@@ -1,4 +1,4 @@
-use Rattle.flash_model.specs.Layouts.{image_of}
+use Rattle.flash_words.specs.Layouts.{image_of}
 use Rattle.nat_page.proofs.FaithfulLaws.{faithful_mapped}
 use Rattle.nat_page.proofs.making.prepare.Goals as goal
 

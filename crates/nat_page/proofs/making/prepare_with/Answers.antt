@@ -1,10 +1,12 @@
 use Rattle.std.proofs.Common.{◌≡◌, ◌+◌, ◌*◌, suc, length, ap, arith, ◌∙◌}
 use Rattle.nat_template.specs.Stubs.{words_of}
-use Rattle.nat_page.specs.Standing.{size}
-use Rattle.nat_page.specs.Making.{filled, IsPrepared}
-use Rattle.flash_model.specs.Layouts.{image_of}
-use Rattle.nat_page.proofs.GrowLaws.{length-starts, stops_of}
-use Rattle.nat_page.proofs.PageWords.{draft_page, draft_room, draft_small}
+use Rattle.page_draft.specs.Standing.{size}
+use Rattle.page_draft.specs.CodePages.{filled}
+use Rattle.nat_page.specs.Making.{IsPrepared}
+use Rattle.flash_words.specs.Layouts.{image_of}
+use Rattle.page_draft.proofs.StartLaws.{length-starts}
+use Rattle.nat_page.proofs.GrowLaws.{stops_of, draft_room, draft_small}
+use Rattle.page_draft.proofs.PageWords.{draft_page}
 use Rattle.nat_page.proofs.OnePage.{one_page}
 use Rattle.nat_page.proofs.making.prepare_with.Goals as goal
 

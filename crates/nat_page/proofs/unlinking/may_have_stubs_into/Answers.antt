@@ -1,5 +1,5 @@
 use Rattle.std.proofs.Common.{arith}
-use Rattle.flash_model.specs.Layouts.{image_of}
+use Rattle.flash_words.specs.Layouts.{image_of}
 use Rattle.nat_page.proofs.WalkLaws.{no_stubs_into}
 use Rattle.nat_page.proofs.unlinking.may_have_stubs_into.Goals as goal
 

@@ -1,7 +1,7 @@
 use Rattle.std.proofs.Common.{◌+◌, ◌*◌, ◌≤◌, length, arith, sym, ◌∙◌}
 use Rattle.std.proofs.lemmas.Grind.{same_number_lists}
-use Rattle.flash_model.specs.Pages.{page_words, page_of}
-use Rattle.flash_model.proofs.PageLaws.{page_word, length-page_of}
+use Rattle.flash_words.specs.Pages.{page_words, page_of}
+use Rattle.flash_words.proofs.PageLaws.{page_word, length-page_of}
 use Rattle.nat_page.proofs.unlinking.page_words.Goals as goal
 
 pub returns : goal.returns

@@ -1,6 +1,6 @@
 use Rattle.std.proofs.Common.{◌≡◌, ℕ, ◌+◌, ◌*◌, ◌<◌, slice_index, length}
-use Rattle.flash_model.specs.Pages.{word_at}
-use Rattle.flash_model.specs.Memory.{IsWhole}
+use Rattle.flash_words.specs.Pages.{word_at}
+use Rattle.flash_words.specs.Memory.{IsWhole}
 use Rattle.nat_page.proofs.unlinking.page_words.Given as goal
 
 abbrev pub invariant-words : goal.invariant-words

@@ -1,5 +1,5 @@
 use Rattle.std.proofs.Common.{◌≡◌, ◌+◌, ◌*◌, take}
-use Rattle.nat_page.specs.Standing.{size}
+use Rattle.page_draft.specs.Standing.{size}
 use Rattle.nat_page.specs.Unlinking.{links_where, IsPatched}
 use Rattle.nat_page.proofs.unlinking.unlink.Given as goal
 

@@ -1,9 +1,9 @@
 use Rattle.std.proofs.Common.{◌≡◌, ◌+◌, ◌-◌, ◌*◌, ◌/◌, ◌<◌, length, arith, sym, ap, ap₂, ◌∙◌}
-use Rattle.flash_model.specs.Pages.{word_at}
-use Rattle.flash_model.specs.Layouts.{image_of}
+use Rattle.flash_words.specs.Pages.{word_at}
+use Rattle.flash_words.specs.Layouts.{image_of}
 use Rattle.nat_template.specs.declared.piece.Piece.{Piece}
 use Rattle.page_index.specs.Maps.{address_of, original_page}
-use Rattle.nat_page.specs.CodePages.{page_pieces, Anywhere, IsPage}
+use Rattle.page_draft.specs.CodePages.{page_pieces, Anywhere, IsPage}
 use Rattle.arrayvec.specs.ArrayVec.{ArrayVec}
 use Rattle.nat_page.proofs.WalkLaws.{own_run, own_page, is_found}
 use Rattle.nat_page.proofs.unlinking.without_links.Goals as goal

@@ -1,5 +1,5 @@
 use Rattle.std.proofs.Common.{◌≡◌, ◌<◌, ◌≤◌}
-use Rattle.flash_model.specs.Memory.{IsWhole}
+use Rattle.flash_words.specs.Memory.{IsWhole}
 use Rattle.nat_page.specs.Used.{used_among}
 use Rattle.nat_page.proofs.using.pages_in_use.Given as goal
 

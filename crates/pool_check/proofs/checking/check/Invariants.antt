@@ -1,5 +1,5 @@
 use Rattle.std.proofs.Common.{ℕ, ◌<◌}
-use Rattle.flash_model.specs.Pages.{page_of}
+use Rattle.flash_words.specs.Pages.{page_of}
 use Rattle.pool_check.specs.Forms.{HasForm}
 use Rattle.pool_check.proofs.checking.check.Given as goal
 

@@ -1,7 +1,7 @@
 use Rattle.std.proofs.Common.{◌∙◌, ℕ, ◌<◌, ◌≤◌, arith, refl, sym, subst, List}
 use Rattle.nat_template.specs.declared.piece.Piece.{Piece}
-use Rattle.nat_page.specs.Standing.{Stands}
-use Rattle.nat_page.specs.CodePages.{Anywhere}
+use Rattle.page_draft.specs.Standing.{Stands}
+use Rattle.page_draft.specs.CodePages.{Anywhere}
 use Rattle.pool_check.specs.Forms.{first_told, last_told}
 use Rattle.pool_check.proofs.FormLaws.{told, page_told, stands_told, rest_told, is_code}
 use Rattle.pool_check.proofs.LinkTests.{is_so_not}

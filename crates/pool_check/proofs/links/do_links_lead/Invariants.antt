@@ -1,5 +1,5 @@
 use Rattle.std.proofs.Common.{◌≡◌, ◌+◌, drop}
-use Rattle.nat_page.specs.Standing.{size}
+use Rattle.page_draft.specs.Standing.{size}
 use Rattle.nat_page.specs.Links.{EachLink}
 use Rattle.pool_check.specs.Links.{IsRightLink}
 use Rattle.pool_check.proofs.links.do_links_lead.Given as goal

@@ -1,6 +1,6 @@
 use Rattle.std.proofs.Common.{◌≤◌, length, arith, inl, inr, ◌∙◌}
-use Rattle.flash_model.specs.Pages.{page_of}
-use Rattle.nat_page.specs.CodePages.{IsCodePage}
+use Rattle.flash_words.specs.Pages.{page_of}
+use Rattle.page_draft.specs.CodePages.{IsCodePage}
 use Rattle.pool_check.proofs.LinkTests.{free_links, links_by, links_back, is_so_not}
 use Rattle.pool_check.proofs.links.has_links.Goals as goal
 

@@ -1,7 +1,7 @@
 use Rattle.std.proofs.Common.{◌≡◌, ℕ, arith, sym, ap, ◌∙◌, subst}
-use Rattle.flash_model.specs.Pages.{page_of, word_at}
+use Rattle.flash_words.specs.Pages.{page_of, word_at}
 use Rattle.pool_check.specs.Forms.{first_told, last_told}
-use Rattle.nat_page.specs.CodePages.{IsPage}
+use Rattle.page_draft.specs.CodePages.{IsPage}
 use Rattle.pool_check.proofs.FormLaws.{told, page_told}
 use Rattle.pool_check.proofs.links.pieces_of.Goals as goal
 

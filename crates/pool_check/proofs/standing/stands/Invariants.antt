@@ -1,6 +1,6 @@
 use Rattle.std.proofs.Common.{◌≡◌, ◌+◌, drop}
-use Rattle.nat_page.specs.Standing.{size, Stands}
-use Rattle.nat_page.specs.CodePages.{Anywhere}
+use Rattle.page_draft.specs.Standing.{size, Stands}
+use Rattle.page_draft.specs.CodePages.{Anywhere}
 use Rattle.pool_check.proofs.standing.stands.Given as goal
 
 -- the pieces behind stand exactly where all do

@@ -1,5 +1,5 @@
 use Rattle.std.proofs.Common.{◌≤◌}
-use Rattle.flash_model.specs.Layouts.{image_of}
+use Rattle.flash_words.specs.Layouts.{image_of}
 use Rattle.nat_page.specs.Faithful.{IsFaithful}
 use Rattle.pool_tests.proofs.pool_pages.the_pool_may_be_full.Given as goal
 

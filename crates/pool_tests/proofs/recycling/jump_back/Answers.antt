@@ -1,10 +1,10 @@
 use Rattle.std.proofs.Common.{◌≡◌, ◌+◌, arith, sym, subst}
-use Rattle.flash_model.specs.Pages.{word_at}
+use Rattle.flash_words.specs.Pages.{word_at}
 use Rattle.nat_template.specs.Stubs.{call_word, bridge_entry}
 use Rattle.page_index.specs.Entries.{IsEntry}
 use Rattle.nat_page.specs.Links.{IsLinkIn}
 use Rattle.nat_page.specs.Faithful.{IsFaithful}
-use Rattle.flash_model.specs.Layouts.{image_of}
+use Rattle.flash_words.specs.Layouts.{image_of}
 use Rattle.nat_page.proofs.FaithfulLaws.{faithful_mapped}
 use Rattle.pool_tests.proofs.WorkedPage.{round, back_link}
 use Rattle.pool_tests.proofs.recycling.jump_back.Goals as goal

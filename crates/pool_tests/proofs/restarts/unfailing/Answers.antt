@@ -1,5 +1,5 @@
 use Rattle.std.proofs.Common.{sym, ap, subst}
-use Rattle.flash_model.specs.Memory.{Memory, loaded}
+use Rattle.flash_words.specs.Memory.{Memory, loaded}
 use Rattle.nat_page.proofs.FaithfulLaws.{new_flash_faithful}
 use Rattle.pool_check.specs.Links.{HaveFormsAround}
 use Rattle.pool_check.proofs.CheckedLaws.{code_checked, forms_around}

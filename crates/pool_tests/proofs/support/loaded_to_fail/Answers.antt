@@ -1,6 +1,6 @@
 use Rattle.std.proofs.Common.{◌≡◌, take, sym, ap, ◌∙◌}
-use Rattle.flash_model.specs.Memory.{Memory, loaded}
-use Rattle.flash_model.proofs.LoadedLaws.{loaded_image}
+use Rattle.flash_words.specs.Memory.{Memory, loaded}
+use Rattle.flash_words.proofs.LoadedLaws.{loaded_image}
 use Rattle.nat_page.proofs.FaithfulLaws.{new_flash_held}
 use Rattle.pool_tests.proofs.support.loaded_to_fail.Goals as goal
 

@@ -1,6 +1,6 @@
 use Rattle.std.proofs.Common.{ap, ◌∙◌}
-use Rattle.page_index.specs.Cursors.{IsCursor}
-use Rattle.page_index.specs.declared.cursor.Cursor.{Cursor}
+use Rattle.page_cursor.specs.Cursors.{IsCursor}
+use Rattle.page_cursor.specs.declared.cursor.Cursor.{Cursor}
 use Rattle.step_laws.specs.States.{admits}
 use Rattle.program_steps.specs.Wholes.{whole}
 use Rattle.program_steps.proofs.Arrived.{owed_at}

@@ -2,7 +2,7 @@ use Rattle.program_steps.proofs.Awaiting.{free_of}
 use Rattle.std.specs.Option.{option_or}
 use Rattle.std.proofs.Common.{refl, sym, ap, ◌∙◌}
 use Rattle.mote_core.specs.Shown.{line_shown}
-use Rattle.flash_model.specs.Memory.{Memory}
+use Rattle.flash_words.specs.Memory.{Memory}
 use Rattle.program_steps.specs.Wholes.{whole}
 use Rattle.program_steps.specs.Machines.{state_of, numbers_of}
 use Rattle.program_steps.proofs.Told.{plain_state, plain_numbers}

@@ -1,5 +1,5 @@
 use Rattle.std.proofs.Common.{◌≡◌, ◌+◌, ◌-◌, ◌^◌}
-use Rattle.page_index.specs.Cursors.{IsCursor}
+use Rattle.page_cursor.specs.Cursors.{IsCursor}
 use Rattle.program_steps.specs.Wholes.{whole}
 use Rattle.program_steps.specs.Machines.{numbers_of}
 use Rattle.program_steps.specs.Loop.{is_small, moves_made, IsMidway}

@@ -1,7 +1,7 @@
 use Rattle.std.proofs.Common.{◌∙◌, ap, inl, refl, subst}
 use Rattle.avr_asm.specs.AsmText.{IsRefusal}
-use Rattle.tk_request.specs.declared.job.Job.TheVariants.{Write}
-use Rattle.tk_request.specs.Printed.{asm_word}
+use Rattle.tk_words.specs.declared.job.Job.TheVariants.{Write}
+use Rattle.tk_request.specs.AsmCommand.{asm_word}
 use Rattle.tk_request.specs.Reading.{Bad, Good}
 use Rattle.tk_request.proofs.asm_command.source_job.Goals as goal
 

@@ -1,10 +1,10 @@
-use Rattle.std.proofs.Common.{◌≡◌, ◌-◌, ◌∙◌, ap, arith, drop, length, length-drop, refl, rules, subst, take, Err, inl}
-use Rattle.std.proofs.lemmas.List.{take_all}
-use Rattle.pool_check.specs.DumpAnswers.{IsRefusal}
-use Rattle.pool_check.specs.Dumps.{IsDump, IsNoDump}
-use Rattle.tk_request.specs.Printed.{dump_word, hex_word}
+use Rattle.std.proofs.Common.{◌-◌, ◌∙◌, ap, drop, length, refl, rules, subst, take, Err, inl}
+use Rattle.flash_dump.specs.DumpAnswers.{IsRefusal}
+use Rattle.flash_dump.specs.Dumps.{IsDump, IsNoDump}
+use Rattle.tk_words.specs.Printed.{hex_word}
+use Rattle.tk_request.specs.CheckCommand.{dump_word}
 use Rattle.tk_request.specs.Reading.{Bad, Good}
-use Rattle.tk_request.proofs.Judging.{position_inside}
+use Rattle.tk_request.proofs.Judging.{position_inside, rest_whole}
 use Rattle.tk_request.proofs.check_command.text_job.Goals as goal
 
 pub returns-in-Err-Bad-clause-asks : goal.returns-in-Err-Bad-clause-asks
@@ -23,7 +23,7 @@ pub returns-in-Err-Bad-read_dump-clause-asks : goal.returns-in-Err-Bad-read_dump
 returns-in-Err-Bad-read_dump-clause-asks c =
     let text = c.args.text.now in
     let position = c.in-Ok.read.1 in
-    let behind : take (length text - position) (drop position text) ≡ drop position text = take_all _ _ (grind (arith, length-drop position text)) in
+    let behind = rest_whole text position in
     let bad = subst (IsRefusal (take (length text - position) (drop position text))) c.in-Err-Bad-read_dump.field-0-is c.in-Err-Bad-read_dump.ensures.bad in
     inl (Good c.in-Ok.read c.in-Ok.ensures.found
     (Bad c.in-Err-Bad-read_dump.line (dump_word c.in-Err-Bad-read_dump.fault)
@@ -34,7 +34,7 @@ pub returns-clause-asks : goal.returns-clause-asks
 returns-clause-asks c =
     let text = c.args.text.now in
     let position = c.in-Ok.read.1 in
-    let behind : take (length text - position) (drop position text) ≡ drop position text = take_all _ _ (grind (arith, length-drop position text)) in
+    let behind = rest_whole text position in
     let words = c.in-Ok-read_dump.flash.words in
     inl (Good c.in-Ok.read c.in-Ok.ensures.found (Good words (subst (λ z. IsDump z words) behind c.in-Ok-read_dump.ensures.read)
     (c.verdict_of.result, c.verdict_of.ensures.verdict, c.verdict_line.ensures.job)))

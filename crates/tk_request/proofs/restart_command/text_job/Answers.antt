@@ -1,6 +1,6 @@
 use Rattle.std.proofs.Common.{sym, ap, subst, inl}
-use Rattle.tk_request.specs.declared.job.Job.TheVariants.{Restart, Run}
-use Rattle.tk_request.specs.declared.request.Request.{Request}
+use Rattle.tk_words.specs.declared.job.Job.TheVariants.{Restart, Run}
+use Rattle.tk_words.specs.declared.request.Request.{Request}
 use Rattle.tk_request.specs.RestartCommand.{RestartAsks}
 use Rattle.tk_request.proofs.OneJob.{same_request}
 use Rattle.tk_request.proofs.restart_command.text_job.Goals as goal

@@ -1,9 +1,8 @@
-use Rattle.std.proofs.Common.{◌≡◌, ◌-◌, ◌∙◌, ap, arith, drop, length, length-drop, refl, rules, subst, take, Err, inl}
-use Rattle.std.proofs.lemmas.List.{take_all}
+use Rattle.std.proofs.Common.{◌∙◌, ap, refl, rules, subst, Err, inl}
 use Rattle.input_script.specs.Script.{IsBad, IsScript}
-use Rattle.tk_request.specs.Printed.{hex_word, script_word}
+use Rattle.tk_words.specs.Printed.{hex_word, script_word}
 use Rattle.tk_request.specs.Reading.{Bad, Good}
-use Rattle.tk_request.proofs.Judging.{position_inside}
+use Rattle.tk_request.proofs.Judging.{position_inside, rest_whole}
 use Rattle.tk_request.proofs.run_command.request_in.Goals as goal
 
 pub returns-in-Err-Bad-clause-judged : goal.returns-in-Err-Bad-clause-judged
@@ -22,7 +21,7 @@ pub returns-in-Err-Bad-read-clause-judged : goal.returns-in-Err-Bad-read-clause-
 returns-in-Err-Bad-read-clause-judged c =
     let text = c.args.text.now in
     let position = c.in-Ok.read.1 in
-    let behind : take (length text - position) (drop position text) ≡ drop position text = take_all _ _ (grind (arith, length-drop position text)) in
+    let behind = rest_whole text position in
     let bad = c.read-2.ensures.bad c.in-Err-Bad-read.line c.in-Err-Bad-read.fault (c.in-Err-Bad-read.is ∙ ap Err c.in-Err-Bad-read.field-0-is) in
     λ asked. inl (Good c.in-Ok.read c.in-Ok.ensures.found
     (Bad c.in-Err-Bad-read.line (script_word c.in-Err-Bad-read.fault)
@@ -33,5 +32,5 @@ pub returns-clause-judged : goal.returns-clause-judged
 returns-clause-judged c =
     let text = c.args.text.now in
     let position = c.in-Ok.read.1 in
-    let behind : take (length text - position) (drop position text) ≡ drop position text = take_all _ _ (grind (arith, length-drop position text)) in
+    let behind = rest_whole text position in
     λ asked. (Good c.in-Ok.read c.in-Ok.ensures.found (Good c.in-Ok-read.script (subst (λ z. IsScript z c.in-Ok-read.script) behind c.in-Ok-read.ensures.ok) refl))

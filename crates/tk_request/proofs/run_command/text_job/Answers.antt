@@ -1,5 +1,5 @@
 use Rattle.std.proofs.Common.{inl}
-use Rattle.tk_request.specs.declared.job.Job.TheVariants.{Run}
+use Rattle.tk_words.specs.declared.job.Job.TheVariants.{Run}
 use Rattle.tk_request.proofs.run_command.text_job.Goals as goal
 
 pub returns-in-Ok-clause-asks : goal.returns-in-Ok-clause-asks

@@ -1,13 +1,12 @@
-use Rattle.std.proofs.Common.{◌≡◌, ◌-◌, ◌∙◌, [], ap, arith, drop, length, length-drop, refl, rules, subst, sym, take, Err, inl}
+use Rattle.std.proofs.Common.{◌≡◌, ◌∙◌, [], ap, length, refl, rules, subst, sym, Err, inl}
 use Rattle.std.specs.Prelude.{All}
-use Rattle.std.proofs.lemmas.List.{take_all}
 use Rattle.input_script.specs.Script.{Schedule}
 use Rattle.text_lines.specs.Lines.{lines_of}
 use Rattle.task_input.specs.Scripts.{IsFirst, Schedules}
-use Rattle.tk_request.specs.Printed.{hex_word, script_word}
+use Rattle.tk_words.specs.Printed.{hex_word, script_word}
 use Rattle.tk_request.specs.Reading.{Bad, Good}
 use Rattle.tk_request.specs.TasksCommand.{Placed, Refused}
-use Rattle.tk_request.proofs.Judging.{position_inside}
+use Rattle.tk_request.proofs.Judging.{position_inside, rest_whole}
 use Rattle.tk_request.proofs.tasks_command.text_job.Goals as goal
 
 pub returns-in-Err-Bad-clause-asks : goal.returns-in-Err-Bad-clause-asks
@@ -26,7 +25,7 @@ pub returns-in-Err-Bad-read_scripts-clause-asks : goal.returns-in-Err-Bad-read_s
 returns-in-Err-Bad-read_scripts-clause-asks c =
     let text = c.args.text.now in
     let position = c.in-Ok.read.1 in
-    let behind : take (length text - position) (drop position text) ≡ drop position text = take_all _ _ (grind (arith, length-drop position text)) in
+    let behind = rest_whole text position in
     let bad = c.read_scripts.ensures.bad c.in-Err-Bad-read_scripts.line c.in-Err-Bad-read_scripts.fault (c.in-Err-Bad-read_scripts.is ∙ ap Err c.in-Err-Bad-read_scripts.field-0-is) in
     inl (Good c.in-Ok.read c.in-Ok.ensures.found
     (Bad c.in-Err-Bad-read_scripts.line (script_word c.in-Err-Bad-read_scripts.fault)
@@ -37,7 +36,7 @@ pub returns-in-Some-clause-asks : goal.returns-in-Some-clause-asks
 returns-in-Some-clause-asks c =
     let text = c.args.text.now in
     let position = c.in-Ok.read.1 in
-    let behind : take (length text - position) (drop position text) ≡ drop position text = take_all _ _ (grind (arith, length-drop position text)) in
+    let behind = rest_whole text position in
     let scripts = c.in-Ok-read_scripts.scripts.items in
     inl (Good c.in-Ok.read c.in-Ok.ensures.found
     (Good scripts (subst (λ z. Schedules c.args.options.count (lines_of z) scripts) behind c.in-Ok-read_scripts.ensures.ok)
@@ -47,7 +46,7 @@ pub returns-in-None : goal.returns-in-None
 returns-in-None c =
     let text = c.args.text.now in
     let position = c.in-Ok.read.1 in
-    let behind : take (length text - position) (drop position text) ≡ drop position text = take_all _ _ (grind (arith, length-drop position text)) in
+    let behind = rest_whole text position in
     let scripts = c.in-Ok-read_scripts.scripts.items in
     record {
       asks = inl (Good c.in-Ok.read c.in-Ok.ensures.found

@@ -1,7 +1,7 @@
 use Rattle.std.proofs.Common.{◌≡◌, ℕ, ◌≤◌, Bool, true, false, List, length, arith, ◌∙◌, sym, subst, inl, inr}
 use Rattle.std.proofs.lemmas.Bool.{cases_lt}
 use Rattle.page_index.specs.Maps.{IsMap}
-use Rattle.nat_page.specs.CodePages.{IsCodePage}
+use Rattle.page_draft.specs.CodePages.{IsCodePage}
 use Rattle.tk_restart.proofs.PageLaws.{code_alone, code_in_flash, code_map}
 use Rattle.tk_restart.proofs.judging.judge.Goals as goal
 

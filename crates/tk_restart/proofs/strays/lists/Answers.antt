@@ -1,5 +1,5 @@
 use Rattle.std.proofs.Common.{◌≡◌, ◌+◌, ◌*◌, ◌/◌, arith, sym, ap, ◌∙◌}
-use Rattle.flash_model.specs.Pages.{word_at}
+use Rattle.flash_words.specs.Pages.{word_at}
 use Rattle.page_index.specs.Maps.{original_page}
 use Rattle.tk_restart.proofs.StrayLaws.{no_item, item_more, item_among, listed_by}
 use Rattle.tk_restart.proofs.strays.lists.Goals as goal

@@ -1,7 +1,7 @@
-use Rattle.std.proofs.Common.{◌≡◌, ℕ, ◌+◌, ◌*◌, ◌≤◌, length, arith, sym, ap, ◌∙◌}
-use Rattle.flash_model.specs.Pages.{page_of, blank}
-use Rattle.flash_model.specs.Operations.{programmed_page}
-use Rattle.flash_model.proofs.PageLaws.{page_same}
+use Rattle.std.proofs.Common.{◌+◌, ◌*◌, ◌≤◌, length, arith, ap, ◌∙◌}
+use Rattle.flash_words.specs.Pages.{page_of, blank}
+use Rattle.flash_words.specs.Operations.{programmed_page}
+use Rattle.flash_words.proofs.PageLaws.{page_same}
 use Rattle.tk_restart.proofs.SweepLaws.{blank_long}
 use Rattle.tk_restart.proofs.AroundLaws.{around_torn}
 use Rattle.tk_restart.proofs.tearing.tear.Goals as goal

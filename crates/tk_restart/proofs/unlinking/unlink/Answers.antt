@@ -1,7 +1,7 @@
 use Rattle.std.proofs.Common.{◌≡◌, ℕ, ◌+◌, ◌≤◌, List, length, arith, sym, ap, ◌∙◌, subst}
-use Rattle.flash_model.specs.Layouts.{image_of}
+use Rattle.flash_words.specs.Layouts.{image_of}
 use Rattle.page_index.specs.Maps.{IsPool, IsFree}
-use Rattle.nat_page.specs.CodePages.{IsCodePage}
+use Rattle.page_draft.specs.CodePages.{IsCodePage}
 use Rattle.std.specs.Prelude.{◌⊎◌}
 use Rattle.tk_restart.specs.Unlinking.{IsUnlinked, has_strays, unlinked_page}
 use Rattle.tk_restart.proofs.CountLaws.{count_most}

@@ -1,4 +1,4 @@
-use Rattle.flash_model.specs.Layouts.{image_of}
+use Rattle.flash_words.specs.Layouts.{image_of}
 use Rattle.tk_restart.specs.Unlinking.{IsUnlinked}
 use Rattle.tk_restart.proofs.unlinking.unlink.Given as goal
 

@@ -1,6 +1,6 @@
 use Rattle.std.proofs.Common.{◌≡◌, ◌+◌, ◌*◌, arith, ap, ◌∙◌, inl, inr}
-use Rattle.flash_model.specs.Pages.{page_of, blank, word_at}
-use Rattle.flash_model.proofs.PageLaws.{page_same}
+use Rattle.flash_words.specs.Pages.{page_of, blank, word_at}
+use Rattle.flash_words.proofs.PageLaws.{page_same}
 use Rattle.page_index.proofs.MapLaws.{free_word}
 use Rattle.tk_restart.proofs.SweepLaws.{blank_long}
 use Rattle.tk_restart.proofs.unlinking.unlink_page.Goals as goal

@@ -1,4 +1,4 @@
-use Rattle.tk_io.proofs.KnownBytes.{appends-nothing}
+use Rattle.byte_streams.proofs.KnownBytes.{appends-nothing}
 use Rattle.program_steps.proofs.TakingLaws.{untaken_of}
 use Rattle.program_steps.proofs.Told.{cursor_same}
 use Rattle.std.proofs.Common.{sym, ◌∙◌, ◌≡◌, ◌+◌, ◌++◌, [], refl, subst, arith}

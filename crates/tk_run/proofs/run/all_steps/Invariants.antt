@@ -1,5 +1,5 @@
 use Rattle.std.proofs.Common.{◌-◌, ◌≤◌}
-use Rattle.page_index.specs.Cursors.{IsCursor}
+use Rattle.page_cursor.specs.Cursors.{IsCursor}
 use Rattle.program_steps.specs.Wholes.{whole}
 use Rattle.tk_run.proofs.Gathered.{IsUnderWay}
 use Rattle.tk_run.proofs.run.all_steps.Given as goal

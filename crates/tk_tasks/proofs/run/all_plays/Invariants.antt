@@ -1,8 +1,8 @@
 use Rattle.std.proofs.Common.{◌≡◌, ◌≤◌, ◌<◌, false}
-use Rattle.page_index.specs.Cursors.{IsCursor}
+use Rattle.page_cursor.specs.Cursors.{IsCursor}
 use Rattle.tk_tasks.specs.States.{AreSound, turns_of}
 use Rattle.tk_tasks.specs.Running.{IsUnderWay}
-use Rattle.tk_tasks.proofs.Ending.{still}
+use Rattle.task_turns.proofs.Ending.{still}
 use Rattle.tk_tasks.proofs.run.all_plays.Given as goal
 
 -- plays led to where the tasks are now

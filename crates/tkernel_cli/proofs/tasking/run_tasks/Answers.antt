@@ -1,41 +1,20 @@
-use Rattle.std.proofs.Common.{◌≤◌, ◌∙◌, length, ap, arith, inl, refl, subst}
-use Rattle.tk_tasks.specs.Booted.{turns_at_reset}
+use Rattle.std.proofs.Common.{inl, refl, subst}
 use Rattle.tk_tasks.specs.Plays.{HasRunTasks}
-use Rattle.tk_request.specs.Reading.{Stream}
-use Rattle.tkernel_cli.proofs.TasksEnds.{can_run, starts_of, tasks_ended, tasks_cut, rose_of}
+use Rattle.tk_words.specs.Stream.{Stream}
+use Rattle.tkernel_cli.proofs.TasksEnds.{can_run, starts_at_boot, tasks_ended, tasks_cut, rose_of}
 use Rattle.tkernel_cli.proofs.tasking.run_tasks.Goals.{in-Ok-run, in-Err-run}
 use Rattle.tkernel_cli.proofs.tasking.run_tasks.Goals as goal
 
-pub run-requires-clause-whole : goal.run-requires-clause-whole
-run-requires-clause-whole g c =
+pub run-requires : goal.run-requires
+run-requires g c =
     let request = c.args.request in
-    let some : 1 ≤ length request.scripts = omega (arith, c.requires.possible.each_task, c.requires.possible.possible.0) in
-    let starts = starts_of request c.in-Ok.tasks request.scripts some refl (λ first others is. c.in-Ok.ensures.booted first others (c.list.ensures.list ∙ is))
-    (c.in-Ok.ensures.turns request.options.steps ∙ ap (λ s. turns_at_reset request.image s request.options.quantum request.options.swap request.options.steps) c.list.ensures.list) in
-    (can_run request c.in-Ok.tasks starts).0
-
-pub run-requires-clause-switches : goal.run-requires-clause-switches
-run-requires-clause-switches g c =
-    let request = c.args.request in
-    let some : 1 ≤ length request.scripts = omega (arith, c.requires.possible.each_task, c.requires.possible.possible.0) in
-    let starts = starts_of request c.in-Ok.tasks request.scripts some refl (λ first others is. c.in-Ok.ensures.booted first others (c.list.ensures.list ∙ is))
-    (c.in-Ok.ensures.turns request.options.steps ∙ ap (λ s. turns_at_reset request.image s request.options.quantum request.options.swap request.options.steps) c.list.ensures.list) in
-    (can_run request c.in-Ok.tasks starts).1
-
-pub run-requires-clause-going : goal.run-requires-clause-going
-run-requires-clause-going g c =
-    let request = c.args.request in
-    let some : 1 ≤ length request.scripts = omega (arith, c.requires.possible.each_task, c.requires.possible.possible.0) in
-    let starts = starts_of request c.in-Ok.tasks request.scripts some refl (λ first others is. c.in-Ok.ensures.booted first others (c.list.ensures.list ∙ is))
-    (c.in-Ok.ensures.turns request.options.steps ∙ ap (λ s. turns_at_reset request.image s request.options.quantum request.options.swap request.options.steps) c.list.ensures.list) in
-    (can_run request c.in-Ok.tasks starts).2
+    let can = can_run request c.in-Ok.tasks (starts_at_boot request c.in-Ok.tasks c.list.result.items c.requires.possible c.list.ensures.list c.in-Ok.ensures.booted c.in-Ok.ensures.turns) in
+    record { sound = c.in-Ok.ensures.sound; whole = can.0; switches = can.1; going = can.2; steps = c.requires.possible.possible.4 }
 
 pub returns : goal.returns
 returns g c =
     let request = c.args.request in
-    let some : 1 ≤ length request.scripts = omega (arith, c.requires.possible.each_task, c.requires.possible.possible.0) in
-    let starts = starts_of request c.in-Ok.tasks request.scripts some refl (λ first others is. c.in-Ok.ensures.booted first others (c.list.ensures.list ∙ is))
-    (c.in-Ok.ensures.turns request.options.steps ∙ ap (λ s. turns_at_reset request.image s request.options.quantum request.options.swap request.options.steps) c.list.ensures.list) in
+    let starts = starts_at_boot request c.in-Ok.tasks c.list.result.items c.requires.possible c.list.ensures.list c.in-Ok.ensures.booted c.in-Ok.ensures.turns in
     let before : Stream = record { told = g.K.Sink.taken c.args.out.now; faults = g.K.Sink.faults c.args.out.now } in
     let mid : Stream = record { told = g.K.Sink.taken c.run.new.out; faults = g.K.Sink.faults c.run.new.out } in
     record {

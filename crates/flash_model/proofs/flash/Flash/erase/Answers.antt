@@ -1,11 +1,9 @@
 use Rattle.std.proofs.Common.{◌≡◌, ◌+◌, ◌*◌, ◌≤◌, length, sym, ap, subst, arith, ◌∙◌}
-use Rattle.flash_model.specs.Pages.{page_words, page_of, set_page, blank}
-use Rattle.flash_model.specs.Memory.{Memory}
+use Rattle.flash_words.specs.Pages.{page_words, page_of, set_page, blank}
+use Rattle.flash_words.specs.Memory.{Memory}
+use Rattle.flash_words.proofs.OperationLaws.{erased_blank}
 use Rattle.flash_model.specs.Kept.{IsKeptBeside}
-use Rattle.flash_model.proofs.OperationLaws.{erased_blank}
-use Rattle.flash_model.specs.Heads.{AreHeadsBeside}
-use Rattle.flash_model.proofs.Renewing.{erased_beside, length-blank}
-use Rattle.flash_model.proofs.HeadLaws.{heads_beside}
+use Rattle.flash_model.proofs.Renewing.{erased_beside}
 use Rattle.flash_model.proofs.flash.Flash.erase.Goals as goal
 
 pub renew_blank-requires-clause-blank : goal.renew_blank-requires-clause-blank
@@ -17,17 +15,8 @@ renew_blank-requires-clause-blank c =
 pub renew_blank-requires-clause-beside : goal.renew_blank-requires-clause-beside
 renew_blank-requires-clause-beside c =
     let old = c.self.inside.cells in
-    let kept = c.self.inside.kept in
+    let code = c.self.inside.kept.code.items in
     let page = c.args.page in
     let words : c.erase.new.self.words ≡ set_page old.words page blank = ap (λ (m : Memory). m.words) c.in_ok-erase.ensures.done in
-    subst (λ words. IsKeptBeside words kept (page_words * page) (page_words * page + page_words)) (sym words)
-    (erased_beside old.words kept page c.self.invariant.1 c.erase.ensures.whole.0.words c.requires.page)
-
-pub renew-requires-clause-beside : goal.renew-requires-clause-beside
-renew-requires-clause-beside c =
-    let old = c.self.inside.cells in
-    let heads = c.self.inside.heads in
-    let page = c.args.page in
-    let words : c.erase.new.self.words ≡ set_page old.words page blank = ap (λ (m : Memory). m.words) c.in_ok-erase.ensures.done in
-    subst (λ words. AreHeadsBeside words heads page) (sym words)
-    (heads_beside old.words blank heads page c.self.invariant.2 c.erase.ensures.whole.0.words c.requires.page length-blank)
+    subst (λ words. IsKeptBeside words code (page_words * page) (page_words * page + page_words)) (sym words)
+    (erased_beside old.words code page c.self.invariant.1 c.erase.ensures.whole.0.words c.requires.page)

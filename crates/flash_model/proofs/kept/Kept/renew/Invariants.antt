@@ -4,4 +4,4 @@ use Rattle.flash_model.proofs.kept.Kept.renew.Given as goal
 
 -- what is kept is right outside of the rest of the range
 abbrev pub invariant-renew : goal.invariant-renew
-invariant-renew l = IsKeptOutside l.cells.words l.self l.a l.to × (l.a ≤ l.to)
+invariant-renew l = IsKeptOutside l.cells.words l.self.code.items l.a l.to × (l.a ≤ l.to)

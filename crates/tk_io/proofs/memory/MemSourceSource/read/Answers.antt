@@ -1,7 +1,7 @@
 use Rattle.std.proofs.Common.{◌≡◌, take, ap, ◌∙◌}
 use Rattle.std.proofs.lemmas.Grind.{common_steps}
 use Rattle.std.proofs.Common.{arith, length, min}
-use Rattle.tk_io.proofs.KnownBytes.{read_goes_on, read_at_end}
+use Rattle.byte_streams.proofs.KnownBytes.{read_goes_on, read_at_end}
 use Rattle.tk_io.proofs.memory.MemSourceSource.read.Goals as goal
 
 pub returns-clause-bytes : goal.returns-clause-bytes

@@ -1,5 +1,5 @@
 use Rattle.std.proofs.Common.{length, sym, ap, ◌∙◌, subst, arith}
-use Rattle.flash_model.specs.Layouts.{layout_of}
+use Rattle.flash_words.specs.Layouts.{layout_of}
 use Rattle.program_steps.specs.Ready.{IsKept}
 use Rattle.tk_run.proofs.Booting.{over_is_kept}
 use Rattle.tk_run.proofs.machine.Machine.over.Goals as goal

@@ -1,4 +1,4 @@
-use Rattle.std.proofs.Common.{◌≡◌, ◌-◌, true, false, refl, sym, ap, ◌∙◌, arith, subst}
+use Rattle.std.proofs.Common.{◌≡◌, ◌-◌, refl, sym, ap, ◌∙◌, arith, subst}
 use Rattle.program_steps.specs.Wholes.{whole}
 use Rattle.tk_tasks.specs.States.{Tasks, machine_of, AreSound}
 use Rattle.tk_tasks.specs.Changes.{changed_tasks, IsFree}

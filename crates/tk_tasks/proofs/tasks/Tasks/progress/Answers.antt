@@ -1,8 +1,9 @@
 use Rattle.std.proofs.Common.{◌≡◌, sym, ap, ◌∙◌, arith}
 use Rattle.std.specs.Prelude.{slice_get, slice_index_or, Some}
 use Rattle.tk_tasks.specs.States.{Tasks, owed_of, others_of}
-use Rattle.tk_tasks.proofs.Runs.{is_at, get_at, progress_is}
+use Rattle.tk_tasks.proofs.Runs.{progress_is, others_are}
 use Rattle.tk_tasks.proofs.tasks.Tasks.progress.Goals as goal
+use Rattle.parked_tasks.proofs.TaskLists.{is_at, get_at}
 
 pub overflow_sub-result : goal.overflow_sub-result
 overflow_sub-result c =
@@ -18,8 +19,8 @@ overflow_sub-result c =
     let longest = bounded.moves.longest in
     omega arith
 
-pub others-requires-clause-steps : goal.others-requires-clause-steps
-others-requires-clause-steps c = λ i task there.
+pub arrivals_of_others-requires-clause-steps : goal.arrivals_of_others-requires-clause-steps
+arrivals_of_others-requires-clause-steps c = λ i task there.
     let all = ap (λ (u : Tasks). u.tasks) c.self.view_is in
     (c.requires.sound.each i task (ap (λ l. slice_get l i) (sym (c.deref.ensures.value ∙ all)) ∙ there)).sound.steps
 
@@ -38,6 +39,6 @@ returns c =
           let listed = c.deref.ensures.value ∙ all in
           let runs : s.running ≡ t.running = ap (λ (u : Tasks). u.running) seen in
           let found : slice_get c.deref.result.now s.running ≡ Some task = ap (λ l. slice_get l s.running) listed ∙ ap (slice_get t.tasks) runs ∙ here in
-          let others : c.others.result ≡ others_of t task = c.others.ensures.value task found ∙ ap (λ l. others_of (record t { tasks = l }) task) listed in
-          progress_is t task x c.owed_of.result c.others.result s.pages c.requires.sound here going same (ap (λ (u : Tasks). u.pages) seen) (c.owed_of.ensures.value ∙ ap (owed_of x.owed) (ap (λ (u : Tasks). u.stub) seen)) others;
+          let others : c.arrivals_of_others.result ≡ others_of t task = c.arrivals_of_others.ensures.value task found ∙ others_are t task c.deref.result.now listed in
+          progress_is t task x c.owed_of.result c.arrivals_of_others.result s.pages c.requires.sound here going same (ap (λ (u : Tasks). u.pages) seen) (c.owed_of.ensures.value ∙ ap (owed_of x.owed) (ap (λ (u : Tasks). u.stub) seen)) others;
     }

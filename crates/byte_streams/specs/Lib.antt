@@ -1,0 +1,3 @@
+-- What streams do.
+pub mod Faults
+pub mod Streams

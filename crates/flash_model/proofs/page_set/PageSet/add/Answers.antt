@@ -1,9 +1,0 @@
-use Rattle.std.proofs.Common.{arith}
-use Rattle.flash_model.proofs.PageSetLaws.{page_added, page_stays}
-use Rattle.flash_model.proofs.page_set.PageSet.add.Goals as goal
-
-pub returns-clause-added : goal.returns-clause-added
-returns-clause-added c = page_added c.args.self.now c.word_of.result c.args.page c.word_of.ensures.value (omega arith)
-
-pub returns-clause-others : goal.returns-clause-others
-returns-clause-others c = λ other. page_stays c.args.self.now c.word_of.result c.args.page other c.word_of.ensures.value (omega arith)

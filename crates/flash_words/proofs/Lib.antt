@@ -1,0 +1,13 @@
+mod Programming
+mod PageSetLaws
+mod NextPageLaws
+mod FailingLaws
+mod HeadLaws
+mod JumpLaws
+mod WorkedOperations
+pub mod PageLaws
+pub mod WordLaws
+pub mod LoadedLaws
+pub mod ProgramLaws
+pub mod OperationLaws
+pub mod LayoutLaws

@@ -1,0 +1,67 @@
+-- A set of pages with one page more, and one less.
+use Rattle.std.proofs.Common.{◌≡◌, ℕ, ◌*◌, ◌/◌, ◌%◌, ◌^◌, ◌<◌, List, length, true, w64, arith, sym, ap, ◌∙◌, inl, inr}
+use Rattle.std.specs.Prelude.{◌==◌, ◌≢◌, slice_index, slice_set, bit_or, bit_and}
+use Rattle.std.specs.Int.{bit_at, bit_not}
+use Rattle.std.proofs.lemmas.List.{get_or-set_same, get_or-set_other}
+use Rattle.std.proofs.lemmas.Bool.{cases_eq}
+use Rattle.std.proofs.lemmas.Nat.Bits.{bit_at_set_same, bit_at_set_other, bit_at_clear_other}
+use Rattle.flash_words.specs.declared.page_set.PageSet.{PageSet}
+use Rattle.flash_words.specs.PageSets.{has_page}
+
+-- the words with a bit set
+abbrev with_bit : List ℕ → (i k : ℕ) → List ℕ
+with_bit bits i k = slice_set bits i (bit_or (slice_index bits i) (1 * 2 ^ k % 2 ^ 64))
+
+-- .. that bit
+the_bit : (bits : List ℕ) (i k : ℕ) → i < length bits → k < 64 → (bit_at (slice_index (with_bit bits i k) i) k == 1) ≡ true
+the_bit bits i k inside within =
+    ap (λ w. bit_at w k == 1) (get_or-set_same bits i (bit_or (slice_index bits i) (1 * 2 ^ k % 2 ^ 64)) 0 inside) ∙ ap (λ b. b == 1) (bit_at_set_same w64 (slice_index bits i) k within)
+
+-- .. and each other, which stays
+each_bit : (bits : List ℕ) (i k j m : ℕ) → i < length bits → k < 64 → (bit_at (slice_index bits j) m == 1) ≡ true → (bit_at (slice_index (with_bit bits i k) j) m == 1) ≡ true
+each_bit bits i k j m inside within is =
+    let word = bit_or (slice_index bits i) (1 * 2 ^ k % 2 ^ 64) in
+    elim (cases_eq j i) [
+      | inl same ↦
+          elim (cases_eq m k) [
+            | inl here ↦ rw (same, here) (the_bit bits i k inside within)
+            | inr apart ↦
+                ap (λ n. bit_at (slice_index (with_bit bits i k) n) m == 1) same
+                ∙ ap (λ w. bit_at w m == 1) (get_or-set_same bits i word 0 inside)
+                ∙ ap (λ b. b == 1) (bit_at_set_other w64 (slice_index bits i) k within m apart)
+                ∙ ap (λ n. bit_at (slice_index bits n) m == 1) (sym same)
+                ∙ is
+          ]
+      | inr apart ↦ ap (λ w. bit_at w m == 1) (get_or-set_other bits i j word 0 apart) ∙ is
+    ]
+
+-- the page that is put in
+pub page_added : (set : PageSet) (i page : ℕ) → i ≡ page / 64 % 8 → length set.bits ≡ 8 → has_page (record { bits = with_bit set.bits i (page % 64) }) page ≡ true
+page_added set i page is size =
+    ap (λ j. bit_at (slice_index (with_bit set.bits i (page % 64)) j) (page % 64) == 1) (sym is) ∙ the_bit set.bits i (page % 64) (omega arith) (omega arith)
+
+-- each page that was there
+pub page_stays : (set : PageSet) (i page other : ℕ) → i ≡ page / 64 % 8 → length set.bits ≡ 8 → has_page set other ≡ true → has_page (record { bits = with_bit set.bits i (page % 64) }) other ≡ true
+page_stays set i page other is size has = each_bit set.bits i (page % 64) (other / 64 % 8) (other % 64) (omega arith) (omega arith) has
+
+-- the words with a bit cleared
+abbrev without_bit : List ℕ → (i k : ℕ) → List ℕ
+without_bit bits i k = slice_set bits i (bit_and (slice_index bits i) (bit_not w64 (1 * 2 ^ k % 2 ^ 64)))
+
+-- .. each other bit
+other_bit : (bits : List ℕ) (i k j m : ℕ) → i < length bits → k < 64 → m < 64 → (j ≡ i → m ≢ k) → bit_at (slice_index (without_bit bits i k) j) m ≡ bit_at (slice_index bits j) m
+other_bit bits i k j m inside within below apart =
+    let word = bit_and (slice_index bits i) (bit_not w64 (1 * 2 ^ k % 2 ^ 64)) in
+    elim (cases_eq j i) [
+      | inl same ↦
+          ap (λ n. bit_at (slice_index (without_bit bits i k) n) m) same
+          ∙ ap (λ w. bit_at w m) (get_or-set_same bits i word 0 inside)
+          ∙ bit_at_clear_other w64 (slice_index bits i) k within m below (apart same)
+          ∙ ap (λ n. bit_at (slice_index bits n) m) (sym same)
+      | inr other ↦ ap (λ w. bit_at w m) (get_or-set_other bits i j word 0 other)
+    ]
+
+-- each other page, where one is taken out
+pub page_left : (set : PageSet) (i page other : ℕ) → i ≡ page / 64 % 8 → length set.bits ≡ 8 → other % 512 ≢ page % 512 → has_page set other ≡ true → has_page (record { bits = without_bit set.bits i (page % 64) }) other ≡ true
+page_left set i page other is size apart has =
+    ap (λ b. b == 1) (other_bit set.bits i (page % 64) (other / 64 % 8) (other % 64) (omega arith) (omega arith) (omega arith) (λ same here. apart (omega arith))) ∙ has

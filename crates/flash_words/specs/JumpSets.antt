@@ -1,0 +1,30 @@
+-- What is kept of the jumps among the words of a page: for each page a set of pages, among which are those that its
+-- jumps lead into.
+use Rattle.std.specs.Prelude.{ℕ, ◌≡◌, ◌≢◌, ◌+◌, ◌/◌, ◌<◌, ◌≤◌, true, List, length, slice_index, slice_index_or}
+use Rattle.flash_words.specs.Pages.{page_count, page_words, page_of}
+use Rattle.flash_words.specs.declared.page_set.PageSet.{PageSet}
+use Rattle.flash_words.specs.declared.jumps.Jumps.{Jumps}
+use Rattle.flash_words.specs.PageSets.{has_page}
+use Rattle.flash_words.specs.Jumps.{jump_word}
+
+-- the words of a page from the n-th on are erased
+abbrev pub IsBlankFrom : List ℕ → ℕ → Type 0
+IsBlankFrom page n = (k : ℕ) → n ≤ k → k < page_words → slice_index page k ≡ 0xFFFF
+
+-- where a jump stands among a page's words, the set has the page that it leads into
+abbrev pub HasJumps : List ℕ → PageSet → Type 0
+HasJumps page set = (k : ℕ) → k + 1 < page_words → slice_index page k ≡ jump_word → has_page set (slice_index page (k + 1) / page_words) ≡ true
+
+-- a page's set has those of its words
+abbrev pub HasSet : List ℕ → List PageSet → ℕ → Type 0
+HasSet words sets page = (s : PageSet) → HasJumps (page_of words page) (slice_index_or sets page s)
+
+-- each page of flash has its set
+pub record AreJumps (words : List ℕ) (jumps : Jumps) : Type 0 where
+  pub sized : length jumps.sets.items ≡ page_count
+  pub each : (page : ℕ) → page < page_count → HasSet words jumps.sets.items page
+
+-- .. each but one
+pub record AreJumpsBeside (words : List ℕ) (jumps : Jumps) (but : ℕ) : Type 0 where
+  pub sized : length jumps.sets.items ≡ page_count
+  pub each : (page : ℕ) → page < page_count → page ≢ but → HasSet words jumps.sets.items page

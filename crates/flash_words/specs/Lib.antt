@@ -1,0 +1,9 @@
+pub mod Pages
+pub mod Memory
+pub mod Operations
+pub mod Failing
+pub mod Layouts
+pub mod Jumps
+pub mod PageSets
+pub mod Heads
+pub mod JumpSets

@@ -1,8 +1,0 @@
-use Rattle.std.proofs.Common.{arith}
-use Rattle.nat_page.proofs.RunLaws.{template_at-range}
-use Rattle.nat_page.proofs.remaking.take.Goals as goal
-
-pub overflow_add-count-3 : goal.overflow_add-count-3
-overflow_add-count-3 g c =
-    let range = template_at-range (g.I.ImageWords.words c.args.image.now) c.read-here.result.pc in
-    omega (arith, range.1, c.read-here.ensures.read.code_size, c.requires.room)

@@ -1,0 +1,2 @@
+-- Laws of a cursor.
+mod CursorLaws

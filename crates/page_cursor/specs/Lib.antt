@@ -1,0 +1,2 @@
+-- What a cursor knows of the pool.
+pub mod Cursors

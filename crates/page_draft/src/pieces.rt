@@ -1,0 +1,63 @@
+//! Pieces in a row.
+
+ghost use Rattle.std.specs.Prelude.{◌≡◌, ◌≤◌, length};
+ghost use Rattle.nat_template.specs.Stubs.{words_of};
+ghost use Rattle.page_draft.specs.Standing.{size as size_of, width as width_of};
+ghost use Rattle.page_draft.specs.CodePages.{filled};
+
+use arrayvec::ArrayVec;
+use nat_template::Piece;
+
+/// CALL of the kernel's bridge.
+pub const CALL_BRIDGE: [u16; 2] = [0x940E, 0xF000];
+
+/// How many words the pieces have, each link unresolved or resolved: one for a fixed word, three for a link.
+pub fn size(pieces: &[Piece]) -> u16
+    requires small { length pieces.now ≤ 128 }
+    ensures value { result ≡ size_of pieces.now }
+{
+    let mut words = 0;
+    for piece in pieces {
+        words += width(*piece);
+    }
+    words
+}
+
+/// How many words a piece has.
+pub fn width(piece: Piece) -> u16
+    ensures value { result ≡ width_of piece }
+{
+    match piece {
+        Piece::Fixed(_) => 1,
+        Piece::Link(_) => 3,
+    }
+}
+
+/// The 128 words of a page with these pieces, whose links aren't resolved.
+pub fn page_with(pieces: &[Piece]) -> [u16; 128]
+    requires fits { size_of pieces.now ≤ 128 }
+    ensures words { result ≡ filled (words_of pieces.now) }
+{
+    let mut words: ArrayVec<u16, 128> = ArrayVec::new();
+    for piece in pieces {
+        match *piece {
+            Piece::Fixed(word) => words.push(word),
+            Piece::Link(target) => {
+                words.push(CALL_BRIDGE[0]);
+                words.push(CALL_BRIDGE[1]);
+                words.push(target);
+            }
+        }
+    }
+    filled_up(&words)
+}
+
+/// The words, and erased words to the page's end.
+#[tactic(auto, using(crate::proofs::DraftLaws::erased_rest))]
+fn filled_up(words: &ArrayVec<u16, 128>) -> [u16; 128]
+    ensures words { result ≡ filled words.now.items }
+{
+    let mut page = [0xFFFF; 128];
+    page[..words.len()].copy_from_slice(words);
+    page
+}

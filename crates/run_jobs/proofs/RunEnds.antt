@@ -1,0 +1,156 @@
+-- A whole run, with its last two lines, as the answer tells it.
+use Rattle.std.proofs.Common.{◌≡◌, ℕ, ◌+◌, ◌/◌, ◌≤◌, ◌++◌, append_assoc, refl, sym, ap, ap₂, ◌∙◌, subst, arith, inl}
+use Rattle.std.specs.Prelude.{None, Result, Ok, Err, OnErr, ◌^◌}
+use Rattle.std.specs.Io.KnownBytes.{Appends}
+use Rattle.byte_streams.specs.declared.failure.Failed.{Failed}
+use Rattle.byte_streams.specs.Faults.{Rose, HasCause}
+use Rattle.hex_image.specs.Image.{IsImage}
+use Rattle.mem_guard.specs.FlatMachine.{End, Spent, Wild, Illegal, SelfProgram, Asleep, Halted, Read, Io, Stack, SwapFull, Run}
+use Rattle.kernel_entry.specs.Texts.{stop_text, end_text}
+use Rattle.line_text.specs.StopLines.{end_line, how_text}
+use Rattle.line_text.proofs.StopLines.{line_of}
+use Rattle.step_laws.specs.declared.moves.End.{End as MachineEnd}
+use Rattle.step_laws.specs.declared.moves.End.TheVariants as ends
+use Rattle.program_steps.specs.Machines.{Machine}
+use Rattle.program_steps.specs.Ready.{IsKept, IsSound}
+use Rattle.program_steps.specs.Stepping.{lines_text}
+use Rattle.tk_run.specs.Running.{HasAdvanced, flat_end}
+use Rattle.tk_run.specs.Booted.{booted}
+use Rattle.tk_run.specs.WholeRuns.{IsExactRun, IsFailedRun, HasWhole, IsKeptEnd}
+use Rattle.tk_run.proofs.WholeRun.{whole_run as whole_of}
+use Rattle.tk_words.specs.declared.request.Request.{Request}
+use Rattle.tk_words.specs.declared.status.Status.{Status}
+use Rattle.tk_words.specs.declared.status.Status.TheVariants as status
+use Rattle.run_jobs.specs.DumpRuns.{silent}
+use Rattle.run_jobs.specs.Text.{count_text}
+use Rattle.tk_words.specs.Stream.{Stream}
+use Rattle.run_jobs.specs.Runs.{Says, Runs, KeepsEnd, original_of, whole_run, checkpoints_of, run_text, status_of_end, status_of_stop}
+use Rattle.run_jobs.proofs.Putting.{said_on}
+
+-- the last two lines, by the original's counts
+last_lines : (end : MachineEnd) (m : Machine) (steps crossings quantum : ℕ) → m.steps ≡ steps → m.crossings ≡ crossings → m.kernel.quantum ≡ quantum
+    → end_line end m.steps (m.crossings / m.kernel.quantum) ++ count_text m.natural m.entries m.pages ≡ end_line end steps (crossings / quantum) ++ count_text m.natural m.entries m.pages
+last_lines end m steps crossings quantum s c q =
+    ap (λ n. end_line end n (m.crossings / m.kernel.quantum) ++ count_text m.natural m.entries m.pages) s
+    ∙ ap₂ (λ x y. end_line end steps (x / y) ++ count_text m.natural m.entries m.pages) c q
+
+-- what is said, as the text of the run
+pub said_run : (request : Request) (end : MachineEnd) (r : Run) (own told : Status) (before mid now : Stream) (m : Machine) → m.steps ≡ r.state.now.steps → m.crossings ≡ r.state.now.crossings → m.kernel.quantum ≡ request.options.quantum
+    → Appends before.told mid.told (lines_text r.lines) → before.faults ≤ mid.faults
+    → Says own (end_line end m.steps (m.crossings / m.kernel.quantum) ++ count_text m.natural m.entries m.pages) mid now told
+    → Says own (run_text r (end_line end r.state.now.steps (checkpoints_of request r)) m) before now told
+said_run request end r own told before mid now m steps crossings quantum put later said =
+    let whole = said_on own told before mid now (lines_text r.lines) _ put later said in
+    let text : lines_text r.lines ++ (end_line end m.steps (m.crossings / m.kernel.quantum) ++ count_text m.natural m.entries m.pages) ≡ run_text r (end_line end r.state.now.steps (checkpoints_of request r)) m =
+    ap (λ last. lines_text r.lines ++ last) (last_lines end m r.state.now.steps r.state.now.crossings request.options.quantum steps crossings quantum)
+    ∙ sym (append_assoc (lines_text r.lines) (end_line end r.state.now.steps (checkpoints_of request r)) (count_text m.natural m.entries m.pages)) in
+    subst (λ t. Says own t before now told) text whole
+
+pub keeps_end : (e : End) (end : MachineEnd) (m : Machine) → flat_end end ≡ e → IsKeptEnd e end m.end → KeepsEnd e m
+keeps_end Spent end m same kept = kept
+keeps_end (Wild pc) end m same kept = (end, kept, same)
+keeps_end (Illegal pc) end m same kept = (end, kept, same)
+keeps_end (SelfProgram pc) end m same kept = (end, kept, same)
+keeps_end (Asleep pc) end m same kept = (end, kept, same)
+keeps_end (Halted pc) end m same kept = (end, kept, same)
+keeps_end (Read pc a) end m same kept = (end, kept, same)
+keeps_end (Io pc a) end m same kept = (end, kept, same)
+keeps_end (Stack pc a) end m same kept = (end, kept, same)
+keeps_end (SwapFull pc a) end m same kept = (end, kept, same)
+
+-- a machine that runs alone has no more pages than one for each step, and one, beside those that it began with
+pub few_pages : (m : Machine) (began : ℕ) → IsSound m → m.began ≡ began → m.others ≡ 0 → m.pages ≤ began + m.steps + 1
+few_pages m began sound first alone = let most = sound.bounded.pages in omega (arith, most, first, alone)
+
+few_of_run : (m : Machine) → IsSound m → m.began ≡ 0 → m.others ≡ 0 → m.pages ≤ m.steps + 1
+few_of_run m sound none alone = let most = few_pages m 0 sound none alone in omega (arith, most)
+
+-- a run to the original's end
+ended : (request : Request) (before mid now : Stream) (told : Status) (end : MachineEnd) (m : Machine) → status_of_stop end ≡ status_of_end (flat_end end) → how_text end ≡ end_text (flat_end end)
+    → IsExactRun (booted request.image request.script request.options.quantum request.options.swap) request.image request.script request.options.quantum request.options.swap request.options.steps before.told mid.told end m → before.faults ≤ mid.faults
+    → Says (status_of_stop end) (end_line end m.steps (m.crossings / m.kernel.quantum) ++ count_text m.natural m.entries m.pages) mid now told
+    → Runs request before now told m
+ended request before mid now told end m status how run later said =
+    let r = whole_run request in
+    let steps : m.steps ≡ r.state.now.steps = ap (λ s. s.now.steps) run.state in
+    let crossings : m.crossings ≡ r.state.now.crossings = ap (λ s. s.now.crossings) run.state in
+    let whole = said_run request end r (status_of_stop end) told before mid now m steps crossings run.quantum_is run.put later said in
+    let stop : end_line end r.state.now.steps (checkpoints_of request r) ≡ stop_text r.end r.state.now.steps (checkpoints_of request r) = line_of end (flat_end end) r.state.now.steps (checkpoints_of request r) how ∙ ap (λ e. stop_text e r.state.now.steps (checkpoints_of request r)) run.same in
+    let own : status_of_stop end ≡ status_of_end r.end = status ∙ ap status_of_end run.same in
+    Runs.Ended (record {
+      said = subst (λ s. Says s (run_text r (stop_text r.end r.state.now.steps (checkpoints_of request r)) m) before now told) own (subst (λ l. Says (status_of_stop end) (run_text r l m) before now told) stop whole);
+      within = run.within;
+      end = subst (λ e. KeepsEnd e m) run.same (keeps_end (flat_end end) end m refl run.kept);
+      unlisted = run.unlisted;
+      unrefused = run.unrefused;
+      follows = record { state = run.state; program = run.program; quantum = run.quantum_is; unbroken = run.unbroken; ready = run.ready; path = run.path; made = run.made; longest = run.ready.sound.bounded.moves.most; pages = few_of_run m run.ready.sound run.began run.others };
+    })
+
+-- a run that flash ended
+failed : (request : Request) (before mid now : Stream) (told : Status) (op : ℕ) (m : Machine)
+    → IsFailedRun (booted request.image request.script request.options.quantum request.options.swap) request.image request.script request.options.quantum request.options.swap request.options.steps before.told mid.told op m → before.faults ≤ mid.faults
+    → Says status.FlashFault (end_line (ends.Flash op) m.steps (m.crossings / m.kernel.quantum) ++ count_text m.natural m.entries m.pages) mid now told
+    → Runs request before now told m
+failed request before mid now told op m run later said =
+    let r = original_of request m.steps in
+    let steps : m.steps ≡ r.state.now.steps = ap (λ s. s.now.steps) run.state in
+    let crossings : m.crossings ≡ r.state.now.crossings = ap (λ s. s.now.crossings) run.state in
+    let whole = said_run request (ends.Flash op) r status.FlashFault told before mid now m steps crossings run.quantum_is run.put later said in
+    Runs.Failed (record {
+      op = op;
+      said = subst (λ n. Says status.FlashFault (run_text r (end_line (ends.Flash op) n (checkpoints_of request r)) m) before now told) (sym steps) whole;
+      fewer = run.fewer;
+      spent = run.same;
+      end = run.kept;
+      last = run.last;
+      listed = run.listed;
+      first = run.first;
+      refused = run.refused;
+      follows = record { state = run.state; program = run.program; quantum = run.quantum_is; unbroken = run.unbroken; ready = run.ready; path = run.path; made = run.made; longest = run.ready.sound.bounded.moves.most; pages = few_of_run m run.ready.sound run.began run.others };
+    })
+
+-- a run whose last two lines were said, or not
+ran_to : (request : Request) (before mid now : Stream) (told : Status) (end : MachineEnd) (m : Machine)
+    → HasWhole request.image request.script request.options.quantum request.options.swap request.options.steps before.told mid.told (Ok end) m → before.faults ≤ mid.faults
+    → Says (status_of_stop end) (end_line end m.steps (m.crossings / m.kernel.quantum) ++ count_text m.natural m.entries m.pages) mid now told
+    → Runs request before now told m
+ran_to request before mid now told ends.Spent m run later said = ended request before mid now told ends.Spent m refl refl run later said
+ran_to request before mid now told (ends.Stopped stop) m run later said = ended request before mid now told (ends.Stopped stop) m refl refl run later said
+ran_to request before mid now told (ends.Wild t) m run later said = ended request before mid now told (ends.Wild t) m refl refl run later said
+ran_to request before mid now told (ends.Flash op) m run later said = failed request before mid now told op m run later said
+
+-- a run whose line could not be put
+ran_until_cut : (request : Request) (before now : Stream) (failed : Failed) (m : Machine)
+    → HasWhole request.image request.script request.options.quantum request.options.swap request.options.steps before.told now.told (Err failed) m → Rose before.faults now.faults
+    → Runs request before now status.WriteFault m
+ran_until_cut request before now failed m run rose =
+    Runs.Cut (record { status_is = refl; rose = rose; put = run.put; broken = run.broken; within = run.within; sound = run.sound; pages = few_of_run m run.sound run.began run.others; path = run.path; made = run.made })
+
+-- the last two lines were said, or the sink failed
+pub answered : (request : Request) (before mid now : Stream) (told : Status) (result : Result MachineEnd Failed) (end : MachineEnd) (m : Machine) → IsImage request.image → IsKept (booted request.image request.script request.options.quantum request.options.swap) → request.options.steps ≤ 10 ^ 9
+    → HasAdvanced (booted request.image request.script request.options.quantum request.options.swap) m request.options.steps before.told mid.told result → result ≡ Ok end → HasCause before.faults mid.faults result
+    → Says (status_of_stop end) (end_line end m.steps (m.crossings / m.kernel.quantum) ++ count_text m.natural m.entries m.pages) mid now told
+    → Runs request before now told m
+answered request before mid now told result end m image kept bound advanced is cause said =
+    let run = whole_of request.image request.script request.options.quantum request.options.swap request.options.steps before.told mid.told result m image kept (omega arith) advanced in
+    ran_to request before mid now told end m (subst (λ r. HasWhole request.image request.script request.options.quantum request.options.swap request.options.steps before.told mid.told r m) is run) cause.later said
+
+pub err_rose : (result : Result MachineEnd Failed) (failed : Failed) (before now : ℕ) → result ≡ Err failed → OnErr result (Rose before now) → Rose before now
+err_rose (Ok end) failed before now is rose = absurd (cc)
+err_rose (Err e) failed before now is rose = rose
+
+pub answered_cut : (request : Request) (before now : Stream) (result : Result MachineEnd Failed) (failed : Failed) (m : Machine) → IsImage request.image → IsKept (booted request.image request.script request.options.quantum request.options.swap) → request.options.steps ≤ 10 ^ 9
+    → HasAdvanced (booted request.image request.script request.options.quantum request.options.swap) m request.options.steps before.told now.told result → result ≡ Err failed → HasCause before.faults now.faults result
+    → Runs request before now status.WriteFault m
+answered_cut request before now result failed m image kept bound advanced is cause =
+    let run = whole_of request.image request.script request.options.quantum request.options.swap request.options.steps before.told now.told result m image kept (omega arith) advanced in
+    ran_until_cut request before now failed m (subst (λ r. HasWhole request.image request.script request.options.quantum request.options.swap request.options.steps before.told now.told r m) is run) (err_rose result failed before.faults now.faults is cause.failed)
+
+-- a run into a sink that takes everything and tells nothing
+pub ran_silently : (request : Request) (result : Result MachineEnd Failed) (m : Machine) → IsImage request.image → IsKept (booted request.image request.script request.options.quantum request.options.swap) → request.options.steps ≤ 10 ^ 9
+    → HasAdvanced (booted request.image request.script request.options.quantum request.options.swap) m request.options.steps None None result → HasCause 0 0 result
+    → (ended : Status) × Runs request silent silent ended m
+ran_silently request (Ok end) m image kept bound advanced cause =
+    (status_of_stop end, answered request silent silent silent (status_of_stop end) (Ok end) end m image kept bound advanced refl cause (inl (refl, tt)))
+ran_silently request (Err failed) m image kept bound advanced cause =
+    (status.WriteFault, answered_cut request silent silent (Err failed) failed m image kept bound advanced refl cause)

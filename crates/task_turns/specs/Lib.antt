@@ -1,0 +1,4 @@
+pub mod Turns
+pub mod Quarters
+pub mod Reset
+pub mod Checkpoints
