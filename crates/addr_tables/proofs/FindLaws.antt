@@ -127,3 +127,12 @@ finds_entry layout words old new t result finds tables mapped v = (
 pub if_ok : {E : Type 0} (P : ℕ → Type 0) (found : Result ℕ E) → IfOk found P → IfSome (result_ok found) P
 if_ok P (Ok place) holds = holds
 if_ok P (Err other) holds = tt
+
+-- where the tables are right, a search answers the place of t's entry, whether they have it or not
+known_by : (layout : Layout) (words old : List ℕ) (t place : ℕ) (found : Option ℕ) → hit old t ≡ found → IsTables layout old words → IsMapped layout words → IsEntry layout words t place → Finds layout words old (noted old t place) t (Some place)
+known_by layout words old t place None is tables mapped entry = Finds.Entered place is entry refl refl
+known_by layout words old t place (Some v) is tables mapped entry =
+    Finds.Hit place (is ∙ ap Some (one_place layout words t v place mapped (hit_entry layout old words t v tables is) entry)) refl refl
+
+pub finds_known : (layout : Layout) (words old : List ℕ) (t place : ℕ) → IsTables layout old words → IsMapped layout words → IsEntry layout words t place → Finds layout words old (noted old t place) t (Some place)
+finds_known layout words old t place tables mapped entry = known_by layout words old t place (hit old t) refl tables mapped entry

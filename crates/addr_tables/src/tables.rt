@@ -13,7 +13,7 @@ ghost use Rattle.addr_tables.specs.Hits.{hit as hit_of, is_of as is_of_test};
 ghost use Rattle.addr_tables.specs.Changes.{is_pair as is_pair_test, is_in as is_in_test, noted_in_set, noted, noted_if, without_entry, forgotten, Finds, Notes, Forgets, HasNoneIn, StaysOutside};
 
 use flash_model::{Flash, Layout, PAGE_WORDS};
-use page_index::{Places, Survey};
+use page_index::{Places, Survey, entry};
 use sram_layout::Sram;
 
 /// How many entries the look-aside table has.
@@ -34,51 +34,26 @@ pub fn find(sram: &mut Sram, flash: &Flash, layout: &Layout, t: u16) -> Option<u
         → (v : ℕ) → (result ≡ Just v) ↔ IsEntry layout.now flash.now.words t v }
     ensures size { (length sram.old ≡ byte_count) × (length sram.new ≡ byte_count) }
 {
-    find_known(sram, flash, layout, &mut Places::new(), t)
-}
-
-/// The same with hints at the places of the pool's entries.
-pub fn find_known(
-    sram: &mut Sram,
-    flash: &Flash,
-    layout: &Layout,
-    places: &mut Places,
-    t: u16,
-) -> Option<u16>
-    requires right { IsRight layout.now }
-    requires mapped { hit_of sram.old t ≡ Nothing → IsMapped layout.now flash.now.words }
-    ensures finds { Finds layout.now flash.now.words sram.old sram.new t result }
-    ensures tables { IsTables layout.now sram.old flash.now.words → IsTables layout.now sram.new flash.now.words }
-    ensures entry { IsTables layout.now sram.old flash.now.words → IsMapped layout.now flash.now.words
-        → (v : ℕ) → (result ≡ Just v) ↔ IsEntry layout.now flash.now.words t v }
-    ensures size { (length sram.old ≡ byte_count) × (length sram.new ≡ byte_count) }
-{
-    let place = known_place(sram, flash, layout, places, t)?;
+    let place = known_place(sram, flash, layout, t)?;
     note(sram, t, place);
     Some(place)
 }
 
 /// The place, from the tables or from the pool.
-fn known_place(
-    sram: &Sram,
-    flash: &Flash,
-    layout: &Layout,
-    places: &mut Places,
-    t: u16,
-) -> Option<u16>
+fn known_place(sram: &Sram, flash: &Flash, layout: &Layout, t: u16) -> Option<u16>
     requires right { IsRight layout.now }
     requires mapped { hit_of sram.now t ≡ Nothing → IsMapped layout.now flash.now.words }
     ensures found { Finds layout.now flash.now.words sram.now (noted_if sram.now t result) t result }
     ensures size { length sram.now ≡ byte_count }
 {
     match hit(sram, t) {
-        None => places.known(flash, layout, t),
+        None => entry(flash, layout, t),
         Some(place) => Some(place),
     }
 }
 
-/// The same for one who makes a page of `t` where it has none: where neither the tables nor the pool have a place, an
-/// `Err` tells what that page wants to know of the pool.
+/// The same with hints at the places of the pool's entries, for one who makes a page of `t` where it has none: where
+/// neither the tables nor the pool have a place, an `Err` tells what that page wants to know of the pool.
 pub fn find_by(
     sram: &mut Sram,
     flash: &Flash,

@@ -3,8 +3,8 @@
 //! [`arrive`] gives the place where the rewritten code of the address begins. Where no page has it, the page is
 //! made: in the lowest free page of the pool, or else in the one that RING names, which is recycled.
 //! [`arrive_by`] does the same with hints at the places of entries.
-//! [`arrive_from`] is the whole arrival, through a stub that is resolved then; [`arrive_known`] is the usual one, which
-//! leaves flash as it is.
+//! [`arrive_from`] is the whole arrival, through a stub that is resolved then; [`arrive_at`] is the usual one, through
+//! none, at an address whose place is known, which leaves flash as it is.
 //!
 //! ```rust
 //! let arrival = arrive_from(&mut sram, &mut flash, &layout, t, Some(stub));
@@ -33,5 +33,5 @@ mod unresolving;
 pub use arrival::{ArriveStop, Moved, Refused, arrive, arrive_by};
 pub use resolving::resolve;
 pub use rewriting::{ResolveStop, Torn};
-pub use through::{Arrival, arrive_from, arrive_known};
+pub use through::{Arrival, arrive_at, arrive_from};
 pub use unresolving::unresolve;

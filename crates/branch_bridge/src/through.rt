@@ -12,7 +12,7 @@ ghost use Rattle.branch_bridge.specs.Operating.{stop_of};
 use crate::arrival::{ArriveStop, Moved, Refused, arrive_by};
 use crate::resolving::resolve;
 use crate::rewriting::ResolveStop;
-use addr_tables::find_known;
+use addr_tables::note;
 use flash_model::{Flash, Layout, PAGE_WORDS};
 use page_index::Places;
 use sram_layout::Sram;
@@ -59,7 +59,9 @@ pub fn arrive_from(
             };
         }
     };
-    note_made(places, flash, moved);
+    if moved.made || stub.is_none() {
+        places.note_page(flash, moved.place / PAGE_WORDS);
+    }
     let refused = match to_resolve(moved.recycled, stub) {
         Some(stub) => refusal(resolve(flash, layout, stub, moved.place)),
         None => None,
@@ -71,38 +73,18 @@ pub fn arrive_from(
     }
 }
 
-/// The same arrival where it leaves flash as it is: through no stub, at an address of the image that has its place.
-/// Tells the place, and notes it in the kernel's tables. Elsewhere nothing is done, and the arrival is still owed. Most
-/// arrivals are of this kind, and here they want no room for the words of a page.
-pub fn arrive_known(
-    sram: &mut Sram,
-    flash: &Flash,
-    layout: &Layout,
-    places: &mut Places,
-    t: u16,
-    stub: Option<u16>,
-) -> Option<u16>
+/// An arrival through no stub at an address whose place is known. Flash stays; the place is noted in the kernel's tables.
+/// Most arrivals are of this kind, and here they want no room for the words of a page.
+pub fn arrive_at(sram: &mut Sram, flash: &Flash, layout: &Layout, t: u16, place: u16)
     requires right { IsRight layout.now }
     requires code { IsFaithful layout.now (image_of layout.now flash.now.words) flash.now.words }
     requires tables { IsTables layout.now sram.old flash.now.words }
     requires ring { ring_of sram.old < layout.now.pool_pages }
-    ensures known { (place : ℕ) → (result ≡ Just place) ↔ ((stub ≡ Nothing) × (t < layout.now.image_words) × IsEntry layout.now flash.now.words t place) }
-    ensures none { result ≡ Nothing → sram.new ≡ sram.old }
-    ensures arrives { IfSome result (λ place. ArrivesFrom layout.now (record { flash = flash.now; sram = sram.old }) (record { flash = flash.now; sram = sram.new }) t stub (went_on place)) }
-    ensures kept { IfSome result (λ place. KeptThrough layout.now (record { flash = flash.now; sram = sram.old }) (record { flash = flash.now; sram = sram.new }) t (went_on place)) }
+    requires entry { IsEntry layout.now flash.now.words t place }
+    ensures arrives { ArrivesFrom layout.now (record { flash = flash.now; sram = sram.old }) (record { flash = flash.now; sram = sram.new }) t Nothing (went_on place) }
+    ensures kept { KeptThrough layout.now (record { flash = flash.now; sram = sram.old }) (record { flash = flash.now; sram = sram.new }) t (went_on place) }
 {
-    match stub {
-        Some(_) => None,
-        None if t >= layout.image_words => None,
-        None => find_known(sram, flash, layout, places, t),
-    }
-}
-
-/// Notes hints at the entries of the page that was made, if one was.
-fn note_made(places: &mut Places, flash: &Flash, moved: Moved) {
-    if moved.made {
-        places.note_page(flash, moved.place / PAGE_WORDS);
-    }
+    note(sram, t, place);
 }
 
 /// The stub that is to be resolved, if any.

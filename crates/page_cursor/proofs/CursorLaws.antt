@@ -1,6 +1,6 @@
 -- Between one place of a page and the next no entry begins.
 use Rattle.std.proofs.Common.{◌≡◌, ℕ, ◌+◌, ◌-◌, ◌*◌, ◌/◌, ◌%◌, ◌<◌, ◌≤◌, List, length, set, get_or-set_other, arith, refl, subst, sym, inl, inr}
-use Rattle.std.specs.Prelude.{◌≢◌, Option, Some, None, IfSome, replicate, slice_index_or}
+use Rattle.std.specs.Prelude.{Option, Some, None, IfSome, replicate, slice_index_or}
 use Rattle.std.proofs.lemmas.List.{get_or-replicate}
 use Rattle.std.proofs.lemmas.Grind.{common_steps, get_or-set_at}
 use Rattle.std.proofs.lemmas.Bool.{cases_lt, cases_eq, cases_order}
@@ -10,7 +10,7 @@ use Rattle.page_index.specs.Maps.{IsPool, IsMap, entry_count, address_of, place_
 use Rattle.page_cursor.specs.declared.stretch.Stretch.{Stretch}
 use Rattle.page_cursor.specs.declared.cursor.Reached.{Reached}
 use Rattle.page_index.proofs.MapLaws.{lists_entry, map_of_entry}
-use Rattle.page_index.specs.Entries.{Lists, IsEntry, IsMapped}
+use Rattle.page_index.specs.Entries.{Lists, IsEntry, IsListed, IsMapped}
 use Rattle.page_cursor.specs.Cursors.{IsStretch, IsReached, AreReached}
 use Rattle.page_index.proofs.EntryLaws.{page_of_place}
 
@@ -77,44 +77,45 @@ pub next_listed : (layout : Layout) (words : List ℕ) (page place behind next :
     → ((i : ℕ) → i < behind → place_of words page i ≤ place) → next ≡ place_of words page behind → IsStretch layout words (record { place = place; next = next; listed = page_words * page + (2 + behind) })
 next_listed layout words page place behind next mapped pool map inside below earlier is = record {
   quiet = λ t v entry after. omega (arith, is, quiet_to_next layout words page place behind t v mapped map inside below earlier entry after);
-  listed = λ some. record {
-    address = address_of words page behind;
-    entry = record { page = page; index = behind; pool = pool; lists = let P : ℕ → Type 0 = λ v. Lists words page behind (address_of words page behind) v in subst P (sym is) (lists_entry words page behind map below) };
-    word = refl;
-  };
+  listed = λ some. (
+    address_of words page behind,
+    record {
+      entry = record { page = page; index = behind; pool = pool; lists = let P : ℕ → Type 0 = λ v. Lists words page behind (address_of words page behind) v in subst P (sym is) (lists_entry words page behind map below) };
+      word = refl;
+    },
+  );
 }
 
--- what the map says of the entry that a stretch has next: its page and its number are read off the map's word
-pub record Told (layout : Layout) (words : List ℕ) (c : Stretch) : Type 0 where
-  pub map : IsMap words (c.listed / page_words)
-  pub pool : IsPool layout (c.listed / page_words)
-  pub listed : c.listed % page_words - 2 < entry_count words (c.listed / page_words)
-  pub within : 2 ≤ c.listed % page_words
-  pub place : c.next ≡ place_of words (c.listed / page_words) (c.listed % page_words - 2)
-  pub inside : c.next / page_words ≡ c.listed / page_words
-  pub earlier : (i : ℕ) → i < c.listed % page_words - 2 + 1 → place_of words (c.listed / page_words) i ≤ c.next
-  pub entry : IsEntry layout words (address_of words (c.listed / page_words) (c.listed % page_words - 2)) c.next
+-- what a map's word that lists an entry says: its page and its number are read off the word
+pub record Told (layout : Layout) (words : List ℕ) (listed v : ℕ) : Type 0 where
+  pub map : IsMap words (listed / page_words)
+  pub pool : IsPool layout (listed / page_words)
+  pub within : 2 ≤ listed % page_words
+  pub below : listed % page_words - 2 < entry_count words (listed / page_words)
+  pub place : v ≡ place_of words (listed / page_words) (listed % page_words - 2)
+  pub inside : v / page_words ≡ listed / page_words
+  pub earlier : (i : ℕ) → i < listed % page_words - 2 + 1 → place_of words (listed / page_words) i ≤ v
+  pub entry : IsEntry layout words (address_of words (listed / page_words) (listed % page_words - 2)) v
 
-pub told : (layout : Layout) (words : List ℕ) (c : Stretch) → IsMapped layout words → IsStretch layout words c → c.listed ≢ 0 → Told layout words c
-told layout words c mapped cursor some =
-    let l = cursor.listed some in
-    let page = c.listed / page_words in
-    let index = c.listed % page_words - 2 in
+pub told : (layout : Layout) (words : List ℕ) (listed t place : ℕ) → IsMapped layout words → IsListed layout words listed t place → Told layout words listed place
+told layout words listed t place mapped l =
+    let page = listed / page_words in
+    let index = listed % page_words - 2 in
     let near = l.entry.lists.near in
     let same_page : l.entry.page ≡ page = omega (arith, l.word, near) in
     let same_index : l.entry.index ≡ index = omega (arith, l.word, near) in
-    let listed : Lists words page index l.address c.next = let P : ℕ → ℕ → Type 0 = λ p i. Lists words p i l.address c.next in subst (λ (p : ℕ). P p index) same_page (subst (λ (i : ℕ). P l.entry.page i) same_index l.entry.lists) in
+    let lists : Lists words page index t place = let P : ℕ → ℕ → Type 0 = λ p i. Lists words p i t place in subst (λ (p : ℕ). P p index) same_page (subst (λ (i : ℕ). P l.entry.page i) same_index l.entry.lists) in
     let pool : IsPool layout page = let P : ℕ → Type 0 = λ p. IsPool layout p in subst P same_page l.entry.pool in
-    let map : IsMap words page = map_of_entry words page index l.address c.next (mapped.pages page pool) listed in
+    let map : IsMap words page = map_of_entry words page index t place (mapped.pages page pool) lists in
     record {
       map = map;
       pool = pool;
-      listed = listed.listed;
       within = omega (arith, l.word, near);
-      place = listed.place;
-      inside = omega (arith, listed.place, map.inside index listed.listed);
-      earlier = λ i low. omega (arith, listed.place, up_to words page index i map listed.listed low);
-      entry = record { page = page; index = index; pool = pool; lists = let P : ℕ → Type 0 = λ t. Lists words page index t c.next in subst P listed.address listed };
+      below = lists.listed;
+      place = lists.place;
+      inside = omega (arith, lists.place, map.inside index lists.listed);
+      earlier = λ i low. omega (arith, lists.place, up_to words page index i map lists.listed low);
+      entry = record { page = page; index = index; pool = pool; lists = let P : ℕ → Type 0 = λ t. Lists words page index t place in subst P lists.address lists };
     }
 
 -- an entry at the place is listed by the place's page

@@ -1,23 +1,16 @@
 -- What a cursor knows of the pool: where no entry begins, which entry comes next, and which were reached
 -- before (docs/LOADER.md).
-use Rattle.std.specs.Prelude.{◌≡◌, ◌≢◌, ℕ, ◌+◌, ◌*◌, ◌%◌, ◌<◌, ◌≤◌, List, slice_index_or}
-use Rattle.flash_words.specs.Pages.{page_words}
+use Rattle.std.specs.Prelude.{◌≡◌, ◌≢◌, ℕ, ◌%◌, ◌<◌, ◌≤◌, List, slice_index_or}
 use Rattle.flash_words.specs.declared.layout.Layout.{Layout}
-use Rattle.page_index.specs.Entries.{IsEntry}
+use Rattle.page_index.specs.Entries.{IsEntry, IsListed}
 use Rattle.page_cursor.specs.declared.stretch.Stretch.{Stretch}
 use Rattle.page_cursor.specs.declared.cursor.Reached.{Reached}
 use Rattle.page_cursor.specs.declared.cursor.Cursor.{Cursor}
 
--- an entry begins at this place, and this word of its page's map lists it
-pub record IsListed (layout : Layout) (words : List ℕ) (listed place : ℕ) : Type 0 where
-  pub address : ℕ
-  pub entry : IsEntry layout words address place
-  pub word : listed ≡ page_words * entry.page + (2 + entry.index)
-
 -- no entry begins between the stretch's place and the next one
 pub record IsStretch (layout : Layout) (words : List ℕ) (s : Stretch) : Type 0 where
   pub quiet : (t v : ℕ) → IsEntry layout words t v → s.place < v → s.next ≤ v
-  pub listed : s.listed ≢ 0 → IsListed layout words s.listed s.next
+  pub listed : s.listed ≢ 0 → (t : ℕ) × IsListed layout words s.listed t s.next
 
 -- What a slot keeps: where its place is of this slot, the address of the entry there and the stretch that begins there
 -- are right. With a place of another slot it keeps none, whatever the rest says.

@@ -6,7 +6,7 @@ ghost use Rattle.page_index.specs.Entries.{IsEntry, IsMapped};
 ghost use Rattle.page_cursor.specs.Cursors.{IsStretch, IsCursor, IsCursorAnywhere};
 
 use crate::stretch::Stretch;
-use flash_model::{Flash, Layout};
+use flash_model::{Flash, KERNEL_FIRST, Layout};
 use page_index::Places;
 
 /// How many entries are kept.
@@ -87,6 +87,10 @@ impl Cursor {
             self.now = self.reached[at];
             return Some(self.now.address);
         }
+        // No entry begins in the kernel's words.
+        if place >= KERNEL_FIRST {
+            return None;
+        }
         self.find(flash, layout, place)
     }
 
@@ -109,6 +113,25 @@ impl Cursor {
         }
         self.now.stretch = stretch;
         found
+    }
+
+    /// The place, a word address of flash, where the code of the original address `t` begins, if the hint at `t` leads
+    /// there. The last search was there then.
+    #[inline(always)]
+    pub fn go_to(&mut self, flash: &Flash, layout: &Layout, t: u16) -> Option<u16>
+        requires right { IsRight layout.now }
+        requires mapped { IsMapped layout.now flash.now.words }
+        requires cursor { IsCursor layout.now flash.now.words self.old }
+        ensures found { IfSome result (λ v. IsEntry layout.now flash.now.words t v) }
+        ensures cursor { IsCursor layout.now flash.now.words self.new }
+    {
+        match self.places.hinted(flash, layout, t) {
+            None => None,
+            Some(listed) => {
+                self.now.stretch = Stretch::at(flash, layout, listed.word, listed.place);
+                Some(listed.place)
+            }
+        }
     }
 }
 

@@ -3,7 +3,7 @@
 ghost use Rattle.std.specs.Prelude.{◌≡◌, ◌≢◌, ℕ, ◌/◌, ◌<◌, ◌≤◌, IfSome};
 ghost use Rattle.flash_words.specs.Layouts.{IsRight};
 ghost use Rattle.page_index.specs.Maps.{IsPool, IsMap, entry_count, place_of};
-ghost use Rattle.page_index.specs.Entries.{IsEntry, IsMapped};
+ghost use Rattle.page_index.specs.Entries.{IsEntry, IsListed, IsMapped};
 ghost use Rattle.page_cursor.specs.Cursors.{IsStretch, IsStretchAnywhere};
 
 use flash_model::{Flash, Layout, PAGE_WORDS};
@@ -73,10 +73,27 @@ impl Stretch {
         ensures stretch { IsStretch layout.now flash.now.words self.new }
         ensures place { self.new.place ≡ self.old.next }
     {
-        let page = self.listed / PAGE_WORDS;
-        let index = self.listed % PAGE_WORDS - FIRST_ENTRY;
-        *self = before(flash, layout, page, self.next, index + 1);
-        address_at(flash, page, index)
+        let listed = self.listed;
+        *self = Stretch::at(flash, layout, listed, self.next);
+        address_at(
+            flash,
+            listed / PAGE_WORDS,
+            listed % PAGE_WORDS - FIRST_ENTRY,
+        )
+    }
+
+    /// The stretch that begins at the place of the entry that this word of a map lists.
+    #[inline(always)]
+    pub(crate) fn at(flash: &Flash, layout: &Layout, listed: u16, place: u16) -> Stretch
+        requires right { IsRight layout.now }
+        requires mapped { IsMapped layout.now flash.now.words }
+        requires listed { (t : ℕ) × IsListed layout.now flash.now.words listed t place }
+        ensures stretch { IsStretch layout.now flash.now.words result }
+        ensures place { result.place ≡ place }
+    {
+        let page = listed / PAGE_WORDS;
+        let index = listed % PAGE_WORDS - FIRST_ENTRY;
+        before(flash, layout, page, place, index + 1)
     }
 }
 

@@ -19,6 +19,11 @@ pub record IsEntry (layout : Layout) (words : List ℕ) (t v : ℕ) : Type 0 whe
   pub pool : IsPool layout page
   pub lists : Lists words page index t v
 
+-- the map's word at this word address of flash lists the entry of t at the place v
+pub record IsListed (layout : Layout) (words : List ℕ) (listed t v : ℕ) : Type 0 where
+  pub entry : IsEntry layout words t v
+  pub word : listed ≡ page_words * entry.page + (2 + entry.index)
+
 -- each page of the pool is free or has a map, and no address has two entries
 pub record IsMapped (layout : Layout) (words : List ℕ) : Type 0 where
   pub pages : (page : ℕ) → IsPool layout page → IsFree words page ⊎ IsMap words page

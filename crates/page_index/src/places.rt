@@ -3,7 +3,7 @@
 ghost use Rattle.std.specs.Prelude.{◌≡◌, ℕ, ◌/◌, ◌<◌, IfSome, IfOk, IfErr};
 ghost use Rattle.flash_words.specs.Layouts.{IsRight};
 ghost use Rattle.flash_words.specs.Pages.{page_count};
-ghost use Rattle.page_index.specs.Entries.{IsEntry, IsMapped};
+ghost use Rattle.page_index.specs.Entries.{IsEntry, IsListed, IsMapped};
 ghost use Rattle.page_index.specs.Surveys.{IsSurvey};
 
 use crate::page::{FIRST_ENTRY, place_if_listed};
@@ -13,6 +13,15 @@ use flash_model::{Flash, Layout, PAGE_WORDS};
 
 /// How many addresses an image has at most.
 const ADDRESSES: usize = 24576;
+
+/// An entry of the pool, as a hint leads to it.
+#[derive(Clone, Copy)]
+pub struct Listed {
+    /// The word address in flash of the map's word that lists it.
+    pub word: u16,
+    /// Its place, a word address of flash.
+    pub place: u16,
+}
 
 /// For each original address a hint, where an entry of it was seen last. A hint is checked against flash where it is
 /// read. So it may come from any flash, and nothing has to be forgotten where flash changes.
@@ -42,30 +51,17 @@ impl Places {
         ensures survey { IfErr result (IsSurvey layout.now flash.now.words (t / 128)) }
     {
         match self.hinted(flash, layout, t) {
-            Some(place) => Ok(place),
+            Some(listed) => Ok(listed.place),
             None => self.search(flash, layout, t),
         }
     }
 
-    /// The place alone. Not inlined, since the room that a survey wants is cleared where it begins.
-    #[inline(never)]
-    pub fn known(&mut self, flash: &Flash, layout: &Layout, t: u16) -> Option<u16>
+    /// The entry that the hint leads to, where the map's word that it names lists the address.
+    #[inline(always)]
+    pub fn hinted(&self, flash: &Flash, layout: &Layout, t: u16) -> Option<Listed>
         requires right { IsRight layout.now }
         requires mapped { IsMapped layout.now flash.now.words }
-        ensures found { IfSome result (λ v. IsEntry layout.now flash.now.words t v) }
-        ensures only { (v : ℕ) → IsEntry layout.now flash.now.words t v → result ≡ Some v }
-    {
-        match self.find(flash, layout, t) {
-            Ok(place) => Some(place),
-            Err(_) => None,
-        }
-    }
-
-    /// The place that the hint leads to, where the map's word that it names lists the address.
-    fn hinted(&self, flash: &Flash, layout: &Layout, t: u16) -> Option<u16>
-        requires right { IsRight layout.now }
-        requires mapped { IsMapped layout.now flash.now.words }
-        ensures found { IfSome result (λ v. IsEntry layout.now flash.now.words t v) }
+        ensures found { IfSome result (λ l. IsListed layout.now flash.now.words l.word t l.place) }
     {
         if usize::from(t) >= ADDRESSES {
             return None;
@@ -75,7 +71,13 @@ impl Places {
         if listed % PAGE_WORDS < FIRST_ENTRY || !is_in_pool(layout, page) {
             return None;
         }
-        place_if_listed(flash, page, listed % PAGE_WORDS - FIRST_ENTRY, t)
+        match place_if_listed(flash, page, listed % PAGE_WORDS - FIRST_ENTRY, t) {
+            Some(place) => Some(Listed {
+                word: listed,
+                place,
+            }),
+            None => None,
+        }
     }
 
     /// The same by a search of all pages. The entries of a page that has one of `t` get their hints.

@@ -32,6 +32,7 @@ use Rattle.step_laws.specs.StepLaws.{Reaches}
 use Rattle.program_steps.specs.Machines.{Machine, awaited, state_of, numbers_of, flat_of}
 use Rattle.program_steps.specs.Ready.{count_in, IsGoing, IsQuiet, IsEnded, AreArrivals, most_arrivals, IsExact}
 use Rattle.program_steps.specs.Stepping.{AreMadeAt, Goes, IsFault, Entering, HasEntered, HasBound}
+use Rattle.kernel_entry.specs.Interrupts.{is_wanted}
 use Rattle.program_steps.specs.Interrupts.{IsUntaken}
 use Rattle.program_steps.specs.Loop.{HasArrived}
 use Rattle.program_steps.proofs.Arriving.{Answered}
@@ -180,6 +181,10 @@ and_inside d false c is inside = absurd (cc)
 awaited_due : (o : Option Owed) (d : Bool) (w : Awaited) → awaited o d ≡ Some w → w.due ≡ d
 awaited_due None d w is = absurd (cc)
 awaited_due (Some owed) d w is = sym (ap (λ (v : Awaited). v.due) (some_same _ _ is))
+
+-- where none is due, none is taken instead of an arrival
+pub undue_none : (m : Machine) → m.due ≡ false → IsUntaken m
+undue_none m undue = λ w owes. ap (λ d. d && (is_own m.kernel.part w.target && is_wanted m.kernel)) (awaited_due m.owed m.due w owes ∙ undue)
 
 pub untaken_by : (m : Machine) (w : Awaited) → (state_of m).owed ≡ Some w → IsGoing m → is_taken_at (state_of m) w ≡ false → is_own m.kernel.part m.at ≡ true → is_taken (flat_of m) ≡ false
 untaken_by m w owes ready untaken inside =

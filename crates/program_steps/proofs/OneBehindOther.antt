@@ -1,11 +1,12 @@
 -- Several steps, one behind the other.
-use Rattle.std.proofs.Common.{◌≡◌, ℕ, zero, suc, ◌+◌, ◌≤◌, sym, ap, ◌∙◌, arith, subst}
+use Rattle.std.proofs.Common.{◌≡◌, ℕ, suc, ◌+◌, ◌≤◌, refl, sym, ap, ◌∙◌, arith, subst}
 use Rattle.std.specs.Prelude.{◌≢◌, Option, Some, None}
 use Rattle.mote_devices.specs.declared.line.Line.{Line}
+use Rattle.step_laws.specs.declared.moves.End.{End}
 use Rattle.program_steps.specs.Machines.{Machine}
-use Rattle.program_steps.specs.Ready.{IsGoing}
-use Rattle.program_steps.specs.Stepping.{HasStepped, StepWay}
-use Rattle.program_steps.specs.Several.{Silently, HasDone}
+use Rattle.program_steps.specs.Ready.{IsGoing, IsQuiet}
+use Rattle.program_steps.specs.Stepping.{HasStepped, StepWay, HasEntered, Entering}
+use Rattle.program_steps.specs.Several.{HasFollowed, Silently}
 
 -- a step behind which the program goes on
 going_by : (old new : Machine) (line : Option Line) → HasStepped old new line → StepWay old new line → new.end ≡ None → IsGoing new × (new.steps ≡ old.steps + 1)
@@ -14,6 +15,13 @@ going_by old new line step (StepWay.Stopped stop over kept none steps is left) g
 
 pub going_on : (old new : Machine) (line : Option Line) → HasStepped old new line → new.end ≡ None → IsGoing new × (new.steps ≡ old.steps + 1)
 going_on old new line step going = going_by old new line step step.way going
+
+gone_by : (old new : Machine) (line : Option Line) → StepWay old new line → new.end ≡ None → IsGoing new × IsQuiet new
+gone_by old new line (StepWay.On ready quiet steps is) going = (ready, quiet)
+gone_by old new line (StepWay.Stopped stop over kept none steps is left) going = absurd (let e : Some _ ≡ None = sym kept ∙ going in cc)
+
+pub gone_on : (old new : Machine) (line : Option Line) → HasStepped old new line → new.end ≡ None → IsGoing new × IsQuiet new
+gone_on old new line step going = gone_by old new line step.way going
 
 -- a step that stops the program isn't counted by it
 range_by : (old new : Machine) (line : Option Line) → StepWay old new line → (old.steps ≤ new.steps) × (new.steps ≤ old.steps + 1)
@@ -30,11 +38,16 @@ counted_by old new line begin count (StepWay.Stopped stop over kept none steps i
 pub counted_on : (old new : Machine) (line : Option Line) (begin count : ℕ) → HasStepped old new line → (new.end ≡ None → begin + count ≡ new.steps) → (new.end ≢ None → begin + count ≡ new.steps + 1) → begin + count ≡ old.steps + 1
 counted_on old new line begin count step going ended = counted_by old new line begin count step.way going ended
 
-pub silently_on : (i : ℕ) (old now new : Machine) (line : Option Line) → Silently i old now → HasStepped now new line → line ≡ None → IsGoing new → new.owed ≡ None → Silently (i + 1) old new
-silently_on i old now new line before step silent ready placed =
-    let same : suc i ≡ i + 1 = omega arith in
-    subst (λ n. Silently n old new) same (now, before, subst (HasStepped now new) silent step, ready, placed)
+-- an arrival that was made leads to an entry
+entering_in : (w z : Machine) (result : Option End) → result ≡ None → Entering w z result → IsGoing z × (z.owed ≡ None)
+entering_in w z result none (Entering.In ready placed inside untaken) = (ready, placed)
+entering_in w z result none (Entering.Out over kept outside) = absurd (cc)
+entering_in w z result none (Entering.Failed op over kept inside fault) = absurd (cc)
 
-pub all_silently : (count : ℕ) (old new : Machine) (line : Option Line) → 1 ≤ count → Silently count old new → line ≡ None → HasDone old new count line
-all_silently zero old new line some all silent = absurd (omega arith)
-all_silently (suc n) old new line some all silent = record { earlier = n; last = all.0; counted = omega arith; silently = all.1; step = subst (HasStepped all.0 new) (sym silent) all.2 }
+pub entered_in : (w z : Machine) → HasEntered w z None → IsGoing z × (z.owed ≡ None)
+entered_in w z entered = entering_in w z None refl entered.way
+
+pub silently_on : (i : ℕ) (old now w new : Machine) (line : Option Line) → Silently i old now → HasStepped now w line → line ≡ None → HasFollowed w new → Silently (i + 1) old new
+silently_on i old now w new line before step silent followed =
+    let same : suc i ≡ i + 1 = omega arith in
+    subst (λ n. Silently n old new) same (now, w, before, subst (HasStepped now w) silent step, followed)

@@ -25,9 +25,6 @@ end_by part words false is right = let all = right.whole is in omega (arith, all
 pub part_end : (part : Part) (words : ℕ) → IsRightPart part words → part.first + part.count ≤ words
 part_end part words right = end_by part words part.shut refl right
 
-pub own_below : (part : Part) (words a : ℕ) → IsRightPart part words → is_own part a ≡ true → a < words
-own_below part words a right own = let range = own_range part a own in omega (arith, range.1, part_end part words right)
-
 pub beyond_own : (part : Part) (words a : ℕ) → IsRightPart part words → words ≤ a → is_own part a ≡ false
 beyond_own part words a right beyond = out_own part a (omega (arith, beyond, part_end part words right))
 

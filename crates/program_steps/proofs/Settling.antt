@@ -12,7 +12,7 @@ use Rattle.program_steps.specs.Machines.{Machine}
 use Rattle.step_laws.specs.StepLaws.{Reaches, crossings_over}
 use Rattle.program_steps.specs.Loop.{IsHalted, HasReached, target, settled_at}
 use Rattle.program_steps.specs.Ready.{IsQuiet}
-use Rattle.program_steps.specs.Stepping.{IsTold, settled, HasSettled}
+use Rattle.program_steps.specs.Stepping.{IsTold, settled, HasSettled, HasStepped}
 use Rattle.program_steps.specs.Wholes.{whole}
 
 told_owed : (m : Machine) (owed : Owed) → m.owed ≡ Some owed → IsTold m owed.target
@@ -68,3 +68,11 @@ ended_free k p q reached at is ended =
 pub line_settled : (to : Option ℕ) (p : Progress) → (settled_at to p).line ≡ p.line
 line_settled (Some t) p = refl
 line_settled None p = refl
+
+-- a step that was settled
+pub stepped_as : (old : Machine) (k : Kernel) (p q : Progress) (reached : Option ℕ) → (HasSettled (whole k p) (whole k q) → HasStepped old (whole k q) p.line)
+    → IsMapped k.layout k.mote.flash.words → IsQuiet (whole k p) → HasReached (whole k p) reached → q ≡ settled_at (target reached p.owed) p → HasStepped old (whole k q) q.line
+stepped_as old k p q reached gone mapped quiet at is =
+    let done : HasSettled (whole k p) (whole k q) = subst (λ r. HasSettled (whole k p) (whole k r)) (sym is) (settled_as k p reached mapped quiet at) in
+    let line : q.line ≡ p.line = ap (λ (r : Progress). r.line) is ∙ line_settled (target reached p.owed) p in
+    subst (HasStepped old (whole k q)) (sym line) (gone done)

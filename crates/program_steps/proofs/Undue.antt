@@ -8,6 +8,7 @@ use Rattle.mem_guard.specs.FlatMachine.{Moment, is_taken, next_of}
 use Rattle.mem_guard.proofs.MachineLaws.{next_tried}
 use Rattle.kernel_entry.specs.Seen.{program as program_of}
 use Rattle.step_laws.specs.declared.moves.End.{End}
+use Rattle.step_laws.specs.declared.moves.Owed.{Owed}
 use Rattle.step_laws.specs.States.{State}
 use Rattle.step_laws.specs.Walks.{Walk}
 use Rattle.step_laws.specs.StepLaws.{Reaches}
@@ -95,8 +96,8 @@ step_over m z line free untaken ended nothing step = record {
 
 -- several steps
 silently_undue : (n : ℕ) (m z : Machine) → m.owed ≡ None → is_taken (flat_of m) ≡ false → Silently (suc n) (undue m) z → Silently (suc n) m z
-silently_undue zero m z free untaken s = (m, refl, step_on m z None free untaken s.3.going (subst (λ y. HasStepped y z None) (sym s.1) s.2), s.3, s.4)
-silently_undue (suc n) m z free untaken s = (s.0, silently_undue n m s.0 free untaken s.1, s.2, s.3, s.4)
+silently_undue zero m z free untaken s = (m, s.1, refl, step_on m s.1 None free untaken s.4.ready.going (subst (λ y. HasStepped y s.1 None) (sym s.2) s.3), s.4)
+silently_undue (suc n) m z free untaken s = (s.0, s.1, silently_undue n m s.0 free untaken s.2, s.3, s.4)
 
 done_by : (earlier : ℕ) (m z last : Machine) (count : ℕ) (line : Option Line) → m.owed ≡ None → is_taken (flat_of m) ≡ false → (count ≡ 1 → z.end ≡ None) → count ≡ earlier + 1 → Silently earlier (undue m) last → HasStepped last z line → HasDone m z count line
 done_by zero m z last count line free untaken going counted s step =
@@ -122,3 +123,16 @@ none_end (Some end) is = absurd (cc)
 pub some_end : (e : Option End) → is_some e ≡ true → e ≢ None
 some_end None is = absurd (cc)
 some_end (Some end) is = λ none. absurd (cc)
+
+-- a program that has ended owes no arrival
+pub owes_going : (end : Option End) (owes : Option Owed) (owed : Owed) → (end ≢ None → owes ≡ None) → owes ≡ Some owed → end ≡ None
+owes_going None owes owed ended is = refl
+owes_going (Some end) owes owed ended is = absurd (let e : Some owed ≡ None = sym is ∙ ended (λ none. absurd (cc)) in cc)
+
+-- an arrival that is owed through no stub
+alone_by : (owes : Option Owed) (target : ℕ) (stub : Option ℕ) → owes ≡ Some (record { target = target; stub = stub }) → is_some stub ≡ false → owes ≡ Some (record { target = target; stub = None })
+alone_by owes target None is alone = is
+alone_by owes target (Some stub) is alone = absurd (cc)
+
+pub owed_alone : (owes : Option Owed) (owed : Owed) → owes ≡ Some owed → is_some owed.stub ≡ false → owes ≡ Some (record { target = owed.target; stub = None })
+owed_alone owes owed is alone = alone_by owes owed.target owed.stub is alone

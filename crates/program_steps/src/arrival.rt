@@ -1,6 +1,6 @@
 //! The arrival that is owed: made before the next step, or refused.
 
-ghost use Rattle.std.specs.Prelude.{◌≡◌, ◌+◌, ◌<◌, ◌≤◌, ◌^◌, true, false, Some, None};
+ghost use Rattle.std.specs.Prelude.{◌≡◌, ◌≢◌, ◌+◌, ◌<◌, ◌≤◌, ◌^◌, true, false, Some, None};
 ghost use Rattle.flash_words.specs.Layouts.{IsRight};
 ghost use Rattle.flash_words.specs.Memory.{IsWhole};
 ghost use Rattle.page_cursor.specs.Cursors.{IsCursor, IsCursorAnywhere};
@@ -10,13 +10,14 @@ ghost use Rattle.branch_bridge.specs.Arrivals.{CameThrough, ring_of};
 ghost use Rattle.kernel_entry.specs.Parts.{image_held};
 ghost use Rattle.step_laws.specs.States.{admits, end_by as end_by_of};
 ghost use Rattle.program_steps.specs.Loop.{HasArrived, after_arrival};
+ghost use Rattle.program_steps.specs.Several.{HasFollowed};
 ghost use Rattle.program_steps.specs.Ready.{IsGoing, IsQuiet};
 ghost use Rattle.program_steps.specs.Stepping.{HasEntered, HasBound};
 ghost use Rattle.program_steps.specs.Interrupts.{IsUntaken};
 ghost use Rattle.program_steps.specs.Wholes.{whole};
 
 use crate::progress::Progress;
-use branch_bridge::{Arrival, ArriveStop, arrive_from, arrive_known};
+use branch_bridge::{Arrival, ArriveStop, arrive_at, arrive_from};
 use flash_model::Flash;
 use kernel_entry::Kernel;
 use page_cursor::Cursor;
@@ -54,8 +55,79 @@ pub fn enter(k: &mut Kernel, p: &mut Progress, cursor: &mut Cursor) -> Option<En
     }
 }
 
-/// A new cursor where flash may have changed. Most arrivals find their place in the kernel's tables, and change
-/// nothing.
+/// Whether a step may follow the one that was made: it wrote no line, and there are fewer than so many.
+#[inline(always)]
+pub(crate) fn is_followed(p: &Progress, end: u64) -> bool
+    ensures fewer { result ≡ true → (p.now.steps < end) × (p.now.line ≡ None) }
+{
+    p.line.is_none() && p.steps < end
+}
+
+/// Makes the arrival that a step has led to, where it leaves flash as it is, no interrupt is due, the program may go there,
+/// and a step may follow. Tells whether it was made; elsewhere nothing is done.
+#[inline(always)]
+pub(crate) fn go_on(k: &mut Kernel, p: &mut Progress, cursor: &mut Cursor, end: u64) -> bool
+    requires going { p.old.end ≡ None → IsGoing (whole k.old p.old) }
+    requires ended { p.old.end ≢ None → p.old.owed ≡ None }
+    requires cursor { IsCursor k.old.layout k.old.mote.flash.words cursor.old }
+    ensures followed { result ≡ true → HasFollowed (whole k.old p.old) (whole k.new p.new) }
+    ensures fewer { result ≡ true → p.old.steps < end }
+    ensures silent { result ≡ true → (p.old.line ≡ None) × (p.new.line ≡ None) }
+    ensures none { result ≡ false → (k.new ≡ k.old) × (p.new ≡ p.old) }
+    ensures cursor { IsCursor k.new.layout k.new.mote.flash.words cursor.new }
+{
+    let owed = match p.owed {
+        None => return false,
+        Some(owed) => owed,
+    };
+    if p.due {
+        return false;
+    }
+    if owed.stub.is_some() {
+        return false;
+    }
+    if !may_enter(k, p) {
+        return false;
+    }
+    if !is_followed(p, end) {
+        return false;
+    }
+    let made = arrive_known(k, p, cursor, owed.target);
+    is_whole(&k.mote.flash);
+    made
+}
+
+/// Makes the arrival that is owed, through no stub, where the cursor has a hint at its place: then flash stays. Tells
+/// whether it was made; elsewhere nothing is done. Not inlined, so that arrivals can be counted from outside.
+#[inline(never)]
+fn arrive_known(k: &mut Kernel, p: &mut Progress, cursor: &mut Cursor, target: u16) -> bool
+    requires owed { p.old.owed ≡ Some (record { target = target; stub = None }) }
+    requires going { p.old.end ≡ None }
+    requires untorn { p.old.torn ≡ None }
+    requires untaken { IsUntaken (whole k.old p.old) }
+    requires admitted { admits k.old.part target ≡ true }
+    requires right { IsRight k.old.layout }
+    requires faithful { IsFaithful k.old.layout (image_held k.old) k.old.mote.flash.words }
+    requires tables { IsTables k.old.layout k.old.mote.sram k.old.mote.flash.words }
+    requires ring { ring_of k.old.mote.sram < k.old.layout.pool_pages }
+    requires cursor { IsCursor k.old.layout k.old.mote.flash.words cursor.old }
+    ensures arrived { result ≡ true → HasArrived (whole k.old p.old) (whole k.new p.new) }
+    ensures after { result ≡ true → p.new ≡ record p.old { owed = None } }
+    ensures none { result ≡ false → (k.new ≡ k.old) × (p.new ≡ p.old) }
+    ensures cursor { IsCursor k.new.layout k.new.mote.flash.words cursor.new }
+{
+    match cursor.go_to(&k.mote.flash, &k.layout, target) {
+        None => false,
+        Some(place) => {
+            arrive_at(&mut k.mote.sram, &k.mote.flash, &k.layout, target, place);
+            k.mote.cpu.pc = place;
+            p.owed = None;
+            true
+        }
+    }
+}
+
+/// A new cursor where flash may have changed.
 fn forget_if(changed: bool, cursor: &mut Cursor)
     ensures kept { changed ≡ false → cursor.new ≡ cursor.old }
     ensures forgotten { changed ≡ true → IsCursorAnywhere cursor.new }
@@ -86,47 +158,10 @@ pub fn at_bound(k: &mut Kernel, p: &mut Progress) -> End
     }
 }
 
-/// Makes the arrival that is owed. Tells whether flash may have changed. Not inlined, so that arrivals can be counted
-/// from outside.
+/// Makes the arrival that is owed. Tells whether flash may have changed. The stub that asked for it leads to its place from
+/// then on. Not inlined, since what it keeps on the stack, with the words of pages, is cleared where it begins.
 #[inline(never)]
 fn arrive_owed(k: &mut Kernel, p: &mut Progress, places: &mut Places, owed: Owed) -> bool
-    requires owed { p.old.owed ≡ Some owed }
-    requires going { p.old.end ≡ None }
-    requires untorn { p.old.torn ≡ None }
-    requires untaken { IsUntaken (whole k.old p.old) }
-    requires admitted { admits k.old.part owed.target ≡ true }
-    requires right { IsRight k.old.layout }
-    requires faithful { IsFaithful k.old.layout (image_held k.old) k.old.mote.flash.words }
-    requires tables { IsTables k.old.layout k.old.mote.sram k.old.mote.flash.words }
-    requires stub { CameThrough k.old.layout k.old.mote.flash.words owed.stub owed.target }
-    requires ring { ring_of k.old.mote.sram < k.old.layout.pool_pages }
-    requires room { k.old.mote.flash.ops < 2 ^ 61 }
-    requires few { p.old.pages < 2 ^ 62 }
-    ensures arrived { HasArrived (whole k.old p.old) (whole k.new p.new) }
-    ensures unchanged { result ≡ false → k.new.mote.flash ≡ k.old.mote.flash }
-{
-    let found = arrive_known(
-        &mut k.mote.sram,
-        &k.mote.flash,
-        &k.layout,
-        places,
-        owed.target,
-        owed.stub,
-    );
-    match found {
-        Some(place) => {
-            k.mote.cpu.pc = place;
-            p.owed = None;
-            false
-        }
-        None => arrive_anew(k, p, places, owed),
-    }
-}
-
-/// The same where flash may change. The stub that asked for the arrival leads to its place from then on. Not inlined,
-/// since what it keeps on the stack, with the words of pages, is cleared where it begins.
-#[inline(never)]
-fn arrive_anew(k: &mut Kernel, p: &mut Progress, places: &mut Places, owed: Owed) -> bool
     requires owed { p.old.owed ≡ Some owed }
     requires going { p.old.end ≡ None }
     requires untorn { p.old.torn ≡ None }

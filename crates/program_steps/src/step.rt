@@ -10,11 +10,12 @@ ghost use Rattle.program_steps.specs.Machines.{state_of, numbers_of, flat_of};
 ghost use Rattle.step_laws.specs.Links.{links_of};
 ghost use Rattle.step_laws.specs.StepLaws.{StepLaw, crossings_over};
 ghost use Rattle.program_steps.specs.Loop.{HasReached, HasTaken, is_small, target, settled_at};
-ghost use Rattle.program_steps.specs.Ready.{IsGoing};
+ghost use Rattle.program_steps.specs.Ready.{IsGoing, IsQuiet};
 ghost use Rattle.program_steps.specs.Stepping.{HasStepped};
-ghost use Rattle.program_steps.specs.Several.{HasDone};
+ghost use Rattle.program_steps.specs.Several.{HasFollowed, HasDone};
 ghost use Rattle.program_steps.specs.Wholes.{whole};
 
+use crate::arrival::{go_on, is_followed};
 use crate::moves::one_move;
 use crate::progress::Progress;
 use kernel_entry::Kernel;
@@ -22,9 +23,9 @@ use mote_devices::Devices;
 use page_cursor::Cursor;
 use preempt_count::is_crossing;
 
-/// Whole steps of the program, one behind the other: at most so many, and none behind one that writes a device
-/// line, or leads to the kernel, for an arrival or for good. Tells how many there were. Only the first may begin
-/// where an interrupt is due; where it stops the program, one stays due.
+/// Whole steps of the program, one behind the other, with the arrivals between them that leave flash as it is: at most so
+/// many, and none behind one that writes a device line, or leads to the kernel for another arrival or for good. Tells how
+/// many there were. Only the first may begin where an interrupt is due; where it stops the program, one stays due.
 #[inline(never)]
 pub fn steps(k: &mut Kernel, p: &mut Progress, cursor: &mut Cursor, most: u64) -> u64
     requires ready { IsGoing (whole k.old p.old) }
@@ -67,13 +68,32 @@ fn undue_steps(k: &mut Kernel, p: &mut Progress, cursor: &mut Cursor, most: u64)
     p.line = None;
     let begin = p.steps;
     let end = begin + most;
-    'steps: while p.steps < end {
+    'steps: loop {
         let goes_on = step(k, p, cursor);
-        if !goes_on || p.line.is_some() {
+        if !follows(k, p, cursor, goes_on, end) {
             return steps_since(begin, p);
         }
     }
-    most
+}
+
+/// Whether the next step may follow: there are fewer than so many, this one wrote no line, and it has led to an entry, or
+/// to an arrival, which is made then. If not, nothing is done.
+#[inline(always)]
+fn follows(k: &mut Kernel, p: &mut Progress, cursor: &mut Cursor, goes_on: bool, end: u64) -> bool
+    requires going { p.old.end ≡ None → IsGoing (whole k.old p.old) × IsQuiet (whole k.old p.old) }
+    requires ended { p.old.end ≢ None → p.old.owed ≡ None }
+    requires reached { goes_on ≡ true → (p.old.owed ≡ None) × (p.old.end ≡ None) × (p.old.due ≡ false) }
+    requires cursor { IsCursor k.old.layout k.old.mote.flash.words cursor.old }
+    ensures followed { result ≡ true → HasFollowed (whole k.old p.old) (whole k.new p.new) }
+    ensures fewer { result ≡ true → p.old.steps < end }
+    ensures silent { result ≡ true → (p.old.line ≡ None) × (p.new.line ≡ None) }
+    ensures none { result ≡ false → (k.new ≡ k.old) × (p.new ≡ p.old) }
+    ensures cursor { IsCursor k.new.layout k.new.mote.flash.words cursor.new }
+{
+    if goes_on {
+        return is_followed(p, end);
+    }
+    go_on(k, p, cursor, end)
 }
 
 /// How many steps there were since so many were counted. One that stopped the program isn't counted.
@@ -106,9 +126,16 @@ fn step(k: &mut Kernel, p: &mut Progress, cursor: &mut Cursor) -> bool
     ensures cursor { IsCursor k.new.layout k.new.mote.flash.words cursor.new }
 {
     is_timely(&k.mote.devices);
-    let reached = all_moves(k, p, cursor);
-    settle(p, reached);
-    reached.is_some()
+    match all_moves(k, p, cursor) {
+        Some(t) => {
+            settle(p, Some(t));
+            true
+        }
+        None => {
+            settle(p, None);
+            false
+        }
+    }
 }
 
 /// The moves of one step, from the entry where control stands. Tells the original address whose code control
@@ -164,6 +191,7 @@ fn is_timely(devices: &Devices)
 }
 
 /// Takes down where the step led, and whether it was a crossing.
+#[inline(always)]
 fn settle(p: &mut Progress, reached: Option<u16>)
     requires few { p.old.crossings < 2 ^ 62 }
     ensures settled { p.new ≡ settled_at (target reached p.old.owed) p.old }

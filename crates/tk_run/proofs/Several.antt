@@ -1,32 +1,25 @@
 -- Several steps, one behind the other.
-use Rattle.std.proofs.Common.{◌≡◌, ℕ, zero, suc, ◌+◌, ◌<◌, ◌≤◌, List, [], ◌++◌, sym, ◌∙◌, arith, subst}
+use Rattle.std.proofs.Common.{◌≡◌, ℕ, zero, suc, ◌+◌, ◌<◌, ◌≤◌, List, [], ◌++◌, refl, arith, subst}
 use Rattle.std.specs.Prelude.{Option, Some, None}
 use Rattle.mote_devices.specs.declared.line.Line.{Line}
 use Rattle.step_laws.specs.Moves.{line_before}
 use Rattle.byte_streams.specs.Streams.{IsSent}
 use Rattle.byte_streams.proofs.KnownBytes.{appends-nothing}
 use Rattle.program_steps.specs.Machines.{Machine}
-use Rattle.program_steps.specs.Ready.{IsGoing}
-use Rattle.program_steps.specs.Stepping.{lines_text, HasStepped, StepWay}
+use Rattle.program_steps.specs.Stepping.{lines_text}
 use Rattle.program_steps.specs.Several.{Silently, HasDone}
-use Rattle.tk_run.proofs.RunSoFar.{ran_step}
-use Rattle.tk_run.proofs.Advancing.{IsIn}
-use Rattle.program_steps.proofs.Arrived.{place_inside}
+use Rattle.tk_run.proofs.Advancing.{IsIn, is_in, between_on}
 use Rattle.tk_run.proofs.Gathered.{IsUnderWay, step_on}
 
 -- behind them, with the last still to come, the run is in the middle of a turn
-in_by : (old now new : Machine) (i : ℕ) (before after : Option (List ℕ)) → IsIn old now i before after → HasStepped now new None → StepWay now new None → IsGoing new → new.owed ≡ None → IsIn old new (i + 1) before after
-in_by old now new i before after now' step (StepWay.On ready quiet steps is) going placed =
-    record { ran = ran_step old now new i None before after after now'.ran now'.inside step steps is (appends-nothing after); inside = place_inside new going placed }
-in_by old now new i before after now' step (StepWay.Stopped stop over kept none steps is left) going placed = absurd (let e : Some _ ≡ None = sym kept ∙ going.going in cc)
-
 silently_in : (n : ℕ) (old now last : Machine) (i : ℕ) (before after : Option (List ℕ)) → Silently n now last → IsIn old now i before after → IsIn old last (i + n) before after
 silently_in zero old now last i before after same now' =
     let none : i ≡ i + 0 = omega arith in
     subst (λ k. IsIn old last k before after) none (subst (λ m. IsIn old m i before after) same now')
-silently_in (suc n) old now last i before after all now' =
+silently_in (suc n) old now last i before after (y, w, earlier, step, followed) now' =
     let more : i + n + 1 ≡ i + suc n = omega arith in
-    subst (λ k. IsIn old last k before after) more (in_by old all.0 last (i + n) before after (silently_in n old now all.0 i before after all.1 now') all.2 all.2.way all.3 all.4)
+    let between = between_on old y w (i + n) None before after after (silently_in n old now y i before after earlier now') step (appends-nothing after) followed.ready.going in
+    subst (λ k. IsIn old last k before after) more (is_in old w last (i + n + 1) before after None between followed.entered refl)
 
 pub last_in : (old now new : Machine) (i count : ℕ) (line : Option Line) (before after : Option (List ℕ)) → IsIn old now i before after → (done : HasDone now new count line) → IsIn old done.last (i + done.earlier) before after
 last_in old now new i count line before after now' done = silently_in done.earlier old now done.last i before after done.silently now'

@@ -20,7 +20,6 @@ use Rattle.step_laws.proofs.NumberLaws.{unmoved}
 use Rattle.program_steps.specs.Machines.{Machine, awaited, awaits, state_of, numbers_of, flat_of}
 use Rattle.program_steps.specs.Ready.{count_in, IsSound, IsGoing, IsQuiet, HasBounds, IsEnded}
 use Rattle.program_steps.specs.Stepping.{Goes, StepWay, AreMadeAt, ends_in_arrive, links_in}
-use Rattle.program_steps.proofs.Arrived.{place_inside}
 use Rattle.program_steps.proofs.Bounds.{bounded_counted}
 use Rattle.program_steps.proofs.Leading.{stays_self}
 use Rattle.program_steps.proofs.Waiting.{left_going}
@@ -428,11 +427,11 @@ quietly_stood : (n : ℕ) (t : Tasks) (task : Task) (k : ℕ) (m : Machine) → 
 quietly_stood n t task zero m most before going rest few same =
     let Stands : Machine → Type 0 = λ z. Stood n t task 0 z × (rest_at z.kernel.part z.at (n - z.steps) ≡ None) in
     subst Stands same (stood_here n t task before going, rest)
-quietly_stood n t task (suc k) m most before going rest few (y, earlier, went, ready, free, unchecked) =
+quietly_stood n t task (suc k) m most before going rest few (y, earlier, went, ready, inside, unchecked) =
     let so_far = quietly_stood n t task k y most before going rest (omega arith) earlier in
     let stood = stood_on n t task k y m most so_far.0 so_far.1 went ready unchecked in
     let steps = stood.steps in
-    (stood, unrests m.kernel.part m.at (n - m.steps) (place_inside m ready free) (omega arith))
+    (stood, unrests m.kernel.part m.at (n - m.steps) inside (omega arith))
 
 -- ---- the last
 

@@ -11,16 +11,14 @@ use Rattle.mote_devices.specs.Waking.{is_enabled}
 use Rattle.step_laws.specs.declared.moves.Owed.{Owed}
 use Rattle.step_laws.specs.declared.moves.End.{End}
 use Rattle.step_laws.specs.declared.moves.End.TheVariants as ends
-use Rattle.step_laws.specs.Moves.{Move, lines_of, line_before}
+use Rattle.step_laws.specs.Moves.{Move, line_before}
 use Rattle.program_steps.specs.Machines.{Machine, flat_of}
 use Rattle.program_steps.specs.Ready.{IsGoing}
 use Rattle.program_steps.specs.Stepping.{HasStepped, StepWay, HasEntered, Entering, Stays, ends_in_arrive}
 use Rattle.program_steps.specs.Interrupts.{is_wanted_at, is_to_be_taken}
 use Rattle.program_steps.specs.Several.{Silently, HasDone}
 use Rattle.program_steps.proofs.MadeAt.{made_map, made_both}
-use Rattle.program_steps.proofs.Arrived.{place_inside}
-use Rattle.program_steps.proofs.Undue.{undue_untaken}
-use Rattle.program_steps.proofs.Leading.{goes_on, last_on, stays_on, stays_self}
+use Rattle.program_steps.proofs.Leading.{goes_on, last_on, stays_on}
 use Rattle.program_steps.proofs.Waiting.{left_stepped, entered_own}
 use Rattle.parked_tasks.specs.declared.task.TaskEnd.TheVariants.{Spent, Wild}
 use Rattle.tk_tasks.specs.declared.trying.Tried.{Tried}
@@ -65,20 +63,6 @@ went_stepped x y line step = record {
   way = step.way;
 }
 
--- an arrival that is none
-entered_self : (m : Machine) → IsGoing m → m.owed ≡ None → is_taken (flat_of m) ≡ false → HasEntered m m None
-unfolding lines_of
-entered_self m ready free untaken = record {
-  moves = [];
-  goes = record { walk = refl; told = refl; numbers = refl };
-  stays = stays_self m;
-  broken = refl;
-  steps = refl;
-  flat = refl;
-  made = tt;
-  way = Entering.In ready free (place_inside m ready free) untaken;
-}
-
 -- ---- several steps
 
 -- what a step without an interrupt behind it says
@@ -86,17 +70,25 @@ record Quiet (x m : Machine) : Type 0 where
   next : next_of (program_of x.kernel) (flat_of x) ≡ On None (flat_of m)
   undue : m.due ≡ false
 
-quiet_by : (x m : Machine) → StepWay x m None → IsGoing m → m.owed ≡ None → Quiet x m
-quiet_by x m (StepWay.On ready quiet steps is) going free = record { next = is; undue = quiet free }
-quiet_by x m (StepWay.Stopped stop over kept none steps is left) going free = absurd (let e : Some (ends.Stopped stop) ≡ None = sym kept ∙ going.going in cc)
+quiet_by : (x m : Machine) → StepWay x m None → IsGoing m → m.due ≡ false → Quiet x m
+quiet_by x m (StepWay.On ready quiet steps is) going undue = record { next = is; undue = undue }
+quiet_by x m (StepWay.Stopped stop over kept none steps is left) going undue = absurd (let e : Some (ends.Stopped stop) ≡ None = sym kept ∙ going.going in cc)
 
 silently_passes : (n : ℕ) (a m : Machine) → Silently n a m → Passes a.kernel.quantum a.crossings m.crossings × (m.kernel.quantum ≡ a.kernel.quantum)
 silently_passes zero a m same = (inl (ap (λ (z : Machine). z.crossings) (sym same)), ap (λ (z : Machine). z.kernel.quantum) (sym same))
-silently_passes (suc n) a m (w, before, step, going, free) =
-    let so_far = silently_passes n a w before in
-    let quiet = quiet_by w m step.way going free in
-    let here : Passes w.kernel.quantum a.crossings w.crossings = subst (λ q. Passes q a.crossings w.crossings) (sym so_far.1) so_far.0 in
-    (subst (λ q. Passes q a.crossings m.crossings) so_far.1 (pass_on (program_of w.kernel) a.crossings (flat_of w) (flat_of m) None here quiet.next quiet.undue), step.stays.quantum ∙ so_far.1)
+silently_passes (suc n) a m (y, w, before, step, followed) =
+    let so_far = silently_passes n a y before in
+    let quiet = quiet_by y w step.way followed.ready followed.undue in
+    let here : Passes y.kernel.quantum a.crossings y.crossings = subst (λ q. Passes q a.crossings y.crossings) (sym so_far.1) so_far.0 in
+    let on : Passes a.kernel.quantum a.crossings w.crossings = subst (λ q. Passes q a.crossings w.crossings) so_far.1 (pass_on (program_of y.kernel) a.crossings (flat_of y) (flat_of w) None here quiet.next quiet.undue) in
+    let same : w.crossings ≡ m.crossings = sym (ap (λ (z : Moment). z.now.crossings) followed.entered.flat) in
+    (subst (Passes a.kernel.quantum a.crossings) same on, followed.entered.stays.quantum ∙ step.stays.quantum ∙ so_far.1)
+
+-- an arrival that was made was one into the program's part
+inside_by : (w z : Machine) (result : Option End) → result ≡ None → Entering w z result → is_own w.kernel.part w.at ≡ true
+inside_by w z result none (Entering.In ready placed inside untaken) = inside
+inside_by w z result none (Entering.Out over kept outside) = absurd (cc)
+inside_by w z result none (Entering.Failed op over kept inside fault) = inside
 
 -- plays that write nothing lead to where the last step begins
 pub record Stands (n : ℕ) (x m : Machine) : Type 0 where
@@ -106,14 +98,14 @@ pub record Stands (n : ℕ) (x m : Machine) : Type 0 where
 
 pub silently_stands : (n : ℕ) (x a m : Machine) → HasEntered x a None → Silently n a m → Stands n x m
 silently_stands zero x a m entered same = record { y = x; quietly = refl; entered = subst (λ z. HasEntered x z None) same entered }
-silently_stands (suc n) x a m entered (w, before, step, going, free) =
-    let so_far = silently_stands n x a w entered before in
-    let went = went_entered so_far.y w m None so_far.entered step in
-    let quiet = quiet_by so_far.y m went.way going free in
+silently_stands (suc n) x a m entered (y, w, before, step, followed) =
+    let so_far = silently_stands n x a y entered before in
+    let went = went_entered so_far.y y w None so_far.entered step in
+    let quiet = quiet_by so_far.y w went.way followed.ready followed.undue in
     record {
-      y = m;
-      quietly = (so_far.y, so_far.quietly, went, going, free, undue_unchecked (program_of so_far.y.kernel) (flat_of so_far.y) (flat_of m) None quiet.next quiet.undue);
-      entered = entered_self m going free (undue_untaken m quiet.undue);
+      y = w;
+      quietly = (so_far.y, so_far.quietly, went, followed.ready, inside_by w m None refl followed.entered.way, undue_unchecked (program_of so_far.y.kernel) (flat_of so_far.y) (flat_of w) None quiet.next quiet.undue);
+      entered = followed.entered;
     }
 
 -- ---- what they leave

@@ -57,10 +57,10 @@ checks old new = checks_by old.kernel.quantum old.crossings new.crossings
 abbrev pub rest_if : Bool → Part → (at left : ℕ) → Option TaskEnd
 rest_if checks part at left = if checks then rest_at part at left else None
 
--- so many steps that wrote no line, and of which none was a checkpoint, or led to the kernel
+-- so many steps that wrote no line, of which none was a checkpoint, and each led to an address of the task's part
 abbrev pub Quietly : ℕ → Machine → Machine → Type 0
 Quietly zero x z = x ≡ z
-Quietly (suc n) x z = (y : Machine) × Quietly n x y × Went y z None × IsGoing z × (z.owed ≡ None) × (checks y z ≡ false)
+Quietly (suc n) x z = (y : Machine) × Quietly n x y × Went y z None × IsGoing z × (is_own z.kernel.part z.at ≡ true) × (checks y z ≡ false)
 
 -- what a step left: where it was a checkpoint, a task that makes no further step has ended
 pub data IsBehind (old new : Machine) (left : ℕ) (tried : Tried) : Type 0 where

@@ -1,47 +1,66 @@
-use Rattle.std.proofs.Common.{false, ◌≡◌, sym, ap, ◌∙◌, subst}
-use Rattle.std.specs.Prelude.{None}
+use Rattle.std.proofs.Common.{false, ◌≡◌, refl, sym, subst}
+use Rattle.std.specs.Prelude.{Some, None}
 use Rattle.program_steps.specs.declared.progress.Progress.{Progress}
 use Rattle.program_steps.specs.Wholes.{whole}
-use Rattle.program_steps.specs.Stepping.{HasSettled, HasStepped}
+use Rattle.program_steps.specs.Loop.{HasReached}
 use Rattle.program_steps.proofs.Laws.{law_of, mapped_going}
-use Rattle.program_steps.proofs.Settling.{settled_as, reached_free, ended_free, line_settled}
+use Rattle.program_steps.proofs.Settling.{stepped_as, reached_free, ended_free}
 use Rattle.program_steps.proofs.Stepped.{small_ready, mapped_after, few_after, quiet_after, gone_by}
 use Rattle.program_steps.proofs.Undue.{undue_untaken}
 use Rattle.program_steps.proofs.step.step.Goals as goal
 
-pub all_moves-reached-requires-clause-right : goal.all_moves-reached-requires-clause-right
-all_moves-reached-requires-clause-right c = c.requires.ready.order.right
+pub all_moves-requires-clause-right : goal.all_moves-requires-clause-right
+all_moves-requires-clause-right c = c.requires.ready.order.right
 
-pub all_moves-reached-requires-clause-mapped : goal.all_moves-reached-requires-clause-mapped
-all_moves-reached-requires-clause-mapped c = mapped_going (whole c.args.k.now c.args.p.now) c.requires.ready
+pub all_moves-requires-clause-mapped : goal.all_moves-requires-clause-mapped
+all_moves-requires-clause-mapped c = mapped_going (whole c.args.k.now c.args.p.now) c.requires.ready
 
-pub all_moves-reached-requires-clause-law : goal.all_moves-reached-requires-clause-law
-all_moves-reached-requires-clause-law c = law_of (whole c.args.k.now c.args.p.now) c.requires.ready c.is_timely.ensures.timely c.requires.steps c.requires.placed
+pub all_moves-requires-clause-law : goal.all_moves-requires-clause-law
+all_moves-requires-clause-law c = law_of (whole c.args.k.now c.args.p.now) c.requires.ready c.is_timely.ensures.timely c.requires.steps c.requires.placed
 
-pub all_moves-reached-requires-clause-small : goal.all_moves-reached-requires-clause-small
-all_moves-reached-requires-clause-small c = small_ready (whole c.args.k.now c.args.p.now) c.requires.ready c.requires.steps
+pub all_moves-requires-clause-small : goal.all_moves-requires-clause-small
+all_moves-requires-clause-small c = small_ready (whole c.args.k.now c.args.p.now) c.requires.ready c.requires.steps
 
 pub settle-requires : goal.settle-requires
-settle-requires c = record { few = few_after (whole c.args.k.now c.args.p.now) (whole c.all_moves-reached.new.k c.all_moves-reached.new.p) c.all_moves-reached.new.p.line c.requires.ready c.is_timely.ensures.timely c.requires.placed c.requires.steps c.all_moves-reached.ensures.taken }
+settle-requires c = record { few = few_after (whole c.args.k.now c.args.p.now) (whole c.all_moves.new.k c.all_moves.new.p) c.all_moves.new.p.line c.requires.ready c.is_timely.ensures.timely c.requires.placed c.requires.steps c.all_moves.ensures.taken }
 
-pub returns-clause-stepped : goal.returns-clause-stepped
-returns-clause-stepped c =
+pub settle-requires-in-None : goal.settle-requires-in-None
+settle-requires-in-None c = record { few = few_after (whole c.args.k.now c.args.p.now) (whole c.all_moves.new.k c.all_moves.new.p) c.all_moves.new.p.line c.requires.ready c.is_timely.ensures.timely c.requires.placed c.requires.steps c.all_moves.ensures.taken }
+
+pub returns-in-Some : goal.returns-in-Some
+returns-in-Some c =
     let old = whole c.args.k.now c.args.p.now in
-    let told = c.all_moves-reached.ensures in
-    let k = c.all_moves-reached.new.k in
-    let p = c.all_moves-reached.new.p in
+    let told = c.all_moves.ensures in
+    let k = c.all_moves.new.k in
+    let p = c.all_moves.new.p in
+    let q = c.settle.new.p in
+    let is = c.settle.ensures.settled in
     let quiet = quiet_after old (whole k p) p.line c.requires.ready c.is_timely.ensures.timely c.requires.placed c.requires.steps c.requires.undue told.taken in
     let mapped = mapped_after old (whole k p) c.requires.ready told.layout told.flash in
-    let settled : HasSettled (whole k p) (whole k c.settle.new.p) = subst (λ q. HasSettled (whole k p) (whole k q)) (sym c.settle.ensures.settled) (settled_as k p c.all_moves-reached.result mapped quiet told.reached) in
-    let line : c.settle.new.p.line ≡ p.line = ap (λ (q : Progress). q.line) c.settle.ensures.settled ∙ line_settled _ p in
-    subst (HasStepped old (whole k c.settle.new.p)) (sym line) (gone_by old (whole k p) (whole k c.settle.new.p) p.line c.requires.ready c.is_timely.ensures.timely (undue_untaken old c.requires.undue) c.requires.steps c.requires.placed told.torn told.taken told.layout told.flash settled)
+    let at : HasReached (whole k p) (Some c.in-Some.t) = subst (HasReached (whole k p)) c.in-Some.is told.reached in
+    let gone = gone_by old (whole k p) (whole k q) p.line c.requires.ready c.is_timely.ensures.timely (undue_untaken old c.requires.undue) c.requires.steps c.requires.placed told.torn told.taken told.layout told.flash in
+    record {
+      stepped = stepped_as old k p q (Some c.in-Some.t) gone mapped quiet at is;
+      reached = λ reached. subst (λ (x : Progress). (x.owed ≡ None) × (x.end ≡ None) × (x.due ≡ false)) (sym is) (reached_free k p (Some c.in-Some.t) quiet at refl);
+      ended = λ ended. ended_free k p q (Some c.in-Some.t) at is ended;
+      cursor = told.cursor;
+    }
 
-pub returns-clause-reached : goal.returns-clause-reached
-returns-clause-reached c = λ is.
-    let k = c.all_moves-reached.new.k in
-    let p = c.all_moves-reached.new.p in
-    let quiet = quiet_after (whole c.args.k.now c.args.p.now) (whole k p) p.line c.requires.ready c.is_timely.ensures.timely c.requires.placed c.requires.steps c.requires.undue c.all_moves-reached.ensures.taken in
-    subst (λ (q : Progress). (q.owed ≡ None) × (q.end ≡ None) × (q.due ≡ false)) (sym c.settle.ensures.settled) (reached_free k p c.all_moves-reached.result quiet c.all_moves-reached.ensures.reached (sym c.is_some.ensures ∙ is))
-
-pub returns-clause-ended : goal.returns-clause-ended
-returns-clause-ended c = λ is. ended_free c.all_moves-reached.new.k c.all_moves-reached.new.p c.settle.new.p c.all_moves-reached.result c.all_moves-reached.ensures.reached c.settle.ensures.settled is
+pub returns-in-None : goal.returns-in-None
+returns-in-None c =
+    let old = whole c.args.k.now c.args.p.now in
+    let told = c.all_moves.ensures in
+    let k = c.all_moves.new.k in
+    let p = c.all_moves.new.p in
+    let q = c.settle-in-None.new.p in
+    let is = c.settle-in-None.ensures.settled in
+    let quiet = quiet_after old (whole k p) p.line c.requires.ready c.is_timely.ensures.timely c.requires.placed c.requires.steps c.requires.undue told.taken in
+    let mapped = mapped_after old (whole k p) c.requires.ready told.layout told.flash in
+    let at : HasReached (whole k p) None = subst (HasReached (whole k p)) c.in-None.is told.reached in
+    let gone = gone_by old (whole k p) (whole k q) p.line c.requires.ready c.is_timely.ensures.timely (undue_untaken old c.requires.undue) c.requires.steps c.requires.placed told.torn told.taken told.layout told.flash in
+    record {
+      stepped = stepped_as old k p q None gone mapped quiet at is;
+      reached = λ reached. absurd (cc);
+      ended = λ ended. ended_free k p q None at is ended;
+      cursor = told.cursor;
+    }

@@ -1,9 +1,8 @@
-use Rattle.std.proofs.Common.{◌≡◌, ◌+◌, ◌-◌, true, arith, refl, sym, ◌∙◌, subst}
-use Rattle.std.specs.Prelude.{None}
+use Rattle.std.proofs.Common.{◌≡◌, ◌+◌, ◌-◌, arith, refl, sym, ap, ◌∙◌, subst}
+use Rattle.program_steps.specs.declared.progress.Progress.{Progress}
 use Rattle.program_steps.specs.Wholes.{whole}
-use Rattle.program_steps.specs.Several.{Silently, HasDone}
-use Rattle.program_steps.proofs.Told.{is_none_of}
-use Rattle.program_steps.proofs.OneBehindOther.{going_on, steps_on, counted_on, silently_on, all_silently}
+use Rattle.program_steps.specs.Several.{Silently}
+use Rattle.program_steps.proofs.OneBehindOther.{going_on, gone_on, steps_on, counted_on, entered_in, silently_on}
 use Rattle.program_steps.proofs.step.undue_steps.Goals as goal
 
 pub overflow_add-end : goal.overflow_add-end
@@ -21,79 +20,81 @@ steps-init c =
       going = c.requires.ready.going;
       silent = refl;
       begun = omega arith;
-      most = omega arith;
+      most = omega (arith, c.requires.some);
       cursor = c.requires.cursor;
     }
 
 pub step-goes_on-requires : goal.step-goes_on-requires
 step-goes_on-requires c =
     let at = c.steps.invariant in
-    record { ready = at.ready; placed = at.placed; steps = omega (arith, c.steps-test.true, c.requires.few); undue = at.undue; silent = at.silent; cursor = at.cursor }
+    record { ready = at.ready; placed = at.placed; steps = omega (arith, at.most, c.requires.few); undue = at.undue; silent = at.silent; cursor = at.cursor }
+
+pub follows-requires : goal.follows-requires
+follows-requires c =
+    let told = c.step-goes_on.ensures in
+    let now = whole c.steps.k c.steps.p in
+    let w = whole c.step-goes_on.new.k c.step-goes_on.new.p in
+    record { going = λ going. gone_on now w c.step-goes_on.new.p.line told.stepped going; ended = told.ended; reached = told.reached; cursor = told.cursor }
 
 pub steps_since-requires : goal.steps_since-requires
 steps_since-requires c =
     let at = c.steps.invariant in
+    let same = c.follows.ensures.none c.if-not-follows.true in
+    let steps = ap (λ (p : Progress). p.steps) same.1 in
     let range = steps_on (whole c.steps.k c.steps.p) (whole c.step-goes_on.new.k c.step-goes_on.new.p) c.step-goes_on.new.p.line c.step-goes_on.ensures.stepped in
-    record { begun = omega (arith, at.begun, range.0); few = omega (arith, range.1, c.steps-test.true, c.requires.few) }
+    record { begun = omega (arith, at.begun, range.0, steps); few = omega (arith, range.1, at.most, c.requires.few, steps) }
 
-pub returns-then-not-goes_on : goal.returns-then-not-goes_on
-returns-then-not-goes_on c =
+pub returns-then-not-follows : goal.returns-then-not-follows
+returns-then-not-follows c =
     let now = whole c.steps.k c.steps.p in
-    let new = whole c.step-goes_on.new.k c.step-goes_on.new.p in
+    let w = whole c.step-goes_on.new.k c.step-goes_on.new.p in
     let line = c.step-goes_on.new.p.line in
     let begin = c.args.p.now.steps in
     let at = c.steps.invariant in
     let told = c.step-goes_on.ensures in
+    let same = c.follows.ensures.none c.if-not-follows.true in
     let since = c.steps_since in
-    let all : begin + since.result ≡ now.steps + 1 = counted_on now new line begin since.result told.stepped since.ensures.going since.ensures.ended in
+    let still = ap (λ (p : Progress). p.steps) same.1 in
+    let all : begin + since.result ≡ now.steps + 1 =
+    counted_on now w line begin since.result told.stepped (λ going. since.ensures.going (ap (λ (p : Progress). p.end) same.1 ∙ going) ∙ still) (λ ended. since.ensures.ended (λ none. ended (sym (ap (λ (p : Progress). p.end) same.1) ∙ none)) ∙ ap (λ n. n + 1) still) in
     record {
-      done = record { earlier = now.steps - begin; last = now; counted = omega (arith, all, at.begun); silently = at.silently; step = told.stepped };
-      ended = told.ended;
-      most = omega (arith, all, c.steps-test.true);
-      cursor = told.cursor;
+      done = rw same.0 (rw same.1 (record { earlier = now.steps - begin; last = now; counted = omega (arith, all, at.begun); silently = at.silently; step = told.stepped }));
+      ended = rw same.1 told.ended;
+      most = omega (arith, all, at.most);
+      cursor = c.follows.ensures.cursor;
     }
 
 pub steps-smaller : goal.steps-smaller
 steps-smaller c =
-    let free = c.step-goes_on.ensures.reached c.if-not-goes_on.false in
-    let on = going_on (whole c.steps.k c.steps.p) (whole c.step-goes_on.new.k c.step-goes_on.new.p) c.step-goes_on.new.p.line c.step-goes_on.ensures.stepped free.1 in
-    omega (arith, on.1, c.steps-test.true)
+    let followed = c.follows.ensures.followed c.if-not-follows.false in
+    let on = going_on (whole c.steps.k c.steps.p) (whole c.step-goes_on.new.k c.step-goes_on.new.p) c.step-goes_on.new.p.line c.step-goes_on.ensures.stepped followed.ready.going in
+    omega (arith, on.1, followed.entered.steps, c.steps.invariant.most)
 
 pub steps-preserved : goal.steps-preserved
 steps-preserved c =
     let old = whole c.args.k.now c.args.p.now in
     let now = whole c.steps.k c.steps.p in
-    let new = whole c.step-goes_on.new.k c.step-goes_on.new.p in
+    let w = whole c.step-goes_on.new.k c.step-goes_on.new.p in
+    let new = whole c.follows.new.k c.follows.new.p in
     let line = c.step-goes_on.new.p.line in
     let at = c.steps.invariant in
     let told = c.step-goes_on.ensures in
-    let goes : c.step-goes_on.result ≡ true = c.if-not-goes_on.false in
-    let free = told.reached goes in
-    let silent : line ≡ None = is_none_of line (sym c.is_some.ensures ∙ c.if-is_some.false) in
-    let on = going_on now new line told.stepped free.1 in
+    let follows = c.if-not-follows.false in
+    let followed = c.follows.ensures.followed follows in
+    let silent = c.follows.ensures.silent follows in
+    let on = going_on now w line told.stepped followed.ready.going in
+    let steps = followed.entered.steps in
+    let into = entered_in w new followed.entered in
     let begin = c.args.p.now.steps in
-    let one : now.steps - begin + 1 ≡ new.steps - begin = omega (arith, on.1, at.begun) in
+    let one : now.steps - begin + 1 ≡ new.steps - begin = omega (arith, on.1, steps, at.begun) in
     record {
-      silently = subst (λ n. Silently n old new) one (silently_on (now.steps - begin) old now new line at.silently told.stepped silent on.0 free.0);
-      ready = on.0;
-      placed = free.0;
-      undue = free.2;
-      going = free.1;
-      silent = silent;
-      begun = omega (arith, on.1, at.begun);
-      most = omega (arith, on.1, c.steps-test.true);
-      cursor = told.cursor;
-    }
-
-pub returns : goal.returns
-returns c =
-    let old = whole c.args.k.now c.args.p.now in
-    let now = whole c.steps.k c.steps.p in
-    let at = c.steps.invariant in
-    let all : c.steps.p.steps - c.args.p.now.steps ≡ c.args.most = omega (arith, c.steps-test.false, at.most, at.begun) in
-    record {
-      done = subst (λ n. HasDone old now n c.steps.p.line) all (all_silently _ old now c.steps.p.line (omega (arith, all, c.requires.some)) at.silently at.silent);
-      ended = λ ended. absurd (ended at.going);
-      most = omega arith;
-      cursor = at.cursor;
+      silently = subst (λ n. Silently n old new) one (silently_on (now.steps - begin) old now w new line at.silently told.stepped silent.0 followed);
+      ready = into.0;
+      placed = into.1;
+      undue = followed.still;
+      going = into.0.going;
+      silent = silent.1;
+      begun = omega (arith, on.1, steps, at.begun);
+      most = omega (arith, steps, c.follows.ensures.fewer follows);
+      cursor = c.follows.ensures.cursor;
     }

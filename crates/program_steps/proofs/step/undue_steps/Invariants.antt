@@ -1,4 +1,4 @@
-use Rattle.std.proofs.Common.{◌≡◌, ◌-◌, ◌≤◌, false}
+use Rattle.std.proofs.Common.{◌≡◌, ◌-◌, ◌<◌, ◌≤◌, false}
 use Rattle.std.specs.Prelude.{None}
 use Rattle.page_cursor.specs.Cursors.{IsCursor}
 use Rattle.program_steps.specs.Wholes.{whole}
@@ -15,7 +15,7 @@ invariant-steps l = record {
   going : l.p.end ≡ None;
   silent : l.p.line ≡ None;
   begun : l.begin ≤ l.p.steps;
-  most : l.p.steps ≤ l.end;
+  most : l.p.steps < l.end;
   cursor : IsCursor l.k.layout l.k.mote.flash.words l.cursor;
 }
 

@@ -1,7 +1,7 @@
 use Rattle.std.proofs.Common.{ℕ, List, sym, subst, Some}
 use Rattle.addr_tables.specs.Changes.{Finds}
 use Rattle.addr_tables.proofs.FindLaws.{finds_tables, finds_entry}
-use Rattle.addr_tables.proofs.tables.find_known.Goals as goal
+use Rattle.addr_tables.proofs.tables.find.Goals as goal
 
 pub returns-clause-tables : goal.returns-clause-tables
 returns-clause-tables c =
