@@ -52,6 +52,6 @@ unfoldable pub exec_of : {S : Type 0} → Calls S → Form → Cpu → S → ℕ
 exec_of calls form cpu space next_size = answered_by (finish_of form cpu next_size) (answer_of calls space (ask_of form cpu))
 
 -- what a result with the registers and the space after it tell
-abbrev pub finished : {S : Type 0} → Result (Unit {0}) BusStop → Cpu → S → Outcome S Cpu
+abbrev pub finished : {S A : Type 0} → Result A BusStop → Cpu → S → Outcome S Cpu
 finished (Ok done) cpu space = Went cpu space
 finished (Err stop) cpu space = Stopped stop

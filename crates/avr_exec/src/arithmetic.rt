@@ -41,7 +41,8 @@ pub(crate) fn keep_word(cpu: &mut Cpu, low: u8, outcome: (u16, u8))
 pub(crate) fn two(op: &TwoOp, cpu: &mut Cpu, d: u8, r: u8)
     requires left { d < 32 }
     requires right { r < 32 }
-    ensures { cpu.new ≡ two_of op.now cpu.old d r }
+    ensures after { cpu.new ≡ two_of op.now cpu.old d r }
+    ensures pc { cpu.new.pc ≡ cpu.old.pc }
 {
     let (sreg, left, right) = (cpu.sreg, cpu.register(d), cpu.register(r));
     match op {
@@ -64,7 +65,8 @@ pub(crate) fn two(op: &TwoOp, cpu: &mut Cpu, d: u8, r: u8)
 #[inline(always)]
 pub(crate) fn immediate(op: &ImmOp, cpu: &mut Cpu, d: u8, k: u8)
     requires { d < 32 }
-    ensures { cpu.new ≡ immediate_of op.now cpu.old d k }
+    ensures after { cpu.new ≡ immediate_of op.now cpu.old d k }
+    ensures pc { cpu.new.pc ≡ cpu.old.pc }
 {
     let (sreg, left) = (cpu.sreg, cpu.register(d));
     match op {
@@ -83,7 +85,8 @@ pub(crate) fn immediate(op: &ImmOp, cpu: &mut Cpu, d: u8, k: u8)
 pub(crate) fn word(op: &WordOp, cpu: &mut Cpu, p: u8, k: u8)
     requires pair { p < 31 }
     requires constant { k ≤ 63 }
-    ensures { cpu.new ≡ word_of op.now cpu.old p k }
+    ensures after { cpu.new ≡ word_of op.now cpu.old p k }
+    ensures pc { cpu.new.pc ≡ cpu.old.pc }
 {
     let (sreg, left) = (cpu.sreg, cpu.pair(p));
     match op {
@@ -97,7 +100,8 @@ pub(crate) fn word(op: &WordOp, cpu: &mut Cpu, p: u8, k: u8)
 #[inline(always)]
 pub(crate) fn one(op: &OneOp, cpu: &mut Cpu, d: u8)
     requires { d < 32 }
-    ensures { cpu.new ≡ one_of op.now cpu.old d }
+    ensures after { cpu.new ≡ one_of op.now cpu.old d }
+    ensures pc { cpu.new.pc ≡ cpu.old.pc }
 {
     let (sreg, left) = (cpu.sreg, cpu.register(d));
     let outcome = match op {
@@ -122,7 +126,8 @@ pub(crate) fn one(op: &OneOp, cpu: &mut Cpu, d: u8)
 pub(crate) fn product(op: &ProductOp, cpu: &mut Cpu, d: u8, r: u8)
     requires left { d < 32 }
     requires right { r < 32 }
-    ensures { cpu.new ≡ product_of op.now cpu.old d r }
+    ensures after { cpu.new ≡ product_of op.now cpu.old d r }
+    ensures pc { cpu.new.pc ≡ cpu.old.pc }
 {
     let (sreg, left, right) = (cpu.sreg, cpu.register(d), cpu.register(r));
     let outcome = match op {

@@ -91,7 +91,8 @@ impl Cpu {
     #[tactic(auto, unfolding(crate::specs::Registers::with_own_byte))]
     pub(crate) fn set_own_byte(&mut self, address: u16, value: u8)
         requires { is_own address ≡ true }
-        ensures { self.new ≡ with_own_byte self.old address value }
+        ensures after { self.new ≡ with_own_byte self.old address value }
+        ensures pc { self.new.pc ≡ self.old.pc }
     {
         match address {
             0x5D => self.sp = (self.sp >> 8 << 8) + u16::from(value),

@@ -21,7 +21,8 @@ const TRANSFER: u8 = 6;
 /// Gives a pointer that changes its new value.
 #[tactic(auto, unfolding(crate::specs::Effects::with_pointer))]
 pub(crate) fn move_pointer(cpu: &mut Cpu, pointer: &Ptr, value: u16)
-    ensures { cpu.new ≡ with_pointer cpu.old pointer.now value }
+    ensures after { cpu.new ≡ with_pointer cpu.old pointer.now value }
+    ensures pc { cpu.new.pc ≡ cpu.old.pc }
 {
     match pointer {
         Ptr::XInc => cpu.set_pair(26, value.wrapping_add(1)),
@@ -36,63 +37,83 @@ pub(crate) fn move_pointer(cpu: &mut Cpu, pointer: &Ptr, value: u16)
 
 /// Raises Z where a load from the program asks for it.
 pub(crate) fn raise_z(cpu: &mut Cpu, increment: bool, z: u16)
-    ensures { cpu.new ≡ with_z_raised_if cpu.old increment z }
+    ensures after { cpu.new ≡ with_z_raised_if cpu.old increment z }
+    ensures pc { cpu.new.pc ≡ cpu.old.pc }
 {
     if increment {
         cpu.set_pair(30, z.wrapping_add(1));
     }
 }
 
-/// Moves the pc on by some words.
-pub(crate) fn advance(cpu: &mut Cpu, words: u16)
-    ensures { cpu.new ≡ with_counter cpu.old (wrapping_sum cpu.old.pc words) }
+/// Goes to an address, and tells it.
+fn go(cpu: &mut Cpu, address: u16) -> u16
+    ensures after { cpu.new ≡ with_counter cpu.old address }
+    ensures tells { result ≡ cpu.new.pc }
 {
-    cpu.pc = cpu.pc.wrapping_add(words);
+    cpu.pc = address;
+    address
 }
 
-/// Passes over the next instruction, of this many words, where `passed` is true.
-pub(crate) fn skip(cpu: &mut Cpu, passed: bool, next_size: u16)
-    requires { next_size ≤ 2 }
-    ensures { cpu.new ≡ skip_if passed next_size cpu.old }
+/// Moves the pc, which is `pc`, on by some words, and tells it.
+pub(crate) fn advance(cpu: &mut Cpu, pc: u16, words: u16) -> u16
+    requires at { pc ≡ cpu.old.pc }
+    ensures after { cpu.new ≡ with_counter cpu.old (wrapping_sum cpu.old.pc words) }
+    ensures tells { result ≡ cpu.new.pc }
+{
+    go(cpu, pc.wrapping_add(words))
+}
+
+/// Passes over the next instruction, of this many words, where `passed` is true. Tells the new pc.
+pub(crate) fn skip(cpu: &mut Cpu, pc: u16, passed: bool, next_size: u16) -> u16
+    requires at { pc ≡ cpu.old.pc }
+    requires next { next_size ≤ 2 }
+    ensures after { cpu.new ≡ skip_if passed next_size cpu.old }
+    ensures tells { result ≡ cpu.new.pc }
 {
     let words = if passed { 1 + next_size } else { 1 };
-    advance(cpu, words);
+    advance(cpu, pc, words)
 }
 
-/// Branches by `k` where `taken` is true.
-fn branch(cpu: &mut Cpu, taken: bool, k: i16)
-    ensures { cpu.new ≡ branch_if taken k cpu.old }
+/// Branches by `k` where `taken` is true. Tells the new pc.
+fn branch(cpu: &mut Cpu, pc: u16, taken: bool, k: i16) -> u16
+    requires at { pc ≡ cpu.old.pc }
+    ensures after { cpu.new ≡ branch_if taken k cpu.old }
+    ensures tells { result ≡ cpu.new.pc }
 {
-    cpu.pc = if taken {
-        relative(cpu.pc, k)
+    if taken {
+        go(cpu, relative(pc, k))
     } else {
-        cpu.pc.wrapping_add(1)
-    };
+        advance(cpu, pc, 1)
+    }
 }
 
-/// Goes to an address, with two bytes pushed.
-pub(crate) fn call(cpu: &mut Cpu, address: u16)
-    ensures { cpu.new ≡ called cpu.old address }
+/// Goes to an address, with two bytes pushed, and tells it.
+pub(crate) fn call(cpu: &mut Cpu, address: u16) -> u16
+    ensures after { cpu.new ≡ called cpu.old address }
+    ensures tells { result ≡ cpu.new.pc }
 {
     cpu.sp = cpu.sp.wrapping_sub(2);
-    cpu.pc = address;
+    go(cpu, address)
 }
 
-/// Goes to an address, with two bytes popped.
-pub(crate) fn return_to(cpu: &mut Cpu, address: u16)
-    ensures { cpu.new ≡ returned cpu.old address }
+/// Goes to an address, with two bytes popped, and tells it.
+pub(crate) fn return_to(cpu: &mut Cpu, address: u16) -> u16
+    ensures after { cpu.new ≡ returned cpu.old address }
+    ensures tells { result ≡ cpu.new.pc }
 {
     cpu.sp = cpu.sp.wrapping_add(2);
-    cpu.pc = address;
+    go(cpu, address)
 }
 
-/// One of the seldom instructions that work on the core's registers alone, and are followed by the next.
+/// One of the seldom instructions that work on the core's registers alone, and are followed by the next. Tells the new pc.
 #[tactic(auto, unfolding(crate::specs::Kinds::kind_of, crate::specs::Asks::ask_of, crate::specs::Effects::finish_of))]
 #[inline(always)]
-pub(crate) fn compute(form: &Form, cpu: &mut Cpu)
+pub(crate) fn compute(form: &Form, cpu: &mut Cpu, pc: u16) -> u16
     requires kind { kind_of form.now ≡ Inner }
+    requires at { pc ≡ cpu.old.pc }
     ensures asks { ask_of form.now cpu.old ≡ Nothing }
     ensures after { (n : ℕ) → finish_of form.now cpu.old n Done ≡ cpu.new }
+    ensures tells { result ≡ cpu.new.pc }
 {
     match form {
         Form::Muls(d, r) => {
@@ -112,42 +133,44 @@ pub(crate) fn compute(form: &Form, cpu: &mut Cpu)
         Form::Nop | Form::Break | Form::Wdr => {}
         _ => unreachable!(),
     }
-    advance(cpu, 1);
+    advance(cpu, pc, 1)
 }
 
-/// A skip, a branch or a jump by the core's registers alone.
+/// A skip, a branch or a jump by the core's registers alone. Tells the new pc.
 #[tactic(auto, unfolding(crate::specs::Kinds::kind_of, crate::specs::Asks::ask_of, crate::specs::Effects::finish_of))]
 #[inline(always)]
-pub(crate) fn turn(form: &Form, cpu: &mut Cpu, next_size: u16)
+pub(crate) fn turn(form: &Form, cpu: &mut Cpu, pc: u16, next_size: u16) -> u16
     requires kind { kind_of form.now ≡ Turn }
+    requires at { pc ≡ cpu.old.pc }
     requires next { next_size ≤ 2 }
     ensures asks { ask_of form.now cpu.old ≡ Nothing }
     ensures after { finish_of form.now cpu.old next_size Done ≡ cpu.new }
+    ensures tells { result ≡ cpu.new.pc }
 {
     match form {
         Form::Cpse(d, r) => {
             let equal = cpu.byte(d) == cpu.byte(r);
-            skip(cpu, equal, next_size);
+            skip(cpu, pc, equal, next_size)
         }
         Form::Sbrc(r, b) => {
             let set = has_bit(cpu.byte(r), b.get());
-            skip(cpu, !set, next_size);
+            skip(cpu, pc, !set, next_size)
         }
         Form::Sbrs(r, b) => {
             let set = has_bit(cpu.byte(r), b.get());
-            skip(cpu, set, next_size);
+            skip(cpu, pc, set, next_size)
         }
         Form::Brbs(s, k) => {
             let set = has_bit(cpu.sreg, s.get());
-            branch(cpu, set, k.get());
+            branch(cpu, pc, set, k.get())
         }
         Form::Brbc(s, k) => {
             let set = has_bit(cpu.sreg, s.get());
-            branch(cpu, !set, k.get());
+            branch(cpu, pc, !set, k.get())
         }
-        Form::Rjmp(k) => cpu.pc = relative(cpu.pc, k.get()),
-        Form::Jmp(a) => cpu.pc = *a,
-        Form::Ijmp => cpu.pc = cpu.pair(30),
+        Form::Rjmp(k) => go(cpu, relative(pc, k.get())),
+        Form::Jmp(a) => go(cpu, *a),
+        Form::Ijmp => go(cpu, cpu.pair(30)),
         _ => unreachable!(),
     }
 }

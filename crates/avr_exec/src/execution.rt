@@ -1,6 +1,6 @@
 //! One instruction.
 
-ghost use Rattle.std.specs.Prelude.{◌≡◌, ◌≤◌, true, OnErr};
+ghost use Rattle.std.specs.Prelude.{◌≡◌, ◌≤◌, true, IfOk, OnErr};
 ghost use Rattle.avr_exec.specs.Execution.{exec_of, is_executed, finished};
 ghost use Rattle.avr_exec.specs.Kinds.{is_seldom};
 
@@ -17,7 +17,6 @@ use avr_isa::{Form, Instr};
 ///
 /// The registers, SPL, SPH and SREG are answered from `cpu`, also at their data addresses. The bus is
 /// asked for one thing at most, before anything is changed; a stop is the one that this call gave.
-#[tactic(auto, unfolding(crate::specs::Kinds::kind_of, crate::specs::Kinds::is_seldom, crate::specs::Execution::exec_of, crate::specs::Execution::answer_of, crate::specs::Execution::is_executed, crate::specs::Asks::ask_of, crate::specs::Effects::finish_of))]
 #[inline(always)]
 pub fn exec<B: Bus>(i: &Instr, cpu: &mut Cpu, bus: &mut B, next_size: u16) -> Result<(), BusStop>
     requires executed { is_executed i.now ≡ true }
@@ -25,6 +24,32 @@ pub fn exec<B: Bus>(i: &Instr, cpu: &mut Cpu, bus: &mut B, next_size: u16) -> Re
     requires ready { B.ready bus.old }
     ensures outcome { finished result cpu.new (B.space bus.new)
         ≡ exec_of B.calls i.now cpu.old (B.space bus.old) next_size }
+    ensures stop { OnErr result ((cpu.new ≡ cpu.old) × (B.space bus.new ≡ B.space bus.old)) }
+    ensures lent { B.lent bus.new ≡ B.lent bus.old }
+{
+    let pc = cpu.pc;
+    exec_at(i, cpu, bus, pc, next_size)?;
+    Ok(())
+}
+
+/// The same, where the pc is `pc`. Tells the new pc: who executes one instruction behind the other has it at hand, and waits
+/// for no memory to know it.
+#[tactic(auto, unfolding(crate::specs::Kinds::kind_of, crate::specs::Kinds::is_seldom, crate::specs::Execution::exec_of, crate::specs::Execution::answer_of, crate::specs::Execution::is_executed, crate::specs::Asks::ask_of, crate::specs::Effects::finish_of))]
+#[inline(always)]
+pub fn exec_at<B: Bus>(
+    i: &Instr,
+    cpu: &mut Cpu,
+    bus: &mut B,
+    pc: u16,
+    next_size: u16,
+) -> Result<u16, BusStop>
+    requires executed { is_executed i.now ≡ true }
+    requires at { pc ≡ cpu.old.pc }
+    requires next { (1 ≤ next_size) × (next_size ≤ 2) }
+    requires ready { B.ready bus.old }
+    ensures outcome { finished result cpu.new (B.space bus.new)
+        ≡ exec_of B.calls i.now cpu.old (B.space bus.old) next_size }
+    ensures tells { IfOk result (λ pc. pc ≡ cpu.new.pc) }
     ensures stop { OnErr result ((cpu.new ≡ cpu.old) × (B.space bus.new ≡ B.space bus.old)) }
     ensures lent { B.lent bus.new ≡ B.lent bus.old }
 {
@@ -36,19 +61,17 @@ pub fn exec<B: Bus>(i: &Instr, cpu: &mut Cpu, bus: &mut B, next_size: u16) -> Re
         Form::Word(op, p, k) => word(op, cpu, p.get(), k.get()),
         Form::One(op, d) => one(op, cpu, d.get()),
         Form::Brbs(..) | Form::Brbc(..) | Form::Rjmp(_) | Form::Jmp(_) => {
-            turn(form, cpu, next_size);
-            return Ok(());
+            return Ok(turn(form, cpu, pc, next_size));
         }
         Form::LoadOff(..) | Form::LoadAt(..) | Form::Lds(..) | Form::InIo(..) => {
-            return fetch(form, cpu, bus);
+            return fetch(form, cpu, bus, pc);
         }
         Form::StoreOff(..) | Form::StoreAt(..) | Form::Sts(..) | Form::OutIo(..) => {
-            return deposit(form, cpu, bus);
+            return deposit(form, cpu, bus, pc);
         }
-        _ => return exec_seldom(form, cpu, bus, next_size),
+        _ => return exec_seldom(form, cpu, bus, pc, next_size),
     }
-    advance(cpu, 1);
-    Ok(())
+    Ok(advance(cpu, pc, 1))
 }
 
 /// Executes one of those that are seldom met.
@@ -57,32 +80,34 @@ fn exec_seldom<B: Bus>(
     form: &Form,
     cpu: &mut Cpu,
     bus: &mut B,
+    pc: u16,
     next_size: u16,
-) -> Result<(), BusStop>
+) -> Result<u16, BusStop>
     requires seldom { is_seldom form.now ≡ true }
+    requires at { pc ≡ cpu.old.pc }
     requires next { (1 ≤ next_size) × (next_size ≤ 2) }
     requires ready { B.ready bus.old }
     ensures outcome { finished result cpu.new (B.space bus.new)
         ≡ exec_of B.calls form.now cpu.old (B.space bus.old) next_size }
+    ensures tells { IfOk result (λ pc. pc ≡ cpu.new.pc) }
     ensures stop { OnErr result ((cpu.new ≡ cpu.old) × (B.space bus.new ≡ B.space bus.old)) }
     ensures lent { B.lent bus.new ≡ B.lent bus.old }
 {
     match form {
         Form::Cpse(..) | Form::Sbrc(..) | Form::Sbrs(..) | Form::Ijmp => {
-            turn(form, cpu, next_size);
+            Ok(turn(form, cpu, pc, next_size))
         }
-        Form::Pop(_) => return fetch(form, cpu, bus),
-        Form::Push(_) | Form::Cbi(..) | Form::Sbi(..) => return deposit(form, cpu, bus),
-        Form::Lpm0 | Form::Elpm0 | Form::Lpm(..) | Form::Elpm(..) => read(form, cpu, bus),
-        Form::Sbic(..) | Form::Sbis(..) => return probe(form, cpu, bus, next_size),
+        Form::Pop(_) => fetch(form, cpu, bus, pc),
+        Form::Push(_) | Form::Cbi(..) | Form::Sbi(..) => deposit(form, cpu, bus, pc),
+        Form::Lpm0 | Form::Elpm0 | Form::Lpm(..) | Form::Elpm(..) => Ok(read(form, cpu, bus, pc)),
+        Form::Sbic(..) | Form::Sbis(..) => probe(form, cpu, bus, pc, next_size),
         Form::Rcall(_) | Form::Call(_) | Form::Icall | Form::Ret | Form::Reti => {
-            return reach(form, cpu, bus);
+            reach(form, cpu, bus, pc)
         }
         Form::Nop | Form::Muls(..) | Form::Product(..) | Form::Bld(..) | Form::Bst(..) => {
-            compute(form, cpu);
+            Ok(compute(form, cpu, pc))
         }
-        Form::Bset(_) | Form::Bclr(_) | Form::Break | Form::Wdr => compute(form, cpu),
+        Form::Bset(_) | Form::Bclr(_) | Form::Break | Form::Wdr => Ok(compute(form, cpu, pc)),
         _ => unreachable!(),
     }
-    Ok(())
 }

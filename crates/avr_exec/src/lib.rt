@@ -33,5 +33,5 @@ pub use answer::Answer;
 pub use ask::{Ask, asks};
 pub use bus::Bus;
 pub use cpu::Cpu;
-pub use execution::exec;
+pub use execution::{exec, exec_at};
 pub use stop::BusStop;

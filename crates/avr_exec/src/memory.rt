@@ -47,6 +47,7 @@ pub(crate) fn store<B: Bus>(
     ensures answer { answer_of B.calls (B.space bus.old) (store_of address value)
         ≡ answered_by answered_done (outcome_of result (B.space bus.new)) }
     ensures stored { OnOk result (cpu.new ≡ stored_of cpu.old address value) }
+    ensures pc { cpu.new.pc ≡ cpu.old.pc }
     ensures stop { OnErr result ((cpu.new ≡ cpu.old) × (B.space bus.new ≡ B.space bus.old)) }
     ensures lent { B.lent bus.new ≡ B.lent bus.old }
 {

@@ -1,6 +1,6 @@
 //! Instructions that move a byte, or go elsewhere, by way of the bus.
 
-ghost use Rattle.std.specs.Prelude.{ℕ, ◌≡◌, ◌≤◌, OnErr};
+ghost use Rattle.std.specs.Prelude.{ℕ, ◌≡◌, ◌≤◌, IfOk, OnErr};
 ghost use Rattle.avr_exec.specs.declared.answer.Answer.{Answer};
 ghost use Rattle.avr_exec.specs.declared.ask.Ask.TheVariants.{PushReturn};
 ghost use Rattle.avr_exec.specs.Asks.{load_of, store_of};
@@ -23,60 +23,71 @@ use avr_isa::{Form, Reg, relative};
 /// The bit of SREG that enables interrupts.
 const INTERRUPTS: u8 = 7;
 
-/// Brings the byte at a data address into a register, and goes on by some words.
+/// Brings the byte at a data address into a register, and goes on by some words, as it tells.
 #[inline(always)]
 fn load_register<B: Bus>(
     cpu: &mut Cpu,
     bus: &mut B,
+    pc: u16,
     d: &Reg,
     address: u16,
     words: u16,
-) -> Result<(), BusStop>
+) -> Result<u16, BusStop>
+    requires at { pc ≡ cpu.old.pc }
     requires ready { B.ready bus.old }
     ensures outcome { finished result cpu.new (B.space bus.new)
         ≡ answered_by (λ (answer : Answer). with_counter (with_register cpu.old d.now (loaded cpu.old address answer)) (wrapping_sum cpu.old.pc words)) (answer_of B.calls (B.space bus.old) (load_of address)) }
+    ensures tells { IfOk result (λ pc. pc ≡ cpu.new.pc) }
     ensures stop { OnErr result ((cpu.new ≡ cpu.old) × (B.space bus.new ≡ B.space bus.old)) }
     ensures lent { B.lent bus.new ≡ B.lent bus.old }
 {
     let value = load(cpu, bus, address)?;
     cpu.set_byte(d, value);
-    advance(cpu, words);
-    Ok(())
+    Ok(advance(cpu, pc, words))
 }
 
-/// Takes the byte in a register to a data address, and goes on by some words.
+/// Takes the byte in a register to a data address, and goes on by some words, as it tells.
 #[inline(always)]
 fn store_register<B: Bus>(
     cpu: &mut Cpu,
     bus: &mut B,
+    pc: u16,
     address: u16,
     r: &Reg,
     words: u16,
-) -> Result<(), BusStop>
+) -> Result<u16, BusStop>
+    requires at { pc ≡ cpu.old.pc }
     requires ready { B.ready bus.old }
     ensures outcome { finished result cpu.new (B.space bus.new)
         ≡ answered_by (λ (_ : Answer). with_counter (stored cpu.old address (register cpu.old r.now)) (wrapping_sum (stored cpu.old address (register cpu.old r.now)).pc words)) (answer_of B.calls (B.space bus.old) (store_of address (register cpu.old r.now))) }
+    ensures tells { IfOk result (λ pc. pc ≡ cpu.new.pc) }
     ensures stop { OnErr result ((cpu.new ≡ cpu.old) × (B.space bus.new ≡ B.space bus.old)) }
     ensures lent { B.lent bus.new ≡ B.lent bus.old }
 {
     store(cpu, bus, address, cpu.byte(r))?;
-    advance(cpu, words);
-    Ok(())
+    Ok(advance(cpu, pc, words))
 }
 
-/// An instruction that brings a byte into a register.
+/// An instruction that brings a byte into a register. Tells the new pc.
 #[tactic(auto, unfolding(crate::specs::Kinds::kind_of, crate::specs::Execution::exec_of, crate::specs::Execution::answer_of, crate::specs::Asks::ask_of, crate::specs::Effects::finish_of))]
 #[inline(always)]
-pub(crate) fn fetch<B: Bus>(form: &Form, cpu: &mut Cpu, bus: &mut B) -> Result<(), BusStop>
+pub(crate) fn fetch<B: Bus>(
+    form: &Form,
+    cpu: &mut Cpu,
+    bus: &mut B,
+    pc: u16,
+) -> Result<u16, BusStop>
     requires kind { kind_of form.now ≡ Fetch }
+    requires at { pc ≡ cpu.old.pc }
     requires ready { B.ready bus.old }
     ensures outcome { (n : ℕ) → finished result cpu.new (B.space bus.new) ≡ exec_of B.calls form.now cpu.old (B.space bus.old) n }
+    ensures tells { IfOk result (λ pc. pc ≡ cpu.new.pc) }
     ensures stop { OnErr result ((cpu.new ≡ cpu.old) × (B.space bus.new ≡ B.space bus.old)) }
     ensures lent { B.lent bus.new ≡ B.lent bus.old }
 {
     match form {
         Form::LoadOff(d, base, q) => {
-            return load_register(cpu, bus, d, displaced(cpu, base, q), 1);
+            return load_register(cpu, bus, pc, d, displaced(cpu, base, q), 1);
         }
         Form::LoadAt(d, pointer) => {
             let before = cpu.pair(low_register(pointer));
@@ -84,8 +95,8 @@ pub(crate) fn fetch<B: Bus>(form: &Form, cpu: &mut Cpu, bus: &mut B) -> Result<(
             cpu.set_byte(d, value);
             move_pointer(cpu, pointer, before);
         }
-        Form::Lds(d, a) => return load_register(cpu, bus, d, *a, 2),
-        Form::InIo(d, a) => return load_register(cpu, bus, d, a.address(), 1),
+        Form::Lds(d, a) => return load_register(cpu, bus, pc, d, *a, 2),
+        Form::InIo(d, a) => return load_register(cpu, bus, pc, d, a.address(), 1),
         Form::Pop(d) => {
             let value = bus.pop(cpu.sp)?;
             cpu.set_byte(d, value);
@@ -93,16 +104,17 @@ pub(crate) fn fetch<B: Bus>(form: &Form, cpu: &mut Cpu, bus: &mut B) -> Result<(
         }
         _ => unreachable!(),
     }
-    advance(cpu, 1);
-    Ok(())
+    Ok(advance(cpu, pc, 1))
 }
 
-/// An instruction that brings a byte of the program into a register.
+/// An instruction that brings a byte of the program into a register. Tells the new pc.
 #[tactic(auto, unfolding(crate::specs::Kinds::kind_of, crate::specs::Execution::exec_of, crate::specs::Execution::answer_of, crate::specs::Asks::ask_of, crate::specs::Effects::finish_of))]
 #[inline(always)]
-pub(crate) fn read<B: Bus>(form: &Form, cpu: &mut Cpu, bus: &mut B)
+pub(crate) fn read<B: Bus>(form: &Form, cpu: &mut Cpu, bus: &mut B, pc: u16) -> u16
     requires kind { kind_of form.now ≡ Read }
+    requires at { pc ≡ cpu.old.pc }
     ensures outcome { (n : ℕ) → Went cpu.new (B.space bus.new) ≡ exec_of B.calls form.now cpu.old (B.space bus.old) n }
+    ensures tells { result ≡ cpu.new.pc }
     ensures lent { B.lent bus.new ≡ B.lent bus.old }
 {
     match form {
@@ -127,22 +139,29 @@ pub(crate) fn read<B: Bus>(form: &Form, cpu: &mut Cpu, bus: &mut B)
         }
         _ => unreachable!(),
     }
-    advance(cpu, 1);
+    advance(cpu, pc, 1)
 }
 
-/// An instruction that takes a byte elsewhere.
+/// An instruction that takes a byte elsewhere. Tells the new pc.
 #[tactic(auto, unfolding(crate::specs::Kinds::kind_of, crate::specs::Execution::exec_of, crate::specs::Execution::answer_of, crate::specs::Asks::ask_of, crate::specs::Effects::finish_of))]
 #[inline(always)]
-pub(crate) fn deposit<B: Bus>(form: &Form, cpu: &mut Cpu, bus: &mut B) -> Result<(), BusStop>
+pub(crate) fn deposit<B: Bus>(
+    form: &Form,
+    cpu: &mut Cpu,
+    bus: &mut B,
+    pc: u16,
+) -> Result<u16, BusStop>
     requires kind { kind_of form.now ≡ Deposit }
+    requires at { pc ≡ cpu.old.pc }
     requires ready { B.ready bus.old }
     ensures outcome { (n : ℕ) → finished result cpu.new (B.space bus.new) ≡ exec_of B.calls form.now cpu.old (B.space bus.old) n }
+    ensures tells { IfOk result (λ pc. pc ≡ cpu.new.pc) }
     ensures stop { OnErr result ((cpu.new ≡ cpu.old) × (B.space bus.new ≡ B.space bus.old)) }
     ensures lent { B.lent bus.new ≡ B.lent bus.old }
 {
     match form {
         Form::StoreOff(base, q, r) => {
-            return store_register(cpu, bus, displaced(cpu, base, q), r, 1);
+            return store_register(cpu, bus, pc, displaced(cpu, base, q), r, 1);
         }
         Form::StoreAt(pointer, r) => {
             let before = cpu.pair(low_register(pointer));
@@ -150,8 +169,8 @@ pub(crate) fn deposit<B: Bus>(form: &Form, cpu: &mut Cpu, bus: &mut B) -> Result
             store(cpu, bus, address, cpu.byte(r))?;
             move_pointer(cpu, pointer, before);
         }
-        Form::Sts(a, r) => return store_register(cpu, bus, *a, r, 2),
-        Form::OutIo(a, r) => return store_register(cpu, bus, a.address(), r, 1),
+        Form::Sts(a, r) => return store_register(cpu, bus, pc, *a, r, 2),
+        Form::OutIo(a, r) => return store_register(cpu, bus, pc, a.address(), r, 1),
         Form::Push(r) => {
             bus.push(cpu.sp, cpu.byte(r))?;
             cpu.sp = cpu.sp.wrapping_sub(1);
@@ -160,78 +179,86 @@ pub(crate) fn deposit<B: Bus>(form: &Form, cpu: &mut Cpu, bus: &mut B) -> Result
         Form::Sbi(a, b) => bus.modify(a.address(), 0, bit_weight(b.get()))?,
         _ => unreachable!(),
     }
-    advance(cpu, 1);
-    Ok(())
+    Ok(advance(cpu, pc, 1))
 }
 
-/// A skip by a bit of an I/O register.
+/// A skip by a bit of an I/O register. Tells the new pc.
 #[tactic(auto, unfolding(crate::specs::Kinds::kind_of, crate::specs::Execution::exec_of, crate::specs::Execution::answer_of, crate::specs::Asks::ask_of, crate::specs::Effects::finish_of))]
 #[inline(always)]
 pub(crate) fn probe<B: Bus>(
     form: &Form,
     cpu: &mut Cpu,
     bus: &mut B,
+    pc: u16,
     next_size: u16,
-) -> Result<(), BusStop>
+) -> Result<u16, BusStop>
     requires kind { kind_of form.now ≡ Probe }
     requires next { next_size ≤ 2 }
+    requires at { pc ≡ cpu.old.pc }
     requires ready { B.ready bus.old }
     ensures outcome { finished result cpu.new (B.space bus.new) ≡ exec_of B.calls form.now cpu.old (B.space bus.old) next_size }
+    ensures tells { IfOk result (λ pc. pc ≡ cpu.new.pc) }
     ensures stop { OnErr result ((cpu.new ≡ cpu.old) × (B.space bus.new ≡ B.space bus.old)) }
     ensures lent { B.lent bus.new ≡ B.lent bus.old }
 {
     match form {
         Form::Sbic(a, b) => {
             let value = load(cpu, bus, a.address())?;
-            skip(cpu, !has_bit(value, b.get()), next_size);
+            Ok(skip(cpu, pc, !has_bit(value, b.get()), next_size))
         }
         Form::Sbis(a, b) => {
             let value = load(cpu, bus, a.address())?;
-            skip(cpu, has_bit(value, b.get()), next_size);
+            Ok(skip(cpu, pc, has_bit(value, b.get()), next_size))
         }
         _ => unreachable!(),
     }
-    Ok(())
 }
 
-/// Pushes a return address and goes to another.
+/// Pushes a return address and goes to another, which it tells.
 #[tactic(auto, unfolding(crate::specs::Execution::answer_of))]
 #[inline(always)]
-fn enter<B: Bus>(cpu: &mut Cpu, bus: &mut B, behind: u16, address: u16) -> Result<(), BusStop>
+fn enter<B: Bus>(cpu: &mut Cpu, bus: &mut B, behind: u16, address: u16) -> Result<u16, BusStop>
     requires ready { B.ready bus.old }
     ensures outcome { finished result cpu.new (B.space bus.new)
         ≡ answered_by (λ (_ : Answer). called cpu.old address) (answer_of B.calls (B.space bus.old) (PushReturn cpu.old.sp behind)) }
+    ensures tells { IfOk result (λ pc. pc ≡ cpu.new.pc) }
     ensures stop { OnErr result ((cpu.new ≡ cpu.old) × (B.space bus.new ≡ B.space bus.old)) }
     ensures lent { B.lent bus.new ≡ B.lent bus.old }
 {
     bus.push_ret(cpu.sp, behind)?;
-    call(cpu, address);
-    Ok(())
+    Ok(call(cpu, address))
 }
 
-/// A call or a return.
+/// A call or a return. Tells the new pc.
 #[tactic(auto, unfolding(crate::specs::Kinds::kind_of, crate::specs::Execution::exec_of, crate::specs::Execution::answer_of, crate::specs::Asks::ask_of, crate::specs::Effects::finish_of))]
 #[inline(always)]
-pub(crate) fn reach<B: Bus>(form: &Form, cpu: &mut Cpu, bus: &mut B) -> Result<(), BusStop>
+pub(crate) fn reach<B: Bus>(
+    form: &Form,
+    cpu: &mut Cpu,
+    bus: &mut B,
+    pc: u16,
+) -> Result<u16, BusStop>
     requires kind { kind_of form.now ≡ Reach }
+    requires at { pc ≡ cpu.old.pc }
     requires ready { B.ready bus.old }
     ensures outcome { (n : ℕ) → finished result cpu.new (B.space bus.new) ≡ exec_of B.calls form.now cpu.old (B.space bus.old) n }
+    ensures tells { IfOk result (λ pc. pc ≡ cpu.new.pc) }
     ensures stop { OnErr result ((cpu.new ≡ cpu.old) × (B.space bus.new ≡ B.space bus.old)) }
     ensures lent { B.lent bus.new ≡ B.lent bus.old }
 {
     match form {
         Form::Rcall(k) => {
-            let behind = cpu.pc.wrapping_add(1);
-            return enter(cpu, bus, behind, relative(cpu.pc, k.get()));
+            let behind = pc.wrapping_add(1);
+            enter(cpu, bus, behind, relative(pc, k.get()))
         }
-        Form::Call(a) => return enter(cpu, bus, cpu.pc.wrapping_add(2), *a),
-        Form::Icall => return enter(cpu, bus, cpu.pc.wrapping_add(1), cpu.pair(30)),
-        Form::Ret => return_to(cpu, bus.pop_ret(cpu.sp)?),
+        Form::Call(a) => enter(cpu, bus, pc.wrapping_add(2), *a),
+        Form::Icall => enter(cpu, bus, pc.wrapping_add(1), cpu.pair(30)),
+        Form::Ret => Ok(return_to(cpu, bus.pop_ret(cpu.sp)?)),
         Form::Reti => {
-            return_to(cpu, bus.pop_ret(cpu.sp)?);
+            let to = return_to(cpu, bus.pop_ret(cpu.sp)?);
             cpu.sreg = with_bit(cpu.sreg, INTERRUPTS, true);
+            Ok(to)
         }
         _ => unreachable!(),
     }
-    Ok(())
 }

@@ -29,21 +29,22 @@ outcome_is k at n sp form o here size stack is =
     ∙ ap (λ a. exec_of guarded_calls form (lent_core k a (virtual_sp k)) (memory_of k) (next_size (image_held k) a)) here
 
 -- it went on
-pub went_told : (k : Kernel) (form : Form) (core : Cpu) (memory : Guarded) (m : List ℕ) → Went core memory ≡ executed k form → m ≡ with_word memory.sram vsp_cell core.sp
-    → ◌≡◌ {A = Result Ran BusStop × Kernel} (Ok (record { pc = core.pc; line = memory.line }), with_sram (put_back k core memory) m) (execution k form)
-went_told k form core memory m is stored =
-    ap (λ s. (Ok (record { pc = core.pc; line = memory.line }), with_sram (put_back k core memory) s)) stored ∙ ap (execution_by k) is
+pub went_told : (k : Kernel) (form : Form) (core : Cpu) (memory : Guarded) (m : List ℕ) (pc : ℕ) → Went core memory ≡ executed k form → m ≡ with_word memory.sram vsp_cell core.sp → pc ≡ core.pc
+    → ◌≡◌ {A = Result Ran BusStop × Kernel} (Ok (record { pc = pc; line = memory.line }), with_sram (put_back k core memory) m) (execution k form)
+went_told k form core memory m pc is stored told =
+    ap (λ p. (Ok (record { pc = p; line = memory.line }), with_sram (put_back k core memory) m)) told
+    ∙ ap (λ s. (Ok (record { pc = core.pc; line = memory.line }), with_sram (put_back k core memory) s)) stored ∙ ap (execution_by k) is
 
 -- it stopped, so core and memory are as they were
 abbrev unstored : Kernel → Cpu → Guarded → Kernel
 unstored k core memory = with_sram (put_back k core memory) memory.sram
 
-left_alone : (k : Kernel) (result : Result (Unit {0}) BusStop) (core core' : Cpu) (memory : Guarded) (stop : BusStop) → result ≡ Err stop
+left_alone : {A : Type 0} (k : Kernel) (result : Result A BusStop) (core core' : Cpu) (memory : Guarded) (stop : BusStop) → result ≡ Err stop
     → OnErr result ((core' ≡ core) × (memory ≡ memory_of k)) → unstored k core' memory ≡ unstored k core (memory_of k)
 left_alone k (Ok done) core core' memory stop is left = absurd (cc)
 left_alone k (Err other) core core' memory stop is left = ap₂ (unstored k) left.0 left.1
 
-pub stop_told : (k : Kernel) (at sp : ℕ) (form : Form) (result : Result (Unit {0}) BusStop) (core : Cpu) (memory : Guarded) (stop : BusStop) → result ≡ Err stop
+pub stop_told : {A : Type 0} (k : Kernel) (at sp : ℕ) (form : Form) (result : Result A BusStop) (core : Cpu) (memory : Guarded) (stop : BusStop) → result ≡ Err stop
     → OnErr result ((core ≡ lent_core k at sp) × (memory ≡ memory_of k)) → Stopped stop ≡ executed k form
     → ◌≡◌ {A = Result Ran BusStop × Kernel} (Err stop, unstored k core memory) (execution k form)
 stop_told k at sp form result core memory stop told left is =

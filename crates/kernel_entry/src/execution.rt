@@ -7,7 +7,7 @@ ghost use Rattle.kernel_entry.specs.Parts.{descriptor};
 ghost use Rattle.kernel_entry.specs.Services.{execution};
 
 use crate::kernel::Kernel;
-use avr_exec::{BusStop, exec};
+use avr_exec::{BusStop, exec_at};
 use avr_isa::Instr;
 use mem_guard::{VirtualBus, next_size_in_image};
 use mote_devices::Line;
@@ -42,14 +42,13 @@ pub(crate) fn execute(k: &mut Kernel, at: u16, instr: &Instr) -> Result<Ran, Bus
         layout: &k.layout,
         line: None,
     };
-    let done = exec(instr, &mut k.mote.cpu, &mut bus, next_size);
+    let done = exec_at(instr, &mut k.mote.cpu, &mut bus, at, next_size);
     let line = bus.line;
-    let pc = k.mote.cpu.pc;
     let sp = k.mote.cpu.sp;
     k.mote.cpu.pc = place;
     k.mote.cpu.sp = KERNEL_STACK_TOP;
     match done {
-        Ok(()) => {
+        Ok(pc) => {
             k.mote.sram.set_vsp(sp);
             Ok(Ran { pc, line })
         }

@@ -1,30 +1,25 @@
 -- Where nothing or a register of the devices is asked, the guarded and the physical space answer alike.
-use Rattle.std.proofs.Common.{◌≡◌, ℕ, ◌+◌, ◌<◌, ◌≤◌, Bool, true, false, cond, ◌&&◌, nat_lt, nat_le, List, refl, sym, ap, subst, arith, ◌∙◌}
+use Rattle.std.proofs.Common.{◌≡◌, ℕ, ◌+◌, ◌<◌, ◌≤◌, Bool, true, false, cond, ◌&&◌, nat_lt, nat_le, List, refl, ap, subst, arith, ◌∙◌}
 use Rattle.std.proofs.lemmas.Bool.Decides.{nat_tests}
-use Rattle.avr_isa.specs.declared.form.Form.{Form}
 use Rattle.avr_isa.specs.IoTable.{can_read, can_write}
-use Rattle.avr_exec.specs.declared.cpu.Cpu.{Cpu}
 use Rattle.avr_exec.specs.declared.ask.Ask.{Ask}
 use Rattle.avr_exec.specs.declared.ask.Ask.TheVariants.{Nothing, Load, Store, Modify}
 use Rattle.avr_exec.specs.declared.answer.Answer.TheVariants.{Done, Byte}
 use Rattle.avr_exec.specs.Spaces.{Went}
-use Rattle.avr_exec.specs.Asks.{ask_of}
-use Rattle.avr_exec.specs.Execution.{answered_by, answer_of, exec_of}
-use Rattle.avr_exec.specs.Likeness.{over}
-use Rattle.avr_exec.proofs.OneAnswer.{exec_alike}
+use Rattle.avr_exec.specs.Execution.{answered_by, answer_of}
 use Rattle.sram_layout.specs.Bytes.{byte_at}
 use Rattle.heap_frames.specs.Addresses.{is_stack, is_heap}
 use Rattle.mote_devices.specs.Registers.{register_at, is_polled}
 use Rattle.mote_devices.specs.State.{State, polled}
 use Rattle.mote_devices.specs.Accesses.{Gave, read, write, modify, value_of, after_value, after_write, line_written, written_byte}
 use Rattle.mote_devices.proofs.AccessLaws.{can_read_below, can_write_below, read_allowed, write_allowed, modify_allowed, Afterwards, polls_after_read, polls_after_write, polls_after_modify}
-use Rattle.mote_core.specs.Physical.{Physical, is_sram, with_sram, physical_calls, load as physical_load, store as physical_store, modify as physical_modify, from_device as physical_from, to_device as physical_to}
+use Rattle.mote_core.specs.Physical.{Physical, is_sram, with_sram, load as physical_load, store as physical_store, modify as physical_modify, from_device as physical_from, to_device as physical_to}
 use Rattle.mote_core.specs.Conditions.{is_device_ask}
 use Rattle.mote_core.proofs.NeverStops.{both}
 use Rattle.mem_guard.specs.declared.address.AddrClass.{AddrClass}
 use Rattle.mem_guard.specs.declared.address.AddrClass.TheVariants.{Register, Cpu as Core, Io, Stack, Heap}
 use Rattle.mem_guard.specs.Classes.{class_of}
-use Rattle.mem_guard.specs.Guarded.{Guarded, guarded_calls, load as guarded_load, store as guarded_store, modify as guarded_modify, load_in, store_in, from_device, to_device}
+use Rattle.mem_guard.specs.Guarded.{Guarded, load as guarded_load, store as guarded_store, modify as guarded_modify, load_in, store_in, from_device, to_device}
 use Rattle.mem_guard.specs.Physically.{physical_of, AnswersAlike}
 
 -- below data address 256 there is no SRAM, no stack and no heap
@@ -128,14 +123,3 @@ answers_alike words g (Modify a clear set) can =
       polls = subst (Afterwards (λ next. next.polls ≤ g.devices.polls + 1)) given (polls_after_modify g.devices a clear set);
     }
 answers_alike words g _ can = absurd (cc)
-
--- as one equation under the map
-pub answer_of-physical_of : (words : List ℕ) (g : Guarded) (ask : Ask) → is_device_ask ask ≡ true → answer_of physical_calls (physical_of words g) ask ≡ over (physical_of words) (answer_of guarded_calls g ask)
-answer_of-physical_of words g ask can =
-    let alike = answers_alike words g ask can in
-    alike.physical ∙ sym (ap (over (physical_of words)) alike.guarded)
-
--- and so an instruction has the same outcome over both
-pub exec_of-physical_of : (words : List ℕ) (g : Guarded) (form : Form) (cpu : Cpu) (n : ℕ) → is_device_ask (ask_of form cpu) ≡ true
-    → exec_of physical_calls form cpu (physical_of words g) n ≡ over (physical_of words) (exec_of guarded_calls form cpu g n)
-exec_of-physical_of words g form cpu n can = exec_alike guarded_calls physical_calls (physical_of words) form cpu g n (answer_of-physical_of words g (ask_of form cpu) can)

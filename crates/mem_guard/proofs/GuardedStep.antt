@@ -24,22 +24,22 @@ use Rattle.mem_guard.proofs.Alike.{executed_alike}
 use Rattle.mem_guard.proofs.Leaves.{executed_leaves, kept_same}
 
 -- what `exec` tells of a VirtualBus, over flat memory
-finished_flat : (result : Result (Unit {0}) BusStop) (cpu : Cpu) (next : Guarded) → finished result cpu (flat_of next) ≡ over flat_of (finished result cpu next)
+finished_flat : {A : Type 0} (result : Result A BusStop) (cpu : Cpu) (next : Guarded) → finished result cpu (flat_of next) ≡ over flat_of (finished result cpu next)
 finished_flat (Ok done) cpu next = refl
 finished_flat (Err stop) cpu next = refl
 
-pub executed_flat : (result : Result (Unit {0}) BusStop) (form : Form) (cpu cpu' : Cpu) (g next : Guarded) (n : ℕ) → IsPaged g.sram g.swap
+pub executed_flat : {A : Type 0} (result : Result A BusStop) (form : Form) (cpu cpu' : Cpu) (g next : Guarded) (n : ℕ) → IsPaged g.sram g.swap
     → finished result cpu' next ≡ exec_of guarded_calls form cpu g n → finished result cpu' (flat_of next) ≡ exec_of flat_calls form cpu (flat_of g) n
 executed_flat result form cpu cpu' g next n paged outcome =
     finished_flat result cpu' next ∙ ap (over flat_of) outcome ∙ sym (executed_alike form cpu g n paged)
 
 -- what it leaves of the mote's own parts
-left_or_same : (P : Guarded → Type 0) (result : Result (Unit {0}) BusStop) (cpu cpu' : Cpu) (g next : Guarded) → IsPaged g.sram g.swap
+left_or_same : {A : Type 0} (P : Guarded → Type 0) (result : Result A BusStop) (cpu cpu' : Cpu) (g next : Guarded) → IsPaged g.sram g.swap
     → Leaves (λ n. IsKept g n × P n) (finished result cpu' next) → OnErr result ((cpu' ≡ cpu) × (next ≡ g)) → IsKept g next × OnOk result (P next)
 left_or_same P (Ok done) cpu cpu' g next paged left stop = (left.0, left.1)
 left_or_same P (Err stopped) cpu cpu' g next paged left stop = (subst (IsKept g) (sym stop.1) (kept_same g paged), tt)
 
-pub executed_left : (result : Result (Unit {0}) BusStop) (form : Form) (cpu cpu' : Cpu) (g next : Guarded) (n : ℕ) → IsPaged g.sram g.swap
+pub executed_left : {A : Type 0} (result : Result A BusStop) (form : Form) (cpu cpu' : Cpu) (g next : Guarded) (n : ℕ) → IsPaged g.sram g.swap
     → finished result cpu' next ≡ exec_of guarded_calls form cpu g n → OnErr result ((cpu' ≡ cpu) × (next ≡ g))
     → IsKept g next × OnOk result (HeapAfter g (ask_of form cpu) next)
 executed_left result form cpu cpu' g next n paged outcome stop =

@@ -9,7 +9,7 @@ ghost use Rattle.mote_core.specs.Conditions.{is_mapped};
 ghost use Rattle.mote_core.specs.Shown.{line_shown};
 
 use crate::space::PhysicalSpace;
-use avr_exec::{Cpu, exec};
+use avr_exec::{Cpu, exec_at};
 use avr_isa::Instr;
 use flash_model::Flash;
 use input_script::Script;
@@ -84,26 +84,41 @@ impl Mote {
     }
 
     /// Executes the instruction of flash at the pc.
-    #[inline(always)]
     pub fn plain_step(&mut self) -> Plain
         requires step { can_step (form_at self.old) self.old.cpu ≡ true }
         requires room { self.old.devices.polls < 2 ^ 63 }
         ensures step { IsPlainStep self.old result self.new }
         ensures whole { IsWhole self.new.flash }
     {
-        let decoded = self.flash.decoded(self.cpu.pc);
+        let pc = self.cpu.pc;
+        self.plain_step_at(pc).0
+    }
+
+    /// The same, where the pc is `pc`. Tells the new pc too: who makes one step behind the other has it at hand, and waits for
+    /// no memory to know it.
+    #[inline(always)]
+    pub fn plain_step_at(&mut self, pc: u16) -> (Plain, u16)
+        requires at { pc ≡ self.old.cpu.pc }
+        requires step { can_step (form_at self.old) self.old.cpu ≡ true }
+        requires room { self.old.devices.polls < 2 ^ 63 }
+        ensures step { IsPlainStep self.old result.0 self.new }
+        ensures pc { result.1 ≡ self.new.cpu.pc }
+        ensures whole { IsWhole self.new.flash }
+    {
+        let decoded = self.flash.decoded(pc);
         execute(
             &decoded.instr,
             &mut self.cpu,
             &mut self.sram,
             &mut self.devices,
             &self.flash,
+            pc,
             decoded.next_size,
         )
     }
 }
 
-/// Executes an instruction that touches no other address than the physical space has.
+/// Executes an instruction that touches no other address than the physical space has. Tells what it shows, and the new pc.
 #[inline(always)]
 fn execute(
     instr: &Instr,
@@ -111,14 +126,17 @@ fn execute(
     sram: &mut Sram,
     devices: &mut Devices,
     flash: &Flash,
+    pc: u16,
     next_size: u16,
-) -> Plain
+) -> (Plain, u16)
     requires executed { is_executed instr.now ≡ true }
+    requires at { pc ≡ cpu.old.pc }
     requires mapped { is_mapped (ask_of instr.now cpu.old) ≡ true }
     requires next { (1 ≤ next_size) × (next_size ≤ 2) }
     requires room { devices.old.polls < 2 ^ 63 }
     ensures outcome { exec_of physical_calls instr.now cpu.old (record { sram = sram.old; devices = devices.old; words = flash.now.words; line = None }) next_size
-        ≡ Went cpu.new (record { sram = sram.new; devices = devices.new; words = flash.now.words; line = line_shown result }) }
+        ≡ Went cpu.new (record { sram = sram.new; devices = devices.new; words = flash.now.words; line = line_shown result.0 }) }
+    ensures pc { result.1 ≡ cpu.new.pc }
 {
     let mut space = PhysicalSpace {
         sram,
@@ -126,10 +144,10 @@ fn execute(
         flash,
         line: None,
     };
-    match exec(instr, cpu, &mut space, next_size) {
-        Ok(()) => match space.line {
-            Some(line) => Plain::Wrote(line),
-            None => Plain::Went,
+    match exec_at(instr, cpu, &mut space, pc, next_size) {
+        Ok(next) => match space.line {
+            Some(line) => (Plain::Wrote(line), next),
+            None => (Plain::Went, next),
         },
         Err(_) => unreachable!(),
     }

@@ -100,8 +100,7 @@ impl Bus for PhysicalSpace<'_> {
         if !is_sram(below) {
             return Err(BusStop::Io(below));
         }
-        self.sram.set(sp, (ret & 0xFF) as u8);
-        self.sram.set(below, (ret >> 8) as u8);
+        self.sram.set_return(sp, ret);
         Ok(())
     }
 

@@ -24,7 +24,7 @@ use Rattle.flash_words.specs.Layouts.{IsRight}
 use Rattle.flash_words.specs.declared.layout.Layout.{Layout}
 use Rattle.program_steps.specs.Machines.{Machine}
 use Rattle.program_steps.specs.Machines.{state_of, numbers_of}
-use Rattle.program_steps.specs.Loop.{IsHalted, is_small, IsOver, CanPlain, CanServeNow, HasPlain, HasServed, CanMove, HasMoved, moves_made}
+use Rattle.program_steps.specs.Loop.{IsHalted, is_small, IsOver, CanPlain, CanServeNow, HasServed, CanMove, HasMoved, moves_made}
 use Rattle.step_laws.specs.States.{Awaited, State, mote_of, with_mote, after_service, line_served, is_stop}
 use Rattle.step_laws.specs.Walks.{MakesPlain, MakesServe, MakesOf, WalkWithin}
 use Rattle.step_laws.proofs.MoveLaws.{entry_high, pool_low}
@@ -102,10 +102,6 @@ serve_by x y b (Serve line stops) right makes high = record { line = line; stops
 
 pub can_serve : (x : State) → IsRight x.kernel.layout → CanMove x → 0xF000 ≤ (mote_of x).cpu.pc → CanServeNow x
 can_serve x right can high = serve_by x can.next can.begins can.inner right can.makes high
-
-pub moved_plain : (old new : Machine) (before after : Option Line) → HasPlain old new before after → old.kernel.mote.cpu.pc < 0xF000 → HasMoved old new before after
-moved_plain old new before after told low b (PlainMove line) next makes = told b line next makes
-moved_plain old new before after told low b (Serve line stops) next makes = absurd (let e = entry_high old.kernel makes.can in omega arith)
 
 pub moved_serve : (old new : Machine) (before after : Option Line) → IsRight old.kernel.layout → HasServed old new before after → 0xF000 ≤ old.kernel.mote.cpu.pc → HasMoved old new before after
 moved_serve old new before after right told high b (Serve line stops) next makes = told line stops next makes

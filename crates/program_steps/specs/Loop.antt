@@ -2,7 +2,7 @@
 -- asks that some move may be made; and whichever may, it leaves what that one leads to. So it is told
 -- nothing of the law of a step, and follows it all the same. The device line of a step stands where all its
 -- moves put it: a call tells which stood there before, and which stands there after.
-use Rattle.std.specs.Prelude.{◌≡◌, ◌≢◌, ℕ, ◌+◌, ◌<◌, ◌≤◌, Bool, true, false, List, [], length, Option, Some, None, map}
+use Rattle.std.specs.Prelude.{◌≡◌, ◌≢◌, ℕ, ◌+◌, ◌<◌, ◌≤◌, ◌^◌, Bool, true, false, List, [], length, Option, Some, None, map}
 use Rattle.std.specs.Option.{option_or}
 use Rattle.mote_devices.specs.declared.line.Line.{Line}
 use Rattle.page_index.specs.Entries.{IsEntry}
@@ -12,10 +12,12 @@ use Rattle.branch_bridge.specs.Arrivals.{KeptThrough, KeepsParts}
 use Rattle.step_laws.specs.declared.moves.Owed.{Owed}
 use Rattle.program_steps.specs.declared.progress.Progress.{Progress}
 use Rattle.program_steps.specs.Machines.{Machine, state_of, numbers_of}
+use Rattle.program_steps.specs.Ready.{IsGoing}
+use Rattle.program_steps.specs.Interrupts.{IsUntaken}
 use Rattle.step_laws.specs.StepLaws.{StepLaw, moves_of, crossings_over, links_at}
 use Rattle.step_laws.specs.Moves.{Inner, Plain, Serve, Within, Arrive, lines_of, line_before, line_within}
 use Rattle.step_laws.specs.Numbers.{Numbers, moved, numbered, one_if}
-use Rattle.step_laws.specs.States.{State, mote_of, store_of, end_by}
+use Rattle.step_laws.specs.States.{State, mote_of, store_of, end_by, admits}
 use Rattle.step_laws.specs.Walks.{MakesPlain, MakesServe, MakesOf, MakesArrive, WalkWithin}
 use Rattle.nat_page.specs.Entered.{IsPlace}
 
@@ -85,6 +87,14 @@ pub record CanMove (x : State) : Type 0 where
 
 abbrev pub HasMoved : Machine → Machine → (before after : Option Line) → Type 0
 HasMoved old new before after = (begins : Bool) → (inner : Inner) → (next : State) → MakesOf begins (state_of old) inner next → Moved old new before after inner next
+
+-- this arrival is owed, and may be made
+pub record MayArrive (m : Machine) (next : Owed) : Type 0 where
+  pub ready : IsGoing m
+  pub steps : m.steps ≤ 10 ^ 12
+  pub untaken : IsUntaken m
+  pub admitted : admits m.kernel.part m.at ≡ true
+  pub owed : m.owed ≡ Some next
 
 -- an arrival was made, or refused, and left what arrivals leave
 pub record HasArrived (old new : Machine) : Type 0 where

@@ -9,7 +9,7 @@ ghost use Rattle.addr_tables.specs.Tables.{IsTables};
 ghost use Rattle.branch_bridge.specs.Arrivals.{CameThrough, ring_of};
 ghost use Rattle.kernel_entry.specs.Parts.{image_held};
 ghost use Rattle.step_laws.specs.States.{admits, end_by as end_by_of};
-ghost use Rattle.program_steps.specs.Loop.{HasArrived, after_arrival};
+ghost use Rattle.program_steps.specs.Loop.{MayArrive, HasArrived, after_arrival};
 ghost use Rattle.program_steps.specs.Several.{HasFollowed};
 ghost use Rattle.program_steps.specs.Ready.{IsGoing, IsQuiet};
 ghost use Rattle.program_steps.specs.Stepping.{HasEntered, HasBound};
@@ -47,12 +47,44 @@ pub fn enter(k: &mut Kernel, p: &mut Progress, cursor: &mut Cursor) -> Option<En
     match p.owed {
         None => None,
         Some(owed) => {
-            let changed = arrive_owed(k, p, &mut cursor.places, owed);
-            is_whole(&k.mote.flash);
-            forget_if(changed, cursor);
+            arrive(k, p, cursor, owed);
             p.end
         }
     }
+}
+
+/// Makes the arrival that is owed: as one that leaves flash as it is where it may be, since that costs less.
+#[inline(always)]
+fn arrive(k: &mut Kernel, p: &mut Progress, cursor: &mut Cursor, owed: Owed)
+    requires may { MayArrive (whole k.old p.old) owed }
+    requires cursor { IsCursor k.old.layout k.old.mote.flash.words cursor.old }
+    ensures arrived { HasArrived (whole k.old p.old) (whole k.new p.new) }
+    ensures whole { IsWhole k.new.mote.flash }
+    ensures cursor { IsCursor k.new.layout k.new.mote.flash.words cursor.new }
+{
+    if owed.stub.is_some() {
+        arrive_anyhow(k, p, cursor, owed);
+        return;
+    }
+    if !arrive_known(k, p, cursor, owed.target) {
+        arrive_anyhow(k, p, cursor, owed);
+        return;
+    }
+    is_whole(&k.mote.flash);
+}
+
+/// Makes the arrival that is owed, whatever it changes.
+#[inline(always)]
+fn arrive_anyhow(k: &mut Kernel, p: &mut Progress, cursor: &mut Cursor, owed: Owed)
+    requires may { MayArrive (whole k.old p.old) owed }
+    requires cursor { IsCursor k.old.layout k.old.mote.flash.words cursor.old }
+    ensures arrived { HasArrived (whole k.old p.old) (whole k.new p.new) }
+    ensures whole { IsWhole k.new.mote.flash }
+    ensures cursor { IsCursor k.new.layout k.new.mote.flash.words cursor.new }
+{
+    let changed = arrive_owed(k, p, &mut cursor.places, owed);
+    is_whole(&k.mote.flash);
+    forget_if(changed, cursor);
 }
 
 /// Whether a step may follow the one that was made: it wrote no line, and there are fewer than so many.

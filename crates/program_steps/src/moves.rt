@@ -1,6 +1,6 @@
 //! One move inside a step: a plain step of the mote, or a service of the kernel.
 
-ghost use Rattle.std.specs.Prelude.{◌≡◌, ◌<◌, ◌^◌, max, false, None};
+ghost use Rattle.std.specs.Prelude.{◌≡◌, ◌<◌, ◌^◌, max, true, false, None, IfSome, IfNone};
 ghost use Rattle.std.specs.Option.{option_or};
 ghost use Rattle.flash_words.specs.Layouts.{IsRight};
 ghost use Rattle.program_steps.specs.Machines.{state_of, numbers_of};
@@ -14,45 +14,51 @@ use mote_core::Plain;
 use mote_devices::Line;
 use step_laws::{End, Owed};
 
-/// A plain step where the pc is in the pool, else a service. Tells whether an arrival is owed now, or the
-/// program has stopped.
+/// A plain step where the pc, which is `pc`, is in the pool, else a service. Tells the new pc; None where an arrival is owed
+/// now, or the program has stopped.
 #[inline(always)]
-pub fn one_move(k: &mut Kernel, p: &mut Progress) -> bool
+pub fn one_move(k: &mut Kernel, p: &mut Progress, pc: u16) -> Option<u16>
+    requires at { pc ≡ k.old.mote.cpu.pc }
     requires untorn { p.old.torn ≡ None }
     requires right { IsRight k.old.layout }
     requires can { CanMove (state_of (whole k.old p.old)) }
     requires small { is_small (numbers_of (whole k.old p.old)) (2 ^ 62) }
     ensures moved { HasMoved (whole k.old p.old) (whole k.new p.new) p.old.line p.new.line }
-    ensures over { Halts (whole k.new p.new) result }
+    ensures on { IfSome result (λ pc. (pc ≡ k.new.mote.cpu.pc) × Halts (whole k.new p.new) false) }
+    ensures over { IfNone result (Halts (whole k.new p.new) true) }
     ensures flash { k.new.mote.flash ≡ k.old.mote.flash }
     ensures layout { k.new.layout ≡ k.old.layout }
     ensures torn { p.new.torn ≡ p.old.torn }
 {
-    if k.mote.cpu.pc < KERNEL_FIRST {
-        plain(k, p);
-        false
+    if pc < KERNEL_FIRST {
+        Some(plain(k, p, pc))
+    } else if service(k, p) {
+        None
     } else {
-        service(k, p)
+        Some(k.mote.cpu.pc)
     }
 }
 
-/// One plain step.
+/// One plain step, of the instruction at the pc. Tells the new pc.
 #[inline(always)]
-fn plain(k: &mut Kernel, p: &mut Progress)
+fn plain(k: &mut Kernel, p: &mut Progress, pc: u16) -> u16
+    requires at { pc ≡ k.old.mote.cpu.pc }
     requires can { CanPlain (state_of (whole k.old p.old)) }
     requires small { is_small (numbers_of (whole k.old p.old)) (2 ^ 62) }
     ensures stepped { HasPlain (whole k.old p.old) (whole k.new p.new) p.old.line p.new.line }
+    ensures pc { result ≡ k.new.mote.cpu.pc }
     ensures free { Halts (whole k.new p.new) false }
     ensures flash { k.new.mote.flash ≡ k.old.mote.flash }
     ensures layout { k.new.layout ≡ k.old.layout }
     ensures torn { p.new.torn ≡ p.old.torn }
 {
-    let shown = k.mote.plain_step();
+    let (shown, next) = k.mote.plain_step_at(pc);
     p.since += 1;
     match shown {
         Plain::Went => {}
         Plain::Wrote(line) => p.line = Some(line),
     }
+    next
 }
 
 /// One service of the kernel. Tells whether an arrival is owed now, or the program has stopped.

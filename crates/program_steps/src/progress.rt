@@ -8,13 +8,15 @@ use step_laws::{End, Owed};
 /// services alone, so it may be behind `since`; and a plain step raises one counter alone, `since`.
 #[derive(Clone, Copy)]
 pub struct Progress {
-    pub at: u16,
     pub owed: Option<Owed>,
     pub end: Option<End>,
     /// Whether the step that begins here, or has begun, may be an interrupt.
     pub due: bool,
     /// The page that a refused operation on flash has left torn.
     pub torn: Option<Torn>,
+    /// The original address where the program stands. It isn't beside `owed`, since a processor that reads both at once waits
+    /// for what a service has just stored there.
+    pub at: u16,
     pub broken: bool,
     pub steps: u64,
     pub crossings: u64,

@@ -158,19 +158,19 @@ fn all_moves(k: &mut Kernel, p: &mut Progress, cursor: &mut Cursor) -> Option<u1
     ensures cursor { IsCursor k.new.layout k.new.mote.flash.words cursor.new }
 {
     p.steps += 1;
+    let mut pc = k.mote.cpu.pc;
     'moves: loop {
-        if one_move(k, p) {
-            return None;
-        }
-        if let Some(t) = look(k, cursor) {
+        pc = one_move(k, p, pc)?;
+        if let Some(t) = look(k, cursor, pc) {
             return Some(t);
         }
     }
 }
 
-/// The original address whose code control has reached, if it has.
+/// The original address whose code control, which is at `pc`, has reached, if it has.
 #[inline(always)]
-fn look(k: &Kernel, cursor: &mut Cursor) -> Option<u16>
+fn look(k: &Kernel, cursor: &mut Cursor, pc: u16) -> Option<u16>
+    requires at { pc ≡ k.now.mote.cpu.pc }
     requires right { IsRight k.now.layout }
     requires mapped { IsMapped k.now.layout k.now.mote.flash.words }
     requires cursor { IsCursor k.now.layout k.now.mote.flash.words cursor.old }
@@ -178,7 +178,7 @@ fn look(k: &Kernel, cursor: &mut Cursor) -> Option<u16>
     ensures none { IfNone result ((t : ℕ) → ¬ IsEntry k.now.layout k.now.mote.flash.words t k.now.mote.cpu.pc) }
     ensures cursor { IsCursor k.now.layout k.now.mote.flash.words cursor.new }
 {
-    cursor.origin(&k.mote.flash, &k.layout, k.mote.cpu.pc)
+    cursor.origin(&k.mote.flash, &k.layout, pc)
 }
 
 /// The numbers of the events to come fit 32 bits, as the devices' type keeps it; a read of their count tells so to the

@@ -1,6 +1,6 @@
 //! The bytes, and what is read and written of them in one piece.
 
-ghost use Rattle.std.specs.Prelude.{◌≡◌, ◌+◌, ◌-◌, ◌≤◌, ◌<◌, length};
+ghost use Rattle.std.specs.Prelude.{◌≡◌, ◌+◌, ◌-◌, ◌/◌, ◌%◌, ◌≤◌, ◌<◌, length};
 ghost use Rattle.sram_layout.specs.Bytes.{byte_count, byte_at, with_byte, data_word_at, with_word, block_at, with_block, part_at, with_part};
 ghost use Rattle.list_parts.specs.Lists.{many};
 ghost use Rattle.sram_layout.specs.Boot.{at_boot};
@@ -60,6 +60,19 @@ impl Sram {
         ensures size { (length self.old ≡ byte_count) × (length self.new ≡ byte_count) }
     {
         self.bytes[(a - FIRST) as usize] = v;
+    }
+
+    /// Writes a return address as a call leaves it: its low byte at a data address, its high byte below.
+    #[tactic(auto, unfolding(crate::specs::Bytes::with_byte))]
+    #[inline(always)]
+    pub fn set_return(&mut self, a: u16, ret: u16)
+        requires { (0x0101 ≤ a) × (a ≤ 0x10FF) }
+        ensures after { self.new ≡ with_byte (with_byte self.old a (ret % 256)) (a - 1) (ret / 256) }
+        ensures size { (length self.old ≡ byte_count) × (length self.new ≡ byte_count) }
+    {
+        let low = (a - FIRST) as usize;
+        self.bytes[low] = (ret % 256) as u8;
+        self.bytes[low - 1] = (ret / 256) as u8;
     }
 
     /// Copies the 256 bytes from a data address on.

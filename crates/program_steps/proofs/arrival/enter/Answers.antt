@@ -1,31 +1,12 @@
-use Rattle.std.proofs.Common.{ap, ◌∙◌}
-use Rattle.page_cursor.specs.Cursors.{IsCursor}
-use Rattle.page_cursor.specs.declared.cursor.Cursor.{Cursor}
-use Rattle.step_laws.specs.States.{admits}
 use Rattle.program_steps.specs.Wholes.{whole}
-use Rattle.program_steps.proofs.Arrived.{owed_at}
-use Rattle.program_steps.proofs.Arriving.{owed_came}
-use Rattle.program_steps.proofs.Entered.{entered_none, entered_some, few_pages}
-use Rattle.program_steps.proofs.Laws.{faithful_going, tables_going}
-use Rattle.program_steps.proofs.SameFlash.{cursor_kept}
+use Rattle.program_steps.proofs.Entered.{entered_none, entered_some}
 use Rattle.program_steps.proofs.arrival.enter.Goals as goal
 
 pub returns-in-None-clause-entered : goal.returns-in-None-clause-entered
 returns-in-None-clause-entered c = entered_none (whole c.args.k.now c.args.p.now) c.requires.ready c.requires.quiet c.in-None.is
 
-pub arrive_owed-changed-requires : goal.arrive_owed-changed-requires
-arrive_owed-changed-requires c =
-    let m = whole c.args.k.now c.args.p.now in
-    let ready = c.requires.ready in
-    let few = few_pages m ready c.requires.steps in
-    record { owed = c.in-Some.is; going = ready.going; untorn = ready.untorn; untaken = c.requires.untaken; admitted = ap (admits c.args.k.now.part) (owed_at m _ ready c.in-Some.is) ∙ c.requires.admitted; right = ready.order.right; faithful = faithful_going m ready; tables = tables_going m ready; stub = owed_came m _ ready c.in-Some.is; ring = ready.order.ring; room = few.1; few = few.0 }
+pub arrive-requires-clause-may : goal.arrive-requires-clause-may
+arrive-requires-clause-may c = record { ready = c.requires.ready; steps = c.requires.steps; untaken = c.requires.untaken; admitted = c.requires.admitted; owed = c.in-Some.is }
 
 pub returns-in-Some-clause-entered : goal.returns-in-Some-clause-entered
-returns-in-Some-clause-entered c = entered_some (whole c.args.k.now c.args.p.now) (whole c.arrive_owed-changed.new.k c.arrive_owed-changed.new.p) c.arrive_owed-changed.ensures.arrived c.is_whole.ensures.whole c.requires.ready
-
-pub returns-in-Some-clause-cursor : goal.returns-in-Some-clause-cursor
-returns-in-Some-clause-cursor c =
-    let cursor : Cursor = record c.args.cursor.now { places = c.arrive_owed-changed.new.places } in
-    let known : IsCursor c.args.k.now.layout c.args.k.now.mote.flash.words cursor = record { stretch = c.requires.cursor.stretch; reached = c.requires.cursor.reached } in
-    cursor_kept (whole c.args.k.now c.args.p.now) (whole c.arrive_owed-changed.new.k c.arrive_owed-changed.new.p) c.arrive_owed-changed.result cursor c.forget_if.new.cursor
-    c.arrive_owed-changed.ensures.unchanged c.arrive_owed-changed.ensures.arrived c.forget_if.ensures.kept c.forget_if.ensures.forgotten known
+returns-in-Some-clause-entered c = entered_some (whole c.args.k.now c.args.p.now) (whole c.arrive.new.k c.arrive.new.p) c.arrive.ensures.arrived c.arrive.ensures.whole c.requires.ready

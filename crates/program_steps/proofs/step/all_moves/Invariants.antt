@@ -8,6 +8,7 @@ use Rattle.program_steps.proofs.step.all_moves.Given as goal
 -- the moves that are left, whichever the law gives
 abbrev pub invariant-moves : goal.invariant-moves
 invariant-moves l = record {
+  pc : l.pc ≡ l.k.mote.cpu.pc;
   flash : l.k.mote.flash ≡ l.fn.k.mote.flash;
   layout : l.k.layout ≡ l.fn.k.layout;
   torn : l.p.torn ≡ l.fn.p.torn;
