@@ -9,6 +9,7 @@ use Rattle.sram_layout.proofs.Laws.{byte_out_of_word}
 use Rattle.sram_layout.proofs.CellLaws.{length-with_entry, entry_same, entry_other}
 use Rattle.addr_tables.specs.Tables.{IsHeld, IsTables}
 use Rattle.addr_tables.specs.Changes.{entry_cell, KeepsRest}
+use Rattle.base_laws.proofs.Numbers.{unequal}
 
 -- a set's entries in that row
 pub way_cell_is : (set which : ℕ) → way_cell set which ≡ entry_cell (32 + 2 * set + which)
@@ -24,9 +25,6 @@ number_of k below = elim (cases_lt k 32) [
   | inl aside ↦ Aside aside
   | inr way ↦ Way ((k - 32) / 2) ((k - 32) % 2) (omega arith) (omega arith) (omega arith)
 ]
-
-unequal : (a b : ℕ) → a ≢ b → b ≤ a → b < a
-unequal a b apart above = omega arith
 
 -- two entries of the row don't overlap
 pub apart_cells : (k j : ℕ) → j ≢ k → (entry_cell j + 4 ≤ entry_cell k) ⊎ (entry_cell k + 4 ≤ entry_cell j)

@@ -1,8 +1,9 @@
 -- What follows from an answer of the tables, and from an answer of a search.
-use Rattle.std.proofs.Common.{◌≡◌, ℕ, ◌%◌, ◌⊎◌, Bool, true, false, cond, List, [], ◌∷◌, length, arith, refl, ap, ap₂, subst, sym, ◌∙◌, inl, inr, eq-eqb}
-use Rattle.std.specs.Prelude.{◌≢◌, ◌==◌, ◌&&◌, ◌↔◌, not, Option, Some, None, IfSome, Result, Ok, Err, IfOk}
+use Rattle.std.proofs.Common.{◌≡◌, ℕ, ◌%◌, ◌⊎◌, true, List, [], ◌∷◌, length, arith, refl, ap, ap₂, subst, sym, ◌∙◌, inl, inr, eq-eqb}
+use Rattle.std.specs.Prelude.{◌≢◌, ◌==◌, ◌↔◌, not, Option, Some, None, IfSome, Result, Ok, Err, IfOk}
 use Rattle.std.specs.Result.{result_ok}
 use Rattle.std.proofs.lemmas.Map.Views.{exact_unsigned_eq}
+use Rattle.std.proofs.lemmas.Bool.{and_parts, both_ways, not-true}
 use Rattle.flash_words.specs.declared.layout.Layout.{Layout}
 use Rattle.sram_layout.specs.Bytes.{byte_count}
 use Rattle.sram_layout.specs.Cells.{entry_at}
@@ -12,29 +13,18 @@ use Rattle.addr_tables.specs.Tables.{IsHeld, IsTables}
 use Rattle.addr_tables.specs.Hits.{aside_of, way_of, is_of, first_place, hit}
 use Rattle.addr_tables.specs.Changes.{noted, noted_if, Finds}
 use Rattle.addr_tables.proofs.NoteLaws.{noted_tables}
-
-both : (a b : Bool) → a && b ≡ true → (a ≡ true) × (b ≡ true)
-both true b h = (refl, h)
-both false b h = absurd (cc)
-
-not_both : (b : Bool) → not b ≡ true → b ≡ true → ⊥
-not_both true n is = cc
-not_both false n is = cc
+use Rattle.base_laws.proofs.Searches.{found_first}
 
 -- what holds of an entry that is of t holds of t and the entry's place, which isn't 0
 is_of_pair : (P : ℕ × ℕ → Type 0) (entry : ℕ × ℕ) (t place : ℕ) → is_of entry t ≡ true → entry.1 ≡ place → P entry → P (t, place) × (place ≢ 0)
 is_of_pair P (a, v) t place test same holds =
-    let tests = both (a == t) (not (v == 0)) test in
+    let tests = and_parts (a == t) (not (v == 0)) test in
     let here : (a, v) ≡ (t, place) = ap₂ (λ x y. let pair : ℕ × ℕ = (x, y) in pair) (exact_unsigned_eq a t tests.0) same in
-    (subst P here holds, λ zero. absurd (not_both (v == 0) tests.1 (eq-eqb v 0 (same ∙ zero))))
+    (subst P here holds, λ zero. absurd (both_ways (v == 0) (not-true (v == 0) tests.1) (eq-eqb v 0 (same ∙ zero))))
 
 -- the place is that of the first of the entries, or of the first of the others
-first_or : (b : Bool) (p place : ℕ) (others : Option ℕ) → cond b (Some p) others ≡ Some place → ((b ≡ true) × (p ≡ place)) ⊎ (others ≡ Some place)
-first_or true p place others is = inl (refl, cc)
-first_or false p place others is = inr is
-
 first_by : (P : ℕ × ℕ → Type 0) (entry : ℕ × ℕ) (entries : List (ℕ × ℕ)) (t place : ℕ) → first_place (entry ∷ entries) t ≡ Some place → P entry → (P (t, place) × (place ≢ 0)) ⊎ (first_place entries t ≡ Some place)
-first_by P entry entries t place is holds = elim (first_or (is_of entry t) entry.1 place (first_place entries t) is) [
+first_by P entry entries t place is holds = elim (found_first (is_of entry t) entry.1 place (first_place entries t) is) [
   | inl here ↦ inl (is_of_pair P entry t place here.0 here.1 holds)
   | inr behind ↦ inr behind
 ]
@@ -65,15 +55,7 @@ pub found_in_pool : (layout : Layout) (words sram : List ℕ) (t : ℕ) (found :
 found_in_pool layout words sram t None missed some only = Finds.Missed missed (λ place entry. let told : None ≡ Some place = only place entry in absurd (cc)) refl refl
 found_in_pool layout words sram t (Some place) missed some only = Finds.Entered place missed some refl refl
 
--- A search that answered a place: where the tables had none, it is that of t's entry,
-pub found_new : (layout : Layout) (words old new : List ℕ) (t place : ℕ) → Finds layout words old new t (Some place) → hit old t ≡ None → IsEntry layout words t place × (new ≡ noted old t place)
-found_new layout words old new t place (Finds.Hit p is answer left) missed = absurd (cc)
-found_new layout words old new t place (Finds.Entered p is entry answer left) missed =
-    let same : p ≡ place = cc in
-    (subst (λ (x : ℕ). IsEntry layout words t x) same entry, left ∙ ap (noted old t) same)
-found_new layout words old new t place (Finds.Missed is none answer left) missed = absurd (cc)
-
--- and so it is where the tables were right.
+-- A search that answered a place, where the tables were right: it is that of t's entry.
 pub found_right : (layout : Layout) (words old new : List ℕ) (t place : ℕ) → Finds layout words old new t (Some place) → IsTables layout old words → IsEntry layout words t place × (new ≡ noted old t place)
 found_right layout words old new t place (Finds.Hit p is answer left) tables =
     let same : p ≡ place = cc in

@@ -78,13 +78,6 @@ pub record ForgetsFirst (page n : ℕ) (old new : List ℕ) : Type 0 where
   pub others : (k b : ℕ) → n ≤ k → k < 160 → b < 4 → byte_at new (entry_cell k + b) ≡ byte_at old (entry_cell k + b)
   pub rest : KeepsRest old new
 
-pub forgets_none : (m : List ℕ) (page : ℕ) → ForgetsFirst page 0 m m
-forgets_none m page = record {
-  first = λ k b before below near. absurd (omega arith);
-  others = λ k b from below near. refl;
-  rest = outside_same m;
-}
-
 pub forgets_more : (page n : ℕ) (old mid : List ℕ) → length mid ≡ byte_count → n < 160 → ForgetsFirst page n old mid → ForgetsFirst page (n + 1) old (without_entry mid page (entry_cell n))
 forgets_more page n old mid long room before =
     let same : entry_at mid (entry_cell n) ≡ entry_at old (entry_cell n) = bytes_stay old mid (entry_cell n) (λ b near. before.others n b (omega arith) room near) in

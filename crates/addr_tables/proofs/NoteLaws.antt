@@ -1,7 +1,7 @@
 -- What a place that was noted leaves in the tables.
 use Rattle.std.proofs.Common.{◌≡◌, ℕ, ◌+◌, ◌*◌, ◌%◌, ◌<◌, Bool, true, false, cond, List, length, arith, refl, ap, ap₂, subst, sym, ◌∙◌, inl, inr, eq-eqb, ne_eqb}
 use Rattle.std.specs.Prelude.{◌≢◌, ◌==◌, ◌&&◌, ◌||◌}
-use Rattle.std.proofs.lemmas.Bool.{cases_eq}
+use Rattle.std.proofs.lemmas.Bool.{cases_eq, and_right}
 use Rattle.flash_words.specs.declared.layout.Layout.{Layout}
 use Rattle.sram_layout.specs.Bytes.{byte_count}
 use Rattle.sram_layout.specs.Cells.{entry_at, with_entry}
@@ -94,15 +94,11 @@ pair_refl t place = ap (λ b. b && (place == place)) (eq-eqb t t refl) ∙ eq-eq
 pair_true : (entry : ℕ × ℕ) (t place : ℕ) → entry ≡ (t, place) → is_pair entry t place ≡ true
 pair_true entry t place same = let P : ℕ × ℕ → Type 0 = λ e. is_pair e t place ≡ true in subst P (sym same) (pair_refl t place)
 
-second_false : (b c : Bool) → c ≡ false → b && c ≡ false
-second_false true c is = is
-second_false false c is = refl
-
 pair_false : (entry : ℕ × ℕ) (t place : ℕ) → ¬ (entry ≡ (t, place)) → is_pair entry t place ≡ false
 pair_false (a, v) t place apart = elim (cases_eq a t) [
   | inl same ↦ elim (cases_eq v place) [
     | inl same' ↦ absurd (apart (ap₂ (λ x y. let pair : ℕ × ℕ = (x, y) in pair) same same'))
-    | inr other ↦ second_false (a == t) (v == place) (ne_eqb v place other)
+    | inr other ↦ and_right (a == t) (v == place) (ne_eqb v place other)
   ]
   | inr other ↦ ap (λ b. b && (v == place)) (ne_eqb a t other)
 ]

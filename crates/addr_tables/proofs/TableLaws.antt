@@ -8,7 +8,7 @@ use Rattle.sram_layout.proofs.BootLaws.{boot_zero}
 use Rattle.page_index.specs.Entries.{IsEntry}
 use Rattle.addr_tables.specs.Tables.{IsHeld, IsTables}
 
-boot_word : (a : ℕ) → 0x0100 ≤ a → a + 1 < 0x0400 → data_word_at at_boot a ≡ 0
+pub boot_word : (a : ℕ) → 0x0100 ≤ a → a + 1 < 0x0400 → data_word_at at_boot a ≡ 0
 unfolding data_word_at
 boot_word a from to = ap₂ (λ low high. low + 256 * high) (boot_zero a from (omega arith) (inl (omega arith))) (boot_zero (a + 1) (omega arith) (omega arith) (inl (omega arith)))
 

@@ -1,6 +1,6 @@
 //! The search, and what changes in the tables.
 
-ghost use Rattle.std.specs.Prelude.{◌≡◌, ℕ, ◌/◌, ◌<◌, ◌↔◌, List, Option, length, Some as Just, None as Nothing, IfErr};
+ghost use Rattle.std.specs.Prelude.{◌≡◌, ℕ, ◌/◌, ◌<◌, ◌↔◌, List, length, Some as Just, None as Nothing, IfErr};
 ghost use Rattle.std.specs.Result.{result_ok};
 ghost use Rattle.flash_words.specs.Layouts.{IsRight};
 ghost use Rattle.flash_words.specs.declared.layout.Layout.{Layout as LayoutOf};

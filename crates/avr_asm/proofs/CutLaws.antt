@@ -1,15 +1,13 @@
 -- Parts of a line.
 use Rattle.std.proofs.Common.{◌≡◌, ℕ, ◌+◌, ◌-◌, ◌<◌, ◌≤◌, get_or, drop, Bool, true, false, cond, eqb, List, [], ◌∷◌, ◌++◌, length, take, arith, ap, refl, sym, ◌∙◌, lt-ltb, le-ltb}
-use Rattle.std.specs.Prelude.{◌≢◌, ◌&&◌, not, map, position, bytes_eq, Some, None}
+use Rattle.std.specs.Prelude.{◌&&◌, not, map, position, bytes_eq, Some, None}
 use Rattle.std.specs.List.{list_all, list_any, position_or_len}
 use Rattle.std.specs.Borrow.{Bor}
 use Rattle.std.proofs.lemmas.List.{length-map, take-append-drop, drop_more, drop_all}
 use Rattle.std.proofs.lemmas.Bool.Decides.{nat_tests}
+use Rattle.std.proofs.lemmas.Bool.{ne_eqb}
 use Rattle.text_lines.specs.Cutting.{Lacks}
 use Rattle.avr_asm.specs.Cuts.{is_blank, before, behind, skip_end, place_of, front_word, behind_word}
-
-unlike : (b byte : ℕ) → b ≢ byte → eqb b byte ≡ false
-unlike b byte apart = grind (arith, nat_tests)
 
 like : (byte : ℕ) → eqb byte byte ≡ true
 like byte = grind (arith, nat_tests)
@@ -17,12 +15,12 @@ like byte = grind (arith, nat_tests)
 -- a text in which a byte doesn't stand
 pub before_lacking : (byte : ℕ) (text : List ℕ) → Lacks byte text → before byte text ≡ text
 before_lacking byte [] lacks = refl
-before_lacking byte (b ∷ text) lacks = rw (unlike b byte lacks.0) (ap (λ rest. b ∷ rest) (before_lacking byte text lacks.1))
+before_lacking byte (b ∷ text) lacks = rw (ne_eqb b byte lacks.0) (ap (λ rest. b ∷ rest) (before_lacking byte text lacks.1))
 
 -- a text that is cut at a byte's first place
 pub before_cut : (byte : ℕ) (front rest : List ℕ) → Lacks byte front → before byte (front ++ byte ∷ rest) ≡ front
 before_cut byte [] rest lacks = rw (like byte) refl
-before_cut byte (b ∷ front) rest lacks = rw (unlike b byte lacks.0) (ap (λ back. b ∷ back) (before_cut byte front rest lacks.1))
+before_cut byte (b ∷ front) rest lacks = rw (ne_eqb b byte lacks.0) (ap (λ back. b ∷ back) (before_cut byte front rest lacks.1))
 
 -- a text with one more byte at its end: it is all blank where both are
 and_both : (x y z : Bool) → (x && (y && z)) ≡ ((x && y) && z)
@@ -111,12 +109,12 @@ dropped_word (b ∷ text) = word_drop (is_blank b) b text (dropped_word text)
 -- a byte's first place cuts a text
 pub behind_cut : (byte : ℕ) (front rest : List ℕ) → Lacks byte front → behind byte (front ++ byte ∷ rest) ≡ rest
 behind_cut byte [] rest lacks = rw (like byte) refl
-behind_cut byte (b ∷ front) rest lacks = rw (unlike b byte lacks.0) (behind_cut byte front rest lacks.1)
+behind_cut byte (b ∷ front) rest lacks = rw (ne_eqb b byte lacks.0) (behind_cut byte front rest lacks.1)
 
 pub some_cut : (byte : ℕ) (front rest : List ℕ) → Lacks byte front → list_any (λ b. eqb b byte) (front ++ byte ∷ rest) ≡ true
 some_cut byte [] rest lacks = rw (like byte) refl
-some_cut byte (b ∷ front) rest lacks = rw (unlike b byte lacks.0) (some_cut byte front rest lacks.1)
+some_cut byte (b ∷ front) rest lacks = rw (ne_eqb b byte lacks.0) (some_cut byte front rest lacks.1)
 
 pub none_lacking : (byte : ℕ) (text : List ℕ) → Lacks byte text → list_any (λ b. eqb b byte) text ≡ false
 none_lacking byte [] lacks = refl
-none_lacking byte (b ∷ text) lacks = rw (unlike b byte lacks.0) (none_lacking byte text lacks.1)
+none_lacking byte (b ∷ text) lacks = rw (ne_eqb b byte lacks.0) (none_lacking byte text lacks.1)

@@ -1,15 +1,12 @@
--- The first pass: one line more, a line that is refused, and the end.
-use Rattle.std.proofs.Common.{◌≡◌, ℕ, ◌+◌, List, [], ◌∷◌, length, ap, refl, sym, ◌∙◌, arith}
+-- The first pass: its start, and one line more.
+use Rattle.std.proofs.Common.{◌≡◌, ℕ, ◌+◌, List, [], ◌∷◌, ap, refl, sym, ◌∙◌, arith}
 use Rattle.text_lines.specs.Lines.{lines_of}
-use Rattle.avr_asm.specs.declared.fault.AsmFault.{AsmFault}
-use Rattle.avr_asm.specs.declared.fault.AsmError.TheVariants.{Bad}
 use Rattle.avr_asm.specs.declared.first_pass.Pass.{Pass}
-use Rattle.avr_asm.specs.declared.first_pass.Refusal.TheVariants as refusals
 use Rattle.avr_asm.specs.Addresses.{start, after, after_all, faults_from}
 use Rattle.avr_asm.specs.AsmText.{first_fault}
 use Rattle.avr_asm.specs.declared.labels.Labels.{Labels}
 use Rattle.avr_asm.specs.Labels.{HasLabels}
-use Rattle.avr_asm.specs.Passes.{IsFirstPart, IsFirstRefusal, IsPassed, IsRefused, IsTaken}
+use Rattle.avr_asm.specs.Passes.{IsFirstPart, IsTaken}
 
 pub first_part_start : (text : List ℕ) (labels : Labels) → HasLabels labels [] → IsFirstPart text text 0 (record { labels = labels; at = 0 })
 first_part_start text labels none = record {
@@ -33,23 +30,3 @@ first_part_more text line rest behind number old new part cut taken =
           ∙ part.faults;
       ends = sym (ap (after_all part.place) cut) ∙ part.ends;
     }
-
--- the line that is refused is the first
-pub first_part_refused : (text line rest behind : List ℕ) (number : ℕ) (pass : Pass) (fault : AsmFault) → IsFirstPart text rest number pass → lines_of rest ≡ line ∷ lines_of behind → IsRefused line pass (refusals.Fault fault) → IsFirstRefusal text (Bad (number + 1) fault)
-first_part_refused text line rest behind number pass fault part cut refused =
-    sym part.faults
-    ∙ ap (λ lines. first_fault (number + 1) (faults_from part.place lines)) cut
-    ∙ ap (λ fault. first_fault (number + 1) (fault ∷ faults_from (after part.place line) (lines_of behind))) (refused part.place part.is)
-
-pub no_rest : (rest : List ℕ) → length rest ≡ 0 → rest ≡ []
-no_rest [] none = refl
-no_rest (b ∷ rest) none = absurd (omega arith)
-
--- the text has no line more
-pub first_part_whole : (text rest : List ℕ) (number : ℕ) (pass : Pass) → length rest ≡ 0 → IsFirstPart text rest number pass → IsPassed text pass
-first_part_whole text [] number pass none part = record {
-  sound = sym part.faults;
-  is = rw (← part.ends) part.is;
-  few = part.few;
-}
-first_part_whole text (b ∷ rest) number pass none part = absurd (omega arith)

@@ -1,27 +1,25 @@
 -- Operands in a row.
-use Rattle.std.proofs.Common.{◌≡◌, ℕ, false, true, eqb, List, [], ◌∷◌, ◌++◌, arith, ap, refl, sym, ◌∙◌}
-use Rattle.std.specs.Prelude.{◌≢◌, Option, Some, None, MatchOption}
+use Rattle.std.proofs.Common.{◌≡◌, ℕ, true, eqb, List, [], ◌∷◌, ◌++◌, arith, ap, refl, sym, ◌∙◌}
+use Rattle.std.specs.Prelude.{Option, Some, None, MatchOption}
 use Rattle.std.specs.List.{onto_first}
 use Rattle.std.proofs.lemmas.Bool.Decides.{nat_tests}
+use Rattle.std.proofs.lemmas.Bool.{ne_eqb}
 use Rattle.text_lines.specs.Cutting.{Lacks}
 use Rattle.avr_asm.specs.declared.operand.Operand.{Operand}
 use Rattle.avr_asm.specs.declared.operand.Operands.{Operands}
 use Rattle.avr_asm.specs.Cuts.{trimmed}
 use Rattle.avr_asm.specs.Operands.{operand_of, and_operand, and_operands, parts_of}
 
-unlike : (b byte : ℕ) → b ≢ byte → eqb b byte ≡ false
-unlike b byte apart = grind (arith, nat_tests)
-
 like : (byte : ℕ) → eqb byte byte ≡ true
 like byte = grind (arith, nat_tests)
 
 parts_last : (byte : ℕ) (text : List ℕ) → Lacks byte text → parts_of byte text ≡ text ∷ []
 parts_last byte [] lacks = refl
-parts_last byte (b ∷ text) lacks = rw (unlike b byte lacks.0) (ap (onto_first b) (parts_last byte text lacks.1))
+parts_last byte (b ∷ text) lacks = rw (ne_eqb b byte lacks.0) (ap (onto_first b) (parts_last byte text lacks.1))
 
 parts_cut : (byte : ℕ) (front rest : List ℕ) → Lacks byte front → parts_of byte (front ++ byte ∷ rest) ≡ front ∷ parts_of byte rest
 parts_cut byte [] rest lacks = rw (like byte) refl
-parts_cut byte (b ∷ front) rest lacks = rw (unlike b byte lacks.0) (ap (onto_first b) (parts_cut byte front rest lacks.1))
+parts_cut byte (b ∷ front) rest lacks = rw (ne_eqb b byte lacks.0) (ap (onto_first b) (parts_cut byte front rest lacks.1))
 
 none_behind : (texts : List (List ℕ)) → and_operands None texts ≡ None
 none_behind [] = refl

@@ -1,10 +1,9 @@
--- The second pass: one line more, a line that is refused, and the end.
+-- The second pass: its start, one line more, and the end.
 use Rattle.std.proofs.Common.{◌≡◌, ℕ, ◌+◌, ◌≤◌, List, [], ◌∷◌, ◌++◌, length, ap, refl, subst, sym, ◌∙◌, arith}
 use Rattle.std.specs.Prelude.{None, Some, Option, Result, Ok}
 use Rattle.std.proofs.lemmas.List.{append_assoc, append-nil}
 use Rattle.text_lines.specs.Lines.{lines_of}
 use Rattle.avr_asm.specs.declared.fault.AsmFault.{AsmFault}
-use Rattle.avr_asm.specs.declared.fault.AsmError.TheVariants.{Bad}
 use Rattle.avr_asm.specs.declared.line.Line.{Line}
 use Rattle.avr_asm.specs.declared.mnemonic.Jump.TheVariants.{If, Rjmp, Rcall, Jmp, Call}
 use Rattle.avr_asm.specs.declared.statement.Statement.{Statement}
@@ -14,7 +13,7 @@ use Rattle.avr_asm.specs.SourceLines.{line_of}
 use Rattle.avr_asm.specs.Addresses.{Label, Place, start, after, after_all, behind_line, words_of_statement}
 use Rattle.avr_asm.specs.Targets.{fault_of_line, target_faults}
 use Rattle.avr_asm.specs.AsmText.{AreLines, IsLine, first_fault, labels_of}
-use Rattle.avr_asm.specs.Passes.{IsAssembled, IsLineAdded, IsSecondPart, IsSecondRefusal}
+use Rattle.avr_asm.specs.Passes.{IsAssembled, IsLineAdded, IsSecondPart}
 
 -- the place behind a line that was added
 after_at : (place : Place) (text : List ℕ) (line : Line) → line_of text ≡ Ok line → (after place text).at ≡ place.at + words_of_statement line.statement
@@ -52,16 +51,6 @@ second_part_more text line rest behind number old new part cut has =
           subst (λ w. AreLines labels w start (lines_of text)) joined
           (part.onward (has.added.code ++ more) (subst (λ w. AreLines labels w place (lines_of rest)) (sym joined) from_here));
     }
-
--- the line that is refused is the first
-pub second_part_refused : (text line rest behind : List ℕ) (number : ℕ) (words : List ℕ) (fault : AsmFault) → IsSecondPart text rest number words → lines_of rest ≡ line ∷ lines_of behind → fault_of_line (labels_of text) (length words) (line_of line) ≡ Some fault → IsSecondRefusal text (Bad (number + 1) fault)
-second_part_refused text line rest behind number words fault part cut refused =
-    let labels : List Label = labels_of text in
-    let place = part.place in
-    sym part.faults
-    ∙ ap (λ lines. first_fault (number + 1) (target_faults labels place lines)) cut
-    ∙ ap (λ fault. first_fault (number + 1) (fault ∷ target_faults labels (after place line) (lines_of behind)))
-    (ap (λ at. fault_of_line labels at (line_of line)) (sym part.at_is) ∙ refused)
 
 -- the text has no line more
 pub second_part_whole : (text rest : List ℕ) (number : ℕ) (words : List ℕ) → length rest ≡ 0 → IsSecondPart text rest number words → IsAssembled text words

@@ -1,6 +1,6 @@
 -- Words that were added stand where they were added.
 use Rattle.std.proofs.Common.{◌≡◌, ℕ, ◌+◌, List, [], ◌∷◌, ◌++◌, length, ap, refl, subst, sym, ◌∙◌, arith}
-use Rattle.std.specs.Prelude.{None, Some, Option, Result, Ok, Err, OnOk, slice_get, MatchOption}
+use Rattle.std.specs.Prelude.{None, Some, Option, Result, Ok, Err, OnOk, MatchOption}
 use Rattle.std.specs.Bool.{⊤}
 use Rattle.std.proofs.lemmas.List.{append_assoc, length-append, get_or-append-add}
 use Rattle.avr_isa.specs.declared.form.Form.{Form}
@@ -79,11 +79,3 @@ two_added form code a old second decodes some =
             });
           };
     }
-
--- a word
-got_behind : (old : List ℕ) (n : ℕ) (more : List ℕ) → slice_get (old ++ n ∷ more) (length old) ≡ Some n
-got_behind [] n more = refl
-got_behind (b ∷ old) n more = got_behind old n more
-
-pub word_added : (old : List ℕ) (n : ℕ) (more : List ℕ) → slice_get ((old ++ n ∷ []) ++ more) (length old) ≡ Some n
-word_added old n more = ap (λ words. slice_get words (length old)) (append_assoc old (n ∷ []) more) ∙ got_behind old n more

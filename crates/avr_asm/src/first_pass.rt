@@ -1,7 +1,6 @@
 //! The first pass over the lines: labels and addresses, and the faults that a line has by itself or behind others.
 
 ghost use Rattle.std.specs.Prelude.{◌≡◌, ◌≤◌, List, length, OnOk, IfOk, IfErr};
-ghost use Rattle.arrayvec.specs.ArrayVec.{ArrayVec};
 ghost use Rattle.avr_asm.specs.Addresses.{Label, Place, is_twice as is_twice_test, with_label, words_of_statement};
 ghost use Rattle.avr_asm.specs.Labels.{HasLabels};
 ghost use Rattle.avr_asm.specs.SourceLines.{label_text, IsNamed};

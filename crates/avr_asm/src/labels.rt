@@ -1,7 +1,6 @@
 //! Labels and their addresses.
 
 ghost use Rattle.std.specs.Prelude.{◌≡◌, ℕ, List, [], OnOk};
-ghost use Rattle.avr_asm.specs.Addresses.{Label, Place, is_twice, with_label};
 ghost use Rattle.avr_asm.specs.Labels.{address_in, label_after, HasLabels};
 
 use crate::name::Name;

@@ -2,7 +2,6 @@
 
 ghost use Rattle.std.specs.Prelude.{◌≡◌, IfOk, IfSome};
 ghost use Rattle.avr_asm.specs.SourceLines.{behind_label as behind_label_of, is_mnemonic as is_mnemonic_test, is_small, line_of, statement_of, IsNamed, with_label as with_label_of};
-ghost use Rattle.avr_asm.specs.Cuts.{front_word as front_word_of};
 ghost use Rattle.std.specs.List.{list_all};
 
 use crate::fault::AsmFault;

@@ -1,5 +1,5 @@
 //! The operands in an instruction's word, by their bits.
-ghost use Rattle.std.specs.Prelude.{◌≡◌, ℕ, ◌+◌, ◌*◌, ◌/◌, ◌%◌};
+ghost use Rattle.std.specs.Prelude.{◌≡◌, ◌+◌, ◌*◌, ◌%◌};
 ghost use Rattle.avr_decode.specs.Decoding.{bit_of, branch_of, constant_of, destination_of, displacement_of, io_of, jump_of, low_io_of, mid_source_of, pair_of, six_bits_of, source_of};
 
 use avr_isa::{Bit, EvenReg, HighReg, IoAddr, LowIo, MidReg, PairReg, Reg, Rel7, Rel12, Six};

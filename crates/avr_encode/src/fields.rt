@@ -1,5 +1,5 @@
 //! Each operand at the places of its bits in the first word.
-ghost use Rattle.std.specs.Prelude.{◌≡◌, ◌+◌, ◌*◌, ◌<◌};
+ghost use Rattle.std.specs.Prelude.{◌≡◌, ◌<◌};
 ghost use Rattle.avr_isa.specs.Encoding.{flag, flag_and_branch, high_register_and_byte, io_and_bit, jump, one_register, pair_and_six_bits, register_and_bit, register_and_displacement, register_and_io, two_high_registers, two_pairs, two_registers};
 
 use avr_isa::{Bit, EvenReg, HighReg, IoAddr, LowIo, MidReg, PairReg, Reg, Rel7, Rel12, Six};

@@ -10,7 +10,7 @@ use Rattle.avr_exec.specs.Spaces.{Outcome, Went, Stopped, Calls}
 use Rattle.avr_exec.specs.Asks.{ask_of}
 use Rattle.avr_exec.specs.Effects.{finish_of}
 use Rattle.avr_exec.specs.Execution.{answered_by, answer_of, exec_of}
-use Rattle.avr_exec.specs.Likeness.{over, IsAlike, Leaves, IsWent}
+use Rattle.avr_exec.specs.Likeness.{over, Leaves, IsWent}
 
 -- execution is what the registers become at the one answer
 pub exec_by_ask : {S : Type 0} (calls : Calls S) (form : Form) (cpu : Cpu) (space : S) (n : ℕ)
@@ -55,22 +55,7 @@ exec_alike calls calls' h form cpu space n e =
     ∙ answered_by-over h (finish_of form cpu n) (answer_of calls space (ask_of form cpu))
     ∙ ap (over h) (sym (exec_by_ask calls form cpu space n))
 
-answered_by-alike : {S T A B : Type 0} (R : S → T → Type 0) (f : A → B) (o : Outcome S A) (p : Outcome T A)
-    → IsAlike R o p → IsAlike R (answered_by f o) (answered_by f p)
-answered_by-alike R f (Went answer next) (Went answer' next') h = (ap f h.0, h.1)
-answered_by-alike R f (Went answer next) (Stopped stop) h = absurd h
-answered_by-alike R f (Stopped stop) (Went answer next) h = absurd h
-answered_by-alike R f (Stopped stop) (Stopped stop') h = h
-
--- spaces that answer alike under a relation give outcomes that are alike under it
-pub exec_related : {S T : Type 0} (R : S → T → Type 0) (calls : Calls S) (calls' : Calls T) (form : Form) (cpu : Cpu) (space : S) (space' : T) (n : ℕ)
-    → IsAlike R (answer_of calls space (ask_of form cpu)) (answer_of calls' space' (ask_of form cpu))
-    → IsAlike R (exec_of calls form cpu space n) (exec_of calls' form cpu space' n)
-unfolding exec_of
-exec_related R calls calls' form cpu space space' n h =
-    answered_by-alike R (finish_of form cpu n) (answer_of calls space (ask_of form cpu)) (answer_of calls' space' (ask_of form cpu)) h
-
-answered_by-leaves : {S A B : Type 0} (P : S → Type 0) (f : A → B) (o : Outcome S A) → Leaves P o → Leaves P (answered_by f o)
+pub answered_by-leaves : {S A B : Type 0} (P : S → Type 0) (f : A → B) (o : Outcome S A) → Leaves P o → Leaves P (answered_by f o)
 answered_by-leaves P f (Went answer next) h = h
 answered_by-leaves P f (Stopped stop) h = h
 

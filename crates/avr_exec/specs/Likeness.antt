@@ -1,5 +1,5 @@
 -- Words in which two executions are compared: over two spaces, and at two places of the program.
-use Rattle.std.specs.Prelude.{ℕ, Bool, true, false, not, ◌≡◌, ◌==◌, ◌||◌}
+use Rattle.std.specs.Prelude.{ℕ, Bool, true, false, not, ◌==◌, ◌||◌}
 use Rattle.avr_isa.specs.declared.form.Form.{Form}
 use Rattle.avr_isa.specs.declared.form.Form.TheVariants.{Nop, Movw, Muls, Product, Two, Cpse, Imm, Word, One, Lpm0, Elpm0, Lpm, Elpm, InIo, OutIo, Cbi, Sbic, Sbi, Sbis, Bld, Bst, Sbrc, Sbrs, Bset, Bclr, Brbs, Brbc, Rjmp, Rcall, Jmp, Call, Ijmp, Icall, Ret, Reti, Sleep, Break, Wdr, Spm}
 use Rattle.avr_exec.specs.declared.cpu.Cpu.{Cpu}
@@ -10,13 +10,6 @@ use Rattle.avr_exec.specs.Spaces.{Outcome, Went, Stopped}
 abbrev pub over : {S T A : Type 0} → (S → T) → Outcome S A → Outcome T A
 over h (Went answer next) = Went answer (h next)
 over h (Stopped stop) = Stopped stop
-
--- the same answer with related spaces, or the same stop
-abbrev pub IsAlike : {S T A : Type 0} → (S → T → Type 0) → Outcome S A → Outcome T A → Type 0
-IsAlike R (Went answer next) (Went answer' next') = (answer ≡ answer') × R next next'
-IsAlike R (Went answer next) (Stopped stop) = ⊥
-IsAlike R (Stopped stop) (Went answer next) = ⊥
-IsAlike R (Stopped stop) (Stopped stop') = stop ≡ stop'
 
 -- the fact holds of the next space; a stop leaves the space
 abbrev pub Leaves : {S A : Type 0} → (S → Type 0) → Outcome S A → Type 0

@@ -1,6 +1,6 @@
 //! The arithmetic instructions.
 
-ghost use Rattle.std.specs.Prelude.{◌≡◌, ◌<◌, ◌≤◌};
+ghost use Rattle.std.specs.Prelude.{◌≡◌, ◌+◌, ◌*◌, ◌/◌, ◌%◌, ◌<◌, ◌≤◌};
 ghost use Rattle.avr_exec.specs.Arithmetic.{with_result, compared, with_pair_result, two_of, immediate_of, word_of, one_of, product_of};
 
 use crate::cpu::Cpu;
@@ -11,7 +11,7 @@ use avr_flags::{
 use avr_isa::{ImmOp, OneOp, ProductOp, TwoOp, WordOp};
 
 /// Keeps a result in register `d`, and SREG.
-fn keep_byte(cpu: &mut Cpu, d: u8, outcome: (u8, u8))
+pub fn keep_byte(cpu: &mut Cpu, d: u8, outcome: (u8, u8))
     requires { d < 32 }
     ensures { cpu.new ≡ with_result cpu.old d outcome }
 {
@@ -20,19 +20,26 @@ fn keep_byte(cpu: &mut Cpu, d: u8, outcome: (u8, u8))
 }
 
 /// Keeps SREG alone, after a comparison.
-fn compare(cpu: &mut Cpu, outcome: (u8, u8))
+pub fn compare(cpu: &mut Cpu, outcome: (u8, u8))
     ensures { cpu.new ≡ compared cpu.old outcome }
 {
     cpu.sreg = outcome.1;
 }
 
 /// Keeps a result in a pair, and SREG.
-pub(crate) fn keep_word(cpu: &mut Cpu, low: u8, outcome: (u16, u8))
+pub fn keep_word(cpu: &mut Cpu, low: u8, outcome: (u16, u8))
     requires { low < 31 }
     ensures { cpu.new ≡ with_pair_result cpu.old low outcome }
 {
     cpu.set_pair(low, outcome.0);
     cpu.sreg = outcome.1;
+}
+
+/// A byte with its halves exchanged.
+pub fn swapped(byte: u8) -> u8
+    ensures { result ≡ byte % 16 * 16 + byte / 16 }
+{
+    ((byte & 0xF) << 4) + (byte >> 4)
 }
 
 /// An operation on two registers.
@@ -108,7 +115,7 @@ pub(crate) fn one(op: &OneOp, cpu: &mut Cpu, d: u8)
         OneOp::Com => com(sreg, left),
         OneOp::Neg => neg(sreg, left),
         OneOp::Swap => {
-            cpu.set_register(d, ((left & 0xF) << 4) + (left >> 4));
+            cpu.set_register(d, swapped(left));
             return;
         }
         OneOp::Inc => inc(sreg, left),

@@ -1,6 +1,6 @@
 //! What an instruction asks of its bus.
 
-ghost use Rattle.std.specs.Prelude.{◌≡◌, ◌+◌, ◌-◌, ◌*◌, ◌/◌, ◌%◌, ◌<◌, ◌≤◌, ◌^◌};
+ghost use Rattle.std.specs.Prelude.{◌≡◌, ◌≤◌};
 ghost use Rattle.avr_exec.specs.Asks.{ask_of, IsFine, load_of, store_of, pointed as pointed_of, target as target_of, displaced as displaced_of, base_register};
 ghost use Rattle.avr_isa.specs.Instruction.{low_register as low_register_of};
 
@@ -70,7 +70,7 @@ pub(crate) fn base_low_register(base: &Base) -> u8
 }
 
 /// The data address at a displacement from Y or Z.
-pub(crate) fn displaced(cpu: &Cpu, base: &Base, displacement: &Six) -> u16
+pub fn displaced(cpu: &Cpu, base: &Base, displacement: &Six) -> u16
     ensures { result ≡ displaced_of cpu.now base.now displacement.now }
 {
     cpu.pair(base_low_register(base))

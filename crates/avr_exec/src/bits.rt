@@ -12,7 +12,7 @@ pub(crate) fn bit_weight(bit: u8) -> u8
 }
 
 /// Whether a bit of a byte is set.
-pub(crate) fn has_bit(byte: u8, bit: u8) -> bool
+pub fn has_bit(byte: u8, bit: u8) -> bool
     requires { bit < 8 }
     ensures { result ≡ has_bit_of_weight byte (2 ^ bit) }
 {

@@ -1,6 +1,6 @@
 //! What an instruction reaches beside the core's own registers.
 
-ghost use Rattle.std.specs.Prelude.{◌≡◌, ◌≤◌, ◌<◌, false, OnErr};
+ghost use Rattle.std.specs.Prelude.{◌≡◌, ◌≤◌, false, OnErr};
 ghost use Rattle.avr_exec.specs.Registers.{is_own};
 ghost use Rattle.avr_exec.specs.Spaces.{Calls, outcome_of};
 

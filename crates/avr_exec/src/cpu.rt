@@ -22,12 +22,11 @@ pub struct Cpu {
 }
 
 impl Cpu {
-    ghost use Rattle.std.specs.Prelude.{◌≡◌, ℕ, ◌+◌, ◌-◌, ◌*◌, ◌/◌, ◌%◌, ◌<◌, ◌≤◌, IsTrue, true};
-    ghost use Rattle.avr_isa.specs.Addresses.{wrapping_sum, wrapping_difference, relative};
-    ghost use Rattle.avr_exec.specs.Registers.{register as register_of, with_register, pair as pair_of, with_pair, with_status, with_stack, with_counter, is_own, own_byte as own_byte_of, with_own_byte};
+    ghost use Rattle.std.specs.Prelude.{◌≡◌, ◌<◌, true};
+    ghost use Rattle.avr_exec.specs.Registers.{register as register_of, with_register, pair as pair_of, with_pair, is_own, own_byte as own_byte_of, with_own_byte};
 
     /// The register of this number.
-    pub(crate) fn register(&self, number: u8) -> u8
+    pub fn register(&self, number: u8) -> u8
         requires { number < 32 }
         ensures { result ≡ register_of self.now number }
     {
@@ -35,7 +34,7 @@ impl Cpu {
     }
 
     /// Writes the register of this number.
-    pub(crate) fn set_register(&mut self, number: u8, value: u8)
+    pub fn set_register(&mut self, number: u8, value: u8)
         requires { number < 32 }
         ensures { self.new ≡ with_register self.old number value }
     {
@@ -43,21 +42,21 @@ impl Cpu {
     }
 
     /// The byte in a register.
-    pub(crate) fn byte(&self, r: &Reg) -> u8
+    pub fn byte(&self, r: &Reg) -> u8
         ensures { result ≡ register_of self.now r.now }
     {
         self.register(r.get())
     }
 
     /// Writes the byte in a register.
-    pub(crate) fn set_byte(&mut self, d: &Reg, value: u8)
+    pub fn set_byte(&mut self, d: &Reg, value: u8)
         ensures { self.new ≡ with_register self.old d.now value }
     {
         self.set_register(d.get(), value);
     }
 
     /// The pair whose low register has this number.
-    pub(crate) fn pair(&self, low: u8) -> u16
+    pub fn pair(&self, low: u8) -> u16
         requires { low < 31 }
         ensures { result ≡ pair_of self.now low }
     {
@@ -65,7 +64,7 @@ impl Cpu {
     }
 
     /// Writes the pair whose low register has this number.
-    pub(crate) fn set_pair(&mut self, low: u8, value: u16)
+    pub fn set_pair(&mut self, low: u8, value: u16)
         requires { low < 31 }
         ensures { self.new ≡ with_pair self.old low value }
     {

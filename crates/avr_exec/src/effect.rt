@@ -1,6 +1,6 @@
 //! What an instruction does to the registers.
 
-ghost use Rattle.std.specs.Prelude.{ℕ, ◌≡◌, ◌≤◌};
+ghost use Rattle.std.specs.Prelude.{ℕ, ◌≡◌, ◌<◌, ◌≤◌};
 ghost use Rattle.avr_isa.specs.Addresses.{wrapping_sum};
 ghost use Rattle.avr_exec.specs.Registers.{with_counter};
 ghost use Rattle.avr_exec.specs.declared.answer.Answer.TheVariants.{Done};
@@ -46,7 +46,7 @@ pub(crate) fn raise_z(cpu: &mut Cpu, increment: bool, z: u16)
 }
 
 /// Goes to an address, and tells it.
-fn go(cpu: &mut Cpu, address: u16) -> u16
+pub fn go(cpu: &mut Cpu, address: u16) -> u16
     ensures after { cpu.new ≡ with_counter cpu.old address }
     ensures tells { result ≡ cpu.new.pc }
 {
@@ -55,7 +55,7 @@ fn go(cpu: &mut Cpu, address: u16) -> u16
 }
 
 /// Moves the pc, which is `pc`, on by some words, and tells it.
-pub(crate) fn advance(cpu: &mut Cpu, pc: u16, words: u16) -> u16
+pub fn advance(cpu: &mut Cpu, pc: u16, words: u16) -> u16
     requires at { pc ≡ cpu.old.pc }
     ensures after { cpu.new ≡ with_counter cpu.old (wrapping_sum cpu.old.pc words) }
     ensures tells { result ≡ cpu.new.pc }
@@ -64,9 +64,9 @@ pub(crate) fn advance(cpu: &mut Cpu, pc: u16, words: u16) -> u16
 }
 
 /// Passes over the next instruction, of this many words, where `passed` is true. Tells the new pc.
-pub(crate) fn skip(cpu: &mut Cpu, pc: u16, passed: bool, next_size: u16) -> u16
+pub fn skip(cpu: &mut Cpu, pc: u16, passed: bool, next_size: u16) -> u16
     requires at { pc ≡ cpu.old.pc }
-    requires next { next_size ≤ 2 }
+    requires next { next_size < 0xFFFF }
     ensures after { cpu.new ≡ skip_if passed next_size cpu.old }
     ensures tells { result ≡ cpu.new.pc }
 {
@@ -75,7 +75,7 @@ pub(crate) fn skip(cpu: &mut Cpu, pc: u16, passed: bool, next_size: u16) -> u16
 }
 
 /// Branches by `k` where `taken` is true. Tells the new pc.
-fn branch(cpu: &mut Cpu, pc: u16, taken: bool, k: i16) -> u16
+pub fn branch(cpu: &mut Cpu, pc: u16, taken: bool, k: i16) -> u16
     requires at { pc ≡ cpu.old.pc }
     ensures after { cpu.new ≡ branch_if taken k cpu.old }
     ensures tells { result ≡ cpu.new.pc }
@@ -88,7 +88,7 @@ fn branch(cpu: &mut Cpu, pc: u16, taken: bool, k: i16) -> u16
 }
 
 /// Goes to an address, with two bytes pushed, and tells it.
-pub(crate) fn call(cpu: &mut Cpu, address: u16) -> u16
+pub fn call(cpu: &mut Cpu, address: u16) -> u16
     ensures after { cpu.new ≡ called cpu.old address }
     ensures tells { result ≡ cpu.new.pc }
 {

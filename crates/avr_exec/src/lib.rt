@@ -15,6 +15,9 @@
 //! (`specs/Asks`), what the space answers (`specs/Execution`) and what the registers become
 //! (`specs/Effects`, `specs/Arithmetic`). `proofs/OneAnswer` and `proofs/OtherPlace` have the laws by which
 //! two executions are compared: over two spaces, and at two places of the program.
+//!
+//! The steps that `exec` is made of which touch the registers alone are public: a result kept in a register
+//! ([`keep_byte`], [`keep_word`], [`compare`]), and the pc moved ([`advance`], [`go`], [`branch`], [`skip`], [`call`]).
 #![tactic(auto)]
 
 mod answer;
@@ -30,8 +33,11 @@ mod stop;
 mod transfer;
 
 pub use answer::Answer;
-pub use ask::{Ask, asks};
+pub use arithmetic::{compare, keep_byte, keep_word, swapped};
+pub use ask::{Ask, asks, displaced};
+pub use bits::has_bit;
 pub use bus::Bus;
 pub use cpu::Cpu;
+pub use effect::{advance, branch, call, go, skip};
 pub use execution::{exec, exec_at};
 pub use stop::BusStop;

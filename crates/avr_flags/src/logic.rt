@@ -1,6 +1,6 @@
 //! Bitwise operations and shifts of a byte.
 
-ghost use Rattle.std.specs.Prelude.{◌≡◌, ◌+◌, ◌*◌, ◌/◌};
+ghost use Rattle.std.specs.Prelude.{◌≡◌};
 ghost use Rattle.avr_flags.specs.Logic.{bitwise_status as status_of_bitwise, shift_status as status_of_shift, and_of, or_of, eor_of, com_of, lsr_of, ror_of, asr_of};
 
 use crate::status::Status;

@@ -1,6 +1,6 @@
 //! A constant added to or subtracted from a register pair.
 
-ghost use Rattle.std.specs.Prelude.{◌≡◌, ◌+◌, ◌*◌, ◌/◌, ◌%◌, ◌≤◌, ◌==◌, nat_le, bit_xor};
+ghost use Rattle.std.specs.Prelude.{◌≡◌, ◌%◌, ◌≤◌, ◌==◌, nat_le, bit_xor};
 ghost use Rattle.avr_flags.specs.Status.{has_bit, differ};
 ghost use Rattle.avr_flags.specs.Pairs.{pair_status, adiw_of, sbiw_of};
 

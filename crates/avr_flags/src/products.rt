@@ -1,6 +1,6 @@
 //! Products of two bytes.
 
-ghost use Rattle.std.specs.Prelude.{◌≡◌, ℕ, ◌+◌, ◌-◌, ◌*◌, ◌/◌, ◌%◌, ◌≤◌, ◌==◌, nat_le, ◌*ℤ◌};
+ghost use Rattle.std.specs.Prelude.{◌≡◌, ◌*◌, ◌≤◌, nat_le, ◌*ℤ◌};
 ghost use Rattle.std.specs.Int.{w16, cast_unsigned};
 ghost use Rattle.std.specs.Int.RustNames.{unsigned_abs};
 ghost use Rattle.avr_flags.specs.Sums.{signed_byte};

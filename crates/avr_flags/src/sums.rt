@@ -1,7 +1,7 @@
 //! Sums and differences of bytes.
 
 ghost use Rattle.std.specs.Prelude.{◌≡◌, ◌+◌, ◌%◌, ◌≤◌, ◌==◌};
-ghost use Rattle.avr_flags.specs.Sums.{byte_difference, sum_status, difference_status, carry_in, add_of, adc_of, sub_of, sbc_of, neg_of, inc_of, dec_of};
+ghost use Rattle.avr_flags.specs.Sums.{byte_difference, sum_status, difference_status, add_of, adc_of, sub_of, sbc_of, neg_of, inc_of, dec_of};
 
 use crate::status::Status;
 

@@ -10,7 +10,7 @@ use Rattle.avr_isa.specs.declared.operation.Ptr.TheVariants.{X, XInc}
 use Rattle.avr_isa.specs.Instruction.{fields_in_range, is_undefined, is_valid}
 use Rattle.avr_isa.specs.Encoding.{first_word, second_word}
 use Rattle.avr_isa.specs.IoTable.{can_read, can_write, io_address}
-use Rattle.avr_isa.specs.Image.{word, byte, is_inside}
+use Rattle.avr_isa.specs.Image.{word, byte}
 use Rattle.avr_isa.specs.Crossing.{is_crossing}
 
 -- LDI r16,15; LDI r24,200; OUT PORTA,r16; RJMP to itself; DEC r24; BREQ 8; IN r24,SREG; SEI
@@ -48,9 +48,9 @@ ports = (refl, refl, refl, refl)
 image : List ℕ
 image = 0xE00F ∷ 0xBB0B ∷ []
 
-image-words : (word image 1 ≡ 0xBB0B) × (word image 2 ≡ 0xFFFF) × (byte image 0 ≡ 0x0F) × (byte image 1 ≡ 0xE0) × (byte image 5 ≡ 0xFF) × (is_inside image 1 ≡ true) × (is_inside image 2 ≡ false)
+image-words : (word image 1 ≡ 0xBB0B) × (word image 2 ≡ 0xFFFF) × (byte image 0 ≡ 0x0F) × (byte image 1 ≡ 0xE0) × (byte image 5 ≡ 0xFF)
 unfolding image
-image-words = (refl, refl, refl, refl, refl, refl, refl)
+image-words = (refl, refl, refl, refl, refl)
 
 -- a step to itself, one back, one on, and one on into the next page
 crossings : (is_crossing 5 5 ≡ true) × (is_crossing 5 4 ≡ true) × (is_crossing 5 6 ≡ false) × (is_crossing 127 128 ≡ true)

@@ -17,7 +17,7 @@ use Rattle.branch_bridge.proofs.ArrivalLaws.{flash_left}
 use Rattle.branch_bridge.proofs.MakeLaws.{ring_kept}
 use Rattle.branch_bridge.proofs.RestLaws.{others_rest}
 
-at_most : (a n : ℕ) → a ≤ n → a ≡ min (a + 0) n
+pub at_most : (a n : ℕ) → a ≤ n → a ≡ min (a + 0) n
 at_most a n below = omega arith
 
 -- the place that a search answered is where control goes on

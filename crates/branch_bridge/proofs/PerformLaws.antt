@@ -1,12 +1,11 @@
 -- Operations in a row.
-use Rattle.std.proofs.Common.{◌≡◌, ℕ, ◌+◌, ◌*◌, ◌≤◌, Bool, true, false, List, [], ◌∷◌, ◌++◌, length, Some, None, arith, refl, sym, ap, ◌∙◌, subst}
+use Rattle.std.proofs.Common.{◌≡◌, ℕ, ◌+◌, ◌*◌, ◌≤◌, Bool, true, false, List, ◌∷◌, length, Some, None, arith, sym, ap, ◌∙◌, subst}
 use Rattle.std.specs.Prelude.{if◌then◌else◌}
-use Rattle.list_parts.proofs.ManyLaws.{length-many}
+use Rattle.base_laws.proofs.ManyLaws.{length-many}
 use Rattle.flash_words.specs.Pages.{page_words, page_of, set_page, blank}
 use Rattle.flash_words.specs.Memory.{Memory}
 use Rattle.flash_words.specs.Operations.{fails, left_by_refusal, erased_page, programmed_page}
 use Rattle.flash_words.proofs.PageLaws.{page_same, set_page_twice}
-use Rattle.branch_bridge.specs.declared.rewriting.ResolveStop.{ResolveStop}
 use Rattle.branch_bridge.specs.Operating.{Operation, Erase, Program, operated_page, operated, stop_at, Performed, perform, rewriting, mended}
 
 -- one operation, refused and done
@@ -24,29 +23,6 @@ perform_done m operation more is =
 pub erased_blank : (m : Memory) (page : ℕ) → page_words * page + page_words ≤ length m.words → page_of (erased_page m page).words page ≡ blank
 unfolding blank
 erased_blank m page inside = page_same m.words blank page (length-many page_words 0xFFFF) inside
-
--- behind operations that are all done come the next; behind a refusal none comes
-pub perform_on : (m : Memory) (operations more : List Operation) → (perform m operations).stop ≡ None → perform m (operations ++ more) ≡ perform (perform m operations).memory more
-perform_on m [] more none = refl
-perform_on m (o ∷ operations) more none =
-    let m' = operated m o in
-    let refused : Performed = record { memory = left_by_refusal m (operated_page o); stop = Some (stop_at m o) } in
-    let P : Bool → Type 0 = λ b. (if b then refused else perform m' operations).stop ≡ None → (if b then refused else perform m' (operations ++ more)) ≡ perform (if b then refused else perform m' operations).memory more in
-    (elim (fails m) as P [
-      | true ↦ λ never. absurd (cc)
-      | false ↦ λ going. perform_on m' operations more going
-    ]) none
-
-pub perform_stays : (m : Memory) (operations more : List Operation) (stop : ResolveStop) → (perform m operations).stop ≡ Some stop → perform m (operations ++ more) ≡ perform m operations
-perform_stays m [] more stop some = absurd (cc)
-perform_stays m (o ∷ operations) more stop some =
-    let m' = operated m o in
-    let refused : Performed = record { memory = left_by_refusal m (operated_page o); stop = Some (stop_at m o) } in
-    let P : Bool → Type 0 = λ b. (if b then refused else perform m' operations).stop ≡ Some stop → (if b then refused else perform m' (operations ++ more)) ≡ (if b then refused else perform m' operations) in
-    (elim (fails m) as P [
-      | true ↦ λ there. refl
-      | false ↦ λ going. perform_stays m' operations more stop going
-    ]) some
 
 -- what holds of the words before and of those with the page in them holds of the words with a torn page put in
 pub mended_by : (P : List ℕ → Type 0) (m : Memory) (page : ℕ) (words : List ℕ) → page_words * page + page_words ≤ length m.words → P m.words → P (set_page m.words page words)

@@ -2,7 +2,7 @@
 use Rattle.std.proofs.Common.{◌≡◌, ℕ, ◌+◌, ◌-◌, ◌*◌, ◌/◌, ◌<◌, ◌≤◌, ◌⊎◌, true, List, length, arith, sym, ap, ◌∙◌, inl, inr, subst}
 use Rattle.std.specs.Prelude.{◌≢◌}
 use Rattle.std.proofs.lemmas.Bool.{cases_eq}
-use Rattle.list_parts.proofs.ManyLaws.{length-many}
+use Rattle.base_laws.proofs.ManyLaws.{length-many}
 use Rattle.flash_words.specs.Pages.{page_words, word_at, set_page, blank}
 use Rattle.flash_words.specs.Layouts.{IsRight, image_of}
 use Rattle.flash_words.specs.declared.layout.Layout.{Layout}

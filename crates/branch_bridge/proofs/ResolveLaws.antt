@@ -1,11 +1,9 @@
 -- A stub that is resolved: what stays.
 use Rattle.std.proofs.Common.{◌≡◌, ◌≢◌, ℕ, ◌+◌, ◌*◌, ◌/◌, ◌≤◌, List, length, arith, refl, sym, ap, ◌∙◌, inr, subst}
 use Rattle.std.specs.Prelude.{◌↔◌}
-use Rattle.flash_words.specs.Pages.{page_words, word_at, page_of, set_page, blank}
+use Rattle.flash_words.specs.Pages.{page_words, word_at, page_of, set_page}
 use Rattle.flash_words.specs.Layouts.{IsRight, image_of}
 use Rattle.flash_words.specs.declared.layout.Layout.{Layout}
-use Rattle.list_parts.proofs.ManyLaws.{length-many}
-use Rattle.flash_words.proofs.PageLaws.{page_same, set_page_twice}
 use Rattle.nat_template.specs.Stubs.{call_word, bridge_entry}
 use Rattle.page_index.specs.Entries.{IsEntry}
 use Rattle.page_draft.specs.Standing.{IsLink, jump_word}
@@ -20,13 +18,6 @@ use Rattle.branch_bridge.specs.Resolving.{resolving}
 use Rattle.branch_bridge.proofs.PerformLaws.{mended_by, rewriting_ops}
 use Rattle.nat_page.proofs.RelinkLaws.{link_placed, relinked_faithful, relinked_entries, relinked_entries_back, relinked_links, relinked_image}
 use Rattle.nat_page.proofs.UsedLaws.{used_relinked}
-
--- a page that is erased and then programmed has these words
-pub rewritten : (old erased new words : List ℕ) (page : ℕ) → page_words * page + page_words ≤ length old → erased ≡ set_page old page blank → (page_of erased page ≡ blank → new ≡ set_page erased page words) → new ≡ set_page old page words
-unfolding blank
-rewritten old erased new words page inside is fresh =
-    let long : length blank ≡ page_words = length-many page_words 0xFFFF in
-    fresh (ap (λ w. page_of w page) is ∙ page_same old blank page long inside) ∙ ap (λ w. set_page w page words) is ∙ set_page_twice old blank words page long inside
 
 -- the jump is one that a stub to t may have
 pub jump_links : (layout : Layout) (words : List ℕ) (t place : ℕ) → IsEntry layout words t place → IsLink (IsEntry layout words) jump_word place t

@@ -5,7 +5,7 @@ use Rattle.std.specs.List.{list_any}
 use Rattle.std.proofs.lemmas.Bool.{cases_eq, cases_lt}
 use Rattle.std.proofs.lemmas.Grind.{same_number_lists}
 use Rattle.std.proofs.lemmas.List.{get_or-take}
-use Rattle.list_parts.proofs.ManyLaws.{length-many}
+use Rattle.base_laws.proofs.ManyLaws.{length-many}
 use Rattle.flash_words.specs.Pages.{word_count, page_words, word_at, page_of, set_page, blank}
 use Rattle.flash_words.specs.Memory.{Memory}
 use Rattle.flash_words.specs.Operations.{next_op, fails, left_by_refusal, erased_page, programmed_page}

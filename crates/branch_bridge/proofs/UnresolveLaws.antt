@@ -23,7 +23,7 @@ use Rattle.page_draft.proofs.PieceLaws.{stands_split}
 use Rattle.nat_page.proofs.TwoWords.{length-with_two_words, word_beside_two, first_of_two, second_of_two}
 use Rattle.nat_page.proofs.UsedLaws.{free_unused, holds_run_used, same_used}
 use Rattle.nat_page.proofs.KeptLaws.{KeepsRun, kept_entries, kept_entries_back, kept_holds, kept_image, kept_faithful}
-use Rattle.nat_page.proofs.UnlinkLaws.{Each, links_among, among_inside, holds_unlinked, unlinked_page, unlinks}
+use Rattle.nat_page.proofs.UnlinkLaws.{Each, links_among, among_inside, holds_unlinked, unlinked_page, unlinks, no_stubs}
 use Rattle.nat_page.proofs.WalkLaws.{own_run, code_page}
 use Rattle.branch_bridge.specs.Operating.{Operation, Performed, perform, rewriting, mended}
 use Rattle.branch_bridge.specs.Unresolving.{unlinking, IsApart}
@@ -132,10 +132,6 @@ page_unlinked layout image words victim page right code pool run =
           ] in
           record { link = record { page = link.page; pool = link.pool; first = link.first; last = link.last; holds = held; link = link.link }; call = two.0; bridge = two.1 };
     }
-
-no_stubs : (words stubs : List ℕ) → are_some stubs ≡ false → with_calls words stubs ≡ words
-no_stubs words [] none = refl
-no_stubs words (s ∷ stubs) none = absurd (cc)
 
 -- a page without stubs into the victim is apart from it
 pub page_without : (layout : Layout) (image words : List ℕ) (victim page : ℕ) → IsRight layout → IsFaithful layout image words → IsPool layout page → IsRewritten layout image words page → are_some (stubs_into image words victim page) ≡ false

@@ -1,10 +1,11 @@
 -- The pages of the pool one after another, up to some of them.
-use Rattle.std.proofs.Common.{◌≡◌, ℕ, zero, suc, ◌+◌, ◌*◌, ◌<◌, ◌≤◌, ◌⊎◌, List, Some, None, arith, refl, sym, ap, ◌∙◌, inl, inr, subst}
+use Rattle.std.proofs.Common.{◌≡◌, ℕ, zero, suc, ◌+◌, ◌-◌, ◌*◌, ◌<◌, ◌≤◌, ◌⊎◌, List, Some, None, arith, refl, sym, ap, ◌∙◌, inl, inr, subst}
 use Rattle.std.specs.Prelude.{◌≢◌}
 use Rattle.std.proofs.lemmas.Bool.{cases_eq}
 use Rattle.flash_words.specs.Layouts.{IsRight, image_of}
 use Rattle.flash_words.specs.declared.layout.Layout.{Layout}
 use Rattle.flash_words.specs.Memory.{Memory}
+use Rattle.flash_words.specs.Jumps.{HasNoJumpInto}
 use Rattle.page_index.specs.Maps.{IsPool, IsFree}
 use Rattle.page_index.specs.Entries.{IsEntry}
 use Rattle.page_index.proofs.ChangeLaws.{free_alike}
@@ -13,10 +14,11 @@ use Rattle.nat_page.specs.Used.{is_used}
 use Rattle.nat_page.specs.Links.{IsUnresolved}
 use Rattle.nat_page.specs.Unlinking.{Outside}
 use Rattle.nat_page.proofs.StayLaws.{holds_alike}
+use Rattle.nat_page.proofs.WalkLaws.{no_stubs_into}
 use Rattle.branch_bridge.specs.declared.rewriting.ResolveStop.{ResolveStop}
 use Rattle.branch_bridge.specs.Operating.{Performed, perform, then_on, mended}
 use Rattle.branch_bridge.specs.Unresolving.{unlinking, unresolved, IsApart}
-use Rattle.branch_bridge.proofs.UnresolveLaws.{PageDone, OneTold, one_told}
+use Rattle.branch_bridge.proofs.UnresolveLaws.{PageDone, OneTold, one_told, nothing_to_unlink}
 
 -- the first k pages are done
 pub record UpTo (layout : Layout) (old now : Memory) (victim k : ℕ) : Type 0 where
@@ -87,6 +89,39 @@ up_to_next layout old now next victim k right up below performed =
       ops = omega arith;
     }
 
+-- the next pages, none of which has a jump into the victim
+up_to_passed : (layout : Layout) (old now : Memory) (victim k n : ℕ) → IsRight layout → UpTo layout old now victim k → k + n ≤ layout.pool_pages
+    → ((page : ℕ) → layout.pool_first + k ≤ page → page < layout.pool_first + (k + n) → HasNoJumpInto now.words page victim) → UpTo layout old now victim (k + n)
+up_to_passed layout old now victim k zero right up fits none = let same : k ≡ k + 0 = omega arith in subst (λ n. UpTo layout old now victim n) same up
+up_to_passed layout old now victim k (suc n) right up fits none =
+    let before = up_to_passed layout old now victim k n right up (omega arith) (λ page from to. none page from (omega arith)) in
+    let image = image_of layout now.words in
+    let page = layout.pool_first + (k + n) in
+    let code : IsFaithful layout image now.words = subst (λ i. IsFaithful layout i now.words) (sym before.same_image) before.code in
+    let pool : IsPool layout page = record { from = omega arith; to = omega arith } in
+    let stubless = nothing_to_unlink layout image now.words victim page code pool (λ run. no_stubs_into image now.words victim page run (λ j below. none page (omega arith) (omega arith) j (omega arith))) in
+    let done = up_to_next layout old now now victim (k + n) right before (omega arith) (ap (λ operations. perform now operations) stubless) in
+    let same : suc (k + n) ≡ k + suc n = omega arith in
+    subst (λ n. UpTo layout old now victim n) same done
+
+-- the pages below one are done, where those from another on have no jump into the victim
+pub up_to_page : (layout : Layout) (old now : Memory) (victim from page : ℕ) → IsRight layout → layout.pool_first ≤ from → from ≤ page → page ≤ layout.pool_first + layout.pool_pages → UpTo layout old now victim (from - layout.pool_first)
+    → ((lower : ℕ) → from ≤ lower → lower < page → HasNoJumpInto now.words lower victim) → UpTo layout old now victim (page - layout.pool_first)
+up_to_page layout old now victim from page right start order end up none =
+    let k = from - layout.pool_first in
+    let n = page - from in
+    let same : k + n ≡ page - layout.pool_first = omega arith in
+    subst (λ n. UpTo layout old now victim n) same (up_to_passed layout old now victim k n right up (omega arith) (λ lower above below. none lower (omega arith) (omega arith)))
+
+-- .. and that one too
+pub up_to_done : (layout : Layout) (old now next : Memory) (victim page : ℕ) → IsRight layout → layout.pool_first ≤ page → page < layout.pool_first + layout.pool_pages → UpTo layout old now victim (page - layout.pool_first)
+    → perform now (unlinking (image_of layout now.words) now.words victim page) ≡ record { memory = next; stop = None } → UpTo layout old next victim (page + 1 - layout.pool_first)
+up_to_done layout old now next victim page right from to up performed =
+    let k = page - layout.pool_first in
+    let here : page ≡ layout.pool_first + k = omega arith in
+    let same : suc k ≡ page + 1 - layout.pool_first = omega arith in
+    subst (λ n. UpTo layout old next victim n) same (up_to_next layout old now next victim k right up (omega arith) (ap (λ p. perform now (unlinking (image_of layout now.words) now.words victim p)) (sym here) ∙ performed))
+
 -- the next page, refused: no further page is done
 stopped_stays : (image : List ℕ) (victim first k n : ℕ) (old new : Memory) (stop : ResolveStop) → unresolved image victim first k old ≡ record { memory = new; stop = Some stop } → k ≤ n → unresolved image victim first n old ≡ record { memory = new; stop = Some stop }
 stopped_stays image victim first k zero old new stop is near = let same : 0 ≡ k = omega arith in ap (λ j. unresolved image victim first j old) same ∙ is
@@ -125,3 +160,11 @@ up_to_stop layout old now new victim k stop right up below performed =
       uses = λ p. here.uses p ∙ up.uses p;
       ops = (let more_ops = here.ops in let before = up.ops in omega arith);
     }
+
+-- .. in the page's own number
+pub up_to_stopped : (layout : Layout) (old now new : Memory) (victim page : ℕ) (stop : ResolveStop) → IsRight layout → layout.pool_first ≤ page → page < layout.pool_first + layout.pool_pages → UpTo layout old now victim (page - layout.pool_first)
+    → perform now (unlinking (image_of layout now.words) now.words victim page) ≡ record { memory = new; stop = Some stop } → IsStopped layout old new victim stop
+up_to_stopped layout old now new victim page stop right from to up performed =
+    let k = page - layout.pool_first in
+    let here : page ≡ layout.pool_first + k = omega arith in
+    up_to_stop layout old now new victim k stop right up (omega arith) (ap (λ p. perform now (unlinking (image_of layout now.words) now.words victim p)) (sym here) ∙ performed)

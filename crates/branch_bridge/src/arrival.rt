@@ -1,6 +1,6 @@
 //! One arrival.
 
-ghost use Rattle.std.specs.Prelude.{◌≡◌, ◌+◌, ◌*◌, ◌/◌, ◌<◌, ◌≤◌, ◌^◌, ◌↔◌, true, false, ◌||◌, min, IsErrOf, length, None as Nothing};
+ghost use Rattle.std.specs.Prelude.{◌≡◌, ◌+◌, ◌/◌, ◌<◌, ◌≤◌, ◌^◌, ◌↔◌, ◌||◌, min, IsErrOf, length, None as Nothing};
 ghost use Rattle.sram_layout.specs.Bytes.{byte_count};
 ghost use Rattle.flash_words.specs.Layouts.{IsRight, image_of};
 ghost use Rattle.page_index.specs.Maps.{IsPool, IsFree};

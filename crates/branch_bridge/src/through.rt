@@ -1,6 +1,6 @@
 //! An arrival through a stub.
 
-ghost use Rattle.std.specs.Prelude.{◌≡◌, ℕ, ◌<◌, ◌^◌, ◌↔◌, Option, Some as Just, None as Nothing, IfSome};
+ghost use Rattle.std.specs.Prelude.{◌≡◌, ◌<◌, ◌^◌, None as Nothing};
 ghost use Rattle.std.specs.Option.{option_map};
 ghost use Rattle.flash_words.specs.Layouts.{IsRight, image_of};
 ghost use Rattle.nat_page.specs.Faithful.{IsFaithful};

@@ -12,7 +12,7 @@ ghost use Rattle.branch_bridge.specs.Unresolving.{unlinking, unresolved_in, IsAp
 
 use crate::rewriting::{ResolveStop, rewrite};
 use flash_model::{BLANK, Flash, Layout, PAGE_WORDS};
-use nat_page::{LeadsInto, may_have_stubs_into, without_links};
+use nat_page::{LeadsInto, without_links};
 
 /// Each other used page that has stubs that jump into the victim gets the call of the kernel's bridge in the
 /// place of all of them, by one erase and one program; in ascending order.
@@ -35,14 +35,15 @@ pub fn unresolve(flash: &mut Flash, layout: &Layout, victim: u16) -> Result<(), 
     ensures uses { (page : ℕ) → is_used (mended flash.new.words (stop_of result)) page ≡ is_used flash.old.words page }
     ensures ops { flash.new.ops ≤ flash.old.ops + 2 * layout.now.pool_pages }
 {
-    'pages: for k in 0..layout.pool_pages {
-        let page = layout.pool_first + k;
-        if may_have_stubs_into(flash, layout, victim, page) {
-            match unlink_page(flash, layout, victim, page) {
-                Ok(()) => {}
-                Err(stop) => return Err(stop),
-            }
+    let end = layout.pool_first + layout.pool_pages;
+    let mut from = layout.pool_first;
+    // A page that has no jump into the victim has no stub into it.
+    'pages: while let Some(page) = flash.page_jumping_into(from, end, victim) {
+        match unlink_page(flash, layout, victim, page) {
+            Ok(()) => {}
+            Err(stop) => return Err(stop),
         }
+        from = page + 1;
     }
     Ok(())
 }

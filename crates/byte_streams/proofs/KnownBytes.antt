@@ -37,11 +37,6 @@ more_sent bytes rest left old mid new n is before more = record {
   appended = appends-both old mid new before.sent (take n rest) before.appended more;
 }
 
-pub all_sent : (bytes rest : List ℕ) (old new : Option (List ℕ)) → IsSent bytes rest old new → rest ≡ [] → Appends old new bytes
-all_sent bytes rest old new before none =
-    let whole : before.sent ≡ bytes = sym (before.parts ∙ ap (λ z. before.sent ++ z) none ∙ append-nil before.sent) in
-    subst (λ z. Appends old new z) whole before.appended
-
 -- where the sink failed with bytes left, what went out is a shorter part from the front
 pub part_sent : (bytes rest : List ℕ) (old mid new : Option (List ℕ)) → IsSent bytes rest old mid → 0 < length rest → Keeps mid new → (n : ℕ) × (n < length bytes) × Appends old new (take n bytes)
 part_sent bytes rest old mid new before some kept =
@@ -49,21 +44,11 @@ part_sent bytes rest old mid new before some kept =
     let size : length bytes ≡ length before.sent + length rest = ap length before.parts ∙ length-append before.sent rest in
     (length before.sent, omega arith, subst (λ z. Appends old new z) (sym front) (appends-kept old mid new before.sent before.appended kept))
 
-pub consumes-nothing : (known : Option (List ℕ)) → Consumes known known []
-consumes-nothing None = tt
-consumes-nothing (Some xs) = refl
-
 pub consumes-both : (old mid new : Option (List ℕ)) (xs ys : List ℕ) → Consumes old mid xs → Consumes mid new ys → Consumes old new (xs ++ ys)
 consumes-both None mid new xs ys first second = tt
 consumes-both (Some a) None new xs ys first second = absurd first
 consumes-both (Some a) (Some b) None xs ys first second = absurd second
 consumes-both (Some a) (Some b) (Some c) xs ys first second = first ∙ ap (λ z. xs ++ z) second ∙ sym (append_assoc xs ys c)
-
-pub consumes-kept : (old mid new : Option (List ℕ)) (xs : List ℕ) → Consumes old mid xs → Keeps mid new → Consumes old new xs
-consumes-kept None mid new xs first kept = tt
-consumes-kept (Some a) None new xs first kept = absurd first
-consumes-kept (Some a) (Some b) None xs first kept = absurd kept
-consumes-kept (Some a) (Some b) (Some c) xs first kept = first ∙ ap (λ z. xs ++ z) (sym kept)
 
 -- a read of `count` bytes at `at`, out of all the items, leaves those behind
 pub read_goes_on : (items left got : List ℕ) (at count : ℕ) → drop at items ≡ left → got ≡ take count left → left ≡ got ++ drop (at + count) items

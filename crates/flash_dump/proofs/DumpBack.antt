@@ -13,7 +13,7 @@ use Rattle.hex.proofs.HexLemmas.{length-encode_with}
 use Rattle.flash_words.specs.Pages.{word_count, page_words, page_count, word_at, page_of, set_page}
 use Rattle.flash_words.specs.Memory.{AreWords}
 use Rattle.flash_words.proofs.PageLaws.{page_word, length-page_of, length-set_page, word_in_page, word_out_of_page}
-use Rattle.list_parts.proofs.ManyLaws.{length-many, get_or-many}
+use Rattle.base_laws.proofs.ManyLaws.{length-many, get_or-many}
 use Rattle.text_lines.specs.Lines.{lines_of}
 use Rattle.text_lines.specs.Cutting.{Lacks}
 use Rattle.text_lines.specs.Written.{IsPlain}

@@ -1,18 +1,17 @@
 -- A dump that is read line by line.
-use Rattle.std.proofs.Common.{◌≡◌, ℕ, ◌+◌, ◌*◌, ◌<◌, ◌≤◌, false, cond, eqb, eq-eqb, List, [], ◌∷◌, length, arith, refl, sym, ap, ◌∙◌, subst, inl, inr}
+use Rattle.std.proofs.Common.{◌≡◌, ℕ, ◌+◌, ◌*◌, ◌<◌, ◌≤◌, false, cond, eqb, List, ◌∷◌, length, arith, sym, ap, ◌∙◌, subst, inr}
 use Rattle.std.proofs.lemmas.Bool.Decides.{nat_tests}
 use Rattle.std.proofs.lemmas.Grind.{same_number_lists}
 use Rattle.std.proofs.lemmas.List.FromFn.{length-map-range_with_len}
-use Rattle.list_parts.proofs.ManyLaws.{length-many, get_or-many}
+use Rattle.base_laws.proofs.ManyLaws.{length-many, get_or-many}
 use Rattle.std.specs.Str.Parse.{digits_value}
 use Rattle.flash_words.specs.Pages.{word_count, page_words, word_at, page_of, set_page, blank, many}
 use Rattle.flash_words.specs.Memory.{Memory, erased_flash}
 use Rattle.flash_words.specs.Operations.{programmed_page}
 use Rattle.flash_words.proofs.PageLaws.{page_word, length-page_of, length-set_page, page_other}
 use Rattle.text_lines.specs.Lines.{lines_of}
-use Rattle.flash_dump.specs.declared.dump_line.DumpFault.{DumpFault}
-use Rattle.flash_dump.specs.DumpLines.{HasPage, IsFaulty, page_in, word_digits, words_in}
-use Rattle.flash_dump.specs.Dumps.{AreSound, IsFirstFault, IsNoDump, IsOpen, IsReadTo, IsTaken, erased, with_lines}
+use Rattle.flash_dump.specs.DumpLines.{HasPage, page_in, word_digits, words_in}
+use Rattle.flash_dump.specs.Dumps.{AreSound, IsFirstFault, IsOpen, IsReadTo, IsTaken, erased, with_lines}
 
 length-words_in : (line : List ℕ) → length (words_in line) ≡ 128
 length-words_in line = length-map-range_with_len (λ k. digits_value 16 (word_digits line k)) 0 128
@@ -20,16 +19,6 @@ length-words_in line = length-map-range_with_len (λ k. digits_value 16 (word_di
 -- a line with a page isn't empty
 pub page_some : (line : List ℕ) → HasPage line → eqb (length line) 0 ≡ false
 page_some line has = let long = has.size in grind (arith, nat_tests)
-
--- an empty line
-pub taken_empty : (line : List ℕ) (least : ℕ) (flash : Memory) → length line ≡ 0 → line ≡ [] → least ≤ 512 → IsOpen flash least → IsTaken line least least flash flash
-taken_empty line least flash none is low open' = record {
-  sound = inl is;
-  after_is = sym (ap (λ b. cond b least (page_in line + 1)) (eq-eqb (length line) 0 none));
-  words_are = sym (ap (λ b. cond b flash.words (set_page flash.words (page_in line) (words_in line))) (eq-eqb (length line) 0 none));
-  is_open = open';
-  low = low;
-}
 
 -- a line with a page
 pub taken_page : (line : List ℕ) (least page : ℕ) (words : List ℕ) (old new : Memory) → HasPage line → page ≡ page_in line → words ≡ words_in line → least ≤ page → page < 512 → IsOpen old least → new ≡ programmed_page old page words → IsTaken line least (page + 1) old new
@@ -68,21 +57,6 @@ read_more text rest line behind least after number old new read lines taken =
           read.faulty n fault (subst F (sym lines) (inr (taken.sound, subst G next first)));
       words_are = ap (λ ws. with_lines ws (lines_of behind)) taken.words_are ∙ sym (ap (with_lines old.words) lines) ∙ read.words_are;
     }
-
--- a line with a fault
-pub read_fault : (text rest line behind : List ℕ) (least number : ℕ) (flash : Memory) (fault : DumpFault) → IsReadTo text rest least number flash → lines_of rest ≡ line ∷ lines_of behind → IsFaulty least line fault → IsNoDump text (number + 1) fault
-read_fault text rest line behind least number flash fault read lines faulty =
-    let F : List (List ℕ) → Type 0 = λ ls. IsFirstFault least (number + 1) ls (number + 1) fault in
-    read.faulty (number + 1) fault (subst F (sym lines) (inl (refl, faulty)))
-
--- before the first line
-pub read_start : (text : List ℕ) (flash : Memory) → flash.words ≡ erased → IsOpen flash 0 → IsReadTo text text 0 0 flash
-read_start text flash is open' = record {
-  is_open = open';
-  sound = λ are. are;
-  faulty = λ n fault first. first;
-  words_are = ap (λ ws. with_lines ws (lines_of text)) is;
-}
 
 -- a flash that is erased
 pub erased_open : (flash : Memory) → flash ≡ erased_flash → IsOpen flash 0

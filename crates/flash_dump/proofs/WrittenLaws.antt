@@ -1,5 +1,5 @@
 -- The lines of a dump that is written, page by page.
-use Rattle.std.proofs.Common.{◌≡◌, ℕ, zero, suc, ◌+◌, List, [], ◌∷◌, ◌++◌, ap, ◌∙◌, arith}
+use Rattle.std.proofs.Common.{◌≡◌, ℕ, suc, ◌+◌, List, [], ◌∷◌, ◌++◌, ap, ◌∙◌, arith}
 use Rattle.std.specs.Prelude.{flat_map}
 use Rattle.std.specs.List.{range_with_len}
 use Rattle.std.proofs.lemmas.Grind.{flat_map-append}
@@ -7,14 +7,7 @@ use Rattle.std.proofs.lemmas.List.{append-nil}
 use Rattle.flash_words.specs.Pages.{page_of}
 use Rattle.text_lines.specs.Written.{fed}
 use Rattle.flash_dump.specs.WrittenDumps.{lines_of_page, lines_of_pages}
-
-range_more : (first count : ℕ) → range_with_len first (suc count) ≡ range_with_len first count ++ (first + count) ∷ []
-range_more first zero =
-    let none : first ≡ first + 0 = omega arith in
-    ap (λ z. z ∷ []) none
-range_more first (suc count) =
-    let next : first + 1 + count ≡ first + suc count = omega arith in
-    ap (λ z. first ∷ z) (range_more (first + 1) count) ∙ ap (λ z. first ∷ (range_with_len (first + 1) count ++ z ∷ [])) next
+use Rattle.base_laws.proofs.Ranges.{range_with_len-push}
 
 pub one_page_more : (words : List ℕ) (count : ℕ) → flat_map fed (lines_of_pages words 0 (count + 1)) ≡ flat_map fed (lines_of_pages words 0 count) ++ flat_map fed (lines_of_page count (page_of words count))
 one_page_more words count =
@@ -23,5 +16,5 @@ one_page_more words count =
     let next : count + 1 ≡ suc count = omega arith in
     let none : 0 + count ≡ count = omega arith in
     let more : lines_of_pages words 0 (count + 1) ≡ lines_of_pages words 0 count ++ own count =
-    ap (λ n. flat_map own (range_with_len 0 n)) next ∙ ap (flat_map own) (range_more 0 count) ∙ flat_map-append own pages ((0 + count) ∷ []) ∙ ap (λ n. lines_of_pages words 0 count ++ flat_map own (n ∷ [])) none ∙ ap (λ z. lines_of_pages words 0 count ++ z) (append-nil (own count)) in
+    ap (λ n. flat_map own (range_with_len 0 n)) next ∙ ap (flat_map own) (range_with_len-push 0 count) ∙ flat_map-append own pages ((0 + count) ∷ []) ∙ ap (λ n. lines_of_pages words 0 count ++ flat_map own (n ∷ [])) none ∙ ap (λ z. lines_of_pages words 0 count ++ z) (append-nil (own count)) in
     ap (flat_map fed) more ∙ flat_map-append fed (lines_of_pages words 0 count) (own count)

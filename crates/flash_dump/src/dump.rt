@@ -5,7 +5,6 @@ ghost use Rattle.flash_words.specs.Pages.{many, page_count, page_of, blank};
 ghost use Rattle.flash_words.specs.Operations.{programmed_page};
 ghost use Rattle.flash_dump.specs.DumpLines.{IsFaulty};
 ghost use Rattle.flash_dump.specs.Dumps.{IsDump, IsOpen, IsTaken, erased as erased_words};
-ghost use Rattle.flash_dump.specs.declared.dump.DumpError.{DumpError};
 ghost use Rattle.flash_dump.specs.DumpAnswers.{IsRefusal};
 
 use crate::dump_line::{DumpFault, page_line_in};

@@ -1,29 +1,107 @@
--- What is kept follows the words: an address that is made anew, and what a page leaves that changed.
-use Rattle.std.proofs.Common.{◌≡◌, ℕ, ◌+◌, ◌-◌, ◌*◌, ◌%◌, ◌<◌, ◌≤◌, List, length, arith, ◌∙◌, sym, ap, ap₂, subst, inl, inr}
-use Rattle.std.specs.Prelude.{◌≢◌, slice_set}
+-- What is decoded follows the words: an address that is decoded again or forgotten, and what a page leaves that changed.
+use Rattle.std.proofs.Common.{◌≡◌, ℕ, ◌+◌, ◌-◌, ◌*◌, ◌%◌, ◌<◌, ◌≤◌, ◌⊎◌, List, length, arith, ◌∙◌, sym, ap₂, subst, inl, inr}
+use Rattle.std.specs.Prelude.{◌≢◌, slice_set, slice_index_or}
 use Rattle.std.proofs.lemmas.List.{length-set, get_or-set_same, get_or-set_other}
 use Rattle.std.proofs.lemmas.Bool.{cases_lt, cases_eq}
+use Rattle.avr_ops.specs.declared.micro_op.MicroOp.{MicroOp}
+use Rattle.avr_ops.specs.declared.micro_op.MicroOp.TheVariants.{Undecoded}
+use Rattle.avr_ops.specs.MicroOps.{CanStandFor}
+use Rattle.avr_ops.proofs.UndecodedLaws.{stands_for_any}
 use Rattle.flash_model.specs.declared.decoded.Decoded.{Decoded}
-use Rattle.flash_words.specs.Pages.{word_count, page_count, page_words, word_at, page_of, set_page, blank}
+use Rattle.flash_model.specs.declared.decode_cache.DecodeCache.{DecodeCache}
+use Rattle.flash_words.specs.Pages.{word_count, page_count, page_words, word_at, set_page}
 use Rattle.flash_model.specs.Code.{behind, decoded_of, decoded_at}
-use Rattle.flash_model.specs.Kept.{HasDecoded, IsOutside, IsKept, IsKeptOutside, IsKeptBeside}
+use Rattle.flash_model.specs.DecodeCache.{HasDecoded, HasMicroOp, StandsAt, IsOutside, IsCache, IsCacheBeside, AreDecoded, AreDecodedOutside, AreDecodedBeside, AreMicroOps, AreMicroOpsOutside, AreMicroOpsBeside}
 use Rattle.flash_words.proofs.PageLaws.{word_out_of_page}
-use Rattle.flash_words.proofs.ProgramLaws.{length-blank, blank_words}
 
--- an address that is made anew, and each other, which stays
-put_here : (words : List ℕ) (old : List Decoded) (a : ℕ) → a < length old → HasDecoded words (slice_set old a (decoded_at words a)) a
-put_here words old a inside d = get_or-set_same old a (decoded_at words a) d inside
+-- What is decoded at the first addresses. ---------------------------------------------------------
 
-put_else : (words : List ℕ) (old : List Decoded) (a b : ℕ) → b ≢ a → HasDecoded words old b → HasDecoded words (slice_set old a (decoded_at words a)) b
-put_else words old a b apart has d = get_or-set_other old a b (decoded_at words a) d apart ∙ has d
+-- an address that is decoded again, and each other, which stays
+decoded_here : (words : List ℕ) (old : List Decoded) (a : ℕ) → a < length old → HasDecoded words (slice_set old a (decoded_at words a)) a
+decoded_here words old a inside d = get_or-set_same old a (decoded_at words a) d inside
+
+decoded_else : (words : List ℕ) (old : List Decoded) (a b : ℕ) → b ≢ a → HasDecoded words old b → HasDecoded words (slice_set old a (decoded_at words a)) b
+decoded_else words old a b apart has d = get_or-set_other old a b (decoded_at words a) d apart ∙ has d
 
 -- the next address of a range
-pub renewed_step : (words : List ℕ) (old new : List Decoded) (a to : ℕ) → a < word_count → new ≡ slice_set old a (decoded_at words a) → IsKeptOutside words old a to → IsKeptOutside words new (a + 1) to
-renewed_step words old new a to few is h = subst (λ code. IsKeptOutside words code (a + 1) to) (sym is) (record {
-  sized = length-set old a (decoded_at words a) ∙ h.sized;
+pub decoded_step : (words : List ℕ) (old new : List Decoded) (a to : ℕ) → a < length old → new ≡ slice_set old a (decoded_at words a) → AreDecodedOutside words old a to → AreDecodedOutside words new (a + 1) to
+decoded_step words old new a to inside is h =
+    let size = length-set old a (decoded_at words a) in
+    subst (λ decoded. AreDecodedOutside words decoded (a + 1) to) (sym is) (record {
+      sized = omega (arith, size, h.sized);
+      each = λ b within out. elim (cases_eq b a) [
+        | inl same ↦ subst (HasDecoded words (slice_set old a (decoded_at words a))) (sym same) (decoded_here words old a inside)
+        | inr apart ↦ decoded_else words old a b apart (h.each b (omega (arith, size, within)) (elim out [
+          | inl below ↦ inl (omega arith)
+          | inr above ↦ inr above
+        ]))
+      ];
+    })
+
+-- a range that is done
+pub decoded_all : (words : List ℕ) (decoded : List Decoded) (from to : ℕ) → to ≤ from → AreDecodedOutside words decoded from to → AreDecoded words decoded
+decoded_all words decoded from to done h = record {
+  sized = h.sized;
+  each = λ a within. h.each a within (elim (cases_lt a from) [
+    | inl below ↦ inl below
+    | inr above ↦ inr (omega arith)
+  ]);
+}
+
+-- a range that has all of them
+pub decoded_none : (words : List ℕ) (decoded : List Decoded) (count : ℕ) → length decoded ≡ count → count < word_count → AreDecodedOutside words decoded 0 count
+decoded_none words decoded count size few = record {
+  sized = omega arith;
+  each = λ a within out. absurd (elim out [
+    | inl below ↦ omega arith
+    | inr above ↦ omega arith
+  ]);
+}
+
+-- the addresses that read a range of words, from the one before on
+pub decoded_before : (words : List ℕ) (decoded : List Decoded) (from to first last : ℕ) → AreDecodedBeside words decoded from to → ((a : ℕ) → a < length decoded → IsOutside a first last → (a + 1 < from) ⊎ (to ≤ a)) → AreDecodedOutside words decoded first last
+decoded_before words decoded from to first last h out = record {
+  sized = h.sized;
+  each = λ b within outside. elim (out b within outside) [
+    | inl below ↦ h.each b within (inl (omega arith)) (inl (omega (arith, h.sized)))
+    | inr above ↦ h.each b within (inr above) (inr (omega (arith, h.sized)))
+  ];
+}
+
+-- a range of words that none of them reads
+pub decoded_above : (words : List ℕ) (decoded : List Decoded) (from to : ℕ) → length decoded < from → AreDecodedBeside words decoded from to → AreDecoded words decoded
+decoded_above words decoded from to above h = record { sized = h.sized; each = λ a within. h.each a within (inl (omega arith)) (inl (omega (arith, h.sized))) }
+
+-- Micro-operations. -------------------------------------------------------------------------------
+
+-- an address whose micro-operation may stand there, and each other, which stays
+micro_op_here : (words : List ℕ) (old : List MicroOp) (a : ℕ) (op : MicroOp) → a < length old → StandsAt words a op → HasMicroOp words (slice_set old a op) a
+micro_op_here words old a op inside stands d = subst (StandsAt words a) (sym (get_or-set_same old a op d inside)) stands
+
+micro_op_else : (words : List ℕ) (old : List MicroOp) (a b : ℕ) (op : MicroOp) → b ≢ a → HasMicroOp words old b → HasMicroOp words (slice_set old a op) b
+micro_op_else words old a b op apart has d = subst (StandsAt words b) (sym (get_or-set_other old a b op d apart)) (has d)
+
+-- one that is kept
+pub micro_op_set : (words : List ℕ) (old : List MicroOp) (a : ℕ) (op : MicroOp) → a < word_count → StandsAt words a op → AreMicroOps words old → AreMicroOps words (slice_set old a op)
+micro_op_set words old a op few stands h = record {
+  sized = length-set old a op ∙ h.sized;
+  each = λ b within. elim (cases_eq b a) [
+    | inl same ↦ subst (HasMicroOp words (slice_set old a op)) (sym same) (micro_op_here words old a op (omega (arith, h.sized)) stands)
+    | inr apart ↦ micro_op_else words old a b op apart (h.each b within)
+  ];
+}
+
+-- none anywhere
+pub no_micro_op : (words : List ℕ) (micro_ops : List MicroOp) → length micro_ops ≡ word_count → ((a : ℕ) (op : MicroOp) → a < word_count → slice_index_or micro_ops a op ≡ Undecoded) → AreMicroOps words micro_ops
+no_micro_op words micro_ops sized none = record { sized = sized; each = λ a within op. subst (StandsAt words a) (sym (none a op within)) (stands_for_any _ _) }
+
+-- the next address of a range
+pub forgotten_step : (words : List ℕ) (old new : List MicroOp) (a to : ℕ) → a < word_count → new ≡ slice_set old a Undecoded → AreMicroOpsOutside words old a to → AreMicroOpsOutside words new (a + 1) to
+forgotten_step words old new a to few is h = subst (λ micro_ops. AreMicroOpsOutside words micro_ops (a + 1) to) (sym is) (record {
+  sized = length-set old a Undecoded ∙ h.sized;
   each = λ b within out. elim (cases_eq b a) [
-    | inl same ↦ subst (HasDecoded words (slice_set old a (decoded_at words a))) (sym same) (put_here words old a (omega (arith, h.sized)))
-    | inr apart ↦ put_else words old a b apart (h.each b within (elim out [
+    | inl same ↦ subst (HasMicroOp words (slice_set old a Undecoded)) (sym same) (micro_op_here words old a Undecoded (omega (arith, h.sized)) (stands_for_any _ _))
+    | inr apart ↦ micro_op_else words old a b Undecoded apart (h.each b within (elim out [
       | inl below ↦ inl (omega arith)
       | inr above ↦ inr above
     ]))
@@ -31,8 +109,8 @@ renewed_step words old new a to few is h = subst (λ code. IsKeptOutside words c
 })
 
 -- a range that is done
-pub renewed_all : (words : List ℕ) (code : List Decoded) (from to : ℕ) → to ≤ from → IsKeptOutside words code from to → IsKept words code
-renewed_all words code from to done h = record {
+pub forgotten_all : (words : List ℕ) (micro_ops : List MicroOp) (from to : ℕ) → to ≤ from → AreMicroOpsOutside words micro_ops from to → AreMicroOps words micro_ops
+forgotten_all words micro_ops from to done h = record {
   sized = h.sized;
   each = λ a within. h.each a within (elim (cases_lt a from) [
     | inl below ↦ inl below
@@ -54,32 +132,41 @@ not_behind a before from to within start is apart out end = elim (cases_lt (behi
 ]
 
 -- the address before a range, whose second word is the range's first
-pub renewed_before : (words : List ℕ) (old new : List Decoded) (from to before : ℕ) → IsKeptBeside words old from to → new ≡ slice_set old before (decoded_at words before) → from < word_count → to ≤ word_count → before ≡ (from + 65536 - 1) % 65536 → IsKeptOutside words new from to
-renewed_before words old new from to before h is start end place = subst (λ code. IsKeptOutside words code from to) (sym is) (record {
-  sized = length-set old before (decoded_at words before) ∙ h.sized;
+pub forgotten_before : (words : List ℕ) (old new : List MicroOp) (from to before : ℕ) → AreMicroOpsBeside words old from to → new ≡ slice_set old before Undecoded → from < word_count → to ≤ word_count → before ≡ (from + 65536 - 1) % 65536 → AreMicroOpsOutside words new from to
+forgotten_before words old new from to before h is start end place = subst (λ micro_ops. AreMicroOpsOutside words micro_ops from to) (sym is) (record {
+  sized = length-set old before Undecoded ∙ h.sized;
   each = λ a within out. elim (cases_eq a before) [
-    | inl same ↦ subst (HasDecoded words (slice_set old before (decoded_at words before))) (sym same) (put_here words old before (omega (arith, h.sized)))
-    | inr apart ↦ put_else words old before a apart (h.each a within out (not_behind a before from to within start place apart out end))
+    | inl same ↦ subst (HasMicroOp words (slice_set old before Undecoded)) (sym same) (micro_op_here words old before Undecoded (omega (arith, h.sized)) (stands_for_any _ _))
+    | inr apart ↦ micro_op_else words old before a Undecoded apart (h.each a within out (not_behind a before from to within start place apart out end))
   ];
 })
 
--- words that are the same outside of a range leave what is kept of others
-pub kept_beside : (words words' : List ℕ) (code : List Decoded) (from to : ℕ) → IsKept words code → ((a : ℕ) → IsOutside a from to → word_at words a ≡ word_at words' a) → IsKeptBeside words' code from to
-kept_beside words words' code from to h same = record {
-  sized = h.sized;
-  each = λ a within out out' d. h.each a within d ∙ ap₂ decoded_of (same a out) (same (behind a) out');
+-- Both. -------------------------------------------------------------------------------------------
+
+-- words that are the same outside of a range leave what is decoded of others
+pub cache_beside : (words words' : List ℕ) (cache : DecodeCache) (from to : ℕ) → IsCache words cache → ((a : ℕ) → IsOutside a from to → word_at words a ≡ word_at words' a) → IsCacheBeside words' cache from to
+cache_beside words words' cache from to h same = record {
+  decoded = record {
+    sized = h.decoded.sized;
+    each = λ a within out out' d. h.decoded.each a within d ∙ ap₂ decoded_of (same a out) (same (behind a) out');
+  };
+  micro_ops = record {
+    sized = h.micro_ops.sized;
+    each = λ a within out out' op.
+        let Stands : Decoded → Type 0 = λ d. CanStandFor (slice_index_or cache.micro_ops.items a op) d.instr d.next_size in
+        subst Stands (ap₂ decoded_of (same a out) (same (behind a) out')) (h.micro_ops.each a within op);
+  };
 }
 
--- an erased page: its words are all 0xFFFF
-pub erased_beside : (words : List ℕ) (code : List Decoded) (page : ℕ) → IsKept words code → length words ≡ word_count → page < page_count → IsKeptBeside (set_page words page blank) code (page_words * page) (page_words * page + page_words)
-erased_beside words code page h size few =
+-- an erased page
+pub erased_beside : (words new : List ℕ) (cache : DecodeCache) (page : ℕ) → IsCache words cache → length words ≡ word_count → page < page_count → length new ≡ page_words → IsCacheBeside (set_page words page new) cache (page_words * page) (page_words * page + page_words)
+erased_beside words new cache page h size few long =
     let inside : page_words * page + page_words ≤ length words = omega (arith, size) in
-    kept_beside words (set_page words page blank) code (page_words * page) (page_words * page + page_words) h (λ a out. sym (word_out_of_page words blank page a length-blank inside out))
+    cache_beside words (set_page words page new) cache (page_words * page) (page_words * page + page_words) h (λ a out. sym (word_out_of_page words new page a long inside out))
 
--- the next address of an erased page, whose two words are 0xFFFF
-pub blank_step : (words : List ℕ) (old new : List Decoded) (page a to : ℕ) (d : Decoded) → page_of words page ≡ blank → page < page_count → page_words * page ≤ a → a + 1 < page_words * page + page_words → d ≡ decoded_of 0xFFFF 0xFFFF
-    → new ≡ slice_set old a d → IsKeptOutside words old a to → IsKeptOutside words new (a + 1) to
-blank_step words old new page a to d is few above below same code h =
-    let first = blank_words words page a is above (omega arith) in
-    let second : word_at words (behind a) ≡ 0xFFFF = blank_words words page (behind a) is (omega arith) (omega arith) in
-    renewed_step words old new a to (omega arith) (code ∙ ap (slice_set old a) (same ∙ sym (ap₂ decoded_of first second))) h
+-- what stays as it was
+pub decoded_stay : (words : List ℕ) (old new : List Decoded) (from to : ℕ) → new ≡ old → AreDecodedBeside words old from to → AreDecodedBeside words new from to
+decoded_stay words old new from to is h = subst (λ decoded. AreDecodedBeside words decoded from to) (sym is) h
+
+pub micro_ops_stay : (words : List ℕ) (old new : List MicroOp) → new ≡ old → AreMicroOps words old → AreMicroOps words new
+micro_ops_stay words old new is h = subst (AreMicroOps words) (sym is) h

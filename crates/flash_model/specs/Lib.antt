@@ -1,3 +1,3 @@
 pub mod Code
-pub mod Kept
-pub mod Seen
+pub mod DecodeCache
+pub mod DecodedPairs

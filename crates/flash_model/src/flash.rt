@@ -1,15 +1,17 @@
-//! Flash: its words, and what is kept beside them.
+//! Flash: its words, and what is decoded of them.
 
 ghost use Rattle.std.specs.Prelude.{◌≡◌, ◌≢◌, ℕ, ◌≤◌, ◌<◌, ◌^◌, true, false, [], ◌∷◌, length, OnOk, OnErr, IfOk, IfErr, IfSome, IfNone, slice_index};
-ghost use Rattle.flash_words.specs.Pages.{page_count, word_at, page_of, blank, programmed};
+ghost use Rattle.flash_words.specs.Pages.{word_count, page_count, word_at, page_of, blank, programmed};
 ghost use Rattle.flash_words.specs.Memory.{IsWhole, erased_flash, new_flash};
 ghost use Rattle.flash_words.specs.Operations.{next_op, fails, left_by_refusal, erased_page, programmed_page, renewed, Erase, Program, perform, refusal_of};
 ghost use Rattle.flash_model.specs.Code.{decoded_at};
+ghost use Rattle.flash_model.specs.DecodeCache.{StandsAt};
 ghost use Rattle.flash_words.specs.Jumps.{HasNoJumpInto};
 ghost use Rattle.flash_words.specs.Heads.{head};
 
+use crate::decode_cache::{DecodeCache, PAGE_WORDS};
 use crate::decoded::Decoded;
-use crate::kept::{Kept, PAGE_WORDS};
+use avr_ops::MicroOp;
 use flash_words::{Cells, FlashStop};
 use no_memory::NoMemory;
 use std::alloc::Global;
@@ -19,18 +21,18 @@ use std::marker::Model;
 #[derive(Drop)]
 pub struct Flash {
     cells: Cells,
-    kept: Kept,
+    cache: DecodeCache,
 }
 
 impl Model for Flash {
     ghost use Rattle.flash_words.specs.Memory.{Memory, IsWhole};
-    ghost use Rattle.flash_model.specs.Kept.{IsKept};
+    ghost use Rattle.flash_model.specs.DecodeCache.{IsCache};
 
     ghost Value = { Memory };
 
     ghost view = { λ f. f.cells };
 
-    ghost invariant = { λ f. IsWhole f.cells × IsKept f.cells.words f.kept.code.items };
+    ghost invariant = { λ f. IsWhole f.cells × IsCache f.cells.words f.cache };
 }
 
 impl Flash {
@@ -41,7 +43,7 @@ impl Flash {
         ensures new { IfOk result (λ flash. flash ≡ new_flash image.now failing.now) }
         ensures whole { IfOk result IsWhole }
     {
-        Flash::of(alloc, Cells::new(alloc, image, failing)?)
+        Flash::of(alloc, Cells::new(alloc, image, failing)?, image.len())
     }
 
     /// A flash whose words are all erased, the kernel's too, before any operation; none is to fail.
@@ -49,17 +51,18 @@ impl Flash {
         ensures new { IfOk result (λ flash. flash ≡ erased_flash) }
         ensures whole { IfOk result IsWhole }
     {
-        Flash::of(alloc, Cells::erased(alloc)?)
+        Flash::of(alloc, Cells::erased(alloc)?, 0)
     }
 
-    /// A flash of these words.
-    fn of(alloc: Global, cells: Cells) -> Result<Flash, NoMemory>
-        requires { IsWhole cells }
+    /// A flash of these words, of which the first so many are an image's.
+    fn of(alloc: Global, cells: Cells, image_words: usize) -> Result<Flash, NoMemory>
+        requires whole { IsWhole cells }
+        requires image { image_words < word_count }
         ensures new { IfOk result (λ flash. flash ≡ cells) }
         ensures whole { IfOk result IsWhole }
     {
-        let kept = Kept::new(alloc, &cells)?;
-        Ok(Flash { cells, kept })
+        let cache = DecodeCache::new(alloc, &cells, image_words)?;
+        Ok(Flash { cells, cache })
     }
 
     /// The word at a word address.
@@ -79,23 +82,49 @@ impl Flash {
         self.cells.page(page)
     }
 
-    /// What is decoded at a word address: the instruction that its word begins, with the word behind it,
-    /// NOP also where they begin none; behind the last word comes the first.
-    pub fn decoded(&self, a: u16) -> &Decoded
-        ensures value { result.now ≡ decoded_at self.now.words a }
-        ensures range { (1 ≤ result.now.next_size) × (result.now.next_size ≤ 2) }
+    /// What is decoded at a word address, where that is kept: at each of the image's.
+    #[inline(always)]
+    pub fn decoded(&self, a: u16) -> Option<&Decoded>
+        ensures value { IfSome result (λ decoded. decoded.now ≡ decoded_at self.now.words a) }
+        ensures range { IfSome result (λ decoded. (1 ≤ decoded.now.next_size) × (decoded.now.next_size ≤ 2)) }
         ensures whole { IsWhole self.now }
     {
-        self.kept.decoded(a)
+        // By cases, since the size's range is proved of what is there.
+        match self.cache.decoded(a) {
+            Some(decoded) => Some(decoded),
+            None => None,
+        }
     }
 
-    /// Whether the page may have a jump, a JMP, into the target. Where this is false it has none.
-    pub fn may_jump_into(&self, page: u16, target: u16) -> bool
-        requires { page < page_count }
-        ensures none { result ≡ false → HasNoJumpInto self.now.words page target }
-        ensures whole { IsWhole self.now }
+    /// The micro-operation at a word address, for the step that executes it: `Undecoded` until [`Flash::predecode`] was
+    /// called there, and again once its words have changed.
+    #[inline(always)]
+    pub fn micro_op(&self, a: u16) -> &MicroOp
+        ensures stands { StandsAt self.now.words a result.now }
     {
-        self.cells.may_jump_into(page, target)
+        self.cache.micro_op(a)
+    }
+
+    /// Decodes at a word address: the instruction that its word begins, with the word behind it (behind the last word comes the
+    /// first), NOP also where they begin none. The next steps there are made by its micro-operation.
+    pub fn predecode(&mut self, a: u16) -> Decoded
+        ensures value { result ≡ decoded_at self.old.words a }
+        ensures range { (1 ≤ result.next_size) × (result.next_size ≤ 2) }
+        ensures same { self.new ≡ self.old }
+        ensures whole { IsWhole self.new }
+    {
+        self.cache.predecode(&self.cells, a)
+    }
+
+    /// The lowest page from one on and below another that may have a jump, a JMP, into the target; None where none does.
+    pub fn page_jumping_into(&self, from: u16, to: u16, target: u16) -> Option<u16>
+        requires end { to ≤ page_count }
+        ensures range { IfSome result (λ page. (from ≤ page) × (page < to)) }
+        // Those before it have none.
+        ensures lowest { IfSome result (λ page. (lower : ℕ) → from ≤ lower → lower < page → HasNoJumpInto self.now.words lower target) }
+        ensures none { IfNone result ((page : ℕ) → from ≤ page → page < to → HasNoJumpInto self.now.words page target) }
+    {
+        self.cells.page_jumping_into(from, to, target)
     }
 
     /// The lowest page from one on and below another that may begin with this word; None where none does.
@@ -159,7 +188,8 @@ impl Flash {
         ensures whole { IsWhole self.old × IsWhole self.new }
     {
         self.cells.erase(page)?;
-        self.kept.renew_blank(&self.cells, page);
+        let first = PAGE_WORDS * page as usize;
+        self.cache.renew(&self.cells, first, first + PAGE_WORDS);
         Ok(())
     }
 
@@ -184,7 +214,7 @@ impl Flash {
     {
         let count = self.cells.program(page, words)?;
         let first = PAGE_WORDS * page as usize;
-        self.kept.renew_changed(&self.cells, first, first + count);
+        self.cache.renew(&self.cells, first, first + count);
         Ok(())
     }
 }

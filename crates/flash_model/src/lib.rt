@@ -1,4 +1,4 @@
-//! The mote's program memory: 65,536 words of flash in 512 pages of 128 words, each kept decoded.
+//! The mote's program memory: 65,536 words of flash in 512 pages of 128 words, and what is decoded of them.
 //!
 //! A page is erased as a whole, which makes each of its words 0xFFFF, and programming a page can
 //! only clear bits: each word becomes the old AND the new. [`Flash`] counts the erases of each
@@ -17,10 +17,12 @@
 //! contracts see of a flash: the record of its words, the counts, the list, the number of operations that were tried,
 //! and the page of the last one that was refused.
 //!
-//! [`Flash::decoded`] gives what is kept decoded at a word address (`decoded.rt`, `specs/Code.antt`). Behind each
-//! operation on a page, `kept.rt` makes anew what is kept of the words that changed. Words that were decoded already are
-//! not decoded again (`seen.rt`, `specs/Seen.antt`). That what is kept is what the words mean (`specs/Kept.antt`) is an
-//! invariant of [`Flash`], and contracts see the words alone.
+//! [`Flash::decoded`] gives what is decoded at a word address (`decoded.rt`, `specs/Code.antt`), and [`Flash::micro_op`] the
+//! micro-operation of it, which a step is made by. A micro-operation is made when it is first asked for
+//! ([`Flash::predecode`]), so what no step comes to is never decoded. Behind each operation on a page `decode_cache.rt`
+//! forgets those of the words that changed. Pairs of words that were decoded already are not decoded again
+//! (`decoded_pairs.rt`). That all this is what the words mean (`specs/DecodeCache.antt`) is an invariant of [`Flash`], and
+//! contracts see the words alone.
 //!
 //! Each call ensures that the flash is whole: 65,536 words of 16 bits in 512 pages (`IsWhole`). So a
 //! caller has a word's range from any call, as `c.word.ensures.whole.words_fit a`.
@@ -29,11 +31,11 @@
 //! has the laws of that.
 #![tactic(auto)]
 
+mod decode_cache;
 mod decoded;
+mod decoded_pairs;
 mod flash;
 mod image;
-mod kept;
-mod seen;
 
 pub use decoded::Decoded;
 pub use flash::Flash;

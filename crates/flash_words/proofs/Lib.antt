@@ -1,7 +1,6 @@
 mod Programming
 mod PageSetLaws
 mod NextPageLaws
-mod FailingLaws
 mod HeadLaws
 mod JumpLaws
 mod WorkedOperations
@@ -9,5 +8,4 @@ pub mod PageLaws
 pub mod WordLaws
 pub mod LoadedLaws
 pub mod ProgramLaws
-pub mod OperationLaws
 pub mod LayoutLaws

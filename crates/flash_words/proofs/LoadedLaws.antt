@@ -3,10 +3,10 @@ use Rattle.std.proofs.Common.{◌≡◌, ℕ, ◌+◌, ◌-◌, ◌*◌, ◌<◌
 use Rattle.std.proofs.lemmas.List.{length-append, get_or_append_left, get_or-append_right, append_assoc, take_at}
 use Rattle.std.proofs.lemmas.Grind.{same_number_lists}
 use Rattle.flash_words.specs.Pages.{word_count, page_words, word_at, page_of, blank}
-use Rattle.list_parts.specs.Lists.{many}
+use Rattle.base_laws.specs.Lists.{many}
 use Rattle.flash_words.specs.Memory.{kernel_first, loaded}
 use Rattle.flash_words.proofs.PageLaws.{page_word, length-page_of}
-use Rattle.list_parts.proofs.ManyLaws.{length-many, get_or-many}
+use Rattle.base_laws.proofs.ManyLaws.{length-many, get_or-many}
 
 pub length-loaded : (image : List ℕ) → length image ≤ kernel_first → length (loaded image) ≡ word_count
 unfolding loaded

@@ -4,7 +4,8 @@ use Rattle.std.specs.Prelude.{◌≢◌, slice_index}
 use Rattle.std.proofs.lemmas.Grind.{same_number_lists}
 use Rattle.std.proofs.lemmas.Bool.{cases_lt}
 use Rattle.flash_words.specs.Pages.{page_words, word_at, page_of, set_page}
-use Rattle.list_parts.proofs.Pieces.{length-replaced, replaced_in, replaced_below, replaced_above, front_replaced, replaced_twice, part_replaced, same_part, part_item, length-part}
+use Rattle.base_laws.proofs.Pieces.{length-replaced, replaced_in, replaced_below, replaced_above, front_replaced, replaced_twice, part_replaced, same_part, part_item, length-part}
+use Rattle.base_laws.proofs.Numbers.{unequal}
 
 -- the length stays
 pub length-set_page : (words new : List ℕ) (page : ℕ) → length new ≡ page_words → page_words * page + page_words ≤ length words → length (set_page words page new) ≡ length words
@@ -34,9 +35,6 @@ take-set_page words new page n inside in_front =
 pub page_same : (words new : List ℕ) (page : ℕ) → length new ≡ page_words → page_words * page + page_words ≤ length words → page_of (set_page words page new) page ≡ new
 unfolding set_page page_of
 page_same words new page fits inside = part_replaced (page_words * page) page_words words new fits inside
-
-unequal : (a b : ℕ) → a ≢ b → b ≤ a → b < a
-unequal a b apart above = omega arith
 
 -- another page
 pub page_other : (words new : List ℕ) (page other : ℕ) → length new ≡ page_words → page_words * page + page_words ≤ length words → other ≢ page → page_of (set_page words page new) other ≡ page_of words other

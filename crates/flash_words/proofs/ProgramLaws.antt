@@ -7,7 +7,7 @@ use Rattle.flash_words.specs.Pages.{word_count, page_count, page_words, word_at,
 use Rattle.flash_words.specs.Memory.{AreWords}
 use Rattle.flash_words.specs.JumpSets.{IsBlankFrom}
 use Rattle.flash_words.proofs.PageLaws.{word_in_page, word_out_of_page, page_word, length-page_of}
-use Rattle.list_parts.proofs.ManyLaws.{length-many, get_or-many}
+use Rattle.base_laws.proofs.ManyLaws.{length-many, get_or-many}
 
 pub length-blank : length blank ≡ page_words
 unfolding blank
@@ -66,11 +66,3 @@ others_left words new page n a size fit few long rest out =
         | inr higher ↦ word_out_of_page words new' page a fits inside (inr higher)
       ]
     ]
-
--- the words of an erased page
-pub blank_words : (words : List ℕ) (page a : ℕ) → page_of words page ≡ blank → page_words * page ≤ a → a < page_words * page + page_words → word_at words a ≡ 0xFFFF
-unfolding blank
-blank_words words page a is above below =
-    let k = a - page_words * page in
-    let there : page_words * page + k ≡ a = omega arith in
-    sym (page_word words page k (omega arith) ∙ ap (word_at words) there) ∙ ap (λ p. slice_index p k) is ∙ get_or-many page_words 0xFFFF k (omega arith)

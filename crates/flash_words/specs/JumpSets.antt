@@ -1,5 +1,5 @@
 -- What is kept of the jumps among the words of a page: for each page a set of pages, among which are those that its
--- jumps lead into.
+-- jumps lead into; and its sources, among which are all pages whose set it is in.
 use Rattle.std.specs.Prelude.{ℕ, ◌≡◌, ◌≢◌, ◌+◌, ◌/◌, ◌<◌, ◌≤◌, true, List, length, slice_index, slice_index_or}
 use Rattle.flash_words.specs.Pages.{page_count, page_words, page_of}
 use Rattle.flash_words.specs.declared.page_set.PageSet.{PageSet}
@@ -19,12 +19,27 @@ HasJumps page set = (k : ℕ) → k + 1 < page_words → slice_index page k ≡ 
 abbrev pub HasSet : List ℕ → List PageSet → ℕ → Type 0
 HasSet words sets page = (s : PageSet) → HasJumps (page_of words page) (slice_index_or sets page s)
 
+-- a page is a source of another
+abbrev pub IsSource : List PageSet → (target page : ℕ) → Type 0
+IsSource sources target page = (s : PageSet) → has_page (slice_index_or sources target s) page ≡ true
+
+-- it is a source of each page of its set
+abbrev pub IsSourceOfEach : List PageSet → List PageSet → ℕ → Type 0
+IsSourceOfEach sets sources page = (target : ℕ) (s : PageSet) → target < page_count → has_page (slice_index_or sets page s) target ≡ true → IsSource sources target page
+
+-- each page is a source of each page of its set
+pub record AreSources (jumps : Jumps) : Type 0 where
+  pub sized : length jumps.sources.items ≡ page_count
+  pub each : (page : ℕ) → page < page_count → IsSourceOfEach jumps.sets.items jumps.sources.items page
+
 -- each page of flash has its set
 pub record AreJumps (words : List ℕ) (jumps : Jumps) : Type 0 where
   pub sized : length jumps.sets.items ≡ page_count
+  pub sources : AreSources jumps
   pub each : (page : ℕ) → page < page_count → HasSet words jumps.sets.items page
 
 -- .. each but one
 pub record AreJumpsBeside (words : List ℕ) (jumps : Jumps) (but : ℕ) : Type 0 where
   pub sized : length jumps.sets.items ≡ page_count
+  pub sources : AreSources jumps
   pub each : (page : ℕ) → page < page_count → page ≢ but → HasSet words jumps.sets.items page

@@ -72,11 +72,3 @@ perform m (operation ∷ operations) =
 abbrev pub refusal_of : Operation → Result Unit FlashStop → Option Refusal
 refusal_of operation (Ok done) = None
 refusal_of operation (Err stop) = Some (record { op = stop.op; operation = operation })
-
--- what follows is done where nothing was refused
-abbrev pub unless_refused : Option Refusal → Memory → (Memory → Performed) → Performed
-unless_refused None m next = next m
-unless_refused (Some refusal) m next = record { memory = m; refusal = Some refusal }
-
-abbrev pub then_on : Performed → (Memory → Performed) → Performed
-then_on p next = unless_refused p.refusal p.memory next

@@ -96,13 +96,15 @@ impl Cells {
         self.words.page(page)
     }
 
-    /// Whether the page may have a jump, a JMP, into the target. Where this is false it has none.
-    pub fn may_jump_into(&self, page: u16, target: u16) -> bool
-        requires { page < page_count }
-        ensures none { result ≡ false → HasNoJumpInto self.now.words page target }
-        ensures whole { IsWhole self.now }
+    /// The lowest page from one on and below another that may have a jump, a JMP, into the target; None where none does.
+    pub fn page_jumping_into(&self, from: u16, to: u16, target: u16) -> Option<u16>
+        requires end { to ≤ page_count }
+        ensures range { IfSome result (λ page. (from ≤ page) × (page < to)) }
+        // Those before it have none.
+        ensures lowest { IfSome result (λ page. (lower : ℕ) → from ≤ lower → lower < page → HasNoJumpInto self.now.words lower target) }
+        ensures none { IfNone result ((page : ℕ) → from ≤ page → page < to → HasNoJumpInto self.now.words page target) }
     {
-        self.words.may_jump_into(page, target)
+        self.words.page_jumping_into(from, to, target)
     }
 
     /// The lowest page from one on and below another that may begin with this word; None where none does.

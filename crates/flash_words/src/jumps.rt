@@ -1,9 +1,10 @@
-//! Into which pages the jumps of each page lead.
+//! Into which pages the jumps of each page lead, and from which pages jumps lead into each.
 
-ghost use Rattle.std.specs.Prelude.{◌≡◌, ℕ, ◌≤◌, ◌<◌, false, length, List, IfOk};
+ghost use Rattle.std.specs.Prelude.{◌≡◌, ◌≢◌, ℕ, ◌%◌, ◌≤◌, ◌<◌, true, length, List, IfOk, IfSome, IfNone};
 ghost use Rattle.flash_words.specs.Pages.{word_count, page_count, page_words, page_of};
 ghost use Rattle.flash_words.specs.Jumps.{HasNoJumpInto};
-ghost use Rattle.flash_words.specs.JumpSets.{IsBlankFrom, HasJumps, AreJumps, AreJumpsBeside};
+ghost use Rattle.flash_words.specs.JumpSets.{IsBlankFrom, HasJumps, IsSource, AreJumps, AreJumpsBeside};
+ghost use Rattle.flash_words.specs.PageSets.{has_page};
 
 use crate::layout::PAGES;
 use crate::page_set::{self, NO_PAGE, PageSet};
@@ -13,10 +14,11 @@ use std::alloc::{AllocError, Global};
 /// JMP, the first of its two words.
 const JMP: u16 = 0x940C;
 
-/// For each page the pages that its jumps lead into.
+/// For each page a set of pages, those that its jumps lead into among them, and its sources: all pages whose set it is in.
 #[derive(Drop)]
 pub(crate) struct Jumps {
     sets: Vec<PageSet>,
+    sources: Vec<PageSet>,
 }
 
 impl Jumps {
@@ -27,33 +29,91 @@ impl Jumps {
     {
         let mut jumps = Jumps {
             sets: page_set::empty_sets(alloc)?,
+            sources: page_set::empty_sets(alloc)?,
         };
         'pages: for page in 0..PAGES {
-            jumps.sets[page] = jumps_of(words_of(words, page as u16), PAGE_WORDS);
+            let set = jumps_of(words_of(words, page as u16), PAGE_WORDS);
+            add_source_of_each(&mut jumps.sources, page as u16, &set);
+            jumps.sets[page] = set;
         }
         Ok(jumps)
     }
 
-    /// Whether the page may have a jump into the target. Where this is false it has none.
-    pub(crate) fn may_lead(&self, page: u16, target: u16) -> bool
-        requires page { page < page_count }
-        requires sized { length self.now.sets.items ≡ page_count }
-        ensures none { (words : List ℕ) → AreJumps words self.now → result ≡ false → HasNoJumpInto words page target }
+    /// The lowest page from one on and below another that may have a jump into the target; None where none does.
+    pub(crate) fn page_jumping_into(&self, from: u16, to: u16, target: u16) -> Option<u16>
+        requires end { to ≤ page_count }
+        requires sized { length self.now.sources.items ≡ page_count }
+        ensures range { IfSome result (λ page. (from ≤ page) × (page < to)) }
+        ensures lowest { (words : List ℕ) → AreJumps words self.now → IfSome result (λ page. (lower : ℕ) → from ≤ lower → lower < page → HasNoJumpInto words lower target) }
+        ensures none { (words : List ℕ) → AreJumps words self.now → IfNone result ((page : ℕ) → from ≤ page → page < to → HasNoJumpInto words page target) }
     {
-        self.sets[page as usize].has(target)
+        self.sources[target as usize % PAGES].next(from, to)
     }
 
     /// Makes anew what is kept of a page, which has these words now, 0xFFFF behind this many.
     pub(crate) fn renew(&mut self, page: u16, words: &[u16], count: usize)
         requires page { page < page_count }
         requires sized { length self.old.sets.items ≡ page_count }
+        requires sources { length self.old.sources.items ≡ page_count }
         requires size { length words.now ≡ page_words }
         requires count { count ≤ page_words }
         requires rest { IsBlankFrom words.now count }
         ensures jumps { (all : List ℕ) → AreJumpsBeside all self.old page → page_of all page ≡ words.now → AreJumps all self.new }
     {
-        self.sets[page as usize] = jumps_of(words, count);
+        let set = jumps_of(words, count);
+        let before = self.sets[page as usize];
+        remove_source_of_each(&mut self.sources, page, &before);
+        add_source_of_each(&mut self.sources, page, &set);
+        self.sets[page as usize] = set;
     }
+}
+
+/// Takes a page out of the sources of each page of the set.
+fn remove_source_of_each(sources: &mut Vec<PageSet>, page: u16, set: &PageSet)
+    requires sized { length sources.old.items ≡ page_count }
+    ensures size { length sources.new.items ≡ page_count }
+    ensures others { (target other : ℕ) → other % page_count ≢ page % page_count → IsSource sources.old.items target other → IsSource sources.new.items target other }
+{
+    let mut from = 0;
+    'targets: while let Some(target) = set.next(from, PAGES as u16) {
+        remove_source(sources, target, page);
+        from = target + 1;
+    }
+}
+
+/// Puts a page into the sources of each page of the set.
+fn add_source_of_each(sources: &mut Vec<PageSet>, page: u16, set: &PageSet)
+    requires sized { length sources.old.items ≡ page_count }
+    ensures size { length sources.new.items ≡ page_count }
+    ensures here { (target : ℕ) → target < page_count → has_page set.now target ≡ true → IsSource sources.new.items target page }
+    ensures others { (target other : ℕ) → IsSource sources.old.items target other → IsSource sources.new.items target other }
+{
+    let mut from = 0;
+    'targets: while let Some(target) = set.next(from, PAGES as u16) {
+        add_source(sources, target, page);
+        from = target + 1;
+    }
+}
+
+/// Takes a page out of the sources of another.
+fn remove_source(sources: &mut Vec<PageSet>, target: u16, page: u16)
+    requires target { target < page_count }
+    requires sized { length sources.old.items ≡ page_count }
+    ensures size { length sources.new.items ≡ page_count }
+    ensures others { (any other : ℕ) → other % page_count ≢ page % page_count → IsSource sources.old.items any other → IsSource sources.new.items any other }
+{
+    sources[target as usize].remove(page);
+}
+
+/// Puts a page into the sources of another.
+fn add_source(sources: &mut Vec<PageSet>, target: u16, page: u16)
+    requires target { target < page_count }
+    requires sized { length sources.old.items ≡ page_count }
+    ensures size { length sources.new.items ≡ page_count }
+    ensures here { IsSource sources.new.items target page }
+    ensures others { (any other : ℕ) → IsSource sources.old.items any other → IsSource sources.new.items any other }
+{
+    sources[target as usize].add(page);
 }
 
 /// The pages that the jumps of a page lead into, which has 0xFFFF behind this many words.

@@ -11,8 +11,8 @@
 //! the page of the last one that was refused (`specs/Memory.antt`). `specs/Pages.antt` has one page of words, and
 //! `specs/Operations.antt` says what an operation leaves, and a list of operations up to the first that is
 //! refused. `proofs/PageLaws.antt` has the laws of one page set and then one word or page read,
-//! `proofs/WordLaws.antt` that words of 16 bits stay so, `proofs/ProgramLaws.antt` what a page that is programmed
-//! holds, and `proofs/OperationLaws.antt` the laws of operations in a row.
+//! `proofs/WordLaws.antt` when all words have 16 bits, and `proofs/ProgramLaws.antt` what a page that is programmed
+//! holds.
 //!
 //! `failing.rt` finds the next number that is listed, so an operation compares its own with one
 //! (`specs/Failing.antt`). [`Heads`] finds pages by their first words (`specs/Heads.antt`), by sets of pages

@@ -18,13 +18,6 @@ pub(crate) struct PageSet {
 pub(crate) const NO_PAGE: PageSet = PageSet { bits: [0; 8] };
 
 impl PageSet {
-    /// Whether the page is in the set.
-    pub(crate) fn has(&self, page: u16) -> bool
-        ensures value { result ≡ has_page self.now page }
-    {
-        self.bits[word_of(page)] >> (page % 64) & 1 == 1
-    }
-
     /// Puts the page into the set.
     pub(crate) fn add(&mut self, page: u16)
         ensures added { has_page self.new page ≡ true }

@@ -1,6 +1,6 @@
 //! The words of flash, in pages, and what is kept of them: by which word a page begins, and where its jumps lead.
 
-ghost use Rattle.std.specs.Prelude.{◌≡◌, ◌≢◌, ℕ, ◌-◌, ◌≤◌, ◌<◌, ◌++◌, false, length, IfOk, IfSome, IfNone, OnOk};
+ghost use Rattle.std.specs.Prelude.{◌≡◌, ◌≢◌, ℕ, ◌-◌, ◌≤◌, ◌<◌, ◌++◌, length, IfOk, IfSome, IfNone, OnOk};
 ghost use Rattle.flash_words.specs.Pages.{word_count, page_count, page_words, many, word_at, page_of, set_page};
 ghost use Rattle.flash_words.specs.Memory.{AreWords, loaded};
 ghost use Rattle.flash_words.specs.Jumps.{HasNoJumpInto};
@@ -107,12 +107,14 @@ impl PagedWords {
         self.jumps.renew(page, new, count);
     }
 
-    /// Whether the page may have a jump into the target. Where this is false it has none.
-    pub(crate) fn may_jump_into(&self, page: u16, target: u16) -> bool
-        requires { page < page_count }
-        ensures none { result ≡ false → HasNoJumpInto self.now page target }
+    /// The lowest page from one on and below another that may have a jump into the target; None where none does.
+    pub(crate) fn page_jumping_into(&self, from: u16, to: u16, target: u16) -> Option<u16>
+        requires end { to ≤ page_count }
+        ensures range { IfSome result (λ page. (from ≤ page) × (page < to)) }
+        ensures lowest { IfSome result (λ page. (lower : ℕ) → from ≤ lower → lower < page → HasNoJumpInto self.now lower target) }
+        ensures none { IfNone result ((page : ℕ) → from ≤ page → page < to → HasNoJumpInto self.now page target) }
     {
-        self.jumps.may_lead(page, target)
+        self.jumps.page_jumping_into(from, to, target)
     }
 
     /// The lowest page from one on and below another that may begin with this word; None where none does.

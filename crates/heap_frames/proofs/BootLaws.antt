@@ -1,18 +1,19 @@
 -- The heap at boot: no page has a slot, every frame is empty, and all of the memory is 0.
 use Rattle.std.proofs.Common.{◌≡◌, ℕ, ◌+◌, ◌/◌, ◌%◌, ◌<◌, ◌≤◌, List, arith, ap, ◌∙◌, refl, inl, inr}
-use Rattle.std.specs.Prelude.{Bool, true, false, not, ◌==◌, replicate, Option, Some, None, if◌then◌else◌}
-use Rattle.list_parts.specs.Lists.{many}
+use Rattle.std.specs.Prelude.{Bool, true, false, not, ◌==◌, replicate, None}
+use Rattle.std.proofs.lemmas.Bool.{false_from_ne_true}
+use Rattle.base_laws.specs.Lists.{many}
 use Rattle.sram_layout.specs.Cells.{frame_cell, victim_cell, given_cell}
 use Rattle.sram_layout.specs.Boot.{at_boot}
 use Rattle.sram_layout.proofs.BootLaws.{length-at_boot, boot_slot, boot_zero}
 use Rattle.swap_store.specs.Slots.{most_slots, zero_slots}
 use Rattle.swap_store.proofs.Laws.{zero_slots_whole}
 use Rattle.heap_frames.specs.Addresses.{is_stack, is_heap}
-use Rattle.heap_frames.specs.Frames.{empty, page_held, state_of, is_occupied, holds, resident_pages, frame_of, given, victim, has_slot, no_slot, pages}
+use Rattle.heap_frames.specs.Frames.{empty, state_of, is_occupied, holds, frame_of, given, victim, has_slot, no_slot, pages}
 use Rattle.heap_frames.specs.Memory.{virtual_byte, vmem}
 use Rattle.heap_frames.specs.Paged.{IsPaged}
 use Rattle.heap_frames.proofs.Tables.{table_of_one}
-use Rattle.heap_frames.proofs.FrameLaws.{no_frame, not_true, holds_occupied}
+use Rattle.heap_frames.proofs.FrameLaws.{no_frame, holds_occupied}
 use Rattle.heap_frames.proofs.HeapBytes.{byte_in_slot, byte_of_no_slot}
 use Rattle.heap_frames.proofs.MemoryLaws.{stack_from, stack_to, stack_byte, page_byte, no_byte}
 
@@ -51,12 +52,8 @@ pub boot_pages : pages at_boot ≡ replicate 256 false
 unfolding pages
 boot_pages = table_of_one 256 (has_slot at_boot) false boot_no_slot
 
-pub boot_resident_pages : let none : Option ℕ = None in resident_pages at_boot ≡ replicate 8 none
-unfolding resident_pages
-boot_resident_pages = table_of_one 8 (λ i. if is_occupied at_boot i then Some (page_held at_boot i) else None) None (λ i inside. ap (λ (occupied : Bool). if occupied then Some (page_held at_boot i) else None) (boot_empty i inside))
-
 pub boot_frame : (page : ℕ) → frame_of at_boot page ≡ None
-boot_frame page = no_frame at_boot page (λ i inside. not_true (holds at_boot page i) (λ held.
+boot_frame page = no_frame at_boot page (λ i inside. false_from_ne_true (holds at_boot page i) (λ held.
     let occupied : is_occupied at_boot i ≡ true = holds_occupied at_boot page i held in
     let none = boot_empty i inside in
     absurd (cc)))

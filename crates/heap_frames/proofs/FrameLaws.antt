@@ -1,14 +1,10 @@
 -- The frame that holds a page. m and n are lists of SRAM's bytes.
-use Rattle.std.proofs.Common.{◌≡◌, ℕ, ◌<◌, List, arith, ap, ap₂, ◌∙◌, sym, refl}
-use Rattle.std.specs.Prelude.{◌≢◌, Bool, true, false, not, ◌&&◌, ◌==◌, Some, None, is_some}
+use Rattle.std.proofs.Common.{◌≡◌, ℕ, ◌<◌, List, arith, ap, ap₂, ◌∙◌, sym}
+use Rattle.std.specs.Prelude.{◌≢◌, true, false, not, ◌&&◌, ◌==◌, Some, None, is_some}
 use Rattle.std.proofs.lemmas.Bool.Decides.{nat_tests}
 use Rattle.heap_frames.specs.Frames.{empty, clean, page_held, state_of, is_occupied, holds, frame_of, slot_of, has_slot, no_slot}
 use Rattle.heap_frames.specs.Paged.{IsPaged}
 use Rattle.heap_frames.proofs.Searches.{found_passes, missed_passes, found_same, none_found, only_found}
-
-pub not_true : (b : Bool) → (b ≡ true → ⊥) → b ≡ false
-not_true true never = absurd (never refl)
-not_true false never = refl
 
 -- an occupied frame, and the page that it holds
 pub record Holds (m : List ℕ) (page i : ℕ) : Type 0 where

@@ -1,7 +1,7 @@
 -- The next slot given to a page that has none.
 use Rattle.std.proofs.Common.{◌≡◌, ℕ, ◌+◌, ◌<◌, List, length, arith, ap, ap₂, ◌∙◌, sym, refl, inl, inr}
 use Rattle.std.specs.Prelude.{◌≢◌, Bool, true, false, ◌==◌, Option, Some, None, if◌then◌else◌}
-use Rattle.std.proofs.lemmas.Bool.{cases_eq}
+use Rattle.std.proofs.lemmas.Bool.{cases_eq, false_from_ne_true}
 use Rattle.sram_layout.specs.Bytes.{byte_at, block_at}
 use Rattle.sram_layout.specs.Cells.{frame_cell, victim_cell, slot_cell}
 use Rattle.sram_layout.proofs.Laws.{block_alike}
@@ -11,7 +11,7 @@ use Rattle.heap_frames.specs.Memory.{heap_byte}
 use Rattle.heap_frames.specs.Paged.{IsPaged}
 use Rattle.heap_frames.specs.Paging.{written_back, with_slot_given}
 use Rattle.heap_frames.proofs.Tables.{table_same}
-use Rattle.heap_frames.proofs.FrameLaws.{no_frame, holds_page, holds_occupied, same_frame, same_holds, same_occupied, occupied_state, other_number, slot_held, slot_absent, not_true, same_slot_number}
+use Rattle.heap_frames.proofs.FrameLaws.{no_frame, holds_page, holds_occupied, same_frame, same_holds, same_occupied, occupied_state, other_number, slot_held, slot_absent, same_slot_number}
 use Rattle.heap_frames.proofs.WriteLaws.{given_length, given_more, given_slot, given_elsewhere}
 use Rattle.heap_frames.proofs.EntryLaws.{page_below, same_slot}
 use Rattle.heap_frames.proofs.HeapBytes.{byte_in_frame, byte_in_slot, slot_byte_same}
@@ -92,7 +92,7 @@ give_back {m} {w} {page} i g inside =
 
 -- no page is in a frame without a slot
 pub give_absent : {m : List ℕ} {w : List (List ℕ)} {page : ℕ} → Gives m w page → frame_of m page ≡ None
-give_absent {m} {w} {page} g = no_frame m page (λ i inside. not_true (holds m page i) (λ held. held_apart i g inside (holds_occupied m page i held) (holds_page m page i held)))
+give_absent {m} {w} {page} g = no_frame m page (λ i inside. false_from_ne_true (holds m page i) (λ held. held_apart i g inside (holds_occupied m page i held) (holds_page m page i held)))
 
 -- the bytes of other pages stay
 other_by : {m : List ℕ} {w : List (List ℕ)} {page : ℕ} (q o : ℕ) (found : Option ℕ) → frame_of m q ≡ found → Gives m w page → q < 256 → q ≢ page → o < 256 → heap_byte (with_slot_given m page) w q o ≡ heap_byte m w q o

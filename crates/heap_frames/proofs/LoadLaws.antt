@@ -1,6 +1,7 @@
 -- What a load leaves.
 use Rattle.std.proofs.Common.{◌≡◌, ℕ, ◌+◌, ◌/◌, ◌%◌, ◌<◌, List, arith, ◌∙◌, sym, refl}
 use Rattle.std.specs.Prelude.{Bool, true, false, None}
+use Rattle.std.proofs.lemmas.Bool.{false_from_ne_true}
 use Rattle.sram_layout.specs.Bytes.{byte_at}
 use Rattle.heap_frames.specs.Addresses.{is_heap}
 use Rattle.heap_frames.specs.Frames.{frame_bytes, frame_of, holds, has_slot, pages}
@@ -8,7 +9,7 @@ use Rattle.heap_frames.specs.Paged.{IsPaged}
 use Rattle.heap_frames.specs.Paging.{Store, frame_for, seated, heap_load}
 use Rattle.heap_frames.specs.Changes.{Loaded}
 use Rattle.heap_frames.proofs.Tables.{table_same}
-use Rattle.heap_frames.proofs.FrameLaws.{not_true, no_frame, holds_occupied, holds_page, paged_frame}
+use Rattle.heap_frames.proofs.FrameLaws.{no_frame, holds_occupied, holds_page, paged_frame}
 use Rattle.heap_frames.proofs.EntryLaws.{page_below, same_slot}
 use Rattle.heap_frames.proofs.HeapBytes.{byte_in_frame, byte_in_slot, byte_of_no_slot}
 use Rattle.heap_frames.proofs.MemoryLaws.{heap_below, stack_from, stack_to, page_byte, vmem_byte, same_memory}
@@ -17,7 +18,7 @@ use Rattle.heap_frames.proofs.SeatLaws.{seated_ready, seated_slots, SameSlots}
 -- a page without a slot is in no frame
 pub absent_without_slot : (m : List ℕ) (w : List (List ℕ)) (page : ℕ) → IsPaged m w → has_slot m page ≡ false → frame_of m page ≡ None
 absent_without_slot m w page paged none =
-    no_frame m page (λ i inside. not_true (holds m page i) (λ held.
+    no_frame m page (λ i inside. false_from_ne_true (holds m page i) (λ held.
     let has : has_slot m page ≡ true = rw (holds_page m page i held) at (paged.backed i inside (holds_occupied m page i held)) in
     absurd (cc)))
 

@@ -1,14 +1,14 @@
 -- A byte stored in a page that a frame holds.
 use Rattle.std.proofs.Common.{◌≡◌, ℕ, ◌+◌, ◌<◌, List, arith, ap, ap₂, ◌∙◌, sym, refl, inl, inr}
 use Rattle.std.specs.Prelude.{◌≢◌, Bool, true, ◌&&◌, ◌==◌, Option, Some, None, if◌then◌else◌}
-use Rattle.std.proofs.lemmas.Bool.{cases_eq}
+use Rattle.std.proofs.lemmas.Bool.{cases_eq, false_from_ne_true}
 use Rattle.sram_layout.specs.Cells.{frame_cell, victim_cell, given_cell, slot_cell}
 use Rattle.heap_frames.specs.Frames.{dirty, frame_bytes, page_held, is_occupied, holds, frame_of, resident_pages, victim}
 use Rattle.heap_frames.specs.Memory.{heap_byte}
 use Rattle.heap_frames.specs.Paged.{IsPaged}
 use Rattle.heap_frames.specs.Paging.{with_byte_in_frame}
 use Rattle.heap_frames.proofs.Tables.{table_same}
-use Rattle.heap_frames.proofs.FrameLaws.{not_true, Holds, holds_occupied, holds_page, frame_holds, paged_frame, same_frame, same_occupied, occupied_state}
+use Rattle.heap_frames.proofs.FrameLaws.{Holds, holds_occupied, holds_page, frame_holds, paged_frame, same_frame, same_occupied, occupied_state}
 use Rattle.heap_frames.proofs.WriteLaws.{byte_length, byte_there, byte_names, byte_state, byte_elsewhere}
 use Rattle.heap_frames.proofs.EntryLaws.{Entered, Entry, entry_paged}
 use Rattle.heap_frames.proofs.HeapBytes.{byte_in_frame, byte_in_slot, slot_byte_same}
@@ -46,7 +46,7 @@ stored_entry {m} {w} {i} {page} {offset} v p =
       paged = p.paged;
       heap = rw p.here.names at (p.paged.held i p.here.inside p.here.occupied);
       slot = rw p.here.names at (p.paged.backed i p.here.inside p.here.occupied);
-      alone = λ j low apart. not_true (holds m page j) (λ held.
+      alone = λ j low apart. false_from_ne_true (holds m page j) (λ held.
           apart (p.paged.different j i low p.here.inside (holds_occupied m page j held) p.here.occupied (holds_page m page j held ∙ sym p.here.names)));
       full = omega arith;
       known = omega arith;

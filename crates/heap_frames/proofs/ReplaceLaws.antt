@@ -1,7 +1,7 @@
 -- A page brought into the frame that is replaced next.
 use Rattle.std.proofs.Common.{◌≡◌, ℕ, ◌+◌, ◌<◌, ◌≤◌, ◌⊎◌, List, length, arith, ap, ◌∙◌, sym, refl, inl, inr}
 use Rattle.std.specs.Prelude.{◌≢◌, true, Option, Some, None, slice_index}
-use Rattle.std.proofs.lemmas.Bool.{cases_eq, cases_lt}
+use Rattle.std.proofs.lemmas.Bool.{cases_eq, cases_lt, false_from_ne_true}
 use Rattle.sram_layout.specs.Bytes.{byte_count, block_at}
 use Rattle.sram_layout.specs.Cells.{frame_cell, given_cell, slot_cell}
 use Rattle.sram_layout.proofs.Laws.{block_byte}
@@ -11,7 +11,7 @@ use Rattle.heap_frames.specs.Frames.{clean, frame_bytes, page_held, holds, frame
 use Rattle.heap_frames.specs.Memory.{heap_byte}
 use Rattle.heap_frames.specs.Paged.{IsPaged}
 use Rattle.heap_frames.specs.Paging.{written_back, with_page_in_frame}
-use Rattle.heap_frames.proofs.FrameLaws.{not_true, Holds, holds_both, holds_occupied, holds_page, holds_other, frame_holds, no_frame_holds, no_frame, paged_frame, same_occupied, occupied_state}
+use Rattle.heap_frames.proofs.FrameLaws.{Holds, holds_both, holds_occupied, holds_page, holds_other, frame_holds, no_frame_holds, no_frame, paged_frame, same_occupied, occupied_state}
 use Rattle.heap_frames.proofs.WriteLaws.{OutOfFrame, page_length, page_victim, page_names, page_state, page_elsewhere, page_block}
 use Rattle.heap_frames.proofs.EntryLaws.{Entered, Entry, page_below, same_slot, same_holds_other, entry_paged}
 use Rattle.heap_frames.proofs.BackLaws.{back_length, back_whole, back_same, back_other_page}
@@ -123,7 +123,7 @@ evicted {m} {w} {page} {bytes} {state} q r apart there =
     let e = entered_next r in
     no_frame n q (λ j low. elim (cases_eq j (victim m)) [
       | inl same ↦ holds_other n q j (λ names. apart (sym names ∙ ap (page_held n) same ∙ e.names))
-      | inr other ↦ same_holds_other q j e low other ∙ not_true (holds m q j) (λ held.
+      | inr other ↦ same_holds_other q j e low other ∙ false_from_ne_true (holds m q j) (λ held.
           other (r.paged.different j (victim m) low there.inside (holds_occupied m q j held) there.occupied (holds_page m q j held ∙ sym there.names)))
     ])
 

@@ -1,12 +1,12 @@
 -- Writes to SRAM elsewhere leave frames, slots and the heap's bytes. m and n are lists of SRAM's bytes, w the swap's pages.
-use Rattle.std.proofs.Common.{◌≡◌, ℕ, ◌+◌, ◌/◌, ◌%◌, ◌<◌, ◌≤◌, ◌⊎◌, List, length, arith, ap₂, ◌∙◌, sym, refl, inl, inr}
-use Rattle.std.specs.Prelude.{◌≢◌, Bool, true, Option, Some, None, if◌then◌else◌, slice_set}
-use Rattle.sram_layout.specs.Bytes.{byte_count, byte_at, with_byte, block_at, with_word}
+use Rattle.std.proofs.Common.{◌≡◌, ℕ, ◌+◌, ◌/◌, ◌%◌, ◌<◌, ◌≤◌, ◌⊎◌, List, length, arith, ◌∙◌, sym, refl, inl, inr}
+use Rattle.std.specs.Prelude.{true, Option, Some, None, slice_set}
+use Rattle.sram_layout.specs.Bytes.{byte_count, with_byte, block_at, with_word}
 use Rattle.sram_layout.specs.Cells.{frame_cell, victim_cell, given_cell, slot_cell}
 use Rattle.sram_layout.specs.Regions.{frame_cells, swap_map, frames, stack_window, through, KeepsRegion}
 use Rattle.sram_layout.proofs.RegionLaws.{region_beside}
 use Rattle.sram_layout.proofs.Laws.{length-with_byte, byte_same, byte_other, byte_out_of_word, block_alike}
-use Rattle.heap_frames.specs.Frames.{frame_bytes, page_held, state_of, is_occupied, resident_pages, frame_of, victim, given, slot_of, has_slot, pages}
+use Rattle.heap_frames.specs.Frames.{frame_bytes, page_held, state_of, is_occupied, frame_of, victim, given, slot_of, has_slot, pages}
 use Rattle.heap_frames.specs.Memory.{heap_byte, vmem}
 use Rattle.heap_frames.specs.Paged.{IsPaged}
 use Rattle.heap_frames.specs.SamePaging.{SamePaging}
@@ -83,11 +83,6 @@ pub pages_same : (m n : List ℕ) → SamePaging m n → pages n ≡ pages m
 unfolding pages
 pages_same m n same = table_same 256 (has_slot n) (has_slot m) (λ page below. has_same m n page same below)
 
-pub resident_pages_same : (m n : List ℕ) → SamePaging m n → resident_pages n ≡ resident_pages m
-unfolding resident_pages
-resident_pages_same m n same = table_same 8 (λ i. if is_occupied n i then Some (page_held n i) else None) (λ i. if is_occupied m i then Some (page_held m i) else None) (λ i inside.
-    ap₂ (λ (occupied : Bool) (held : ℕ). if occupied then Some held else None) (occupied_same m n i same inside) (held_same m n i same inside))
-
 pub frame_of_same : (m n : List ℕ) (page : ℕ) → SamePaging m n → frame_of n page ≡ frame_of m page
 frame_of_same m n page same = same_frame m n page (λ i inside. same_holds m n page i (held_same m n i same inside) (state_same m n i same inside))
 
@@ -136,11 +131,6 @@ vmem_same m n w same window = same_memory {m = m} {n = n} {w = w} {w' = w} (reco
   window = λ a stack always. window a (stack_from a stack) (stack_to a stack);
   heap = λ a below in_heap always. heap_byte_same m n w (a / 256) (a % 256) same (omega arith) (omega arith);
 })
-
--- a byte of the kernel's other cells and tables is no byte of the memory
-pub vmem_cell : (m : List ℕ) (w : List (List ℕ)) (a v : ℕ) → 0x0100 ≤ a → (a < frame_cells.first) ⊎ ((frame_cells.behind ≤ a) × (a < swap_map.first)) → vmem (with_byte m a v) w ≡ vmem m w
-vmem_cell m w a v from (inl low) = vmem_same m (with_byte m a v) w (same_paging_byte m a v from (inl low)) (region_beside stack_window m a v from (omega arith) (inl (omega arith)))
-vmem_cell m w a v from (inr (above, below)) = vmem_same m (with_byte m a v) w (same_paging_byte m a v from (inr (inl (above, below)))) (region_beside stack_window m a v from (omega arith) (inl (omega arith)))
 
 pub vmem_word_cell : (m : List ℕ) (w : List (List ℕ)) (a v : ℕ) → 0x0100 ≤ a → (a + 1 < frame_cells.first) ⊎ ((frame_cells.behind ≤ a) × (a + 1 < swap_map.first)) → vmem (with_word m a v) w ≡ vmem m w
 vmem_word_cell m w a v from (inl low) = vmem_same m (with_word m a v) w (same_paging_word m a v from (inl low)) (λ b above to. byte_out_of_word m a b v from (omega arith) (λ same. omega arith) (λ same. omega arith))

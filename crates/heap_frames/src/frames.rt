@@ -1,8 +1,7 @@
 //! The eight frames: which one holds a page, and how a page comes into one.
 
-ghost use Rattle.std.specs.Prelude.{◌≡◌, ℕ, ◌+◌, ◌*◌, ◌%◌, ◌≤◌, ◌<◌, true, length, IfSome};
-ghost use Rattle.sram_layout.specs.Bytes.{byte_count};
-ghost use Rattle.swap_store.specs.Slots.{IsWhole, page_in, zero_page};
+ghost use Rattle.std.specs.Prelude.{◌≡◌, ◌<◌, true, length, IfSome};
+ghost use Rattle.swap_store.specs.Slots.{page_in, zero_page};
 ghost use Rattle.heap_frames.specs.Frames.{clean, frame_bytes, frame_of, holds, has_slot, slot_of, victim, given};
 ghost use Rattle.heap_frames.specs.Paged.{IsPaged};
 ghost use Rattle.heap_frames.specs.Paging.{store_of, written_back, with_page_in_frame, frame_for, seated, first_touched, with_slot_given};

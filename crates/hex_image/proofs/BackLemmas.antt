@@ -16,10 +16,10 @@ use Rattle.hex_image.specs.Places.{base_after, base_set_by, byte_at, byte_given,
 use Rattle.hex_image.specs.HexText.{AreDifferent, HexText, IsBeforeEnd, meanings_of}
 use Rattle.hex_image.specs.Image.{IsImage}
 use Rattle.hex_image.specs.Written.{bytes_of_words, data_line, record_content, record_count, record_line, written}
-use Rattle.hex_image.proofs.PlaceLemmas.{range_with_len-push}
 use Rattle.hex_image.proofs.ReadingLemmas.{cells_of-push}
 use Rattle.hex_image.proofs.GrammarLemmas.{AreSound, sound_row}
 use Rattle.hex_image.proofs.WrittenLemmas.{IsWritable, record_line-meaning, record_line-plain}
+use Rattle.base_laws.proofs.Ranges.{range_with_len-push}
 
 -- ---- bytes and words
 

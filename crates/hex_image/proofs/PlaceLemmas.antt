@@ -11,15 +11,7 @@ use Rattle.std.proofs.lemmas.List.FromFn.{get_or-enumerate_from, get_or-range_wi
 use Rattle.hex_image.specs.declared.fault.HexFault.TheVariants.{Wrap, Twice, TooLarge}
 use Rattle.hex_image.specs.Places.{Cell, byte_given, extent, place_fault}
 use Rattle.hex_image.specs.Reading.{AreSlots}
-
--- one place more
-pub range_with_len-push : (a n : ℕ) → range_with_len a (suc n) ≡ range_with_len a n ++ (a + n) ∷ []
-range_with_len-push a zero =
-    let e : a ≡ a + 0 = omega arith in
-    ap (λ z. z ∷ []) e
-range_with_len-push a (suc n) =
-    let e : a + 1 + n ≡ a + suc n = omega arith in
-    ap (λ z. a ∷ z) (range_with_len-push (a + 1) n) ∙ ap (λ z. a ∷ (range_with_len (a + 1) n ++ z ∷ [])) e
+use Rattle.base_laws.proofs.Ranges.{range_with_len-push}
 
 -- none of some places and not the next
 pub any_more : (test : ℕ → Bool) (a n : ℕ) → list_any test (range_with_len a n) ≡ false → test (a + n) ≡ false → list_any test (range_with_len a (suc n)) ≡ false

@@ -1,5 +1,5 @@
 //! Program images.
-ghost use Rattle.std.specs.Prelude.{◌≡◌, ◌≤◌, ◌<◌, ◌^◌, ℕ, List, length, All, IfOk, OnErr, slice_index_or};
+ghost use Rattle.std.specs.Prelude.{◌≡◌, ◌≤◌, ◌<◌, ℕ, List, length, IfOk, OnErr, slice_index_or};
 ghost use Rattle.hex_image.specs.Image.{IsImage};
 
 use no_memory::NoMemory;

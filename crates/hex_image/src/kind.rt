@@ -1,5 +1,5 @@
 //! The kinds of records.
-ghost use Rattle.std.specs.Prelude.{◌≡◌, ◌<◌, ◌^◌, true, false, MatchOption};
+ghost use Rattle.std.specs.Prelude.{◌≡◌, true, false, MatchOption};
 ghost use Rattle.hex_image.specs.Kinds.{code_of};
 ghost use Rattle.hex_image.specs.Lines.{has_right_count};
 

@@ -1,5 +1,5 @@
 //! What has been read of a text.
-ghost use Rattle.std.specs.Prelude.{◌≡◌, ◌≤◌, List, [], length};
+ghost use Rattle.std.specs.Prelude.{◌≤◌, List, [], length};
 ghost use Rattle.hex_image.specs.Lines.{Meaning, bytes_at};
 ghost use Rattle.hex_image.specs.Reading.{IsReading, IsStep, seen};
 

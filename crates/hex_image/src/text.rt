@@ -1,5 +1,5 @@
 //! Texts of records.
-ghost use Rattle.std.specs.Prelude.{◌≡◌, ◌≤◌, ◌+◌, ◌*◌, ◌/◌, ◌<◌, ◌^◌, ℕ, List, length, map, slice_index_or, unwrap_or, All, IfOk, OnErr, MatchResult, ◌⊎◌, Ok, Err};
+ghost use Rattle.std.specs.Prelude.{◌≡◌, ◌≤◌, ◌+◌, ◌/◌, ◌<◌, ◌^◌, ℕ, List, length, map, All, IfOk, OnErr, MatchResult, ◌⊎◌, Err};
 ghost use Rattle.hex_image.specs.declared.fault.HexFault.{HexFault};
 ghost use Rattle.hex_image.specs.declared.fault.HexError.{HexError};
 ghost use Rattle.std.specs.List.{range_with_len};

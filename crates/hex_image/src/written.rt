@@ -1,5 +1,5 @@
 //! Writing the text of an image.
-ghost use Rattle.std.specs.Prelude.{◌≡◌, ◌≤◌, ◌*◌, ◌<◌, ◌++◌, ◌∷◌, [], take, drop, length, IfOk, OnOk};
+ghost use Rattle.std.specs.Prelude.{◌≡◌, ◌≤◌, ◌*◌, ◌++◌, take, drop, length, IfOk, OnOk};
 ghost use Rattle.hex_image.specs.HexText.{HexText};
 ghost use Rattle.hex_image.specs.Kinds.{code_of};
 ghost use Rattle.text_lines.specs.Written.{fed};

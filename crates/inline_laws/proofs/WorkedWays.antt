@@ -7,7 +7,7 @@ use Rattle.avr_isa.specs.Instruction.{is_valid, fields_in_range, is_undefined}
 use Rattle.avr_isa.specs.Encoding.{first_word}
 use Rattle.avr_decode.specs.Decoding.{the_form, is_long, two_word_form, one_word_form, product_form, move_or_product_form, form_0000, form_0001, form_0010, displaced_form, load_form, store_form, plain_form, flag_or_plain_form, one_register_form, register_or_pair_form, io_bit_form, transfer_form, form_1001, io_form, register_bit_form, form_1111, defined_form, if_defined}
 use Rattle.sram_layout.specs.Bytes.{byte_at, with_byte}
-use Rattle.list_parts.specs.Lists.{many}
+use Rattle.base_laws.specs.Lists.{many}
 use Rattle.nat_template.specs.Inline.{push_forms}
 use Rattle.inline_laws.specs.Rows.{Row}
 use Rattle.inline_laws.specs.InlineWays.{saved, with_pushed}

@@ -92,15 +92,6 @@ fail_number number = number
 pub size_joined : (a b : Schedule) → size (joined a b) ≡ size a + size b
 size_joined a b = omega (arith, length-append a.events b.events, length-append a.failing b.failing)
 
-pub empty_schedule : IsSchedule (record { events = []; failing = [] })
-empty_schedule = record {
-  ordered = λ i j d less below. absurd (omega (arith, below));
-  in_range = λ k d below. absurd (omega (arith, below));
-  failing_ordered = λ i j d less below. absurd (omega (arith, below));
-  failing_in_range = λ k d below. absurd (omega (arith, below));
-  few = omega arith;
-}
-
 -- what holds of both outcomes
 pub either_way : {A : Type 0} (P : A → Type 0) (b : Bool) (x y z : A) → z ≡ cond b x y → P x → P y → P z
 either_way P true x y z is first second = subst P (sym is) first

@@ -1,5 +1,5 @@
 -- Worked values: a line with a value of each width, values of other widths, and a text of three lines.
-use Rattle.std.proofs.Common.{◌≡◌, ℕ, zero, suc, ◌+◌, ◌≤◌, List, [], ◌∷◌, ◌++◌, length, length-append, codes, ap, ◌∙◌, arith, refl, inr}
+use Rattle.std.proofs.Common.{◌≡◌, ℕ, zero, suc, ◌+◌, [], ◌∷◌, length, length-append, codes, ap, ◌∙◌, arith, refl, inr}
 use Rattle.std.specs.Prelude.{All}
 use Rattle.input_script.specs.declared.input.Kind.TheVariants.{PinC, Serial, Analog, Interrupt}
 use Rattle.input_script.specs.declared.input.Input.TheVariants.{Pin, Uart, Adc, Int}

@@ -1,6 +1,6 @@
 //! One line as a statement.
 
-ghost use Rattle.std.specs.Prelude.{◌≡◌, ◌≢◌, ℕ, ◌<◌, ◌≤◌, ◌++◌, List, length, MatchOption};
+ghost use Rattle.std.specs.Prelude.{◌≡◌, ◌≢◌, ℕ, ◌++◌, List, MatchOption};
 ghost use Rattle.input_script.specs.declared.input.Input.{Input};
 ghost use Rattle.input_script.specs.declared.input.Event.{Event};
 ghost use Rattle.input_script.specs.declared.line.Statement.{Statement};

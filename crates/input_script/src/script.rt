@@ -1,7 +1,6 @@
 //! A script as a whole.
 
-ghost use Rattle.std.specs.Prelude.{◌≡◌, ℕ, ◌≤◌, ◌<◌, ◌⊎◌, ◌↔◌, List, length, MatchResult, MatchOption, IfOk, IfErr, OnOk, IsTrue};
-ghost use Rattle.input_script.specs.declared.input.Event.{Event};
+ghost use Rattle.std.specs.Prelude.{◌≡◌, ℕ, ◌≤◌, ◌⊎◌, ◌↔◌, length, MatchResult, MatchOption, IfOk, IfErr, OnOk, IsTrue};
 ghost use Rattle.input_script.specs.declared.fault.ScriptFault.{ScriptFault};
 ghost use Rattle.input_script.specs.Grammar.{IsStatement};
 ghost use Rattle.input_script.specs.Script.{Schedule, said, joined, size, most_statements, IsSchedule, IsInRange, IsInputInRange, IsLate, IsScript, IsBad, IsFirstFault, NeedsMemory, HasOneJudgement};

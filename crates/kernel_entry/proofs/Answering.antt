@@ -78,7 +78,7 @@ pub called_by : (k : Kernel) → shape_behind k ≢ Fault → CanExecute k → I
 called_by k apart can = called_as k (instruction k) refl apart can
 
 -- the pc decides
-elsewhere : (f : ℕ → Bool) (pc entry : ℕ) → pc ≡ entry → f pc ≡ true → f entry ≡ false → ⊥
+pub elsewhere : (f : ℕ → Bool) (pc entry : ℕ) → pc ≡ entry → f pc ≡ true → f entry ≡ false → ⊥
 elsewhere f pc entry is here there = absurd (cc (ap f is))
 
 pub called : (k : Kernel) → CanServe k → executes k.mote.cpu.pc ≡ true → IsCalled k

@@ -3,12 +3,12 @@ use Rattle.std.specs.Prelude.{◌≤◌, ◌<◌}
 use Rattle.std.proofs.Common.{arith, ◌≡◌, ℕ, ◌+◌, Bool, true, false, cond, refl, sym, ap, ap₂, subst, ◌∙◌}
 use Rattle.std.specs.Prelude.{◌≢◌, ◌==◌, not, None, Result, Ok, Err, ◌&&◌}
 use Rattle.std.proofs.lemmas.Bool.Decides.{nat_tests}
+use Rattle.std.proofs.lemmas.Bool.{and_right}
 use Rattle.avr_flags.specs.Status.{has_bit, with_bit, interrupts}
 use Rattle.avr_isa.specs.Addresses.{wrapping_difference}
 use Rattle.avr_exec.specs.Spaces.{Outcome, Went, Stopped}
 use Rattle.avr_exec.specs.Likeness.{over, Leaves}
 use Rattle.avr_exec.specs.declared.stop.BusStop.{BusStop}
-use Rattle.avr_exec.specs.declared.stop.BusStop.TheVariants as bus
 use Rattle.heap_frames.specs.Addresses.{is_stack}
 use Rattle.heap_frames.specs.Paged.{IsPaged}
 use Rattle.sram_layout.specs.Bytes.{byte_at, with_word}
@@ -19,7 +19,7 @@ use Rattle.kernel_entry.proofs.LeftLaws.{same_stored}
 use Rattle.kernel_entry.specs.declared.kernel.Stop.{Stop}
 use Rattle.mote_devices.specs.State.{State as Devices}
 use Rattle.mote_devices.specs.Waking.{enabled, is_enabled, with_taken}
-use Rattle.mem_guard.specs.FlatMachine.{Ends, On, next_of, interrupted, interrupted_by, lowest, vector, end_at}
+use Rattle.mem_guard.specs.FlatMachine.{Ends, On, next_of, interrupted, interrupted_by, lowest, vector}
 use Rattle.mem_guard.specs.Guarded.{Guarded, flat_of, push_return}
 use Rattle.mem_guard.specs.Left.{IsKept, KeepsHeap}
 use Rattle.mem_guard.proofs.Alike.{push_return_alike}
@@ -33,6 +33,7 @@ use Rattle.kernel_entry.specs.Services.{stop_of}
 use Rattle.kernel_entry.specs.Interrupts.{is_wanted, pushed, pushed_by, taken, taken_by}
 use Rattle.kernel_entry.specs.Seen.{View, program, state_at, end_of}
 use Rattle.kernel_entry.proofs.ViewLaws.{view_put}
+use Rattle.kernel_entry.proofs.TriedLaws.{end_stop}
 
 -- a return address that is pushed leaves the devices
 abbrev SameDevices : Guarded → Outcome Guarded (Unit {0}) → Type 0
@@ -52,11 +53,6 @@ abbrev pub AsTaken : Kernel → ℕ → Taken × Kernel → Type 0
 AsTaken k target (answers.Nothing, new) = ⊥
 AsTaken k target (answers.Vector v, new) = (s c : ℕ) → next_of (program k) (record { now = state_at k target s c; due = true }) ≡ On None (record { now = state_at new v (s + 1) c; due = false })
 AsTaken k target (answers.Stopped stop, new) = (s c : ℕ) → next_of (program k) (record { now = state_at k target s c; due = true }) ≡ Ends (end_of stop)
-
-end_stop : (at : ℕ) (stop : BusStop) → end_at at stop ≡ end_of (stop_of at stop)
-end_stop at (bus.Io a) = refl
-end_stop at (bus.Stack a) = refl
-end_stop at (bus.SwapFull a) = refl
 
 taken_as : (k : Kernel) (target : ℕ) (o : Outcome Guarded (Unit {0})) → push_return (memory_of k) (virtual_sp k) target ≡ o → IsPaged k.mote.sram k.mote.swap → Leaves (λ next. IsKept (memory_of k) next × KeepsHeap (memory_of k) next) o
     → ((s c : ℕ) → next_of (program k) (record { now = state_at k target s c; due = true }) ≡ interrupted (program k) (state_at k target s c))
@@ -80,10 +76,6 @@ taken_as k target (Went done g) is paged left here = λ s c.
     })) (sym (view_put k (record { r = k.mote.cpu.r; sreg = with_bit k.mote.cpu.sreg interrupts false; sp = wrapping_difference (virtual_sp k) 2; pc = vector k.part n }) (record g { devices = with_taken g.devices n }) left.0.paged.sized.sram))
 
 -- none is taken where interrupts are off, or none is enabled
-off_right : (b c : Bool) → c ≡ false → b && c ≡ false
-off_right true c off = off
-off_right false c off = refl
-
 untaken : (k : Kernel) (target : ℕ) → is_wanted k ≡ false → (answers.Nothing, k) ≡ taken k target
 untaken k target off = sym (ap (λ b. cond b (taken_by k (lowest (enabled k.mote.devices)) target (pushed k target).0 (pushed k target).1) (answers.Nothing, k)) off)
 
@@ -91,7 +83,7 @@ pub taken_off : (k : Kernel) (target : ℕ) → has_bit k.mote.cpu.sreg interrup
 taken_off k target off = untaken k target (ap (λ b. b && is_enabled k.mote.devices) off)
 
 pub taken_none : (k : Kernel) (target : ℕ) → enabled k.mote.devices ≡ 0 → (answers.Nothing, k) ≡ taken k target
-taken_none k target none = untaken k target (off_right (has_bit k.mote.cpu.sreg interrupts) (is_enabled k.mote.devices) (ap (λ n. not (n == 0)) none))
+taken_none k target none = untaken k target (and_right (has_bit k.mote.cpu.sreg interrupts) (is_enabled k.mote.devices) (ap (λ n. not (n == 0)) none))
 
 some_enabled : (d : Devices) (n : ℕ) → n ≡ enabled d → n ≢ 0 → is_enabled d ≡ true
 some_enabled d n is some = let apart : enabled d ≢ 0 = (λ none. some (is ∙ none)) in grind (arith, nat_tests)

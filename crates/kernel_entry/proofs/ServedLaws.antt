@@ -44,7 +44,7 @@ use Rattle.kernel_entry.specs.Conditions.{CanServe, CanExecute, IsCalled, shape_
 use Rattle.kernel_entry.specs.Seen.{View, view_of, space_of, program, state_at}
 use Rattle.kernel_entry.specs.Left.{Leaves, LeavesHeap}
 use Rattle.kernel_entry.specs.Rows.{SleptBy, HasStopped, Goes, Bridges, EndsQuantum, Executes, PushesReturn, PushedBy, Returns, PoppedBy, GoesThrough, GoneThrough, LoopsOrHalts, Faults, AsTried, ExecutedBy, ReadBy}
-use Rattle.kernel_entry.proofs.Answering.{called, called_by}
+use Rattle.kernel_entry.proofs.Answering.{called, called_by, elsewhere}
 use Rattle.kernel_entry.proofs.LeftLaws.{Kept, kept, leaves_rested, leaves_pc, leaves_sram, leaves_crossed, leaves_execution, leaves_heap, same_stored, same_crossed}
 use Rattle.kernel_entry.proofs.ShapeLaws.{is_service_jump, by_service_jump, by_self_form, jumps_on, self_jumps, reads_by_mem}
 use Rattle.kernel_entry.proofs.ViewLaws.{view_sram, view_crossed}
@@ -66,9 +66,6 @@ shape_for entry =
     else if entry == indirect_entry then Ind
     else if entry == self_entry then SelfJump
     else Fault
-
-elsewhere : (f : ℕ → Bool) (pc entry : ℕ) → pc ≡ entry → f pc ≡ true → f entry ≡ false → ⊥
-elsewhere f pc entry is here there = absurd (cc (ap f is))
 
 shape_at : (k : Kernel) → CanServe k → executes k.mote.cpu.pc ≡ true → shape_behind k ≡ shape_for k.mote.cpu.pc
 shape_at k (CanServe.AtBridge is) at = absurd (elsewhere executes k.mote.cpu.pc 0xF000 is at refl)

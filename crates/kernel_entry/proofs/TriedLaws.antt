@@ -38,7 +38,7 @@ state_by v pc steps crossings = record {
   crossings = crossings;
 }
 
-end_stop : (at : ℕ) (stop : BusStop) → end_at at stop ≡ end_of (stop_of at stop)
+pub end_stop : (at : ℕ) (stop : BusStop) → end_at at stop ≡ end_of (stop_of at stop)
 end_stop at (bus.Io a) = refl
 end_stop at (bus.Stack a) = refl
 end_stop at (bus.SwapFull a) = refl

@@ -1,6 +1,6 @@
 //! An instruction of the program, executed over the program's memory.
 
-ghost use Rattle.std.specs.Prelude.{◌≡◌, ◌<◌, ◌≤◌, ◌^◌, true};
+ghost use Rattle.std.specs.Prelude.{◌≡◌, ◌<◌, ◌^◌, true};
 ghost use Rattle.avr_exec.specs.Execution.{is_executed};
 ghost use Rattle.heap_frames.specs.Paged.{IsPaged};
 ghost use Rattle.kernel_entry.specs.Parts.{descriptor};

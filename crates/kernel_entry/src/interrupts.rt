@@ -1,6 +1,6 @@
 //! An interrupt, taken before the program goes on.
 
-ghost use Rattle.std.specs.Prelude.{◌≡◌, ◌≢◌, ◌<◌, ◌≤◌, ◌^◌, false};
+ghost use Rattle.std.specs.Prelude.{◌≡◌, ◌≢◌, ◌<◌, ◌^◌, false};
 ghost use Rattle.std.specs.Int.{bit_at};
 ghost use Rattle.avr_flags.specs.Status.{with_bit, interrupts};
 ghost use Rattle.heap_frames.specs.Paged.{IsPaged};
@@ -18,7 +18,6 @@ use mem_guard::{Part, VirtualBus};
 pub fn interrupt(k: &mut Kernel, target: u16) -> Taken
     requires paged { IsPaged k.old.mote.sram k.old.mote.swap }
     requires room { k.old.mote.devices.polls < 2 ^ 63 }
-    requires low { k.old.part.first < 65520 }
     // The answer and the whole kernel are a function of the kernel.
     ensures taken { (result, k.new) ≡ taken k.old target }
     // When each answer comes, and what it leaves.
@@ -75,13 +74,12 @@ fn push(k: &mut Kernel, address: u16) -> Result<(), BusStop>
     }
 }
 
-/// The word address where the program answers an interrupt.
+/// The word address where the program answers an interrupt. It wraps, as addresses do.
 fn vector(part: &Part, number: u8) -> u16
     requires small { number < 8 }
-    requires low { part.now.first < 65520 }
     ensures value { result ≡ vector_of part.now number }
 {
-    part.first + 2 * (u16::from(number) + 1)
+    part.first.wrapping_add(2 * (u16::from(number) + 1))
 }
 
 /// The least number of a bit that is set.

@@ -1,6 +1,6 @@
 //! A heap of nine pages, in eight frames and a slot.
 
-ghost use Rattle.std.specs.Prelude.{◌≡◌, ◌≤◌, ◌<◌, IfOk, true};
+ghost use Rattle.std.specs.Prelude.{◌≡◌, ◌≤◌, IfOk, true};
 ghost use Rattle.swap_store.specs.Slots.{most_slots};
 ghost use Rattle.heap_frames.specs.Addresses.{is_heap};
 ghost use Rattle.heap_frames.specs.Paged.{IsPaged};

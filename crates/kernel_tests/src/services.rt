@@ -124,15 +124,11 @@ fn served(rt: &impl Abort, k: &mut Kernel, call: Call) -> Served
     serve(k)
 }
 
-/// Whether the devices' count of polls is far from its end, and the program's vectors are in flash.
+/// Whether the devices' count of polls is far from its end.
 fn may_take(k: &Kernel) -> bool
     ensures left { result ≡ true → k.now.mote.devices.polls < 2 ^ 63 }
-    ensures low { result ≡ true → k.now.part.first < 65520 }
 {
-    if k.mote.devices.polls() >= 1000 {
-        return false;
-    }
-    k.part.first < 1000
+    k.mote.devices.polls() < 1000
 }
 
 /// Sets the program's stack pointer, and takes an interrupt, where one is wanted, before the target.

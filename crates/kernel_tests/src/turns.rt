@@ -1,6 +1,6 @@
 //! When lines go out.
 
-ghost use Rattle.std.specs.Prelude.{◌≤◌, length, vec_len};
+ghost use Rattle.std.specs.Prelude.{◌≤◌, length};
 
 use hex_image::Image;
 use input_script::read;

@@ -1,5 +1,5 @@
 //! The line of a write to an output of a device.
-ghost use Rattle.std.specs.Prelude.{◌≡◌, ◌≤◌, codes, length};
+ghost use Rattle.std.specs.Prelude.{◌≡◌, ◌≤◌, length};
 ghost use Rattle.arrayvec.specs.ArrayVec.{array_vec_len};
 ghost use Rattle.kernel_entry.specs.Texts.{line_text, port_name};
 

@@ -1,5 +1,5 @@
 -- An instruction that is executed over the guarded space is the original program's step.
-use Rattle.std.proofs.Common.{◌≡◌, ℕ, ◌+◌, true, false, not, ◌&&◌, refl, sym, ap, subst, ◌∙◌}
+use Rattle.std.proofs.Common.{◌≡◌, ℕ, ◌+◌, true, false, not, ◌&&◌, sym, ap, subst, ◌∙◌}
 use Rattle.std.specs.Prelude.{Result, Ok, Err, Some, None, OnOk, OnErr, if◌then◌else◌}
 use Rattle.avr_isa.specs.declared.form.Form.{Form}
 use Rattle.avr_isa.specs.Crossing.{is_crossing}
@@ -22,16 +22,6 @@ use Rattle.mem_guard.specs.Left.{IsKept, HeapAfter}
 use Rattle.mem_guard.proofs.MachineLaws.{tried_step}
 use Rattle.mem_guard.proofs.Alike.{executed_alike}
 use Rattle.mem_guard.proofs.Leaves.{executed_leaves, kept_same}
-
--- what `exec` tells of a VirtualBus, over flat memory
-finished_flat : {A : Type 0} (result : Result A BusStop) (cpu : Cpu) (next : Guarded) → finished result cpu (flat_of next) ≡ over flat_of (finished result cpu next)
-finished_flat (Ok done) cpu next = refl
-finished_flat (Err stop) cpu next = refl
-
-pub executed_flat : {A : Type 0} (result : Result A BusStop) (form : Form) (cpu cpu' : Cpu) (g next : Guarded) (n : ℕ) → IsPaged g.sram g.swap
-    → finished result cpu' next ≡ exec_of guarded_calls form cpu g n → finished result cpu' (flat_of next) ≡ exec_of flat_calls form cpu (flat_of g) n
-executed_flat result form cpu cpu' g next n paged outcome =
-    finished_flat result cpu' next ∙ ap (over flat_of) outcome ∙ sym (executed_alike form cpu g n paged)
 
 -- what it leaves of the mote's own parts
 left_or_same : {A : Type 0} (P : Guarded → Type 0) (result : Result A BusStop) (cpu cpu' : Cpu) (g next : Guarded) → IsPaged g.sram g.swap

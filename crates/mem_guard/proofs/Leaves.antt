@@ -8,11 +8,11 @@ use Rattle.avr_exec.specs.declared.ask.Ask.{Ask}
 use Rattle.avr_exec.specs.declared.ask.Ask.TheVariants.{Nothing, Load as LoadAsk, Store as StoreAsk, Modify, PushByte, PopByte, PushReturn, PopReturn, Program, ExtendedProgram, ExtendedProgramRaising}
 use Rattle.avr_exec.specs.declared.stop.BusStop.TheVariants.{Stack as StackStop}
 use Rattle.avr_isa.specs.Addresses.{wrapping_sum, wrapping_difference}
-use Rattle.avr_exec.specs.Spaces.{Outcome, Went, Stopped}
+use Rattle.avr_exec.specs.Spaces.{Went, Stopped}
 use Rattle.avr_exec.specs.Asks.{ask_of}
-use Rattle.avr_exec.specs.Execution.{answered_by, answer_of, exec_of}
+use Rattle.avr_exec.specs.Execution.{answer_of, exec_of}
 use Rattle.avr_exec.specs.Likeness.{Leaves}
-use Rattle.avr_exec.proofs.OneAnswer.{exec_leaves}
+use Rattle.avr_exec.proofs.OneAnswer.{exec_leaves, answered_by-leaves}
 use Rattle.sram_layout.specs.Bytes.{byte_at, with_byte}
 use Rattle.sram_layout.proofs.Laws.{byte_other}
 use Rattle.heap_frames.specs.Addresses.{is_stack, is_heap}
@@ -184,22 +184,17 @@ pub pop_return_leaves_kept : (g : Guarded) (sp : ℕ) → IsPaged g.sram g.swap 
 unfolding pop_return
 pop_return_leaves_kept g sp paged = two_pops (is_stack (wrapping_sum sp 1)) (is_stack (wrapping_sum sp 2)) g (wrapping_sum sp 1) (wrapping_sum sp 2) _ paged
 
--- the same told in other words
-answered_left : {A B : Type 0} (P : Guarded → Type 0) (f : A → B) (o : Outcome Guarded A) → Leaves P o → Leaves P (answered_by f o)
-answered_left P f (Went answer next) left = left
-answered_left P f (Stopped stop) left = tt
-
 -- whatever is asked, the answer leaves the mote's parts so
 pub answers_leave : (g : Guarded) (ask : Ask) → IsPaged g.sram g.swap → Leaves (λ next. IsKept g next × HeapAfter g ask next) (answer_of guarded_calls g ask)
 unfolding answer_of
 answers_leave g Nothing paged = (kept_same g paged, keeps_heap g)
-answers_leave g (LoadAsk a) paged = answered_left _ _ (load g a) (load_leaves_kept g a paged)
-answers_leave g (StoreAsk a v) paged = answered_left _ _ (store g a v) (store_leaves_kept g a v paged)
-answers_leave g (Modify a clear set) paged = answered_left _ _ (modify g a clear set) (modify_leaves_kept g a clear set paged)
-answers_leave g (PushByte sp v) paged = answered_left _ _ (push g sp v) (push_leaves_kept g sp v paged)
-answers_leave g (PopByte sp) paged = answered_left _ _ (pop g sp) (pop_leaves_kept g sp paged)
-answers_leave g (PushReturn sp ret) paged = answered_left _ _ (push_return g sp ret) (push_return_leaves_kept g sp ret paged)
-answers_leave g (PopReturn sp) paged = answered_left _ _ (pop_return g sp) (pop_return_leaves_kept g sp paged)
+answers_leave g (LoadAsk a) paged = answered_by-leaves _ _ (load g a) (load_leaves_kept g a paged)
+answers_leave g (StoreAsk a v) paged = answered_by-leaves _ _ (store g a v) (store_leaves_kept g a v paged)
+answers_leave g (Modify a clear set) paged = answered_by-leaves _ _ (modify g a clear set) (modify_leaves_kept g a clear set paged)
+answers_leave g (PushByte sp v) paged = answered_by-leaves _ _ (push g sp v) (push_leaves_kept g sp v paged)
+answers_leave g (PopByte sp) paged = answered_by-leaves _ _ (pop g sp) (pop_leaves_kept g sp paged)
+answers_leave g (PushReturn sp ret) paged = answered_by-leaves _ _ (push_return g sp ret) (push_return_leaves_kept g sp ret paged)
+answers_leave g (PopReturn sp) paged = answered_by-leaves _ _ (pop_return g sp) (pop_return_leaves_kept g sp paged)
 answers_leave g (Program z) paged = (kept_same g paged, keeps_heap g)
 answers_leave g (ExtendedProgram z) paged = (kept_same g paged, keeps_heap g)
 answers_leave g (ExtendedProgramRaising z) paged = (with_devices g _ g.line paged (omega arith), keeps_heap_devices g _ g.line)

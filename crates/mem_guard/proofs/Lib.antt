@@ -2,10 +2,8 @@
 mod WorkedRows
 mod WorkedPrograms
 pub mod MachineLaws
-pub mod RunLaws
 pub mod PartLaws
 mod WorkedParts
-pub mod ImageLaws
 mod ClassLaws
 mod HeapLaws
 pub mod Alike
@@ -15,4 +13,3 @@ pub mod FlatCalls
 pub mod GuardedStep
 pub mod ReadLaws
 pub mod AtReset
-pub mod DeviceAnswers

@@ -10,12 +10,12 @@ use Rattle.avr_exec.specs.declared.stop.BusStop.{BusStop}
 use Rattle.avr_exec.specs.declared.stop.BusStop.TheVariants.{Stack as StackStop}
 use Rattle.avr_isa.specs.Addresses.{wrapping_sum, wrapping_difference}
 use Rattle.avr_exec.specs.Registers.{is_own}
-use Rattle.avr_exec.specs.Spaces.{Outcome, Went, Stopped}
+use Rattle.avr_exec.specs.Spaces.{Went, Stopped}
 use Rattle.avr_exec.specs.Asks.{ask_of, load_of}
 use Rattle.avr_isa.specs.IoTable.{io_address}
-use Rattle.avr_exec.specs.Execution.{answered_by, answer_of, exec_of}
+use Rattle.avr_exec.specs.Execution.{answer_of, exec_of}
 use Rattle.avr_exec.specs.Likeness.{Leaves, is_transfer}
-use Rattle.avr_exec.proofs.OneAnswer.{exec_leaves}
+use Rattle.avr_exec.proofs.OneAnswer.{exec_leaves, answered_by-leaves}
 use Rattle.sram_layout.specs.Bytes.{byte_at}
 use Rattle.heap_frames.specs.Addresses.{is_stack}
 use Rattle.heap_frames.specs.Paging.{Store, heap_store}
@@ -93,21 +93,17 @@ unfolding pop_return
 pop_return_line g sp =
     both (is_stack (wrapping_sum sp 1)) (is_stack (wrapping_sum sp 2)) g g (byte_at g.sram (wrapping_sum sp 1) * 256 + byte_at g.sram (wrapping_sum sp 2)) (StackStop (wrapping_sum sp 2)) (StackStop (wrapping_sum sp 1)) refl
 
-answered_line : {A B : Type 0} (P : Guarded → Type 0) (f : A → B) (o : Outcome Guarded A) → Leaves P o → Leaves P (answered_by f o)
-answered_line P f (Went answer next) left = left
-answered_line P f (Stopped stop) left = tt
-
 -- whatever is asked
 pub answers_line : (g : Guarded) (ask : Ask) → Leaves (LineAfter g ask) (answer_of guarded_calls g ask)
 unfolding answer_of
 answers_line g Nothing = refl
-answers_line g (LoadAsk a) = answered_line _ _ (load g a) (load_line g a)
-answers_line g (StoreAsk a v) = answered_line _ _ (store g a v) (store_line g a v)
-answers_line g (Modify a clear set) = answered_line _ _ (modify g a clear set) (modify_line g a clear set)
-answers_line g (PushByte sp v) = answered_line _ _ (push g sp v) (push_line g sp v)
-answers_line g (PopByte sp) = answered_line _ _ (pop g sp) (pop_line g sp)
-answers_line g (PushReturn sp ret) = answered_line _ _ (push_return g sp ret) (push_return_line g sp ret)
-answers_line g (PopReturn sp) = answered_line _ _ (pop_return g sp) (pop_return_line g sp)
+answers_line g (LoadAsk a) = answered_by-leaves _ _ (load g a) (load_line g a)
+answers_line g (StoreAsk a v) = answered_by-leaves _ _ (store g a v) (store_line g a v)
+answers_line g (Modify a clear set) = answered_by-leaves _ _ (modify g a clear set) (modify_line g a clear set)
+answers_line g (PushByte sp v) = answered_by-leaves _ _ (push g sp v) (push_line g sp v)
+answers_line g (PopByte sp) = answered_by-leaves _ _ (pop g sp) (pop_line g sp)
+answers_line g (PushReturn sp ret) = answered_by-leaves _ _ (push_return g sp ret) (push_return_line g sp ret)
+answers_line g (PopReturn sp) = answered_by-leaves _ _ (pop_return g sp) (pop_return_line g sp)
 answers_line g (Program z) = refl
 answers_line g (ExtendedProgram z) = refl
 answers_line g (ExtendedProgramRaising z) = refl

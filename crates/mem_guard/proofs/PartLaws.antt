@@ -179,7 +179,7 @@ own_reads part image s (asks.ExtendedProgramRaising z) shut none =
 own_reads part image s _ shut none = tt
 
 -- an address of the part, and the one behind it
-own_range : (part : Part) (a : ℕ) → is_own part a ≡ true → (part.first ≤ a) × (a < part.first + part.count)
+pub own_range : (part : Part) (a : ℕ) → is_own part a ≡ true → (part.first ≤ a) × (a < part.first + part.count)
 own_range part a own = grind (arith, nat_tests)
 
 own_behind : (part : Part) (a : ℕ) → part.first + part.count ≤ 65536 → is_own part a ≡ true → a + 2 < part.first + part.count → is_own part ((a + 1) % 65536) ≡ true

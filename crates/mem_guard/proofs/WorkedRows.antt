@@ -11,7 +11,7 @@ use Rattle.avr_exec.specs.Effects.{finish_of, loaded, stored, with_pointer}
 use Rattle.avr_exec.specs.Execution.{answer_of, exec_of}
 use Rattle.mote_devices.specs.declared.line.Line.{Line}
 use Rattle.mote_devices.specs.declared.line.Port.TheVariants.{PortA}
-use Rattle.list_parts.specs.Lists.{many}
+use Rattle.base_laws.specs.Lists.{many}
 use Rattle.mote_devices.specs.Registers.{register_at}
 use Rattle.mote_devices.specs.Accesses.{write, read}
 use Rattle.mem_guard.specs.Classes.{class_of}

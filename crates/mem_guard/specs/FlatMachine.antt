@@ -20,7 +20,7 @@ use Rattle.avr_exec.specs.Spaces.{Outcome, Went, Stopped}
 use Rattle.avr_exec.specs.Asks.{ask_of}
 use Rattle.avr_exec.specs.Execution.{exec_of, extended}
 use Rattle.mote_devices.specs.declared.line.Line.{Line}
-use Rattle.list_parts.specs.Lists.{zeros}
+use Rattle.base_laws.specs.Lists.{zeros}
 use Rattle.mote_devices.specs.State.{State, at_reset as devices_at_reset, stored, rampz_address}
 use Rattle.mote_devices.specs.Waking.{enabled, is_enabled, with_taken, wake}
 use Rattle.mem_guard.specs.declared.part.Part.{Part}
@@ -193,9 +193,9 @@ lowest n =
     else 7
 
 -- the word address where the program answers INTk, at the front of its part (ATmega128 datasheet, "Reset and Interrupt
--- Vectors")
+-- Vectors"); addresses wrap
 abbrev pub vector : Part → ℕ → ℕ
-vector part k = part.first + 2 * (k + 1)
+vector part k = wrapping_sum part.first (2 * (k + 1))
 
 -- an interrupt is taken before the next instruction
 abbrev pub is_taken : Moment → Bool

@@ -2,14 +2,13 @@
 -- ATmega128 datasheet, "AVR ATmega128 Memories"; docs/MEMORY.md has what the profile adds.
 use Rattle.std.specs.Prelude.{ℕ, ◌/◌, Bool, true, false, ◌||◌, nat_lt, if◌then◌else◌, List, slice_index, slice_index_or, slice_set, count_by, Option}
 use Rattle.avr_isa.specs.Image.{byte}
-use Rattle.avr_exec.specs.declared.stop.BusStop.TheVariants.{Stack as StackStop, SwapFull as FullStop}
+use Rattle.avr_exec.specs.declared.stop.BusStop.TheVariants.{Io, Stack as StackStop, SwapFull as FullStop}
 use Rattle.avr_exec.specs.Spaces.{Outcome, Went, Stopped, Calls}
 use Rattle.avr_exec.specs.StackRules.{StackRule, push_on, pop_from, push_return_on, pop_return_from}
 use Rattle.heap_frames.specs.Addresses.{is_stack}
 use Rattle.mote_devices.specs.declared.line.Line.{Line}
 use Rattle.mote_devices.specs.State.{State, stored, with_stored, rampz_address}
-use Rattle.mote_devices.specs.Accesses.{Asked, read, write, modify as modify_device}
-use Rattle.mote_core.specs.DeviceAnswers.{read_answer, write_answer}
+use Rattle.mote_devices.specs.Accesses.{Asked, answered_or, read, write, modify as modify_device}
 use Rattle.mem_guard.specs.declared.address.AddrClass.{AddrClass}
 use Rattle.mem_guard.specs.declared.address.AddrClass.TheVariants.{Stack, Heap}
 use Rattle.mem_guard.specs.Classes.{class_of}
@@ -45,10 +44,10 @@ has_room s = nat_lt (count_by (λ b. b) s.pages) s.page_limit
 
 -- what the devices answered to a read, and to a write, at data address a
 abbrev pub from_device : FlatSpace → ℕ → Asked ℕ → Outcome FlatSpace ℕ
-from_device s a asked = read_answer (λ next. record s { devices = next }) a asked
+from_device s a asked = answered_or (Stopped (Io a)) (λ v next. Went v (record s { devices = next })) asked
 
 abbrev pub to_device : FlatSpace → ℕ → Asked (Option Line) → Outcome FlatSpace (Unit {0})
-to_device s a asked = write_answer (λ line next. record s { devices = next; line = line }) a asked
+to_device s a asked = answered_or (Stopped (Io a)) (λ line next. Went tt (record s { devices = next; line = line })) asked
 
 -- A load: from memory, or else from the devices, which refuse where a program may not read. The core
 -- answers its own addresses, and never asks for them here.

@@ -3,7 +3,7 @@
 use Rattle.std.specs.Prelude.{ℕ, List, length, Option, Some, None}
 use Rattle.avr_isa.specs.Image.{byte}
 use Rattle.avr_exec.specs.declared.cpu.Cpu.{Cpu}
-use Rattle.avr_exec.specs.declared.stop.BusStop.TheVariants.{Stack as StackStop, SwapFull as FullStop}
+use Rattle.avr_exec.specs.declared.stop.BusStop.TheVariants.{Io, Stack as StackStop, SwapFull as FullStop}
 use Rattle.avr_exec.specs.Spaces.{Outcome, Went, Stopped, Calls}
 use Rattle.avr_exec.specs.StackRules.{StackRule, push_on, pop_from, push_return_on, pop_return_from}
 use Rattle.flash_words.specs.declared.layout.Layout.{Layout}
@@ -15,8 +15,7 @@ use Rattle.heap_frames.specs.Memory.{vmem}
 use Rattle.heap_frames.specs.Paging.{Store, heap_load, heap_store}
 use Rattle.mote_devices.specs.declared.line.Line.{Line}
 use Rattle.mote_devices.specs.State.{State, stored, with_stored, rampz_address}
-use Rattle.mote_devices.specs.Accesses.{Asked, read, write, modify as modify_device}
-use Rattle.mote_core.specs.DeviceAnswers.{read_answer, write_answer}
+use Rattle.mote_devices.specs.Accesses.{Asked, answered_or, read, write, modify as modify_device}
 use Rattle.mem_guard.specs.declared.address.AddrClass.{AddrClass}
 use Rattle.mem_guard.specs.declared.part.Part.{Part}
 use Rattle.mem_guard.specs.declared.address.AddrClass.TheVariants.{Stack, Heap}
@@ -73,10 +72,10 @@ with_sram g a v = record g { sram = with_byte g.sram a v }
 
 -- what the devices answered to a read, and to a write, at data address a
 abbrev pub from_device : Guarded → ℕ → Asked ℕ → Outcome Guarded ℕ
-from_device g a asked = read_answer (λ next. record g { devices = next }) a asked
+from_device g a asked = answered_or (Stopped (Io a)) (λ v next. Went v (record g { devices = next })) asked
 
 abbrev pub to_device : Guarded → ℕ → Asked (Option Line) → Outcome Guarded (Unit {0})
-to_device g a asked = write_answer (λ line next. record g { devices = next; line = line }) a asked
+to_device g a asked = answered_or (Stopped (Io a)) (λ line next. Went tt (record g { devices = next; line = line })) asked
 
 -- what the heap answered to a load, and to a store at data address a
 abbrev pub from_heap : Guarded → ℕ × Store → Outcome Guarded ℕ

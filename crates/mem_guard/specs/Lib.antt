@@ -7,4 +7,3 @@ pub mod Guarded
 pub mod Readiness
 pub mod Bus
 pub mod Left
-pub mod Physically

@@ -18,13 +18,15 @@ pub fn instruction_in_image(flash: &Flash, layout: &Layout, at: u16) -> Option<I
     decode(first, word_behind(flash, layout, at))
 }
 
-/// The same at an address where the program has one. Inside the image it is the one that flash keeps decoded.
+/// The program's instruction at a word address where it has one. Flash has it decoded, but for the image's last word.
 pub fn known_instruction(flash: &Flash, layout: &Layout, at: u16) -> Instr
     requires known { is_some (instruction_at (image_of layout.now flash.now.words) at) ≡ true }
     ensures value { instruction_at (image_of layout.now flash.now.words) at ≡ Just result }
 {
     if has_both_words(layout, at) {
-        return flash.decoded(at).instr;
+        if let Some(decoded) = flash.decoded(at) {
+            return decoded.instr;
+        }
     }
     instruction_in_image(flash, layout, at).unwrap()
 }
@@ -36,7 +38,9 @@ pub fn next_size_in_image(flash: &Flash, layout: &Layout, at: u16) -> u16
     ensures range { (1 ≤ result) × (result ≤ 2) }
 {
     if has_both_words(layout, at) {
-        return flash.decoded(at).next_size;
+        if let Some(decoded) = flash.decoded(at) {
+            return decoded.next_size;
+        }
     }
     size_by_first_word(word_behind(flash, layout, at))
 }

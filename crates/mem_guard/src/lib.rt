@@ -21,8 +21,7 @@
 //! Laws for the layers above: `proofs/MachineLaws` (a try in each case, and what a run does first),
 //! `proofs/Alike`, `proofs/Leaves` and `proofs/LineLaws` (every call and every instruction),
 //! `proofs/GuardedStep` (an instruction executed over the guarded space is the original program's step),
-//! `proofs/ImageLaws` (the program's instructions as flash has them), and `proofs/PartLaws` (a program that is shut in a part
-//! runs as over its own words alone, `specs/Masked`).
+//! and `proofs/PartLaws` (a program that is shut in a part runs as over its own words alone, `specs/Masked`).
 #![tactic(auto)]
 
 mod address;

@@ -2,9 +2,8 @@
 mod Steps
 mod WorkedSteps
 pub mod NeverStops
-pub mod KnownSteps
+pub mod OneOutcome
 pub mod StepsByAnswer
 pub mod QuietMemory
 pub mod QuietCore
-pub mod StepLeaves
 pub mod DeviceAsks

@@ -1,5 +1,6 @@
 -- What is mapped is answered: no step that may be made stops.
-use Rattle.std.proofs.Common.{◌≡◌, ℕ, Bool, true, false, ◌&&◌, ◌||◌, cond, refl, sym, subst}
+use Rattle.std.proofs.Common.{◌≡◌, ℕ, Bool, true, false, ◌&&◌, ◌||◌, cond, sym, subst}
+use Rattle.std.proofs.lemmas.Bool.{and_parts}
 use Rattle.avr_isa.specs.declared.form.Form.{Form}
 use Rattle.avr_isa.specs.IoTable.{can_read, can_write}
 use Rattle.avr_exec.specs.declared.cpu.Cpu.{Cpu}
@@ -19,10 +20,6 @@ use Rattle.mote_devices.specs.Accesses.{read, write, modify as modify_device}
 use Rattle.mote_devices.proofs.AccessLaws.{read_allowed, write_allowed, modify_allowed}
 use Rattle.mote_core.specs.Physical.{Physical, is_sram, with_sram, from_device, to_device, load, store, modify, push, pop, push_return, pop_return, physical_calls}
 use Rattle.mote_core.specs.Conditions.{is_mapped}
-
-pub both : (a b : Bool) → a && b ≡ true → (a ≡ true) × (b ≡ true)
-both true b h = (refl, h)
-both false b h = absurd (cc)
 
 device_reads : (s : Physical) (a : ℕ) → can_read a ≡ true → IsWent (answered_by Byte (from_device s a (read s.devices a)))
 device_reads s a can = subst (λ asked. IsWent (answered_by Byte (from_device s a asked))) (sym (read_allowed s.devices a can)) tt
@@ -68,7 +65,7 @@ unfolding is_mapped answer_of load store modify push pop push_return pop_return
 never_stops s Nothing mapped = tt
 never_stops s (Load a) mapped = load_went (is_sram a) s a mapped
 never_stops s (Store a v) mapped = store_went (is_sram a) s a v mapped
-never_stops s (Modify a clear set) mapped = modify_went s a clear set (both _ _ mapped).0 (both _ _ mapped).1
+never_stops s (Modify a clear set) mapped = modify_went s a clear set (and_parts _ _ mapped).0 (and_parts _ _ mapped).1
 never_stops s (PushByte sp v) mapped = push_went (is_sram sp) s sp v mapped
 never_stops s (PopByte sp) mapped = pop_went (is_sram (wrapping_sum sp 1)) s (wrapping_sum sp 1) mapped
 never_stops s (PushReturn sp ret) mapped = push_return_went (is_sram sp) (is_sram (wrapping_difference sp 1)) s sp ret (wrapping_difference sp 1) _ mapped

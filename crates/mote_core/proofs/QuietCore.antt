@@ -6,7 +6,7 @@ use Rattle.avr_isa.specs.declared.form.Form.TheVariants.{Movw, Imm, Word, One, I
 use Rattle.avr_isa.specs.declared.operation.ImmOp.TheVariants.{Cpi}
 use Rattle.avr_isa.specs.declared.operation.OneOp.TheVariants.{Dec}
 use Rattle.avr_isa.specs.declared.operation.WordOp.TheVariants.{Adiw, Sbiw}
-use Rattle.avr_flags.specs.Status.{has_bit, carry, zero_flag}
+use Rattle.avr_flags.specs.Status.{has_bit, carry}
 use Rattle.avr_flags.specs.Sums.{sub_of, dec_of}
 use Rattle.avr_flags.specs.Pairs.{adiw_of, sbiw_of}
 use Rattle.avr_exec.specs.declared.answer.Answer.TheVariants.{Done}
@@ -90,15 +90,6 @@ behind_taken pc n below = omega arith
 
 behind : (pc : ℕ) → pc + 1 < 65536 → wrapping_sum pc 1 ≡ pc + 1
 behind pc below = omega arith
-
--- BREQ (BRBS of Z), taken and not
-pub quiet_breq : (m : Mote) (r : List ℕ) (s pc : ℕ) (sram : List ℕ) (n : ℕ) → flash_form m pc ≡ Some (Brbs 1 (pos n)) → has_bit s zero_flag ≡ true → pc + 1 + n < 65536
-    → IsQuiet (held m r s pc sram) (held m r s (pc + 1 + n) sram)
-quiet_breq m r s pc sram n is test below = quiet_branch m r s pc (pc + 1 + n) sram 1 n true is test (behind_taken pc n below)
-
-pub quiet_breq_on : (m : Mote) (r : List ℕ) (s pc : ℕ) (sram : List ℕ) (n : ℕ) → flash_form m pc ≡ Some (Brbs 1 (pos n)) → has_bit s zero_flag ≡ false → pc + 1 < 65536
-    → IsQuiet (held m r s pc sram) (held m r s (pc + 1) sram)
-quiet_breq_on m r s pc sram n is test below = quiet_branch m r s pc (pc + 1) sram 1 n false is test (behind pc below)
 
 -- BRLO (BRBS of C), taken and not
 pub quiet_brlo : (m : Mote) (r : List ℕ) (s pc : ℕ) (sram : List ℕ) (n : ℕ) → flash_form m pc ≡ Some (Brbs 0 (pos n)) → has_bit s carry ≡ true → pc + 1 + n < 65536

@@ -22,7 +22,6 @@ use Rattle.mote_core.specs.Shown.{line_shown}
 use Rattle.mote_core.specs.Step.{form_at, next_size, space_of, IsPlainStep}
 use Rattle.mote_core.specs.QuietSteps.{KeepsKernel, IsQuiet}
 use Rattle.mote_core.proofs.Steps.{stepped_is}
-use Rattle.mote_core.proofs.KnownSteps.{one_step}
 
 both_true : (a b : Bool) → a ≡ true → b ≡ true → a && b ≡ true
 both_true a b one other = ap (λ x. x && b) one ∙ other
@@ -52,10 +51,6 @@ quiet_by m form answer sram cpu is executed mapped answered finish keeps = recor
   keeps = keeps;
   devices = refl;
 }
-
--- every step from there is that one
-pub quiet_goes : (m next after : Mote) (shown : Plain) → IsQuiet m next → IsPlainStep m shown after → (after ≡ next) × (shown ≡ Went)
-quiet_goes m next after shown quiet step = one_step m after next shown Went step quiet.step
 
 -- what keeps the kernel's memory: nothing written, one write after another, a cell of the templates, a byte above, the
 -- kernel's stack

@@ -1,9 +1,8 @@
 -- The tests of an ask at worked values.
 use Rattle.std.proofs.Common.{◌≡◌, true, false, refl}
 use Rattle.avr_isa.specs.IoTable.{can_read, can_write}
-use Rattle.avr_exec.specs.declared.ask.Ask.TheVariants.{Nothing, Load, Store, Modify, PushReturn, Program}
+use Rattle.avr_exec.specs.declared.ask.Ask.TheVariants.{Nothing, Load, Store, Modify, Program}
 use Rattle.mote_core.specs.Conditions.{is_device_ask}
-use Rattle.mote_core.specs.Leaving.{is_written, reaches_devices}
 
 -- PINA may be read and not written; PORTA both; SRAM is no device
 pins : (is_device_ask (Load 0x39) ≡ true) × (is_device_ask (Store 0x39 1) ≡ false) × (is_device_ask (Modify 0x39 0 1) ≡ false)
@@ -17,12 +16,3 @@ port = (refl, refl, refl)
 others : (is_device_ask Nothing ≡ true) × (is_device_ask (Load 0x0100) ≡ false) × (is_device_ask (Program 0) ≡ false)
 unfolding is_device_ask can_read
 others = (refl, refl, refl)
-
--- a return address is written at SP and below it
-returns_at : (is_written (PushReturn 0x011F 7) 0x011F ≡ true) × (is_written (PushReturn 0x011F 7) 0x011E ≡ true) × (is_written (PushReturn 0x011F 7) 0x0120 ≡ false)
-unfolding is_written
-returns_at = (refl, refl, refl)
-
-reached : (reaches_devices (Load 0x3B) ≡ true) × (reaches_devices (Load 0x0100) ≡ false) × (reaches_devices (PushReturn 0x011F 7) ≡ false)
-unfolding reaches_devices
-reached = (refl, refl, refl)

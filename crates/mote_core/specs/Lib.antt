@@ -4,5 +4,4 @@ pub mod Conditions
 pub mod Shown
 pub mod Step
 pub mod QuietSteps
-pub mod Leaving
-pub mod DeviceAnswers
+pub mod FastPath

@@ -2,15 +2,14 @@
 -- (ATmega128 datasheet, "SRAM Data Memory"); and the program's bytes, which are those of flash.
 use Rattle.std.specs.Prelude.{ℕ, ◌/◌, ◌%◌, Bool, ◌==◌, if◌then◌else◌, List, Option}
 use Rattle.avr_exec.specs.declared.stop.BusStop.TheVariants.{Io}
-use Rattle.avr_exec.specs.Spaces.{Outcome, Went, Calls}
+use Rattle.avr_exec.specs.Spaces.{Outcome, Went, Stopped, Calls}
 use Rattle.avr_exec.specs.StackRules.{StackRule, push_on, pop_from, push_return_on, pop_return_from}
 use Rattle.flash_words.specs.Pages.{word_at}
 use Rattle.sram_layout.specs.Bytes.{byte_at, with_byte}
 use Rattle.sram_layout.specs.Regions.{whole_sram, is_within}
 use Rattle.mote_devices.specs.declared.line.Line.{Line}
 use Rattle.mote_devices.specs.State.{State, stored, with_stored, rampz_address}
-use Rattle.mote_devices.specs.Accesses.{Asked, read, write, modify as modify_device}
-use Rattle.mote_core.specs.DeviceAnswers.{read_answer, write_answer}
+use Rattle.mote_devices.specs.Accesses.{Asked, answered_or, read, write, modify as modify_device}
 
 -- the bytes of SRAM, the devices, the words of flash, and what the last write of a device showed outside
 pub record Physical : Type 0 where
@@ -29,10 +28,10 @@ with_sram s a v = record s { sram = with_byte s.sram a v }
 
 -- what the devices answered to a read, and to a write, at data address a
 abbrev pub from_device : Physical → ℕ → Asked ℕ → Outcome Physical ℕ
-from_device s a asked = read_answer (λ next. record s { devices = next }) a asked
+from_device s a asked = answered_or (Stopped (Io a)) (λ v next. Went v (record s { devices = next })) asked
 
 abbrev pub to_device : Physical → ℕ → Asked (Option Line) → Outcome Physical (Unit {0})
-to_device s a asked = write_answer (λ line next. record s { devices = next; line = line }) a asked
+to_device s a asked = answered_or (Stopped (Io a)) (λ line next. Went tt (record s { devices = next; line = line })) asked
 
 -- the devices refuse every address at which they have no register
 unfoldable pub load : Physical → ℕ → Outcome Physical ℕ

@@ -10,16 +10,19 @@
 //! if let Plain::Wrote(line) = mote.plain_step() { .. } // an OUT to a port, say
 //! ```
 //!
+//! [`Mote::plain_step_into`] is the step of a loop of steps: it goes by the micro-operation that flash has at the pc, where
+//! that touches registers and SRAM alone (`fast_path.rt`, `specs/FastPath`), and else by the instruction.
+//!
 //! `specs/Physical` is the data space, `specs/Conditions` says which addresses it has and when a step
 //! may be made, and `specs/Step` what the step is. `proofs/NeverStops` has the law that no step which
-//! may be made stops, and `proofs/KnownSteps` the mote after LDI, OUT to a port, and CALL.
+//! may be made stops, and `proofs/OneOutcome` that a step has one outcome.
 //!
-//! `specs/Leaving` says what every step leaves, by what its instruction asks (`proofs/StepLeaves`), and
-//! `specs/QuietSteps` which steps leave all that the kernel keeps. `proofs/StepsByAnswer` makes steps
+//! `specs/QuietSteps` says which steps leave all that the kernel keeps. `proofs/StepsByAnswer` makes steps
 //! from the one answer of the space, and joins quiet ones; `proofs/QuietMemory` and `proofs/QuietCore`
 //! have a law for each instruction of stubs and templates.
 #![tactic(auto)]
 
+mod fast_path;
 mod mote;
 mod space;
 

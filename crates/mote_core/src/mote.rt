@@ -1,6 +1,6 @@
 //! The mote and its step.
 
-ghost use Rattle.std.specs.Prelude.{◌≡◌, ◌<◌, ◌≤◌, ◌^◌, true, if◌then◌else◌};
+ghost use Rattle.std.specs.Prelude.{◌≡◌, ◌<◌, ◌≤◌, ◌^◌, true};
 ghost use Rattle.avr_exec.specs.Asks.{ask_of};
 ghost use Rattle.avr_exec.specs.Execution.{exec_of, is_executed};
 ghost use Rattle.avr_exec.specs.Spaces.{Went};
@@ -8,6 +8,7 @@ ghost use Rattle.mote_core.specs.Physical.{physical_calls};
 ghost use Rattle.mote_core.specs.Conditions.{is_mapped};
 ghost use Rattle.mote_core.specs.Shown.{line_shown};
 
+use crate::fast_path::fast_step;
 use crate::space::PhysicalSpace;
 use avr_exec::{Cpu, exec_at};
 use avr_isa::Instr;
@@ -45,6 +46,7 @@ impl Mote {
     ghost use Rattle.flash_words.specs.Memory.{IsWhole};
     ghost use Rattle.swap_store.specs.Slots.{most_slots};
     ghost use Rattle.mote_core.specs.Step.{IsAtReset, cpu_at_reset, form_at, IsPlainStep};
+    ghost use Rattle.mote_core.specs.FastPath.{IsStepInto};
     ghost use Rattle.mote_devices.specs.State.{at_reset};
     ghost use Rattle.sram_layout.specs.Boot.{at_boot};
     ghost use Rattle.mote_core.specs.Conditions.{can_step};
@@ -105,7 +107,7 @@ impl Mote {
         ensures pc { result.1 ≡ self.new.cpu.pc }
         ensures whole { IsWhole self.new.flash }
     {
-        let decoded = self.flash.decoded(pc);
+        let decoded = self.flash.predecode(pc);
         execute(
             &decoded.instr,
             &mut self.cpu,
@@ -115,6 +117,38 @@ impl Mote {
             pc,
             decoded.next_size,
         )
+    }
+
+    /// The same, where the line that the step shows, if any, goes into `line`, and else stays: so the new pc alone is told. It
+    /// goes by the micro-operation that flash has at the pc, where the fast path knows that.
+    #[inline(always)]
+    pub fn plain_step_into(&mut self, pc: u16, line: &mut Option<Line>) -> u16
+        requires at { pc ≡ self.old.cpu.pc }
+        requires step { can_step (form_at self.old) self.old.cpu ≡ true }
+        requires room { self.old.devices.polls < 2 ^ 63 }
+        ensures step { IsStepInto self.old line.old self.new line.new }
+        ensures pc { result ≡ self.new.cpu.pc }
+    {
+        match fast_step(self.flash.micro_op(pc), &mut self.cpu, &mut self.sram, pc) {
+            Some(next) => next,
+            None => self.slow_step_into(pc, line),
+        }
+    }
+
+    /// The same by the instruction, whichever it is.
+    #[inline(never)]
+    fn slow_step_into(&mut self, pc: u16, line: &mut Option<Line>) -> u16
+        requires at { pc ≡ self.old.cpu.pc }
+        requires step { can_step (form_at self.old) self.old.cpu ≡ true }
+        requires room { self.old.devices.polls < 2 ^ 63 }
+        ensures step { IsStepInto self.old line.old self.new line.new }
+        ensures pc { result ≡ self.new.cpu.pc }
+    {
+        let (shown, next) = self.plain_step_at(pc);
+        if let Plain::Wrote(written) = shown {
+            *line = Some(written);
+        }
+        next
     }
 }
 

@@ -1,7 +1,7 @@
 //! The physical data space, and the program in flash.
 
 ghost use Rattle.std.specs.Prelude.{◌≡◌};
-ghost use Rattle.mote_core.specs.Physical.{is_sram as is_sram_test, half_of};
+ghost use Rattle.mote_core.specs.Physical.{half_of};
 
 use avr_exec::{Bus, BusStop};
 use flash_model::Flash;
@@ -18,15 +18,8 @@ pub(crate) struct PhysicalSpace<'a> {
     pub(crate) line: Option<Line>,
 }
 
-/// Whether SRAM has a byte at this data address.
-pub(crate) fn is_sram(a: u16) -> bool
-    ensures value { result ≡ is_sram_test a }
-{
-    0x0100 <= a && a <= 0x10FF
-}
-
 impl Bus for PhysicalSpace<'_> {
-    ghost use Rattle.std.specs.Prelude.{ℕ, ◌<◌, ◌^◌};
+    ghost use Rattle.std.specs.Prelude.{◌<◌, ◌^◌};
     ghost use Rattle.std.specs.Borrow.{GName};
     ghost use Rattle.flash_words.specs.Memory.{Memory};
     ghost use Rattle.mote_core.specs.Physical.{Physical, physical_calls};
@@ -46,7 +39,7 @@ impl Bus for PhysicalSpace<'_> {
     #[tactic(auto, unfolding(crate::specs::Physical::load))]
     #[inline(always)]
     fn load(&mut self, a: u16) -> Result<u8, BusStop> {
-        if is_sram(a) {
+        if Sram::has(a) {
             Ok(self.sram.byte(a))
         } else {
             self.devices.read(a).map_err(stop_of)
@@ -56,7 +49,7 @@ impl Bus for PhysicalSpace<'_> {
     #[tactic(auto, unfolding(crate::specs::Physical::store))]
     #[inline(always)]
     fn store(&mut self, a: u16, v: u8) -> Result<(), BusStop> {
-        if is_sram(a) {
+        if Sram::has(a) {
             self.sram.set(a, v);
         } else {
             self.line = self.devices.write(a, v).map_err(stop_of)?;
@@ -73,7 +66,7 @@ impl Bus for PhysicalSpace<'_> {
     #[tactic(auto, unfolding(crate::specs::Physical::push))]
     #[inline(always)]
     fn push(&mut self, sp: u16, v: u8) -> Result<(), BusStop> {
-        if !is_sram(sp) {
+        if !Sram::has(sp) {
             return Err(BusStop::Io(sp));
         }
         self.sram.set(sp, v);
@@ -84,7 +77,7 @@ impl Bus for PhysicalSpace<'_> {
     #[inline(always)]
     fn pop(&mut self, sp: u16) -> Result<u8, BusStop> {
         let a = sp.wrapping_add(1);
-        if !is_sram(a) {
+        if !Sram::has(a) {
             return Err(BusStop::Io(a));
         }
         Ok(self.sram.byte(a))
@@ -94,10 +87,10 @@ impl Bus for PhysicalSpace<'_> {
     #[inline(always)]
     fn push_ret(&mut self, sp: u16, ret: u16) -> Result<(), BusStop> {
         let below = sp.wrapping_sub(1);
-        if !is_sram(sp) {
+        if !Sram::has(sp) {
             return Err(BusStop::Io(sp));
         }
-        if !is_sram(below) {
+        if !Sram::has(below) {
             return Err(BusStop::Io(below));
         }
         self.sram.set_return(sp, ret);
@@ -109,10 +102,10 @@ impl Bus for PhysicalSpace<'_> {
     fn pop_ret(&mut self, sp: u16) -> Result<u16, BusStop> {
         let high = sp.wrapping_add(1);
         let low = sp.wrapping_add(2);
-        if !is_sram(high) {
+        if !Sram::has(high) {
             return Err(BusStop::Io(high));
         }
-        if !is_sram(low) {
+        if !Sram::has(low) {
             return Err(BusStop::Io(low));
         }
         Ok(u16::from(self.sram.byte(high)) * 256 + u16::from(self.sram.byte(low)))

@@ -19,6 +19,11 @@ pub data Asked (A : Type 0) : Type 0 where
   Gave : A → State → Asked A
   Refused : Asked A
 
+-- what is made of an answer and the state after it; where the access isn't allowed, what stands for that
+abbrev pub answered_or : {A B : Type 0} → B → (A → State → B) → Asked A → B
+answered_or refused given (Gave answer next) = given answer next
+answered_or refused given Refused = refused
+
 -- what a call's result and the state after it tell
 abbrev pub device_answer : {A : Type 0} → Result A IoStop → State → Asked A
 device_answer (Ok answer) next = Gave answer next

@@ -2,7 +2,7 @@
 use Rattle.std.specs.Prelude.{ℕ, ◌+◌, List, slice_index, slice_set}
 use Rattle.input_script.specs.declared.input.Event.{Event}
 use Rattle.mote_devices.specs.Inputs.{Received, at_poll, unreceived}
-use Rattle.list_parts.specs.Lists.{zeros}
+use Rattle.base_laws.specs.Lists.{zeros}
 
 -- The bytes of the registers that store, by data address; what the devices have received; and how many
 -- polls were made.

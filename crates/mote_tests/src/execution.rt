@@ -1,7 +1,7 @@
 //! Programs of each group of instructions, with values from the AVR Instruction Set Manual. Each is a list of
 //! lines: what is set, the words of an instruction that is executed, and what is seen then.
 
-ghost use Rattle.std.specs.Prelude.{◌≡◌, ◌≤◌, IsTrue};
+ghost use Rattle.std.specs.Prelude.{◌≡◌};
 ghost use Rattle.avr_exec.specs.Execution.{is_executed as is_executed_form};
 
 use crate::board::{Memory, execute_over};

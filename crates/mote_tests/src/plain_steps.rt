@@ -1,7 +1,6 @@
 //! Plain steps of the mote.
 
-ghost use Rattle.std.specs.Prelude.{◌≡◌, true, IsTrue};
-ghost use Rattle.avr_exec.specs.Asks.{ask_of};
+ghost use Rattle.std.specs.Prelude.{◌≡◌};
 ghost use Rattle.mote_core.specs.Conditions.{can_step, is_mapped as is_mapped_test};
 ghost use Rattle.mote_core.specs.Physical.{is_sram as is_sram_test};
 ghost use Rattle.mote_core.specs.Step.{form_at};

@@ -2,6 +2,7 @@
 use Rattle.std.proofs.Common.{◌≡◌, ℕ, suc, ◌+◌, ◌*◌, true, false, cond, eqb, List, arith, refl, sym, ap, ◌∙◌}
 use Rattle.std.specs.Prelude.{◌≢◌, not}
 use Rattle.std.proofs.lemmas.Bool.Decides.{nat_tests}
+use Rattle.std.proofs.lemmas.Bool.{ne_eqb}
 use Rattle.flash_words.specs.Pages.{word_at}
 use Rattle.nat_page.specs.Used.{is_used, used_among}
 
@@ -13,16 +14,13 @@ used_more : (words : List ℕ) (first n : ℕ) → used_among words first (n + 1
 unfolding used_among
 used_more words first n = let one : n + 1 ≡ suc n = omega arith in ap (used_among words first) one
 
-unlike : (a b : ℕ) → a ≢ b → eqb a b ≡ false
-unlike a b apart = grind (arith, nat_tests)
-
 like : (a b : ℕ) → a ≡ b → eqb a b ≡ true
 like a b same = grind (arith, nat_tests)
 
 pub one_more : (words : List ℕ) (first n w : ℕ) → w ≡ word_at words (128 * (first + n)) → w ≢ 0xFFFF → used_among words first (n + 1) ≡ used_among words first n + 1
 one_more words first n w is apart =
     let here : word_at words (128 * (first + n) + 0) ≡ w = ap (word_at words) (omega arith) ∙ sym is in
-    let yes' : is_used words (first + n) ≡ true = ap (λ v. not (eqb v 0xFFFF)) here ∙ ap not (unlike w 0xFFFF apart) in
+    let yes' : is_used words (first + n) ≡ true = ap (λ v. not (eqb v 0xFFFF)) here ∙ ap not (ne_eqb w 0xFFFF apart) in
     used_more words first n ∙ ap (λ b. cond b 1 0 + used_among words first n) yes' ∙ omega arith
 
 pub no_more : (words : List ℕ) (first n w : ℕ) → w ≡ word_at words (128 * (first + n)) → w ≡ 0xFFFF → used_among words first (n + 1) ≡ used_among words first n

@@ -1,8 +1,6 @@
 -- What stands at an entry, and behind it.
-use Rattle.std.proofs.Common.{◌≡◌, ℕ, suc, ◌+◌, ◌*◌, ◌/◌, ◌<◌, ◌≤◌, false, List, length, arith, sym, ◌∙◌, inl, inr, subst}
+use Rattle.std.proofs.Common.{◌≡◌, ℕ, suc, ◌+◌, ◌*◌, ◌/◌, ◌<◌, ◌≤◌, List, length, arith, sym, ◌∙◌, inl, inr, subst}
 use Rattle.std.proofs.lemmas.Bool.{cases_lt}
-use Rattle.std.proofs.lemmas.Bool.Decides.{nat_tests}
-use Rattle.avr_isa.specs.Crossing.{is_crossing}
 use Rattle.flash_words.specs.Pages.{page_words}
 use Rattle.flash_words.specs.Layouts.{IsRight}
 use Rattle.flash_words.specs.declared.layout.Layout.{Layout}
@@ -15,15 +13,11 @@ use Rattle.page_draft.specs.CodePages.{page_pieces, place_in_page, HoldsRun}
 use Rattle.nat_page.specs.Links.{IsLinkOf, IsLinkIn, EachLink}
 use Rattle.nat_page.specs.Entered.{HasNoPlace, page_end, HasNext, IsLast, Behind, StandsIn}
 use Rattle.nat_page.specs.Faithful.{IsFaithful}
-use Rattle.page_draft.proofs.RunLaws.{address-rises, size-templates, page_size-is}
+use Rattle.page_draft.proofs.RunLaws.{address-rises, size-templates, page_size-is, uncounted}
 use Rattle.nat_page.proofs.HeldLaws.{parts_of, template_stands, place_range, place_held, count_held, lists_held, held_listed, map_held}
 use Rattle.nat_page.proofs.LinkLaws.{each_link_more, page_links}
 use Rattle.nat_page.proofs.PlaceLaws.{between_entries, behind_last}
 use Rattle.nat_page.proofs.FaithfulLaws.{faithful_mapped}
-
--- a step onward in one original page
-uncounted : (from to : ℕ) → from < to → to / 128 ≡ from / 128 → is_crossing from to ≡ false
-uncounted from to forward paged = grind (arith, nat_tests)
 
 -- an entry of an address of the run is one where its links may lead
 abbrev pub OwnLead : (leads : ℕ → ℕ → Type 0) (layout : Layout) (image words : List ℕ) (t last : ℕ) → Type 0
@@ -135,11 +129,4 @@ entry_law layout image words a v right code entry = elim (code.pages entry.page 
   | inl free ↦ absurd (free_lists_nothing words entry.page entry.index a v free entry.lists)
   | inr run ↦
       entry_stands layout image words entry.page run.first run.last entry.index a v (omega (arith, code.image_length, right.image_fits)) (faithful_mapped layout image words right code) entry.pool run.holds entry.lists
-]
-
--- no other entry begins inside a template
-pub template_alone : (leads links : ℕ → ℕ → Type 0) (layout : Layout) (image words : List ℕ) (a v : ℕ) → StandsIn leads links layout image words a v → HasNoPlace layout words v (v + size (template_at image a))
-template_alone leads links layout image words a v stands = elim stands.behind [
-  | Behind.Next next ↦ next.alone
-  | Behind.Closed last ↦ λ w above below. last.alone w above (omega (arith, last.fits))
 ]

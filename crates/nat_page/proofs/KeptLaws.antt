@@ -94,14 +94,6 @@ kept_free layout image words words' page t last other keeps low free = elim (cas
   | inr apart ↦ change.free_alike words words' other (keeps.others other apart) (omega (arith, keeps.whole)) (omega (arith, keeps.whole')) free
 ]
 
-pub kept_free_back : (layout : Layout) (image words words' : List ℕ) (page t last other : ℕ) → KeepsRun layout image words words' page t last → other < 480 → IsFree words' other → IsFree words other
-kept_free_back layout image words words' page t last other keeps low free = elim (cases_eq other page) [
-  | inl same ↦ (
-      let P : ℕ → Type 0 = λ p. IsFree words' p in
-      absurd (held_used (IsEntry layout words) image words' page t last keeps.short keeps.new (subst P same free)))
-  | inr apart ↦ change.free_alike words' words other (change.same_back words words' other (keeps.others other apart)) (omega (arith, keeps.whole')) (omega (arith, keeps.whole)) free
-]
-
 -- words outside the page stay
 pub kept_word : (layout : Layout) (image words words' : List ℕ) (page t last a : ℕ) → KeepsRun layout image words words' page t last → a / page_words ≢ page → word_at words' a ≡ word_at words a
 kept_word layout image words words' page t last a keeps apart =

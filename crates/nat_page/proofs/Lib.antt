@@ -12,7 +12,7 @@ pub mod KeptLaws
 pub mod RelinkLaws
 pub mod PartLaws
 pub mod UsedLaws
-mod OnePage
+pub mod OnePage
 pub mod UnlinkLaws
 mod PatchLaws
 pub mod WalkLaws

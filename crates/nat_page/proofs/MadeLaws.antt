@@ -4,15 +4,14 @@ use Rattle.std.specs.Prelude.{◌≢◌, slice_index}
 use Rattle.std.proofs.lemmas.Bool.{cases_eq}
 use Rattle.std.proofs.lemmas.List.{length-append, get_or_append_left, get_or-append_right}
 use Rattle.flash_words.specs.Pages.{word_count, page_words, word_at, set_page}
-use Rattle.list_parts.specs.Lists.{many}
+use Rattle.base_laws.specs.Lists.{many}
 use Rattle.flash_words.specs.Layouts.{IsRight, image_of}
 use Rattle.flash_words.specs.declared.layout.Layout.{Layout}
 use Rattle.flash_words.proofs.PageLaws.{length-set_page, word_in_page, word_out_of_page, take-set_page}
-use Rattle.list_parts.proofs.ManyLaws.{get_or-many, length-many}
+use Rattle.base_laws.proofs.ManyLaws.{get_or-many, length-many}
 use Rattle.nat_template.specs.Stubs.{words_of}
 use Rattle.page_index.specs.Maps.{IsPool, IsFree}
 use Rattle.page_index.specs.Entries.{Lists, IsEntry}
-use Rattle.page_index.proofs.MapLaws.{free_lists_nothing}
 use Rattle.page_index.proofs.ChangeLaws as change
 use Rattle.page_draft.specs.Runs.{address, IsRun}
 use Rattle.page_draft.specs.CodePages.{page_pieces, page_size, HoldsRun, filled, made_words}
@@ -81,22 +80,12 @@ fits_of layout image words page t last right code pool run fits =
 new_run : (leads : ℕ → ℕ → Type 0) (image words : List ℕ) (page t last : ℕ) → Fits image words page t last → HoldsRun leads image (set_page words page (filled (words_of (page_pieces image t last)))) page t last
 new_run leads image words page t last made = holds_made leads image words page t last made.whole made.low made.run made.fits
 
--- what every page lists stays, since a free page lists nothing
-lists_stay : (words new : List ℕ) (page other i a v : ℕ) → length new ≡ page_words → page_words * page + page_words ≤ length words → IsFree words page → Lists words other i a v → Lists (set_page words page new) other i a v
-lists_stay words new page other i a v fits inside free lists =
-    let P : ℕ → Type 0 = λ p. Lists words p i a v in
-    let apart : other ≢ page = λ same. free_lists_nothing words page i a v free (subst P same lists) in
-    change.lists_alike words (set_page words page new) other i a v (change.page_left words new page other fits inside apart) lists
-
 -- another page holds its run still
 other_stays : (layout : Layout) (image words new : List ℕ) (page other t last : ℕ) → length new ≡ page_words
     → page_words * page + page_words ≤ length words → IsFree words page → other ≢ page → HoldsRun (IsEntry layout words) image words other t last
     → HoldsRun (IsEntry layout (set_page words page new)) image (set_page words page new) other t last
 other_stays layout image words new page other t last fits inside free apart holds =
     holds_alike (IsEntry layout words) (IsEntry layout (set_page words page new)) image words (set_page words page new) other t last (λ a v entry. change.entry_stays layout words new page a v fits inside free entry) (change.page_left words new page other fits inside apart) holds
-
-unequal : (a b : ℕ) → a ≢ b → b ≤ a → b < a
-unequal a b apart above = omega arith
 
 -- the pool with the page that is made, where flash is told
 made_faithful : (layout : Layout) (image words : List ℕ) (page t last : ℕ) → IsRight layout → IsFaithful layout image words → IsPool layout page

@@ -16,10 +16,11 @@ use Rattle.page_index.proofs.ChangeLaws.{SamePage}
 use Rattle.page_draft.specs.Standing.{IsLink, StandsAt, Stands, size, jump_word}
 use Rattle.page_draft.specs.CodePages.{page_pieces, HoldsRun}
 use Rattle.nat_page.specs.Links.{with_two_words}
-use Rattle.nat_page.specs.Unlinking.{is_picked, links_where, with_calls}
+use Rattle.nat_page.specs.Unlinking.{is_picked, links_where, with_calls, are_some}
 use Rattle.page_draft.proofs.PieceLaws.{size-cons, stands_same}
 use Rattle.nat_page.proofs.TwoWords.{length-with_two_words, first_of_two, second_of_two, word_beside_two, two_in_page}
 use Rattle.nat_page.proofs.KeptLaws.{KeepsRun}
+use Rattle.base_laws.proofs.Numbers.{unequal}
 
 by_test : (b : Bool) (P : Bool → Type 0) → P true → P false → P b
 by_test test P one other = elim test as P [
@@ -32,8 +33,10 @@ abbrev pub Each : (ℕ → Type 0) → List ℕ → Type 0
 Each P [] = Unit {0}
 Each P (s ∷ stubs) = P s × Each P stubs
 
-unequal : (a b : ℕ) → a ≢ b → b ≤ a → b < a
-unequal a b apart above = omega arith
+-- without stubs nothing changes
+pub no_stubs : (words stubs : List ℕ) → are_some stubs ≡ false → with_calls words stubs ≡ words
+no_stubs words [] none = refl
+no_stubs words (s ∷ stubs) none = absurd (cc)
 
 pub length-with_calls : (words stubs : List ℕ) → length (with_calls words stubs) ≡ length words
 length-with_calls words [] = refl

@@ -45,7 +45,7 @@ same_used words words' page same = sym (ap (λ w. not (w == 0xFFFF)) (same.word 
 counted : (used used' : Bool) (n m : ℕ) → used ≡ used' → n ≡ m → (if used then 1 else 0) + n ≡ (if used' then 1 else 0) + m
 counted used used' n m head tail = ap₂ (λ b k. (if b then 1 else 0) + k) head tail
 
-at_most : (used : Bool) (n m : ℕ) → m ≤ n → (if used then 1 else 0) + m ≤ suc n
+pub at_most : (used : Bool) (n m : ℕ) → m ≤ n → (if used then 1 else 0) + m ≤ suc n
 at_most true n m below = omega arith
 at_most false n m below = omega arith
 

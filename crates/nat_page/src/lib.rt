@@ -33,7 +33,5 @@ mod using;
 
 pub use image::FlashImage;
 pub use making::{NatStop, Prepared, naturalise, prepare, prepare_with};
-pub use unlinking::{
-    LeadsInto, LinkTest, Unlinked, may_have_stubs_into, page_words, without_links,
-};
+pub use unlinking::{LeadsInto, LinkTest, Unlinked, page_words, without_links};
 pub use using::pages_in_use;

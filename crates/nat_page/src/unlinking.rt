@@ -9,7 +9,7 @@ ghost use Rattle.page_index.specs.Maps.{IsPool};
 ghost use Rattle.page_draft.specs.Standing.{size};
 ghost use Rattle.page_draft.specs.CodePages.{IsCodePage};
 ghost use Rattle.nat_page.specs.Links.{with_two_words};
-ghost use Rattle.nat_page.specs.Unlinking.{leads_into, is_picked, links_where, with_calls, stubs_where, stubs_into, are_some, IsPatched};
+ghost use Rattle.nat_page.specs.Unlinking.{leads_into, is_picked, links_where, with_calls, stubs_where, are_some, IsPatched};
 
 use crate::image::FlashImage;
 use flash_model::{Flash, Layout, PAGE_WORDS};
@@ -76,17 +76,6 @@ pub fn without_links<L: LinkTest>(flash: &Flash, layout: &Layout, page: u16, lin
         unlink(flash, links, page, &pieces, &mut patch);
     }
     patch
-}
-
-/// Whether the page may have a stub that jumps into the victim: flash keeps that it may have such a jump. A used page
-/// of which this isn't so need not be walked along.
-pub fn may_have_stubs_into(flash: &Flash, layout: &Layout, victim: u16, page: u16) -> bool
-    requires right { IsRight layout.now }
-    requires image { length (image_of layout.now flash.now.words) ≡ layout.now.image_words }
-    requires pool { IsPool layout.now page }
-    ensures none { result ≡ false → IsCodePage (image_of layout.now flash.now.words) flash.now.words page → are_some (stubs_into (image_of layout.now flash.now.words) flash.now.words victim page) ≡ false }
-{
-    flash.may_jump_into(page, victim)
 }
 
 /// Puts a call into each link of the page's pieces that the test picks.

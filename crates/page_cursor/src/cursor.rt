@@ -1,6 +1,6 @@
 //! The search for a place, for control that mostly goes on within one page, or comes again.
 
-ghost use Rattle.std.specs.Prelude.{◌≡◌, ℕ, ◌%◌, ◌<◌, IfSome};
+ghost use Rattle.std.specs.Prelude.{◌≡◌, ℕ, ◌%◌, IfSome};
 ghost use Rattle.flash_words.specs.Layouts.{IsRight};
 ghost use Rattle.page_index.specs.Entries.{IsEntry, IsMapped};
 ghost use Rattle.page_cursor.specs.Cursors.{IsStretch, IsCursor, IsCursorAnywhere};

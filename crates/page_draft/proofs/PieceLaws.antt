@@ -50,9 +50,6 @@ stands_fixed leads words (word ∷ fixed) a (suc k) all below =
     ap (word_at words) here ∙ stands_fixed leads words fixed (a + 1) k all.1 (omega arith)
 
 -- words that are those of the pieces, with no link resolved
-shifted : (words row : List ℕ) (a n : ℕ) → ((k : ℕ) → k < n + length row → word_at words (a + k) ≡ get_or row k 0) → (k : ℕ) → k < length row → word_at words (a + k) ≡ get_or row k 0
-shifted words row a n agree k below = agree k (omega arith)
-
 pub stands_unresolved : (leads : ℕ → ℕ → Type 0) (words : List ℕ) (a : ℕ) (pieces : List Piece) → ((k : ℕ) → k < size pieces → word_at words (a + k) ≡ get_or (words_of pieces) k 0) → Stands leads words a pieces
 stands_unresolved leads words a [] agree = tt
 stands_unresolved leads words a (Fixed word ∷ pieces) agree =

@@ -78,16 +78,17 @@ page_size-is image t last =
     let whole = size-append (map (λ word. Fixed word) words) (code image t last) in
     omega (arith, whole, size-fixed words, length-map_words image t (suc last), size-code image t last)
 
--- a page with more instructions of a run has no fewer words
-plain_step : (from to : ℕ) → from < to → to / 128 ≡ from / 128 → is_crossing from to ≡ false
-plain_step from to forward paged = grind (arith, nat_tests)
+-- a step onward in one original page is no crossing
+pub uncounted : (from to : ℕ) → from < to → to / 128 ≡ from / 128 → is_crossing from to ≡ false
+uncounted from to forward paged = grind (arith, nat_tests)
 
+-- a page with more instructions of a run has no fewer words
 page_grows : (image : List ℕ) (t last : ℕ) → IsRun image t (suc last) → page_size image t last ≤ page_size image t (suc last)
 page_grows image t last run =
     let here = address image t last in
     let next = address image t (suc last) in
     let same : next / 128 ≡ here / 128 = run.paged (suc last) (omega arith) ∙ sym (run.paged last (omega arith)) in
-    let plain = plain_range (is_closed (shape_at image here)) here next (plain_step here next (address-rises image t last (suc last) (omega arith)) same) in
+    let plain = plain_range (is_closed (shape_at image here)) here next (uncounted here next (address-rises image t last (suc last) (omega arith)) same) in
     let more = size-templates image t (suc last) in
     let behind = closing_at-range image next in
     omega (arith, page_size-is image t last, page_size-is image t (suc last))

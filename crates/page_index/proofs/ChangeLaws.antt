@@ -12,6 +12,7 @@ use Rattle.flash_words.proofs.LoadedLaws.{loaded_page}
 use Rattle.page_index.specs.Maps.{IsPool, page_word, entry_count, address_of, place_of, IsFree, IsMap}
 use Rattle.page_index.specs.Entries.{Lists, IsEntry, IsMapped}
 use Rattle.page_index.proofs.MapLaws.{map_bound, free_lists_nothing, same_address}
+use Rattle.base_laws.proofs.Numbers.{unequal}
 
 -- the page has the same words in both
 pub record SamePage (words words' : List ℕ) (page : ℕ) : Type 0 where
@@ -57,9 +58,6 @@ map_alike words words' page same map =
 pub free_alike : (words words' : List ℕ) (page : ℕ) → SamePage words words' page → page_words * page + page_words ≤ length words → page_words * page + page_words ≤ length words' → IsFree words page → IsFree words' page
 free_alike words words' page same inside inside' free =
     sym (pages.page_alike words words' page page same.word inside inside') ∙ free
-
-unequal : (a b : ℕ) → a ≢ b → b ≤ a → b < a
-unequal a b apart above = omega arith
 
 -- a page set leaves every other page
 pub page_left : (words new : List ℕ) (page other : ℕ) → length new ≡ page_words → page_words * page + page_words ≤ length words → other ≢ page → SamePage words (set_page words page new) other
@@ -134,9 +132,6 @@ free_mapped layout words free = record {
   pages = λ page pool. inl (free page pool);
   once = λ page page' i i' t v v' pool pool' lists lists'. absurd (free_lists_nothing words page i t v (free page pool) lists);
 }
-
-pub free_has_no_entry : (layout : Layout) (words : List ℕ) (t v : ℕ) → ((page : ℕ) → IsPool layout page → IsFree words page) → IsEntry layout words t v → ⊥
-free_has_no_entry layout words t v free entry = free_lists_nothing words entry.page entry.index t v (free entry.page entry.pool) entry.lists
 
 -- the pool of a new flash has only free pages
 pub new_flash_free : (layout : Layout) (image : List ℕ) (page : ℕ) → IsRight layout → length image ≤ layout.image_words → IsPool layout page → IsFree (loaded image) page

@@ -1,10 +1,10 @@
 -- What the map of a page says of its entries. words is the list of flash's words.
-use Rattle.std.proofs.Common.{◌≡◌, ℕ, zero, suc, ◌+◌, ◌/◌, ◌%◌, ◌<◌, ◌⊎◌, List, arith, refl, sym, subst, ap, ◌∙◌, inl, inr}
+use Rattle.std.proofs.Common.{◌≡◌, ℕ, ◌+◌, ◌/◌, ◌%◌, ◌<◌, ◌⊎◌, List, arith, refl, sym, ap, ◌∙◌, inl, inr}
 use Rattle.std.specs.Prelude.{◌≢◌, slice_index}
-use Rattle.std.proofs.lemmas.Bool.{cases_lt, cases_order}
+use Rattle.std.proofs.lemmas.Bool.{cases_order}
 use Rattle.flash_words.specs.Pages.{page_words, blank}
 use Rattle.flash_words.proofs.PageLaws as pages
-use Rattle.list_parts.proofs.ManyLaws.{get_or-many}
+use Rattle.base_laws.proofs.ManyLaws.{get_or-many}
 use Rattle.page_index.specs.Maps.{page_word, original_page, entry_count, address_of, place_of, IsFree, IsMap}
 use Rattle.page_index.specs.Entries.{Lists}
 
@@ -72,14 +72,3 @@ same_place words page i j t t' v map one other = elim (cases_order i j) [
   | inr (inl lower) ↦ absurd (omega (arith, (map.ascending i j lower other.listed).1, one.place, other.place))
   | inr (inr higher) ↦ absurd (omega (arith, (map.ascending j i higher one.listed).1, one.place, other.place))
 ]
-
--- numbers that rise from each to the next rise from each to every later one
-pub ascends : (f : ℕ → ℕ) (n : ℕ) → ((k : ℕ) → k + 1 < n → f k < f (k + 1)) → (i j : ℕ) → i < j → j < n → f i < f j
-ascends f n next i zero lower below = absurd (omega arith)
-ascends f n next i (suc j) lower below =
-    let one_more : j + 1 ≡ suc j = omega arith in
-    let last : f j < f (suc j) = let P : ℕ → Type 0 = λ k. f j < f k in subst P one_more (next j (omega arith)) in
-    elim (cases_lt i j) [
-      | inl earlier ↦ let before : f i < f j = ascends f n next i j earlier (omega arith) in omega arith
-      | inr level ↦ let same : j ≡ i = omega arith in let P : ℕ → Type 0 = λ k. f k < f (suc j) in subst P same last
-    ]

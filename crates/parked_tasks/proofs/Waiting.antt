@@ -1,7 +1,8 @@
 -- The tasks at boot.
 use Rattle.std.proofs.Common.{◌≡◌, ℕ, zero, suc, ◌+◌, ◌*◌, ◌<◌, ◌≤◌, List, [], ◌∷◌, length, refl, sym, ap, ◌∙◌, arith}
-use Rattle.std.specs.Prelude.{Option, Some, None, slice_get}
+use Rattle.std.specs.Prelude.{Some, None, slice_get}
 use Rattle.std.proofs.lemmas.List.FromFn.{length-map-range_with_len}
+use Rattle.std.proofs.lemmas.Option.{same_Some}
 use Rattle.avr_isa.specs.Image.{word}
 use Rattle.sram_layout.specs.Boot.{at_boot}
 use Rattle.sram_layout.specs.Bytes.{byte_count}
@@ -29,14 +30,11 @@ pub record IsWaiting (task : ℕ) (scripts : List Schedule) (quantum slots k : �
   pub is : its ≡ at_start (task + k) (Some (parked_at_boot script quantum slots))
   pub below : k < length scripts
 
-pub some_task : (a b : Task) → ◌≡◌ {A = Option Task} (Some a) (Some b) → a ≡ b
-some_task a b is = cc
-
 pub waiting_at : (task : ℕ) (scripts : List Schedule) (quantum slots k : ℕ) (its : Task) → slice_get (waiting_from task scripts quantum slots) k ≡ Some its → IsWaiting task scripts quantum slots k its
 waiting_at task [] quantum slots k its is = absurd (cc)
 waiting_at task (script ∷ scripts) quantum slots zero its is =
     let at : task ≡ task + 0 = omega arith in
-    record { script = script; is = sym (some_task _ _ is) ∙ ap (λ i. at_start i (Some (parked_at_boot script quantum slots))) at; below = omega arith }
+    record { script = script; is = sym (same_Some _ _ is) ∙ ap (λ i. at_start i (Some (parked_at_boot script quantum slots))) at; below = omega arith }
 waiting_at task (script ∷ scripts) quantum slots (suc k) its is =
     let rest = waiting_at (task + 1) scripts quantum slots k its is in
     let at : task + 1 + k ≡ task + suc k = omega arith in

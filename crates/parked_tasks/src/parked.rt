@@ -37,7 +37,7 @@ pub struct Parked {
 
 impl Parked {
     /// What is parked of a task at boot, with its script, the quantum in COUNT, and this many swap slots.
-    #[tactic(auto, unfolding(list_parts::specs::Lists::many))]
+    #[tactic(auto, unfolding(base_laws::specs::Lists::many))]
     pub(crate) fn at_boot(
         alloc: Global,
         script: Script,

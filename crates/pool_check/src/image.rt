@@ -1,7 +1,5 @@
 //! An image as its words.
 
-ghost use Rattle.std.specs.Prelude.{◌≡◌, length};
-
 use page_draft::ImageWords;
 
 /// The image with these words.

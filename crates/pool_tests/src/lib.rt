@@ -2,6 +2,10 @@
 #![tactic(auto)]
 
 #[cfg(test)]
+mod arrivals;
+#[cfg(test)]
+mod dumps;
+#[cfg(test)]
 mod page_maps;
 #[cfg(test)]
 mod pool_pages;

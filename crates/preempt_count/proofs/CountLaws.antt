@@ -1,7 +1,6 @@
 -- What a counted step leaves of SRAM: COUNT, every other byte, and the number of bytes.
 use Rattle.std.proofs.Common.{◌≡◌, ℕ, ◌<◌, ◌≤◌, Bool, true, false, cond, List, length, refl, arith}
 use Rattle.std.specs.Prelude.{◌≢◌}
-use Rattle.std.proofs.lemmas.Bool.Decides.{nat_tests}
 use Rattle.avr_isa.specs.Crossing.{is_crossing}
 use Rattle.sram_layout.specs.Bytes.{byte_at, with_byte}
 use Rattle.sram_layout.specs.Cells.{count_cell}
@@ -16,10 +15,6 @@ count_by false m v some = refl
 pub count_crossed : (q pc t : ℕ) (m : List ℕ) → 0 < length m → byte_at (crossed q pc t m) count_cell ≡ count_over q pc t (byte_at m count_cell)
 unfolding crossed
 count_crossed q pc t m some = count_by (is_crossing pc t) m (count_after q (byte_at m count_cell)) some
-
--- it stays from 1 to the quantum
-pub count_stays : (q pc t count : ℕ) → 1 ≤ count → count ≤ q → (1 ≤ count_over q pc t count) × (count_over q pc t count ≤ q)
-count_stays q pc t count some most = (grind (arith, nat_tests), grind (arith, nat_tests))
 
 -- every other byte
 other_by : (b : Bool) (m : List ℕ) (v a : ℕ) → 0x0100 ≤ a → a ≢ count_cell → byte_at (cond b (with_byte m count_cell v) m) a ≡ byte_at m a

@@ -138,7 +138,8 @@ end_in : (x : State) (refused : Option Refused) → refused ≡ None → ((settl
 end_in x None is = (refl, refl)
 end_in x (Some refused) is = absurd (cc)
 
-pc_in : (x : State) (place : Option ℕ) (refused : Option Refused) (v : ℕ) → place ≡ Some v → (mote_of (settled_by (placed x place) refused)).cpu.pc ≡ v
+-- where the pc stands behind an arrival that has a place
+pub pc_in : (x : State) (place : Option ℕ) (refused : Option Refused) (v : ℕ) → place ≡ Some v → (mote_of (settled_by (placed x place) refused)).cpu.pc ≡ v
 pc_in x None refused v is = absurd (cc)
 pc_in x (Some place) None v is = (let e : place ≡ v = cc in e)
 pc_in x (Some place) (Some refused) v is = (let e : place ≡ v = cc in e)

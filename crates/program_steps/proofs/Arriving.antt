@@ -15,6 +15,7 @@ use Rattle.step_laws.specs.declared.moves.Owed.{Owed}
 use Rattle.step_laws.specs.Moves.{Arrive}
 use Rattle.step_laws.specs.Numbers.{moved, one_if}
 use Rattle.step_laws.specs.States.{Awaited, admits, State, mote_of, store_of, arrived}
+use Rattle.step_laws.specs.Walks.{CanArrive}
 use Rattle.step_laws.specs.Links.{OfStub, part_number, number_of}
 use Rattle.step_laws.specs.StepLaws.{Reaches, links_at}
 use Rattle.program_steps.specs.declared.progress.Progress.{Progress}
@@ -116,7 +117,7 @@ made_recycling layout old new victim t moved (Recycles.NotUnlinked stop done sam
 made_recycling layout old new victim t moved (Recycles.NotErased unlinked done fails left forgotten is) = absurd (cc)
 made_recycling layout old new victim t moved (Recycles.Erased unlinked done fails makes) = unmade layout _ new victim t true moved makes
 
-same_found : (layout : Layout) (old new : Store) (t : ℕ) (moved : Moved) → Arrives layout old new t (Ok moved) → moved.made ≡ false → new.flash ≡ old.flash
+pub same_found : (layout : Layout) (old new : Store) (t : ℕ) (moved : Moved) → Arrives layout old new t (Ok moved) → moved.made ≡ false → new.flash ≡ old.flash
 same_found layout old new t moved (Arrives.Beyond outside same answer) none = absurd (cc)
 same_found layout old new t moved (Arrives.Found place inside found same answer) none = same
 same_found layout old new t moved (Arrives.Free page inside missed lowest makes) none = absurd (let e : true ≡ false = sym (unmade layout old new page t false moved makes) ∙ none in cc)
@@ -147,11 +148,11 @@ rest_by : (k k' : Kernel) (p : Progress) (place : Option ℕ) (made : Bool) (ref
 rest_by k k' p place made None q is = (ap (λ (x : Progress). x.at) is, ap (λ (x : Progress). x.broken) is, ap (λ (x : Progress). x.crossings) is, ap (λ (x : Progress). x.due) is)
 rest_by k k' p place made (Some refused) q is = (ap (λ (x : Progress). x.at) is, ap (λ (x : Progress). x.broken) is, ap (λ (x : Progress). x.crossings) is, ap (λ (x : Progress). x.due) is)
 
-pub has_arrived : (k : Kernel) (p q : Progress) (owed : Owed) (store : Store) (arrival : Arrival) (pc : ℕ) → p.owed ≡ Some owed → p.end ≡ None → p.torn ≡ None → IsUntaken (whole k p) → admits k.part owed.target ≡ true
+pub has_arrived : (k : Kernel) (p q : Progress) (owed : Owed) (store : Store) (arrival : Arrival) (pc : ℕ) → p.owed ≡ Some owed → p.end ≡ None → p.torn ≡ None → IsUntaken (whole k p) → admits k.part owed.target ≡ true → CanArrive (state_of (whole k p)) owed.stub owed.target
     → ArrivesFrom k.layout (store_of (state_of (whole k p))) store owed.target owed.stub arrival → KeptThrough k.layout (store_of (state_of (whole k p))) store owed.target arrival → KeepsParts k.layout (store_of (state_of (whole k p))) store owed.target owed.stub arrival
     → pc ≡ unwrap_or arrival.place k.mote.cpu.pc → q ≡ after_arrival arrival p
     → HasArrived (whole k p) (whole (record k { mote = record k.mote { cpu = record k.mote.cpu { pc = pc }; sram = store.sram; flash = store.flash } }) q)
-has_arrived k p q owed store arrival pc owes going untorn untaken admitted arrives kept parts at noted =
+has_arrived k p q owed store arrival pc owes going untorn untaken admitted can arrives kept parts at noted =
     let x = state_of (whole k p) in
     let awaited = awaits_some (whole k p) owed owes in
     let k' : ℕ → Kernel = λ v. record k { mote = record k.mote { cpu = record k.mote.cpu { pc = v }; sram = store.sram; flash = store.flash } } in
@@ -164,7 +165,7 @@ has_arrived k p q owed store arrival pc owes going untorn untaken admitted arriv
       target = owed.target;
       made = arrival.made;
       ops = ops;
-      makes = record { owed = record { target = owed.target; stub = owed.stub; due = p.due }; owes = awaited; going = going; untaken = untaken _ awaited; at = refl; own = admitted; store = store; arrival = arrival; arrives = arrives; makes = refl; tried = tried; after = state };
+      makes = record { owed = record { target = owed.target; stub = owed.stub; due = p.due }; owes = awaited; going = going; untaken = untaken _ awaited; at = refl; own = admitted; can = can; store = store; arrival = arrival; arrives = arrives; makes = refl; kept = kept; tried = tried; after = state };
       kept = kept;
       parts = parts;
       numbers = ap (λ r. numbers_of (whole (k' pc) r)) noted ∙ numbers_by k (k' pc) p owed.target ops arrival.place arrival.made arrival.refused tried;

@@ -1,11 +1,11 @@
 -- A machine whose mote is at reset, but for flash and COUNT: it is ready to go on, and stands for its program at reset.
-use Rattle.std.proofs.Common.{false, ◌≡◌, ℕ, ◌+◌, ◌-◌, ◌*◌, ◌%◌, ◌<◌, ◌≤◌, List, length, refl, sym, ap, ap₂, ◌∙◌, arith, subst, inl}
+use Rattle.std.proofs.Common.{false, ◌≡◌, ℕ, ◌-◌, ◌%◌, ◌<◌, ◌≤◌, List, length, refl, sym, ap, ap₂, ◌∙◌, arith, subst, inl}
 use Rattle.std.specs.Prelude.{◌^◌, Some, None, IfSome}
 use Rattle.std.proofs.Math.Nat.{zero-mod}
-use Rattle.list_parts.specs.Lists.{many}
-use Rattle.list_parts.proofs.ManyLaws.{length-many}
+use Rattle.base_laws.specs.Lists.{many}
+use Rattle.base_laws.proofs.ManyLaws.{length-many}
 use Rattle.sram_layout.specs.Boot.{at_boot}
-use Rattle.sram_layout.specs.Bytes.{byte_at, with_byte, data_word_at}
+use Rattle.sram_layout.specs.Bytes.{byte_at, with_byte}
 use Rattle.sram_layout.specs.Cells.{count_cell, vsp_cell}
 use Rattle.sram_layout.proofs.Laws.{byte_same, byte_other, word_out_of_byte, length-with_byte}
 use Rattle.sram_layout.proofs.BootLaws.{length-at_boot, boot_zero}
@@ -20,7 +20,7 @@ use Rattle.nat_page.specs.Parts.{IsParted}
 use Rattle.nat_page.specs.Used.{used_pages}
 use Rattle.nat_page.proofs.FaithfulLaws.{new_flash_faithful}
 use Rattle.nat_page.proofs.UsedLaws.{none_used, used_pages-most}
-use Rattle.addr_tables.proofs.TableLaws.{boot_tables, tables_kept}
+use Rattle.addr_tables.proofs.TableLaws.{boot_tables, tables_kept, boot_word}
 use Rattle.branch_bridge.specs.Arrivals.{ring_of}
 use Rattle.heap_frames.proofs.BootLaws.{boot_paged}
 use Rattle.input_script.specs.Script.{Schedule}
@@ -95,12 +95,8 @@ count_begun quantum = byte_same at_boot count_cell quantum (omega arith) (omega 
 pointer_begun : (quantum : ℕ) → byte_at (begun_bytes quantum) vsp_cell ≡ 0
 pointer_begun quantum = byte_other at_boot count_cell vsp_cell quantum (omega arith) (omega arith) (λ e. omega arith) ∙ boot_zero vsp_cell (omega arith) (omega arith) (inl (omega arith))
 
-zero_word : (a : ℕ) → 0x0100 ≤ a → a + 1 < 0x0400 → data_word_at at_boot a ≡ 0
-unfolding data_word_at
-zero_word a from to = ap₂ (λ low high. low + 256 * high) (boot_zero a from (omega arith) (inl (omega arith))) (boot_zero (a + 1) (omega arith) (omega arith) (inl (omega arith)))
-
 ring_begun : (quantum : ℕ) → ring_of (begun_bytes quantum) ≡ 0
-ring_begun quantum = word_out_of_byte at_boot count_cell 0x0142 quantum (omega arith) (omega arith) (λ e. omega arith) (λ e. omega arith) ∙ zero_word 0x0142 (omega arith) (omega arith)
+ring_begun quantum = word_out_of_byte at_boot count_cell 0x0142 quantum (omega arith) (omega arith) (λ e. omega arith) (λ e. omega arith) ∙ boot_word 0x0142 (omega arith) (omega arith)
 
 -- the program sees nothing of COUNT
 same_begun : (flash : Memory) (script : Schedule) (quantum slots : ℕ) → SameProgram (record (begun_mote flash script quantum slots) { sram = at_boot }) (begun_mote flash script quantum slots)
@@ -172,7 +168,7 @@ pub flat_begun : (flash : Memory) (script : Schedule) (words : ℕ) (part : Part
 flat_begun flash script words part quantum slots pages others =
     let k = (begun_machine flash script words part quantum slots pages others).kernel in
     ap (λ s. record { now = s; due = false }) (flat_same (record k { mote = record k.mote { sram = at_boot } }) k part.first 0 0 (same_begun flash script quantum slots)
-    ∙ flat_parts _ _ _ _ _ _ part.first 0 0 _ _ _ _ _ _ refl refl (zero_word vsp_cell (omega arith) (omega arith)) (memory_at_reset (zero_slots slots)) refl pages_at_reset)
+    ∙ flat_parts _ _ _ _ _ _ part.first 0 0 _ _ _ _ _ _ refl refl (boot_word vsp_cell (omega arith) (omega arith)) (memory_at_reset (zero_slots slots)) refl pages_at_reset)
 
 -- and its program is the image's
 pub program_begun : (image : List ℕ) (flash : Memory) (script : Schedule) (part : Part) (quantum slots pages others : ℕ) → IsFaithful (layout_of (length image)) image flash.words

@@ -5,7 +5,8 @@ use Rattle.step_laws.specs.Moves.{Inner, Begin, Within}
 use Rattle.step_laws.specs.Numbers.{Numbers, moved, numbered}
 use Rattle.step_laws.specs.Bounds.{AreBounded, AreEnded}
 use Rattle.step_laws.specs.declared.moves.Owed.{Owed}
-use Rattle.program_steps.specs.Ready.{IsBounded, AreArrivals, most_arrivals}
+use Rattle.program_steps.specs.Machines.{Machine, numbers_of}
+use Rattle.program_steps.specs.Ready.{IsBounded, AreArrivals, most_arrivals, count_in, IsGoing, HasBounds}
 use Rattle.step_laws.proofs.NumberLaws.{SameArrivals, arrivals_within}
 use Rattle.mote_devices.specs.declared.line.Line.{Line}
 
@@ -27,6 +28,10 @@ bounded_counted n crossings quantum count at polls owed counted arrivals few =
     let pages = arrivals.pages in
     let ops = arrivals.ops in
     record { moves = record { natural = omega arith; entries = omega arith; crossed = counted.crossed; since = counted.since; longest = counted.longest; most = counted.most }; polls = omega arith; pages = omega arith; ops = omega arith }
+
+-- where the next step can begin
+pub bounds_ready : (m : Machine) → IsGoing m → HasBounds m
+bounds_ready m ready = bounded_counted (numbers_of m) m.crossings m.kernel.quantum (count_in m) m.at m.kernel.mote.devices.polls m.owed ready.counted ready.arrivals ready.polls
 
 pub bounded_stop : (n n' : Numbers) (crossings quantum polls polls' : ℕ) (owed : Option Owed) → AreEnded n' crossings quantum → SameArrivals n.pages n.ops n.began n.others n' → n'.steps ≡ n.steps → AreArrivals n (most_arrivals owed n.steps)
     → polls ≤ n.steps + 2 ^ 32 → polls' ≤ max (polls + 1) 4294967295 → IsBounded n' crossings quantum polls'

@@ -41,7 +41,7 @@ use Rattle.program_steps.proofs.Leading.{stays_self}
 use Rattle.program_steps.proofs.OutsideTables.{outside_count}
 use Rattle.program_steps.proofs.ReadyLaws.{counted_same}
 use Rattle.step_laws.specs.Bounds.{AreBounded}
-use Rattle.program_steps.proofs.Bounds.{bounded_counted}
+use Rattle.program_steps.proofs.Bounds.{bounded_counted, most_owed}
 
 pub entered_none : (m : Machine) → IsGoing m → IsQuiet m → m.owed ≡ None → HasEntered m m None
 unfolding lines_of
@@ -248,14 +248,10 @@ none_by m new result outside (Entering.Failed op over kept inside fault) is = ab
 pub bound_none : (m new : Machine) (owed : Owed) (result : Option End) → IsGoing m → m.owed ≡ Some owed → m.kernel.layout.image_words ≤ owed.target → HasEntered m new result → result ≡ None → ⊥
 bound_none m new owed result ready owes beyond entered is = none_by m new result (bound_outside m owed ready owes beyond) entered.way is
 
-pub most_steps : (owed : Option Owed) (steps : ℕ) → most_arrivals owed steps ≤ steps + 1
-most_steps (Some a) steps = omega arith
-most_steps None steps = omega arith
-
 -- room for one page more, and for its operations
 pub few_pages : (m : Machine) → IsGoing m → m.steps ≤ 10 ^ 12 → (m.pages < 2 ^ 62) × (m.kernel.mote.flash.ops < 2 ^ 61)
 few_pages m ready steps =
-    let most = most_steps m.owed m.steps in
+    let most = most_owed m.owed m.steps in
     let pages = ready.arrivals.pages in
     let ops = ready.arrivals.ops in
     let few = ready.arrivals.few in

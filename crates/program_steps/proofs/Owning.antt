@@ -7,9 +7,7 @@ use Rattle.mem_guard.specs.FlatMachine.{is_own}
 use Rattle.step_laws.specs.Links.{part_number, number_of}
 use Rattle.step_laws.specs.States.{admits}
 use Rattle.program_steps.specs.Ready.{IsRightPart}
-
-own_range : (part : Part) (a : ℕ) → is_own part a ≡ true → (part.first ≤ a) × (a < part.first + part.count)
-own_range part a own = grind (arith, nat_tests)
+use Rattle.mem_guard.proofs.PartLaws.{own_range}
 
 range_own : (part : Part) (a : ℕ) → part.first ≤ a → a < part.first + part.count → is_own part a ≡ true
 range_own part a from to = grind (arith, nat_tests)
@@ -36,9 +34,6 @@ number_by part words a true is right own =
     omega (arith, range.0, range.1, quarter.1, quarter.2)
 number_by part words a false is right own = refl
 
-pub own_number : (part : Part) (words a : ℕ) → IsRightPart part words → is_own part a ≡ true → part_number part.shut a ≡ number_of part
-own_number part words a right own = number_by part words a part.shut refl right own
-
 own_by : (part : Part) (words a : ℕ) (shut : Bool) → part.shut ≡ shut → IsRightPart part words → a < words → part_number shut a ≡ part_number shut part.first → is_own part a ≡ true
 own_by part words a true is right below same =
     let quarter = right.quarter is in
@@ -63,7 +58,3 @@ admitted_own part words a right own below = number_own part words a right below 
 
 pub open_admits : (part : Part) (a : ℕ) → part.shut ≡ false → admits part a ≡ true
 open_admits part a unshut = ap (λ b. not b || is_own part a) unshut
-
--- an interrupt's vector is an address
-pub vector_room : (part : Part) (words : ℕ) → IsRightPart part words → words ≤ 24576 → part.first < 65520
-vector_room part words right few = omega (arith, part_end part words right, few)

@@ -38,9 +38,8 @@ use Rattle.program_steps.specs.Machines.{Machine, awaited, state_of, numbers_of}
 use Rattle.program_steps.specs.Ready.{IsRightPart, count_in, IsGoing, IsInOrder, HasBounds}
 use Rattle.program_steps.specs.Stepping.{HasStepped, StepWay}
 use Rattle.program_steps.specs.Interrupts.{IsUntaken, is_wanted_at, is_to_be_taken}
-use Rattle.program_steps.proofs.Bounds.{bounded_counted}
+use Rattle.program_steps.proofs.Bounds.{bounded_counted, most_owed}
 use Rattle.program_steps.proofs.Arrived.{owed_at}
-use Rattle.program_steps.proofs.Entered.{most_steps}
 use Rattle.program_steps.proofs.Laws.{tables_going}
 use Rattle.program_steps.proofs.ReadyLaws.{ring_kept, tried_on}
 use Rattle.program_steps.proofs.Awaiting.{awaits_some, some_same}
@@ -132,7 +131,7 @@ going_taken m v k fresh same ready =
     let e = counted.crossed in
     let f = counted.most in
     let polls = ready.polls in
-    let most = most_steps m.owed m.steps in
+    let most = most_owed m.owed m.steps in
     let pages = ready.arrivals.pages in
     let ops = ready.arrivals.ops in
     let few = ready.arrivals.few in

@@ -1,13 +1,13 @@
 -- What one call tells of a move.
 use Rattle.program_steps.proofs.Awaiting.{owes_of}
 use Rattle.std.proofs.Common.{◌≡◌, ℕ, ◌+◌, ◌-◌, ◌<◌, ◌≤◌, Bool, false, List, [], ◌∷◌, refl, sym, ap, ap₂, ◌∙◌, arith, subst, inl, inr}
-use Rattle.std.specs.Prelude.{◌⊎◌, ◌≢◌, ◌^◌, max, is_some, IfNone, Option, Some, None}
+use Rattle.std.specs.Prelude.{◌⊎◌, ◌≢◌, ◌^◌, max, IfNone, Option, Some, None}
 use Rattle.mote_devices.specs.declared.line.Line.{Line}
 use Rattle.mote_core.specs.declared.mote.Mote.{Mote}
 use Rattle.mote_core.specs.declared.mote.Plain.{Plain}
 use Rattle.mote_core.specs.Shown.{line_shown}
 use Rattle.mote_core.specs.Step.{IsPlainStep}
-use Rattle.mote_core.proofs.KnownSteps.{one_step}
+use Rattle.mote_core.proofs.OneOutcome.{one_step}
 use Rattle.kernel_entry.specs.declared.kernel.Kernel.{Kernel}
 use Rattle.kernel_entry.specs.declared.kernel.Served.{Served}
 use Rattle.kernel_entry.specs.Services.{served, is_due}
@@ -83,10 +83,6 @@ pub not_over : (x : State) → x.owed ≡ None → x.end ≡ None → ((t : ℕ)
 not_over x free going none (IsOver.Owes owes) = owes free
 not_over x free going none (IsOver.Ended ended) = ended going
 not_over x free going none (IsOver.Reached place) = none place.0 place.1
-
-pub is_none_of : {A : Type 0} (o : Option A) → is_some o ≡ false → o ≡ None
-is_none_of None is = refl
-is_none_of (Some a) is = absurd (cc)
 
 -- a move of a step is a plain one or a service, by the pc
 plain_by : (x y : State) (b : Bool) (m : Inner) → MakesOf b x m y → (mote_of x).cpu.pc < 0xF000 → CanPlain x

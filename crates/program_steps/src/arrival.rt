@@ -1,6 +1,6 @@
 //! The arrival that is owed: made before the next step, or refused.
 
-ghost use Rattle.std.specs.Prelude.{◌≡◌, ◌≢◌, ◌+◌, ◌<◌, ◌≤◌, ◌^◌, true, false, Some, None};
+ghost use Rattle.std.specs.Prelude.{◌≡◌, ◌≢◌, ◌<◌, ◌≤◌, ◌^◌, true, false, Some, None};
 ghost use Rattle.flash_words.specs.Layouts.{IsRight};
 ghost use Rattle.flash_words.specs.Memory.{IsWhole};
 ghost use Rattle.page_cursor.specs.Cursors.{IsCursor, IsCursorAnywhere};

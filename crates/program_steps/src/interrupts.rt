@@ -1,6 +1,6 @@
 //! An interrupt that is taken instead of the arrival that is owed.
 
-ghost use Rattle.std.specs.Prelude.{◌≡◌, ◌<◌, ◌^◌, true, false, None};
+ghost use Rattle.std.specs.Prelude.{◌≡◌, ◌<◌, ◌^◌, true, None};
 ghost use Rattle.program_steps.specs.Ready.{IsGoing};
 ghost use Rattle.program_steps.specs.Stepping.{HasStepped};
 ghost use Rattle.program_steps.specs.Interrupts.{is_wanted_at, is_to_be_taken};

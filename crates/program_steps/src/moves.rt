@@ -1,6 +1,6 @@
 //! One move inside a step: a plain step of the mote, or a service of the kernel.
 
-ghost use Rattle.std.specs.Prelude.{◌≡◌, ◌<◌, ◌^◌, max, true, false, None, IfSome, IfNone};
+ghost use Rattle.std.specs.Prelude.{◌≡◌, ◌^◌, max, true, false, None, IfSome, IfNone};
 ghost use Rattle.std.specs.Option.{option_or};
 ghost use Rattle.flash_words.specs.Layouts.{IsRight};
 ghost use Rattle.program_steps.specs.Machines.{state_of, numbers_of};
@@ -10,7 +10,6 @@ ghost use Rattle.program_steps.specs.Wholes.{whole};
 use crate::progress::Progress;
 use flash_model::KERNEL_FIRST;
 use kernel_entry::{Kernel, Served, serve_told};
-use mote_core::Plain;
 use mote_devices::Line;
 use step_laws::{End, Owed};
 
@@ -52,13 +51,8 @@ fn plain(k: &mut Kernel, p: &mut Progress, pc: u16) -> u16
     ensures layout { k.new.layout ≡ k.old.layout }
     ensures torn { p.new.torn ≡ p.old.torn }
 {
-    let (shown, next) = k.mote.plain_step_at(pc);
     p.since += 1;
-    match shown {
-        Plain::Went => {}
-        Plain::Wrote(line) => p.line = Some(line),
-    }
-    next
+    k.mote.plain_step_into(pc, &mut p.line)
 }
 
 /// One service of the kernel. Tells whether an arrival is owed now, or the program has stopped.

@@ -4,4 +4,3 @@ pub mod RunEnds
 pub mod LostFlash
 pub mod RestartEnds
 mod DoneJobs
-pub mod WholeJobs

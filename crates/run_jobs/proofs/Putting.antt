@@ -1,6 +1,5 @@
 -- Texts that are put one after another.
-use Rattle.std.proofs.Common.{ℕ, ◌≤◌, List, ◌++◌, length, refl, sym, subst, arith, Option, length-append, inl, inr}
-use Rattle.std.proofs.lemmas.List.{take-append-le}
+use Rattle.std.proofs.Common.{ℕ, ◌≤◌, List, ◌++◌, refl, arith, inl, inr}
 use Rattle.std.specs.Io.KnownBytes.{Appends}
 use Rattle.byte_streams.specs.Faults.{Rose}
 use Rattle.byte_streams.specs.Streams.{CutShort}
@@ -9,11 +8,7 @@ use Rattle.tk_words.specs.declared.status.Status.{Status}
 use Rattle.tk_words.specs.declared.status.Status.TheVariants as status
 use Rattle.tk_words.specs.Stream.{Stream}
 use Rattle.run_jobs.specs.Runs.{Says}
-
-cut_less : (old new : Option (List ℕ)) (a b : List ℕ) → CutShort old new a → CutShort old new (a ++ b)
-cut_less old new a b cut =
-    let shorter : cut.0 ≤ length a = omega (arith, cut.1) in
-    (cut.0, omega (arith, length-append a b, cut.1), subst (λ z. Appends old new z) (sym (take-append-le cut.0 a b shorter)) cut.2)
+use Rattle.line_text.proofs.Gathered.{cut_less}
 
 -- a text said behind one that went out before
 pub rose_on : (before mid now : ℕ) → before ≤ mid → Rose mid now → Rose before now

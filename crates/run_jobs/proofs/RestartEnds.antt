@@ -1,5 +1,5 @@
 -- The second run of a restart, with its first line and its last two, as the answer tells it.
-use Rattle.std.proofs.Common.{◌≡◌, ℕ, ◌/◌, ◌≤◌, false, true, List, ◌++◌, length, refl, ap, ◌∙◌, subst, arith}
+use Rattle.std.proofs.Common.{◌≡◌, ℕ, ◌≤◌, false, true, List, length, refl, ap, ◌∙◌, subst, arith}
 use Rattle.std.specs.Prelude.{Result, Ok, Err, ◌^◌}
 use Rattle.std.specs.Io.KnownBytes.{Appends}
 use Rattle.byte_streams.specs.declared.failure.Failed.{Failed}
@@ -27,8 +27,7 @@ use Rattle.tk_words.specs.declared.status.Status.TheVariants as status
 use Rattle.run_jobs.specs.DumpRuns.{silent}
 use Rattle.run_jobs.specs.RestartRuns.{RunsOver, second_start}
 use Rattle.tk_words.specs.Stream.{Stream}
-use Rattle.run_jobs.specs.Runs.{Says, Runs, KeepsEnd, whole_run, checkpoints_of, run_text, status_of_end, status_of_stop}
-use Rattle.run_jobs.specs.Text.{count_text}
+use Rattle.run_jobs.specs.Runs.{Says, Runs, KeepsEnd, whole_run, checkpoints_of, last_text, run_text, status_of_end, status_of_stop}
 use Rattle.run_jobs.proofs.Putting.{rose_on, said_on}
 use Rattle.run_jobs.proofs.RunEnds.{said_run, keeps_end, few_pages, err_rose}
 
@@ -46,7 +45,7 @@ program_silent request ended m (Runs.Cut run) = absurd (never_rose run.rose)
 over_ended : (request : Request) (flash : Memory) (line : List ℕ) (before first mid now : Stream) (told : Status) (end : MachineEnd) (m : Machine) → status_of_stop end ≡ status_of_end (flat_end end) → how_text end ≡ end_text (flat_end end)
     → Appends before.told first.told line → before.faults ≤ first.faults
     → IsExactRun (second_start request flash) request.image (without_failing request.script) request.options.quantum request.options.swap request.options.steps first.told mid.told end m → first.faults ≤ mid.faults
-    → Says (status_of_stop end) (end_line end m.steps (m.crossings / m.kernel.quantum) ++ count_text m.natural m.entries m.pages) mid now told
+    → Says (status_of_stop end) (last_text end m) mid now told
     → RunsOver request flash line before now told m
 over_ended request flash line before first mid now told end m status how put later run later' said =
     let r = whole_run request in
@@ -68,7 +67,7 @@ over_ended request flash line before first mid now told end m status how put lat
 over_to : (request : Request) (flash : Memory) (line : List ℕ) (before first mid now : Stream) (told : Status) (end : MachineEnd) (m : Machine)
     → Appends before.told first.told line → before.faults ≤ first.faults
     → HasWholeOver request.image flash request.script request.options.quantum request.options.swap request.options.steps first.told mid.told (Ok end) m → first.faults ≤ mid.faults
-    → Says (status_of_stop end) (end_line end m.steps (m.crossings / m.kernel.quantum) ++ count_text m.natural m.entries m.pages) mid now told
+    → Says (status_of_stop end) (last_text end m) mid now told
     → RunsOver request flash line before now told m
 over_to request flash line before first mid now told ends.Spent m put later run later' said = over_ended request flash line before first mid now told ends.Spent m refl refl put later run later' said
 over_to request flash line before first mid now told (ends.Stopped stop) m put later run later' said = over_ended request flash line before first mid now told (ends.Stopped stop) m refl refl put later run later' said
@@ -81,14 +80,14 @@ over_until_cut : (request : Request) (flash : Memory) (line : List ℕ) (before 
     → HasWholeOver request.image flash request.script request.options.quantum request.options.swap request.options.steps first.told now.told (Err failed) m → Rose first.faults now.faults
     → RunsOver request flash line before now status.WriteFault m
 over_until_cut request flash line before first now failed m put later run rose =
-    RunsOver.Cut (record { status_is = refl; rose = rose_on before.faults first.faults now.faults later rose; put = cut_behind before.told first.told now.told line _ put run.put; broken = run.broken; within = run.within; sound = run.sound; began = run.began; pages = few_pages m (second_start request flash).pages run.sound run.began run.others; path = run.path; made = run.made })
+    RunsOver.Cut (record { status_is = refl; rose = rose_on before.faults first.faults now.faults later rose; put = cut_behind before.told first.told now.told line _ put run.put; state = run.state; program = run.program; quantum = run.quantum_is; broken = run.broken; within = run.within; sound = run.sound; began = run.began; pages = few_pages m (second_start request flash).pages run.sound run.began run.others; path = run.path; made = run.made })
 
 -- by what `advance` leaves
 pub over_answered : (request : Request) (flash : Memory) (line : List ℕ) (before first mid now : Stream) (told : Status) (result : Result MachineEnd Failed) (end : MachineEnd) (m : Machine)
     → IsFaithful (layout_of (length request.image)) request.image flash.words → IsKept (second_start request flash) → request.options.steps ≤ 10 ^ 9
     → Appends before.told first.told line → before.faults ≤ first.faults
     → HasAdvanced (second_start request flash) m request.options.steps first.told mid.told result → result ≡ Ok end → HasCause first.faults mid.faults result
-    → Says (status_of_stop end) (end_line end m.steps (m.crossings / m.kernel.quantum) ++ count_text m.natural m.entries m.pages) mid now told
+    → Says (status_of_stop end) (last_text end m) mid now told
     → RunsOver request flash line before now told m
 over_answered request flash line before first mid now told result end m faithful kept bound put later advanced is cause said =
     let run = run_over request.image flash request.script request.options.quantum request.options.swap request.options.steps first.told mid.told result m faithful kept (omega arith) advanced in

@@ -24,26 +24,26 @@ use Rattle.tk_words.specs.declared.status.Status.TheVariants as status
 use Rattle.run_jobs.specs.DumpRuns.{silent}
 use Rattle.run_jobs.specs.Text.{count_text}
 use Rattle.tk_words.specs.Stream.{Stream}
-use Rattle.run_jobs.specs.Runs.{Says, Runs, KeepsEnd, original_of, whole_run, checkpoints_of, run_text, status_of_end, status_of_stop}
+use Rattle.run_jobs.specs.Runs.{Says, Runs, KeepsEnd, original_of, whole_run, checkpoints_of, last_text, run_text, status_of_end, status_of_stop}
 use Rattle.run_jobs.proofs.Putting.{said_on}
 
 -- the last two lines, by the original's counts
 last_lines : (end : MachineEnd) (m : Machine) (steps crossings quantum : ℕ) → m.steps ≡ steps → m.crossings ≡ crossings → m.kernel.quantum ≡ quantum
-    → end_line end m.steps (m.crossings / m.kernel.quantum) ++ count_text m.natural m.entries m.pages ≡ end_line end steps (crossings / quantum) ++ count_text m.natural m.entries m.pages
+    → last_text end m ≡ end_line end steps (crossings / quantum) ++ count_text m
 last_lines end m steps crossings quantum s c q =
-    ap (λ n. end_line end n (m.crossings / m.kernel.quantum) ++ count_text m.natural m.entries m.pages) s
-    ∙ ap₂ (λ x y. end_line end steps (x / y) ++ count_text m.natural m.entries m.pages) c q
+    ap (λ n. end_line end n (m.crossings / m.kernel.quantum) ++ count_text m) s
+    ∙ ap₂ (λ x y. end_line end steps (x / y) ++ count_text m) c q
 
 -- what is said, as the text of the run
 pub said_run : (request : Request) (end : MachineEnd) (r : Run) (own told : Status) (before mid now : Stream) (m : Machine) → m.steps ≡ r.state.now.steps → m.crossings ≡ r.state.now.crossings → m.kernel.quantum ≡ request.options.quantum
     → Appends before.told mid.told (lines_text r.lines) → before.faults ≤ mid.faults
-    → Says own (end_line end m.steps (m.crossings / m.kernel.quantum) ++ count_text m.natural m.entries m.pages) mid now told
+    → Says own (last_text end m) mid now told
     → Says own (run_text r (end_line end r.state.now.steps (checkpoints_of request r)) m) before now told
 said_run request end r own told before mid now m steps crossings quantum put later said =
     let whole = said_on own told before mid now (lines_text r.lines) _ put later said in
-    let text : lines_text r.lines ++ (end_line end m.steps (m.crossings / m.kernel.quantum) ++ count_text m.natural m.entries m.pages) ≡ run_text r (end_line end r.state.now.steps (checkpoints_of request r)) m =
+    let text : lines_text r.lines ++ (last_text end m) ≡ run_text r (end_line end r.state.now.steps (checkpoints_of request r)) m =
     ap (λ last. lines_text r.lines ++ last) (last_lines end m r.state.now.steps r.state.now.crossings request.options.quantum steps crossings quantum)
-    ∙ sym (append_assoc (lines_text r.lines) (end_line end r.state.now.steps (checkpoints_of request r)) (count_text m.natural m.entries m.pages)) in
+    ∙ sym (append_assoc (lines_text r.lines) (end_line end r.state.now.steps (checkpoints_of request r)) (count_text m)) in
     subst (λ t. Says own t before now told) text whole
 
 pub keeps_end : (e : End) (end : MachineEnd) (m : Machine) → flat_end end ≡ e → IsKeptEnd e end m.end → KeepsEnd e m
@@ -68,7 +68,7 @@ few_of_run m sound none alone = let most = few_pages m 0 sound none alone in ome
 -- a run to the original's end
 ended : (request : Request) (before mid now : Stream) (told : Status) (end : MachineEnd) (m : Machine) → status_of_stop end ≡ status_of_end (flat_end end) → how_text end ≡ end_text (flat_end end)
     → IsExactRun (booted request.image request.script request.options.quantum request.options.swap) request.image request.script request.options.quantum request.options.swap request.options.steps before.told mid.told end m → before.faults ≤ mid.faults
-    → Says (status_of_stop end) (end_line end m.steps (m.crossings / m.kernel.quantum) ++ count_text m.natural m.entries m.pages) mid now told
+    → Says (status_of_stop end) (last_text end m) mid now told
     → Runs request before now told m
 ended request before mid now told end m status how run later said =
     let r = whole_run request in
@@ -89,7 +89,7 @@ ended request before mid now told end m status how run later said =
 -- a run that flash ended
 failed : (request : Request) (before mid now : Stream) (told : Status) (op : ℕ) (m : Machine)
     → IsFailedRun (booted request.image request.script request.options.quantum request.options.swap) request.image request.script request.options.quantum request.options.swap request.options.steps before.told mid.told op m → before.faults ≤ mid.faults
-    → Says status.FlashFault (end_line (ends.Flash op) m.steps (m.crossings / m.kernel.quantum) ++ count_text m.natural m.entries m.pages) mid now told
+    → Says status.FlashFault (last_text (ends.Flash op) m) mid now told
     → Runs request before now told m
 failed request before mid now told op m run later said =
     let r = original_of request m.steps in
@@ -112,7 +112,7 @@ failed request before mid now told op m run later said =
 -- a run whose last two lines were said, or not
 ran_to : (request : Request) (before mid now : Stream) (told : Status) (end : MachineEnd) (m : Machine)
     → HasWhole request.image request.script request.options.quantum request.options.swap request.options.steps before.told mid.told (Ok end) m → before.faults ≤ mid.faults
-    → Says (status_of_stop end) (end_line end m.steps (m.crossings / m.kernel.quantum) ++ count_text m.natural m.entries m.pages) mid now told
+    → Says (status_of_stop end) (last_text end m) mid now told
     → Runs request before now told m
 ran_to request before mid now told ends.Spent m run later said = ended request before mid now told ends.Spent m refl refl run later said
 ran_to request before mid now told (ends.Stopped stop) m run later said = ended request before mid now told (ends.Stopped stop) m refl refl run later said
@@ -124,12 +124,12 @@ ran_until_cut : (request : Request) (before now : Stream) (failed : Failed) (m :
     → HasWhole request.image request.script request.options.quantum request.options.swap request.options.steps before.told now.told (Err failed) m → Rose before.faults now.faults
     → Runs request before now status.WriteFault m
 ran_until_cut request before now failed m run rose =
-    Runs.Cut (record { status_is = refl; rose = rose; put = run.put; broken = run.broken; within = run.within; sound = run.sound; pages = few_of_run m run.sound run.began run.others; path = run.path; made = run.made })
+    Runs.Cut (record { status_is = refl; rose = rose; put = run.put; state = run.state; program = run.program; quantum = run.quantum_is; broken = run.broken; within = run.within; sound = run.sound; pages = few_of_run m run.sound run.began run.others; path = run.path; made = run.made })
 
 -- the last two lines were said, or the sink failed
 pub answered : (request : Request) (before mid now : Stream) (told : Status) (result : Result MachineEnd Failed) (end : MachineEnd) (m : Machine) → IsImage request.image → IsKept (booted request.image request.script request.options.quantum request.options.swap) → request.options.steps ≤ 10 ^ 9
     → HasAdvanced (booted request.image request.script request.options.quantum request.options.swap) m request.options.steps before.told mid.told result → result ≡ Ok end → HasCause before.faults mid.faults result
-    → Says (status_of_stop end) (end_line end m.steps (m.crossings / m.kernel.quantum) ++ count_text m.natural m.entries m.pages) mid now told
+    → Says (status_of_stop end) (last_text end m) mid now told
     → Runs request before now told m
 answered request before mid now told result end m image kept bound advanced is cause said =
     let run = whole_of request.image request.script request.options.quantum request.options.swap request.options.steps before.told mid.told result m image kept (omega arith) advanced in

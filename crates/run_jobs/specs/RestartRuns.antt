@@ -78,6 +78,9 @@ pub record RunsOverUntilCut (request : Request) (flash : Memory) (line : List �
   pub status_is : told ≡ status.WriteFault
   pub rose : Rose before.faults now.faults
   pub put : CutShort before.told now.told (line ++ lines_text (original_of request m.steps).lines)
+  pub state : flat_of m ≡ (original_of request m.steps).state
+  pub program : program m.kernel ≡ program_at request.image request.options.quantum request.options.swap
+  pub quantum : m.kernel.quantum ≡ request.options.quantum
   pub broken : m.broken ≡ true
   pub within : m.steps ≤ request.options.steps
   pub sound : IsSound m

@@ -53,9 +53,13 @@ status_of_stop end = status_of_end (flat_end end)
 abbrev pub checkpoints_of : Request → Run → ℕ
 checkpoints_of request r = r.state.now.crossings / request.options.quantum
 
+-- the last two lines of a machine that came to this end: its stop line, and its count line
+abbrev pub last_text : MachineEnd → Machine → List ℕ
+last_text end m = end_line end m.steps (m.crossings / m.kernel.quantum) ++ count_text m
+
 -- the text of a run: the device lines, a stop line, and the count line with the machine's own counts
 abbrev pub run_text : Run → (stop : List ℕ) → Machine → List ℕ
-run_text r stop m = lines_text r.lines ++ stop ++ count_text m.natural m.entries m.pages
+run_text r stop m = lines_text r.lines ++ stop ++ count_text m
 
 -- the text of a run to the original's end, and of one that flash ends after m's steps
 abbrev pub ended_text : Request → Machine → List ℕ
@@ -110,11 +114,15 @@ pub record RunsIntoAFault (request : Request) (before now : Stream) (told : Stat
   pub refused : m.kernel.mote.flash.refused ≢ None
   pub follows : Follows request m.steps m
 
--- gathered lines could not be put: what went out is cut short of the lines up to the step where the machine stands
+-- gathered lines could not be put: what went out is cut short of the lines up to the step where the machine stands, and it
+-- stands where the original program stands after that step
 pub record RunsUntilCut (request : Request) (before now : Stream) (told : Status) (m : Machine) : Type 0 where
   pub status_is : told ≡ status.WriteFault
   pub rose : Rose before.faults now.faults
   pub put : CutShort before.told now.told (lines_text (original_of request m.steps).lines)
+  pub state : flat_of m ≡ (original_of request m.steps).state
+  pub program : program m.kernel ≡ program_at request.image request.options.quantum request.options.swap
+  pub quantum : m.kernel.quantum ≡ request.options.quantum
   pub broken : m.broken ≡ true
   pub within : m.steps ≤ request.options.steps
   pub sound : IsSound m

@@ -2,7 +2,6 @@
 ghost use Rattle.std.specs.Prelude.{◌⊎◌, codes};
 ghost use Rattle.flash_dump.specs.WrittenDumps.{written};
 ghost use Rattle.tk_words.specs.Commands.{AreOptions};
-ghost use Rattle.tk_words.specs.declared.status.Status.{Status};
 ghost use Rattle.tk_words.specs.declared.status.Status.TheVariants.{Done, NoMemory};
 ghost use Rattle.run_jobs.specs.DumpRuns.{HasDumped};
 ghost use Rattle.tk_words.specs.Printed.{no_memory};

@@ -1,5 +1,5 @@
 //! A whole run, and its printed lines.
-ghost use Rattle.std.specs.Prelude.{◌≡◌, ◌⊎◌, ◌≤◌, ◌++◌, ◌/◌, ◌^◌, length, IfOk};
+ghost use Rattle.std.specs.Prelude.{◌≡◌, ◌⊎◌, ◌≤◌, ◌^◌, length, IfOk};
 ghost use Rattle.flash_words.specs.Layouts.{layout_of};
 ghost use Rattle.hex_image.specs.Image.{IsImage};
 ghost use Rattle.tk_words.specs.Commands.{AreOptions};
@@ -8,9 +8,7 @@ ghost use Rattle.run_jobs.specs.DumpRuns.{silent};
 ghost use Rattle.tk_words.specs.Printed.{no_memory};
 ghost use Rattle.tk_words.specs.Stream.{stream};
 ghost use Rattle.run_jobs.specs.Jobs.{DoesAlone};
-ghost use Rattle.run_jobs.specs.Runs.{HasRun, Runs, Says, status_of_stop};
-ghost use Rattle.line_text.specs.StopLines.{end_line};
-ghost use Rattle.run_jobs.specs.Text.{count_text};
+ghost use Rattle.run_jobs.specs.Runs.{HasRun, Runs, Says, last_text, status_of_stop};
 
 use crate::job::{Outcome, say, tell_no_memory};
 use crate::text::counts;
@@ -79,18 +77,13 @@ pub(crate) fn run_silently(
 pub(crate) fn tell_end<K: Sink>(machine: &Machine, end: End, out: &mut K) -> Status
     requires quantum { 1 ≤ machine.now.kernel.quantum }
     ensures said { Says (status_of_stop end)
-        (end_line end machine.now.steps (machine.now.crossings / machine.now.kernel.quantum)
-        ++ count_text machine.now.natural machine.now.entries machine.now.pages)
+        (last_text end machine.now)
         (stream K.taken K.faults out.old) (stream K.taken K.faults out.new)
         result }
 {
     let checkpoints = machine.crossings / u64::from(machine.kernel.quantum);
     match put(out, &stop_line(end, machine.steps, checkpoints)) {
-        Ok(()) => say(
-            status_of(end),
-            &counts(machine.natural, machine.entries, machine.pages),
-            out,
-        ),
+        Ok(()) => say(status_of(end), &counts(machine), out),
         Err(_) => Status::WriteFault,
     }
 }

@@ -5,13 +5,14 @@ ghost use Rattle.run_jobs.specs.Text.{count_text, restart_text, tasks_count_text
 
 use text_pieces::{Text, push, push_number, whole};
 use tk_restart::Kept;
+use tk_run::Machine;
 
-/// The count line: plain steps, kernel services, and pages made.
+/// The count line of a machine: plain steps, kernel services, and pages made.
 #[tactic(auto, unfolding(crate::specs::Text::count_text))]
-pub(crate) fn counts(natural: u64, entries: u64, pages: u64) -> Text
-    ensures text { result.items ≡ count_text natural entries pages }
+pub(crate) fn counts(machine: &Machine) -> Text
+    ensures text { result.items ≡ count_text machine.now }
 {
-    let mut text = counted(natural, entries, pages);
+    let mut text = counted(machine.natural, machine.entries, machine.pages);
     push(&mut text, b"\n");
     text
 }

@@ -1,10 +1,10 @@
 -- What SRAM holds at boot, byte by byte.
 use Rattle.std.proofs.Common.{◌≡◌, ℕ, ◌-◌, ◌<◌, ◌≤◌, ◌⊎◌, length, arith, ◌∙◌}
 use Rattle.sram_layout.specs.Bytes.{byte_count, byte_at}
-use Rattle.list_parts.specs.Lists.{many}
+use Rattle.base_laws.specs.Lists.{many}
 use Rattle.sram_layout.specs.Cells.{slot_cell}
 use Rattle.sram_layout.specs.Boot.{at_boot}
-use Rattle.list_parts.proofs.ManyLaws.{length-many, get_or-many}
+use Rattle.base_laws.proofs.ManyLaws.{length-many, get_or-many}
 use Rattle.sram_layout.proofs.Laws.{length-with_block, byte_in_block, byte_out_of_block}
 
 pub length-at_boot : length at_boot ≡ byte_count

@@ -1,8 +1,8 @@
 -- One write of a table entry and then one read of an entry.
 use Rattle.std.proofs.Common.{◌≡◌, ℕ, ◌+◌, ◌<◌, ◌≤◌, ◌⊎◌, List, length, arith, ap₂, ◌∙◌, inl, inr}
 use Rattle.sram_layout.specs.Bytes.{with_byte, with_word}
-use Rattle.sram_layout.specs.Cells.{frame_at, with_frame, entry_at, with_entry}
-use Rattle.sram_layout.proofs.Laws.{length-with_byte, length-with_word, byte_same, byte_other, word_same, word_other}
+use Rattle.sram_layout.specs.Cells.{with_frame, entry_at, with_entry}
+use Rattle.sram_layout.proofs.Laws.{length-with_byte, length-with_word, word_same, word_other}
 
 pub length-with_entry : (m : List ℕ) (a t place : ℕ) → length (with_entry m a t place) ≡ length m
 length-with_entry m a t place = length-with_word (with_word m a t) (a + 2) place ∙ length-with_word m a t
@@ -27,17 +27,3 @@ entry_other m a b t place from from' apart =
     ap₂ (λ x y. let pair : ℕ × ℕ = (x, y) in pair)
     (word_other (with_word m a t) (a + 2) b place (omega arith) from' second ∙ word_other m a b t from from' first)
     (word_other (with_word m a t) (a + 2) (b + 2) place (omega arith) (omega arith) fourth ∙ word_other m a (b + 2) t from (omega arith) third)
-
--- a frame table entry that was written
-pub frame_same : (m : List ℕ) (a page state : ℕ) → 256 ≤ a → a + 1 < 256 + length m → frame_at (with_frame m a page state) a ≡ (page, state)
-frame_same m a page state from to =
-    ap₂ (λ x y. let pair : ℕ × ℕ = (x, y) in pair)
-    (byte_other (with_byte m a page) (a + 1) a state (omega arith) from (λ same. omega arith) ∙ byte_same m a page from (omega arith))
-    (byte_same (with_byte m a page) (a + 1) state (omega arith) (omega (arith, length-with_byte m a page)))
-
--- another frame table entry
-pub frame_other : (m : List ℕ) (a b page state : ℕ) → 256 ≤ a → 256 ≤ b → (b + 2 ≤ a) ⊎ (a + 2 ≤ b) → frame_at (with_frame m a page state) b ≡ frame_at m b
-frame_other m a b page state from from' apart =
-    ap₂ (λ x y. let pair : ℕ × ℕ = (x, y) in pair)
-    (byte_other (with_byte m a page) (a + 1) b state (omega arith) from' (λ same. elim apart [ inl below ↦ omega arith | inr above ↦ omega arith ]) ∙ byte_other m a b page from from' (λ same. elim apart [ inl below ↦ omega arith | inr above ↦ omega arith ]))
-    (byte_other (with_byte m a page) (a + 1) (b + 1) state (omega arith) (omega arith) (λ same. elim apart [ inl below ↦ omega arith | inr above ↦ omega arith ]) ∙ byte_other m a (b + 1) page from (omega arith) (λ same. elim apart [ inl below ↦ omega arith | inr above ↦ omega arith ]))

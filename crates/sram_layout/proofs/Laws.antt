@@ -3,7 +3,7 @@ use Rattle.std.proofs.Common.{◌≡◌, ℕ, ◌+◌, ◌-◌, ◌*◌, ◌/◌
 use Rattle.std.specs.Prelude.{◌≢◌, slice_index}
 use Rattle.std.proofs.lemmas.List.{length-set, get_or-set_same, get_or-set_other}
 use Rattle.sram_layout.specs.Bytes.{byte_at, with_byte, data_word_at, with_word, block_at, with_block}
-use Rattle.list_parts.proofs.Pieces.{length-replaced, replaced_in, replaced_below, replaced_above, part_replaced, same_part, part_item, length-part}
+use Rattle.base_laws.proofs.Pieces.{length-replaced, replaced_in, replaced_below, replaced_above, part_replaced, same_part, part_item, length-part}
 
 -- the length stays
 pub length-with_byte : (m : List ℕ) (a v : ℕ) → length (with_byte m a v) ≡ length m
@@ -75,14 +75,6 @@ byte_out_of_block m new a b fits from inside from' outside = elim outside [
   | inr above ↦ replaced_above (a - 256) 256 (b - 256) m new fits (omega arith) (omega arith)
 ]
 
--- a word outside
-pub word_out_of_block : (m new : List ℕ) (a b : ℕ) → length new ≡ 256 → 256 ≤ a → a ≤ length m → 256 ≤ b → (b + 2 ≤ a) ⊎ (a + 256 ≤ b) → data_word_at (with_block m a new) b ≡ data_word_at m b
-unfolding data_word_at
-word_out_of_block m new a b fits from inside from' outside =
-    let low : (b < a) ⊎ (a + 256 ≤ b) = elim outside [ inl below ↦ inl (omega arith) | inr above ↦ inr above ] in
-    let high : (b + 1 < a) ⊎ (a + 256 ≤ b + 1) = elim outside [ inl below ↦ inl (omega arith) | inr above ↦ inr (omega arith) ] in
-    ap₂ (λ low high. low + 256 * high) (byte_out_of_block m new a b fits from inside from' low) (byte_out_of_block m new a (b + 1) fits from inside (omega arith) high)
-
 -- a block that was written
 pub block_same : (m new : List ℕ) (a : ℕ) → length new ≡ 256 → 256 ≤ a → a ≤ length m → block_at (with_block m a new) a ≡ new
 unfolding with_block block_at
@@ -109,13 +101,3 @@ pub block_out_of_byte : (m : List ℕ) (a b v : ℕ) → 256 ≤ a → 256 ≤ b
 block_out_of_byte m a b v from from' outside =
     block_alike (with_byte m a v) m b from' (length-with_byte m a v) (λ c above below.
     byte_other m a c v from (omega arith) (λ same. elim outside [ inl left ↦ omega arith | inr right ↦ omega arith ]))
-
-pub block_out_of_word : (m : List ℕ) (a b w : ℕ) → 256 ≤ a → 256 ≤ b → (a + 2 ≤ b) ⊎ (b + 256 ≤ a) → block_at (with_word m a w) b ≡ block_at m b
-block_out_of_word m a b w from from' outside =
-    block_alike (with_word m a w) m b from' (length-with_word m a w) (λ c above below.
-    byte_out_of_word m a c w from (omega arith) (λ same. elim outside [ inl left ↦ omega arith | inr right ↦ omega arith ]) (λ same. elim outside [ inl left ↦ omega arith | inr right ↦ omega arith ]))
-
-pub block_other : (m new : List ℕ) (a b : ℕ) → length new ≡ 256 → 256 ≤ a → a ≤ length m → 256 ≤ b → (a + 256 ≤ b) ⊎ (b + 256 ≤ a) → block_at (with_block m a new) b ≡ block_at m b
-block_other m new a b fits from inside from' outside =
-    block_alike (with_block m a new) m b from' (length-with_block m new a fits from inside) (λ c above below.
-    byte_out_of_block m new a c fits from inside (omega arith) (elim outside [ inl left ↦ inr (omega arith) | inr right ↦ inl (omega arith) ]))

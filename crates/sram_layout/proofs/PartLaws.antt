@@ -2,7 +2,7 @@
 use Rattle.std.proofs.Common.{◌≡◌, ℕ, ◌+◌, ◌-◌, ◌<◌, ◌≤◌, ◌⊎◌, List, length, get_or, arith, ap, ◌∙◌, refl, inl, inr}
 use Rattle.std.specs.Prelude.{slice_index}
 use Rattle.sram_layout.specs.Bytes.{byte_at, part_at, with_part}
-use Rattle.list_parts.proofs.Pieces.{length-replaced, replaced_in, replaced_below, replaced_above, part_item, length-part}
+use Rattle.base_laws.proofs.Pieces.{length-replaced, replaced_in, replaced_below, replaced_above, part_item, length-part}
 
 -- the length stays
 pub length-with_part : (m new : List ℕ) (a : ℕ) → 256 ≤ a → a + length new ≤ 256 + length m → length (with_part m a new) ≡ length m

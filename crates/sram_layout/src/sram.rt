@@ -2,8 +2,9 @@
 
 ghost use Rattle.std.specs.Prelude.{◌≡◌, ◌+◌, ◌-◌, ◌/◌, ◌%◌, ◌≤◌, ◌<◌, length};
 ghost use Rattle.sram_layout.specs.Bytes.{byte_count, byte_at, with_byte, data_word_at, with_word, block_at, with_block, part_at, with_part};
-ghost use Rattle.list_parts.specs.Lists.{many};
+ghost use Rattle.base_laws.specs.Lists.{many};
 ghost use Rattle.sram_layout.specs.Boot.{at_boot};
+ghost use Rattle.sram_layout.specs.Regions.{whole_sram, is_within};
 
 use std::marker::Model;
 
@@ -40,6 +41,13 @@ impl Sram {
         let mut sram = Sram { bytes: zeros() };
         sram.set_block(SWAP_MAP, &no_slots());
         sram
+    }
+
+    /// Whether there is a byte at a data address.
+    pub fn has(a: u16) -> bool
+        ensures value { result ≡ is_within whole_sram a }
+    {
+        0x0100 <= a && a <= 0x10FF
     }
 
     /// The byte at a data address.
@@ -141,14 +149,14 @@ impl Sram {
     }
 }
 
-#[tactic(auto, unfolding(list_parts::specs::Lists::many))]
+#[tactic(auto, unfolding(base_laws::specs::Lists::many))]
 fn zeros() -> [u8; 4096]
     ensures value { result ≡ many byte_count 0 }
 {
     [0; 4096]
 }
 
-#[tactic(auto, unfolding(list_parts::specs::Lists::many))]
+#[tactic(auto, unfolding(base_laws::specs::Lists::many))]
 fn no_slots() -> [u8; 256]
     ensures value { result ≡ many 256 0xFF }
 {

@@ -1,6 +1,6 @@
 //! The kernel's tables: frames, look-aside, two-way and swap map.
 
-ghost use Rattle.std.specs.Prelude.{◌≡◌, ◌+◌, ◌*◌, ◌≤◌, ◌<◌, length};
+ghost use Rattle.std.specs.Prelude.{◌≡◌, ◌≤◌, ◌<◌, length};
 ghost use Rattle.sram_layout.specs.Bytes.{byte_count, byte_at, with_byte};
 ghost use Rattle.sram_layout.specs.Cells.{frame_cell, aside_cell, way_cell, slot_cell, frame_at, with_frame, entry_at, with_entry};
 

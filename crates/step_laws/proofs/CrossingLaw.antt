@@ -3,7 +3,6 @@ use Rattle.std.proofs.Common.{[], ℕ, ◌≡◌, ◌+◌, ◌-◌, ◌<◌, ◌
 use Rattle.std.specs.Prelude.{◌==◌, if◌then◌else◌, None, slice_set}
 use Rattle.std.proofs.lemmas.List.{set-get_or}
 use Rattle.std.proofs.lemmas.Bool.Decides.{nat_tests}
-use Rattle.avr_isa.specs.declared.form.Form.TheVariants as forms
 use Rattle.avr_flags.specs.Sums.{byte_difference}
 use Rattle.avr_exec.specs.Registers.{register}
 use Rattle.flash_words.specs.Pages.{word_at}

@@ -1,12 +1,12 @@
 -- An instruction that a service executes: where it goes on, and what it leaves.
-use Rattle.std.proofs.Common.{ℕ, ◌≡◌, ◌∙◌, true, false, length, refl, sym, ap, arith, subst, inl}
+use Rattle.std.proofs.Common.{ℕ, ◌≡◌, ◌∙◌, false, length, refl, sym, ap, arith, subst, inl}
 use Rattle.avr_isa.specs.Instruction.{size_of}
 use Rattle.avr_isa.specs.declared.form.Form.{Form}
 use Rattle.avr_isa.specs.declared.form.Form.TheVariants as forms
 use Rattle.avr_exec.specs.declared.cpu.Cpu.{Cpu}
 use Rattle.avr_exec.specs.declared.stop.BusStop.{BusStop}
 use Rattle.avr_isa.specs.Addresses.{wrapping_sum}
-use Rattle.avr_exec.specs.Execution.{answered_by, exec_of, is_executed}
+use Rattle.avr_exec.specs.Execution.{answered_by, exec_of}
 use Rattle.avr_exec.specs.Spaces.{Outcome, Went as WentOn}
 use Rattle.avr_exec.specs.Likeness.{is_transfer, moved, Leaves}
 use Rattle.avr_exec.specs.Asks.{ask_of}
@@ -40,12 +40,6 @@ executed_is k a form behind = ap (λ at. executed_at k at form) behind
 -- the kernel after it, with the physical pc at this place
 abbrev pub returned : Kernel → Cpu → Guarded → ℕ → Kernel
 returned k cpu g place = with_pc (put_back k cpu g) place
-
-straight_runs : (form : Form) → is_transfer form ≡ false → is_executed form ≡ true
-unfolding is_transfer is_executed
-straight_runs forms.Sleep is = absurd (cc)
-straight_runs forms.Spm is = absurd (cc)
-straight_runs _ is = refl
 
 pub straight_goes : (pc : ℕ) (form : Form) → is_transfer form ≡ false → jumps_to_itself pc form ≡ false
 unfolding is_transfer

@@ -14,7 +14,7 @@ use Rattle.mote_core.specs.QuietSteps.{IsQuiet, flash_form}
 use Rattle.mote_core.specs.QuietSteps.{held as with_core}
 use Rattle.mote_core.proofs.StepsByAnswer.{keeps_cell}
 use Rattle.mote_core.proofs.QuietMemory.{quiet_lds, quiet_sts}
-use Rattle.mote_core.proofs.QuietCore.{quiet_in_status, quiet_out_status, quiet_dec, quiet_branch, quiet_jmp}
+use Rattle.mote_core.proofs.QuietCore.{quiet_in_status, quiet_out_status, quiet_dec, quiet_branch}
 
 -- the mote with these values of r24, SREG and the pc, and these bytes
 abbrev pub held : Mote → (x s p : ℕ) → List ℕ → Mote
@@ -62,6 +62,3 @@ dec_held m x s p p' ram fits is low behind =
 
 pub breq_held : (m : Mote) (x s p p' : ℕ) (ram : List ℕ) → flash_form m p ≡ Some (forms.Brbs 1 (pos 8)) → cond (has_bit s 2) (relative p (pos 8)) (wrapping_sum p 1) ≡ p' → IsQuiet (held m x s p ram) (held m x s p' ram)
 breq_held m x s p p' ram is goes = quiet_branch m (slice_set m.cpu.r 24 x) s p p' ram 1 8 (has_bit s 2) is refl goes
-
-pub jmp_held : (m : Mote) (x s p place : ℕ) (ram : List ℕ) → flash_form m p ≡ Some (forms.Jmp place) → IsQuiet (held m x s p ram) (held m x s place ram)
-jmp_held m x s p place ram is = quiet_jmp m (slice_set m.cpu.r 24 x) s p ram place is

@@ -1,4 +1,5 @@
 -- The laws of the ten shapes, and what they stand on.
+pub mod DeviceAnswers
 pub mod ShapeTests
 pub mod StubWords
 pub mod PlainMoves
@@ -42,6 +43,7 @@ pub mod FaultLaw
 pub mod EveryShape
 pub mod InlineRuns
 pub mod Joining
+pub mod OneArrival
 pub mod MoveLaws
 pub mod ServiceMoves
 pub mod WorkedNumbers

@@ -5,7 +5,7 @@ use Rattle.avr_isa.specs.declared.form.Form.TheVariants as forms
 use Rattle.flash_words.specs.Pages.{word_at}
 use Rattle.sram_layout.specs.Bytes.{byte_at}
 use Rattle.nat_template.specs.Stubs.{plain_stub}
-use Rattle.page_draft.specs.Standing.{Stands, size, jump_word}
+use Rattle.page_draft.specs.Standing.{Stands, jump_word}
 use Rattle.mote_core.specs.declared.mote.Mote.{Mote}
 use Rattle.step_laws.specs.States.{Begins, InPool, State, mote_of, with_mote}
 use Rattle.step_laws.specs.Links.{Links}

@@ -1,20 +1,24 @@
 -- What decides the next move: a plain step and a service exclude each other, and so do an arrival and an interrupt;
--- a plain step, a service and an interrupt have one outcome each, and an ended program has no move.
-use Rattle.std.proofs.Common.{◌≡◌, ℕ, ◌<◌, ◌≤◌, Bool, true, false, List, [], ◌∷◌, refl, sym, ap, ◌∙◌, arith}
+-- each has one outcome, and an ended program has no move.
+use Rattle.std.proofs.Common.{◌≡◌, ℕ, ◌<◌, ◌≤◌, Bool, true, false, List, [], ◌∷◌, refl, sym, ap, ap₂, ◌∙◌, subst, arith}
 use Rattle.std.specs.Prelude.{◌≢◌, Option, None}
 use Rattle.std.proofs.lemmas.Option.{same_Some}
-use Rattle.flash_words.specs.Layouts.{IsRight}
+use Rattle.flash_words.specs.Layouts.{IsRight, image_of}
 use Rattle.flash_words.specs.declared.layout.Layout.{Layout}
+use Rattle.nat_page.proofs.FaithfulLaws.{faithful_mapped}
+use Rattle.branch_bridge.specs.Arrivals.{Store, ArrivesFrom}
+use Rattle.branch_bridge.specs.declared.through.Arrival.{Arrival}
 use Rattle.mote_devices.specs.declared.line.Line.{Line}
 use Rattle.mote_core.specs.Shown.{line_shown}
-use Rattle.mote_core.proofs.KnownSteps.{one_step}
+use Rattle.mote_core.proofs.OneOutcome.{one_step}
 use Rattle.kernel_entry.specs.declared.kernel.Kernel.{Kernel}
 use Rattle.kernel_entry.specs.declared.kernel.Taken.{Taken}
 use Rattle.kernel_entry.specs.Conditions.{CanServe}
 use Rattle.kernel_entry.specs.Interrupts.{taken}
 use Rattle.step_laws.specs.Moves.{Plain, Serve, Move, Begin, Within, Arrive, Take}
-use Rattle.step_laws.specs.States.{State, Awaited, Begins, InPool, mote_of, with_mote, is_taken_at, after_taking, stops_taking}
+use Rattle.step_laws.specs.States.{State, Awaited, Begins, InPool, mote_of, with_mote, is_taken_at, after_taking, stops_taking, store_of, arrived}
 use Rattle.step_laws.specs.Walks.{MakesPlain, MakesServe, MakesArrive, MakesTake, Makes, Walk}
+use Rattle.step_laws.proofs.OneArrival.{one_outcome}
 
 -- the pool lies below the kernel's entries
 pub pool_low : (layout : Layout) (a : ℕ) → IsRight layout → InPool layout a → a < 0xF000
@@ -63,6 +67,21 @@ arrival_or_interrupt x y z target ops made stops arrival interrupt =
     let same : arrival.owed ≡ interrupt.owed = same_Some arrival.owed interrupt.owed (sym arrival.owes ∙ interrupt.owes) in
     let taken = ap (is_taken_at x) same ∙ interrupt.taken_now in
     absurd (cc)
+
+pub one_arrival : (x y z : State) (target target' ops ops' : ℕ) (made made' : Bool) → MakesArrive x target made ops y → MakesArrive x target' made' ops' z → (target ≡ target') × (made ≡ made') × (ops ≡ ops') × (y ≡ z)
+one_arrival x y z target target' ops ops' made made' one other =
+    let owed = same_Some one.owed other.owed (sym one.owes ∙ other.owes) in
+    let there : target ≡ target' = one.at ∙ ap (λ (o : Awaited). o.target) owed ∙ sym other.at in
+    let mapped = faithful_mapped x.kernel.layout (image_of x.kernel.layout (mote_of x).flash.words) (mote_of x).flash.words one.can.right one.can.faithful in
+    let again = subst (λ t. ArrivesFrom x.kernel.layout (store_of x) other.store t one.owed.stub other.arrival) (sym there)
+    (subst (λ (o : Awaited). ArrivesFrom x.kernel.layout (store_of x) other.store target' o.stub other.arrival) (sym owed) other.arrives) in
+    let same = one_outcome x.kernel.layout (store_of x) one.store other.store target one.owed.stub one.arrival other.arrival mapped one.arrives again in
+    let tried : one.store.flash.ops ≡ other.store.flash.ops = ap (λ (s : Store). s.flash.ops) same.0 in (
+      there,
+      sym one.makes ∙ ap (λ (a : Arrival). a.made) same.1 ∙ other.makes,
+      omega (arith, tried, one.tried, other.tried),
+      one.after ∙ ap₂ (arrived x) same.0 same.1 ∙ sym other.after,
+    )
 
 pub one_interrupt : (x y z : State) (stops stops' : Bool) → MakesTake x stops y → MakesTake x stops' z → (stops ≡ stops') × (y ≡ z)
 one_interrupt x y z stops stops' one other =

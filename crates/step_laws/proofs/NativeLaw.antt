@@ -57,7 +57,7 @@ use Rattle.avr_decode.specs.Program.{instruction_at}
 use Rattle.nat_page.specs.Entered.{IsPlace}
 use Rattle.step_laws.proofs.Stretches.{stretch_of}
 use Rattle.kernel_entry.specs.Parts.{core_of, memory_of, image_held}
-use Rattle.mem_guard.proofs.DeviceAnswers.{answers_alike}
+use Rattle.step_laws.proofs.DeviceAnswers.{answers_alike}
 use Rattle.mote_core.proofs.DeviceAsks.{can_step_device}
 use Rattle.mote_core.proofs.StepsByAnswer.{keeps_same}
 use Rattle.mote_core.specs.QuietSteps.{KeepsKernel}

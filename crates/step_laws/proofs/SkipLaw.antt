@@ -43,7 +43,7 @@ use Rattle.decode_laws.proofs.Decoded.{valid_at}
 use Rattle.avr_decode.specs.Program.{instruction_at}
 use Rattle.step_laws.proofs.Stretches.{stretch_of}
 use Rattle.kernel_entry.specs.Parts.{core_of, memory_of, image_held}
-use Rattle.mem_guard.proofs.DeviceAnswers.{answers_alike}
+use Rattle.step_laws.proofs.DeviceAnswers.{answers_alike}
 use Rattle.mem_guard.proofs.LineLaws.{transfer_line}
 use Rattle.mote_core.proofs.DeviceAsks.{can_step_device}
 use Rattle.step_laws.proofs.AskedLaw.{device_owns}

@@ -2,7 +2,6 @@
 use Rattle.std.proofs.Common.{ℕ, ◌≡◌, ◌+◌, ◌∷◌, ◌∙◌, Bool, true, false, List, get_or, map, refl, ap, arith}
 use Rattle.std.specs.Prelude.{if◌then◌else◌}
 use Rattle.avr_isa.specs.Crossing.{is_crossing}
-use Rattle.avr_isa.specs.declared.form.Form.TheVariants as forms
 use Rattle.avr_isa.specs.Encoding.{second_word}
 use Rattle.flash_words.specs.declared.layout.Layout.{Layout}
 use Rattle.flash_words.specs.Pages.{word_at}

@@ -1,4 +1,5 @@
 -- The moves of a machine that runs rewritten code, and the law of each step.
+pub mod Physically
 pub mod Moves
 pub mod Numbers
 pub mod States
@@ -10,3 +11,4 @@ pub mod InlineLaws
 pub mod Joining
 pub mod Bounds
 pub mod ServiceRows
+pub mod Outcomes

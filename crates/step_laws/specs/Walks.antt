@@ -9,7 +9,9 @@ use Rattle.mote_core.specs.Step.{form_at, IsPlainStep}
 use Rattle.mote_core.specs.QuietSteps.{KeepsKernel}
 use Rattle.heap_frames.specs.Paged.{IsPaged}
 use Rattle.branch_bridge.specs.declared.through.Arrival.{Arrival}
-use Rattle.branch_bridge.specs.Arrivals.{Store, ArrivesFrom}
+use Rattle.flash_words.specs.Layouts.{IsRight, image_of}
+use Rattle.nat_page.specs.Faithful.{IsFaithful}
+use Rattle.branch_bridge.specs.Arrivals.{Store, ArrivesFrom, CameThrough, KeptThrough, ring_of}
 use Rattle.step_laws.specs.Moves.{Inner, Plain, Serve, Move, Begin, Within, Arrive, Take}
 use Rattle.step_laws.specs.States.{State, mote_of, with_mote, Awaited, is_taken_at, admits, after_taking, stops_taking, Begins, InPool, line_served, is_stop, after_service, store_of, arrived}
 use Rattle.kernel_entry.specs.Services.{served, is_due}
@@ -42,6 +44,14 @@ pub record MakesServe (x : State) (line : Option Line) (stops : Bool) (y : State
   pub halts : is_stop (served x.kernel).0 ≡ stops
   pub result : y ≡ after_service (is_due x.kernel) (served x.kernel)
 
+-- An arrival may be made: the pool is faithful; the stub, if there is one, is a link to the target that isn't resolved; and
+-- RING is a page of the pool.
+pub record CanArrive (x : State) (stub : Option ℕ) (target : ℕ) : Type 0 where
+  pub right : IsRight x.kernel.layout
+  pub faithful : IsFaithful x.kernel.layout (image_of x.kernel.layout (mote_of x).flash.words) (mote_of x).flash.words
+  pub came : CameThrough x.kernel.layout (mote_of x).flash.words stub target
+  pub ring : ring_of (mote_of x).sram < x.kernel.layout.pool_pages
+
 -- An arrival: it is the one that is owed, from the stub that asked for it, with no interrupt to be taken before it. A
 -- program that is shut in its part makes none outside. It makes a page and tries so many operations on flash as the
 -- move says, a refused one included.
@@ -52,10 +62,12 @@ pub record MakesArrive (x : State) (target : ℕ) (made : Bool) (ops : ℕ) (y :
   pub untaken : is_taken_at x owed ≡ false
   pub at : target ≡ owed.target
   pub own : admits x.kernel.part target ≡ true
+  pub can : CanArrive x owed.stub target
   pub store : Store
   pub arrival : Arrival
   pub arrives : ArrivesFrom x.kernel.layout (store_of x) store target owed.stub arrival
   pub makes : arrival.made ≡ made
+  pub kept : KeptThrough x.kernel.layout (store_of x) store target arrival
   pub tried : store.flash.ops ≡ (store_of x).flash.ops + ops
   pub after : y ≡ arrived x store arrival
 

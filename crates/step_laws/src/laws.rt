@@ -2,6 +2,7 @@
 ghost use Rattle.step_laws.specs.StepLaws.{HasShapeLaws, HasEntryLaws};
 ghost use Rattle.step_laws.specs.InlineLaws.{RunInline};
 ghost use Rattle.step_laws.specs.Joining.{Joins};
+ghost use Rattle.step_laws.specs.Outcomes.{PlainsAreOne, ServicesAreOne, ArrivalsAreOne, InterruptsAreOne, MovesAreApart, EndsAreLast};
 ghost use Rattle.step_laws.specs.ServiceRows.{ServicesHaveRows};
 ghost use Rattle.step_laws.specs.Bounds.{KeepBounds, EndBounds};
 
@@ -29,6 +30,17 @@ pub fn stack_instructions_run_inline()
 /// A service that is made as a move does what the row of its entry says, and leaves what a service leaves.
 pub fn each_service_has_its_row()
     ensures rows { ServicesHaveRows }
+{}
+
+/// Each move has one outcome, a plain step and a service exclude each other, as an arrival and an interrupt do, and an ended
+/// program makes none.
+pub fn each_move_has_one_outcome()
+    ensures plain { PlainsAreOne }
+    ensures service { ServicesAreOne }
+    ensures arrival { ArrivalsAreOne }
+    ensures interrupt { InterruptsAreOne }
+    ensures apart { MovesAreApart }
+    ensures last { EndsAreLast }
 {}
 
 /// Walks that follow one another are one walk, with the lines one after the other and the numbers added.

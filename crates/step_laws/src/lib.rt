@@ -9,18 +9,17 @@
 //! docs/RUN.md tells all of this in words. `specs/Moves`, `specs/States` and `specs/Walks` say which moves
 //! there are and what each leaves, `specs/Numbers` what is counted by them, `specs/Bounds` how far that goes,
 //! `specs/Links` where control may go on, `specs/Settings` what the law of a step rests on, `specs/StepLaws`
-//! what it says, `specs/InlineLaws` what an inline template does, move by move, and `specs/ServiceRows` what a
-//! service of a walk does. Public laws:
+//! what it says, `specs/InlineLaws` what an inline template does, move by move, `specs/ServiceRows` what a
+//! service of a walk does, and `specs/Outcomes` that each move has one outcome. Public laws:
 //! `proofs/EveryShape` (the law of a shape, for any links, and of an entry), `proofs/InlineRuns` (inline
-//! templates), `proofs/MoveLaws` (a plain step and a service exclude each other, as an arrival and an interrupt
-//! do, and which of them have one outcome) and `proofs/Joining` (walks in a row).
+//! templates), `proofs/MoveLaws` (which move comes next, and what comes of it) and `proofs/Joining` (walks in a row).
 #![tactic(auto)]
 
 mod laws;
 mod moves;
 
 pub use laws::{
-    each_service_has_its_row, each_step_keeps_the_bounds, every_entry_has_its_law,
-    every_shape_has_its_law, stack_instructions_run_inline, walks_join,
+    each_move_has_one_outcome, each_service_has_its_row, each_step_keeps_the_bounds,
+    every_entry_has_its_law, every_shape_has_its_law, stack_instructions_run_inline, walks_join,
 };
 pub use moves::{End, Owed};

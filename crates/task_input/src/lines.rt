@@ -1,6 +1,6 @@
 //! The lines of a script of several tasks, and the text that each task has of it.
 
-ghost use Rattle.std.specs.Prelude.{◌≡◌, ◌≢◌, ◌<◌, ◌≤◌, ◌+◌, ◌↔◌, ◌++◌, ℕ, List, length, All, IsTrue, IfOk, OnOk, MatchOption};
+ghost use Rattle.std.specs.Prelude.{◌≡◌, ◌≢◌, ◌<◌, ◌≤◌, ◌↔◌, ◌++◌, ℕ, List, length, All, IsTrue, IfOk, OnOk, MatchOption};
 ghost use Rattle.text_lines.specs.Lines.{lines_of};
 ghost use Rattle.text_pieces.specs.Pieces.{task_text};
 ghost use Rattle.task_input.specs.Scripts.{at_word, IsNamed, IsTaskLine, IsFormless, own_line, own_lines};

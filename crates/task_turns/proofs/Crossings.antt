@@ -2,6 +2,7 @@
 use Rattle.std.proofs.Common.{◌≡◌, ℕ, ◌+◌, ◌%◌, ◌<◌, ◌⊎◌, Bool, true, false, cond, refl, sym, ap, ◌∙◌, arith, subst, inl, inr}
 use Rattle.std.specs.Prelude.{◌&&◌, ◌==◌, nat_lt, not, Option, Some, None}
 use Rattle.std.proofs.lemmas.Bool.Decides.{nat_tests}
+use Rattle.std.proofs.lemmas.Bool.{and_right}
 use Rattle.mote_devices.specs.declared.line.Line.{Line}
 use Rattle.mote_devices.specs.State.{State}
 use Rattle.mote_devices.specs.Waking.{wake, enabled}
@@ -122,10 +123,6 @@ next_counts program m new line is = counts_by program m (is_taken m) line new is
 
 -- ---- checkpoints, where the crossings are counted from a to b
 
-and_false : (b c : Bool) → c ≡ false → b && c ≡ false
-and_false true c is = is
-and_false false c is = refl
-
 and_true : (b c : Bool) → b ≡ true → b && c ≡ c
 and_true true c is = refl
 and_true false c is = absurd (cc)
@@ -143,7 +140,7 @@ same_unchecked quantum a b same = ap (λ c. nat_lt a c && (c % quantum == 0)) sa
 pub undue_unchecked : (program : Program) (m new : Moment) (line : Option Line) → next_of program m ≡ On line new → new.due ≡ false → checks_by program.quantum m.now.crossings new.now.crossings ≡ false
 undue_unchecked program m new line is undue = elim (next_counts program m new line is) [
   | inl same ↦ same_unchecked program.quantum m.now.crossings new.now.crossings same
-  | inr both ↦ and_false (nat_lt m.now.crossings new.now.crossings) (new.now.crossings % program.quantum == 0) (both.1 undue)
+  | inr both ↦ and_right (nat_lt m.now.crossings new.now.crossings) (new.now.crossings % program.quantum == 0) (both.1 undue)
 ]
 
 -- several steps, of which none is one
@@ -167,7 +164,7 @@ last_checks program a m new line so_far is = elim so_far [
   | inr past ↦ elim (next_counts program m new line is) [
     | inl same ↦
         let none : (new.now.crossings % program.quantum == 0) ≡ false = ap (λ c. c % program.quantum == 0) same ∙ past.1 in
-        and_false (nat_lt a new.now.crossings) (new.now.crossings % program.quantum == 0) none ∙ sym (and_false (nat_lt m.now.crossings new.now.crossings) (new.now.crossings % program.quantum == 0) none)
+        and_right (nat_lt a new.now.crossings) (new.now.crossings % program.quantum == 0) none ∙ sym (and_right (nat_lt m.now.crossings new.now.crossings) (new.now.crossings % program.quantum == 0) none)
     | inr both ↦
         and_true (nat_lt a new.now.crossings) (new.now.crossings % program.quantum == 0) (is_less a new.now.crossings (omega (arith, both.0, past.0)))
         ∙ sym (and_true (nat_lt m.now.crossings new.now.crossings) (new.now.crossings % program.quantum == 0) (is_less m.now.crossings new.now.crossings (omega (arith, both.0))))

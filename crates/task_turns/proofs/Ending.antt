@@ -1,5 +1,5 @@
 -- Tasks in turn all end.
-use Rattle.std.proofs.Common.{◌≡◌, ℕ, zero, suc, ◌+◌, ◌-◌, ◌<◌, ◌≤◌, ◌⊎◌, Bool, true, false, cond, not, List, [], ◌∷◌, ◌++◌, length, get_or, arith, ap, ◌∙◌, sym, refl, subst, Option, Some, None, inl, inr}
+use Rattle.std.proofs.Common.{◌≡◌, ℕ, zero, suc, ◌+◌, ◌-◌, ◌<◌, ◌≤◌, Bool, true, false, cond, not, List, [], ◌∷◌, ◌++◌, length, get_or, arith, ap, ◌∙◌, sym, refl, subst, Option, Some, None, inl, inr}
 use Rattle.std.specs.Prelude.{All, slice_get, slice_set, is_some, sum_by}
 use Rattle.std.specs.List.{range_with_len, find}
 use Rattle.std.proofs.lemmas.List.{get_or-map}
@@ -7,20 +7,17 @@ use Rattle.std.proofs.lemmas.List.Elements.{All-append, All-head, All-tail}
 use Rattle.std.proofs.lemmas.List.FromFn.{get_or-range_with_len, length-range_with_len}
 use Rattle.std.proofs.lemmas.List.Sums.{sum_by-cons}
 use Rattle.std.proofs.lemmas.Option.{get_or_from_slice_get, slice_get-get_or, slice_get_within}
-use Rattle.std.proofs.lemmas.Bool.{cases_eq, cases_lt}
+use Rattle.std.proofs.lemmas.Bool.{cases_eq, cases_lt, not-true}
 use Rattle.mem_guard.specs.FlatMachine.{End}
 use Rattle.task_turns.specs.Turns.{Player, Turns, After, changed_to, changed, others, has_ended, ends_of, with_player, once, continued, go_on, tries, turns, HaveEnded}
 use Rattle.task_turns.proofs.Isolation.{weight, weight_going, weight_ended, IsOnce, once_follows, set_here}
+use Rattle.base_laws.proofs.Searches.{found_first}
 
 -- ---- the next task
 
-find_by : (test : Bool) (x k : ℕ) (rest : Option ℕ) → cond test (Some x) rest ≡ Some k → ((test ≡ true) × (x ≡ k)) ⊎ (rest ≡ Some k)
-find_by true x k rest is = inl (refl, cc)
-find_by false x k rest is = inr is
-
 pub found_holds : (P : ℕ → Type 0) (f : ℕ → Bool) (xs : List ℕ) (k : ℕ) → All P xs → find f xs ≡ Some k → P k × (f k ≡ true)
 found_holds P f [] k all is = absurd (cc)
-found_holds P f (x ∷ xs) k all is = elim (find_by (f x) x k (find f xs) is) [
+found_holds P f (x ∷ xs) k all is = elim (found_first (f x) x k (find f xs) is) [
   | inl both ↦ (subst P both.1 (All-head P x xs all), ap f (sym both.1) ∙ both.0)
   | inr later ↦ found_holds P f xs k (All-tail P x xs all) later
 ]
@@ -45,10 +42,6 @@ in_range a n m fits = λ k d below.
     let inside : k < n = omega (arith, length-range_with_len a n) in
     let at : get_or (range_with_len a n) k d ≡ a + k = get_or-range_with_len a n k d inside in
     omega arith
-
-pub not_true : (b : Bool) → not b ≡ true → b ≡ false
-not_true true is = absurd (cc)
-not_true false is = refl
 
 not_false : (b : Bool) → not b ≡ false → b ≡ true
 not_false true is = refl
@@ -108,7 +101,7 @@ ready_by t p (Some k) there is =
       p = q;
       there = here;
       over = λ ended.
-          let not_yet : is_some q.end ≡ false = sym (ended_at t k q here) ∙ not_true (has_ended (ends_of t) k) holds.1 in
+          let not_yet : is_some q.end ≡ false = sym (ended_at t k q here) ∙ not-true (has_ended (ends_of t) k) holds.1 in
           absurd (true_false (is_some q.end) ended not_yet);
     }
 

@@ -15,9 +15,6 @@ unlike b byte differs same = grind (arith, nat_tests)
 like : (b byte : ℕ) → eqb b byte ≡ true → b ≡ byte
 like b byte equals = grind (arith, nat_tests)
 
-like_not : (b byte : ℕ) → b ≢ byte → eqb b byte ≡ false
-like_not b byte apart = grind (arith, nat_tests)
-
 -- the front of a text lacks a byte that stands at none of its places
 lacks_front : (byte : ℕ) (text : List ℕ) (i : ℕ) → ((k : ℕ) → k < i → eqb (get_or text k 0) byte ≡ false) → Lacks byte (take i text)
 lacks_front byte [] zero none = tt

@@ -1,57 +1,84 @@
 -- The acts of a walk, and what each of them is.
-use Rattle.std.proofs.Common.{◌≡◌, ◌≢◌, ℕ, ◌+◌, ◌*◌, ◌/◌, ◌≤◌, Bool, true, false, ◌%◌, ◌-◌, slice_index, nat_le, if◌then◌else◌, cond, List, [], ◌∷◌, length, Option, Some, None, refl, sym, ap, ◌∙◌, subst, arith}
-use Rattle.sram_layout.specs.Bytes.{byte_at, with_byte}
+use Rattle.std.proofs.Common.{◌≡◌, ◌≢◌, ℕ, ◌+◌, ◌/◌, ◌≤◌, Bool, true, false, ◌%◌, ◌-◌, slice_index, cond, List, [], ◌∷◌, length, Option, Some, None, refl, sym, ap, ◌∙◌, subst, arith, ◌⊎◌, ◌<◌, inl, inr, slice_set}
+use Rattle.sram_layout.specs.Bytes.{byte_at, with_byte, data_word_at}
 use Rattle.flash_words.specs.declared.layout.Layout.{Layout}
-use Rattle.flash_words.specs.Layouts.{layout_of}
+use Rattle.flash_words.specs.Layouts.{layout_of, image_of, IsRight}
 use Rattle.mote_devices.specs.declared.line.Line.{Line}
 use Rattle.mote_core.specs.declared.mote.Mote.{Mote}
 use Rattle.mote_core.specs.Step.{stepped}
 use Rattle.mote_core.specs.Shown.{line_shown}
-use Rattle.branch_bridge.specs.Arrivals.{Store}
+use Rattle.std.specs.Prelude.{IfSome, Result, Ok, Err}
+use Rattle.avr_isa.specs.declared.form.Form.{Form}
+use Rattle.avr_isa.specs.declared.form.Form.TheVariants as forms
+use Rattle.avr_isa.specs.Addresses.{wrapping_sum, wrapping_difference}
+use Rattle.avr_flags.specs.Status.{has_bit, interrupts}
+use Rattle.avr_exec.specs.declared.cpu.Cpu.{Cpu}
+use Rattle.avr_exec.specs.Spaces.{Outcome, Went, Stopped}
+use Rattle.mem_guard.specs.FlatSpace.{FlatSpace, flat_calls}
+use Rattle.mote_devices.specs.State.{State as Devices}
+use Rattle.mote_devices.specs.Waking.{wake}
+use Rattle.nat_template.specs.Stubs.{quantum_entry, fault_entry}
+use Rattle.flash_words.specs.Memory.{Memory}
+use Rattle.page_index.specs.Entries.{IsEntry}
+use Rattle.nat_page.specs.Faithful.{IsFaithful}
+use Rattle.branch_bridge.specs.declared.arrival.ArriveStop.TheVariants as refusals
+use Rattle.branch_bridge.specs.declared.arrival.Refused.{Refused}
+use Rattle.branch_bridge.specs.declared.arrival.Moved.{Moved}
+use Rattle.branch_bridge.specs.declared.rewriting.ResolveStop.{ResolveStop}
+use Rattle.flash_words.proofs.LayoutLaws.{layout_right}
+use Rattle.nat_page.proofs.FaithfulLaws.{faithful_mapped}
+use Rattle.branch_bridge.specs.declared.through.Arrival.{Arrival as BridgeArrival}
+use Rattle.branch_bridge.specs.Operating.{with_torn}
+use Rattle.branch_bridge.specs.Tried.{Tried, is_listed}
+use Rattle.branch_bridge.specs.Arrivals.{Store, ArrivesFrom, CameThrough, KeptThrough, torn_by, stopped_by}
+use Rattle.branch_bridge.specs.Arrivals as bridge
+use Rattle.program_steps.proofs.Arriving.{Answered, answered}
+use Rattle.kernel_entry.specs.declared.kernel.Served.{Served}
+use Rattle.kernel_entry.specs.declared.kernel.Stop.{Stop}
+use Rattle.kernel_entry.specs.declared.kernel.Stop.TheVariants.{Asleep}
+use Rattle.kernel_entry.specs.Services.{served, slept_by, is_sleep, faulted}
+use Rattle.kernel_entry.specs.Rows.{HasStopped, ExecutedBy, ReadBy, PushedBy, PoppedBy, CalledBy, GoneThrough, LoopsOrHalts}
 use Rattle.kernel_entry.specs.declared.kernel.Kernel.{Kernel}
 use Rattle.kernel_entry.specs.Conditions.{CanServe, AtBridge, AtQuantum, AtMem, AtPushReturn, AtReturn, AtIndirect, AtSelf, AtFault}
-use Rattle.kernel_entry.specs.Parts.{virtual_sp}
+use Rattle.avr_exec.specs.Execution.{exec_of}
+use Rattle.mem_guard.specs.FlatMachine.{next_size}
+use Rattle.heap_frames.specs.Paged.{IsPaged}
+use Rattle.kernel_entry.specs.Seen.{View, space_of}
+use Rattle.theorem_reader.specs.Memory.{HasMemory}
+use Rattle.theorem_reader.proofs.Holding.{has_memory}
+use Rattle.kernel_entry.specs.Parts.{virtual_sp, core_of, image_held, return_address, descriptor, instruction, rested}
 use Rattle.kernel_entry.specs.Interrupts as interrupts
 use Rattle.kernel_entry.specs.declared.kernel.Taken.{Taken}
 use Rattle.kernel_entry.specs.declared.kernel.Taken.TheVariants as taken
 use Rattle.kernel_entry.proofs.TakingRows.{taking_row}
 use Rattle.heap_frames.specs.Addresses.{is_stack}
 use Rattle.heap_frames.proofs.MemoryLaws.{stack_from}
-use Rattle.avr_isa.specs.Addresses.{wrapping_difference}
 use Rattle.sram_layout.specs.Cells.{vsp_cell}
 use Rattle.sram_layout.proofs.Laws.{byte_other, byte_out_of_word}
 use Rattle.kernel_entry.specs.Left.{Leaves, LeavesHeap}
-use Rattle.kernel_entry.proofs.ServedLaws.{served_leaves, served_leaves_heap}
+use Rattle.kernel_entry.proofs.ServedLaws.{served_leaves, served_leaves_heap, at_entry, bridge_row, mem_row, push_row, return_row, indirect_row, self_entry_row, slept_is, faulted_is}
 use Rattle.step_laws.proofs.ServiceMoves.{kernel_served}
 use Rattle.step_laws.specs.Moves.{Plain, Serve, Move, Begin, Within, Arrive, Take}
 use Rattle.step_laws.specs.Numbers.{one_if}
-use Rattle.step_laws.specs.States.{State, mote_of, after_taking}
+use Rattle.step_laws.specs.States.{State, mote_of, after_taking, store_of, with_store, placed, settled_by, arrived}
 use Rattle.step_laws.specs.Walks.{Walk, MakesPlain, MakesServe, MakesArrive, MakesTake}
-use Rattle.program_steps.proofs.Arrived.{after_arrived}
-use Rattle.theorem_reader.specs.Acts.{Act, Step, Service, Arrival, Interrupt, IsStep, IsService, IsArrival, IsInterrupt, Follow, pool_from}
+use Rattle.program_steps.proofs.Arrived.{after_arrived, pc_in}
+use Rattle.theorem_reader.specs.Acts.{Act, Step, Service, Arrival, Interrupt, IsStep, called_from, Executes, Ends, Done, IsService, Relinks, Arrives, In, Outside, Refused as RefusedThere, IsArrival, IsInterrupt, Follow}
+use Rattle.theorem_reader.specs.Pools.{pool_from, IsPlaceOf}
+use Rattle.theorem_reader.proofs.Linking.{relinks_by}
+use Rattle.theorem_reader.proofs.Pooling.{Begins, pool_begins, faithful_is, but_is, place_is, place_low}
 
 -- a move as an act between these motes
 abbrev pub act_of : Move → Mote → Mote → Act
 act_of (Begin line) before after = Step before after
 act_of (Within (Plain line)) before after = Step before after
 act_of (Within (Serve line stops)) before after = Service before after
-act_of (Arrive target made ops) before after = Arrival (one_if made) ops before after
+act_of (Arrive target made ops) before after = Arrival target (one_if made) ops before after
 act_of (Take stops) before after = Interrupt before after
 
 abbrev pub acts_of : (x : State) (moves : List Move) (z : State) → Walk x moves z → List Act
 acts_of x [] z walk = []
 acts_of x (move ∷ moves) z walk = act_of move (mote_of x) (mote_of walk.0) ∷ acts_of walk.0 moves z walk.2
-
--- the layout's pool begins at this word, and ends where the kernel begins
-pub record Begins (from : ℕ) (layout : Layout) : Type 0 where
-  pub first : from ≡ 128 * layout.pool_first
-  pub end : layout.pool_first + layout.pool_pages ≡ 480
-
-pub pool_begins : (image : List ℕ) → Begins (pool_from image) (layout_of (length image))
-pool_begins image = elim (nat_le (length image) 16384) as (λ b. Begins (if b then 0x4000 else 0x6000) (record { image_words = length image; pool_first = if b then 128 else 192; pool_pages = if b then 352 else 288 })) [
-  | true ↦ record { first = refl; end = refl }
-  | false ↦ record { first = refl; end = refl }
-]
 
 pub step_is : (from : ℕ) (x y : State) (begins : Bool) (line : Option Line) → Begins from x.kernel.layout → MakesPlain x begins line y → IsStep from (mote_of x) (mote_of y)
 unfolding stepped byte_at
@@ -79,15 +106,175 @@ at_an_entry k (AtIndirect at shape can count) = (omega (arith, at), omega (arith
 at_an_entry k (AtSelf at shape can count) = (omega (arith, at), omega (arith, at))
 at_an_entry k (AtFault at shape can) = (omega (arith, at), omega (arith, at))
 
-pub service_is : (x y : State) (line : Option Line) (stops : Bool) → MakesServe x line stops y → IsService (mote_of x) (mote_of y)
+-- where the pc is behind a service
+abbrev PcAfter : Kernel → Kernel → Type 0
+PcAfter k new = (new.mote.cpu.pc ≡ k.mote.cpu.pc) ⊎ ((0xF004 ≤ k.mote.cpu.pc) × (k.mote.cpu.pc ≤ 0xF007) × (new.mote.cpu.pc ≡ (called_from k.mote + 1) % 65536))
+
+stopped_pc : (k new : Kernel) (result : Served) (stop : Stop) → HasStopped k result new stop → new.mote.cpu.pc ≡ k.mote.cpu.pc
+stopped_pc k new result stop has = ap (λ (n : Kernel). n.mote.cpu.pc) has.stays
+
+behind_call : (k new : Kernel) (place : ℕ) → k.mote.cpu.pc ≡ 0xF004 ⊎ k.mote.cpu.pc ≡ 0xF006 → new.mote.cpu.pc ≡ wrapping_sum (return_address k) 1 → PcAfter k new
 unfolding byte_at
-service_is x y line stops makes =
+behind_call k new place (inl at) is = inr (omega (arith, at), omega (arith, at), is)
+behind_call k new place (inr at) is = inr (omega (arith, at), omega (arith, at), is)
+
+executed_pc : (k new : Kernel) (result : Served) (form : Form) (outcome : Outcome FlatSpace Cpu) → k.mote.cpu.pc ≡ 0xF004 → ExecutedBy k result new form outcome → PcAfter k new
+executed_pc k new result form (Went core space) at does = behind_call k new 0 (inl at) does.resumes.pc
+executed_pc k new result form (Stopped stop) at does = inl (stopped_pc k new result _ does)
+
+read_pc : (k new : Kernel) (result : Served) (form : Form) (foreign : Option ℕ) → k.mote.cpu.pc ≡ 0xF004 → ReadBy k result new form foreign → PcAfter k new
+read_pc k new result form (Some a) at does = inl (stopped_pc k new result _ does)
+read_pc k new result form None at does = executed_pc k new result form _ at does
+
+pushed_pc : (k new : Kernel) (result : Served) (outcome : Outcome FlatSpace (Unit {0})) → k.mote.cpu.pc ≡ 0xF006 → PushedBy k result new outcome → PcAfter k new
+pushed_pc k new result (Went done space) at does = behind_call k new 0 (inr at) does.pc
+pushed_pc k new result (Stopped stop) at does = inl (stopped_pc k new result _ does)
+
+popped_pc : (k new : Kernel) (result : Served) (form : Form) (outcome : Outcome FlatSpace ℕ) → PoppedBy k result new form outcome → new.mote.cpu.pc ≡ k.mote.cpu.pc
+popped_pc k new result form (Went target space) does = does.pc
+popped_pc k new result form (Stopped stop) does = stopped_pc k new result _ does
+
+called_pc : (k new : Kernel) (result : Served) (outcome : Outcome FlatSpace (Unit {0})) → CalledBy k result new outcome → new.mote.cpu.pc ≡ k.mote.cpu.pc
+called_pc k new result (Went done space) does = does.pc
+called_pc k new result (Stopped stop) does = stopped_pc k new result _ does
+
+through_pc : (k new : Kernel) (result : Served) (form : Form) → GoneThrough k result new form → new.mote.cpu.pc ≡ k.mote.cpu.pc
+through_pc k new result forms.Icall does = called_pc k new result _ does
+through_pc k new result form does = does.pc
+
+looped_pc : (k new : Kernel) (result : Served) (b : Bool) → has_bit k.mote.cpu.sreg interrupts ≡ b → LoopsOrHalts k result new → new.mote.cpu.pc ≡ k.mote.cpu.pc
+looped_pc k new result true on row = (row.on on).pc
+looped_pc k new result false off row = stopped_pc k new result _ (row.off off)
+
+slept_pc : (k : Kernel) (b : Bool) (devices : Option Devices) → (cond b (slept_by k devices) (Served.Stopped (Asleep (descriptor k)), rested k)).1.mote.cpu.pc ≡ k.mote.cpu.pc
+slept_pc k true (Some devices) = refl
+slept_pc k true None = refl
+slept_pc k false devices = refl
+
+faulted_pc : (k : Kernel) (b : Bool) → is_sleep (instruction k) ≡ b → (faulted k).1.mote.cpu.pc ≡ k.mote.cpu.pc
+faulted_pc k true is = ap (λ (p : Served × Kernel). p.1.mote.cpu.pc) (faulted_is k true is ∙ slept_is k _ refl) ∙ slept_pc k _ (wake k.mote.devices)
+faulted_pc k false is = ap (λ (p : Served × Kernel). p.1.mote.cpu.pc) (faulted_is k false is)
+
+served_pc : (k : Kernel) → CanServe k → PcAfter k (served k).1
+served_pc k (AtBridge at) = inl (ap (λ (n : Kernel). n.mote.cpu.pc) (bridge_row k at).stays)
+served_pc k (AtQuantum at) = inl (ap (λ (p : Served × Kernel). p.1.mote.cpu.pc) (at_entry k quantum_entry at))
+served_pc k (AtMem at shape can) = let row = mem_row k (AtMem at shape can) at in read_pc k _ _ row.form _ at row.does
+served_pc k (AtPushReturn at shape can) = let row = push_row k (AtPushReturn at shape can) at in pushed_pc k _ _ _ at row.does
+served_pc k (AtReturn at shape can count) = let row = return_row k (AtReturn at shape can count) at in inl (popped_pc k _ _ row.form _ row.does)
+served_pc k (AtIndirect at shape can count) = let row = indirect_row k (AtIndirect at shape can count) at in inl (through_pc k _ _ row.form row.does)
+served_pc k (AtSelf at shape can count) = inl (looped_pc k _ _ _ refl (self_entry_row k (AtSelf at shape can count) at))
+served_pc k (AtFault at shape can) = inl (ap (λ (p : Served × Kernel). p.1.mote.cpu.pc) (at_entry k fault_entry at) ∙ faulted_pc k _ refl)
+
+-- the registers behind the services from PUSHRET on
+stopped_r : (k new : Kernel) (result : Served) (stop : Stop) → HasStopped k result new stop → new.mote.cpu.r ≡ k.mote.cpu.r
+stopped_r k new result stop has = ap (λ (n : Kernel). n.mote.cpu.r) has.stays
+
+pushed_r : (k new : Kernel) (result : Served) (outcome : Outcome FlatSpace (Unit {0})) → PushedBy k result new outcome → new.mote.cpu.r ≡ k.mote.cpu.r
+pushed_r k new result (Went done space) does = ap (λ (v : View). v.registers) does.view
+pushed_r k new result (Stopped stop) does = stopped_r k new result _ does
+
+popped_r : (k new : Kernel) (result : Served) (form : Form) (outcome : Outcome FlatSpace ℕ) → PoppedBy k result new form outcome → new.mote.cpu.r ≡ k.mote.cpu.r
+popped_r k new result form (Went target space) does = ap (λ (v : View). v.registers) does.view
+popped_r k new result form (Stopped stop) does = stopped_r k new result _ does
+
+called_r : (k new : Kernel) (result : Served) (outcome : Outcome FlatSpace (Unit {0})) → CalledBy k result new outcome → new.mote.cpu.r ≡ k.mote.cpu.r
+called_r k new result (Went done space) does = ap (λ (v : View). v.registers) does.view
+called_r k new result (Stopped stop) does = stopped_r k new result _ does
+
+through_r : (k new : Kernel) (result : Served) (form : Form) → GoneThrough k result new form → new.mote.cpu.r ≡ k.mote.cpu.r
+through_r k new result forms.Icall does = called_r k new result _ does
+through_r k new result form does = ap (λ (v : View). v.registers) does.view
+
+looped_r : (k new : Kernel) (result : Served) (b : Bool) → has_bit k.mote.cpu.sreg interrupts ≡ b → LoopsOrHalts k result new → new.mote.cpu.r ≡ k.mote.cpu.r
+looped_r k new result true on row = ap (λ (v : View). v.registers) (row.on on).view
+looped_r k new result false off row = stopped_r k new result _ (row.off off)
+
+slept_r : (k : Kernel) (b : Bool) (devices : Option Devices) → (cond b (slept_by k devices) (Served.Stopped (Asleep (descriptor k)), rested k)).1.mote.cpu.r ≡ k.mote.cpu.r
+slept_r k true (Some devices) = refl
+slept_r k true None = refl
+slept_r k false devices = refl
+
+faulted_r : (k : Kernel) (b : Bool) → is_sleep (instruction k) ≡ b → (faulted k).1.mote.cpu.r ≡ k.mote.cpu.r
+faulted_r k true is = ap (λ (p : Served × Kernel). p.1.mote.cpu.r) (faulted_is k true is ∙ slept_is k _ refl) ∙ slept_r k _ (wake k.mote.devices)
+faulted_r k false is = ap (λ (p : Served × Kernel). p.1.mote.cpu.r) (faulted_is k false is)
+
+served_r : (k : Kernel) → CanServe k → 0xF006 ≤ k.mote.cpu.pc → (served k).1.mote.cpu.r ≡ k.mote.cpu.r
+served_r k (AtBridge at) low = absurd (omega (arith, at, low))
+served_r k (AtQuantum at) low = absurd (omega (arith, at, low))
+served_r k (AtMem at shape can) low = absurd (omega (arith, at, low))
+served_r k (AtPushReturn at shape can) low = let row = push_row k (AtPushReturn at shape can) at in pushed_r k _ _ _ row.does
+served_r k (AtReturn at shape can count) low = let row = return_row k (AtReturn at shape can count) at in popped_r k _ _ row.form _ row.does
+served_r k (AtIndirect at shape can count) low = let row = indirect_row k (AtIndirect at shape can count) at in through_r k _ _ row.form row.does
+served_r k (AtSelf at shape can count) low = looped_r k _ _ _ refl (self_entry_row k (AtSelf at shape can count) at)
+served_r k (AtFault at shape can) low = ap (λ (p : Served × Kernel). p.1.mote.cpu.r) (at_entry k fault_entry at) ∙ faulted_r k _ refl
+
+-- QUANTUM, as it changes the mote
+quantum_is : (k : Kernel) → k.mote.cpu.pc ≡ 0xF002 → (count : ℕ) × ((served k).1.mote ≡ record k.mote {
+  cpu = record k.mote.cpu { r = slice_set k.mote.cpu.r 24 (slice_index k.mote.sram 1); sreg = slice_index k.mote.sram 2; sp = 0x011F };
+  sram = slice_set k.mote.sram 0 count;
+})
+unfolding byte_at with_byte
+quantum_is k at = (k.quantum, ap (λ (p : Served × Kernel). p.1.mote) (at_entry k quantum_entry at))
+
+-- MEM, over the memory that the program sees
+paged_at : (k : Kernel) → CanServe k → k.mote.cpu.pc ≡ 0xF004 → IsPaged k.mote.sram k.mote.swap
+paged_at k (AtBridge at) is = absurd (omega (arith, at, is))
+paged_at k (AtQuantum at) is = absurd (omega (arith, at, is))
+paged_at k (AtMem at shape can) is = can.paged
+paged_at k (AtPushReturn at shape can) is = absurd (omega (arith, at, is))
+paged_at k (AtReturn at shape can count) is = absurd (omega (arith, at, is))
+paged_at k (AtIndirect at shape can count) is = absurd (omega (arith, at, is))
+paged_at k (AtSelf at shape can count) is = absurd (omega (arith, at, is))
+paged_at k (AtFault at shape can) is = absurd (omega (arith, at, is))
+
+executes_by : (k new : Kernel) (result : Served) (form : Form) (outcome : Outcome FlatSpace Cpu) → IsPaged k.mote.sram k.mote.swap → IsPaged new.mote.sram new.mote.swap → instruction k ≡ Some form
+    → exec_of flat_calls form (core_of k (descriptor k)) (space_of k) (next_size (image_held k) (descriptor k)) ≡ outcome → ExecutedBy k result new form outcome → Executes (image_held k) k.mote new.mote
+unfolding byte_at data_word_at
+executes_by k new result form (Went core space) paged paged' is executed does =
+    let view = does.resumes.view in
+    Done form core (space_of k) space is (has_memory k.mote paged) refl refl executed (ap (λ (v : View). v.registers) view) (ap (λ (v : View). v.status) view) (ap (λ (v : View). v.stack_pointer) view)
+    (subst (HasMemory new.mote) (ap (λ (v : View). v.memory) view) (has_memory new.mote paged')) (ap (λ (v : View). v.devices) view)
+executes_by k new result form (Stopped stop) paged paged' is executed does = Ends (ap (λ (n : Kernel). n.mote) does.stays)
+
+reads_by : (k new : Kernel) (result : Served) (form : Form) (foreign : Option ℕ) → IsPaged k.mote.sram k.mote.swap → IsPaged new.mote.sram new.mote.swap → instruction k ≡ Some form → ReadBy k result new form foreign → Executes (image_held k) k.mote new.mote
+reads_by k new result form (Some a) paged paged' is does = Ends (ap (λ (n : Kernel). n.mote) does.stays)
+reads_by k new result form None paged paged' is does = executes_by k new result form _ paged paged' is refl does
+
+executes_at : (k : Kernel) (can : CanServe k) → k.mote.cpu.pc ≡ 0xF004 → Executes (image_held k) k.mote (served k).1.mote
+executes_at k can at =
+    let row = mem_row k can at in
+    let paged = paged_at k can at in
+    reads_by k (served k).1 (served k).0 row.form _ paged ((served_leaves k can).paged paged) row.is row.does
+
+record ServedAs (k new : Kernel) : Type 0 where
+  registers : 0xF006 ≤ k.mote.cpu.pc → new.mote.cpu.r ≡ k.mote.cpu.r
+  memory : k.mote.cpu.pc ≡ 0xF004 → Executes (image_held k) k.mote new.mote
+  pc : PcAfter k new
+  bridge : k.mote.cpu.pc ≡ 0xF000 → new.mote ≡ record k.mote { cpu = record k.mote.cpu { sp = 0x011F } }
+  quantum : k.mote.cpu.pc ≡ 0xF002 → (count : ℕ) × (new.mote ≡ record k.mote {
+    cpu = record k.mote.cpu { r = slice_set k.mote.cpu.r 24 (slice_index k.mote.sram 1); sreg = slice_index k.mote.sram 2; sp = 0x011F };
+    sram = slice_set k.mote.sram 0 count;
+  })
+
+served_as : (k : Kernel) → CanServe k → ServedAs k (served k).1
+served_as k can = record { registers = served_r k can; memory = executes_at k can; pc = served_pc k can; bridge = λ at. ap (λ (n : Kernel). n.mote) (bridge_row k at).stays; quantum = quantum_is k }
+
+pub service_is : (image : List ℕ) (x y : State) (line : Option Line) (stops : Bool) → image_held x.kernel ≡ image → MakesServe x line stops y → IsService image (mote_of x) (mote_of y)
+unfolding byte_at
+service_is image x y line stops held makes =
     let at = at_an_entry x.kernel makes.can in
     let leaves = subst (Leaves x.kernel) (sym (kernel_served x y line stops makes)) (served_leaves x.kernel makes.can) in
+    let told : ServedAs x.kernel y.kernel = subst (ServedAs x.kernel) (sym (kernel_served x y line stops makes)) (served_as x.kernel makes.can) in
     let heap : x.kernel.mote.cpu.pc ≢ 0xF004 → LeavesHeap x.kernel y.kernel = λ other. subst (LeavesHeap x.kernel) (sym (kernel_served x y line stops makes)) (served_leaves_heap x.kernel makes.can other) in
     record {
       low = at.0;
       high = at.1;
+      stack = leaves.stack;
+      pc = told.pc;
+      bridge = told.bridge;
+      quantum = told.quantum;
+      registers = told.registers;
+      memory = λ is. subst (λ i. Executes i (mote_of x) (mote_of y)) held (told.memory is);
       flash = leaves.flash;
       tables = λ a low high. leaves.tables a low (omega arith);
       swap = λ other. (heap other).swap;
@@ -98,16 +285,116 @@ one_most : (b : Bool) → one_if b ≤ 1
 one_most true = omega arith
 one_most false = omega arith
 
-pub arrival_is : (x y : State) (target : ℕ) (made : Bool) (ops : ℕ) → MakesArrive x target made ops y → IsArrival (one_if made) ops (mote_of x) (mote_of y)
-arrival_is x y target made ops makes =
+-- the image stands in flash, and the layout is that of its length
+pub record Holds (image : List ℕ) (x : State) : Type 0 where
+  pub laid : x.kernel.layout ≡ layout_of (length image)
+  pub held : image_of (layout_of (length image)) (mote_of x).flash.words ≡ image
+
+pool_of : (image : List ℕ) (x : State) → Holds image x → Begins (pool_from image) x.kernel.layout
+pool_of image x holds = subst (Begins (pool_from image)) (sym holds.laid) (pool_begins image)
+
+-- outside the image nothing is done
+beyond_by : (layout : Layout) (old new : Store) (t : ℕ) (result : Result Moved Refused) → layout.image_words ≤ t → bridge.Arrives layout old new t result → (new ≡ old) × ((moved : Moved) → result ≡ Ok moved → ⊥)
+beyond_by layout old new t result outside (bridge.Beyond out same answer) = (same, λ moved is. (let e : Err (record { why = refusals.Wild t; torn = None }) ≡ Ok moved = sym answer ∙ is in cc))
+beyond_by layout old new t result outside (bridge.Found place inside found same answer) = absurd (omega (arith, outside, inside))
+beyond_by layout old new t result outside (bridge.Free page inside missed lowest makes) = absurd (omega (arith, outside, inside))
+beyond_by layout old new t result outside (bridge.Full inside missed full recycles) = absurd (omega (arith, outside, inside))
+
+beyond_is : (layout : Layout) (old new : Store) (t : ℕ) (stub : Option ℕ) (arrival : BridgeArrival) → layout.image_words ≤ t → ArrivesFrom layout old new t stub arrival → (new ≡ old) × (arrival.place ≡ None)
+beyond_is layout old new t stub arrival outside (bridge.Stopped refused arrives is) = ((beyond_by layout old new t _ outside arrives).0, ap (λ (a : BridgeArrival). a.place) is)
+beyond_is layout old new t stub arrival outside (bridge.Went moved arrives none is) = absurd ((beyond_by layout old new t _ outside arrives).1 moved refl)
+beyond_is layout old new t stub arrival outside (bridge.Resolved mid moved s arrives some stop done same is) = absurd ((beyond_by layout old mid t _ outside arrives).1 moved refl)
+
+-- where the pc is behind an arrival
+pc_unplaced : (x : State) (place : Option ℕ) (refused : Option Refused) → place ≡ None → (mote_of (settled_by (placed x place) refused)).cpu.pc ≡ (mote_of x).cpu.pc
+pc_unplaced x (Some place) refused is = absurd (cc)
+pc_unplaced x None None is = refl
+pc_unplaced x None (Some refused) is = refl
+
+-- a refused arrival leaves the pc, or in the pool
+place_by : (image words : List ℕ) (x y : State) (target : ℕ) (store : Store) (place : Option ℕ) (refused : Option Refused) → length image ≤ 24576 → y ≡ settled_by (placed (with_store x store) place) refused
+    → IsFaithful (layout_of (length image)) image words → IfSome place (IsEntry (layout_of (length image)) words target)
+    → ((mote_of y).cpu.pc ≡ (mote_of x).cpu.pc) ⊎ ((pool_from image ≤ (mote_of y).cpu.pc) × ((mote_of y).cpu.pc < 0xF000))
+place_by image words x y target store None refused few after code entered =
+    inl (ap (λ (s : State). (mote_of s).cpu.pc) after ∙ pc_unplaced (with_store x store) None refused refl)
+place_by image words x y target store (Some place) refused few after code entered =
+    let l = layout_of (length image) in
+    let pc : (mote_of y).cpu.pc ≡ place = ap (λ (s : State). (mote_of s).cpu.pc) after ∙ pc_in (with_store x store) (Some place) refused place refl in
+    let low = place_low image words target place (place_is image words target place (faithful_mapped l image words (layout_right (length image) few) code) entered) in
+    inr (omega (arith, pc, low.0), omega (arith, pc, low.1))
+
+place_either : (image : List ℕ) (x y : State) (target : ℕ) (store : Store) (arrival : BridgeArrival) (stop : ResolveStop) → length image ≤ 24576 → y ≡ arrived x store arrival → arrival.refused ≡ Some (bridge.refused_by stop)
+    → IsFaithful (layout_of (length image)) image (with_torn (mote_of y).flash.words stop.torn) → IfSome arrival.place (λ v. IsEntry (layout_of (length image)) (with_torn (mote_of y).flash.words stop.torn) target v)
+    → ((mote_of y).cpu.pc ≡ (mote_of x).cpu.pc) ⊎ ((pool_from image ≤ (mote_of y).cpu.pc) × ((mote_of y).cpu.pc < 0xF000))
+place_either image x y target store arrival stop few after is code entered =
+    place_by image (with_torn (mote_of y).flash.words stop.torn) x y target store arrival.place arrival.refused few after code entered
+
+unmade_by : (made : Bool) → one_if made ≡ 0 → made ≡ false
+unmade_by true zero = absurd (omega (arith, zero))
+unmade_by false zero = refl
+
+-- how it ended
+arrives_by : (image : List ℕ) (x y : State) (target : ℕ) (stub : Option ℕ) (store : Store) (arrival : BridgeArrival) → length image ≤ 24576 → image_of (layout_of (length image)) (mote_of x).flash.words ≡ image
+    → y ≡ arrived x store arrival → store ≡ store_of y → ArrivesFrom (layout_of (length image)) (store_of x) (store_of y) target stub arrival → KeptThrough (layout_of (length image)) (store_of x) (store_of y) target arrival
+    → Answered (layout_of (length image)) (store_of x) (store_of y) target arrival → (made : Bool) → arrival.made ≡ made → IsRight (layout_of (length image)) → IsFaithful (layout_of (length image)) image (mote_of x).flash.words
+    → CameThrough (layout_of (length image)) (mote_of x).flash.words stub target → Arrives image target (one_if made) (mote_of x) (mote_of y)
+arrives_by image x y target stub store arrival few held after same from kept (Answered.Wild is outside) made is_made right sound came =
+    let nothing = beyond_is (layout_of (length image)) (store_of x) (store_of y) target stub arrival outside from in
+    Outside outside (ap (λ (s : Store). s.flash) nothing.0)
+    (ap (λ (s : State). (mote_of s).cpu.pc) after ∙ pc_unplaced (with_store x store) arrival.place arrival.refused nothing.1)
+arrives_by image x y target stub store arrival few held after same from kept (Answered.In place there none inside) made is_made right sound came =
+    let l = layout_of (length image) in
+    let words = (mote_of y).flash.words in
+    let code : IsFaithful l image words = subst (λ r. IsFaithful l image (with_torn words (torn_by r))) none (subst (λ i. IsFaithful l i (with_torn words (torn_by arrival.refused))) held kept.code) in
+    let entry : IsEntry l words target place =
+    subst (λ p. IfSome p (λ v. IsEntry l words target v)) there (subst (λ r. IfSome arrival.place (λ v. IsEntry l (with_torn words (torn_by r)) target v)) none kept.entered) in
+    let pc : (mote_of y).cpu.pc ≡ place = ap (λ (s : State). (mote_of s).cpu.pc) after ∙ pc_in (with_store x store) arrival.place arrival.refused place there in
+    In inside (faithful_is image words few code) (subst (IsPlaceOf image words target) (sym pc) (place_is image words target place (faithful_mapped l image words (layout_right (length image) few) code) entry))
+    (λ zero. subst (Relinks (mote_of x).flash.words words) (sym pc) (relinks_by l (store_of x) (store_of y) target stub arrival place right (subst (λ i. IsFaithful l i (mote_of x).flash.words) (sym held) sound) came from (is_made ∙ unmade_by made zero) none there))
+arrives_by image x y target stub store arrival few held after same from kept (Answered.Failed stop is inside) made is_made right sound came =
+    let l = layout_of (length image) in
+    let words = (mote_of y).flash.words in
+    let tried : Tried l (mote_of x).flash (mote_of y).flash (Some stop) = subst (λ r. Tried l (mote_of x).flash (mote_of y).flash (stopped_by r)) is kept.tried in
+    let refusal = tried.refused in
+    let code : IsFaithful l image (with_torn words stop.torn) = subst (λ r. IsFaithful l image (with_torn words (torn_by r))) is (subst (λ i. IsFaithful l i (with_torn words (torn_by arrival.refused))) held kept.code) in
+    RefusedThere inside (omega (arith, refusal.later, refusal.last)) (ap (is_listed (mote_of x).flash) (sym refusal.last) ∙ refusal.listed)
+    (but_is image words stop.torn few code refusal.torn)
+    (place_either image x y target store arrival stop few after is code (subst (λ r. IfSome arrival.place (λ v. IsEntry l (with_torn words (torn_by r)) target v)) is kept.entered))
+
+record Arriving (image : List ℕ) (target made ops : ℕ) (x y : State) : Type 0 where
+  act : IsArrival image target made ops (mote_of x) (mote_of y)
+  holds : Holds image y
+
+arrival_is : (image : List ℕ) (x y : State) (target : ℕ) (made : Bool) (ops : ℕ) → Holds image x → MakesArrive x target made ops y → Arriving image target (one_if made) ops x y
+unfolding byte_at
+arrival_is image x y target made ops holds makes =
+    let l = layout_of (length image) in
     let after = after_arrived x y makes.store makes.arrival makes.after in
+    let begins = pool_begins image in
+    let right = subst IsRight holds.laid makes.can.right in
+    let came = subst (λ k. CameThrough k (mote_of x).flash.words makes.owed.stub target) holds.laid makes.can.came in
+    let few = right.image_fits in
+    let from = subst (λ (s : Store). ArrivesFrom l (store_of x) s target makes.owed.stub makes.arrival) (sym after.store_is) (subst (λ k. ArrivesFrom k (store_of x) makes.store target makes.owed.stub makes.arrival) holds.laid makes.arrives) in
+    let kept = subst (λ (s : Store). KeptThrough l (store_of x) s target makes.arrival) (sym after.store_is) (subst (λ k. KeptThrough k (store_of x) makes.store target makes.arrival) holds.laid makes.kept) in
+    let sound = subst (λ i. IsFaithful l i (mote_of x).flash.words) holds.held (subst (λ k. IsFaithful k (image_of k (mote_of x).flash.words) (mote_of x).flash.words) holds.laid makes.can.faithful) in
     record {
-      page = one_most made;
-      tried = ap (λ (s : Store). s.flash.ops) after.store_is ∙ makes.tried;
-      registers = after.r;
-      status = after.sreg;
-      devices = after.devices;
-      swap = after.swap;
+      act = record {
+        sound = faithful_is image (mote_of x).flash.words few sound;
+        page = one_most made;
+        tried = ap (λ (s : Store). s.flash.ops) after.store_is ∙ makes.tried;
+        failing = kept.tried.failing;
+        registers = after.r;
+        status = after.sreg;
+        pointer = after.sp;
+        devices = after.devices;
+        swap = after.swap;
+        low = λ a low high. kept.rest.rest a low (inl (omega (arith, high)));
+        high = λ a low. kept.rest.rest a (omega (arith, low)) (inr low);
+        below = λ a low. kept.tried.outside a (λ pool. omega (arith, pool.from, begins.first, low));
+        above = λ a high. kept.tried.outside a (λ pool. omega (arith, pool.to, begins.end, high));
+        arrives = arrives_by image x y target makes.owed.stub makes.store makes.arrival few holds.held makes.after (sym after.store_is) from kept (answered l (store_of x) (store_of y) target makes.owed.stub makes.arrival from) made makes.makes right sound came;
+      };
+      holds = record { laid = after.layout ∙ holds.laid; held = kept.image ∙ holds.held };
     }
 
 -- two bytes inside the stack window
@@ -135,6 +422,7 @@ kept_same : (k new : Kernel) → new ≡ k → KeptBy k new
 kept_same k new same = record {
   layout = ap (λ (x : Kernel). x.layout) same;
   mote = record {
+    pc = ap (λ (x : Kernel). x.mote.cpu.pc) same;
     flash = ap (λ (x : Kernel). x.mote.flash) same;
     swap = ap (λ (x : Kernel). x.mote.swap) same;
     registers = ap (λ (x : Kernel). x.mote.cpu.r) same;
@@ -148,6 +436,7 @@ unfolding byte_at
 kept_taken k n target inside = record {
   layout = refl;
   mote = record {
+    pc = refl;
     flash = refl;
     swap = refl;
     registers = refl;
@@ -173,23 +462,39 @@ taken_keeps x y stops makes =
     let p = interrupts.taken x.kernel target in
     subst (KeptBy x.kernel) (sym (ap (λ (s : State). s.kernel) makes.result ∙ kernel_taken x p)) (kept_by x.kernel p.1 target p.0 (taking_row x.kernel target p.0 p.1 refl makes.paged))
 
-pub interrupt_is : (x y : State) (stops : Bool) → MakesTake x stops y → IsInterrupt (mote_of x) (mote_of y)
-interrupt_is x y stops makes = (taken_keeps x y stops makes).mote
+-- where flash and the layout stay
+holds_still : (image : List ℕ) (x y : State) → Holds image x → y.kernel.layout ≡ x.kernel.layout → (mote_of y).flash ≡ (mote_of x).flash → Holds image y
+holds_still image x y holds layout flash = record { laid = layout ∙ holds.laid; held = ap (λ (f : Memory). image_of (layout_of (length image)) f.words) flash ∙ holds.held }
 
--- each act of a walk is one, and the layout stays
-pub follow : (from : ℕ) (x : State) (moves : List Move) (z : State) (walk : Walk x moves z) → Begins from x.kernel.layout → Follow from (mote_of x) (acts_of x moves z walk) (mote_of z)
-follow from x [] z walk pool = ap mote_of walk
-follow from x (Begin line ∷ moves) z walk pool =
-    let layout : walk.0.kernel.layout ≡ x.kernel.layout = ap (λ (s : State). s.kernel.layout) walk.1.result in
-    (refl, step_is from x walk.0 true line pool walk.1, follow from walk.0 moves z walk.2 (subst (Begins from) (sym layout) pool))
-follow from x (Within (Plain line) ∷ moves) z walk pool =
-    let layout : walk.0.kernel.layout ≡ x.kernel.layout = ap (λ (s : State). s.kernel.layout) walk.1.result in
-    (refl, step_is from x walk.0 false line pool walk.1, follow from walk.0 moves z walk.2 (subst (Begins from) (sym layout) pool))
-follow from x (Within (Serve line stops) ∷ moves) z walk pool =
-    let layout : walk.0.kernel.layout ≡ x.kernel.layout = ap (λ (k : Kernel). k.layout) (kernel_served x walk.0 line stops walk.1) ∙ (served_leaves x.kernel walk.1.can).layout in
-    (refl, service_is x walk.0 line stops walk.1, follow from walk.0 moves z walk.2 (subst (Begins from) (sym layout) pool))
-follow from x (Arrive target made ops ∷ moves) z walk pool =
-    let layout : walk.0.kernel.layout ≡ x.kernel.layout = (after_arrived x walk.0 walk.1.store walk.1.arrival walk.1.after).layout in
-    (refl, arrival_is x walk.0 target made ops walk.1, follow from walk.0 moves z walk.2 (subst (Begins from) (sym layout) pool))
-follow from x (Take stops ∷ moves) z walk pool =
-    (refl, interrupt_is x walk.0 stops walk.1, follow from walk.0 moves z walk.2 (subst (Begins from) (sym (taken_keeps x walk.0 stops walk.1).layout) pool))
+-- each act of a walk is one, and the image stays
+pub record Following (image : List ℕ) (x : State) (moves : List Move) (z : State) (walk : Walk x moves z) : Type 0 where
+  pub follow : Follow image (mote_of x) (acts_of x moves z walk) (mote_of z)
+  pub holds : Holds image z
+
+pub follow : (image : List ℕ) (x : State) (moves : List Move) (z : State) (walk : Walk x moves z) → Holds image x → Following image x moves z walk
+follow image x [] z walk holds = record { follow = ap mote_of walk; holds = subst (Holds image) walk holds }
+follow image x (Begin line ∷ moves) z walk holds =
+    let y = walk.0 in
+    let next = holds_still image x y holds (ap (λ (s : State). s.kernel.layout) walk.1.result) (ap (λ (s : State). (mote_of s).flash) walk.1.result ∙ walk.1.step.flash) in
+    let rest = follow image y moves z walk.2 next in
+    record { follow = (refl, step_is (pool_from image) x y true line (pool_of image x holds) walk.1, rest.follow); holds = rest.holds }
+follow image x (Within (Plain line) ∷ moves) z walk holds =
+    let y = walk.0 in
+    let next = holds_still image x y holds (ap (λ (s : State). s.kernel.layout) walk.1.result) (ap (λ (s : State). (mote_of s).flash) walk.1.result ∙ walk.1.step.flash) in
+    let rest = follow image y moves z walk.2 next in
+    record { follow = (refl, step_is (pool_from image) x y false line (pool_of image x holds) walk.1, rest.follow); holds = rest.holds }
+follow image x (Within (Serve line stops) ∷ moves) z walk holds =
+    let y = walk.0 in
+    let leaves = served_leaves x.kernel walk.1.can in
+    let same = kernel_served x y line stops walk.1 in
+    let next = holds_still image x y holds (ap (λ (k : Kernel). k.layout) same ∙ leaves.layout) (ap (λ (k : Kernel). k.mote.flash) same ∙ leaves.flash) in
+    let rest = follow image y moves z walk.2 next in
+    record { follow = (refl, service_is image x y line stops (ap (λ (l : Layout). image_of l (mote_of x).flash.words) holds.laid ∙ holds.held) walk.1, rest.follow); holds = rest.holds }
+follow image x (Arrive target made ops ∷ moves) z walk holds =
+    let one = arrival_is image x walk.0 target made ops holds walk.1 in
+    let rest = follow image walk.0 moves z walk.2 one.holds in
+    record { follow = (refl, one.act, rest.follow); holds = rest.holds }
+follow image x (Take stops ∷ moves) z walk holds =
+    let keeps = taken_keeps x walk.0 stops walk.1 in
+    let rest = follow image walk.0 moves z walk.2 (holds_still image x walk.0 holds keeps.layout keeps.mote.flash) in
+    record { follow = (refl, keeps.mote, rest.follow); holds = rest.holds }

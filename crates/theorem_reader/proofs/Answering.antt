@@ -1,50 +1,70 @@
 -- What is answered, in lists and numbers.
-use Rattle.std.proofs.Common.{◌≡◌, ℕ, ◌+◌, ◌*◌, ◌≤◌, true, false, List, [], ◌++◌, Option, Some, None, refl, sym, ap, ◌∙◌, subst, arith, zero-add, inl, inr}
-use Rattle.std.specs.Io.KnownBytes.{Appends}
-use Rattle.byte_streams.specs.Faults.{Rose}
+use Rattle.std.proofs.Common.{◌≡◌, ◌≢◌, take, length, ℕ, ◌+◌, ◌*◌, ◌≤◌, true, false, List, Option, Some, None, refl, sym, ap, ◌∙◌, subst, arith, zero-add, inl, inr}
 use Rattle.sram_layout.specs.Bytes.{byte_at, data_word_at}
-use Rattle.list_parts.specs.Lists.{many}
-use Rattle.flash_words.specs.Memory.{Memory, loaded, new_flash}
+use Rattle.std.specs.Prelude.{IfSome}
+use Rattle.flash_words.specs.Memory.{Memory, new_flash}
+use Rattle.flash_words.specs.Layouts.{layout_of, IsRight}
+use Rattle.flash_words.specs.declared.layout.Layout.{Layout}
+use Rattle.flash_words.proofs.LoadedLaws.{loaded_image}
+use Rattle.nat_page.specs.Faithful.{IsFaithful}
+use Rattle.branch_bridge.specs.declared.rewriting.Torn.{Torn}
+use Rattle.branch_bridge.specs.Operating.{with_torn}
+use Rattle.branch_bridge.specs.Tried.{IsTorn}
+use Rattle.kernel_entry.specs.Parts.{image_held}
+use Rattle.kernel_entry.specs.Seen.{program}
+use Rattle.kernel_entry.specs.declared.kernel.Stop.TheVariants as stops
+use Rattle.step_laws.specs.declared.moves.End.{End as MachineEnd}
+use Rattle.step_laws.specs.declared.moves.End.TheVariants as ends
 use Rattle.input_script.specs.Script.{Schedule}
-use Rattle.mem_guard.specs.FlatMachine.{Moment}
+use Rattle.mem_guard.specs.FlatMachine.{Moment, Program, End as FlatEnd}
+use Rattle.mem_guard.specs.FlatMachine as flat_ends
 use Rattle.step_laws.specs.Numbers.{Numbers}
 use Rattle.mote_core.specs.declared.mote.Mote.{Mote}
 use Rattle.mote_devices.specs.declared.line.Line.{Line}
 use Rattle.program_steps.specs.Machines.{Machine, state_of, numbers_of, flat_of}
-use Rattle.program_steps.specs.Ready.{IsReady}
+use Rattle.program_steps.specs.Ready.{IsSound, HasFault, mended_words}
+use Rattle.program_steps.specs.Stepping.{AreMadeAt as MadeAt}
+use Rattle.tk_run.specs.WholeRuns.{StandsAt, program_at}
 use Rattle.step_laws.proofs.NumberLaws.{unmoved}
 use Rattle.tk_run.specs.Booted.{started}
-use Rattle.tk_run.specs.Running.{Leads}
-use Rattle.tk_words.specs.declared.command.Command.TheVariants.{Run as RunCommand}
+use Rattle.tk_run.specs.Running.{Leads, flat_end}
+use Rattle.tk_words.specs.declared.command.Command.TheVariants.{Run as RunCommand, Generate}
+use Rattle.tk_words.specs.declared.job.Job.TheVariants as jobs
+use Rattle.tk_words.specs.declared.request.Request.{Request}
 use Rattle.tk_words.specs.declared.status.Status.{Status}
 use Rattle.tkernel_cli.specs.declared.top.Exit.{Exit}
-use Rattle.tk_words.specs.Status.{number_of}
+use Rattle.tk_request.specs.Asking.{IsWarranted}
 use Rattle.tk_request.specs.Reading.{Good}
 use Rattle.tk_words.specs.Stream.{Stream}
-use Rattle.run_jobs.specs.Runs.{Says, Runs, RunsToTheEnd, RunsIntoAFault, Follows}
-use Rattle.tkernel_cli.specs.Answer.{IsExact}
-use Rattle.theorem_reader.specs.Acts.{HasActs, IsBoot, pool_from, tried_in}
-use Rattle.theorem_reader.specs.Runs.{Asked, Asks, original_of, StandsFrom, Stands, EndsWell, EndsInAFault, IsRun, NoMemory, Ended, Failed}
+use Rattle.run_jobs.specs.Runs.{KeepsEnd, Runs, RunsToTheEnd, RunsIntoAFault, RunsUntilCut, Follows}
+use Rattle.theorem_reader.specs.Acts.{HasActs, IsBoot, tried_in}
+use Rattle.theorem_reader.specs.Pools.{AreFaithful, AreFaithfulBut}
+use Rattle.theorem_reader.specs.Ends.{end_of, IsKeptEnd}
+use Rattle.theorem_reader.specs.Runs.{Asked, Asks, AsksGenerate, generated_by, options_of, original_of, StandsFrom, Stands, EndsWell, EndsInAFault, IsRun, NoMemory, Ended, Failed, Cut}
+use Rattle.theorem_reader.specs.Telling.{Fails, IsSo}
 use Rattle.theorem_reader.specs.Memory.{HasMemory}
 use Rattle.theorem_reader.proofs.Holding.{has_memory}
-use Rattle.theorem_reader.proofs.Acting.{acts_of, follow, pool_begins}
-use Rattle.theorem_reader.proofs.Bounding.{natural_of, entries_of, pages_of, ops_of, longest_of, longest_in, no_longer, last_arrives, same_last, arrives_last, last_refuses}
-use Rattle.theorem_reader.proofs.SameTexts.{ended_same, failed_same, status_same}
+use Rattle.theorem_reader.proofs.Pooling.{faithful_is, but_is}
+use Rattle.theorem_reader.proofs.Booting.{is_boot}
+use Rattle.theorem_reader.proofs.Acting.{acts_of, follow}
+use Rattle.theorem_reader.proofs.Bounding.{natural_of, entries_of, pages_of, ops_of, longest_of, longest_in, no_longer, last_arrives, same_last, arrives_last, last_refuses, made_of, steps_of}
+use Rattle.theorem_reader.proofs.Doing.{Call, Somehow, so_then, retold, told_how, cut_by, told_by}
+use Rattle.theorem_reader.proofs.SameTexts.{lines_same, ended_same, failed_same, status_same}
 
 abbrev pub script_of : Asked → Schedule
 script_of asked = record { events = asked.events; failing = asked.failing }
+
+-- what the words and the text ask to run
+abbrev pub request_of : Asked → Request
+request_of asked = record { image = asked.image; script = script_of asked; options = options_of asked }
 
 -- a machine that has done nothing yet, over a flash whose pool has so many pages
 abbrev pub start_of : Asked → Memory → (pages : ℕ) → Machine
 start_of asked flash pages = started asked.image flash (script_of asked) asked.quantum asked.slots pages
 
-is_boot : (asked : Asked) → IsBoot asked.image (start_of asked (new_flash asked.image asked.failing) 0).kernel.mote
-unfolding loaded many
-is_boot asked = record { words = refl; ops = refl }
-
-has_acts : (IsFirst : Mote → Type 0) (asked : Asked) (flash : Memory) (pages : ℕ) (lines : List Line) (m : Machine) → IsFirst (start_of asked flash pages).kernel.mote → flash.ops ≡ 0
+has_acts : (IsFirst : Mote → Type 0) (asked : Asked) (flash : Memory) (pages : ℕ) (lines : List Line) (m : Machine) → IsFirst (start_of asked flash pages).kernel.mote → flash.ops ≡ 0 → take (length asked.image) flash.words ≡ asked.image
     → Leads (start_of asked flash pages) lines m → m.longest ≤ 5120 * asked.quantum → HasActs IsFirst pages asked.image asked.quantum m.natural m.entries m.pages m.end m.kernel.mote
-has_acts IsFirst asked flash pages lines m begins untried path bound =
+has_acts IsFirst asked flash pages lines m begins untried held path bound =
     let x = state_of (start_of asked flash pages) in
     let moves = path.moves in
     let walk = path.goes.walk in
@@ -54,7 +74,7 @@ has_acts IsFirst asked flash pages lines m begins untried path bound =
       acts = acts;
       first = (start_of asked flash pages).kernel.mote;
       begins = begins;
-      follow = follow (pool_from asked.image) x moves (state_of m) walk (pool_begins asked.image);
+      follow = (follow asked.image x moves (state_of m) walk (record { laid = refl; held = held })).follow;
       natural_is = ap (λ (k : Numbers). k.natural) path.goes.numbers ∙ natural_of x moves (state_of m) walk counts ∙ zero-add (_);
       entries_is = ap (λ (k : Numbers). k.entries) path.goes.numbers ∙ entries_of x moves (state_of m) walk counts ∙ zero-add (_);
       pages_is = ap (λ (k : Numbers). k.pages) path.goes.numbers ∙ pages_of x moves (state_of m) walk counts;
@@ -62,8 +82,8 @@ has_acts IsFirst asked flash pages lines m begins untried path bound =
       few = λ front between back is none.
           let longest : m.longest ≡ longest_in 0 0 acts = ap (λ (k : Numbers). k.longest) path.goes.numbers ∙ longest_of x moves (state_of m) walk counts in
           omega (arith, bound, longest, ap (longest_in 0 0) is, no_longer 0 0 front between back none);
-      ends = λ front made ops before after is.
-          let arrives = same_last x moves (state_of m) walk ∙ ap last_arrives is ∙ arrives_last front made ops before after in
+      ends = λ front target made ops before after is.
+          let arrives = same_last x moves (state_of m) walk ∙ ap last_arrives is ∙ arrives_last front target made ops before after in
           elim (last_refuses x moves (state_of m) walk arrives) [
             | inl none ↦ let both : true ≡ false = sym arrives ∙ path.last none in absurd (cc)
             | inr refusal ↦ refusal
@@ -75,51 +95,135 @@ runs_alone : (asked : Asked) (flash : Memory) (pages n : ℕ) (m : Machine) → 
 runs_alone asked flash pages n m path = ap (λ (k : Numbers). k.others) path.goes.numbers ∙ (unmoved path.moves (numbers_of (start_of asked flash pages))).1
 
 -- where moves lead from such a start
-pub stands_from : (IsFirst : Mote → Type 0) (asked : Asked) (flash : Memory) (pages n : ℕ) (m : Machine) → IsFirst (start_of asked flash pages).kernel.mote → flash.ops ≡ 0
-    → flat_of m ≡ (original_of asked n).state → IsReady m → Leads (start_of asked flash pages) (original_of asked n).lines m → m.kernel.quantum ≡ asked.quantum → m.longest ≤ 5120 * m.kernel.quantum → m.steps ≤ asked.steps
+pub stands_from : (IsFirst : Mote → Type 0) (asked : Asked) (flash : Memory) (pages n : ℕ) (m : Machine) → IsFirst (start_of asked flash pages).kernel.mote → flash.ops ≡ 0 → take (length asked.image) flash.words ≡ asked.image
+    → flat_of m ≡ (original_of asked n).state → program m.kernel ≡ program_at asked.image asked.quantum asked.slots → IsSound m → (path : Leads (start_of asked flash pages) (original_of asked n).lines m) → MadeAt (StandsAt asked.image (script_of asked) asked.quantum asked.slots m.steps) path.moves → m.kernel.quantum ≡ asked.quantum → m.longest ≤ 5120 * m.kernel.quantum → m.steps ≤ asked.steps → m.pages ≤ pages + m.steps + 1
     → StandsFrom IsFirst pages asked (original_of asked n) m
-unfolding data_word_at byte_at
-stands_from IsFirst asked flash pages n m begins untried same ready path quantum longest within =
+unfolding data_word_at byte_at has_acts
+stands_from IsFirst asked flash pages n m begins untried held same own sound path made quantum longest within most =
+    let x = state_of (start_of asked flash pages) in
+    let acts = has_acts IsFirst asked flash pages (original_of asked n).lines m begins untried held path (subst (λ q. m.longest ≤ 5120 * q) quantum longest) in
     record {
       registers = ap (λ (s : Moment). s.now.cpu.r) same;
       status = ap (λ (s : Moment). s.now.cpu.sreg) same;
       pointer = ap (λ (s : Moment). s.now.cpu.sp) same;
       pc = ap (λ (s : Moment). s.now.cpu.pc) same;
-      memory = subst (HasMemory m.kernel.mote) (ap (λ (s : Moment). s.now.memory) same) (has_memory m.kernel.mote ready.sound.order.paged);
+      memory = subst (HasMemory m.kernel.mote) (ap (λ (s : Moment). s.now.memory) same) (has_memory m.kernel.mote sound.order.paged);
       devices = ap (λ (s : Moment). s.now.devices) same;
       steps = ap (λ (s : Moment). s.now.steps) same;
       crossings = ap (λ (s : Moment). s.now.crossings) same;
       due = ap (λ (s : Moment). s.due) same;
+      words = sym sound.order.faithful.image_length ∙ ap (λ (p : Program). length p.image) own;
+      slots = ap (λ (p : Program). p.page_limit) own;
+      quantum = quantum;
       most_steps = within;
-      most_operations = omega (arith, ready.sound.bounded.ops, runs_alone asked flash pages n m path);
-      acts = has_acts IsFirst asked flash pages (original_of asked n).lines m begins untried path (subst (λ q. m.longest ≤ 5120 * q) quantum longest);
+      most_operations = omega (arith, sound.bounded.ops, runs_alone asked flash pages n m path);
+      most_pages = most;
+      acts = acts;
+      least_natural = omega (arith, ap (λ (k : Numbers). k.steps) path.goes.numbers, steps_of x path.moves (state_of m) path.goes.walk (numbers_of (start_of asked flash pages)), acts.natural_is);
+      most_natural = sound.bounded.moves.natural;
+      most_entries = sound.bounded.moves.entries;
+      made_at = λ front back target ops before after is. made_of (StandsAt asked.image (script_of asked) asked.quantum asked.slots m.steps) x path.moves (state_of m) path.goes.walk made front back target ops before after is;
     }
 
-stands : (asked : Asked) (n : ℕ) (m : Machine) → Follows (record { image = asked.image; script = script_of asked; options = record { steps = asked.steps; quantum = asked.quantum; swap = asked.slots } }) n m → m.steps ≤ asked.steps → Stands asked (original_of asked n) m
+stands : (asked : Asked) (n : ℕ) (m : Machine) → Follows (request_of asked) n m → m.steps ≤ asked.steps → Stands asked (original_of asked n) m
 stands asked n m follows within =
-    stands_from (IsBoot asked.image) asked (new_flash asked.image asked.failing) 0 n m (is_boot asked) refl follows.state follows.ready follows.path follows.quantum follows.longest within
+    stands_from (IsBoot asked.image asked.failing asked.events asked.quantum asked.slots) asked (new_flash asked.image asked.failing) 0 n m (is_boot asked.image asked.failing asked.events asked.quantum asked.slots) refl (loaded_image asked.image)
+    follows.state follows.program follows.ready.sound follows.path follows.made follows.quantum follows.longest within (omega (arith, follows.pages))
 
--- the bytes that a new sink took
-pub taken_is : (before now : Option (List ℕ)) (taken text : List ℕ) → before ≡ Some [] → now ≡ Some taken → Appends before now text → taken ≡ text
-taken_is None now taken text first last appended = absurd (cc)
-taken_is (Some xs) None taken text first last appended = absurd appended
-taken_is (Some xs) (Some ys) taken text first last appended =
-    let empty : xs ≡ [] = cc in
-    let same : ys ≡ taken = cc in
-    sym same ∙ appended ∙ ap (λ z. z ++ text) empty
+-- the end that is kept
+own_end : (end : MachineEnd) → flat_end end ≡ end_of end
+own_end ends.Spent = refl
+own_end (ends.Stopped (stops.Halted pc)) = refl
+own_end (ends.Stopped (stops.Asleep pc)) = refl
+own_end (ends.Stopped (stops.Illegal pc)) = refl
+own_end (ends.Stopped (stops.SelfProgram pc)) = refl
+own_end (ends.Stopped (stops.Read pc a)) = refl
+own_end (ends.Stopped (stops.Io pc a)) = refl
+own_end (ends.Stopped (stops.Stack pc a)) = refl
+own_end (ends.Stopped (stops.SwapFull pc a)) = refl
+own_end (ends.Wild t) = refl
+own_end (ends.Flash op) = refl
 
-pub said_is : (own told : Status) (text taken : List ℕ) (before now : Stream) → (Rose before.faults now.faults → ⊥) → before.told ≡ Some [] → now.told ≡ Some taken → Says own text before now told → (told ≡ own) × (taken ≡ text)
-said_is own told text taken before now well first last said = elim said [
-  | inl is ↦ (is.0, taken_is before.told now.told taken text first last is.1)
-  | inr cut ↦ absurd (well cut.1)
-]
+own_kept : (end : FlatEnd) (m : Machine) → ((kept : MachineEnd) × (m.end ≡ Some kept) × (flat_end kept ≡ end)) → (own : MachineEnd) × (m.end ≡ Some own) × (end_of own ≡ end)
+own_kept end m keeps = (keeps.0, keeps.1, sym (own_end keeps.0) ∙ keeps.2)
+
+pub kept_end : (end : FlatEnd) (m : Machine) → KeepsEnd end m → IsKeptEnd end m.end
+kept_end flat_ends.Spent m keeps = keeps
+kept_end (flat_ends.Wild pc) m keeps = own_kept (flat_ends.Wild pc) m keeps
+kept_end (flat_ends.Illegal pc) m keeps = own_kept (flat_ends.Illegal pc) m keeps
+kept_end (flat_ends.SelfProgram pc) m keeps = own_kept (flat_ends.SelfProgram pc) m keeps
+kept_end (flat_ends.Asleep pc) m keeps = own_kept (flat_ends.Asleep pc) m keeps
+kept_end (flat_ends.Halted pc) m keeps = own_kept (flat_ends.Halted pc) m keeps
+kept_end (flat_ends.Read pc a) m keeps = own_kept (flat_ends.Read pc a) m keeps
+kept_end (flat_ends.Io pc a) m keeps = own_kept (flat_ends.Io pc a) m keeps
+kept_end (flat_ends.Stack pc a) m keeps = own_kept (flat_ends.Stack pc a) m keeps
+kept_end (flat_ends.SwapFull pc a) m keeps = own_kept (flat_ends.SwapFull pc a) m keeps
+
+-- a run to the original's end keeps no refused operation as its end
+fault_spends : (end : FlatEnd) (m : Machine) (op : ℕ) → ((kept : MachineEnd) × (m.end ≡ Some kept) × (flat_end kept ≡ end)) → m.end ≡ Some (ends.Flash op) → end ≡ flat_ends.Spent
+fault_spends end m op keeps is =
+    let e : Some keeps.0 ≡ Some (ends.Flash op) = sym keeps.1 ∙ is in
+    let same : keeps.0 ≡ ends.Flash op = cc in
+    sym keeps.2 ∙ ap flat_end same
+
+pub no_fault : (end : FlatEnd) (m : Machine) (op : ℕ) → KeepsEnd end m → m.end ≢ Some (ends.Flash op)
+no_fault flat_ends.Spent m op keeps is = let e : Some (ends.Flash op) ≡ None = sym is ∙ keeps in absurd (cc)
+no_fault (flat_ends.Wild pc) m op keeps is = let e : flat_ends.Wild pc ≡ flat_ends.Spent = fault_spends (flat_ends.Wild pc) m op keeps is in absurd (cc)
+no_fault (flat_ends.Illegal pc) m op keeps is = let e : flat_ends.Illegal pc ≡ flat_ends.Spent = fault_spends (flat_ends.Illegal pc) m op keeps is in absurd (cc)
+no_fault (flat_ends.SelfProgram pc) m op keeps is = let e : flat_ends.SelfProgram pc ≡ flat_ends.Spent = fault_spends (flat_ends.SelfProgram pc) m op keeps is in absurd (cc)
+no_fault (flat_ends.Asleep pc) m op keeps is = let e : flat_ends.Asleep pc ≡ flat_ends.Spent = fault_spends (flat_ends.Asleep pc) m op keeps is in absurd (cc)
+no_fault (flat_ends.Halted pc) m op keeps is = let e : flat_ends.Halted pc ≡ flat_ends.Spent = fault_spends (flat_ends.Halted pc) m op keeps is in absurd (cc)
+no_fault (flat_ends.Read pc a) m op keeps is = let e : flat_ends.Read pc a ≡ flat_ends.Spent = fault_spends (flat_ends.Read pc a) m op keeps is in absurd (cc)
+no_fault (flat_ends.Io pc a) m op keeps is = let e : flat_ends.Io pc a ≡ flat_ends.Spent = fault_spends (flat_ends.Io pc a) m op keeps is in absurd (cc)
+no_fault (flat_ends.Stack pc a) m op keeps is = let e : flat_ends.Stack pc a ≡ flat_ends.Spent = fault_spends (flat_ends.Stack pc a) m op keeps is in absurd (cc)
+no_fault (flat_ends.SwapFull pc a) m op keeps is = let e : flat_ends.SwapFull pc a ≡ flat_ends.Spent = fault_spends (flat_ends.SwapFull pc a) m op keeps is in absurd (cc)
+
+-- the layout of a run is that of its image
+pub layout_same : (image : List ℕ) (m : Machine) → IsSound m → image_held m.kernel ≡ image → m.kernel.layout ≡ layout_of (length image)
+layout_same image m sound held =
+    let order = sound.order in
+    order.layout ∙ ap layout_of (sym order.faithful.image_length ∙ ap length held)
+
+torn_by_order : (torn : Option Torn) (layout : Layout) (m : Machine) → IfSome torn (λ t. IsTorn layout m.kernel.mote.flash.words t × HasFault m) → IfSome torn (IsTorn layout m.kernel.mote.flash.words)
+torn_by_order None layout m is = tt
+torn_by_order (Some torn) layout m is = is.0
+
+never_torn : (m : Machine) (torn : Option Torn) → ((op : ℕ) → m.end ≢ Some (ends.Flash op)) → IfSome torn (λ t. IsTorn m.kernel.layout m.kernel.mote.flash.words t × HasFault m) → torn ≡ None
+never_torn m None unfailed is = refl
+never_torn m (Some torn) unfailed is = absurd (unfailed is.1.0 is.1.1)
+
+-- flash behind a run
+pub lacking_of : (asked : Asked) (m : Machine) → IsSound m → image_held m.kernel ≡ asked.image → AreFaithfulBut asked.image m.kernel.mote.flash.words
+lacking_of asked m sound held =
+    let order = sound.order in
+    let l = layout_of (length asked.image) in
+    let laid = layout_same asked.image m sound held in
+    let code : IsFaithful l asked.image (mended_words m) = subst (λ i. IsFaithful l i (mended_words m)) held (subst (λ k. IsFaithful k (image_held m.kernel) (mended_words m)) laid order.faithful) in
+    let few = (subst IsRight laid order.right).image_fits in
+    but_is asked.image m.kernel.mote.flash.words m.torn few code (torn_by_order m.torn l m (subst (λ k. IfSome m.torn (λ t. IsTorn k m.kernel.mote.flash.words t × HasFault m)) laid order.tried.torn))
+
+pub whole_of : (asked : Asked) (m : Machine) → IsSound m → image_held m.kernel ≡ asked.image → ((op : ℕ) → m.end ≢ Some (ends.Flash op)) → AreFaithful asked.image m.kernel.mote.flash.words
+whole_of asked m sound held unfailed =
+    let order = sound.order in
+    let l = layout_of (length asked.image) in
+    let laid = layout_same asked.image m sound held in
+    let untorn = never_torn m m.torn unfailed order.tried.torn in
+    let code : IsFaithful l asked.image (mended_words m) = subst (λ i. IsFaithful l i (mended_words m)) held (subst (λ k. IsFaithful k (image_held m.kernel) (mended_words m)) laid order.faithful) in
+    let few = (subst IsRight laid order.right).image_fits in
+    faithful_is asked.image m.kernel.mote.flash.words few (subst (λ t. IsFaithful l asked.image (with_torn m.kernel.mote.flash.words t)) untorn code)
 
 pub ends_well : (asked : Asked) (before now : Stream) (told : Status) (m : Machine)
-    → RunsToTheEnd (record { image = asked.image; script = script_of asked; options = record { steps = asked.steps; quantum = asked.quantum; swap = asked.slots } }) before now told m → EndsWell asked m
-ends_well asked before now told m run = record { stands = stands asked asked.steps m run.follows run.within; none_failed = run.unlisted }
+    → RunsToTheEnd (request_of asked) before now told m → EndsWell asked m
+ends_well asked before now told m run = record {
+  stands = stands asked asked.steps m run.follows run.within;
+  end = kept_end _ m run.end;
+  unbroken = run.follows.unbroken;
+  none_failed = run.unlisted;
+  faithful = whole_of asked m run.follows.ready.sound (ap (λ (p : Program). p.image) run.follows.program) (λ op. no_fault _ m op run.end);
+}
 
 pub ends_in_a_fault : (asked : Asked) (before now : Stream) (told : Status) (m : Machine)
-    → (run : RunsIntoAFault (record { image = asked.image; script = script_of asked; options = record { steps = asked.steps; quantum = asked.quantum; swap = asked.slots } }) before now told m) → EndsInAFault asked run.op m
+    → (run : RunsIntoAFault (request_of asked) before now told m) → EndsInAFault asked run.op m
 ends_in_a_fault asked before now told m run = record {
   stands = stands asked m.steps m run.follows (omega (arith, run.fewer));
   fewer = run.fewer;
@@ -128,37 +232,59 @@ ends_in_a_fault asked before now told m run = record {
   listed = run.listed;
   first = run.first;
   end = run.end;
+  unbroken = run.follows.unbroken;
+  faithful = lacking_of asked m run.follows.ready.sound (ap (λ (p : Program). p.image) run.follows.program);
 }
 
-ran : (asked : Asked) (before now : Stream) (exit : Exit) (taken : List ℕ) (m : Machine) → (Rose before.faults now.faults → ⊥) → before.told ≡ Some [] → now.told ≡ Some taken → exit.kept ≡ Some m
-    → Runs (record { image = asked.image; script = script_of asked; options = record { steps = asked.steps; quantum = asked.quantum; swap = asked.slots } }) before now exit.status m → IsRun asked (number_of exit.status) taken exit.kept
-ran asked before now exit taken m well first last kept (Runs.Ended run) =
+-- the machine of a run that the sink cut short
+stands_cut : (asked : Asked) (before now : Stream) (told : Status) (m : Machine)
+    → RunsUntilCut (request_of asked) before now told m → Stands asked (original_of asked m.steps) m
+stands_cut asked before now told m run =
+    stands_from (IsBoot asked.image asked.failing asked.events asked.quantum asked.slots) asked (new_flash asked.image asked.failing) 0 m.steps m (is_boot asked.image asked.failing asked.events asked.quantum asked.slots) refl (loaded_image asked.image)
+    run.state run.program run.sound run.path run.made run.quantum run.sound.bounded.moves.most run.within (omega (arith, run.pages))
+
+ran : (asked : Asked) (words : List (List ℕ)) (text : List ℕ) (exit : Exit) (status faults : ℕ) (taken : List ℕ) (call : Call words text exit status faults taken) (m : Machine) → exit.kept ≡ Some m
+    → Runs (request_of asked) call.sink call.sink' exit.status m
+    → Somehow call.sink call.sink' (λ sink. IsRun sink asked status taken exit.kept)
+ran asked words text exit status faults taken call m kept (Runs.Ended run) =
     let r = original_of asked asked.steps in
-    let said = said_is _ exit.status _ taken before now well first last run.said in
-    Ended m kept (record {
-      status_is = ap number_of said.0 ∙ status_same r.end;
-      text_is = said.1 ∙ ended_same r asked.quantum m;
-      run = ends_well asked before now exit.status m run;
-    })
-ran asked before now exit taken m well first last kept (Runs.Failed run) =
+    so_then call.sink call.sink' _ (λ sink. IsRun sink asked status taken exit.kept) (λ sink told. Ended m kept (record {
+      told = retold sink _ _ _ _ status taken (status_same r.end) (ended_same r asked.quantum m) told;
+      run = ends_well asked call.sink call.sink' exit.status m run;
+    })) (told_how words text exit status faults taken call _ _ run.said)
+ran asked words text exit status faults taken call m kept (Runs.Failed run) =
     let r = original_of asked m.steps in
-    let said = said_is _ exit.status _ taken before now well first last run.said in
-    Failed m kept (record {
+    so_then call.sink call.sink' _ (λ sink. IsRun sink asked status taken exit.kept) (λ sink told. Failed m kept (record {
       op = run.op;
-      status_is = ap number_of said.0;
-      text_is = said.1 ∙ failed_same r run.op asked.quantum m (ap (λ (s : Moment). s.now.steps) run.follows.state);
-      run = ends_in_a_fault asked before now exit.status m run;
-    })
-ran asked before now exit taken m well first last kept (Runs.Cut run) = absurd (well run.rose)
+      told = retold sink 9 9 _ _ status taken refl (failed_same r run.op asked.quantum m (ap (λ (s : Moment). s.now.steps) run.follows.state)) told;
+      run = ends_in_a_fault asked call.sink call.sink' exit.status m run;
+    })) (told_how words text exit status faults taken call _ _ run.said)
+ran asked words text exit status faults taken call m kept (Runs.Cut run) = (
+  Fails,
+  run.rose,
+  Cut m kept refl (record {
+    told = retold Fails 6 6 _ _ status taken refl (lines_same (original_of asked m.steps).lines) (cut_by words text exit status faults taken call _ run.status_is run.put);
+    stands = stands_cut asked call.sink call.sink' exit.status m run;
+    broken = run.broken;
+    faithful = lacking_of asked m run.sound (ap (λ (p : Program). p.image) run.program);
+  }),
+)
 
-pub answered : (words : List (List ℕ)) (source source' sink sink' : Stream) (exit : Exit) (text taken : List ℕ) (asked : Asked)
-    → source.told ≡ Some text → (Rose source.faults source'.faults → ⊥) → (Rose sink.faults sink'.faults → ⊥) → sink.told ≡ Some [] → sink'.told ≡ Some taken
-    → Asks words text asked → IsExact words source source' sink sink' exit → IsRun asked (number_of exit.status) taken exit.kept
-answered words source source' sink sink' exit text taken asked told read written first last asks exact =
-    elim (exact _ (inl (RunCommand (record { steps = asked.steps; quantum = asked.quantum; swap = asked.slots }), asks.command, (text, record { told = told; read = read }, inr (asks.input.short, Good (asked.image, asks.input.position) asks.input.hex (Good (script_of asked) asks.input.script refl))))) written) [
-      | inl none ↦ NoMemory (ap number_of none.0.0) (taken_is sink.told sink'.told taken _ first last none.0.1) none.0.2
-      | inr done ↦ ran asked sink sink' exit taken done.0.0.machine written first last done.0.0.kept done.0.0.runs
-    ]
+-- a run that is warranted, whatever asked for it
+pub run_of : (words : List (List ℕ)) (text : List ℕ) (exit : Exit) (status faults : ℕ) (taken : List ℕ) (call : Call words text exit status faults taken) (asked : Asked)
+    → IsWarranted words call.source call.source' (jobs.Run (request_of asked))
+    → IsSo faults (λ sink. IsRun sink asked status taken exit.kept)
+run_of words text exit status faults taken call asked warranted =
+    told_by words text exit status faults taken call _ (λ sink. IsRun sink asked status taken exit.kept) warranted (λ sink told none alone. NoMemory told none)
+    (λ done. ran asked words text exit status faults taken call done.0.machine done.0.kept done.0.runs)
 
-pub not_risen : (a b : ℕ) → a ≡ 0 → b ≡ 0 → Rose a b → ⊥
-not_risen a b first last rose = omega (arith, first, last, rose)
+pub run_told : (words : List (List ℕ)) (text : List ℕ) (exit : Exit) (status faults : ℕ) (taken : List ℕ) (call : Call words text exit status faults taken) (asked : Asked)
+    → Asks words text asked → IsSo faults (λ sink. IsRun sink asked status taken exit.kept)
+run_told words text exit status faults taken call asked asks =
+    run_of words text exit status faults taken call asked
+    (inl (RunCommand (options_of asked), asks.command, (text, call.told, inr (asks.input.short, Good (asked.image, asks.input.position) asks.input.hex (Good (script_of asked) asks.input.script refl)))))
+
+-- .. of a seed
+pub generated_told : (words : List (List ℕ)) (text : List ℕ) (exit : Exit) (status faults : ℕ) (taken : List ℕ) (call : Call words text exit status faults taken) (seed : ℕ)
+    → AsksGenerate words seed → IsSo faults (λ sink. IsRun sink (generated_by seed) status taken exit.kept)
+generated_told words text exit status faults taken call seed asks = run_of words text exit status faults taken call (generated_by seed) (inl (Generate seed, asks, refl))

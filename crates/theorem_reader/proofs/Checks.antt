@@ -1,7 +1,5 @@
 -- What `check` answers to a HEX text and a dump behind it is what the checker says of them.
 use Rattle.std.proofs.Common.{◌≡◌, ℕ, ◌+◌, ◌≤◌, List, length, drop, subst, arith, inl, inr, None}
-use Rattle.std.specs.Io.KnownBytes.{Appends}
-use Rattle.byte_streams.specs.Faults.{Rose}
 use Rattle.flash_words.specs.Layouts.{layout_of}
 use Rattle.hex_image.specs.HexText.{HexText}
 use Rattle.hex_image.proofs.LawLemmas.{never_both, same_image}
@@ -18,9 +16,9 @@ use Rattle.tk_words.specs.Printed.{no_memory}
 use Rattle.tk_request.specs.Reading.{AsksByText, IsUnread, Bad, Good, most_input}
 use Rattle.tk_words.specs.Stream.{Stream}
 use Rattle.tk_request.specs.Asking.{Asks, Tells}
-use Rattle.tkernel_cli.specs.Answer.{Does, DoesWhole, IsAnswer}
+use Rattle.run_jobs.specs.Runs.{Says}
+use Rattle.tkernel_cli.specs.Answer.{Does, IsAnswer}
 use Rattle.tk_request.proofs.Reasons.{all_taken, taken_of}
-use Rattle.tkernel_cli.proofs.Exactly.{done_whole}
 use Rattle.tk_words.proofs.OneCommand.{one_command}
 
 -- the line of a verdict on this flash
@@ -47,32 +45,30 @@ of_text text image flash position job hex dump (Good value good asks) =
 
 -- what is done for want of memory, or for a verdict
 pub data Answers (image flash : List ℕ) (sink sink' : Stream) (exit : Exit) : Type 0 where
-  Wanting : DoesWhole no_memory sink sink' exit → Answers image flash sink sink' exit
-  Verdicts : (verdict : Verdict) → IsVerdict (layout_of (length image)) image flash verdict → exit.status ≡ verdict_status verdict
-      → Appends sink.told sink'.told (verdict_text verdict) → exit.kept ≡ None → Answers image flash sink sink' exit
+  Wanting : Does no_memory sink sink' exit → Answers image flash sink sink' exit
+  Verdicts : (verdict : Verdict) → IsVerdict (layout_of (length image)) image flash verdict → Says (verdict_status verdict) (verdict_text verdict) sink sink' exit.status → exit.kept ≡ None → Answers image flash sink sink' exit
 
-line_told : (image flash : List ℕ) (sink sink' : Stream) (exit : Exit) (job : Job) → (Rose sink.faults sink'.faults → ⊥) → Does job sink sink' exit → IsLine image flash job → Answers image flash sink sink' exit
-line_told image flash sink sink' exit job well done line =
-    let whole = done_whole (verdict_line line.verdict) sink sink' exit well (subst (λ j. Does j sink sink' exit) line.line done) in
-    Verdicts line.verdict line.is whole.0.0 whole.0.1 whole.0.2
+line_told : (image flash : List ℕ) (sink sink' : Stream) (exit : Exit) (job : Job) → Does job sink sink' exit → IsLine image flash job → Answers image flash sink sink' exit
+line_told image flash sink sink' exit job done line =
+    let own = subst (λ j. Does j sink sink' exit) line.line done in
+    Verdicts line.verdict line.is own.0.0 own.0.1
 
 by_source : (image flash text : List ℕ) (position : ℕ) (source source' sink sink' : Stream) (exit : Exit) (job : Job) → Tells source source' text → length text ≤ most_input → HexText text image position → IsDump (drop position text) flash
-    → (Rose sink.faults sink'.faults → ⊥) → Does job sink sink' exit → AsksByText CheckAsks source source' job → Answers image flash sink sink' exit
-by_source image flash text position source source' sink sink' exit job tells short hex dump well done (inl (IsUnread.ReadFault is rose taken)) = absurd (tells.read rose)
-by_source image flash text position source source' sink sink' exit job tells short hex dump well done (inl (IsUnread.TooLong is taken)) =
+    → Does job sink sink' exit → AsksByText CheckAsks source source' job → Answers image flash sink sink' exit
+by_source image flash text position source source' sink sink' exit job tells short hex dump done (inl (IsUnread.ReadFault is rose taken)) = absurd (tells.read rose)
+by_source image flash text position source source' sink sink' exit job tells short hex dump done (inl (IsUnread.TooLong is taken)) =
     absurd (omega (arith, taken_of source.told source'.told text (most_input + 1) tells.told taken, short))
-by_source image flash text position source source' sink sink' exit job tells short hex dump well done (inl (IsUnread.NoMemory is taken)) =
-    Wanting (done_whole no_memory sink sink' exit well (subst (λ j. Does j sink sink' exit) is done))
-by_source image flash text position source source' sink sink' exit job tells short hex dump well done (inr judged) =
+by_source image flash text position source source' sink sink' exit job tells short hex dump done (inl (IsUnread.NoMemory is taken)) = Wanting (subst (λ j. Does j sink sink' exit) is done)
+by_source image flash text position source source' sink sink' exit job tells short hex dump done (inr judged) =
     let gave = judged.1 in
     let same = all_taken source.told source'.told text judged.0 tells.told gave.taken gave.end in
-    line_told image flash sink sink' exit job well done (of_text text image flash position job hex dump (subst (λ t. CheckAsks t job) same judged.2))
+    line_told image flash sink sink' exit job done (of_text text image flash position job hex dump (subst (λ t. CheckAsks t job) same judged.2))
 
 pub check_answers : (words : List (List ℕ)) (image flash text : List ℕ) (position : ℕ) (source source' sink sink' : Stream) (exit : Exit) → IsCommand words Check → Tells source source' text → length text ≤ most_input → HexText text image position → IsDump (drop position text) flash
-    → (Rose sink.faults sink'.faults → ⊥) → IsAnswer words source source' sink sink' exit → Answers image flash sink sink' exit
-check_answers words image flash text position source source' sink sink' exit is tells short hex dump well answer = elim answer.asked [
+    → IsAnswer words source source' sink sink' exit → Answers image flash sink sink' exit
+check_answers words image flash text position source source' sink sink' exit is tells short hex dump answer = elim answer.asked [
   | inl asked ↦
       let same = one_command words asked.0 Check asked.1 is in
-      by_source image flash text position source source' sink sink' exit answer.job tells short hex dump well answer.done (subst (λ c. Asks c source source' answer.job) same asked.2)
+      by_source image flash text position source source' sink sink' exit answer.job tells short hex dump answer.done (subst (λ c. Asks c source source' answer.job) same asked.2)
   | inr none ↦ absurd (none.0 Check is)
 ]

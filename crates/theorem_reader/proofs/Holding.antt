@@ -4,6 +4,7 @@ use Rattle.std.proofs.lemmas.Bool.Decides.{nat_tests}
 use Rattle.sram_layout.specs.Bytes.{byte_at}
 use Rattle.swap_store.specs.Slots.{page_in}
 use Rattle.mote_core.specs.declared.mote.Mote.{Mote}
+use Rattle.std.proofs.lemmas.Bool.{false_from_ne_true}
 use Rattle.heap_frames.specs.Addresses.{is_heap}
 use Rattle.heap_frames.specs.Frames.{frame_of, holds}
 use Rattle.heap_frames.specs.Memory.{vmem, heap_byte}
@@ -40,7 +41,7 @@ frame_back m page frame inside held = record {
 }
 
 unheld : (m : Mote) (page : ℕ) → ((frame : ℕ) → ¬ Holds m page frame) → frame_of m.sram page ≡ None
-unheld m page none = frames.no_frame m.sram page (λ i inside. frames.not_true (holds m.sram page i) (λ held. none i (frame_back m page i inside held)))
+unheld m page none = frames.no_frame m.sram page (λ i inside. false_from_ne_true (holds m.sram page i) (λ held. none i (frame_back m page i inside held)))
 
 pub has_memory : (m : Mote) → IsPaged m.sram m.swap → HasMemory m (vmem m.sram m.swap)
 unfolding byte_at page_in
@@ -51,6 +52,6 @@ has_memory m paged = record {
   framed = λ a frame heap held. page_at m a heap ∙ byte_in_frame m.sram m.swap (a / 256) (a % 256) frame (frames.paged_frame m.sram m.swap (a / 256) frame paged (frame_is m (a / 256) frame held));
   swapped = λ a heap none some. page_at m a heap ∙ byte_in_slot m.sram m.swap (a / 256) (a % 256) (unheld m (a / 256) none) ∙ byte_of_slot m.sram m.swap (a / 256) (a % 256) (frames.slot_held m.sram (a / 256) some);
   untouched = λ a heap none.
-      let absent = frames.not_true _ (λ has. frames.slot_there m.sram (a / 256) has none) in
+      let absent = false_from_ne_true _ (λ has. frames.slot_there m.sram (a / 256) has none) in
       page_at m a heap ∙ byte_in_slot m.sram m.swap (a / 256) (a % 256) (absent_without_slot m.sram m.swap (a / 256) paged absent) ∙ byte_of_no_slot m.sram m.swap (a / 256) (a % 256) absent;
 }

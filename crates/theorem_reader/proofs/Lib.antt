@@ -1,14 +1,21 @@
 -- The acts of a walk, the texts, and the answer.
+pub mod Pooling
+pub mod Booting
+pub mod Linking
 pub mod Acting
 pub mod Bounding
 pub mod Holding
 pub mod SameTexts
+pub mod Doing
 pub mod Answering
 pub mod Plainly
 pub mod Exampled
+pub mod Sourced
 mod Checks
 pub mod Checking
 pub mod Dumping
 pub mod Restarting
 pub mod TakingTurns
 pub mod Sharing
+pub mod Refusing
+pub mod WorkedActs

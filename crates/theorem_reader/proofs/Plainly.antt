@@ -17,12 +17,12 @@ use Rattle.tk_words.specs.Options as options
 use Rattle.std.specs.Prelude.{Result, Ok, Err, IfOk}
 use Rattle.no_memory.specs.declared.NoMemory.{NoMemory}
 use Rattle.theorem_reader.specs.declared.reader.Told.{Told}
-use Rattle.theorem_reader.specs.Runs.{Asked, Asks, IsRun, plainly}
+use Rattle.theorem_reader.specs.Runs.{Asks, options_of, plainly}
 
-no_script : IsScript [] nothing
+pub no_script : IsScript [] nothing
 no_script = record { spelled = refl; in_order = record { ordered = λ i j d less below. absurd (omega (arith, below)); in_range = λ k d below. absurd (omega (arith, below)); failing_ordered = λ i j d less below. absurd (omega (arith, below)); failing_in_range = λ k d below. absurd (omega (arith, below)); few = omega arith } }
 
-the_word : IsCommand (codes "run" ∷ []) (RunCommand (record { steps = 1000000; quantum = 255; swap = 128 }))
+pub the_word : IsCommand (codes "run" ∷ []) (RunCommand (options_of (plainly [])))
 the_word = record {
   rest = [];
   first = refl;
@@ -49,7 +49,7 @@ nothing_behind (byte ∷ text) = nothing_behind text
 
 pub asks_plainly : (words : List (List ℕ)) (image text : List ℕ) → words ≡ codes "run" ∷ [] → HexText text image (length text) → length text ≤ 2097152 → Asks words text (plainly image)
 asks_plainly words image text is hex short = record {
-  command = subst (λ w. IsCommand w (RunCommand (record { steps = 1000000; quantum = 255; swap = 128 }))) (sym is) the_word;
+  command = subst (λ w. IsCommand w (RunCommand (options_of (plainly image)))) (sym is) the_word;
   input = record {
     position = length text;
     hex = hex;
@@ -58,12 +58,20 @@ asks_plainly words image text is hex short = record {
   };
 }
 
--- what is told of one that was asked
-pub told_of : (result : Result Told NoMemory) (words : List (List ℕ)) (text : List ℕ) (one : Asked) → Asks words text one
-    → IfOk result (λ told. (asked : Asked) → Asks words text asked → told.out.faults ≡ 0 → IsRun asked told.status told.out.taken told.kept)
-    → IfOk result (λ told. told.out.faults ≡ 0 → IsRun one told.status told.out.taken told.kept)
-told_of (Ok told) words text one asks run = run one asks
-told_of (Err none) words text one asks run = run
+-- what is so of one that was asked, whatever it is
+pub told_as : {Q : Type 0} (result : Result Told NoMemory) (Asks : Q → Type 0) (So : Q → Told → Type 0) (one : Q) → Asks one
+    → IfOk result (λ told. (asked : Q) → Asks asked → So asked told) → IfOk result (λ told. So one told)
+told_as (Ok told) Asks So one asks all = all one asks
+told_as (Err none) Asks So one asks all = all
+
+-- and of the same words and text
+pub told_at : (result : Result Told NoMemory) (So : List (List ℕ) → List ℕ → Told → Type 0) (words words' : List (List ℕ)) (text text' : List ℕ) → words ≡ words' → text ≡ text' → IfOk result (So words text) → IfOk result (So words' text')
+told_at result So words words' text text' same same' all = subst (λ w. IfOk result (So w text')) same (subst (λ t. IfOk result (So words t)) same' all)
+
+pub told_pair : {P Q : Type 0} (result : Result Told NoMemory) (Asks : P → Q → Type 0) (So : P → Q → Told → Type 0) (first : P) (second : Q) → Asks first second
+    → IfOk result (λ told. (p : P) (q : Q) → Asks p q → So p q told) → IfOk result (λ told. So first second told)
+told_pair (Ok told) Asks So first second asks all = all first second asks
+told_pair (Err none) Asks So first second asks all = all
 
 -- The text of an image is short: 44 bytes a line at most, of eight words.
 double : (words : List ℕ) → length (bytes_of_words words) ≡ 2 * length words

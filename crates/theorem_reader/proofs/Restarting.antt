@@ -1,9 +1,8 @@
 -- What `restart` answers.
-use Rattle.std.proofs.Common.{◌≡◌, ◌≢◌, ℕ, zero, suc, ◌+◌, ◌-◌, ◌*◌, ◌/◌, ◌%◌, ◌≤◌, ◌<◌, Bool, true, false, not, ◌&&◌, if◌then◌else◌, List, [], ◌++◌, length, slice_index, Option, Some, None, codes, decimal, refl, sym, ap, ap₂, ◌∙◌, subst, arith, inl, inr, ◌⊎◌}
+use Rattle.std.proofs.Common.{◌≡◌, ◌≢◌, ℕ, zero, suc, ◌+◌, ◌-◌, ◌*◌, ◌/◌, ◌%◌, ◌≤◌, ◌<◌, Bool, true, false, not, ◌&&◌, if◌then◌else◌, List, ◌++◌, length, slice_index, Option, Some, None, codes, decimal, refl, sym, ap, ap₂, ◌∙◌, subst, arith, inl, inr, ◌⊎◌}
 use Rattle.std.specs.Prelude.{IfSome}
 use Rattle.std.proofs.lemmas.Bool.{cases_lt}
-use Rattle.byte_streams.specs.Faults.{Rose}
-use Rattle.list_parts.proofs.ManyLaws.{length-many, get_or-many}
+use Rattle.base_laws.proofs.ManyLaws.{length-many}
 use Rattle.flash_words.specs.Layouts.{layout_of}
 use Rattle.flash_words.specs.declared.layout.Layout.{Layout}
 use Rattle.flash_words.specs.Memory.{Memory}
@@ -11,23 +10,22 @@ use Rattle.flash_words.specs.Operations.{renewed}
 use Rattle.flash_words.specs.Pages.{page_of, set_page, blank, page_words}
 use Rattle.flash_words.proofs.LayoutLaws.{layout_right}
 use Rattle.flash_words.proofs.PageLaws as pages
-use Rattle.page_index.specs.Maps.{IsPool, IsFree, original_page, address_of, place_of}
+use Rattle.page_index.specs.Maps.{IsPool, place_of}
 use Rattle.page_index.specs.Entries.{Lists}
 use Rattle.page_draft.specs.CodePages.{Anywhere}
 use Rattle.nat_page.specs.Used.{used_pages}
 use Rattle.nat_page.proofs.HeldLaws.{map_held}
 use Rattle.flash_dump.specs.WrittenDumps.{is_erased}
-use Rattle.pool_check.proofs.CheckedLaws.{code_checked}
 use Rattle.pool_check.proofs.MovedLaws.{holds_alone, holds_in_flash}
 use Rattle.nat_page.specs.Faithful.{IsFaithful}
-use Rattle.mem_guard.specs.FlatMachine.{Program, End as FlatEnd}
-use Rattle.mem_guard.specs.FlatMachine as flat_ends
+use Rattle.mem_guard.specs.FlatMachine.{Program}
 use Rattle.kernel_entry.specs.Parts.{image_held}
-use Rattle.step_laws.specs.declared.moves.End.{End as MachineEnd}
 use Rattle.step_laws.specs.declared.moves.End.TheVariants as ends
-use Rattle.program_steps.specs.Machines.{Machine}
-use Rattle.program_steps.specs.Ready.{IsReady}
-use Rattle.tk_run.specs.Running.{flat_end}
+use Rattle.kernel_entry.specs.Seen.{program}
+use Rattle.program_steps.specs.Machines.{Machine, flat_of}
+use Rattle.program_steps.specs.Ready.{IsSound}
+use Rattle.program_steps.specs.Stepping.{AreMadeAt as MadeAt}
+use Rattle.tk_run.specs.WholeRuns.{PathFrom, StandsAt, program_at}
 use Rattle.tk_restart.specs.declared.sweeping.Kept.{Kept}
 use Rattle.tk_restart.specs.Keeping.{count_where, is_dropped}
 use Rattle.tk_restart.specs.Keeping as keeping
@@ -37,25 +35,26 @@ use Rattle.tk_restart.proofs.KeepingLaws.{kept_page, kept_lists, lists_before}
 use Rattle.tk_words.specs.declared.command.Command.TheVariants.{Restart}
 use Rattle.tk_words.specs.declared.status.Status.{Status}
 use Rattle.tkernel_cli.specs.declared.top.Exit.{Exit}
-use Rattle.tk_words.specs.Status.{number_of}
 use Rattle.tk_request.specs.Reading.{Good}
 use Rattle.tk_words.specs.Stream.{Stream}
-use Rattle.run_jobs.specs.Runs.{Runs, KeepsEnd}
+use Rattle.run_jobs.specs.Runs.{Runs}
 use Rattle.run_jobs.specs.DumpRuns.{silent}
-use Rattle.run_jobs.specs.RestartRuns.{HasRestarted, RunsOver, RunsOverToTheEnd, lost_flash, refused_in}
+use Rattle.run_jobs.specs.RestartRuns.{HasRestarted, RunsOver, lost_flash, refused_in, second_start}
 use Rattle.run_jobs.specs.Text.{restart_text}
-use Rattle.tkernel_cli.specs.Answer.{IsExact}
 use Rattle.tk_request.proofs.ImageLength.{few_words}
 use Rattle.tk_restart.proofs.TornWords.{number_at, torn_word, length_torn}
-use Rattle.theorem_reader.specs.Acts.{pool_from}
-use Rattle.theorem_reader.specs.Checks.{AreFaithful, used_of}
-use Rattle.theorem_reader.specs.Runs.{Asked, StandsFrom, original_of}
-use Rattle.theorem_reader.specs.Restarts.{AsksRestart, number_behind, IsLost, Whole, Torn, HasAddress, IsKeeper, dropped_of, IsKept, restart_line, IsOver, IsSecond, IsRestarted, NoMemory, Restarted}
-use Rattle.theorem_reader.proofs.Acting.{pool_begins}
-use Rattle.theorem_reader.proofs.Answering.{script_of, stands_from, said_is, taken_is, not_risen}
-use Rattle.theorem_reader.proofs.Checking.{in_pool, from_pool, used_same, pool_numbers}
+use Rattle.theorem_reader.specs.Pools.{pool_from}
+use Rattle.theorem_reader.specs.Checks.{used_of}
+use Rattle.theorem_reader.specs.Runs.{Asked, StandsFrom, options_of, original_of}
+use Rattle.theorem_reader.specs.Restarts.{AsksRestart, number_behind, IsLost, Whole, Torn, HasAddress, IsKeeper, dropped_of, IsKept, restart_line, IsLeft, line_of, IsStart, StandsOver, IsRestarted, NoMemory, Restarted, Unbegun, Cut}
+use Rattle.theorem_reader.specs.Telling.{Fails, IsSo}
+use Rattle.theorem_reader.proofs.Pooling.{in_pool, from_pool, pool_begins, blank_word, first_word, address_same, faithful_is}
+use Rattle.theorem_reader.proofs.Answering.{script_of, request_of, stands_from, no_fault, kept_end, layout_same, lacking_of, whole_of}
+use Rattle.theorem_reader.proofs.Doing.{Call, Somehow, not_risen, so_then, retold, cut_by, told_how, told_by}
+use Rattle.theorem_reader.proofs.Booting.{is_new}
+use Rattle.theorem_reader.proofs.Checking.{used_same, pool_numbers}
 use Rattle.theorem_reader.proofs.Dumping.{has_ended}
-use Rattle.theorem_reader.proofs.SameTexts.{ended_same, status_same}
+use Rattle.theorem_reader.proofs.SameTexts.{lines_same, ended_same, status_same}
 
 -- What stands in flash when power is back. ----------------------------------------------------------------
 
@@ -108,37 +107,12 @@ torn_is image m op page is end pool whole =
       size = ap length same ∙ pages.length-set_page words (torn_words op 128) page long inside ∙ whole;
     }
 
--- a run to the original's end keeps no refused operation as its end
-fault_spends : (end : FlatEnd) (m : Machine) (op : ℕ) → ((kept : MachineEnd) × (m.end ≡ Some kept) × (flat_end kept ≡ end)) → m.end ≡ Some (ends.Flash op) → end ≡ flat_ends.Spent
-fault_spends end m op keeps is =
-    let e : Some keeps.0 ≡ Some (ends.Flash op) = sym keeps.1 ∙ is in
-    let same : keeps.0 ≡ ends.Flash op = cc in
-    sym keeps.2 ∙ ap flat_end same
-
-no_fault : (end : FlatEnd) (m : Machine) (op : ℕ) → KeepsEnd end m → m.end ≢ Some (ends.Flash op)
-no_fault flat_ends.Spent m op keeps is = let e : Some (ends.Flash op) ≡ None = sym is ∙ keeps in absurd (cc)
-no_fault (flat_ends.Wild pc) m op keeps is = let e : flat_ends.Wild pc ≡ flat_ends.Spent = fault_spends (flat_ends.Wild pc) m op keeps is in absurd (cc)
-no_fault (flat_ends.Illegal pc) m op keeps is = let e : flat_ends.Illegal pc ≡ flat_ends.Spent = fault_spends (flat_ends.Illegal pc) m op keeps is in absurd (cc)
-no_fault (flat_ends.SelfProgram pc) m op keeps is = let e : flat_ends.SelfProgram pc ≡ flat_ends.Spent = fault_spends (flat_ends.SelfProgram pc) m op keeps is in absurd (cc)
-no_fault (flat_ends.Asleep pc) m op keeps is = let e : flat_ends.Asleep pc ≡ flat_ends.Spent = fault_spends (flat_ends.Asleep pc) m op keeps is in absurd (cc)
-no_fault (flat_ends.Halted pc) m op keeps is = let e : flat_ends.Halted pc ≡ flat_ends.Spent = fault_spends (flat_ends.Halted pc) m op keeps is in absurd (cc)
-no_fault (flat_ends.Read pc a) m op keeps is = let e : flat_ends.Read pc a ≡ flat_ends.Spent = fault_spends (flat_ends.Read pc a) m op keeps is in absurd (cc)
-no_fault (flat_ends.Io pc a) m op keeps is = let e : flat_ends.Io pc a ≡ flat_ends.Spent = fault_spends (flat_ends.Io pc a) m op keeps is in absurd (cc)
-no_fault (flat_ends.Stack pc a) m op keeps is = let e : flat_ends.Stack pc a ≡ flat_ends.Spent = fault_spends (flat_ends.Stack pc a) m op keeps is in absurd (cc)
-no_fault (flat_ends.SwapFull pc a) m op keeps is = let e : flat_ends.SwapFull pc a ≡ flat_ends.Spent = fault_spends (flat_ends.SwapFull pc a) m op keeps is in absurd (cc)
-
--- the layout of a run is that of its image
-layout_same : (image : List ℕ) (m : Machine) → IsReady m → image_held m.kernel ≡ image → m.kernel.layout ≡ layout_of (length image)
-layout_same image m ready held =
-    let order = ready.sound.order in
-    order.layout ∙ ap layout_of (sym order.faithful.image_length ∙ ap length held)
-
 lost_in_fault : (image : List ℕ) (m : Machine) (op : ℕ) (refused : Option ℕ) → m.kernel.mote.flash.refused ≡ refused → refused ≢ None → m.end ≡ Some (ends.Flash op) → IfSome refused (IsPool (layout_of (length image)))
     → length m.kernel.mote.flash.words ≡ 65536 → LostFlash image m
 lost_in_fault image m op None is some end pool whole = absurd (some refl)
 lost_in_fault image m op (Some page) is some end pool whole = torn_is image m op page is end pool whole
 
-lost_is : (asked : Asked) (told : Status) (m : Machine) → Runs (record { image = asked.image; script = script_of asked; options = record { steps = asked.steps; quantum = asked.quantum; swap = asked.slots } }) silent silent told m → LostFlash asked.image m
+lost_is : (asked : Asked) (told : Status) (m : Machine) → Runs (request_of asked) silent silent told m → LostFlash asked.image m
 lost_is asked told m (Runs.Ended run) =
     let same : (lost_flash m).words ≡ m.kernel.mote.flash.words =
     ap (λ p. (lost_in (refused_in m.end) p (renewed m.kernel.mote.flash)).words) run.unrefused ∙ ap (λ (f : Memory). f.words) (lost_none (refused_in m.end) (renewed m.kernel.mote.flash)) in
@@ -146,24 +120,11 @@ lost_is asked told m (Runs.Ended run) =
 lost_is asked told m (Runs.Failed run) =
     let order = run.follows.ready.sound.order in
     let held : image_held m.kernel ≡ asked.image = ap (λ (p : Program). p.image) run.follows.program in
-    let pool = subst (λ l. IfSome m.kernel.mote.flash.refused (IsPool l)) (layout_same asked.image m run.follows.ready held) order.tried.pool in
+    let pool = subst (λ l. IfSome m.kernel.mote.flash.refused (IsPool l)) (layout_same asked.image m run.follows.ready.sound held) order.tried.pool in
     lost_in_fault asked.image m run.op m.kernel.mote.flash.refused refl run.refused run.end pool order.whole.words
 lost_is asked told m (Runs.Cut run) = absurd (not_risen 0 0 refl refl run.rose)
 
 -- What a restart keeps. -----------------------------------------------------------------------------------
-
-blank_word : (words : List ℕ) (page k : ℕ) → IsFree words page → k < 128 → slice_index words (128 * page + k) ≡ 0xFFFF
-unfolding blank
-blank_word words page k free below = sym (pages.page_word words page k below) ∙ ap (λ (w : List ℕ). slice_index w k) free ∙ get_or-many page_words 0xFFFF k below
-
-first_word : (words : List ℕ) (page : ℕ) → original_page words page ≡ slice_index words (128 * page)
-first_word words page = let at : 128 * page + 0 ≡ 128 * page = omega arith in ap (slice_index words) at
-
-address_same : (words : List ℕ) (page i : ℕ) → address_of words page i ≡ 128 * slice_index words (128 * page) + slice_index words (128 * page + 2 + i) / 256
-address_same words page i =
-    let at : 128 * page + 0 ≡ 128 * page = omega arith in
-    let behind : 128 * page + (2 + i) ≡ 128 * page + 2 + i = omega arith in
-    ap₂ (λ a b. 128 * slice_index words a + slice_index words b / 256) at behind
 
 address_of_entry : (words : List ℕ) (page i t v : ℕ) → Lists words page i t v → HasAddress words page t
 address_of_entry words page i t v lists =
@@ -210,19 +171,6 @@ unfolding count_where page_of
 dropped_same words kept first zero = refl
 dropped_same words kept first (suc n) = dropped_one (is_erased (page_of words (first + n))) (kept (first + n)) _ _ (dropped_same words kept first n)
 
-faithful_is : (image words : List ℕ) → length image ≤ 24576 → IsFaithful (layout_of (length image)) image words → AreFaithful image words
-unfolding page_of
-faithful_is image words few faithful =
-    let checked = code_checked (layout_of (length image)) image words (layout_right (length image) few) faithful in
-    let begins = pool_begins image in
-    record {
-      forms = checked.forms;
-      links = λ page inside. checked.links page (in_pool image page inside);
-      held = faithful.held;
-      erased = λ a low high. faithful.erased a low (omega (arith, begins.first, high));
-      kernel = λ a low high. faithful.kernel a low (omega (arith, high));
-    }
-
 kept_is : (image : List ℕ) (old new : Memory) (told : Kept) → length image ≤ 24576 → length old.words ≡ 65536 → IsFaithful (layout_of (length image)) image new.words
     → (restarts : Restarts (layout_of (length image)) image old new told) → IsKept image old.words new.words restarts.kept
 kept_is image old new told few whole faithful restarts =
@@ -256,50 +204,95 @@ line_same image lost left kept n d used dropped = ap₂ (λ a b. codes "restart 
 
 -- The second run. -----------------------------------------------------------------------------------------
 
-second : (asked : Asked) (before now : Stream) (exit : Exit) (taken : List ℕ) → length asked.image ≤ 24576 → (Rose before.faults now.faults → ⊥) → before.told ≡ Some [] → now.told ≡ Some taken
-    → (done : HasRestarted (record { image = asked.image; script = script_of asked; options = record { steps = asked.steps; quantum = asked.quantum; swap = asked.slots } }) before now exit.status exit.kept)
-    → RunsOverToTheEnd (record { image = asked.image; script = script_of asked; options = record { steps = asked.steps; quantum = asked.quantum; swap = asked.slots } }) done.left (restart_text done.told.kept done.told.dropped) before now exit.status done.machine
-    → IsSecond asked (number_of exit.status) taken done.machine
-second asked before now exit taken few well first last done run =
-    let image = asked.image in
-    let r = original_of asked asked.steps in
-    let m = done.machine in
-    let lost : Memory = lost_flash done.first in
-    let left : Memory = done.left in
-    let kept = done.restarts.kept in
+-- what was left of the first
+abbrev left_of : (asked : Asked) (before now : Stream) (told : Status) (kept : Option Machine) → length asked.image ≤ 24576 → HasRestarted (request_of asked) before now told kept → IsLeft asked
+left_of asked before now told kept few done =
     let before_it = lost_is asked done.ended done.first done.runs in
-    let used : done.told.kept ≡ used_of left.words (pool_from image / 128) (480 - pool_from image / 128) = sym done.used ∙ used_is image left.words in
-    let dropped = done.restarts.dropped_is ∙ dropped_is image lost.words kept in
-    let said = said_is _ exit.status _ taken before now well first last run.said in
-    let over = renewed left in
-    let stands = stands_from (IsOver left.words) asked over (used_pages (layout_of (length image)) left.words) asked.steps m (record { words = refl; ops = refl }) refl run.follows.state run.follows.ready run.follows.path run.follows.quantum run.follows.longest run.within in
     record {
       first = done.first;
       ended = has_ended asked done.ended done.first done.runs;
-      lost = lost.words;
-      left = left.words;
-      kept = kept;
+      lost = (lost_flash done.first).words;
+      left = done.left.words;
+      kept = done.restarts.kept;
       lost_is = before_it.is;
-      left_is = kept_is image lost left done.told few before_it.size done.faithful done.restarts;
-      status_is = ap number_of said.0 ∙ status_same r.end;
-      text_is = said.1 ∙ ap₂ (λ a b. a ++ b) (line_same image lost.words left.words kept done.told.kept done.told.dropped used dropped) (ended_same r asked.quantum m);
-      stands = subst (λ n. StandsFrom (IsOver left.words) n asked r m) (used_is image left.words) stands;
-      unrefused = run.unrefused;
+      left_is = kept_is asked.image (lost_flash done.first) done.left done.told few before_it.size done.faithful done.restarts;
     }
 
-restarted : (asked : Asked) (before now : Stream) (exit : Exit) (taken : List ℕ) → length asked.image ≤ 24576 → (Rose before.faults now.faults → ⊥) → before.told ≡ Some [] → now.told ≡ Some taken
-    → (done : HasRestarted (record { image = asked.image; script = script_of asked; options = record { steps = asked.steps; quantum = asked.quantum; swap = asked.slots } }) before now exit.status exit.kept)
-    → RunsOver (record { image = asked.image; script = script_of asked; options = record { steps = asked.steps; quantum = asked.quantum; swap = asked.slots } }) done.left (restart_text done.told.kept done.told.dropped) before now exit.status done.machine
-    → IsRestarted asked (number_of exit.status) taken exit.kept
-restarted asked before now exit taken few well first last done (RunsOver.Unbegun none) = absurd (well none.rose)
-restarted asked before now exit taken few well first last done (RunsOver.Ended run) = Restarted done.machine done.kept (second asked before now exit taken few well first last done run)
-restarted asked before now exit taken few well first last done (RunsOver.Cut cut) = absurd (well cut.rose)
+line_told : (asked : Asked) (before now : Stream) (told : Status) (kept : Option Machine) (few : length asked.image ≤ 24576) (done : HasRestarted (request_of asked) before now told kept)
+    → restart_text done.told.kept done.told.dropped ≡ line_of asked (left_of asked before now told kept few done)
+line_told asked before now told kept few done =
+    line_same asked.image (lost_flash done.first).words done.left.words done.restarts.kept done.told.kept done.told.dropped
+    (sym done.used ∙ used_is asked.image done.left.words) (done.restarts.dropped_is ∙ dropped_is asked.image (lost_flash done.first).words done.restarts.kept)
 
-pub restart_told : (words : List (List ℕ)) (source source' sink sink' : Stream) (exit : Exit) (text taken : List ℕ) (asked : Asked)
-    → source.told ≡ Some text → (Rose source.faults source'.faults → ⊥) → (Rose sink.faults sink'.faults → ⊥) → sink.told ≡ Some [] → sink'.told ≡ Some taken
-    → AsksRestart words text asked → IsExact words source source' sink sink' exit → IsRestarted asked (number_of exit.status) taken exit.kept
-restart_told words source source' sink sink' exit text taken asked told read written first last asks exact =
-    elim (exact _ (inl (Restart (record { steps = asked.steps; quantum = asked.quantum; swap = asked.slots }), asks.command, (text, record { told = told; read = read }, inr (asks.input.short, Good (asked.image, asks.input.position) asks.input.hex (Good (script_of asked) asks.input.script refl))))) written) [
-      | inl none ↦ NoMemory (ap number_of none.0.0) (taken_is sink.told sink'.told taken _ first last none.0.1) none.0.2
-      | inr done ↦ restarted asked sink sink' exit taken (few_words text asked.image asks.input.position asks.input.hex) written first last done.0.0 done.0.0.over
-    ]
+over_is : (asked : Asked) (before now : Stream) (told : Status) (kept : Option Machine) (few : length asked.image ≤ 24576) (done : HasRestarted (request_of asked) before now told kept)
+    → IsStart asked (left_of asked before now told kept few done) (second_start (request_of asked) done.left).kernel.mote
+over_is asked before now told kept few done = record { new = is_new (renewed done.left) asked.events asked.quantum asked.slots refl refl; words = refl; failing = refl }
+
+-- where the second stands
+stands_over : (asked : Asked) (before now : Stream) (told : Status) (kept : Option Machine) (few : length asked.image ≤ 24576) (done : HasRestarted (request_of asked) before now told kept) (n : ℕ) (m : Machine)
+    → flat_of m ≡ (original_of asked n).state → program m.kernel ≡ program_at asked.image asked.quantum asked.slots → IsSound m → (path : PathFrom (second_start (request_of asked) done.left) (original_of asked n).lines m)
+    → MadeAt (StandsAt asked.image (script_of asked) asked.quantum asked.slots m.steps) path.moves → m.kernel.quantum ≡ asked.quantum → m.longest ≤ 5120 * m.kernel.quantum → m.steps ≤ asked.steps → m.pages ≤ (second_start (request_of asked) done.left).pages + m.steps + 1
+    → StandsOver asked (left_of asked before now told kept few done) (original_of asked n) m
+stands_over asked before now told kept few done n m state own sound path made quantum longest within most =
+    let flash = left_of asked before now told kept few done in
+    let from = stands_from (IsStart asked flash) asked (renewed done.left) (used_pages (layout_of (length asked.image)) done.left.words) n m (over_is asked before now told kept few done) refl done.faithful.held
+    state own sound path made quantum longest within most in
+    subst (λ k. StandsFrom (IsStart asked flash) k asked (original_of asked n) m) (used_is asked.image done.left.words) from
+
+restarted : (asked : Asked) (words : List (List ℕ)) (text : List ℕ) (exit : Exit) (status faults : ℕ) (taken : List ℕ) (call : Call words text exit status faults taken) → length asked.image ≤ 24576
+    → (done : HasRestarted (request_of asked) call.sink call.sink' exit.status exit.kept)
+    → RunsOver (request_of asked) done.left (restart_text done.told.kept done.told.dropped) call.sink call.sink' exit.status done.machine
+    → Somehow call.sink call.sink' (λ sink. IsRestarted sink asked status taken exit.kept)
+restarted asked words text exit status faults taken call few done (RunsOver.Unbegun none) =
+    let flash = left_of asked call.sink call.sink' exit.status exit.kept few done in
+    let own = line_told asked call.sink call.sink' exit.status exit.kept few done in (
+      Fails,
+      none.rose,
+      Unbegun flash done.machine done.kept refl (record {
+        told = retold Fails 6 6 _ _ status taken refl own (cut_by words text exit status faults taken call _ none.status_is none.put);
+        start = subst (λ (m : Machine). IsStart asked flash m.kernel.mote) (sym none.is) (over_is asked call.sink call.sink' exit.status exit.kept few done);
+        pc = ap (λ (m : Machine). m.at) none.is;
+        steps = ap (λ (m : Machine). m.steps) none.is;
+        natural = ap (λ (m : Machine). m.natural) none.is;
+        entries = ap (λ (m : Machine). m.entries) none.is;
+        pages = ap (λ (m : Machine). m.pages) none.is ∙ used_is asked.image done.left.words;
+        end = ap (λ (m : Machine). m.end) none.is;
+      }),
+    )
+restarted asked words text exit status faults taken call few done (RunsOver.Ended run) =
+    let r = original_of asked asked.steps in
+    let m = done.machine in
+    let flash = left_of asked call.sink call.sink' exit.status exit.kept few done in
+    let own = line_told asked call.sink call.sink' exit.status exit.kept few done in
+    let whole = ap₂ (λ a b. a ++ b) own (ended_same r asked.quantum m) in
+    so_then call.sink call.sink' _ (λ sink. IsRestarted sink asked status taken exit.kept) (λ sink told. Restarted flash m done.kept (record {
+      told = retold sink _ _ _ _ status taken (status_same r.end) whole told;
+      stands = stands_over asked call.sink call.sink' exit.status exit.kept few done asked.steps m
+          run.follows.state run.follows.program run.follows.ready.sound run.follows.path run.follows.made run.follows.quantum run.follows.longest run.within run.follows.pages;
+      end = kept_end _ m run.end;
+      unbroken = run.follows.unbroken;
+      unrefused = run.unrefused;
+      faithful = whole_of asked m run.follows.ready.sound (ap (λ (p : Program). p.image) run.follows.program) (λ op. no_fault _ m op run.end);
+    })) (told_how words text exit status faults taken call _ _ run.said)
+restarted asked words text exit status faults taken call few done (RunsOver.Cut run) =
+    let m = done.machine in
+    let flash = left_of asked call.sink call.sink' exit.status exit.kept few done in
+    let own = line_told asked call.sink call.sink' exit.status exit.kept few done in
+    let whole = ap₂ (λ a b. a ++ b) own (lines_same (original_of asked m.steps).lines) in (
+      Fails,
+      run.rose,
+      Cut flash m done.kept refl (record {
+        told = retold Fails 6 6 _ _ status taken refl whole (cut_by words text exit status faults taken call _ run.status_is run.put);
+        stands = stands_over asked call.sink call.sink' exit.status exit.kept few done m.steps m
+            run.state run.program run.sound run.path run.made run.quantum run.sound.bounded.moves.most run.within run.pages;
+        broken = run.broken;
+        faithful = lacking_of asked m run.sound (ap (λ (p : Program). p.image) run.program);
+      }),
+    )
+
+pub restart_told : (words : List (List ℕ)) (text : List ℕ) (exit : Exit) (status faults : ℕ) (taken : List ℕ) (call : Call words text exit status faults taken) (asked : Asked)
+    → AsksRestart words text asked → IsSo faults (λ sink. IsRestarted sink asked status taken exit.kept)
+restart_told words text exit status faults taken call asked asks =
+    told_by words text exit status faults taken call _ (λ sink. IsRestarted sink asked status taken exit.kept)
+    (inl (Restart (options_of asked), asks.command, (text, call.told, inr (asks.input.short, Good (asked.image, asks.input.position) asks.input.hex (Good (script_of asked) asks.input.script refl)))))
+    (λ sink told none alone. NoMemory told none) (λ done. restarted asked words text exit status faults taken call (few_words text asked.image asks.input.position asks.input.hex) done.0 done.0.over)

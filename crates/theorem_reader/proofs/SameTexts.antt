@@ -31,7 +31,7 @@ pub line_same : (line : Line) → line_text line ≡ device_line line
 unfolding line_text
 line_same line = ap (λ p. p ++ codes " " ++ (codes "0x" ++ encode_upper (line.value ∷ [])) ++ codes "\n") (port_same line.port)
 
-lines_same : (lines : List Line) → lines_text lines ≡ flat_map device_line lines
+pub lines_same : (lines : List Line) → lines_text lines ≡ flat_map device_line lines
 lines_same [] = refl
 lines_same (line ∷ lines) = ap₂ (λ a b. a ++ b) (line_same line) (lines_same lines)
 
@@ -51,23 +51,23 @@ pub stop_same : (end : End) (steps checkpoints : ℕ) → stop_text end steps ch
 unfolding stop_text
 stop_same end steps checkpoints = ap (λ how. stop_line how steps checkpoints) (end_same end)
 
-count_same : (natural entries pages : ℕ) → count_text natural entries pages ≡ count_line natural entries pages
+count_same : (m : Machine) → count_text m ≡ count_line m
 unfolding count_text
-count_same natural entries pages = refl
+count_same m = refl
 
 flash_same : (op steps checkpoints : ℕ) → end_line (ends.Flash op) steps checkpoints ≡ stop_line (codes "flash fault " ++ decimal op) steps checkpoints
 unfolding end_line
 flash_same op steps checkpoints = refl
 
-run_same : (r : Run) (stop how : List ℕ) (quantum : ℕ) (m : Machine) → stop ≡ stop_line how r.state.now.steps (r.state.now.crossings / quantum) → lines_text r.lines ++ stop ++ count_text m.natural m.entries m.pages ≡ text_of r how quantum m
+run_same : (r : Run) (stop how : List ℕ) (quantum : ℕ) (m : Machine) → stop ≡ stop_line how r.state.now.steps (r.state.now.crossings / quantum) → lines_text r.lines ++ stop ++ count_text m ≡ text_of r how quantum m
 run_same r stop how quantum m is =
-    ap₂ (λ lines rest. lines ++ rest ++ count_text m.natural m.entries m.pages) (lines_same r.lines) is
-    ∙ ap (λ count. flat_map device_line r.lines ++ stop_line how r.state.now.steps (r.state.now.crossings / quantum) ++ count) (count_same m.natural m.entries m.pages)
+    ap₂ (λ lines rest. lines ++ rest ++ count_text m) (lines_same r.lines) is
+    ∙ ap (λ count. flat_map device_line r.lines ++ stop_line how r.state.now.steps (r.state.now.crossings / quantum) ++ count) (count_same m)
 
-pub ended_same : (r : Run) (quantum : ℕ) (m : Machine) → lines_text r.lines ++ stop_text r.end r.state.now.steps (r.state.now.crossings / quantum) ++ count_text m.natural m.entries m.pages ≡ text_of r (end_words r.end) quantum m
+pub ended_same : (r : Run) (quantum : ℕ) (m : Machine) → lines_text r.lines ++ stop_text r.end r.state.now.steps (r.state.now.crossings / quantum) ++ count_text m ≡ text_of r (end_words r.end) quantum m
 ended_same r quantum m = run_same r _ (end_words r.end) quantum m (stop_same r.end r.state.now.steps (r.state.now.crossings / quantum))
 
-pub failed_same : (r : Run) (op quantum : ℕ) (m : Machine) → m.steps ≡ r.state.now.steps → lines_text r.lines ++ end_line (ends.Flash op) m.steps (r.state.now.crossings / quantum) ++ count_text m.natural m.entries m.pages ≡ text_of r (codes "flash fault " ++ decimal op) quantum m
+pub failed_same : (r : Run) (op quantum : ℕ) (m : Machine) → m.steps ≡ r.state.now.steps → lines_text r.lines ++ end_line (ends.Flash op) m.steps (r.state.now.crossings / quantum) ++ count_text m ≡ text_of r (codes "flash fault " ++ decimal op) quantum m
 failed_same r op quantum m steps = run_same r _ (codes "flash fault " ++ decimal op) quantum m
     (ap (λ n. end_line (ends.Flash op) n (r.state.now.crossings / quantum)) steps ∙ flash_same op r.state.now.steps (r.state.now.crossings / quantum))
 

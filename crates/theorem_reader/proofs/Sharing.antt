@@ -5,7 +5,6 @@ use Rattle.std.specs.List.{range_with_len, find}
 use Rattle.std.proofs.lemmas.Bool.{cases_eq}
 use Rattle.std.proofs.lemmas.Bool.Decides.{nat_tests}
 use Rattle.std.proofs.lemmas.List.Elements.{All-nil, All-cons, All-append, All-head, All-tail}
-use Rattle.byte_streams.specs.Faults.{Rose}
 use Rattle.mote_devices.specs.declared.line.Line.{Line}
 use Rattle.input_script.specs.Script.{Schedule}
 use Rattle.avr_isa.specs.Image.{word}
@@ -17,7 +16,7 @@ use Rattle.parked_tasks.specs.declared.task.TaskEnd.{TaskEnd}
 use Rattle.task_turns.specs.Reset.{turns_at_reset, players_at_reset}
 use Rattle.task_turns.specs.Quarters.{quarter_part}
 use Rattle.task_input.specs.Images.{task_words}
-use Rattle.tk_tasks.specs.Plays.{shown_text, told_text}
+use Rattle.tk_tasks.specs.Plays.{shown_text, told_text, told_of, counted}
 use Rattle.tk_tasks.specs.States.{Tasks, player_of}
 use Rattle.parked_tasks.specs.Ends.{flat_end, flat_end_of}
 use Rattle.task_turns.specs.Turns.{Player, Turns, Told, Shown, Wrote, Stops, After, others, has_ended, ends_of, next_in, changed_to, with_player, once, continued, go_on, tries, shown_by, own_told}
@@ -26,32 +25,35 @@ use Rattle.tk_words.specs.declared.command.Command.TheVariants.{Tasks as TasksCo
 use Rattle.tk_words.specs.declared.status.Status.{Status}
 use Rattle.tk_words.specs.declared.status.Status.TheVariants as status
 use Rattle.tkernel_cli.specs.declared.top.Exit.{Exit}
-use Rattle.tkernel_cli.specs.Answer.{IsExact}
 use Rattle.tk_request.specs.Reading.{Good}
-use Rattle.tk_words.specs.Stream.{Stream}
 use Rattle.run_jobs.specs.Runs.{status_of_end}
 use Rattle.tk_words.specs.Status.{number_of}
 use Rattle.tk_request.specs.TasksCommand.{Placed}
-use Rattle.tkernel_cli.specs.TasksRuns.{RunsTasks, RunsTasksToTheEnd, EachIsAlone, run_of_task, all_told, start_by, worse, worst, status_of_task}
+use Rattle.tkernel_cli.specs.TasksRuns.{RunsTasks, RunsTasksToTheEnd, EachIsAlone, run_of_task, all_told, turns_by, start_by, worse, worst, status_of_task}
 use Rattle.run_jobs.specs.Text.{tasks_count_text}
-use Rattle.theorem_reader.specs.Tasks.{AskedTasks, AsksTasks, image_of, events_of, alone_of, lines_alone, Printed, printed_text, lines_of_task, last_line, greatest, worst_status, AreApart, AreRun, NoMemory, Ended}
-use Rattle.theorem_reader.specs.Texts.{device_line, end_words, stop_line, end_status}
-use Rattle.theorem_reader.proofs.Answering.{said_is, taken_is}
+use Rattle.theorem_reader.specs.Tasks.{AskedTasks, AsksTasks, tasks_options_of, image_of, events_of, alone_of, lines_alone, Printed, printed_text, line_shown, printed_by, lines_of_task, last_line, greatest, worst_status, AreSums, AreApart, AreRun, NoMemory, Ended, Cut}
+use Rattle.theorem_reader.specs.Telling.{Fails, IsSo}
+use Rattle.theorem_reader.specs.Texts.{device_line, end_status}
+use Rattle.theorem_reader.proofs.Doing.{Call, Somehow, so_then, retold, cut_by, told_how, told_by}
 use Rattle.theorem_reader.proofs.SameTexts.{line_same, stop_same, status_same}
-use Rattle.theorem_reader.proofs.TakingTurns.{length_set, path_long, waiting_long, have_stints}
+use Rattle.parked_tasks.proofs.Waiting.{waiting_length}
+use Rattle.theorem_reader.proofs.TakingTurns.{length_set, path_long, tasks_request_of, have_stints}
 
 -- what is asked of the program, as it sees it: its run of one program alone, what all tell, and that each is alone
 abbrev own_run : AskedTasks → ℕ → Run
-own_run asked task = run_of_task (record { image = asked.image; scripts = asked.scripts; options = record { count = asked.count; steps = asked.steps; quantum = asked.quantum; swap = asked.slots } }) task
+own_run asked task = run_of_task (tasks_request_of asked) task
 
 abbrev told_in : AskedTasks → List Told
-told_in asked = all_told (record { image = asked.image; scripts = asked.scripts; options = record { count = asked.count; steps = asked.steps; quantum = asked.quantum; swap = asked.slots } })
+told_in asked = all_told (tasks_request_of asked)
+
+abbrev turns_in : AskedTasks → Turns
+turns_in asked = turns_by (tasks_request_of asked)
 
 abbrev AreAlone : AskedTasks → Tasks → Type 0
-AreAlone asked t = EachIsAlone (record { image = asked.image; scripts = asked.scripts; options = record { count = asked.count; steps = asked.steps; quantum = asked.quantum; swap = asked.slots } }) t
+AreAlone asked t = EachIsAlone (tasks_request_of asked) t
 
 abbrev start_in : AskedTasks → List Schedule → Tasks
-start_in asked scripts = start_by (record { image = asked.image; scripts = asked.scripts; options = record { count = asked.count; steps = asked.steps; quantum = asked.quantum; swap = asked.slots } }) scripts
+start_in asked scripts = start_by (tasks_request_of asked) scripts
 
 -- A program alone. ----------------------------------------------------------------------------------------
 
@@ -83,20 +85,11 @@ run_alone asked task =
 
 -- What is printed. ----------------------------------------------------------------------------------------
 
--- a line or a stop line, without its program's number
-abbrev line_of : (quantum : ℕ) → Shown → List ℕ
-line_of quantum (Wrote line) = device_line line
-line_of quantum (Stops end steps crossings) = stop_line (end_words end) steps (crossings / quantum)
-
-abbrev printed_of : (quantum : ℕ) → List Told → List Printed
-printed_of quantum [] = []
-printed_of quantum (one ∷ more) = record { task = one.task; line = line_of quantum one.shown } ∷ printed_of quantum more
-
-shown_same : (quantum : ℕ) (shown : Shown) → shown_text quantum shown ≡ line_of quantum shown
+shown_same : (quantum : ℕ) (shown : Shown) → shown_text quantum shown ≡ line_shown quantum shown
 shown_same quantum (Wrote line) = line_same line
 shown_same quantum (Stops end steps crossings) = stop_same end steps (crossings / quantum)
 
-told_same : (quantum : ℕ) (told : List Told) → told_text quantum told ≡ printed_text (printed_of quantum told)
+told_same : (quantum : ℕ) (told : List Told) → told_text quantum told ≡ printed_text (printed_by quantum told)
 told_same quantum [] = refl
 told_same quantum (one ∷ more) =
     ap₂ (λ line others. (codes "task " ++ (48 + one.task) ∷ codes " " ++ line) ++ others) (shown_same quantum one.shown) (told_same quantum more)
@@ -106,33 +99,33 @@ unfolding tasks_count_text
 last_same natural entries pages switches = refl
 
 -- of one program
-one_more : (own : Bool) (quantum : ℕ) (shown : Shown) (others : List Shown) (lines : List (List ℕ)) → lines ≡ map (line_of quantum) others
-    → cond own (line_of quantum shown ∷ lines) lines ≡ map (line_of quantum) (cond own (shown ∷ others) others)
-one_more true quantum shown others lines same = ap (λ (l : List (List ℕ)). line_of quantum shown ∷ l) same
+one_more : (own : Bool) (quantum : ℕ) (shown : Shown) (others : List Shown) (lines : List (List ℕ)) → lines ≡ map (line_shown quantum) others
+    → cond own (line_shown quantum shown ∷ lines) lines ≡ map (line_shown quantum) (cond own (shown ∷ others) others)
+one_more true quantum shown others lines same = ap (λ (l : List (List ℕ)). line_shown quantum shown ∷ l) same
 one_more false quantum shown others lines same = same
 
-own_same : (task quantum : ℕ) (told : List Told) → lines_of_task task (printed_of quantum told) ≡ map (line_of quantum) (own_told task told)
+own_same : (task quantum : ℕ) (told : List Told) → lines_of_task task (printed_by quantum told) ≡ map (line_shown quantum) (own_told task told)
 own_same task quantum [] = refl
-own_same task quantum (one ∷ more) = one_more (eqb one.task task) quantum one.shown (own_told task more) (lines_of_task task (printed_of quantum more)) (own_same task quantum more)
+own_same task quantum (one ∷ more) = one_more (eqb one.task task) quantum one.shown (own_told task more) (lines_of_task task (printed_by quantum more)) (own_same task quantum more)
 
-lines_then : (quantum : ℕ) (lines : List Line) (stop : Shown) → map (line_of quantum) (map Wrote lines ++ stop ∷ []) ≡ map device_line lines ++ line_of quantum stop ∷ []
+lines_then : (quantum : ℕ) (lines : List Line) (stop : Shown) → map (line_shown quantum) (map Wrote lines ++ stop ∷ []) ≡ map device_line lines ++ line_shown quantum stop ∷ []
 lines_then quantum [] stop = refl
 lines_then quantum (line ∷ lines) stop = ap (λ (l : List (List ℕ)). device_line line ∷ l) (lines_then quantum lines stop)
 
-shown_alone : (asked : AskedTasks) (task : ℕ) → map (line_of asked.quantum) (shown_by (own_run asked task)) ≡ lines_alone asked task
+shown_alone : (asked : AskedTasks) (task : ℕ) → map (line_shown asked.quantum) (shown_by (own_run asked task)) ≡ lines_alone asked task
 shown_alone asked task =
     let r = alone_of asked task in
-    ap (λ r. map (line_of asked.quantum) (shown_by r)) (run_alone asked task) ∙ lines_then asked.quantum r.lines (Stops r.end r.state.now.steps r.state.now.crossings)
+    ap (λ r. map (line_shown asked.quantum) (shown_by r)) (run_alone asked task) ∙ lines_then asked.quantum r.lines (Stops r.end r.state.now.steps r.state.now.crossings)
 
 -- Each line is of a program. ------------------------------------------------------------------------------
 
 abbrev IsBelow : ℕ → Told → Type 0
 IsBelow count one = one.task < count
 
-printed_below : (count quantum : ℕ) (told : List Told) → All (IsBelow count) told → All (λ (one : Printed). one.task < count) (printed_of quantum told)
+printed_below : (count quantum : ℕ) (told : List Told) → All (IsBelow count) told → All (λ (one : Printed). one.task < count) (printed_by quantum told)
 printed_below count quantum [] all = All-nil (λ (one : Printed). one.task < count)
 printed_below count quantum (one ∷ more) all =
-    All-cons (λ (one : Printed). one.task < count) (record { task = one.task; line = line_of quantum one.shown }) (printed_of quantum more)
+    All-cons (λ (one : Printed). one.task < count) (record { task = one.task; line = line_shown quantum one.shown }) (printed_by quantum more)
     (All-head (IsBelow count) one more all) (printed_below count quantum more (All-tail (IsBelow count) one more all))
 
 none_behind : (own : Bool) (shown : Shown) (others : List Shown) → cond own (shown ∷ others) others ≡ [] → (own ≡ false) × (others ≡ [])
@@ -224,7 +217,7 @@ told_below asked long some =
 
 start_long : (asked : AskedTasks) (scripts : List Schedule) → 1 ≤ length scripts → length (start_in asked scripts).tasks ≡ length scripts
 start_long asked [] some = absurd (omega (arith, some))
-start_long asked (first ∷ scripts) some = ap (λ m. suc m) (waiting_long 1 scripts asked.quantum asked.slots)
+start_long asked (first ∷ scripts) some = ap (λ m. suc m) (waiting_length 1 scripts asked.quantum asked.slots)
 
 worse_by : (a b : Status) (less : Bool) → nat_lt (number_of a) (number_of b) ≡ less → number_of (cond less b a) ≡ max (number_of a) (number_of b)
 worse_by a b true is = let less : number_of a < number_of b = grind (arith, nat_tests, is) in omega (arith, less)
@@ -272,41 +265,50 @@ ended_state asked t each i below =
 
 -- The answer. ---------------------------------------------------------------------------------------------
 
-apart : (asked : AskedTasks) (before now : Stream) (exit : Exit) (taken : List ℕ) (t : Tasks) → length asked.scripts ≡ asked.count → 1 ≤ asked.count → (Rose before.faults now.faults → ⊥) → before.told ≡ Some [] → now.told ≡ Some taken
-    → RunsTasksToTheEnd (record { image = asked.image; scripts = asked.scripts; options = record { count = asked.count; steps = asked.steps; quantum = asked.quantum; swap = asked.slots } }) before now exit.status t → AreApart asked (number_of exit.status) taken
-apart asked before now exit taken t long some well first last run =
+sums_of : (t last : Tasks) (broken : Bool) → t ≡ counted last broken → AreSums t
+sums_of t last broken is = subst AreSums (sym is) (record { natural = refl; entries = refl })
+
+apart : (asked : AskedTasks) (words : List (List ℕ)) (text : List ℕ) (exit : Exit) (status faults : ℕ) (taken : List ℕ) (call : Call words text exit status faults taken) (t : Tasks) → length asked.scripts ≡ asked.count → 1 ≤ asked.count
+    → RunsTasksToTheEnd (tasks_request_of asked) call.sink call.sink' exit.status t → Somehow call.sink call.sink' (λ sink. AreApart sink asked status taken t)
+apart asked words text exit status faults taken call t long some run =
     let told = told_in asked in
-    let said = said_is _ exit.status _ taken before now well first last run.said in
     let tasks : length t.tasks ≡ asked.count =
     ap (λ (z : Tasks). length z.tasks) run.is ∙ path_long asked.steps (start_in asked asked.scripts) run.plays run.last run.path ∙ start_long asked asked.scripts (omega (arith, long, some)) ∙ long in
-    record {
-      printed = printed_of asked.quantum told;
-      natural = t.natural;
-      entries = t.entries;
-      pages = t.pages;
-      switches = t.switches;
-      text_is = said.1 ∙ ap₂ (λ a b. a ++ b) (told_same asked.quantum told) (last_same t.natural t.entries t.pages t.switches);
+    let whole = ap₂ (λ a b. a ++ b) (told_same asked.quantum told) (last_same t.natural t.entries t.pages t.switches) in
+    so_then call.sink call.sink' _ (λ sink. AreApart sink asked status taken t) (λ sink said. record {
+      told = retold sink _ _ _ _ status taken (status_is asked t tasks run.alone) whole said;
       theirs = printed_below asked.count asked.quantum told (told_below asked long some);
-      each = λ task below. own_same task asked.quantum told ∙ ap (map (line_of asked.quantum)) (run.alone task below).2.0 ∙ shown_alone asked task;
-      status_is = ap number_of said.0 ∙ status_is asked t tasks run.alone;
+      each = λ task below. own_same task asked.quantum told ∙ ap (map (line_shown asked.quantum)) (run.alone task below).2.0 ∙ shown_alone asked task;
       stints = have_stints asked asked.scripts t run.last run.plays refl long some run.start run.path run.is run.ended run.sound (ended_state asked t run.alone);
-    }
+      sums = sums_of t run.last false run.is;
+      unbroken = ap (λ (z : Tasks). z.broken) run.is;
+    }) (told_how words text exit status faults taken call _ _ run.said)
 
-are_run : (asked : AskedTasks) (before now : Stream) (exit : Exit) (taken : List ℕ) (t : Tasks) → length asked.scripts ≡ asked.count → 1 ≤ asked.count → (Rose before.faults now.faults → ⊥) → before.told ≡ Some [] → now.told ≡ Some taken
-    → exit.kept ≡ None → RunsTasks (record { image = asked.image; scripts = asked.scripts; options = record { count = asked.count; steps = asked.steps; quantum = asked.quantum; swap = asked.slots } }) before now exit.status t → AreRun asked (number_of exit.status) taken exit.kept
-are_run asked before now exit taken t long some well first last none (RunsTasks.Ended run) = Ended (apart asked before now exit taken t long some well first last run) none
-are_run asked before now exit taken t long some well first last none (RunsTasks.Cut run) = absurd (well run.rose)
+are_run : (asked : AskedTasks) (words : List (List ℕ)) (text : List ℕ) (exit : Exit) (status faults : ℕ) (taken : List ℕ) (call : Call words text exit status faults taken) (t : Tasks) → length asked.scripts ≡ asked.count → 1 ≤ asked.count → exit.kept ≡ None → exit.tasks ≡ Some t
+    → RunsTasks (tasks_request_of asked) call.sink call.sink' exit.status t → Somehow call.sink call.sink' (λ sink. AreRun sink asked status taken exit.kept exit.tasks)
+are_run asked words text exit status faults taken call t long some none kept (RunsTasks.Ended run) =
+    so_then call.sink call.sink' (λ sink. AreApart sink asked status taken t) (λ sink. AreRun sink asked status taken exit.kept exit.tasks) (λ sink is. Ended t is none kept) (apart asked words text exit status faults taken call t long some run)
+are_run asked words text exit status faults taken call t long some none kept (RunsTasks.Cut run) =
+    let tried : told_of run.plays ≡ (tries (length run.plays) (turns_in asked)).told = ap (λ (a : After). a.told) (sym run.in_turn.tried) in (
+      Fails,
+      run.rose,
+      Cut t refl (record {
+        count = length run.plays;
+        told = retold Fails 6 6 _ _ status taken refl (told_same asked.quantum (told_of run.plays) ∙ ap (λ t. printed_text (printed_by asked.quantum t)) tried) (cut_by words text exit status faults taken call _ run.status_is run.put);
+        front = retold Fails 6 6 _ _ status taken refl (told_same asked.quantum (told_in asked)) (cut_by words text exit status faults taken call _ run.status_is run.front);
+        sums = sums_of t run.last true run.is;
+        broken = ap (λ (z : Tasks). z.broken) run.is;
+      }) none kept,
+    )
 
 count_least : (count value : ℕ) (numbers others : List ℕ) → count ∷ numbers ≡ value ∷ others → 1 ≤ value → 1 ≤ count
 count_least count value numbers others is least = let same : count ≡ value = cc in omega (arith, same, least)
 
-pub tasks_told : (words : List (List ℕ)) (source source' sink sink' : Stream) (exit : Exit) (text taken : List ℕ) (asked : AskedTasks)
-    → source.told ≡ Some text → (Rose source.faults source'.faults → ⊥) → (Rose sink.faults sink'.faults → ⊥) → sink.told ≡ Some [] → sink'.told ≡ Some taken
-    → AsksTasks words text asked → IsExact words source source' sink sink' exit → AreRun asked (number_of exit.status) taken exit.kept
-tasks_told words source source' sink sink' exit text taken asked told read written first last asks exact =
+pub tasks_told : (words : List (List ℕ)) (text : List ℕ) (exit : Exit) (status faults : ℕ) (taken : List ℕ) (call : Call words text exit status faults taken) (asked : AskedTasks)
+    → AsksTasks words text asked → IsSo faults (λ sink. AreRun sink asked status taken exit.kept exit.tasks)
+tasks_told words text exit status faults taken call asked asks =
     let values = asks.command.values_are in
     let some = count_least asked.count values.0 _ values.1 values.2 values.3.least in
-    elim (exact _ (inl (TasksCommand (record { count = asked.count; steps = asked.steps; quantum = asked.quantum; swap = asked.slots }), asks.command, (text, record { told = told; read = read }, inr (asks.short, Good (asked.image, asks.position) asks.hex (Good asked.scripts asks.scripts (Placed asks.placed refl)))))) written) [
-      | inl none ↦ NoMemory (ap number_of none.0.0) (taken_is sink.told sink'.told taken _ first last none.0.1) none.0.2
-      | inr done ↦ are_run asked sink sink' exit taken done.0.tasks asks.scripts.each_task some written first last done.0.none done.0.runs
-    ]
+    told_by words text exit status faults taken call _ (λ sink. AreRun sink asked status taken exit.kept exit.tasks)
+    (inl (TasksCommand (tasks_options_of asked), asks.command, (text, call.told, inr (asks.short, Good (asked.image, asks.position) asks.hex (Good asked.scripts asks.scripts (Placed asks.placed refl))))))
+    (λ sink told none alone. NoMemory told none alone) (λ done. are_run asked words text exit status faults taken call done.tasks asks.scripts.each_task some done.none done.kept done.runs)

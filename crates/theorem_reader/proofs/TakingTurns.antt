@@ -1,13 +1,13 @@
 -- What several programs did on one mote, stint after stint.
 use Rattle.std.proofs.Common.{◌≡◌, ◌≢◌, ℕ, zero, suc, ◌+◌, ◌*◌, ◌<◌, ◌≤◌, eqb, cond, Bool, true, false, List, [], ◌∷◌, length, Option, Some, None, refl, sym, ap, ◌∙◌, subst, arith, zero-add, inl, inr}
-use Rattle.std.specs.Prelude.{slice_get, slice_set, sum_by}
+use Rattle.std.specs.Prelude.{slice_get, slice_set, slice_index_or, sum_by, take}
 use Rattle.std.proofs.lemmas.Bool.Decides.{nat_tests}
 use Rattle.std.proofs.lemmas.List.FromFn.{length-map-range_with_len}
 use Rattle.std.proofs.lemmas.List.Sums.{sum_by-cons}
-use Rattle.list_parts.specs.Lists.{many}
 use Rattle.sram_layout.specs.Bytes.{byte_count, byte_at, data_word_at}
-use Rattle.flash_words.specs.Memory.{loaded}
-use Rattle.flash_words.specs.Layouts.{layout_of}
+use Rattle.flash_words.specs.Memory.{Memory}
+use Rattle.flash_words.proofs.LoadedLaws.{loaded_image}
+use Rattle.flash_words.specs.Layouts.{layout_of, image_of}
 use Rattle.input_script.specs.Script.{Schedule}
 use Rattle.avr_isa.specs.Image.{word}
 use Rattle.heap_frames.specs.Paged.{IsPaged}
@@ -25,19 +25,23 @@ use Rattle.task_input.specs.Images.{task_words}
 use Rattle.parked_tasks.specs.Parking.{Shares, IsBack}
 use Rattle.parked_tasks.specs.declared.parked.Parked.{Parked}
 use Rattle.tk_tasks.specs.Plays.{Play, IsPlay, TaskPath, counted}
-use Rattle.tk_tasks.specs.States.{Tasks, machine_of, AreSound, player_of, players_from, turns_of}
+use Rattle.tk_tasks.specs.States.{Tasks, machine_of, AreSound, player_of, turns_of}
 use Rattle.parked_tasks.specs.Ends.{flat_end_of}
 use Rattle.task_turns.specs.Turns.{Player, Turns, HaveEnded}
 use Rattle.task_turns.proofs.Isolation.{once_follows}
 use Rattle.task_turns.proofs.OwnPrograms.{player_at, reset_player}
+use Rattle.parked_tasks.proofs.Waiting.{waiting_length}
+use Rattle.tk_tasks.proofs.Changing.{players_length}
 use Rattle.tk_tasks.proofs.FirstPlayers.{each_first, boot_player}
 use Rattle.tk_tasks.proofs.Stints.{AreLeft, first_motes, left_at_boot, mote_before, mote_behind, is_here, left_behind, sum_play, pages_play, turned_play, last_play, has_back, left_counted}
+use Rattle.tk_words.specs.declared.request.TaskRequest.{TaskRequest}
 use Rattle.tkernel_cli.specs.TasksRuns.{start_by}
-use Rattle.theorem_reader.specs.Acts.{Follow, IsBoot, pool_from, steps_in, services_in, made_in}
+use Rattle.theorem_reader.specs.Acts.{Follow, IsBoot, steps_in, services_in, made_in}
 use Rattle.theorem_reader.specs.Memory.{HasMemory}
 use Rattle.theorem_reader.specs.Stints.{Stint, ComesBack, TakeTurns, changes_from, HasState, HaveStints}
-use Rattle.theorem_reader.specs.Tasks.{AskedTasks, words_of, start_of, alone_of}
-use Rattle.theorem_reader.proofs.Acting.{acts_of, Begins, follow, pool_begins}
+use Rattle.theorem_reader.specs.Tasks.{AskedTasks, tasks_options_of, words_of, events_of, start_of, alone_of}
+use Rattle.theorem_reader.proofs.Acting.{acts_of, Holds, follow}
+use Rattle.theorem_reader.proofs.Booting.{is_boot}
 use Rattle.theorem_reader.proofs.Bounding.{natural_of, entries_of, pages_of}
 use Rattle.theorem_reader.proofs.Holding.{has_memory}
 
@@ -48,21 +52,13 @@ length_set [] i p = refl
 length_set (q ∷ players) zero p = refl
 length_set (q ∷ players) (suc i) p = ap (λ n. suc n) (length_set players i p)
 
-players_long : (n : ℕ) (t : Tasks) (k : ℕ) (tasks : List Task) → length (players_from n t k tasks) ≡ length tasks
-players_long n t k [] = refl
-players_long n t k (task ∷ tasks) = ap (λ m. suc m) (players_long n t (k + 1) tasks)
-
 pub path_long : (n : ℕ) (t : Tasks) (plays : List Play) (new : Tasks) → TaskPath n t plays new → length new.tasks ≡ length t.tasks
 path_long n t [] new is = ap (λ (z : Tasks). length z.tasks) (sym is)
 path_long n t (play ∷ plays) new (mid, one, rest) =
     let p = player_of n t t.running one.task in
     let step = once_follows (turns_of n t) p (ap flat_end_of one.going) in
-    path_long n mid plays new rest ∙ sym (players_long n mid 0 mid.tasks) ∙ ap (λ (z : Turns). length z.players) one.in_turn ∙ ap (λ (l : List Player). length l) step.players
-    ∙ length_set (turns_of n t).players t.running step.q ∙ players_long n t 0 t.tasks
-
-pub waiting_long : (k : ℕ) (scripts : List Schedule) (quantum slots : ℕ) → length (waiting_from k scripts quantum slots) ≡ length scripts
-waiting_long k [] quantum slots = refl
-waiting_long k (script ∷ scripts) quantum slots = ap (λ m. suc m) (waiting_long (k + 1) scripts quantum slots)
+    path_long n mid plays new rest ∙ sym (players_length n mid 0 mid.tasks) ∙ ap (λ (z : Turns). length z.players) one.in_turn ∙ ap (λ (l : List Player). length l) step.players
+    ∙ length_set (turns_of n t).players t.running step.q ∙ players_length n t 0 t.tasks
 
 -- Stints. -------------------------------------------------------------------------------------------------
 
@@ -89,29 +85,40 @@ comes_back left own now shares back = record {
   high = λ a from to. back.high a from (omega arith);
 }
 
-follow_play : (from n : ℕ) (t new : Tasks) (play : Play) → (one : IsPlay n t play new) → Begins from t.kernel.layout → Follow from t.kernel.mote (stint_of n t play new one).acts one.mid.kernel.mote
-follow_play from n t new play one pool =
+record FollowsPlay (words : List ℕ) (n : ℕ) (t new : Tasks) (play : Play) (one : IsPlay n t play new) : Type 0 where
+  follow : Follow words t.kernel.mote (stint_of n t play new one).acts one.mid.kernel.mote
+  held : image_of (layout_of (length words)) one.mid.kernel.mote.flash.words ≡ words
+
+follow_play : (words : List ℕ) (n : ℕ) (t new : Tasks) (play : Play) → (one : IsPlay n t play new) → t.kernel.layout ≡ layout_of (length words) → image_of (layout_of (length words)) t.kernel.mote.flash.words ≡ words → FollowsPlay words n t new play one
+follow_play words n t new play one laid held =
     let x = state_of (machine_of t t.running one.task) in
     let z = state_of (machine_of one.mid t.running one.next) in
     let acts = (stint_of n t play new one).acts in
-    subst (λ (b : Mote). Follow from b acts one.mid.kernel.mote) (mote_before n t new play one)
-    (subst (λ (b : Mote). Follow from (machine_of t t.running one.task).kernel.mote acts b) (mote_behind n t new play one) (follow from x play.moves z one.tried.goes.walk pool))
+    let l = layout_of (length words) in
+    let holds : Holds words x = record { laid = laid; held = ap (λ (m : Mote). image_of l m.flash.words) (mote_before n t new play one) ∙ held } in
+    let done = follow words x play.moves z one.tried.goes.walk holds in
+    record {
+      follow = subst (λ (b : Mote). Follow words b acts one.mid.kernel.mote) (mote_before n t new play one)
+          (subst (λ (b : Mote). Follow words (machine_of t t.running one.task).kernel.mote acts b) (mote_behind n t new play one) done.follow);
+      held = subst (λ (b : Mote). image_of l b.flash.words ≡ words) (mote_behind n t new play one) done.holds.held;
+    }
 
 take_turns : (words : List ℕ) (count n : ℕ) (t : Tasks) (plays : List Play) (new : Tasks) (motes : List Mote) (left : Mote) → length words ≡ 4096 * count → length t.tasks ≡ count → (path : TaskPath n t plays new) → AreLeft t motes left
-    → TakeTurns (pool_from words) left motes (stints_of n t plays new path) (motes_behind n t plays new path motes)
-take_turns words count n t [] new motes left size long is are = refl
-take_turns words count n t (play ∷ plays) new motes left size long (mid, one, rest) are =
+    → image_of (layout_of (length words)) left.flash.words ≡ words → TakeTurns words left motes (stints_of n t plays new path) (motes_behind n t plays new path motes)
+take_turns words count n t [] new motes left size long is are held = refl
+take_turns words count n t (play ∷ plays) new motes left size long (mid, one, rest) are held =
     let had = are.each t.running one.task one.here in
     let laid = one.sound.layout ∙ ap (λ k. layout_of (4096 * k)) long ∙ ap layout_of (sym size) in
-    let pool = subst (Begins (pool_from words)) (sym laid) (pool_begins words) in
+    let here = ap (λ (f : Memory). image_of (layout_of (length words)) f.words) are.shares.flash ∙ held in
+    let done = follow_play words n t mid play one laid here in
     let more = path_long n t (play ∷ []) mid (mid, one, refl) ∙ long in (
       had.own,
       t.kernel.mote,
       one.mid.kernel.mote,
       had.there,
       comes_back left had.own t.kernel.mote are.shares (is_here t one.task had.own had.held),
-      follow_play (pool_from words) n t mid play one pool,
-      take_turns words count n mid plays new (slice_set motes t.running one.mid.kernel.mote) one.mid.kernel.mote size more rest (left_behind n t mid play motes left one are),
+      done.follow,
+      take_turns words count n mid plays new (slice_set motes t.running one.mid.kernel.mote) one.mid.kernel.mote size more rest (left_behind n t mid play motes left one are) done.held,
     )
 
 left_last : (n : ℕ) (t : Tasks) (plays : List Play) (new : Tasks) (motes : List Mote) (left : Mote) → (path : TaskPath n t plays new) → AreLeft t motes left → (last : Mote) × AreLeft new (motes_behind n t plays new path motes) last
@@ -206,14 +213,25 @@ waiting_none f task [] quantum slots none = refl
 waiting_none f task (script ∷ scripts) quantum slots none =
     omega (arith, waiting_none f (task + 1) scripts quantum slots none, none task (Some (parked_at_boot script quantum slots)), sum_by-cons f (at_start task (Some (parked_at_boot script quantum slots))) (waiting_from (task + 1) scripts quantum slots))
 
-abbrev tasks_at_boot : AskedTasks → List Schedule → Tasks
-tasks_at_boot asked scripts = start_by (record { image = asked.image; scripts = asked.scripts; options = record { count = asked.count; steps = asked.steps; quantum = asked.quantum; swap = asked.slots } }) scripts
+-- what the words and the text ask to run
+abbrev pub tasks_request_of : AskedTasks → TaskRequest
+tasks_request_of asked = record { image = asked.image; scripts = asked.scripts; options = tasks_options_of asked }
 
-boots : (asked : AskedTasks) (first : Schedule) (others : List Schedule) → length others + 1 ≡ asked.count → IsBoot (words_of asked) (tasks_at_boot asked (first ∷ others)).kernel.mote
-unfolding loaded many
-boots asked first others long =
-    let Boots : ℕ → Type 0 = λ k. IsBoot (task_words k asked.image) (mote_at_boot (task_words (length others + 1) asked.image) first asked.quantum asked.slots) in
-    subst Boots long (record { words = refl; ops = refl })
+abbrev tasks_at_boot : AskedTasks → List Schedule → Tasks
+tasks_at_boot asked scripts = start_by (tasks_request_of asked) scripts
+
+boots : (asked : AskedTasks) (first : Schedule) (others : List Schedule) → length others + 1 ≡ asked.count → events_of asked 0 ≡ first.events
+    → IsBoot (words_of asked) [] (events_of asked 0) asked.quantum asked.slots (tasks_at_boot asked (first ∷ others)).kernel.mote
+boots asked first others long events =
+    let Boots : ℕ → Type 0 = λ k. IsBoot (task_words k asked.image) [] (events_of asked 0) asked.quantum asked.slots (mote_at_boot (task_words (length others + 1) asked.image) first asked.quantum asked.slots) in
+    let words = task_words (length others + 1) asked.image in
+    subst Boots long (subst (λ e. IsBoot words [] e asked.quantum asked.slots (mote_at_boot words first asked.quantum asked.slots)) (sym events) (is_boot words [] first.events asked.quantum asked.slots))
+
+boots_image : (asked : AskedTasks) (first : Schedule) (others : List Schedule) → length others + 1 ≡ asked.count
+    → image_of (layout_of (length (words_of asked))) (tasks_at_boot asked (first ∷ others)).kernel.mote.flash.words ≡ words_of asked
+boots_image asked first others long =
+    let Held : ℕ → Type 0 = λ k. take (length (task_words k asked.image)) (mote_at_boot (task_words (length others + 1) asked.image) first asked.quantum asked.slots).flash.words ≡ task_words k asked.image in
+    subst Held long (loaded_image (task_words (length others + 1) asked.image))
 
 -- and none has ended there
 none_ended : (asked : AskedTasks) (n : ℕ) → 0 < length asked.scripts → HaveEnded (turns_at_reset asked.image asked.scripts asked.quantum asked.slots n) → ⊥
@@ -226,7 +244,7 @@ none_ended asked n some ended =
 pub have_stints : (asked : AskedTasks) (scripts : List Schedule) (t last : Tasks) (plays : List Play) → asked.scripts ≡ scripts → length asked.scripts ≡ asked.count → 1 ≤ asked.count
     → turns_of asked.steps (tasks_at_boot asked asked.scripts) ≡ turns_at_reset asked.image asked.scripts asked.quantum asked.slots asked.steps → TaskPath asked.steps (tasks_at_boot asked asked.scripts) plays last → t ≡ counted last false → HaveEnded (turns_of asked.steps last)
     → AreSound t → ((i : ℕ) → i < asked.count → (task : Task) × (slice_get t.tasks i ≡ Some task) × ((player_of asked.steps t i task).moment.now ≡ (alone_of asked i).state.now))
-    → HaveStints (IsBoot (words_of asked)) (pool_from (words_of asked)) asked.count t.natural t.entries t.pages t.switches (start_of asked) (λ task. (alone_of asked task).state.now)
+    → HaveStints (IsBoot (words_of asked) [] (events_of asked 0) asked.quantum asked.slots) (words_of asked) asked.count t.natural t.entries t.pages t.switches (start_of asked) (λ task. (alone_of asked task).state.now)
 have_stints asked [] t last plays is long some start path counts ended sound each = absurd (omega (arith, ap length is, long, some))
 have_stints asked (first ∷ others) t last plays is long some reset path counts ended sound each =
     let n = asked.steps in
@@ -241,12 +259,12 @@ have_stints asked (first ∷ others) t last plays is long some reset path counts
     let sound_boot = sound_first n booted plays last way (λ same_last. none_ended asked n (omega (arith, long, some)) (subst HaveEnded at_reset (subst (λ (u : Tasks). HaveEnded (turns_of n u)) (sym same_last) ended))) in
     let size : length asked.scripts ≡ length (first ∷ others) = ap length is in
     let count : length others + 1 ≡ asked.count = omega (arith, size, long) in
-    let tasks_long : length booted.tasks ≡ asked.count = omega (arith, waiting_long 1 others asked.quantum asked.slots, count) in
+    let tasks_long : length booted.tasks ≡ asked.count = omega (arith, waiting_length 1 others asked.quantum asked.slots, count) in
     let none : (f : Task → ℕ) → ((k : ℕ) (parked : Option Parked) → f (at_start k parked) ≡ 0) → sum_by f booted.tasks ≡ 0 = λ f zero_at. omega (arith, sum_by-cons f (at_start 0 None) (waiting_from 1 others asked.quantum asked.slots), zero_at 0 None, waiting_none f 1 others asked.quantum asked.slots zero_at) in
     record {
       stints = stints_of n booted plays last way;
       first = booted.kernel.mote;
-      begins = boots asked first others count;
+      begins = boots asked first others count (ap (λ (s : List Schedule). (slice_index_or {A = Schedule} s 0 (record { events = []; failing = [] })).events) is);
       motes = motes;
       first_is = refl;
       starts = λ task below.
@@ -255,7 +273,7 @@ have_stints asked (first ∷ others) t last plays is long some reset path counts
           let own = boot_player n booted asked.image asked.scripts asked.quantum asked.slots task one.0 at_reset one.1 inside in
           stands_left booted motes booted.kernel.mote task one.0 (start_of asked task) sound_boot are one.1 (ap (λ (p : Player). p.moment.now) own);
       last = motes_behind n booted plays last way motes;
-      turns = take_turns (words_of asked) asked.count n booted plays last motes booted.kernel.mote (length-map-range_with_len (word asked.image) 0 (4096 * asked.count)) tasks_long way are;
+      turns = take_turns (words_of asked) asked.count n booted plays last motes booted.kernel.mote (length-map-range_with_len (word asked.image) 0 (4096 * asked.count)) tasks_long way are (boots_image asked first others count);
       ends = λ task below.
           let one = each task below in
           stands_left (counted last false) (motes_behind n booted plays last way motes) behind.0 task one.0 (alone_of asked task).state.now sound_last (left_counted last _ behind.0 behind.1)

@@ -1,7 +1,13 @@
 -- What a machine did, one act after another, told by the mote before and after each.
-use Rattle.std.specs.Prelude.{◌≡◌, ◌≢◌, ℕ, suc, ◌+◌, ◌-◌, ◌*◌, ◌%◌, ◌≤◌, ◌⊎◌, nat_le, if◌then◌else◌, List, [], ◌∷◌, ◌++◌, slice_index, length, replicate, Option, Some, None}
+use Rattle.std.specs.Prelude.{◌≡◌, ◌≢◌, ℕ, suc, ◌+◌, ◌-◌, ◌*◌, ◌%◌, ◌≤◌, ◌⊎◌, List, [], ◌∷◌, ◌++◌, slice_index, slice_set, length, replicate, ◌<◌, ◌==◌, true, Option, Some, None}
 use Rattle.std.specs.Option.{option_map}
+use Rattle.std.specs.List.{list_any}
 use Rattle.avr_isa.specs.declared.form.Form.{Form}
+use Rattle.input_script.specs.declared.input.Event.{Event}
+use Rattle.mem_guard.specs.FlatMachine.{at_reset, next_size}
+use Rattle.mem_guard.specs.FlatSpace.{FlatSpace, flat_calls}
+use Rattle.avr_exec.specs.declared.cpu.Cpu.{Cpu}
+use Rattle.avr_decode.specs.Program.{instruction_at}
 use Rattle.avr_decode.specs.Decoding.{the_form, size_by_first_word}
 use Rattle.avr_exec.specs.Spaces.{Went}
 use Rattle.avr_exec.specs.Execution.{exec_of}
@@ -10,19 +16,17 @@ use Rattle.mote_core.specs.declared.mote.Mote.{Mote}
 use Rattle.mote_core.specs.Physical.{physical_calls}
 use Rattle.step_laws.specs.declared.moves.End.{End}
 use Rattle.step_laws.specs.declared.moves.End.TheVariants as ends
+use Rattle.theorem_reader.specs.Pools.{pool_from, AreFaithful, AreFaithfulBut, IsPlaceOf}
+use Rattle.theorem_reader.specs.Memory.{HasMemory}
 
 -- one AVR instruction of the mote in rewritten code; a service of the kernel, which rewritten code called; the arrival
--- of control at an original address, which may make a page, and tries so many operations on flash; an interrupt, taken
--- before an arrival
+-- of control at an original address, the target, which may make a page, and tries so many operations on flash; an
+-- interrupt, taken before an arrival
 pub data Act : Type 0 where
   Step : (before after : Mote) → Act
   Service : (before after : Mote) → Act
-  Arrival : (made ops : ℕ) → (before after : Mote) → Act
+  Arrival : (target made ops : ℕ) → (before after : Mote) → Act
   Interrupt : (before after : Mote) → Act
-
--- The pool's first word: 0x4000, or 0x6000 for an image of more than 16,384 words.
-abbrev pub pool_from : List ℕ → ℕ
-pool_from image = if nat_le (length image) 16384 then 0x4000 else 0x6000
 
 -- The mote executes the instruction whose words stand at its pc, and that is in the pool, `from` to 0xEFFF. All of flash
 -- stays, and so does the swap area; of SRAM the bytes at 0x0108 to 0x011D and at 0x0120 to 0x04FF.
@@ -40,27 +44,88 @@ pub record IsStep (from : ℕ) (before after : Mote) : Type 0 where
       (the_form (slice_index before.flash.words before.cpu.pc) (slice_index before.flash.words ((before.cpu.pc + 1) % 65536)))
       ≡ Some (Went after.cpu (record { sram = after.sram; devices = after.devices; words = after.flash.words; line = line }))
 
+-- the address behind the call of the kernel, where that left it: the high byte below the low one
+abbrev pub called_from : Mote → ℕ
+called_from m = slice_index m.sram 0x1E * 256 + slice_index m.sram 0x1F
+
+-- the word behind that call, an address of the program
+abbrev pub program_address : Mote → ℕ
+program_address m = slice_index m.flash.words (called_from m)
+
+-- the program's own stack pointer
+abbrev pub program_pointer : Mote → ℕ
+program_pointer m = slice_index m.sram 3 + 256 * slice_index m.sram 4
+
+-- The original program's instruction at that address is executed, just as over flat memory: over the 65,536 bytes that the
+-- mote keeps for the program (`Memory`), the devices, and the image. Or the program ends there, and nothing changes.
+pub data Executes (image : List ℕ) (before after : Mote) : Type 0 where
+  Ends : after ≡ record before { cpu = record before.cpu { sp = 0x011F } } → Executes image before after
+  Done : (form : Form) → (core : Cpu) → (old new : FlatSpace) → instruction_at image (program_address before) ≡ Some form
+      → HasMemory before old.memory → old.devices ≡ before.devices → old.image ≡ image
+      → exec_of flat_calls form (record { r = before.cpu.r; sreg = before.cpu.sreg; sp = program_pointer before; pc = program_address before }) old (next_size image (program_address before)) ≡ Went core new
+      → after.cpu.r ≡ core.r → after.cpu.sreg ≡ core.sreg → program_pointer after ≡ core.sp → HasMemory after new.memory → after.devices ≡ new.devices → Executes image before after
+
 -- The pc is at one of the kernel's eight entries, 0xF000 to 0xF00F. All of flash stays, and the bytes of SRAM at 0x0142 to
--- 0x03FF. At each entry but 0xF004, which reaches the program's memory, so does the swap area, and 0x0120 to 0x0CFF.
-pub record IsService (before after : Mote) : Type 0 where
+-- 0x03FF. At each entry but 0xF004, which reaches the program's memory, so does the swap area, and 0x0120 to 0x0CFF. The
+-- kernel's stack, 0x011E and 0x011F, is empty again. The pc stays, and the kernel has control; or, at 0xF004 and 0xF006,
+-- rewritten code goes on: behind the call of the kernel, whose address that stack had, and the one word behind that. At
+-- 0xF000 nothing else changes; at 0xF002 but r24 and SREG, from 0x0101 and 0x0102, and the byte at 0x0100; at 0xF004 an
+-- instruction of the program is executed; from 0xF006 on the registers stay.
+pub record IsService (image : List ℕ) (before after : Mote) : Type 0 where
   pub low : 0xF000 ≤ before.cpu.pc
   pub high : before.cpu.pc ≤ 0xF00F
+  pub stack : after.cpu.sp ≡ 0x011F
+  pub pc : (after.cpu.pc ≡ before.cpu.pc) ⊎ ((0xF004 ≤ before.cpu.pc) × (before.cpu.pc ≤ 0xF007) × (after.cpu.pc ≡ (called_from before + 1) % 65536))
+  pub bridge : before.cpu.pc ≡ 0xF000 → after ≡ record before { cpu = record before.cpu { sp = 0x011F } }
+  pub quantum : before.cpu.pc ≡ 0xF002 → (count : ℕ) × (after ≡ record before {
+    cpu = record before.cpu { r = slice_set before.cpu.r 24 (slice_index before.sram 1); sreg = slice_index before.sram 2; sp = 0x011F };
+    sram = slice_set before.sram 0 count;
+  })
+  pub memory : before.cpu.pc ≡ 0xF004 → Executes image before after
+  pub registers : 0xF006 ≤ before.cpu.pc → after.cpu.r ≡ before.cpu.r
   pub flash : after.flash ≡ before.flash
   pub tables : (a : ℕ) → 0x0142 ≤ a → a ≤ 0x03FF → slice_index after.sram (a - 0x0100) ≡ slice_index before.sram (a - 0x0100)
   pub swap : before.cpu.pc ≢ 0xF004 → after.swap ≡ before.swap
   pub heap : (a : ℕ) → before.cpu.pc ≢ 0xF004 → 0x0120 ≤ a → a ≤ 0x0CFF → slice_index after.sram (a - 0x0100) ≡ slice_index before.sram (a - 0x0100)
 
--- Registers, SREG, devices and swap stay, and flash counts the operations.
-pub record IsArrival (made ops : ℕ) (before after : Mote) : Type 0 where
+-- An arrival that makes no page leaves flash as it is; or of the exit stub through which control came, a call of the kernel,
+-- two words become a jump to where control goes on.
+pub data Relinks (before after : List ℕ) (place : ℕ) : Type 0 where
+  Same : after ≡ before → Relinks before after place
+  Linked : (s : ℕ) → slice_index before s ≡ 0x940E → slice_index before (s + 1) ≡ 0xF000
+      → after ≡ slice_set (slice_set before s 0x940C) (s + 1) place → Relinks before after place
+
+-- How an arrival ends. Control goes on where the code of its target begins; or the target is outside the image, and it is
+-- refused; or an operation on flash was refused, the last of those that were tried, and listed to fail; the pc stays then, or
+-- is in the pool.
+pub data Arrives (image : List ℕ) (target made : ℕ) (before after : Mote) : Type 0 where
+  In : target < length image → AreFaithful image after.flash.words → IsPlaceOf image after.flash.words target after.cpu.pc
+      → (made ≡ 0 → Relinks before.flash.words after.flash.words after.cpu.pc) → Arrives image target made before after
+  Outside : length image ≤ target → after.flash ≡ before.flash → after.cpu.pc ≡ before.cpu.pc → Arrives image target made before after
+  Refused : target < length image → before.flash.ops < after.flash.ops → list_any (λ n. n == after.flash.ops) before.flash.failing ≡ true
+      → AreFaithfulBut image after.flash.words → (after.cpu.pc ≡ before.cpu.pc) ⊎ ((pool_from image ≤ after.cpu.pc) × (after.cpu.pc < 0xF000)) → Arrives image target made before after
+
+-- Before it flash is faithful. Registers, SREG, stack pointer, devices and swap stay; of SRAM all but 0x0142 to 0x03FF, the
+-- tables of places; of flash all words outside the pool. Flash counts the operations.
+pub record IsArrival (image : List ℕ) (target made ops : ℕ) (before after : Mote) : Type 0 where
+  pub sound : AreFaithful image before.flash.words
   pub page : made ≤ 1
   pub tried : after.flash.ops ≡ before.flash.ops + ops
+  pub failing : after.flash.failing ≡ before.flash.failing
   pub registers : after.cpu.r ≡ before.cpu.r
   pub status : after.cpu.sreg ≡ before.cpu.sreg
+  pub pointer : after.cpu.sp ≡ before.cpu.sp
   pub devices : after.devices ≡ before.devices
   pub swap : after.swap ≡ before.swap
+  pub low : (a : ℕ) → 0x0100 ≤ a → a ≤ 0x0141 → slice_index after.sram (a - 0x0100) ≡ slice_index before.sram (a - 0x0100)
+  pub high : (a : ℕ) → 0x0400 ≤ a → slice_index after.sram (a - 0x0100) ≡ slice_index before.sram (a - 0x0100)
+  pub below : (a : ℕ) → a < pool_from image → slice_index after.flash.words a ≡ slice_index before.flash.words a
+  pub above : (a : ℕ) → 0xF000 ≤ a → slice_index after.flash.words a ≡ slice_index before.flash.words a
+  pub arrives : Arrives image target made before after
 
--- All of flash stays, and so do the swap area and the registers; of SRAM the bytes at 0x0100 and at 0x0120 to 0x0CFF.
+-- All of flash stays, and so do the swap area, the registers and the pc; of SRAM the bytes at 0x0100 and at 0x0120 to 0x0CFF.
 pub record IsInterrupt (before after : Mote) : Type 0 where
+  pub pc : after.cpu.pc ≡ before.cpu.pc
   pub flash : after.flash ≡ before.flash
   pub swap : after.swap ≡ before.swap
   pub registers : after.cpu.r ≡ before.cpu.r
@@ -68,42 +133,67 @@ pub record IsInterrupt (before after : Mote) : Type 0 where
   pub tables : (a : ℕ) → 0x0120 ≤ a → a ≤ 0x0CFF → slice_index after.sram (a - 0x0100) ≡ slice_index before.sram (a - 0x0100)
 
 -- the acts lead from the first mote to the last, each from where the one before it led
-abbrev pub Follow : (from : ℕ) → Mote → List Act → Mote → Type 0
-Follow from first [] last = first ≡ last
-Follow from first (Step before after ∷ acts) last = (before ≡ first) × IsStep from before after × Follow from after acts last
-Follow from first (Service before after ∷ acts) last = (before ≡ first) × IsService before after × Follow from after acts last
-Follow from first (Arrival made ops before after ∷ acts) last = (before ≡ first) × IsArrival made ops before after × Follow from after acts last
-Follow from first (Interrupt before after ∷ acts) last = (before ≡ first) × IsInterrupt before after × Follow from after acts last
+abbrev pub Follow : (image : List ℕ) → Mote → List Act → Mote → Type 0
+Follow image first [] last = first ≡ last
+Follow image first (Step before after ∷ acts) last = (before ≡ first) × IsStep (pool_from image) before after × Follow image after acts last
+Follow image first (Service before after ∷ acts) last = (before ≡ first) × IsService image before after × Follow image after acts last
+Follow image first (Arrival target made ops before after ∷ acts) last = (before ≡ first) × IsArrival image target made ops before after × Follow image after acts last
+Follow image first (Interrupt before after ∷ acts) last = (before ≡ first) × IsInterrupt before after × Follow image after acts last
 
--- how many steps and services there are, how many pages were made, and how many operations on flash were tried
+-- how many steps there are
 abbrev pub steps_in : List Act → ℕ
 steps_in [] = 0
 steps_in (Step before after ∷ acts) = suc (steps_in acts)
 steps_in (_ ∷ acts) = steps_in acts
 
+-- how many services
 abbrev pub services_in : List Act → ℕ
 services_in [] = 0
 services_in (Service before after ∷ acts) = suc (services_in acts)
 services_in (_ ∷ acts) = services_in acts
 
+-- how many pages were made
 abbrev pub made_in : List Act → ℕ
 made_in [] = 0
-made_in (Arrival made ops before after ∷ acts) = made + made_in acts
+made_in (Arrival target made ops before after ∷ acts) = made + made_in acts
 made_in (_ ∷ acts) = made_in acts
 
+-- how many operations on flash were tried
 abbrev pub tried_in : List Act → ℕ
 tried_in [] = 0
-tried_in (Arrival made ops before after ∷ acts) = ops + tried_in acts
+tried_in (Arrival target made ops before after ∷ acts) = ops + tried_in acts
 tried_in (_ ∷ acts) = tried_in acts
+
+-- how many interrupts were taken
+abbrev pub interrupts_in : List Act → ℕ
+interrupts_in [] = 0
+interrupts_in (Interrupt before after ∷ acts) = suc (interrupts_in acts)
+interrupts_in (_ ∷ acts) = interrupts_in acts
 
 -- the program's end was told by a refused arrival: outside the image, or by an operation on flash
 abbrev pub IsRefusal : Option End → Type 0
 IsRefusal end = ((t : ℕ) × (end ≡ Some (ends.Wild t))) ⊎ ((op : ℕ) × (end ≡ Some (ends.Flash op)))
 
--- At boot flash has the image from word 0 on, then erased words, and RET in the kernel's pages; and no operation was tried.
-pub record IsBoot (image : List ℕ) (m : Mote) : Type 0 where
-  pub words : m.flash.words ≡ image ++ replicate (0xF000 - length image) 0xFFFF ++ replicate 0x1000 0x9508
+-- A mote that has done nothing: registers and SREG are 0, the pc is 0, and the kernel's stack is empty. SRAM is 0 but for the
+-- byte at 0x0100, the quantum, and the map of the swap area at 0x0400 to 0x04FF, which is 0xFF. The devices are the original
+-- program's at reset, the slots of the swap area are 0, and no operation on flash was tried.
+pub record IsNew (events : List Event) (quantum slots : ℕ) (m : Mote) : Type 0 where
+  pub core : m.cpu ≡ record { r = replicate 32 0; sreg = 0; sp = 0x011F; pc = 0 }
+  pub size : length m.sram ≡ 4096
+  pub count : slice_index m.sram 0 ≡ quantum
+  pub map : (a : ℕ) → 0x0400 ≤ a → a ≤ 0x04FF → slice_index m.sram (a - 0x0100) ≡ 0xFF
+  pub zero : (a : ℕ) → 0x0101 ≤ a → a ≤ 0x10FF → (a < 0x0400) ⊎ (0x0500 ≤ a) → slice_index m.sram (a - 0x0100) ≡ 0
+  pub devices : m.devices ≡ (at_reset events).devices
+  pub swap : m.swap ≡ replicate slots (replicate 256 0)
   pub ops : m.flash.ops ≡ 0
+  pub refused : m.flash.refused ≡ None
+
+-- At boot flash has the image from word 0 on, then erased words, and RET in the kernel's pages; no page was erased.
+pub record IsBoot (image failing : List ℕ) (events : List Event) (quantum slots : ℕ) (m : Mote) : Type 0 where
+  pub new : IsNew events quantum slots m
+  pub words : m.flash.words ≡ image ++ replicate (0xF000 - length image) 0xFFFF ++ replicate 0x1000 0x9508
+  pub erases : m.flash.erases ≡ replicate 512 0
+  pub failing_is : m.flash.failing ≡ failing
 
 -- Acts lead to a mote from one of which this is so, whose pool had so many pages, and these are all: so many steps,
 -- services and pages. No more than 5,120 steps for each crossing of the quantum stand between two services. The last act is
@@ -112,10 +202,10 @@ pub record HasActs (IsFirst : Mote → Type 0) (began : ℕ) (image : List ℕ) 
   pub acts : List Act
   pub first : Mote
   pub begins : IsFirst first
-  pub follow : Follow (pool_from image) first acts last
+  pub follow : Follow image first acts last
   pub natural_is : natural ≡ steps_in acts
   pub entries_is : entries ≡ services_in acts
   pub pages_is : pages ≡ began + made_in acts
   pub tried : last.flash.ops ≡ tried_in acts
   pub few : (front between back : List Act) → acts ≡ front ++ (between ++ back) → services_in between ≡ 0 → steps_in between ≤ 5120 * quantum
-  pub ends : (front : List Act) (made ops : ℕ) (before after : Mote) → acts ≡ front ++ (Arrival made ops before after ∷ []) → IsRefusal end
+  pub ends : (front : List Act) (target made ops : ℕ) (before after : Mote) → acts ≡ front ++ (Arrival target made ops before after ∷ []) → IsRefusal end

@@ -3,14 +3,13 @@ use Rattle.std.specs.Prelude.{◌≡◌, ℕ, ◌+◌, ◌*◌, ◌/◌, ◌%◌
 use Rattle.std.specs.List.{list_all, range_with_len}
 use Rattle.program_steps.specs.Machines.{Machine}
 use Rattle.tk_words.specs.declared.command.Command.TheVariants.{Dump}
-use Rattle.tk_words.specs.Commands.{IsCommand}
-use Rattle.theorem_reader.specs.Runs.{Asked, IsTextOf, EndsWell, EndsInAFault}
-use Rattle.theorem_reader.specs.Texts.{hex}
+use Rattle.theorem_reader.specs.Runs.{Asked, AsksAs, EndsWell, EndsInAFault}
+use Rattle.theorem_reader.specs.Telling.{Sink, IsTold}
+use Rattle.theorem_reader.specs.Texts.{hex, no_memory}
 
 -- the words are those of `dump` with these options, and the text is of the program
-pub record AsksDump (words : List (List ℕ)) (text : List ℕ) (asked : Asked) : Type 0 where
-  pub command : IsCommand words (Dump (record { steps = asked.steps; quantum = asked.quantum; swap = asked.slots }))
-  pub input : IsTextOf text asked
+abbrev pub AsksDump : (words : List (List ℕ)) (text : List ℕ) (asked : Asked) → Type 0
+AsksDump words text asked = AsksAs Dump words text asked
 
 -- The line of a page: its number in three digits, and its 128 words, the high byte first. None where all are 0xFFFF.
 abbrev pub page_text : List ℕ → ℕ → List ℕ
@@ -30,7 +29,7 @@ pub data HasEnded (asked : Asked) (m : Machine) : Type 0 where
   InAFault : (op : ℕ) → EndsInAFault asked op m → HasEnded asked m
 
 -- memory was wanted for the run, or for its dump; or what is told is the dump of just the flash of the machine that is kept
-pub data IsDumped (asked : Asked) (status : ℕ) (text : List ℕ) (kept : Option Machine) : Type 0 where
-  NoMemory : status ≡ 8 → text ≡ codes "no memory\n" → kept ≡ None → IsDumped asked status text kept
-  Unwritten : (m : Machine) → kept ≡ Some m → HasEnded asked m → status ≡ 8 → text ≡ codes "no memory\n" → IsDumped asked status text kept
-  Dumped : (m : Machine) → kept ≡ Some m → HasEnded asked m → status ≡ 0 → text ≡ dump_text m.kernel.mote.flash.words → IsDumped asked status text kept
+pub data IsDumped (sink : Sink) (asked : Asked) (status : ℕ) (taken : List ℕ) (kept : Option Machine) : Type 0 where
+  NoMemory : IsTold sink 8 no_memory status taken → kept ≡ None → IsDumped sink asked status taken kept
+  Unwritten : (m : Machine) → kept ≡ Some m → HasEnded asked m → IsTold sink 8 no_memory status taken → IsDumped sink asked status taken kept
+  Dumped : (m : Machine) → kept ≡ Some m → HasEnded asked m → IsTold sink 0 (dump_text m.kernel.mote.flash.words) status taken → IsDumped sink asked status taken kept

@@ -1,21 +1,24 @@
 -- What `restart` answers: a run, what stands in flash behind a loss of power, what is kept of it, and a second run.
-use Rattle.std.specs.Prelude.{◌≡◌, ◌≢◌, ◌↔◌, ℕ, zero, suc, ◌+◌, ◌-◌, ◌*◌, ◌/◌, ◌%◌, ◌<◌, ◌==◌, Bool, true, false, if◌then◌else◌, List, ◌++◌, codes, decimal, drop, take, slice_index, Option, Some, None}
+use Rattle.std.specs.Prelude.{◌≡◌, ◌≢◌, ◌↔◌, ℕ, zero, suc, ◌+◌, ◌-◌, ◌*◌, ◌/◌, ◌%◌, ◌<◌, ◌==◌, Bool, true, false, if◌then◌else◌, List, [], ◌++◌, codes, decimal, flat_map, drop, take, slice_index, Option, Some, None}
 use Rattle.std.specs.List.{list_all}
+use Rattle.input_script.specs.declared.input.Event.{Event}
+use Rattle.mem_guard.specs.FlatMachine.{Run}
 use Rattle.mote_core.specs.declared.mote.Mote.{Mote}
 use Rattle.step_laws.specs.declared.moves.End.TheVariants as ends
 use Rattle.program_steps.specs.Machines.{Machine}
 use Rattle.tk_words.specs.declared.command.Command.TheVariants.{Restart}
-use Rattle.tk_words.specs.Commands.{IsCommand}
-use Rattle.theorem_reader.specs.Acts.{pool_from}
-use Rattle.theorem_reader.specs.Checks.{is_formed, IsInPool, AreFaithful, used_of}
+use Rattle.theorem_reader.specs.Acts.{IsNew}
+use Rattle.theorem_reader.specs.Pools.{pool_from, is_formed, IsInPool, AreFaithful, AreFaithfulBut}
+use Rattle.theorem_reader.specs.Checks.{used_of}
 use Rattle.theorem_reader.specs.Dumps.{HasEnded}
-use Rattle.theorem_reader.specs.Runs.{Asked, IsTextOf, StandsFrom, original_of, text_of}
-use Rattle.theorem_reader.specs.Texts.{end_words, end_status}
+use Rattle.theorem_reader.specs.Ends.{IsKeptEnd}
+use Rattle.theorem_reader.specs.Runs.{Asked, AsksAs, StandsFrom, original_of, text_of}
+use Rattle.theorem_reader.specs.Telling.{Sink, Fails, IsTold}
+use Rattle.theorem_reader.specs.Texts.{device_line, end_words, end_status, no_memory}
 
 -- the words are those of `restart` with these options, and the text is of the program
-pub record AsksRestart (words : List (List ℕ)) (text : List ℕ) (asked : Asked) : Type 0 where
-  pub command : IsCommand words (Restart (record { steps = asked.steps; quantum = asked.quantum; swap = asked.slots }))
-  pub input : IsTextOf text asked
+abbrev pub AsksRestart : (words : List (List ℕ)) (text : List ℕ) (asked : Asked) → Type 0
+AsksRestart words text asked = AsksAs Restart words text asked
 
 -- numbers in a row behind x: each is the one before it times 1,664,525 plus 1,013,904,223, modulo 2 to the 32
 abbrev pub number_behind : (x k : ℕ) → ℕ
@@ -67,15 +70,14 @@ restart_line image lost left kept =
     codes "restart kept " ++ decimal (used_of left (pool_from image / 128) (480 - pool_from image / 128))
     ++ codes " dropped " ++ decimal (dropped_of lost kept (pool_from image / 128) (480 - pool_from image / 128)) ++ codes "\n"
 
--- a mote with this flash, of which no operation was tried
-pub record IsOver (flash : List ℕ) (m : Mote) : Type 0 where
+-- a mote that has done nothing over this flash, of which no operation is to fail
+pub record IsOver (flash : List ℕ) (events : List Event) (quantum slots : ℕ) (m : Mote) : Type 0 where
+  pub new : IsNew events quantum slots m
   pub words : m.flash.words ≡ flash
-  pub ops : m.flash.ops ≡ 0
+  pub failing : m.flash.failing ≡ []
 
--- There is a first machine, which ran as for `run`; power was lost, and the flash that it left was restarted. Behind the
--- line of that, text and status are the original program's. The machine that is kept stands where the original program stands,
--- and came there from what was left; no operation on flash was refused.
-pub record IsSecond (asked : Asked) (status : ℕ) (text : List ℕ) (m : Machine) : Type 0 where
+-- A first machine ran as for `run`; power was lost, and of the flash that it left just this was kept.
+pub record IsLeft (asked : Asked) : Type 0 where
   pub first : Machine
   pub ended : HasEnded asked first
   pub lost : List ℕ
@@ -83,12 +85,56 @@ pub record IsSecond (asked : Asked) (status : ℕ) (text : List ℕ) (m : Machin
   pub kept : ℕ → Bool
   pub lost_is : IsLost asked.image first lost
   pub left_is : IsKept asked.image lost left kept
-  pub status_is : status ≡ end_status (original_of asked asked.steps).end
-  pub text_is : text ≡ restart_line asked.image lost left kept ++ text_of (original_of asked asked.steps) (end_words (original_of asked asked.steps).end) asked.quantum m
-  pub stands : StandsFrom (IsOver left) (used_of left (pool_from asked.image / 128) (480 - pool_from asked.image / 128)) asked (original_of asked asked.steps) m
-  pub unrefused : m.kernel.mote.flash.refused ≡ None
 
--- memory was wanted, which is all that is told, and no machine is kept; or both runs were made
-pub data IsRestarted (asked : Asked) (status : ℕ) (text : List ℕ) (kept : Option Machine) : Type 0 where
-  NoMemory : status ≡ 8 → text ≡ codes "no memory\n" → kept ≡ None → IsRestarted asked status text kept
-  Restarted : (m : Machine) → kept ≡ Some m → IsSecond asked status text m → IsRestarted asked status text kept
+-- its line
+abbrev pub line_of : (asked : Asked) → IsLeft asked → List ℕ
+line_of asked flash = restart_line asked.image flash.lost flash.left flash.kept
+
+-- how many pages of its pool are used
+abbrev pub used_in : (asked : Asked) → IsLeft asked → ℕ
+used_in asked flash = used_of flash.left (pool_from asked.image / 128) (480 - pool_from asked.image / 128)
+
+-- a mote that has done nothing over it
+abbrev pub IsStart : (asked : Asked) → IsLeft asked → Mote → Type 0
+IsStart asked flash m = IsOver flash.left asked.events asked.quantum asked.slots m
+
+-- the machine stands where the original program stands, and came there from what was left
+abbrev pub StandsOver : (asked : Asked) → IsLeft asked → Run → Machine → Type 0
+StandsOver asked flash r m = StandsFrom (IsStart asked flash) (used_in asked flash) asked r m
+
+-- Behind the line text and status are the original program's, and the machine stands where that stands and keeps its end. No
+-- operation on flash was refused.
+pub record IsSecond (sink : Sink) (asked : Asked) (flash : IsLeft asked) (status : ℕ) (taken : List ℕ) (m : Machine) : Type 0 where
+  pub told : IsTold sink (end_status (original_of asked asked.steps).end)
+      (line_of asked flash ++ text_of (original_of asked asked.steps) (end_words (original_of asked asked.steps).end) asked.quantum m) status taken
+  pub stands : StandsOver asked flash (original_of asked asked.steps) m
+  pub end : IsKeptEnd (original_of asked asked.steps).end m.end
+  pub unbroken : m.broken ≡ false
+  pub unrefused : m.kernel.mote.flash.refused ≡ None
+  pub faithful : AreFaithful asked.image m.kernel.mote.flash.words
+
+-- the sink failed at the line: the machine has done nothing yet
+pub record IsUnbegun (asked : Asked) (flash : IsLeft asked) (status : ℕ) (taken : List ℕ) (m : Machine) : Type 0 where
+  pub told : IsTold Fails 6 (line_of asked flash) status taken
+  pub start : IsStart asked flash m.kernel.mote
+  pub pc : m.at ≡ 0
+  pub steps : m.steps ≡ 0
+  pub natural : m.natural ≡ 0
+  pub entries : m.entries ≡ 0
+  pub pages : m.pages ≡ used_in asked flash
+  pub end : m.end ≡ None
+
+-- the sink failed behind it, before the last lines
+pub record IsSecondCut (asked : Asked) (flash : IsLeft asked) (status : ℕ) (taken : List ℕ) (m : Machine) : Type 0 where
+  pub told : IsTold Fails 6 (line_of asked flash ++ flat_map device_line (original_of asked m.steps).lines) status taken
+  pub stands : StandsOver asked flash (original_of asked m.steps) m
+  pub broken : m.broken ≡ true
+  pub faithful : AreFaithfulBut asked.image m.kernel.mote.flash.words
+
+-- memory was wanted, which is all that is told, and no machine is kept; or both runs were made; or the sink failed, and the
+-- second run wasn't begun, or was cut short
+pub data IsRestarted (sink : Sink) (asked : Asked) (status : ℕ) (taken : List ℕ) (kept : Option Machine) : Type 0 where
+  NoMemory : IsTold sink 8 no_memory status taken → kept ≡ None → IsRestarted sink asked status taken kept
+  Restarted : (flash : IsLeft asked) → (m : Machine) → kept ≡ Some m → IsSecond sink asked flash status taken m → IsRestarted sink asked status taken kept
+  Unbegun : (flash : IsLeft asked) → (m : Machine) → kept ≡ Some m → sink ≡ Fails → IsUnbegun asked flash status taken m → IsRestarted sink asked status taken kept
+  Cut : (flash : IsLeft asked) → (m : Machine) → kept ≡ Some m → sink ≡ Fails → IsSecondCut asked flash status taken m → IsRestarted sink asked status taken kept

@@ -1,4 +1,4 @@
--- What a run leaves that the sink didn't cut short.
+-- What a run leaves.
 use Rattle.std.specs.Prelude.{◌≡◌, ℕ, ◌+◌, ◌*◌, ◌/◌, ◌<◌, ◌≤◌, List, [], ◌∷◌, ◌++◌, codes, decimal, flat_map, slice_index, length, drop, Bool, true, false, ◌==◌, Option, Some, None}
 use Rattle.std.specs.List.{list_any}
 use Rattle.input_script.specs.declared.input.Event.{Event}
@@ -6,14 +6,20 @@ use Rattle.input_script.specs.declared.input.Input.TheVariants.{Uart}
 use Rattle.mem_guard.specs.FlatMachine.{Spent, Run, whole_part, original}
 use Rattle.mote_core.specs.declared.mote.Mote.{Mote}
 use Rattle.step_laws.specs.declared.moves.End.TheVariants as ends
+use Rattle.program_generator.specs.Generated.{generated}
 use Rattle.program_steps.specs.Machines.{Machine}
 use Rattle.hex_image.specs.HexText.{HexText}
 use Rattle.input_script.specs.Script.{IsScript}
-use Rattle.tk_words.specs.declared.command.Command.TheVariants.{Run as RunCommand}
+use Rattle.tk_words.specs.declared.command.Command.{Command}
+use Rattle.tk_words.specs.declared.command.Command.TheVariants.{Run as RunCommand, Generate}
+use Rattle.tk_words.specs.declared.command.RunOptions.{RunOptions}
 use Rattle.tk_words.specs.Commands.{IsCommand}
-use Rattle.theorem_reader.specs.Acts.{HasActs, IsBoot}
+use Rattle.theorem_reader.specs.Acts.{Act, Arrival, HasActs, IsBoot, interrupts_in}
+use Rattle.theorem_reader.specs.Pools.{AreFaithful, AreFaithfulBut}
 use Rattle.theorem_reader.specs.Memory.{HasMemory}
-use Rattle.theorem_reader.specs.Texts.{device_line, end_words, stop_line, count_line, end_status}
+use Rattle.theorem_reader.specs.Ends.{IsKeptEnd}
+use Rattle.theorem_reader.specs.Telling.{Sink, Fails, IsTold}
+use Rattle.theorem_reader.specs.Texts.{device_line, end_words, stop_line, count_line, end_status, no_memory}
 
 -- a program, its inputs, the operations on flash that are to fail, and how it is run
 pub record Asked : Type 0 where
@@ -24,6 +30,10 @@ pub record Asked : Type 0 where
   pub quantum : ℕ
   pub slots : ℕ
 
+-- the options that say how it is run
+abbrev pub options_of : Asked → RunOptions
+options_of asked = record { steps = asked.steps; quantum = asked.quantum; swap = asked.slots }
+
 -- the original program's first n steps
 abbrev pub original_of : Asked → ℕ → Run
 original_of asked n = original (record { image = asked.image; part = whole_part asked.image; page_limit = asked.slots; quantum = asked.quantum }) asked.events n
@@ -31,11 +41,18 @@ original_of asked n = original (record { image = asked.image; part = whole_part 
 -- the text of a run with this stop line
 abbrev pub text_of : Run → (how : List ℕ) → (quantum : ℕ) → Machine → List ℕ
 text_of r how quantum m =
-    flat_map device_line r.lines ++ stop_line how r.state.now.steps (r.state.now.crossings / quantum) ++ count_line m.natural m.entries m.pages
+    flat_map device_line r.lines ++ stop_line how r.state.now.steps (r.state.now.crossings / quantum) ++ count_line m
+
+-- each page that these acts made was made at an address where the original program stands within so many steps
+abbrev pub AreMadeAt : Asked → (steps : ℕ) → List Act → Type 0
+AreMadeAt asked steps acts = (front back : List Act) (target ops : ℕ) (before after : Mote) → acts ≡ front ++ (Arrival target 1 ops before after ∷ back)
+    → (k : ℕ) × (k ≤ steps) × ((original_of asked k).state.now.cpu.pc ≡ target)
 
 -- The machine stands where the original program stands: registers, SREG, stack pointer, pc, the 65,536 bytes, devices,
--- the counts of steps and crossings, and whether an interrupt is due. It came there by acts, from a mote of which this is so
--- and whose pool had so many pages.
+-- the counts of steps and crossings, and whether an interrupt is due. Its image is as long, its slots are as many, and its
+-- quantum is the one that were asked for. It came there by acts, from a mote of which this is so and whose pool had so many
+-- pages; each step made one page at most, and so did the arrival behind the last. Each step of the original program was made
+-- by an act of its own, an instruction in rewritten code or an interrupt, and by at most 40 instructions and two services.
 pub record StandsFrom (IsFirst : Mote → Type 0) (began : ℕ) (asked : Asked) (r : Run) (m : Machine) : Type 0 where
   pub registers : m.kernel.mote.cpu.r ≡ r.state.now.cpu.r
   pub status : m.kernel.mote.cpu.sreg ≡ r.state.now.cpu.sreg
@@ -46,24 +63,37 @@ pub record StandsFrom (IsFirst : Mote → Type 0) (began : ℕ) (asked : Asked) 
   pub steps : m.steps ≡ r.state.now.steps
   pub crossings : m.crossings ≡ r.state.now.crossings
   pub due : m.due ≡ r.state.due
+  pub words : m.kernel.layout.image_words ≡ length asked.image
+  pub slots : length m.kernel.mote.swap ≡ asked.slots
+  pub quantum : m.kernel.quantum ≡ asked.quantum
   pub most_steps : m.steps ≤ asked.steps
   pub most_operations : m.kernel.mote.flash.ops ≤ 1000 * (m.steps + 1)
+  pub most_pages : m.pages ≤ began + m.steps + 1
   pub acts : HasActs IsFirst began asked.image asked.quantum m.natural m.entries m.pages m.end m.kernel.mote
+  pub least_natural : m.steps ≤ m.natural + interrupts_in acts.acts
+  pub most_natural : m.natural ≤ 40 * (m.steps + 1)
+  pub most_entries : m.entries ≤ 2 * (m.steps + 1)
+  pub made_at : AreMadeAt asked m.steps acts.acts
 
 -- .. from boot, where the pool has none
 abbrev pub Stands : Asked → Run → Machine → Type 0
-Stands asked r m = StandsFrom (IsBoot asked.image) 0 asked r m
+Stands asked r m = StandsFrom (IsBoot asked.image asked.failing asked.events asked.quantum asked.slots) 0 asked r m
 
 -- the operation of this number is to fail
 abbrev pub is_to_fail : Asked → ℕ → Bool
 is_to_fail asked op = list_any (λ n. n == op) asked.failing
 
--- the run came to the original's end, or through all its steps; no operation that was tried is to fail
+-- The run came to the original's end, which the machine keeps, or through all its steps. No device line was lost; no operation
+-- that was tried is to fail; flash is faithful.
 pub record EndsWell (asked : Asked) (m : Machine) : Type 0 where
   pub stands : Stands asked (original_of asked asked.steps) m
+  pub end : IsKeptEnd (original_of asked asked.steps).end m.end
+  pub unbroken : m.broken ≡ false
   pub none_failed : (op : ℕ) → 1 ≤ op → op ≤ m.kernel.mote.flash.ops → is_to_fail asked op ≡ false
+  pub faithful : AreFaithful asked.image m.kernel.mote.flash.words
 
--- With steps left an operation on flash was refused: the first that was tried and is to fail. None was tried behind it.
+-- With steps left an operation on flash was refused: the first that was tried and is to fail. None was tried behind it. Flash is
+-- faithful but for a page that was to be programmed.
 pub record EndsInAFault (asked : Asked) (op : ℕ) (m : Machine) : Type 0 where
   pub stands : Stands asked (original_of asked m.steps) m
   pub fewer : m.steps < asked.steps
@@ -72,27 +102,36 @@ pub record EndsInAFault (asked : Asked) (op : ℕ) (m : Machine) : Type 0 where
   pub listed : is_to_fail asked op ≡ true
   pub first : (earlier : ℕ) → 1 ≤ earlier → earlier < op → is_to_fail asked earlier ≡ false
   pub end : m.end ≡ Some (ends.Flash op)
+  pub unbroken : m.broken ≡ false
+  pub faithful : AreFaithfulBut asked.image m.kernel.mote.flash.words
+
+-- The sink failed before the last lines: of the device lines of the steps that were done it took a part, and the machine
+-- stands where the original program stands after them. It is broken, and makes no more moves.
+pub record IsCutShort (asked : Asked) (status : ℕ) (taken : List ℕ) (m : Machine) : Type 0 where
+  pub told : IsTold Fails 6 (flat_map device_line (original_of asked m.steps).lines) status taken
+  pub stands : Stands asked (original_of asked m.steps) m
+  pub broken : m.broken ≡ true
+  pub faithful : AreFaithfulBut asked.image m.kernel.mote.flash.words
 
 -- The text is the original program's: its device lines, its stop line, and the machine's own counts; and the status is
 -- its end's.
-pub record ToTheEnd (asked : Asked) (status : ℕ) (text : List ℕ) (m : Machine) : Type 0 where
-  pub status_is : status ≡ end_status (original_of asked asked.steps).end
-  pub text_is : text ≡ text_of (original_of asked asked.steps) (end_words (original_of asked asked.steps).end) asked.quantum m
+pub record ToTheEnd (sink : Sink) (asked : Asked) (status : ℕ) (taken : List ℕ) (m : Machine) : Type 0 where
+  pub told : IsTold sink (end_status (original_of asked asked.steps).end) (text_of (original_of asked asked.steps) (end_words (original_of asked asked.steps).end) asked.quantum m) status taken
   pub run : EndsWell asked m
 
 -- Up to the refused operation the text is the original program's.
-pub record IntoAFault (asked : Asked) (status : ℕ) (text : List ℕ) (m : Machine) : Type 0 where
+pub record IntoAFault (sink : Sink) (asked : Asked) (status : ℕ) (taken : List ℕ) (m : Machine) : Type 0 where
   pub op : ℕ
-  pub status_is : status ≡ 9
-  pub text_is : text ≡ text_of (original_of asked m.steps) (codes "flash fault " ++ decimal op) asked.quantum m
+  pub told : IsTold sink 9 (text_of (original_of asked m.steps) (codes "flash fault " ++ decimal op) asked.quantum m) status taken
   pub run : EndsInAFault asked op m
 
 -- memory was wanted, which is all that is told, and no machine is kept; or the program was run to the original's end, or
--- into a fault of flash
-pub data IsRun (asked : Asked) (status : ℕ) (text : List ℕ) (kept : Option Machine) : Type 0 where
-  NoMemory : status ≡ 8 → text ≡ codes "no memory\n" → kept ≡ None → IsRun asked status text kept
-  Ended : (m : Machine) → kept ≡ Some m → ToTheEnd asked status text m → IsRun asked status text kept
-  Failed : (m : Machine) → kept ≡ Some m → IntoAFault asked status text m → IsRun asked status text kept
+-- into a fault of flash; or up to where the sink failed
+pub data IsRun (sink : Sink) (asked : Asked) (status : ℕ) (taken : List ℕ) (kept : Option Machine) : Type 0 where
+  NoMemory : IsTold sink 8 no_memory status taken → kept ≡ None → IsRun sink asked status taken kept
+  Ended : (m : Machine) → kept ≡ Some m → ToTheEnd sink asked status taken m → IsRun sink asked status taken kept
+  Failed : (m : Machine) → kept ≡ Some m → IntoAFault sink asked status taken m → IsRun sink asked status taken kept
+  Cut : (m : Machine) → kept ≡ Some m → sink ≡ Fails → IsCutShort asked status taken m → IsRun sink asked status taken kept
 
 -- a HEX text of the image, and behind it a script of these inputs and operations that are to fail
 pub record IsTextOf (text : List ℕ) (asked : Asked) : Type 0 where
@@ -101,14 +140,26 @@ pub record IsTextOf (text : List ℕ) (asked : Asked) : Type 0 where
   pub script : IsScript (drop position text) (record { events = asked.events; failing = asked.failing })
   pub short : length text ≤ 2097152
 
--- the words are those of `run` with these options, and the text is of the program
-pub record Asks (words : List (List ℕ)) (text : List ℕ) (asked : Asked) : Type 0 where
-  pub command : IsCommand words (RunCommand (record { steps = asked.steps; quantum = asked.quantum; swap = asked.slots }))
+-- the words are those of a command that takes these options, and the text is of the program
+pub record AsksAs (kind : RunOptions → Command) (words : List (List ℕ)) (text : List ℕ) (asked : Asked) : Type 0 where
+  pub command : IsCommand words (kind (options_of asked))
   pub input : IsTextOf text asked
+
+-- .. of `run`
+abbrev pub Asks : (words : List (List ℕ)) (text : List ℕ) (asked : Asked) → Type 0
+Asks words text asked = AsksAs RunCommand words text asked
 
 -- a program without inputs, run by the word `run` alone
 abbrev pub plainly : List ℕ → Asked
 plainly image = record { image = image; events = []; failing = []; steps = 1000000; quantum = 255; slots = 128 }
+
+-- the program of a seed, without inputs, and how it is run (docs/FORMATS.md)
+abbrev pub generated_by : (seed : ℕ) → Asked
+generated_by seed = record { image = generated seed; events = []; failing = []; steps = 10000000; quantum = 255; slots = 128 }
+
+-- the words are those of `generate` with this seed; no text is read
+abbrev pub AsksGenerate : (words : List (List ℕ)) (seed : ℕ) → Type 0
+AsksGenerate words seed = IsCommand words (Generate seed)
 
 -- an example: `ldi r16, 0x0F`, `out 0x1B, r16`, `rjmp .-2`, with an input, an operation that is to fail, and options
 abbrev pub example : Asked

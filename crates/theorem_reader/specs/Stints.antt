@@ -22,11 +22,11 @@ pub record ComesBack (left own now : Mote) : Type 0 where
   pub high : (a : ℕ) → 0x0400 ≤ a → a ≤ 0x10FF → sram_byte now a ≡ sram_byte own a
 
 -- The motes, one for each program as it was left, go by the stints to the last ones. The mote was left as this one.
-abbrev pub TakeTurns : (from : ℕ) → (left : Mote) → List Mote → List Stint → (last : List Mote) → Type 0
-TakeTurns from left motes [] last = motes ≡ last
-TakeTurns from left motes (stint ∷ stints) last =
-    (own before after : Mote) × (slice_get motes stint.task ≡ Some own) × ComesBack left own before × Follow from before stint.acts after
-    × TakeTurns from after (slice_set motes stint.task after) stints last
+abbrev pub TakeTurns : (image : List ℕ) → (left : Mote) → List Mote → List Stint → (last : List Mote) → Type 0
+TakeTurns image left motes [] last = motes ≡ last
+TakeTurns image left motes (stint ∷ stints) last =
+    (own before after : Mote) × (slice_get motes stint.task ≡ Some own) × ComesBack left own before × Follow image before stint.acts after
+    × TakeTurns image after (slice_set motes stint.task after) stints last
 
 -- how often another program's stint is next, where this program is the first
 abbrev pub changes_from : ℕ → List Stint → ℕ
@@ -43,7 +43,7 @@ pub record HasState (s : FlatState) (m : Mote) : Type 0 where
 
 -- Stints lead all programs, below `count`, from the states of `start` to those of `end`, the first of them on a mote of
 -- which this is so. There were so many steps and services, pages were made and the program was changed so often.
-pub record HaveStints (IsFirst : Mote → Type 0) (from count natural entries pages switches : ℕ) (start end : ℕ → FlatState) : Type 0 where
+pub record HaveStints (IsFirst : Mote → Type 0) (image : List ℕ) (count natural entries pages switches : ℕ) (start end : ℕ → FlatState) : Type 0 where
   pub stints : List Stint
   pub first : Mote
   pub begins : IsFirst first
@@ -51,7 +51,7 @@ pub record HaveStints (IsFirst : Mote → Type 0) (from count natural entries pa
   pub first_is : slice_get motes 0 ≡ Some first
   pub starts : (task : ℕ) → task < count → (m : Mote) × (slice_get motes task ≡ Some m) × HasState (start task) m
   pub last : List Mote
-  pub turns : TakeTurns from first motes stints last
+  pub turns : TakeTurns image first motes stints last
   pub ends : (task : ℕ) → task < count → (m : Mote) × (slice_get last task ≡ Some m) × HasState (end task) m
   pub natural_is : natural ≡ sum_by (λ (stint : Stint). steps_in stint.acts) stints
   pub entries_is : entries ≡ sum_by (λ (stint : Stint). services_in stint.acts) stints

@@ -1,6 +1,5 @@
--- What a run of several programs leaves, which take turns on one mote, where the sink didn't cut it short: each prints and
--- ends as if it were alone.
-use Rattle.std.specs.Prelude.{◌≡◌, ℕ, ◌+◌, ◌*◌, ◌/◌, ◌<◌, ◌≤◌, max, List, [], ◌∷◌, ◌++◌, codes, decimal, flat_map, map, length, drop, slice_index_or, true, false, ◌==◌, if◌then◌else◌, All, Option, None}
+-- What a run of several programs leaves, which take turns on one mote: each prints and ends as if it were alone.
+use Rattle.std.specs.Prelude.{◌≡◌, ℕ, ◌+◌, ◌*◌, ◌/◌, ◌<◌, ◌≤◌, max, List, [], ◌∷◌, ◌++◌, codes, decimal, flat_map, map, length, drop, slice_index_or, true, false, ◌==◌, if◌then◌else◌, All, sum_by, Option, Some, None}
 use Rattle.std.specs.List.{range_with_len}
 use Rattle.text_lines.specs.Lines.{lines_of}
 use Rattle.hex_image.specs.HexText.{HexText}
@@ -8,13 +7,19 @@ use Rattle.input_script.specs.declared.input.Event.{Event}
 use Rattle.input_script.specs.Script.{Schedule}
 use Rattle.mem_guard.specs.FlatMachine.{FlatState, Run, run, at_reset}
 use Rattle.program_steps.specs.Machines.{Machine}
+use Rattle.parked_tasks.specs.declared.task.Task.{Task}
+use Rattle.tk_tasks.specs.States.{Tasks}
+use Rattle.task_turns.specs.Turns.{Told, Shown, Wrote, Stops, tries, turns}
+use Rattle.task_turns.specs.Reset.{turns_at_reset}
 use Rattle.task_input.specs.Images.{IsMisplaced}
 use Rattle.task_input.specs.Scripts.{Schedules}
 use Rattle.tk_words.specs.declared.command.Command.TheVariants.{Tasks as TasksCommand}
+use Rattle.tk_words.specs.declared.command.TaskOptions.{TaskOptions}
 use Rattle.tk_words.specs.Commands.{IsCommand}
-use Rattle.theorem_reader.specs.Acts.{IsBoot, pool_from}
+use Rattle.theorem_reader.specs.Acts.{IsBoot}
 use Rattle.theorem_reader.specs.Stints.{HaveStints}
-use Rattle.theorem_reader.specs.Texts.{device_line, end_words, stop_line, end_status}
+use Rattle.theorem_reader.specs.Telling.{Sink, Fails, IsTold}
+use Rattle.theorem_reader.specs.Texts.{device_line, end_words, stop_line, end_status, no_memory}
 
 -- the image of so many programs, the inputs of each, and how they are run
 pub record AskedTasks : Type 0 where
@@ -25,6 +30,10 @@ pub record AskedTasks : Type 0 where
   pub quantum : ℕ
   pub slots : ℕ
 
+-- the options that say so
+abbrev pub tasks_options_of : AskedTasks → TaskOptions
+tasks_options_of asked = record { count = asked.count; steps = asked.steps; quantum = asked.quantum; swap = asked.slots }
+
 -- the image of one program alone: each word outside its 4,096 is erased
 abbrev pub image_of : AskedTasks → ℕ → List ℕ
 image_of asked task = map (λ a. if a / 4096 == task then slice_index_or asked.image a 0xFFFF else 0xFFFF) (range_with_len 0 (4096 * asked.count))
@@ -33,6 +42,7 @@ image_of asked task = map (λ a. if a / 4096 == task then slice_index_or asked.i
 abbrev pub words_of : AskedTasks → List ℕ
 words_of asked = map (λ a. slice_index_or asked.image a 0xFFFF) (range_with_len 0 (4096 * asked.count))
 
+-- the inputs of one program
 abbrev pub events_of : AskedTasks → ℕ → List Event
 events_of asked task = (slice_index_or asked.scripts task (record { events = []; failing = [] })).events
 
@@ -64,6 +74,26 @@ pub record Printed : Type 0 where
 abbrev pub printed_text : List Printed → List ℕ
 printed_text printed = flat_map (λ one. codes "task " ++ (48 + one.task) ∷ codes " " ++ one.line) printed
 
+-- a device line or a stop line, letter by letter
+abbrev pub line_shown : (quantum : ℕ) → Shown → List ℕ
+line_shown quantum (Wrote line) = device_line line
+line_shown quantum (Stops end steps crossings) = stop_line (end_words end) steps (crossings / quantum)
+
+-- those that were told of the programs
+abbrev pub printed_by : (quantum : ℕ) → List Told → List Printed
+printed_by quantum [] = []
+printed_by quantum (one ∷ more) = record { task = one.task; line = line_shown quantum one.shown } ∷ printed_by quantum more
+
+-- What the programs print in turn: each goes on up to its checkpoint, and then the next that hasn't ended is stepped
+-- (`task_turns/Turns`, where each has a flat memory of its own, and reads nothing of another). A try is a step, or ends a
+-- program; this is printed in so many tries.
+abbrev pub printed_in : AskedTasks → (count : ℕ) → List Printed
+printed_in asked count = printed_by asked.quantum (tries count (turns_at_reset asked.image asked.scripts asked.quantum asked.slots asked.steps)).told
+
+-- .. until each has ended
+abbrev pub printed_of : AskedTasks → List Printed
+printed_of asked = printed_by asked.quantum (turns (turns_at_reset asked.image asked.scripts asked.quantum asked.slots asked.steps)).told
+
 -- the lines of one program, in their order
 abbrev pub lines_of_task : ℕ → List Printed → List (List ℕ)
 lines_of_task task [] = []
@@ -79,33 +109,45 @@ abbrev pub greatest : List ℕ → ℕ
 greatest [] = 0
 greatest (n ∷ numbers) = max n (greatest numbers)
 
+-- .. of the programs alone
 abbrev pub worst_status : AskedTasks → ℕ
 worst_status asked = greatest (map (λ task. end_status (alone_of asked task).end) (range_with_len 0 asked.count))
 
--- What is printed is lines of the programs and a last line. Those of each program are just those of its run alone: none
+-- the steps and services of all that are kept are sums of each one's
+pub record AreSums (t : Tasks) : Type 0 where
+  pub natural : t.natural ≡ sum_by (λ (task : Task). task.natural) t.tasks
+  pub entries : t.entries ≡ sum_by (λ (task : Task). task.entries) t.tasks
+
+-- What is printed is what the programs print in turn, and a last line. The lines of each are just those of its run alone: none
 -- can change what another prints, or when and how it ends. The numbers of the last line are those of what the programs did
 -- on one mote, each from where it begins to where its run alone ends.
-pub record AreApart (asked : AskedTasks) (status : ℕ) (text : List ℕ) : Type 0 where
-  pub printed : List Printed
-  pub natural : ℕ
-  pub entries : ℕ
-  pub pages : ℕ
-  pub switches : ℕ
-  pub text_is : text ≡ printed_text printed ++ last_line natural entries pages switches
-  pub theirs : All (λ one. one.task < asked.count) printed
-  pub each : (task : ℕ) → task < asked.count → lines_of_task task printed ≡ lines_alone asked task
-  pub status_is : status ≡ worst_status asked
-  pub stints : HaveStints (IsBoot (words_of asked)) (pool_from (words_of asked)) asked.count natural entries pages switches (start_of asked) (λ task. (alone_of asked task).state.now)
+pub record AreApart (sink : Sink) (asked : AskedTasks) (status : ℕ) (taken : List ℕ) (t : Tasks) : Type 0 where
+  pub told : IsTold sink (worst_status asked) (printed_text (printed_of asked) ++ last_line t.natural t.entries t.pages t.switches) status taken
+  pub theirs : All (λ one. one.task < asked.count) (printed_of asked)
+  pub each : (task : ℕ) → task < asked.count → lines_of_task task (printed_of asked) ≡ lines_alone asked task
+  pub stints : HaveStints (IsBoot (words_of asked) [] (events_of asked 0) asked.quantum asked.slots) (words_of asked) asked.count t.natural t.entries t.pages t.switches (start_of asked) (λ task. (alone_of asked task).state.now)
+  pub sums : AreSums t
+  pub unbroken : t.broken ≡ false
 
--- memory was wanted, which is all that is told; or all programs were run; no machine is kept
-pub data AreRun (asked : AskedTasks) (status : ℕ) (text : List ℕ) (kept : Option Machine) : Type 0 where
-  NoMemory : status ≡ 8 → text ≡ codes "no memory\n" → kept ≡ None → AreRun asked status text kept
-  Ended : AreApart asked status text → kept ≡ None → AreRun asked status text kept
+-- The sink failed before the last line: it took a part of what so many tries printed, and of what the programs print in turn.
+pub record AreCutShort (asked : AskedTasks) (status : ℕ) (taken : List ℕ) (t : Tasks) : Type 0 where
+  pub count : ℕ
+  pub told : IsTold Fails 6 (printed_text (printed_in asked count)) status taken
+  pub front : IsTold Fails 6 (printed_text (printed_of asked)) status taken
+  pub sums : AreSums t
+  pub broken : t.broken ≡ true
+
+-- memory was wanted, which is all that is told; or all programs were run, or up to where the sink failed, and they are kept. No
+-- machine is kept.
+pub data AreRun (sink : Sink) (asked : AskedTasks) (status : ℕ) (taken : List ℕ) (kept : Option Machine) (tasks : Option Tasks) : Type 0 where
+  NoMemory : IsTold sink 8 no_memory status taken → kept ≡ None → tasks ≡ None → AreRun sink asked status taken kept tasks
+  Ended : (t : Tasks) → AreApart sink asked status taken t → kept ≡ None → tasks ≡ Some t → AreRun sink asked status taken kept tasks
+  Cut : (t : Tasks) → sink ≡ Fails → AreCutShort asked status taken t → kept ≡ None → tasks ≡ Some t → AreRun sink asked status taken kept tasks
 
 -- The words are those of `tasks` with these options; the text is a HEX text of the image, in which only the programs have
 -- words, and behind it a script of theirs.
 pub record AsksTasks (words : List (List ℕ)) (text : List ℕ) (asked : AskedTasks) : Type 0 where
-  pub command : IsCommand words (TasksCommand (record { count = asked.count; steps = asked.steps; quantum = asked.quantum; swap = asked.slots }))
+  pub command : IsCommand words (TasksCommand (tasks_options_of asked))
   pub position : ℕ
   pub hex : HexText text asked.image position
   pub scripts : Schedules asked.count (lines_of (drop position text)) asked.scripts

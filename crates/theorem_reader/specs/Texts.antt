@@ -4,12 +4,18 @@ use Rattle.mote_devices.specs.declared.line.Line.{Line}
 use Rattle.mote_devices.specs.declared.line.Port.{Port}
 use Rattle.mote_devices.specs.declared.line.Port.TheVariants.{PortA, PortB, PortC, PortD, DdrA, DdrB, DdrC, DdrD, Uart0}
 use Rattle.mem_guard.specs.FlatMachine.{End, Spent, Wild, Illegal, SelfProgram, Asleep, Halted, Read, Io, Stack, SwapFull}
+use Rattle.program_steps.specs.Machines.{Machine}
 use Rattle.hex.specs.Hex.{encode_upper}
+
+-- all that is told where memory is wanted, with status 8
+abbrev pub no_memory : List ℕ
+no_memory = codes "no memory\n"
 
 -- the bytes in upper-case hexadecimal digits, two each
 abbrev pub hex : List ℕ → List ℕ
 hex bytes = encode_upper bytes
 
+-- the word of an output
 abbrev pub port_word : Port → List ℕ
 port_word PortA = codes "PORTA"
 port_word PortB = codes "PORTB"
@@ -42,12 +48,13 @@ end_words (Io pc a) = codes "fault io " ++ address pc ++ codes " address " ++ ad
 end_words (Stack pc a) = codes "fault stack " ++ address pc ++ codes " address " ++ address a
 end_words (SwapFull pc a) = codes "fault swap " ++ address pc ++ codes " address " ++ address a
 
--- the last two lines
+-- the last line but one: how the run ended, and its steps and checkpoints
 abbrev pub stop_line : (how : List ℕ) (steps checkpoints : ℕ) → List ℕ
 stop_line how steps checkpoints = how ++ codes " steps " ++ decimal steps ++ codes " checkpoints " ++ decimal checkpoints ++ codes "\n"
 
-abbrev pub count_line : (natural entries pages : ℕ) → List ℕ
-count_line natural entries pages = codes "natural " ++ decimal natural ++ codes " entries " ++ decimal entries ++ codes " pages " ++ decimal pages ++ codes "\n"
+-- the last line: what the machine counted
+abbrev pub count_line : Machine → List ℕ
+count_line m = codes "natural " ++ decimal m.natural ++ codes " entries " ++ decimal m.entries ++ codes " pages " ++ decimal m.pages ++ codes "\n"
 
 -- the exit status of an end
 abbrev pub end_status : End → ℕ

@@ -1,11 +1,14 @@
 //! The theorem of the whole program, held from above: runs over streams in memory, whose contracts say in lists and
 //! numbers what a user relies on. No definition of the crates below stands in what they conclude, but the original
-//! program's machine, the mote's instruction, and the types of both; so one that is weakened there is refused here.
+//! program's machine and the programs in turn, the mote's instruction, the types of both, and the form and links of a page;
+//! so one that is weakened there, and that they rest on, is refused here.
 //!
-//! To read: `specs/Runs` (what a run leaves; begin at `IsRun`), `specs/Acts` (what the machine did), `specs/Memory` (where
-//! the program's bytes are), `specs/Texts` (the printed lines); then `specs/Dumps` (the flash that a run leaves),
-//! `specs/Restarts` (what is kept of a flash behind a loss of power), `specs/Tasks` (several programs on one mote) and
-//! `specs/Checks` (what is said of a flash). Names that stand there and come from elsewhere:
+//! To read: `specs/Telling` (how a text is told, by a sink that serves or fails), `specs/Runs` (what a run leaves; begin at
+//! `IsRun`), `specs/Ends` (the end that is kept), `specs/Acts` (what the machine did), `specs/Pools` (what stands in flash),
+//! `specs/Memory` (where the program's bytes are), `specs/Texts` (the printed lines); then `specs/Dumps` (the flash that a run
+//! leaves), `specs/Restarts` (what is kept of a flash behind a loss of power), `specs/Tasks` and `specs/Stints` (several
+//! programs on one mote), `specs/Checks` (what is said of a flash), and `specs/Refusals` (words and texts that are refused,
+//! and `asm`). Names that stand there and come from elsewhere:
 //!
 //! - `original program events n`: the original program's first n steps, by itself on flat memory of 64 KiB. Of it: `end`,
 //!   `lines` (the writes to outputs), and `state`, where `now` has the core (r0 to r31, SREG, SP, pc), the memory, the
@@ -17,11 +20,18 @@
 //! - `HasForm`, `HasLinks`: what a page of flash must be by itself, and what it owes to the others (docs/LOADER.md).
 //! - `Mote`: a modelled ATmega128, that is its core, SRAM, flash, devices, and a swap area beside it. `exec_of` is what an
 //!   instruction does, `the_form` what two words mean (docs/ATMEGA128.md).
+//! - `fault_of text`, `AsmText text image`: what is wrong with a source, and its words, as docs/ASSEMBLER.md tells them.
+//! - `tries count programs`, `turns programs`: what several programs tell in turn, each over a flat memory of its own, in so
+//!   many tries, or until each has ended (docs/TASKS.md).
+//! - `generated seed`: the program of a seed (docs/FORMATS.md).
 //! - `Machine`: a mote that runs a program, and what was counted (docs/MACHINE.md).
 #![tactic(auto)]
 
 mod example;
 mod reader;
 
-pub use example::run_example;
+pub use example::{
+    asm_example, bad_hex_example, bad_source_example, check_example, dump_example,
+    generate_example, help_example, long_example, restart_example, run_example, tasks_example,
+};
 pub use reader::{Told, longest_wait, run_image, run_text};

@@ -1,16 +1,19 @@
 //! Runs over streams in memory.
 ghost use Rattle.std.specs.Prelude.{◌≡◌, ◌*◌, ℕ, List, IfOk, map, string_bytes};
-ghost use Rattle.theorem_reader.specs.Checks.{AsksCheck, IsJudged};
+ghost use Rattle.theorem_reader.specs.Checks.{AsksCheck, IsChecked};
 ghost use Rattle.theorem_reader.specs.Dumps.{AsksDump, IsDumped};
+ghost use Rattle.theorem_reader.specs.Refusals.{IsRefused, IsSaid, AsksAsm, IsAssembled};
 ghost use Rattle.theorem_reader.specs.Restarts.{AsksRestart, IsRestarted};
-ghost use Rattle.theorem_reader.specs.Runs.{Asked, Asks, IsRun, plainly};
+ghost use Rattle.theorem_reader.specs.Runs.{Asked, Asks, AsksGenerate, generated_by, IsRun, plainly};
 ghost use Rattle.theorem_reader.specs.Tasks.{AreRun, AskedTasks, AsksTasks};
+ghost use Rattle.theorem_reader.specs.Telling.{IsSo};
 
 use hex_image::{Image, write};
 use preempt_count::BOUND_PER_Q;
 use std::alloc::Global;
 use tk_io::{MemSink, MemSource, NoMemory};
 use tk_run::Machine;
+use tk_tasks::Tasks;
 use tkernel_cli::tkernel;
 
 /// What a call answered.
@@ -22,6 +25,8 @@ pub struct Told {
     pub out: MemSink,
     /// The machine of the run, where one was made.
     pub kept: Option<Machine>,
+    /// The tasks of the run, where several programs were booted.
+    pub tasks: Option<Tasks>,
 }
 
 /// Answers these words over this text, into a sink with room for so many bytes.
@@ -32,15 +37,21 @@ pub fn run_text(
     room: usize,
 ) -> Result<Told, NoMemory>
     ensures run { IfOk result (λ told. (asked : Asked) → Asks (map string_bytes words.now) text.items asked
-        → told.out.faults ≡ 0 → IsRun asked told.status told.out.taken told.kept) }
+        → IsSo told.out.faults (λ sink. IsRun sink asked told.status told.out.taken told.kept)) }
     ensures dump { IfOk result (λ told. (asked : Asked) → AsksDump (map string_bytes words.now) text.items asked
-        → told.out.faults ≡ 0 → IsDumped asked told.status told.out.taken told.kept) }
+        → IsSo told.out.faults (λ sink. IsDumped sink asked told.status told.out.taken told.kept)) }
     ensures restart { IfOk result (λ told. (asked : Asked) → AsksRestart (map string_bytes words.now) text.items asked
-        → told.out.faults ≡ 0 → IsRestarted asked told.status told.out.taken told.kept) }
+        → IsSo told.out.faults (λ sink. IsRestarted sink asked told.status told.out.taken told.kept)) }
     ensures tasks { IfOk result (λ told. (asked : AskedTasks) → AsksTasks (map string_bytes words.now) text.items asked
-        → told.out.faults ≡ 0 → AreRun asked told.status told.out.taken told.kept) }
+        → IsSo told.out.faults (λ sink. AreRun sink asked told.status told.out.taken told.kept told.tasks)) }
     ensures check { IfOk result (λ told. (image flash : List ℕ) → AsksCheck (map string_bytes words.now) text.items image flash
-        → told.out.faults ≡ 0 → IsJudged image flash told.status told.out.taken told.kept) }
+        → IsSo told.out.faults (λ sink. IsChecked sink image flash told.status told.out.taken told.kept)) }
+    ensures asm { IfOk result (λ told. (image : List ℕ) → AsksAsm (map string_bytes words.now) text.items image
+        → IsSo told.out.faults (λ sink. IsAssembled sink image told.status told.out.taken told.kept)) }
+    ensures generate { IfOk result (λ told. (seed : ℕ) → AsksGenerate (map string_bytes words.now) seed
+        → IsSo told.out.faults (λ sink. IsRun sink (generated_by seed) told.status told.out.taken told.kept)) }
+    ensures refused { IfOk result (λ told. (own : ℕ) (line : List ℕ) → IsRefused (map string_bytes words.now) text.items own line
+        → IsSo told.out.faults (λ sink. IsSaid sink own line told.status told.out.taken told.kept)) }
 {
     let mut input = MemSource::new(text);
     let mut out = MemSink::new(alloc, room)?;
@@ -50,13 +61,13 @@ pub fn run_text(
         status,
         out,
         kept: exit.kept,
+        tasks: exit.tasks,
     })
 }
 
 /// Runs any image, without inputs, by the word `run`.
 pub fn run_image(alloc: Global, image: &Image, room: usize) -> Result<Told, NoMemory>
-    ensures run { IfOk result (λ told. told.out.faults ≡ 0
-        → IsRun (plainly image.now) told.status told.out.taken told.kept) }
+    ensures run { IfOk result (λ told. IsSo told.out.faults (λ sink. IsRun sink (plainly image.now) told.status told.out.taken told.kept)) }
 {
     let text = write(alloc, image)?;
     let word = word_of(alloc, "run")?;

@@ -1,5 +1,5 @@
 //! Streams in memory: a source that never fails, and a sink with room for a number of bytes.
-ghost use Rattle.std.specs.Prelude.{◌≡◌, ◌↔◌, ℕ, ◌<◌, ◌≤◌, ◌-◌, List, [], ◌++◌, Some, drop, take, length, min, IsOk, IsErr, IfOk, OnErr, vec_capacity, if◌then◌else◌, is_ok};
+ghost use Rattle.std.specs.Prelude.{◌≡◌, ◌↔◌, ℕ, ◌<◌, ◌≤◌, List, [], Some, drop, take, length, min, IsOk, IsErr, IfOk, vec_capacity, if◌then◌else◌, is_ok};
 ghost use Rattle.std.specs.Io.{ReadsAtMost, WritesAtMost};
 ghost use Rattle.std.specs.Io.KnownBytes.{ReadConsumes, WriteAppends};
 ghost use Rattle.byte_streams.specs.Faults.{HasCause, next_count};

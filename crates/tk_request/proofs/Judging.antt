@@ -5,20 +5,12 @@ use Rattle.std.proofs.lemmas.List.{take_all}
 use Rattle.hex_image.specs.HexText.{HexText}
 use Rattle.text_lines.proofs.TextLaws.{front-short}
 use Rattle.byte_streams.specs.Streams.{TakesAtMost}
-use Rattle.tk_words.specs.declared.command.Command.{Command}
-use Rattle.tk_words.specs.declared.command.Command.TheVariants.{Help, Run, Dump, Restart, Tasks, Check, Generate, Asm}
 use Rattle.tk_words.specs.declared.job.Job.{Job}
 use Rattle.tk_words.specs.Commands.{RunsAProgram}
 use Rattle.tk_words.specs.Printed.{no_memory}
 use Rattle.tk_words.specs.Stream.{Stream}
-use Rattle.tk_request.specs.AsmCommand.{AsmAsks}
-use Rattle.tk_request.specs.CheckCommand.{CheckAsks}
-use Rattle.tk_request.specs.DumpCommand.{DumpAsks}
-use Rattle.tk_request.specs.RestartCommand.{RestartAsks}
-use Rattle.tk_request.specs.RunCommand.{RunAsks}
-use Rattle.tk_request.specs.TasksCommand.{TasksAsks}
 use Rattle.tk_request.specs.Reading.{AsksByText, Gave, IsUnread, most_input}
-use Rattle.tk_request.specs.Asking.{Asks, IsAsked}
+use Rattle.tk_request.specs.Asking.{Wanted, UsageLine, Made, ByText, AsksFor, IsAsked, wanted}
 
 -- what was read, as a number of bytes
 took : (before now : Stream) (text : List ℕ) → Gave before now text → TakesAtMost most_input before.told now.told
@@ -38,19 +30,14 @@ text_wants : (Rule : List ℕ → Job → Type 0) (before now : Stream) (job : J
 text_wants Rule before now job runs (inl unread) = absurd (unread_run before now job runs unread)
 text_wants Rule before now job runs (inr judged) = inl (IsUnread.NoMemory refl (took before now judged.0 judged.1))
 
--- a command that asks for a program's run may want memory for it
-run_wants : (command : Command) (before now : Stream) (job : Job) → RunsAProgram job → Asks command before now job → Asks command before now no_memory
-run_wants Help before now job runs asks = absurd (subst RunsAProgram asks.0 runs)
-run_wants (Run options) before now job runs asks = text_wants (RunAsks options) before now job runs asks
-run_wants (Dump options) before now job runs asks = text_wants (DumpAsks options) before now job runs asks
-run_wants (Restart options) before now job runs asks = text_wants (RestartAsks options) before now job runs asks
-run_wants (Tasks options) before now job runs asks = text_wants (TasksAsks options) before now job runs asks
-run_wants Check before now job runs asks = text_wants CheckAsks before now job runs asks
-run_wants (Generate seed) before now job runs asks = (inr refl, asks.1)
-run_wants Asm before now job runs asks = text_wants AsmAsks before now job runs asks
+-- what asks for a program's run may want memory for it
+run_wants : (by : Wanted) (before now : Stream) (job : Job) → RunsAProgram job → AsksFor by before now job → AsksFor by before now no_memory
+run_wants UsageLine before now job runs asks = absurd (subst RunsAProgram asks.0 runs)
+run_wants (Made own) before now job runs asks = (inr refl, asks.1)
+run_wants (ByText Rule) before now job runs asks = text_wants Rule before now job runs asks
 
 pub memory_asked : (words : List (List ℕ)) (before now : Stream) (job : Job) → RunsAProgram job → IsAsked words before now job → IsAsked words before now no_memory
-memory_asked words before now job runs (inl asked) = inl (asked.0, asked.1, run_wants asked.0 before now job runs asked.2)
+memory_asked words before now job runs (inl asked) = inl (asked.0, asked.1, run_wants (wanted asked.0) before now job runs asked.2)
 memory_asked words before now job runs (inr none) = absurd (subst RunsAProgram none.1 runs)
 
 -- what stands behind some lines of a text stands in it

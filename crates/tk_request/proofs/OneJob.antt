@@ -9,6 +9,8 @@ use Rattle.input_script.proofs.Judgement.{one_judgement}
 use Rattle.text_lines.specs.Lines.{lines_of}
 use Rattle.task_input.specs.Scripts.{IsFirst, Schedules}
 use Rattle.task_input.proofs.FirstFaults.{first_one, schedules_apart, schedules_one}
+use Rattle.tk_words.specs.declared.command.Command.{Command}
+use Rattle.tk_words.specs.declared.command.Command.TheVariants.{Help, Run, Dump, Restart, Tasks, Check, Generate, Asm}
 use Rattle.tk_words.specs.declared.command.RunOptions.{RunOptions}
 use Rattle.tk_words.specs.declared.command.TaskOptions.{TaskOptions}
 use Rattle.tk_words.specs.declared.job.Job.{Job}
@@ -30,6 +32,7 @@ use Rattle.tk_words.specs.declared.job.Job.TheVariants as jobs
 use Rattle.tk_request.specs.CheckCommand.{CheckAsks, dump_word, verdict_line}
 use Rattle.tk_request.specs.DumpCommand.{DumpAsks}
 use Rattle.tk_request.specs.RestartCommand.{RestartAsks}
+use Rattle.tk_request.specs.Asking.{Wanted, ByText, wanted}
 use Rattle.tk_request.specs.TasksCommand.{IsPlaced, Refused, Placed, bad_image, TasksAsks}
 use Rattle.tk_request.proofs.ImageLength.{few_words}
 
@@ -135,28 +138,43 @@ one_request options text asked =
     one_judged _ _ _ _ _ (one_hex text)
     (λ hex is. one_judged _ _ _ _ _ (one_script (drop hex.1 text)) (λ schedule is' a b first second. first ∙ sym second))
 
-pub one_run : (options : RunOptions) (text : List ℕ) → IsOne (RunAsks options text)
+one_run : (options : RunOptions) (text : List ℕ) → IsOne (RunAsks options text)
 one_run options text = one_request options text jobs.Run
 
-pub one_dump : (options : RunOptions) (text : List ℕ) → IsOne (DumpAsks options text)
+one_dump : (options : RunOptions) (text : List ℕ) → IsOne (DumpAsks options text)
 one_dump options text = one_request options text jobs.Dump
 
-pub one_restart : (options : RunOptions) (text : List ℕ) → IsOne (RestartAsks options text)
+one_restart : (options : RunOptions) (text : List ℕ) → IsOne (RestartAsks options text)
 one_restart options text = one_request options text (λ request. jobs.Restart request request.script)
 
-pub one_tasks : (options : TaskOptions) (text : List ℕ) → IsOne (TasksAsks options text)
+one_tasks : (options : TaskOptions) (text : List ℕ) → IsOne (TasksAsks options text)
 one_tasks options text =
     one_judged _ _ _ _ _ (one_hex text)
     (λ hex is. one_judged _ _ _ _ _ (one_scripts options.count (drop hex.1 text)) (λ schedules is'. one_placed options.count hex.0 _))
 
-pub one_check : (text : List ℕ) → IsOne (CheckAsks text)
+one_check : (text : List ℕ) → IsOne (CheckAsks text)
 one_check text =
     one_judged _ _ _ _ _ (one_hex text)
     (λ hex is. one_judged _ _ _ _ _ (one_flash (drop hex.1 text)) (λ words is' a b first second.
     first.2 ∙ ap verdict_line (one_verdict _ hex.0 words first.0 second.0 (layout_right _ (few_words text hex.0 hex.1 is)) first.1 second.1) ∙ sym second.2))
 
-pub one_source : (text : List ℕ) → IsOne (AsmAsks text)
+one_source : (text : List ℕ) → IsOne (AsmAsks text)
 one_source text = one_judged _ _ _ _ _ (one_assembled text) (λ words is a b first second. first ∙ sym second)
+
+-- of each command that reads, the rule asks for one job of each text
+abbrev pub IsOneRule : Wanted → Type 0
+IsOneRule (ByText Rule) = (text : List ℕ) → IsOne (Rule text)
+IsOneRule _ = Unit {0}
+
+pub one_rule : (command : Command) → IsOneRule (wanted command)
+one_rule Help = tt
+one_rule (Run options) = one_run options
+one_rule (Dump options) = one_dump options
+one_rule (Restart options) = one_restart options
+one_rule (Tasks options) = one_tasks options
+one_rule Check = one_check
+one_rule (Generate seed) = tt
+one_rule Asm = one_source
 
 -- two readings of a text are one
 request_is : (a b : Request) → jobs.Run a ≡ jobs.Run b → a ≡ b

@@ -2,15 +2,13 @@
 use Rattle.std.proofs.Common.{◌≡◌, ℕ, ◌+◌, ◌≤◌, List, ◌++◌, length, sym, ap, ◌∙◌, subst, arith, append-nil, length-append, Option, Some, None, inl, inr}
 use Rattle.std.specs.Io.KnownBytes.{Consumes, IsAtEnd}
 use Rattle.byte_streams.specs.Streams.{Takes}
-use Rattle.tk_words.specs.declared.command.Command.{Command}
-use Rattle.tk_words.specs.declared.command.Command.TheVariants.{Help, Run, Dump, Restart, Tasks, Check, Generate, Asm}
 use Rattle.tk_words.specs.declared.job.Job.{Job}
 use Rattle.tk_words.specs.Printed.{no_memory}
 use Rattle.tk_words.specs.Stream.{Stream}
 use Rattle.tk_words.proofs.OneCommand.{one_command}
 use Rattle.tk_request.specs.Reading.{AsksByText, IsUnread, Limited, most_input}
-use Rattle.tk_request.specs.Asking.{Asks, AsksWith, IsAsked, IsWarranted, Tells}
-use Rattle.tk_request.proofs.OneJob.{IsOne, one_check, one_dump, one_restart, one_run, one_source, one_tasks}
+use Rattle.tk_request.specs.Asking.{Wanted, UsageLine, Made, ByText, Asks, AsksFor, Warrants, IsAsked, IsWarranted, Tells, wanted}
+use Rattle.tk_request.proofs.OneJob.{IsOne, IsOneRule, one_rule}
 
 -- what a source that told its text gave is that text
 pub all_taken : (told now : Option (List ℕ)) (text given : List ℕ) → told ≡ Some text → Consumes told now given → IsAtEnd now → given ≡ text
@@ -46,23 +44,18 @@ by_text Rule before now text job whole one tells (inr judged) limited =
       | inr short ↦ Same (one text job whole (subst (λ t. Rule t job) same judged.2) short.1)
     ]
 
--- of each command
-reason_of : (command : Command) (before now : Stream) (job whole : Job) → Asks command before now job → AsksWith command before now whole → Reason job whole
-reason_of Help before now job whole asks is = Same (asks.0 ∙ sym is)
-reason_of (Run options) before now job whole asks by = by_text _ before now by.0 job whole (one_run options) by.1 asks by.2
-reason_of (Dump options) before now job whole asks by = by_text _ before now by.0 job whole (one_dump options) by.1 asks by.2
-reason_of (Restart options) before now job whole asks by = by_text _ before now by.0 job whole (one_restart options) by.1 asks by.2
-reason_of (Tasks options) before now job whole asks by = by_text _ before now by.0 job whole (one_tasks options) by.1 asks by.2
-reason_of Check before now job whole asks by = by_text _ before now by.0 job whole one_check by.1 asks by.2
-reason_of (Generate seed) before now job whole (inl made, read) is = Same (made ∙ sym is)
-reason_of (Generate seed) before now job whole (inr none, read) is = Wanting none
-reason_of Asm before now job whole asks by = by_text _ before now by.0 job whole one_source by.1 asks by.2
+-- of anything that is asked for
+reason_of : (by : Wanted) (before now : Stream) (job whole : Job) → IsOneRule by → AsksFor by before now job → Warrants by before now whole → Reason job whole
+reason_of UsageLine before now job whole one asks is = Same (asks.0 ∙ sym is)
+reason_of (Made own) before now job whole one (inl made, read) is = Same (made ∙ sym is)
+reason_of (Made own) before now job whole one (inr none, read) is = Wanting none
+reason_of (ByText Rule) before now job whole one asks by = by_text Rule before now by.0 job whole one by.1 asks by.2
 
 -- of all words
 pub why : (words : List (List ℕ)) (before now : Stream) (job whole : Job) → IsAsked words before now job → IsWarranted words before now whole → Reason job whole
 why words before now job whole (inl asked) (inl other) =
     let same = one_command words asked.0 other.0 asked.1 other.1 in
-    reason_of other.0 before now job whole (subst (λ c. Asks c before now job) same asked.2) other.2
+    reason_of (wanted other.0) before now job whole (one_rule other.0) (subst (λ c. Asks c before now job) same asked.2) other.2
 why words before now job whole (inl asked) (inr none) = absurd (none.0 asked.0 asked.1)
 why words before now job whole (inr none) (inl other) = absurd (none.0 other.0 other.1)
 why words before now job whole (inr none) (inr other) = Same (none.1 ∙ sym other.1)

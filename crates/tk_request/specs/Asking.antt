@@ -17,36 +17,43 @@ use Rattle.tk_request.specs.RunCommand.{RunAsks}
 use Rattle.tk_request.specs.TasksCommand.{TasksAsks}
 use Rattle.tk_request.specs.GenerateCommand.{generated_run}
 
--- what a command asks for, and what was read by then
+-- What is asked for: the usage line; a job that is made without an input; or what a text that is read asks for, by this rule.
+pub data Wanted : Type 1 where
+  UsageLine : Wanted
+  Made : Job → Wanted
+  ByText : (List ℕ → Job → Type 0) → Wanted
+
+-- the table of the commands
+abbrev pub wanted : Command → Wanted
+wanted Help = UsageLine
+wanted (Run options) = ByText (RunAsks options)
+wanted (Dump options) = ByText (DumpAsks options)
+wanted (Restart options) = ByText (RestartAsks options)
+wanted (Tasks options) = ByText (TasksAsks options)
+wanted Check = ByText CheckAsks
+wanted (Generate seed) = Made (generated_run seed)
+wanted Asm = ByText AsmAsks
+
+-- this job is asked for so, and what was read by then
+abbrev pub AsksFor : Wanted → Stream → Stream → Job → Type 0
+AsksFor UsageLine before now job = (job ≡ usage status.Done) × (now ≡ before)
+AsksFor (Made own) before now job = ((job ≡ own) ⊎ (job ≡ no_memory)) × (now ≡ before)
+AsksFor (ByText Rule) before now job = AsksByText Rule before now job
+
+-- .. by a command
 abbrev pub Asks : Command → Stream → Stream → Job → Type 0
-Asks Help before now job = (job ≡ usage status.Done) × (now ≡ before)
-Asks (Run options) before now job = AsksByText (RunAsks options) before now job
-Asks (Dump options) before now job = AsksByText (DumpAsks options) before now job
-Asks (Restart options) before now job = AsksByText (RestartAsks options) before now job
-Asks (Tasks options) before now job = AsksByText (TasksAsks options) before now job
-Asks Check before now job = AsksByText CheckAsks before now job
-Asks (Generate seed) before now job = ((job ≡ generated_run seed) ⊎ (job ≡ no_memory)) × (now ≡ before)
-Asks Asm before now job = AsksByText AsmAsks before now job
+Asks command before now job = AsksFor (wanted command) before now job
 
 -- The source tells this text, and doesn't fail.
 pub record Tells (before now : Stream) (text : List ℕ) : Type 0 where
   pub told : before.told ≡ Some text
   pub read : Rose before.faults now.faults → ⊥
 
--- what a command that reads asks for, by the whole text of its source
-abbrev pub AsksByWhole : (List ℕ → Job → Type 0) → Stream → Stream → Job → Type 0
-AsksByWhole Rule before now job = (text : List ℕ) × Tells before now text × Limited Rule text job
-
--- what a command asks for, if memory serves; the source is spoken of only where it is read
-abbrev pub AsksWith : Command → Stream → Stream → Job → Type 0
-AsksWith Help before now job = job ≡ usage status.Done
-AsksWith (Run options) before now job = AsksByWhole (RunAsks options) before now job
-AsksWith (Dump options) before now job = AsksByWhole (DumpAsks options) before now job
-AsksWith (Restart options) before now job = AsksByWhole (RestartAsks options) before now job
-AsksWith (Tasks options) before now job = AsksByWhole (TasksAsks options) before now job
-AsksWith Check before now job = AsksByWhole CheckAsks before now job
-AsksWith (Generate seed) before now job = job ≡ generated_run seed
-AsksWith Asm before now job = AsksByWhole AsmAsks before now job
+-- it is asked for, if memory serves, by the whole text of its source; the source is spoken of only where it is read
+abbrev pub Warrants : Wanted → Stream → Stream → Job → Type 0
+Warrants UsageLine before now job = job ≡ usage status.Done
+Warrants (Made own) before now job = job ≡ own
+Warrants (ByText Rule) before now job = (text : List ℕ) × Tells before now text × Limited Rule text job
 
 -- the words are a command, and it asks for the job; words that are none are refused, and nothing is read
 abbrev pub IsAsked : List (List ℕ) → Stream → Stream → Job → Type 0
@@ -57,5 +64,5 @@ IsAsked words before now job =
 -- the same, if memory serves
 abbrev pub IsWarranted : List (List ℕ) → Stream → Stream → Job → Type 0
 IsWarranted words before now job =
-    ((command : Command) × IsCommand words command × AsksWith command before now job)
+    ((command : Command) × IsCommand words command × Warrants (wanted command) before now job)
     ⊎ (IsNoCommand words × (job ≡ usage status.Usage))

@@ -4,6 +4,7 @@ use Rattle.std.specs.Prelude.{◌||◌, if◌then◌else◌}
 use Rattle.nat_page.specs.Used.{is_used, used_among}
 use Rattle.tk_restart.specs.Keeping.{count_where}
 use Rattle.tk_restart.specs.Restarting.{worn}
+use Rattle.nat_page.proofs.UsedLaws.{at_most}
 
 pub count_none : (test : ℕ → Bool) (first : ℕ) → 0 ≡ count_where test first 0
 unfolding count_where
@@ -18,10 +19,6 @@ unfolding count_where
 count_same test test' first zero same = refl
 count_same test test' first (suc n) same =
     ap₂ (λ b m. (if b then 1 else 0) + m) (same (first + n) (omega arith) (omega arith)) (count_same test test' first n (λ page low high. same page low (omega arith)))
-
-at_most : (b : Bool) (n m : ℕ) → m ≤ n → (if b then 1 else 0) + m ≤ suc n
-at_most true n m below = omega arith
-at_most false n m below = omega arith
 
 pub count_most : (test : ℕ → Bool) (first n : ℕ) → count_where test first n ≤ n
 unfolding count_where

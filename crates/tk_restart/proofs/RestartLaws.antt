@@ -1,6 +1,7 @@
 -- Both passes are a restart.
 use Rattle.std.proofs.Common.{◌≡◌, ℕ, ◌+◌, ◌*◌, ◌≤◌, ◌&&◌, Bool, true, false, not, List, [], length, refl, sym, ap, ap₂, ◌∙◌, inl, inr}
 use Rattle.std.specs.Prelude.{◌⊎◌, if◌then◌else◌, slice_index}
+use Rattle.std.proofs.lemmas.Bool.{both_ways}
 use Rattle.flash_words.specs.Pages.{page_of}
 use Rattle.flash_words.specs.Layouts.{IsRight, image_of}
 use Rattle.flash_words.specs.Memory.{Memory}
@@ -31,9 +32,6 @@ used_or_not : (b : Bool) → (b ≡ true) ⊎ (b ≡ false)
 used_or_not true = inl refl
 used_or_not false = inr refl
 
-not_true : (b : Bool) → b ≡ false → b ≡ true → ⊥
-not_true b off on = cc
-
 -- between both passes each page of the pool is free or code, and so it was if it is used
 kept_code : (layout : Layout) (image : List ℕ) (old mid : Memory) (told : Kept) (page : ℕ) → Sweeps layout image old mid told → IsPool layout page → is_used mid.words page ≡ true → IsCodePage image old.words page
 kept_code layout image old mid told page sweeps pool used = ((sweeps.are page pool).0 used).code
@@ -41,7 +39,7 @@ kept_code layout image old mid told page sweeps pool used = ((sweeps.are page po
 pub swept_codes : (layout : Layout) (image : List ℕ) (old mid : Memory) (told : Kept) → Sweeps layout image old mid told → AreCodes layout image mid.words
 swept_codes layout image old mid told sweeps page pool = elim (used_or_not (is_used mid.words page)) [
   | inl used ↦ inr (code_there image old.words mid.words page (sweeps.keeps page pool used) (kept_code layout image old mid told page sweeps pool used))
-  | inr unused ↦ inl (sweeps.drops page pool (not_true (is_used mid.words page) unused))
+  | inr unused ↦ inl (sweeps.drops page pool (both_ways (is_used mid.words page) unused))
 ]
 
 -- a page that lists something is used
@@ -54,7 +52,7 @@ listing_used layout words page i t v either lists = elim either [
 used_free : (layout : Layout) (image : List ℕ) (old mid : Memory) (told : Kept) (page : ℕ) → Sweeps layout image old mid told → IsPool layout page → IsFree mid.words page ⊎ (is_used mid.words page ≡ true)
 used_free layout image old mid told page sweeps pool = elim (used_or_not (is_used mid.words page)) [
   | inl used ↦ inr used
-  | inr unused ↦ inl (sweeps.drops page pool (not_true (is_used mid.words page) unused))
+  | inr unused ↦ inl (sweeps.drops page pool (both_ways (is_used mid.words page) unused))
 ]
 
 strays_are : (layout : Layout) (image : List ℕ) (old mid : Memory) (told : Kept) → length image ≤ 24576 → Sweeps layout image old mid told → AreStray layout old.words (is_used mid.words) (is_stray layout mid.words)
@@ -105,7 +103,7 @@ keeps_all layout image old mid new told right whole short sweeps unlinks =
           ∙ ap (λ ss. page_of (with_calls mid.words ss) page) (some_strays layout image mid.words mid.words page used)
           ∙ calls_same image old.words mid.words stray stray page sweeps.size (inside_pool layout old.words page right whole pool) (sweeps.keeps page pool used) (λ t v. refl) (kept_code layout image old mid told page sweeps pool used);
       drops = λ page pool unused.
-          let free = sweeps.drops page pool (not_true (is_used mid.words page) unused) in
+          let free = sweeps.drops page pool (both_ways (is_used mid.words page) unused) in
           unlinks.pages page pool ∙ free_calls layout image mid.words mid.words page free ∙ free;
     }
 

@@ -10,7 +10,7 @@ use Rattle.flash_words.specs.Operations.{erased_page}
 use Rattle.flash_words.specs.Layouts.{IsRight}
 use Rattle.flash_words.specs.declared.layout.Layout.{Layout}
 use Rattle.flash_words.proofs.PageLaws as pages
-use Rattle.list_parts.proofs.ManyLaws.{length-many}
+use Rattle.base_laws.proofs.ManyLaws.{length-many}
 use Rattle.page_index.specs.Maps.{IsPool, IsFree}
 use Rattle.page_index.proofs.MapLaws.{free_lists_nothing}
 use Rattle.page_draft.specs.CodePages.{Anywhere, IsCodePage}

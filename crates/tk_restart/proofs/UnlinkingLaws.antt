@@ -20,7 +20,7 @@ use Rattle.nat_page.specs.Used.{is_used}
 use Rattle.nat_page.specs.Unlinking.{is_picked, links_where, with_calls, pieces_in, stubs_where, are_some}
 use Rattle.page_draft.proofs.PieceLaws.{size-cons}
 use Rattle.nat_page.proofs.KeptLaws.{lists_again}
-use Rattle.nat_page.proofs.UnlinkLaws.{Each, length-with_calls, calls_alike, links_among, among_inside, holds_unlinked}
+use Rattle.nat_page.proofs.UnlinkLaws.{Each, length-with_calls, calls_alike, links_among, among_inside, holds_unlinked, no_stubs}
 use Rattle.nat_page.proofs.UsedLaws.{free_unused, map_used}
 use Rattle.nat_page.proofs.WalkLaws.{OwnRun, own_run}
 use Rattle.pool_check.specs.Links.{ArePages}
@@ -208,10 +208,6 @@ unlinked_more layout image old now now' k some pool unlinked one =
       refused = one.refused ∙ unlinked.refused;
     }
 
-no_calls : (words stubs : List ℕ) → are_some stubs ≡ false → with_calls words stubs ≡ words
-no_calls words [] none = refl
-no_calls words (s ∷ stubs) none = absurd (cc)
-
 -- in words that agree on a page its strays are the same
 strays_same : (layout : Layout) (image old now : List ℕ) (page : ℕ) → length image ≤ 24576 → page_of now page ≡ page_of old page → ((t v : ℕ) → is_stray layout now t v ≡ is_stray layout old t v) → IsFree old page ⊎ IsCodePage image old page
     → strays_in layout image now now page ≡ strays_in layout image old old page
@@ -240,7 +236,7 @@ one_by : (layout : Layout) (image : List ℕ) (old now : Memory) (page : ℕ) (s
 one_by layout image old now page false low whole size same here is calls long = record {
   size = refl;
   others = λ other apart. refl;
-  own = sym (ap (λ w. page_of w page) (no_calls now.words (strays_in layout image now.words now.words page) here)) ∙ calls;
+  own = sym (ap (λ w. page_of w page) (no_stubs now.words (strays_in layout image now.words now.words page) here)) ∙ calls;
   is = is;
   ops = omega arith;
   own_erases = refl;

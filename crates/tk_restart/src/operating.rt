@@ -1,6 +1,6 @@
 //! Operations on a flash of which none is to fail.
 
-ghost use Rattle.std.specs.Prelude.{◌≡◌, ◌<◌, ◌^◌, [], length};
+ghost use Rattle.std.specs.Prelude.{◌≡◌, ◌<◌, ◌^◌, []};
 ghost use Rattle.flash_words.specs.Pages.{page_of, blank};
 ghost use Rattle.flash_words.specs.Memory.{IsWhole};
 ghost use Rattle.flash_words.specs.Operations.{erased_page, programmed_page};

@@ -1,6 +1,6 @@
 //! Links that lead to no entry.
 
-ghost use Rattle.std.specs.Prelude.{◌≡◌, ◌<◌, ◌≤◌};
+ghost use Rattle.std.specs.Prelude.{◌≡◌, ◌<◌};
 ghost use Rattle.tk_restart.specs.Strays.{is_stray, is_listed, is_item};
 
 use flash_model::{Flash, Layout, PAGE_WORDS};

@@ -1,6 +1,6 @@
 //! The first pass over the pool: each page is kept, or erased.
 
-ghost use Rattle.std.specs.Prelude.{◌≡◌, ◌+◌, ◌<◌, ◌^◌, [], length};
+ghost use Rattle.std.specs.Prelude.{◌≡◌, ◌<◌, ◌^◌, [], length};
 ghost use Rattle.flash_words.specs.Layouts.{IsRight};
 ghost use Rattle.flash_words.specs.Memory.{IsWhole};
 ghost use Rattle.page_index.specs.Maps.{IsPool};

@@ -1,8 +1,7 @@
 //! A page of the pool as a loss of power may leave it.
 
-ghost use Rattle.std.specs.Prelude.{◌≡◌, ℕ, List, ◌+◌, ◌<◌, ◌^◌, [], length};
+ghost use Rattle.std.specs.Prelude.{◌≡◌, ℕ, List, ◌<◌, ◌^◌, []};
 ghost use Rattle.flash_words.specs.Layouts.{IsRight};
-ghost use Rattle.flash_words.specs.Memory.{IsWhole};
 ghost use Rattle.flash_words.specs.Operations.{erased_page, programmed_page};
 ghost use Rattle.page_index.specs.Maps.{IsPool};
 ghost use Rattle.pool_check.specs.Links.{HaveFormsAround};

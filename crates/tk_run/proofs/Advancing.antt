@@ -7,7 +7,7 @@ use Rattle.byte_streams.specs.Streams.{CutShort}
 use Rattle.byte_streams.proofs.KnownBytes.{appends-both, appends-nothing}
 use Rattle.byte_streams.specs.declared.failure.Failed.{Failed}
 use Rattle.mote_devices.specs.declared.line.Line.{Line}
-use Rattle.mem_guard.specs.FlatMachine.{Program, is_own, is_inside, Moment, Run, run, ended, is_taken}
+use Rattle.mem_guard.specs.FlatMachine.{Program, is_own, is_inside, Moment, Run, ended, is_taken}
 use Rattle.mem_guard.specs.FlatMachine as flat_ends
 use Rattle.step_laws.specs.declared.moves.End.{End}
 use Rattle.step_laws.specs.declared.moves.End.TheVariants as ends
@@ -16,11 +16,11 @@ use Rattle.step_laws.specs.Numbers.{Numbers}
 use Rattle.step_laws.proofs.NumberLaws.{unmoved}
 use Rattle.kernel_entry.specs.Seen.{end_of, program as program_of}
 use Rattle.program_steps.specs.Machines.{Machine, numbers_of, flat_of}
-use Rattle.program_steps.specs.Ready.{count_in, IsGoing, IsQuiet, IsInOrder, IsSound, IsEnded, IsKept, HasBounds}
+use Rattle.program_steps.specs.Ready.{IsGoing, IsQuiet, IsInOrder, IsSound, IsEnded, IsKept, HasBounds}
 use Rattle.program_steps.specs.Stepping.{lines_text}
 use Rattle.program_steps.specs.Stepping.{Goes, Stays, IsFault, ends_in_arrive, HasStepped, StepWay, HasEntered, Entering, HasBound}
 use Rattle.tk_run.specs.Running.{Leads, original_from, run_of, Answers, IsBroken, HasAdvanced}
-use Rattle.program_steps.proofs.Bounds.{bounded_counted}
+use Rattle.program_steps.proofs.Bounds.{bounds_ready}
 use Rattle.program_steps.proofs.Marked.{order_marked}
 use Rattle.program_steps.proofs.Leading.{goes_on, last_on, stays_on, stays_self}
 use Rattle.tk_run.proofs.RunSoFar.{Ran, IsBetween, unshut_on, none_ran, nothing, made_step, lines_text_on, ran_enter, ran_step, spent_at, wild_at, stop_at}
@@ -40,9 +40,6 @@ no_end m end is going = let e : Some end ≡ None = sym is ∙ going in absurd (
 
 difference : (i n : ℕ) → i ≤ n → (k : ℕ) × (k + i ≡ n)
 difference i n below = (n - i, omega arith)
-
-bounds_ready : (m : Machine) → IsGoing m → HasBounds m
-bounds_ready m ready = bounded_counted (numbers_of m) m.crossings m.kernel.quantum (count_in m) m.at m.kernel.mote.devices.polls m.owed ready.counted ready.arrivals ready.polls
 
 kept_ended : (m : Machine) → m.steps ≤ 10 ^ 12 → m.kernel.part.shut ≡ false → IsEnded m → IsKept m
 kept_ended m few unshut over =

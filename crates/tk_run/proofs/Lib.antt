@@ -5,4 +5,3 @@ mod Gathered
 mod Several
 pub mod Booting
 pub mod WholeRun
-pub mod Longer

@@ -9,7 +9,6 @@ use Rattle.mote_devices.specs.declared.line.Line.{Line}
 use Rattle.mem_guard.specs.FlatMachine.{Program, is_own, is_inside, Moment, End as FlatEnd, Run, run, with_line, ended, next_of}
 use Rattle.mem_guard.specs.FlatMachine as flat_ends
 use Rattle.mem_guard.proofs.MachineLaws.{run_wild, run_spent, run_stops, run_goes}
-use Rattle.mem_guard.proofs.RunLaws.{behind}
 use Rattle.step_laws.specs.declared.moves.End.{End}
 use Rattle.step_laws.specs.Moves.{Move, lines_of, line_before}
 use Rattle.kernel_entry.specs.Seen.{program as program_of}
@@ -21,6 +20,10 @@ use Rattle.program_steps.specs.Stepping.{Goes, Stays, AreMadeAt, ends_in_arrive,
 use Rattle.program_steps.proofs.MadeAt.{made_map, made_both}
 use Rattle.tk_run.specs.Running.{original_from, run_of, Visits}
 use Rattle.program_steps.proofs.Leading.{goes_on, stays_on, stays_self}
+
+-- a run behind lines that were written before
+abbrev pub behind : List Line → Run → Run
+behind lines r = record r { lines = lines ++ r.lines }
 
 -- the run so far, over i steps: behind its lines the original's runs on from where the machine is now
 pub record Ran (old now : Machine) (i : ℕ) (before after : Option (List ℕ)) : Type 0 where
@@ -40,10 +43,6 @@ pub record IsBetween (old now : Machine) (i : ℕ) (before after : Option (List 
   pub last : ends_in_arrive ran.moves ≡ false
   pub ready : IsGoing now
   pub quiet : IsQuiet now
-
--- the original's run
-behind_nothing : (r : Run) → behind [] r ≡ r
-behind_nothing r = refl
 
 pub behind_line : (lines : List Line) (line : Option Line) (r : Run) → behind lines (with_line line r) ≡ behind (lines ++ line_before line []) r
 behind_line lines None r = ap (λ l. record r { lines = l ++ r.lines }) (sym (append-nil lines))

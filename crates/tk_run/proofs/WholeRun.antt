@@ -1,7 +1,8 @@
 -- A whole run, from a start to its answer.
-use Rattle.std.proofs.Common.{◌≡◌, ℕ, ◌≤◌, Bool, true, false, List, length, refl, sym, ap, ◌∙◌, arith, subst}
+use Rattle.std.proofs.Common.{◌≡◌, ℕ, ◌≤◌, List, length, refl, sym, ap, ◌∙◌, arith, subst}
 use Rattle.std.specs.Prelude.{◌^◌, Option, Some, None, Result, Ok, Err}
 use Rattle.std.specs.Io.KnownBytes.{Appends}
+use Rattle.std.proofs.lemmas.Bool.{false_from_ne_true}
 use Rattle.hex_image.specs.Image.{IsImage}
 use Rattle.flash_words.specs.Memory.{Memory, IsWhole, new_flash}
 use Rattle.flash_words.specs.Layouts.{layout_of}
@@ -61,10 +62,6 @@ made_as start image script quantum slots done steps moves moves' is same all mad
 listed_as : (start : Machine) (image : List ℕ) (script : Schedule) (quantum slots op : ℕ) (m : Machine) → IsStart start image script quantum slots → Stays start m → is_listed script.failing op ≡ is_listed m.kernel.mote.flash.failing op
 listed_as start image script quantum slots op m is stays = ap (λ failing. is_listed failing op) (sym (stays.failing ∙ is.failing))
 
-unless_listed : (b : Bool) → (b ≡ true → ⊥) → b ≡ false
-unless_listed true never = absurd (never refl)
-unless_listed false never = refl
-
 -- none is refused where the end isn't flash's
 none_refused : (m : Machine) → AreTried m → ((op : ℕ) → m.end ≡ Some (ends.Flash op) → ⊥) → (refused : Option ℕ) → m.kernel.mote.flash.refused ≡ refused → refused ≡ None
 none_refused m tried unfailed None is = refl
@@ -94,7 +91,7 @@ exact_by start image script quantum slots n before after end m is kept advanced 
       made = made_as start image script quantum slots run.done m.steps advanced.leads.moves path.0.moves is done path.1 run.made;
       began = began_kept start m advanced.lines advanced.leads;
       others = others_led start m advanced.lines advanced.leads;
-      unlisted = λ op from to. unless_listed (is_listed script.failing op) (λ there. unfailed op (tried.listed op from to (sym (listed_as start image script quantum slots op m is advanced.stays) ∙ there)));
+      unlisted = λ op from to. false_from_ne_true (is_listed script.failing op) (λ there. unfailed op (tried.listed op from to (sym (listed_as start image script quantum slots op m is advanced.stays) ∙ there)));
       unrefused = none_refused m tried unfailed m.kernel.mote.flash.refused refl;
     }
 
@@ -123,7 +120,7 @@ failed_by start image script quantum slots n before after op m is kept advanced 
       others = others_led start m advanced.lines advanced.leads;
       last = failed.fault.last;
       listed = listed_as start image script quantum slots op m is advanced.stays ∙ failed.fault.listed;
-      first = λ earlier from below. unless_listed (is_listed script.failing earlier) (λ there.
+      first = λ earlier from below. false_from_ne_true (is_listed script.failing earlier) (λ there.
           let e : Some (ends.Flash earlier) ≡ Some (ends.Flash op) = sym (tried.listed earlier from (omega (arith, below, failed.fault.last)) (sym (listed_as start image script quantum slots earlier m is advanced.stays) ∙ there)) ∙ failed.kept in
           let f : earlier ≡ op = cc in
           absurd (omega (arith, below, f)));
@@ -138,6 +135,9 @@ cut_by start image script quantum slots n before after e m is kept advanced ran 
     let path = leads_as start m advanced.lines _ advanced.leads lines in
     record {
       within = omega (arith, ran.within);
+      state = sym ran.left ∙ ap (λ (r : Run). r.state) (is.run ran.done) ∙ ap (λ k. (original (program_at image quantum slots) script.events k).state) done;
+      program = advanced.stays.program ∙ is.program;
+      quantum_is = advanced.stays.quantum ∙ is.quantum_is;
       broken = advanced.broken;
       put = subst (λ l. CutShort before after (lines_text l)) lines advanced.put;
       sound = kept.sound;

@@ -80,10 +80,14 @@ pub record IsFailedRun (start : Machine) (image : List ℕ) (script : Schedule) 
   pub first : (earlier : ℕ) → 1 ≤ earlier → earlier < op → is_listed script.failing earlier ≡ false
   pub refused : m.kernel.mote.flash.refused ≢ None
 
--- gathered lines could not be put: what went out is cut short of the lines of the steps that were done
+-- gathered lines could not be put: what went out is cut short of the lines of the steps that were done, and the machine stands
+-- where the original program stands after them
 pub record IsCutRun (start : Machine) (image : List ℕ) (script : Schedule) (quantum slots n : ℕ) (before after : Option (List ℕ)) (m : Machine) : Type 0 where
   pub within : m.steps ≤ n
   pub put : CutShort before after (lines_text (original (program_at image quantum slots) script.events m.steps).lines)
+  pub state : flat_of m ≡ (original (program_at image quantum slots) script.events m.steps).state
+  pub program : program_of m.kernel ≡ program_at image quantum slots
+  pub quantum_is : m.kernel.quantum ≡ quantum
   pub broken : m.broken ≡ true
   pub sound : IsSound m
   pub path : PathFrom start (original (program_at image quantum slots) script.events m.steps).lines m

@@ -2,7 +2,7 @@
 use Rattle.std.proofs.Common.{◌≡◌, ℕ, zero, suc, ◌+◌, ◌-◌, ◌<◌, ◌⊎◌, List, [], ◌∷◌, length, get_or, refl, sym, ap, ap₂, ◌∙◌, arith, subst, inl, inr}
 use Rattle.std.specs.Prelude.{◌≢◌, ◌*◌, map, slice_get, sum_by, Option, Some, None, IfSome}
 use Rattle.std.proofs.lemmas.Bool.{cases_eq}
-use Rattle.std.proofs.lemmas.Option.{slice_get-get_or}
+use Rattle.std.proofs.lemmas.Option.{slice_get-get_or, same_Some}
 use Rattle.sram_layout.specs.Bytes.{byte_count}
 use Rattle.flash_words.specs.Layouts.{layout_of}
 use Rattle.mote_core.specs.declared.mote.Mote.{Mote}
@@ -40,9 +40,6 @@ pub record IsKept (t u : Tasks) (i : ℕ) (task' : Task) : Type 0 where
   pub machine : machine_of u i task' ≡ record (machine_of t i task) { owed = owed_of task.owed None }
   pub alone : (i ≢ t.running) ⊎ (t.stub ≡ None) → machine_of u i task' ≡ machine_of t i task
 
-some_same : (a b : Task) → ◌≡◌ {A = Option Task} (Some a) (Some b) → a ≡ b
-some_same a b is = cc
-
 -- the machine by its mote, the arrivals of others, and the arrival that it owes
 abbrev machine_by : Tasks → ℕ → Task → Mote → (others : ℕ) → Option Owed → Machine
 machine_by t i task mote others owed = record (machine_of t i task) { kernel = record t.kernel { mote = mote; part = quarter_part i }; others = others; owed = owed }
@@ -60,7 +57,7 @@ pub record IsGiven (t : Tasks) (next : ℕ) (parked : Parked) : Type 0 where
   pub sized : IsSized parked
 
 pub here_is : (tasks : List Task) (k : ℕ) (task task' : Task) → slice_get tasks k ≡ Some task → slice_get tasks k ≡ Some task' → task ≡ task'
-here_is tasks k task task' is is' = some_same task task' (sym is ∙ is')
+here_is tasks k task task' is is' = same_Some task task' (sym is ∙ is')
 
 -- the tasks behind the change
 pub first_of : (t : Tasks) (next : ℕ) (parked : Parked) → (given : IsGiven t next parked) → slice_get (given_by t next (Some parked)).tasks next ≡ Some (record given.first { parked = None })
@@ -261,7 +258,7 @@ sound_to t last (Some next) sound free runs is =
 
 -- In turn. ------------------------------------------------------------------------------------------------
 
-players_length : (n : ℕ) (t : Tasks) (i : ℕ) (tasks : List Task) → length (players_from n t i tasks) ≡ length tasks
+pub players_length : (n : ℕ) (t : Tasks) (i : ℕ) (tasks : List Task) → length (players_from n t i tasks) ≡ length tasks
 players_length n t i [] = refl
 players_length n t i (task ∷ tasks) = ap (λ k. suc k) (players_length n t (i + 1) tasks)
 

@@ -1,5 +1,5 @@
 -- A task at boot is its own program at reset.
-use Rattle.std.proofs.Common.{◌≡◌, ℕ, zero, suc, ◌+◌, ◌<◌, List, [], ◌∷◌, length, refl, sym, ap, ap₂, ◌∙◌, arith}
+use Rattle.std.proofs.Common.{◌≡◌, ℕ, zero, suc, ◌+◌, ◌<◌, List, [], ◌∷◌, length, refl, sym, ap, ◌∙◌, arith}
 use Rattle.std.specs.Prelude.{Option, Some, None, slice_get, sum_by}
 use Rattle.input_script.specs.Script.{Schedule}
 use Rattle.parked_tasks.specs.declared.task.Task.{Task}
@@ -11,19 +11,9 @@ use Rattle.parked_tasks.specs.Ends.{flat_end_of}
 use Rattle.task_turns.specs.Reset.{turns_at_reset}
 use Rattle.task_turns.proofs.Isolation.{apart_from_others}
 use Rattle.task_turns.proofs.OwnPrograms.{some_player, reset_going, player_at, reset_player}
+use Rattle.tk_tasks.proofs.Paths.{player_at as player_from}
 
--- which player a task is
-player_from : (n : ℕ) (t : Tasks) (k : ℕ) (tasks : List Task) (i : ℕ) (task : Task) → slice_get tasks i ≡ Some task → slice_get (players_from n t k tasks) i ≡ Some (player_of n t (k + i) task)
-player_from n t k [] i task there = absurd (cc)
-player_from n t k (x ∷ tasks) zero task there =
-    let same : x ≡ task = cc in
-    let here : k ≡ k + 0 = omega arith in
-    ap₂ (λ j y. Some (player_of n t j y)) here same
-player_from n t k (x ∷ tasks) (suc i) task there =
-    let more : k + 1 + i ≡ k + suc i = omega arith in
-    player_from n t (k + 1) tasks i task there ∙ ap (λ j. Some (player_of n t j task)) more
-
--- and that each player is one
+-- each player is a task
 pub task_of : (n : ℕ) (t : Tasks) (k : ℕ) (tasks : List Task) (i : ℕ) (p : Player) → slice_get (players_from n t k tasks) i ≡ Some p → (task : Task) × (slice_get tasks i ≡ Some task)
 task_of n t k [] i p there = absurd (cc)
 task_of n t k (x ∷ tasks) zero p there = (x, refl)

@@ -3,6 +3,7 @@ use Rattle.std.proofs.Common.{◌≡◌, ℕ, zero, suc, ◌+◌, ◌-◌, ◌*�
 use Rattle.std.specs.Prelude.{◌≢◌, ◌^◌, slice_get, slice_set, sum_by, Option, Some, None}
 use Rattle.std.proofs.lemmas.Bool.{cases_eq, cases_lt}
 use Rattle.std.proofs.lemmas.List.Sums.{sum_by-cons}
+use Rattle.std.proofs.lemmas.Nat.{mul-le}
 use Rattle.flash_words.specs.Operations.{is_listed}
 use Rattle.flash_words.specs.Memory.{Memory}
 use Rattle.flash_words.specs.Layouts.{layout_of}
@@ -36,6 +37,7 @@ use Rattle.parked_tasks.proofs.Parkings.{both_size, both_in_low, both_in_high, b
 use Rattle.parked_tasks.proofs.Sums.{sum_set, sum_has}
 use Rattle.tk_tasks.proofs.Changing.{here_is, players_same}
 use Rattle.parked_tasks.proofs.TaskLists.{elsewhere_by, length_by}
+use Rattle.program_steps.proofs.Bounds.{most_owed}
 
 -- what the running task's machine came to, where it leaves the task with this end
 pub record IsCome (t : Tasks) (task : Task) (m : Machine) (end : Option TaskEnd) : Type 0 where
@@ -56,16 +58,9 @@ set_same [] i task x is = absurd (cc)
 set_same (y ∷ tasks) zero task x is = refl
 set_same (y ∷ tasks) (suc i) task x is = set_same tasks i task x is
 
-mul_most : (a n k : ℕ) → n ≤ k → a * n ≤ a * k
-mul_most a n k below = grind (arith)
-
-pub most_at : (owed : Option Owed) (steps : ℕ) → most_arrivals owed steps ≤ steps + 1
-most_at None steps = omega arith
-most_at (Some owed) steps = omega arith
-
 pub sum_most : (tasks : List Task) (most : ℕ) → ((i : ℕ) (task : Task) → slice_get tasks i ≡ Some task → task.steps ≤ most) → sum_by arrivals_of tasks ≤ (most + 1) * length tasks
 sum_most [] most few = omega arith
-sum_most (y ∷ tasks) most few = omega (arith, sum_most tasks most (λ i task is. few (suc i) task is), sum_by-cons arrivals_of y tasks, few 0 y refl, most_at (owed_of y.owed None) y.steps)
+sum_most (y ∷ tasks) most few = omega (arith, sum_most tasks most (λ i task is. few (suc i) task is), sum_by-cons arrivals_of y tasks, few 0 y refl, most_owed (owed_of y.owed None) y.steps)
 
 most_back : (owed : Option Owed) (steps : ℕ) → most_arrivals (owed_of (target_of owed) None) steps ≡ most_arrivals owed steps
 most_back None steps = refl
@@ -171,10 +166,10 @@ few_others t task m end before come =
     let steps : (i : ℕ) (x : Task) → slice_get t.tasks i ≡ Some x → x.steps ≤ 10 ^ 12 = λ i x is. (before.sound.each i x is).sound.steps in
     let all = sum_most t.tasks (10 ^ 12) steps in
     let few = before.sound.few in
-    let mine = most_at (owed_of (target_of m.owed) None) m.steps in
+    let mine = most_owed (owed_of (target_of m.owed) None) m.steps in
     let steps_m = come.sound.steps in
     let set = sum_set arrivals_of t.tasks t.running task (kept_task task m end) before.here in
-    let bound : (10 ^ 12 + 1) * length t.tasks ≤ (10 ^ 12 + 1) * 4 = mul_most (10 ^ 12 + 1) (length t.tasks) 4 few in
+    let bound : (10 ^ 12 + 1) * length t.tasks ≤ (10 ^ 12 + 1) * 4 = mul-le (10 ^ 12 + 1) (length t.tasks) (10 ^ 12 + 1) 4 (omega arith) few in
     omega arith
 
 waited : (t : Tasks) (task : Task) (m : Machine) (end : Option TaskEnd) (i : ℕ) (u : Task) (q : Parked) → IsBefore t task → IsCome t task m end → i ≢ t.running → slice_get t.tasks i ≡ Some (parked_as u q) → IsSized q

@@ -1,7 +1,7 @@
 mod Booting
 mod Paths
 mod Trials
-mod Changing
+pub mod Changing
 mod Starting
 mod Keeping
 mod Playing

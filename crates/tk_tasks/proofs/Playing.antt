@@ -18,9 +18,9 @@ use Rattle.step_laws.specs.States.{Awaited}
 use Rattle.step_laws.specs.StepLaws.{Reaches}
 use Rattle.step_laws.proofs.NumberLaws.{unmoved}
 use Rattle.program_steps.specs.Machines.{Machine, awaited, awaits, state_of, numbers_of, flat_of}
-use Rattle.program_steps.specs.Ready.{count_in, IsSound, IsGoing, IsQuiet, HasBounds, IsEnded}
+use Rattle.program_steps.specs.Ready.{IsSound, IsGoing, IsQuiet, IsEnded}
 use Rattle.program_steps.specs.Stepping.{Goes, StepWay, AreMadeAt, ends_in_arrive, links_in}
-use Rattle.program_steps.proofs.Bounds.{bounded_counted}
+use Rattle.program_steps.proofs.Bounds.{bounds_ready}
 use Rattle.program_steps.proofs.Leading.{stays_self}
 use Rattle.program_steps.proofs.Waiting.{left_going}
 use Rattle.parked_tasks.specs.declared.task.Task.{Task}
@@ -197,9 +197,6 @@ can_rest n u task end before going rest =
     }
 
 -- ---- a task that makes a step, or is stopped
-
-bounds_ready : (m : Machine) → IsGoing m → HasBounds m
-bounds_ready m ready = bounded_counted (numbers_of m) m.crossings m.kernel.quantum (count_in m) m.at m.kernel.mote.devices.polls m.owed ready.counted ready.arrivals ready.polls
 
 once_tries : (n : ℕ) (u : Tasks) (task : Task) (next : Next) → task.end ≡ None → rest_at (machine_of u u.running task).kernel.part task.at (n - task.steps) ≡ None
     → next_of (program_of (machine_of u u.running task).kernel) (flat_of (machine_of u u.running task)) ≡ next

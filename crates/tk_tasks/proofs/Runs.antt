@@ -18,6 +18,7 @@ use Rattle.program_steps.specs.Machines.{Machine}
 use Rattle.program_steps.specs.Ready.{most_arrivals, IsGoing, IsQuiet}
 use Rattle.parked_tasks.specs.Counting.{arrivals_by, arrivals_made}
 use Rattle.std.proofs.lemmas.List.Sums.{sum_by-cons}
+use Rattle.std.proofs.lemmas.Nat.{mul-le}
 use Rattle.program_steps.specs.Wholes.{whole}
 use Rattle.parked_tasks.specs.declared.parked.Parked.{Parked}
 use Rattle.parked_tasks.specs.declared.task.Task.{Task}
@@ -241,13 +242,10 @@ still_most n t k (task ∷ tasks) =
     let less : p.left ≤ n = omega arith in
     omega (arith, still_most n t (k + 1) tasks, weight_most p p.end refl, less)
 
-mul_most : (a n k : ℕ) → n ≤ k → a * n ≤ a * k
-mul_most a n k below = grind (arith)
-
 pub room_of : (n : ℕ) (old now : Tasks) (gathered : List ℕ) (before after : Option (List ℕ)) → IsUnderWay n old now gathered before after → AreSound old → old.switches ≡ 0 → n ≤ 10 ^ 9 → now.switches < 2 ^ 63
 room_of n old now gathered before after way sound none few =
     let four = sound.few in
-    let most : (n + 1) * length old.tasks ≤ (n + 1) * 4 = mul_most (n + 1) (length old.tasks) 4 four in
+    let most : (n + 1) * length old.tasks ≤ (n + 1) * 4 = mul-le (n + 1) (length old.tasks) (n + 1) 4 (omega arith) four in
     omega (arith, path_switches n old way.plays now way.path, path_still n old way.plays now way.path, still_most n old 0 old.tasks, most, none, few)
 
 -- ---- where all have ended

@@ -2,6 +2,7 @@
 use Rattle.std.proofs.Common.{true, ◌≡◌, ℕ, zero, suc, ◌+◌, ◌-◌, ◌*◌, ◌<◌, ◌≤◌, List, [], ◌∷◌, length, refl, sym, ap, ap₂, ◌∙◌, arith, subst}
 use Rattle.std.specs.Prelude.{◌≢◌, ◌^◌, Option, Some, None, IfSome, sum_by, slice_get}
 use Rattle.std.proofs.lemmas.List.Sums.{sum_by-cons}
+use Rattle.std.proofs.lemmas.Option.{same_Some}
 use Rattle.flash_words.specs.Memory.{loaded, new_flash, IsWhole}
 use Rattle.flash_words.specs.Layouts.{layout_of}
 use Rattle.flash_words.specs.declared.layout.Layout.{Layout}
@@ -30,7 +31,7 @@ use Rattle.tk_tasks.specs.Booted.{IsUnstarted, booted}
 use Rattle.parked_tasks.specs.AtBoot.{mote_at_boot, at_start, parked_at_boot, waiting_from}
 use Rattle.task_turns.specs.Reset.{players_at_reset, turns_at_reset}
 use Rattle.parked_tasks.proofs.Parkings.{sized_of}
-use Rattle.parked_tasks.proofs.Waiting.{size_at_boot, taken_at_boot, some_task, waiting_at, waiting_length, each_going}
+use Rattle.parked_tasks.proofs.Waiting.{size_at_boot, taken_at_boot, waiting_at, waiting_length, each_going}
 
 -- the machine that a task is at boot, with these words in flash
 abbrev pub first_machine : (words : List ℕ) (script : Schedule) (quantum slots i others : ℕ) → Machine
@@ -124,7 +125,7 @@ each_at_boot : (image : List ℕ) (first : Schedule) (others : List Schedule) (q
     → slice_get (booted image first others quantum slots).tasks i ≡ Some task → IsTask (booted image first others quantum slots) i task
 each_at_boot image first others quantum slots zero task can there =
     let t = booted image first others quantum slots in
-    subst (IsTask t 0) (some_task _ _ there)
+    subst (IsTask t 0) (same_Some _ _ there)
     (task_at_boot t (task_words (length others + 1) image) first (length others + 1) quantum slots 0 None can (omega arith) (booted_sum image first others quantum slots) refl (λ e. refl) (λ apart. absurd (apart refl)) tt)
 each_at_boot image first others quantum slots (suc k) task can there =
     let t = booted image first others quantum slots in

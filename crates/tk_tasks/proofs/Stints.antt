@@ -1,8 +1,8 @@
 -- The mote that each task left, along plays; and what plays count.
-use Rattle.std.proofs.Common.{◌≡◌, ℕ, zero, suc, ◌+◌, Bool, true, false, not, List, [], ◌∷◌, ◌⊎◌, length, refl, sym, ap, ◌∙◌, arith, subst, inl, inr}
+use Rattle.std.proofs.Common.{◌≡◌, ℕ, zero, suc, ◌+◌, Bool, true, false, List, [], ◌∷◌, ◌⊎◌, length, refl, sym, ap, ◌∙◌, arith, subst, inl, inr}
 use Rattle.std.specs.Prelude.{◌≢◌, is_some, slice_get, slice_set, sum_by, Option, Some, None}
-use Rattle.std.proofs.lemmas.Bool.{cases_eq}
-use Rattle.std.proofs.lemmas.Option.{get_or_from_slice_get}
+use Rattle.std.proofs.lemmas.Bool.{cases_eq, both_ways, not-true}
+use Rattle.std.proofs.lemmas.Option.{get_or_from_slice_get, same_Some}
 use Rattle.input_script.specs.Script.{Schedule}
 use Rattle.sram_layout.specs.Bytes.{byte_count}
 use Rattle.mote_core.specs.declared.mote.Mote.{Mote}
@@ -55,14 +55,11 @@ waiting_motes (script ∷ scripts) quantum slots = mote_at_boot [] script quantu
 abbrev pub first_motes : (image : List ℕ) (first : Schedule) (others : List Schedule) (quantum slots : ℕ) → List Mote
 first_motes image first others quantum slots = (booted image first others quantum slots).kernel.mote ∷ waiting_motes others quantum slots
 
-some_same : (a b : Task) → ◌≡◌ {A = Option Task} (Some a) (Some b) → a ≡ b
-some_same a b is = cc
-
 waiting_has : (task : ℕ) (scripts : List Schedule) (quantum slots k : ℕ) (its : Task) → slice_get (waiting_from task scripts quantum slots) k ≡ Some its
     → (own : Mote) × (slice_get (waiting_motes scripts quantum slots) k ≡ Some own) × (length own.sram ≡ byte_count) × (its.parked ≡ Some (parked_of own))
 waiting_has task [] quantum slots k its is = absurd (cc)
 waiting_has task (script ∷ scripts) quantum slots zero its is =
-    (mote_at_boot [] script quantum slots, refl, size_at_boot quantum, ap (λ (x : Task). x.parked) (sym (some_same _ its is)))
+    (mote_at_boot [] script quantum slots, refl, size_at_boot quantum, ap (λ (x : Task). x.parked) (sym (same_Some _ its is)))
 waiting_has task (script ∷ scripts) quantum slots (suc k) its is = waiting_has (task + 1) scripts quantum slots k its is
 
 boot_has : (image : List ℕ) (first : Schedule) (others : List Schedule) (quantum slots i : ℕ) (task : Task) → slice_get (booted image first others quantum slots).tasks i ≡ Some task
@@ -223,10 +220,6 @@ turned_play n t new play one =
       | inr other ↦ inr ((λ e. other.0 (e ∙ sym tried.running)), other.1 ∙ ap (λ k. k + 1) tried.switches)
     ]
 
-not_some : (b : Bool) → not b ≡ true → b ≡ true → ⊥
-not_some true none some = cc
-not_some false none some = cc
-
 -- where all have ended, none was given the mote
 none_given : (n : ℕ) (t : Tasks) (last : Task) (found : Option ℕ) → AreSound t → slice_get t.tasks t.running ≡ Some last → next_task t ≡ found → HaveEnded (turns_of n (changed_tasks t)) → (changed_tasks t).switches ≡ t.switches
 none_given n t last None sound runs is ended = ap (λ (u : Tasks). u.switches) (ap (given_to t) is)
@@ -239,7 +232,7 @@ none_given n t last (Some next) sound runs is ended =
     let at = sym (get_or_from_slice_get t.tasks next first first given.waits) in
     let all = subst (λ (v : Tasks). HaveEnded (turns_of n v)) changed.is ended in
     let over : is_some (flat_end_of first.end) ≡ true = all next _ (player_here n u next (record first { parked = None }) (first_of t next changed.parked given)) in
-    absurd (not_some (is_some (flat_end_of first.end)) (sym (goes_flat t.tasks next first found.below at) ∙ found.going) over)
+    absurd (both_ways (is_some (flat_end_of first.end)) (not-true (is_some (flat_end_of first.end)) (sym (goes_flat t.tasks next first found.below at) ∙ found.going)) over)
 
 ended_by : (n : ℕ) (t new : Tasks) (play : Play) (changes : Bool) → (one : IsPlay n t play new) → GoesOn changes one.mid new → HaveEnded (turns_of n new) → new.switches ≡ one.mid.switches
 ended_by n t new play false one is ended = ap (λ (u : Tasks). u.switches) is

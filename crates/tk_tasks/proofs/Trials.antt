@@ -1,6 +1,7 @@
 -- A try of the running task, as its machine makes it: an arrival and a step, or an interrupt.
 use Rattle.std.proofs.Common.{◌≡◌, ℕ, zero, suc, ◌+◌, ◌-◌, ◌≤◌, Bool, true, false, cond, List, [], ◌∷◌, ◌++◌, refl, sym, ap, ap₂, ◌∙◌, arith, subst, inl}
 use Rattle.std.specs.Prelude.{◌≢◌, ◌==◌, ◌&&◌, Option, Some, None}
+use Rattle.std.proofs.lemmas.Bool.{and_parts}
 use Rattle.mote_devices.specs.declared.line.Line.{Line}
 use Rattle.flash_words.specs.Operations.{is_listed}
 use Rattle.mem_guard.specs.declared.part.Part.{Part}
@@ -185,16 +186,11 @@ made_done a y left count line tried done within lines on over =
 
 -- ---- an interrupt
 
-and_both : (b c : Bool) → b && c ≡ true → (b ≡ true) × (c ≡ true)
-and_both true true is = (refl, refl)
-and_both true false is = absurd (cc)
-and_both false c is = absurd (cc)
-
 taken_owed : (m : Machine) (owed : Option Owed) → m.due && is_wanted_at m.kernel owed ≡ true → is_taken (flat_of m) ≡ true
-taken_owed m None is = absurd (let both = and_both m.due false is in let e : ◌≡◌ {A = Bool} false true = both.1 in cc)
+taken_owed m None is = absurd (let both = and_parts m.due false is in let e : ◌≡◌ {A = Bool} false true = both.1 in cc)
 taken_owed m (Some owed) is =
-    let both = and_both m.due (is_own m.kernel.part owed.target && (has_bit m.kernel.mote.cpu.sreg interrupts && is_enabled m.kernel.mote.devices)) is in
-    let wanted = and_both (is_own m.kernel.part owed.target) (has_bit m.kernel.mote.cpu.sreg interrupts && is_enabled m.kernel.mote.devices) both.1 in
+    let both = and_parts m.due (is_own m.kernel.part owed.target && (has_bit m.kernel.mote.cpu.sreg interrupts && is_enabled m.kernel.mote.devices)) is in
+    let wanted = and_parts (is_own m.kernel.part owed.target) (has_bit m.kernel.mote.cpu.sreg interrupts && is_enabled m.kernel.mote.devices) both.1 in
     ap₂ (λ b c. b && c) both.0 wanted.1
 
 taken_way : (x y : Machine) (tried : Tried) → is_taken (flat_of x) ≡ true → StepWay x y None → y.end ≡ None → tried.changes ≡ false → tried.end ≡ None → (left : ℕ) → IsBehind x y left tried

@@ -1,10 +1,10 @@
 //! Plays of the running task, with the mote changed from one task to the next.
 
-ghost use Rattle.std.specs.Prelude.{◌≡◌, ◌≢◌, ℕ, ◌+◌, ◌-◌, ◌<◌, ◌≤◌, ◌^◌, ◌↔◌, false, Some, None, IsTrue, length, slice_get, sum_by};
+ghost use Rattle.std.specs.Prelude.{◌≡◌, ◌+◌, ◌<◌, ◌≤◌, ◌^◌, ◌↔◌, false, Some, None, IsTrue, length, slice_get};
 ghost use Rattle.page_cursor.specs.Cursors.{IsCursor};
 ghost use Rattle.program_steps.specs.Wholes.{whole};
 ghost use Rattle.parked_tasks.specs.declared.task.Task.{Task as TaskOf};
-ghost use Rattle.tk_tasks.specs.States.{AreSound, arrivals_of, machine_of, owed_of, Tasks as TasksOf};
+ghost use Rattle.tk_tasks.specs.States.{AreSound, machine_of, owed_of, Tasks as TasksOf};
 ghost use Rattle.tk_tasks.specs.Trying.{HasPlayed, tried_told, kept_task, stub_in};
 
 use crate::tasks::Tasks;

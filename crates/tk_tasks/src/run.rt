@@ -1,6 +1,6 @@
 //! The run of the tasks: plays, one after another, until every task has ended.
 
-ghost use Rattle.std.specs.Prelude.{◌≡◌, ℕ, ◌+◌, ◌*◌, ◌<◌, ◌≤◌, ◌^◌, ◌++◌, false, Some, None, [], slice_get, sum_by};
+ghost use Rattle.std.specs.Prelude.{◌≡◌, ℕ, ◌<◌, ◌≤◌, ◌^◌, false, Some, None, [], slice_get, sum_by};
 ghost use Rattle.byte_streams.specs.Faults.{HasCause};
 ghost use Rattle.line_text.specs.Gathering.{Gathers};
 ghost use Rattle.parked_tasks.specs.declared.task.Task.{Task as TaskOf};

@@ -1,6 +1,6 @@
 //! The tasks, and their boot.
 
-ghost use Rattle.std.specs.Prelude.{◌≡◌, ◌≤◌, ◌<◌, ◌+◌, ◌∷◌, ℕ, [], List, All, IfOk, length};
+ghost use Rattle.std.specs.Prelude.{◌≡◌, ◌≤◌, ◌∷◌, ℕ, [], List, All, IfOk, length};
 ghost use Rattle.input_script.specs.Script.{Schedule};
 ghost use Rattle.task_input.specs.Images.{IsMisplaced};
 ghost use Rattle.tk_tasks.specs.States.{AreSound, turns_of};

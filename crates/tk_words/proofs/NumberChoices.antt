@@ -31,10 +31,6 @@ one_chosen rows [] words before a b first (choice ∷ choices, second) =
 one_chosen rows (choice ∷ choices) words before a b first second =
     one_chosen rows choices first.0 _ a b first.3 (goes_on rows choice words first.0 before b first.1 second).later
 
--- before the first word
-pub read_none : (rows : List Row) (words : List (List ℕ)) → HasRead rows words words nothing
-read_none rows words = record { on = λ after said. said; back = λ after said. said }
-
 -- behind one more choice
 pub read_more : (rows : List Row) (words rest behind : List (List ℕ)) (chosen : List (Option ℕ)) (choice : Choice) → HasRead rows words rest chosen → BeginsWith rows choice rest behind → slice_get chosen (place_of choice.parameter) ≡ Some None
     → HasRead rows words behind (slice_set chosen (place_of choice.parameter) (Some choice.value))

@@ -1,6 +1,5 @@
 -- What words and input ask for is what is answered.
 use Rattle.std.proofs.Common.{◌≡◌, ℕ, List, None, subst, inl, inr, ◌⊎◌}
-use Rattle.byte_streams.specs.Faults.{Rose}
 use Rattle.tk_words.specs.declared.job.Job.{Job}
 use Rattle.tk_words.specs.declared.job.Job.TheVariants as jobs
 use Rattle.tk_words.specs.declared.request.TaskRequest.{TaskRequest}
@@ -11,11 +10,9 @@ use Rattle.tk_words.specs.Stream.{Stream}
 use Rattle.tk_request.proofs.Judging.{memory_asked}
 use Rattle.tk_request.proofs.Reasons.{Wanting, Same, why}
 use Rattle.tkernel_cli.specs.declared.top.Exit.{Exit}
-use Rattle.tkernel_cli.specs.Answer.{Does, DoesWhole, IsAnswer, IsExact}
+use Rattle.tkernel_cli.specs.Answer.{Does, IsAnswer, IsExact}
 use Rattle.run_jobs.specs.Jobs.{DoesAlone}
-use Rattle.run_jobs.proofs.WholeJobs.{done_alone}
 use Rattle.tkernel_cli.specs.TasksRuns.{HasTasksRun}
-use Rattle.tkernel_cli.proofs.WholeTasks.{tasks_are_whole}
 
 -- what is done for one program or for none
 does_alone : (job : Job) (sink sink' : Stream) (exit : Exit) → exit.tasks ≡ None → DoesAlone job sink sink' exit.status exit.kept → Does job sink sink' exit
@@ -39,17 +36,9 @@ answer_tasks words source source' sink sink' job request exit asked is (inl done
 answer_tasks words source source' sink sink' job request exit asked is (inr none) =
     record { job = no_memory; asked = memory_asked words source source' (jobs.Tasks request) tt (subst (IsAsked words source source') is asked); done = none }
 
--- a job is done whole where the sink doesn't fail
-pub done_whole : (job : Job) (sink sink' : Stream) (exit : Exit) → (Rose sink.faults sink'.faults → ⊥) → Does job sink sink' exit → DoesWhole job sink sink' exit
-done_whole (jobs.Print own line) sink sink' exit well done = (done_alone (jobs.Print own line) sink sink' exit.status exit.kept well done.0, done.1)
-done_whole (jobs.Run request) sink sink' exit well done = (done_alone (jobs.Run request) sink sink' exit.status exit.kept well done.0, done.1)
-done_whole (jobs.Dump request) sink sink' exit well done = (done_alone (jobs.Dump request) sink sink' exit.status exit.kept well done.0, done.1)
-done_whole (jobs.Restart request again) sink sink' exit well done = (done_alone (jobs.Restart request again) sink sink' exit.status exit.kept well done.0, done.1)
-done_whole (jobs.Tasks request) sink sink' exit well done = (done, tasks_are_whole request sink sink' exit well done)
-done_whole (jobs.Write text) sink sink' exit well done = (done_alone (jobs.Write text) sink sink' exit.status exit.kept well done.0, done.1)
-
+-- what is asked for is what is warranted, but for want of memory
 pub answer_is_exact : (words : List (List ℕ)) (source source' sink sink' : Stream) (exit : Exit) → IsAnswer words source source' sink sink' exit → IsExact words source source' sink sink' exit
-answer_is_exact words source source' sink sink' exit answer whole warranted well = elim (why words source source' answer.job whole answer.asked warranted) [
-  | Wanting is ↦ inl (done_whole no_memory sink sink' exit well (subst (λ j. Does j sink sink' exit) is answer.done))
-  | Same is ↦ inr (done_whole whole sink sink' exit well (subst (λ j. Does j sink sink' exit) is answer.done))
+answer_is_exact words source source' sink sink' exit answer whole warranted = elim (why words source source' answer.job whole answer.asked warranted) [
+  | Wanting is ↦ inl (subst (λ j. Does j sink sink' exit) is answer.done)
+  | Same is ↦ inr (subst (λ j. Does j sink sink' exit) is answer.done)
 ]

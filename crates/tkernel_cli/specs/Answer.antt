@@ -1,13 +1,11 @@
 -- What the program answers: to which words and which input, with which status and text.
 use Rattle.std.specs.Prelude.{◌≡◌, ◌⊎◌, ℕ, List, None}
-use Rattle.byte_streams.specs.Faults.{Rose}
 use Rattle.tk_words.specs.declared.job.Job.{Job}
 use Rattle.tk_words.specs.declared.job.Job.TheVariants as jobs
-use Rattle.tk_words.specs.declared.status.Status.TheVariants as status
 use Rattle.tk_request.specs.Asking.{IsAsked, IsWarranted}
 use Rattle.tk_words.specs.Printed.{no_memory}
 use Rattle.tk_words.specs.Stream.{Stream}
-use Rattle.run_jobs.specs.Jobs.{DoesAlone, DoesAloneWhole}
+use Rattle.run_jobs.specs.Jobs.{DoesAlone}
 use Rattle.tkernel_cli.specs.declared.top.Exit.{Exit}
 use Rattle.tkernel_cli.specs.TasksRuns.{HasTasksRun}
 
@@ -23,14 +21,6 @@ pub record IsAnswer (words : List (List ℕ)) (source source' sink sink' : Strea
   pub asked : IsAsked words source source' job
   pub done : Does job sink sink' exit
 
--- A job is done whole: the tasks of just this request are run to their ends; or what one program or none asks for is done
--- whole, and no tasks are kept.
-abbrev pub DoesWhole : Job → Stream → Stream → Exit → Type 0
-DoesWhole (jobs.Tasks request) sink sink' exit = HasTasksRun request sink sink' exit × (exit.status ≡ status.WriteFault → ⊥)
-DoesWhole job sink sink' exit = DoesAloneWhole job sink sink' exit.status exit.kept × (exit.tasks ≡ None)
-
--- Where the sink doesn't fail, the job that is warranted is done whole, or the line is told that memory is wanted.
+-- The job that is warranted is done, whether or not the sink fails; or the line is told that memory is wanted.
 abbrev pub IsExact : List (List ℕ) → Stream → Stream → Stream → Stream → Exit → Type 0
-IsExact words source source' sink sink' exit =
-    (job : Job) → IsWarranted words source source' job → (Rose sink.faults sink'.faults → ⊥)
-    → DoesWhole no_memory sink sink' exit ⊎ DoesWhole job sink sink' exit
+IsExact words source source' sink sink' exit = (job : Job) → IsWarranted words source source' job → Does no_memory sink sink' exit ⊎ Does job sink sink' exit

@@ -48,8 +48,8 @@ pub fn tkernel<S: Source, K: Sink>(
         (stream S.left S.faults input.old) (stream S.left S.faults input.new)
         (stream K.taken K.faults out.old) (stream K.taken K.faults out.new)
         result }
-    // Where the sink doesn't fail, the words alone decide, and for a command that reads the text of a source that tells
-    // it and doesn't fail; or memory is wanted.
+    // The words alone decide, and for a command that reads the text of a source that tells it and doesn't fail; or memory is
+    // wanted.
     ensures exact { IsExact (map string_bytes words.now)
         (stream S.left S.faults input.old) (stream S.left S.faults input.new)
         (stream K.taken K.faults out.old) (stream K.taken K.faults out.new)

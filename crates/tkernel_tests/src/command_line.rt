@@ -1,10 +1,10 @@
-//! The words of a command line that are accepted. `.ci/shell` tries those that are refused.
+//! The words of a command line that are accepted. `.ci/shell` tries those that are refused, and `words_tests` those of `run`
+//! by another reader.
 use crate::support::words_of;
 use std::test::Fail;
 use tkernel_cli::{Command, command_of};
 
-/// Command lines, and what they ask for: the command, and its numbers. A command of the crate `clap` with the three
-/// options of `run` was seen to read each line of `run` alike.
+/// Command lines, and what they ask for: the command, and its numbers.
 const ACCEPTED: [(&[&str], &str, [u64; 4]); 28] = [
     (&["run"], "run", [1_000_000, 255, 128, 0]),
     (&["run", "--steps", "9"], "run", [9, 255, 128, 0]),

@@ -3,13 +3,13 @@ use crate::support::{Ended, ROOM, answer, answer_of};
 use kernel_entry::Stop;
 use std::alloc::Global;
 use std::test::Fail;
-use tk_io::{FlakySink, FlakySource, MemSink, MemSource, Sink, SlowSink, SlowSource};
+use tk_io::{FlakySink, FlakySource, MemSink, MemSource, Sink};
 use tk_run::End;
 use tkernel_cli::Status;
 
 const HEX: &[u8] = b":060000000FE00BBBFFCF77\n:00000001FF\n";
 
-const LINES: &[u8] =
+pub(crate) const LINES: &[u8] =
     b"PORTA 0x0F\nhalted 0x0002 steps 2 checkpoints 0\nnatural 3 entries 1 pages 1\n";
 
 const READ_FAULT: &[u8] = b"read fault\n";
@@ -63,6 +63,7 @@ fn a_failed_read_is_told(rt: HostRuntime) -> Result<(), Fail> {
     let ended = answer(rt.alloc(), &["run"], &mut input, &mut out)?;
     assert!(rt; ended.status == Status::ReadFault);
     assert!(rt; out.taken() == READ_FAULT);
+    assert!(rt; ended.kept.is_none());
     Ok(())
 }
 
@@ -74,6 +75,7 @@ fn a_failed_write_leaves_a_part_of_the_lines(rt: HostRuntime) -> Result<(), Fail
         let ended = run_to(rt.alloc(), &mut out)?;
         assert!(rt; ended.status == Status::WriteFault);
         assert!(rt; is_start(out.taken(), went_out), "call {call}");
+        assert!(rt; ended.kept.is_some(), "call {call}");
     }
     Ok(())
 }
@@ -93,36 +95,6 @@ fn a_sink_with_too_little_room_takes_what_fits(rt: HostRuntime) -> Result<(), Fa
         };
         assert!(rt; ended.status == status, "room {room}");
         assert!(rt; ended.machine()?.broken == (room < 11), "room {room}");
-    }
-    Ok(())
-}
-
-/// A source of the text that gives a few bytes at a time.
-fn slow_source(alloc: Global, most: usize) -> Result<SlowSource, Fail> {
-    if most == 0 {
-        return Err("no byte at a time".into());
-    }
-    Ok(SlowSource::new(hex(alloc)?, most))
-}
-
-/// A sink that takes a few bytes at a time.
-fn slow_sink(alloc: Global, most: usize) -> Result<SlowSink, Fail> {
-    if most == 0 {
-        return Err("no byte at a time".into());
-    }
-    Ok(SlowSink::new(alloc, ROOM, most)?)
-}
-
-/// Streams that move 1, 7 or 4,096 bytes at each call make no difference.
-#[test]
-fn slow_streams_make_no_difference(rt: HostRuntime) -> Result<(), Fail> {
-    for most in [1, 7, 4096] {
-        let mut input = slow_source(rt.alloc(), most)?;
-        let mut out = slow_sink(rt.alloc(), most)?;
-        let ended = answer(rt.alloc(), &["run"], &mut input, &mut out)?;
-        assert!(rt; is_start(out.taken(), LENGTH), "{most} bytes");
-        assert!(rt; ended.status == Status::Done, "{most} bytes");
-        assert!(rt; input.left().is_empty(), "{most} bytes");
     }
     Ok(())
 }

@@ -1,5 +1,5 @@
-//! Tests of the whole program that no shell can make: its words as data, streams that fail, and the machine that a
-//! call keeps.
+//! Tests of the whole program that no case of crate `tkernel_cases` can make: its words as data, streams that fail or are
+//! slow, and what the machine that a call keeps holds; and of the calls of crate `theorem_reader`.
 #![tactic(auto)]
 
 #[cfg(test)]
@@ -9,7 +9,13 @@ mod failing_flash;
 #[cfg(test)]
 mod first_program;
 #[cfg(test)]
+mod kept_machines;
+#[cfg(test)]
+mod reader;
+#[cfg(test)]
 mod restarts;
+#[cfg(test)]
+mod slow_streams;
 #[cfg(test)]
 mod stack_instructions;
 #[cfg(test)]

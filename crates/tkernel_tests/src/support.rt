@@ -1,5 +1,6 @@
 //! What the tests share: calls of the program, whose answers are plain values. So the contract of the top call
 //! and the laws that a machine keeps are met in this file alone, and no test's own proof carries them.
+use flash_model::Flash;
 use hex_image::{Image, write};
 use std::alloc::Global;
 use std::test::Fail;
@@ -21,12 +22,18 @@ pub(crate) struct Kept {
     pub sp: u16,
     /// The stack pointer that the program sees.
     pub program_sp: u16,
+    /// The byte of SRAM at 0x0100, the kernel's count of crossings.
+    pub count: u8,
+    /// The byte of SRAM at 0x0D00, the first of the stack window.
+    pub window_front: u8,
     /// The bytes of SRAM from 0x0E00 on.
     pub stack: [u8; 256],
     pub natural: u64,
     pub entries: u64,
     /// The page that a refused operation on flash left torn.
     pub torn: Option<u16>,
+    /// Whether page 128 of flash, the first of the code pool, is blank.
+    pub pool_front_is_blank: bool,
 }
 
 /// How a call ended.
@@ -57,6 +64,8 @@ fn looked_at(machine: &Machine) -> Kept {
         sreg: mote.cpu.sreg,
         sp: mote.cpu.sp,
         program_sp: mote.sram.vsp(),
+        count: mote.sram.byte(0x0100),
+        window_front: mote.sram.byte(0x0D00),
         stack,
         natural: machine.natural,
         entries: machine.entries,
@@ -64,7 +73,18 @@ fn looked_at(machine: &Machine) -> Kept {
             Some(torn) => Some(torn.page),
             None => None,
         },
+        pool_front_is_blank: is_blank(&mote.flash, 128),
     }
+}
+
+/// Whether each word of a page is 0xFFFF.
+fn is_blank(flash: &Flash, page: u8) -> bool {
+    for offset in 0..128u16 {
+        if flash.word(u16::from(page) * 128 + offset) != 0xFFFF {
+            return false;
+        }
+    }
+    true
 }
 
 /// Answers these words, over these streams.
@@ -107,7 +127,7 @@ pub(crate) fn answer_of(
 }
 
 /// The HEX text of an image's words, and a script behind it.
-fn input_of(alloc: Global, image: &[u16], script: &[u8]) -> Result<Vec<u8>, Fail> {
+pub(crate) fn input_of(alloc: Global, image: &[u16], script: &[u8]) -> Result<Vec<u8>, Fail> {
     if image.len() > 24_576 {
         return Err("too many words".into());
     }

@@ -18,12 +18,10 @@ use Rattle.branch_bridge.specs.Arrivals.{KeepsOtherBytes}
 use Rattle.sram_layout.proofs.RegionLaws.{outside_same}
 use Rattle.branch_bridge.proofs.RestLaws.{others_rest}
 use Rattle.branch_bridge.proofs.arrival.arrive_by.Goals as goal
+use Rattle.branch_bridge.proofs.KnownLaws.{at_most}
 
 fits : (a n : ℕ) → a ≤ n → a ≡ min a n
 fits a n below = omega arith
-
-at_most : (a n : ℕ) → a ≤ n → a ≡ min (a + 0) n
-at_most a n below = omega arith
 
 at_least : (a b n : ℕ) → a ≡ n → n ≡ min (a + b) n
 at_least a b n is = omega arith

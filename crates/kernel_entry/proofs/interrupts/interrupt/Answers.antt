@@ -25,7 +25,7 @@ pub lowest-number-requires : goal.lowest-number-requires
 lowest-number-requires c = record { some = c.if-enabled-eq0.false }
 
 pub vector-place-requires : goal.vector-place-requires
-vector-place-requires c = record { small = c.lowest-number.ensures.small; low = c.requires.low }
+vector-place-requires c = record { small = c.lowest-number.ensures.small }
 
 pub take-requires : goal.take-requires
 take-requires c = record {

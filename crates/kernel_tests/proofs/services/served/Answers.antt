@@ -1,4 +1,4 @@
-use Rattle.std.proofs.Common.{List, ℕ, arith}
+use Rattle.std.proofs.Common.{arith}
 use Rattle.sram_layout.specs.Cells.{count_cell, r24_cell, sreg_cell, vsp_cell}
 use Rattle.kernel_tests.proofs.PagedLaws.{paged_byte, paged_word}
 use Rattle.kernel_tests.proofs.services.served.Goals as goal

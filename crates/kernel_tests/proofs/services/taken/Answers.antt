@@ -1,4 +1,4 @@
-use Rattle.std.proofs.Common.{List, ℕ, arith}
+use Rattle.std.proofs.Common.{arith}
 use Rattle.sram_layout.specs.Cells.{vsp_cell}
 use Rattle.kernel_tests.proofs.PagedLaws.{paged_word}
 use Rattle.kernel_tests.proofs.services.taken.Goals as goal

@@ -19,4 +19,5 @@ returns-in-Some-clause-arrived c = λ made.
     let q : Progress = record p { owed = None } in
     let owed : Owed = record { target = c.args.target; stub = None } in
     has_arrived c.args.k.now p q owed store (went_on place) place c.requires.owed c.requires.going c.requires.untorn c.requires.untaken c.requires.admitted
+    (record { right = c.requires.right; faithful = c.requires.faithful; came = tt; ring = c.requires.ring })
     c.arrive_at.ensures.arrives c.arrive_at.ensures.kept (λ part parted own. parted) refl (ap (λ n. record p { owed = None; pages = n }) none)

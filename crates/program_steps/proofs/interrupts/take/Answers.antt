@@ -1,6 +1,5 @@
 use Rattle.std.proofs.Common.{sym, ap, ◌∙◌, refl, arith}
 use Rattle.program_steps.specs.Wholes.{whole}
-use Rattle.program_steps.proofs.Owning.{vector_room}
 use Rattle.program_steps.proofs.TakingLaws.{none_wanted, none_taken, taken_vector, taken_stopped}
 use Rattle.program_steps.proofs.interrupts.take.Goals as goal
 
@@ -14,7 +13,6 @@ interrupt-requires c =
     record {
       paged = order.paged;
       room = omega (arith, ready.polls, c.requires.steps);
-      low = vector_room c.args.k.now.part c.args.k.now.layout.image_words order.part (omega (arith, order.right.image_fits));
     }
 
 pub overflow_add-p : goal.overflow_add-p

@@ -1,0 +1,2 @@
+-- Micro-operations, and what they stand for.
+pub mod MicroOps

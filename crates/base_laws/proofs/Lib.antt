@@ -1,0 +1,5 @@
+pub mod ManyLaws
+pub mod Pieces
+pub mod Numbers
+pub mod Ranges
+pub mod Searches

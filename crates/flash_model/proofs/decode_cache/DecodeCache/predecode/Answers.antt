@@ -1,0 +1,12 @@
+use Rattle.std.proofs.Common.{arith, subst}
+use Rattle.avr_ops.specs.MicroOps.{CanStandFor}
+use Rattle.flash_model.specs.declared.decoded.Decoded.{Decoded}
+use Rattle.flash_model.proofs.Renewing.{micro_op_set}
+use Rattle.flash_model.proofs.decode_cache.DecodeCache.predecode.Goals as goal
+
+pub returns-clause-cache : goal.returns-clause-cache
+returns-clause-cache c =
+    let words = c.args.cells.now.words in
+    let op = c.of.result in
+    let stands = subst (λ (d : Decoded). CanStandFor op d.instr d.next_size) c.decoded_by-decoded.ensures.value c.of.ensures.stands in
+    record { decoded = c.requires.cache.decoded; micro_ops = micro_op_set words c.args.self.now.micro_ops.items c.args.a op (omega (arith, c.ranges.a)) stands c.requires.cache.micro_ops }

@@ -1,2 +1,0 @@
-pub mod ManyLaws
-pub mod Pieces

@@ -1,0 +1,12 @@
+-- Examples of what `tasks` and `check` are asked, beside `example` of `Runs`.
+use Rattle.std.specs.Prelude.{ℕ, List, [], ◌∷◌, replicate}
+use Rattle.theorem_reader.specs.Runs.{example}
+use Rattle.theorem_reader.specs.Tasks.{AskedTasks}
+
+-- the program of `example` alone, without a script
+abbrev pub example_of_tasks : AskedTasks
+example_of_tasks = record { image = example.image; scripts = record { events = []; failing = [] } ∷ []; count = 1; steps = 1000000; quantum = 255; slots = 32 }
+
+-- a flash whose words are all erased
+abbrev pub erased : List ℕ
+erased = replicate 65536 0xFFFF

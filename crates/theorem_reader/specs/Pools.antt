@@ -1,0 +1,56 @@
+-- Flash, and what stands in it of a program: the image's words below the pool, in the pool erased pages and rewritten code,
+-- RET in the kernel's pages. Which form a page has, and which links, the crate `pool_check` defines (`Forms` and `Links`).
+use Rattle.std.specs.Prelude.{◌≡◌, ℕ, ◌+◌, ◌*◌, ◌/◌, ◌%◌, ◌<◌, ◌≤◌, nat_le, if◌then◌else◌, List, ◌++◌, take, drop, length, slice_index}
+use Rattle.flash_words.specs.Layouts.{layout_of}
+use Rattle.pool_check.specs.Forms.{HasForm}
+use Rattle.pool_check.specs.Links.{HasLinks}
+
+-- The pool's first word: 0x4000, or 0x6000 for an image of more than 16,384 words.
+abbrev pub pool_from : List ℕ → ℕ
+pool_from image = if nat_le (length image) 16384 then 0x4000 else 0x6000
+
+-- the page's 128 words have their form
+abbrev pub is_formed : (image flash : List ℕ) → ℕ → Type 0
+is_formed image flash page = HasForm (layout_of (length image)) image page (take 128 (drop (128 * page) flash))
+
+-- what the page owes to the other pages of the pool
+abbrev pub is_linked : (image flash : List ℕ) → ℕ → Type 0
+is_linked image flash page = HasLinks (layout_of (length image)) image flash page
+
+-- the page is in the pool, which begins at page 128 or 192 and ends at page 479
+pub record IsInPool (image : List ℕ) (page : ℕ) : Type 0 where
+  pub low : pool_from image ≤ 128 * page
+  pub high : page ≤ 479
+
+-- every page has its form, and every page of the pool its links: so flash holds the image, erased words from there to the
+-- pool, and RET from 0xF000 on
+pub record AreFaithful (image flash : List ℕ) : Type 0 where
+  pub forms : (page : ℕ) → page < 512 → is_formed image flash page
+  pub links : (page : ℕ) → IsInPool image page → is_linked image flash page
+  pub held : take (length image) flash ≡ image
+  pub erased : (a : ℕ) → length image ≤ a → a < pool_from image → slice_index flash a ≡ 0xFFFF
+  pub kernel : (a : ℕ) → 0xF000 ≤ a → a ≤ 0xFFFF → slice_index flash a ≡ 0x9508
+
+-- flash with these 128 words in a page
+abbrev pub with_page : (flash : List ℕ) → (page : ℕ) → (words : List ℕ) → List ℕ
+with_page flash page words = take (128 * page) flash ++ words ++ drop (128 * page + 128) flash
+
+-- Flash is faithful; or one page of the pool, which is erased, lacks 128 words, and with them flash would be faithful.
+pub data AreFaithfulBut (image flash : List ℕ) : Type 0 where
+  Whole : AreFaithful image flash → AreFaithfulBut image flash
+  Lacking : (page : ℕ) → (words : List ℕ) → IsInPool image page → ((k : ℕ) → k < 128 → slice_index flash (128 * page + k) ≡ 0xFFFF) → length words ≡ 128
+      → AreFaithful image (with_page flash page words) → AreFaithfulBut image flash
+
+-- The code of the original address t begins at the place v. A page of the pool that isn't erased has the number of an
+-- original page in its first word, how many addresses it has in the second, and from the third on a word for each: the upper
+-- byte is the address in its original page, the lower one the place in this page.
+pub record IsPlaceOf (image flash : List ℕ) (t v : ℕ) : Type 0 where
+  pub page : ℕ
+  pub index : ℕ
+  pub pool : IsInPool image page
+  pub used : slice_index flash (128 * page) < 192
+  pub most : index < 126
+  pub inside : index < slice_index flash (128 * page + 1)
+  pub address : t ≡ 128 * slice_index flash (128 * page) + slice_index flash (128 * page + 2 + index) / 256
+  pub place : v ≡ 128 * page + slice_index flash (128 * page + 2 + index) % 256
+  pub fits : slice_index flash (128 * page + 2 + index) % 256 < 128

@@ -1,0 +1,121 @@
+-- What is told of words and texts that are refused, and what `asm` writes.
+use Rattle.std.specs.Prelude.{◌≡◌, ℕ, ◌<◌, ◌≤◌, List, ◌++◌, codes, decimal, drop, length, Option, Some, None}
+use Rattle.text_lines.specs.Lines.{lines_of}
+use Rattle.hex_image.specs.HexText.{HexText, HexBad}
+use Rattle.hex_image.specs.Written.{written}
+use Rattle.hex_image.specs.declared.fault.HexFault.{HexFault}
+use Rattle.hex_image.specs.declared.fault.HexFault.TheVariants as hex_faults
+use Rattle.input_script.specs.Script.{Schedule, IsBad}
+use Rattle.input_script.specs.declared.fault.ScriptFault.{ScriptFault}
+use Rattle.input_script.specs.declared.fault.ScriptFault.TheVariants as script_faults
+use Rattle.task_input.specs.Images.{IsFirstMisplaced}
+use Rattle.task_input.specs.Scripts.{IsFirst, Schedules}
+use Rattle.flash_dump.specs.Dumps.{IsNoDump}
+use Rattle.flash_dump.specs.declared.dump_line.DumpFault.{DumpFault}
+use Rattle.flash_dump.specs.declared.dump_line.DumpFault.TheVariants as dump_faults
+use Rattle.avr_asm.specs.AsmText.{AsmText, fault_of}
+use Rattle.avr_asm.specs.declared.fault.AsmFault.{AsmFault}
+use Rattle.avr_asm.specs.declared.fault.AsmFault.TheVariants as asm_faults
+use Rattle.program_steps.specs.Machines.{Machine}
+use Rattle.tk_words.specs.declared.command.RunOptions.{RunOptions}
+use Rattle.tk_words.specs.declared.command.TaskOptions.{TaskOptions}
+use Rattle.tk_words.specs.declared.command.Command.TheVariants.{Help, Run, Dump, Restart, Tasks, Check, Asm}
+use Rattle.tk_words.specs.Commands.{IsCommand, IsNoCommand}
+use Rattle.theorem_reader.specs.Telling.{Sink, IsTold}
+use Rattle.theorem_reader.specs.Texts.{address, no_memory}
+
+-- the words are those of a command that reads a program and a script of its own
+pub data ReadsScript (words : List (List ℕ)) : Type 0 where
+  Runs : (options : RunOptions) → IsCommand words (Run options) → ReadsScript words
+  Dumps : (options : RunOptions) → IsCommand words (Dump options) → ReadsScript words
+  Restarts : (options : RunOptions) → IsCommand words (Restart options) → ReadsScript words
+
+-- .. that reads a HEX text
+pub data ReadsHex (words : List (List ℕ)) : Type 0 where
+  Scripted : ReadsScript words → ReadsHex words
+  Several : (options : TaskOptions) → IsCommand words (Tasks options) → ReadsHex words
+  Checks : IsCommand words Check → ReadsHex words
+
+-- .. that reads any text
+pub data ReadsText (words : List (List ℕ)) : Type 0 where
+  Program : ReadsHex words → ReadsText words
+  Source : IsCommand words Asm → ReadsText words
+
+-- the word of a fault of a HEX text
+abbrev pub hex_word : HexFault → List ℕ
+hex_word hex_faults.Start = codes "start"
+hex_word hex_faults.Digit = codes "digit"
+hex_word hex_faults.Length = codes "length"
+hex_word hex_faults.Checksum = codes "checksum"
+hex_word hex_faults.Kind = codes "kind"
+hex_word hex_faults.Wrap = codes "wrap"
+hex_word hex_faults.Twice = codes "twice"
+hex_word hex_faults.TooLarge = codes "size"
+hex_word hex_faults.NoEnd = codes "end"
+
+-- the word of a fault of a script
+abbrev pub script_word : ScriptFault → List ℕ
+script_word script_faults.Form = codes "form"
+script_word script_faults.Order = codes "order"
+script_word script_faults.Range = codes "range"
+script_word script_faults.TooMany = codes "events"
+
+-- the word of a fault of a dump
+abbrev pub dump_word : DumpFault → List ℕ
+dump_word dump_faults.Form = codes "form"
+dump_word dump_faults.Order = codes "order"
+dump_word dump_faults.Range = codes "range"
+
+-- the word of a fault of a source
+abbrev pub asm_word : AsmFault → List ℕ
+asm_word asm_faults.Form = codes "form"
+asm_word asm_faults.Mnemonic = codes "mnemonic"
+asm_word asm_faults.Range = codes "range"
+asm_word asm_faults.Twice = codes "twice"
+asm_word asm_faults.TooLarge = codes "size"
+asm_word asm_faults.Label = codes "label"
+asm_word asm_faults.Reach = codes "reach"
+
+-- a line of a part of the input, with its fault, as `bad hex line 3 digit`
+abbrev pub bad_line : (part : List ℕ) (number : ℕ) (word : List ℕ) → List ℕ
+bad_line part number word = codes "bad " ++ part ++ codes " line " ++ decimal number ++ codes " " ++ word ++ codes "\n"
+
+-- the usage
+abbrev pub usage_line : List ℕ
+usage_line = codes "usage: tkernel run [--steps N] [--quantum Q] [--swap S]\n"
+
+-- Words, or words and a text, that are answered with this status and this line: `help`, and words that are no command; a text
+-- that is too long; the first faulty line of the HEX text, of the script or the dump behind it, or of a source; and the first
+-- word of the image that no program of `tasks` has.
+pub data IsRefused (words : List (List ℕ)) (text : List ℕ) (own : ℕ) (line : List ℕ) : Type 0 where
+  Helped : IsCommand words Help → own ≡ 0 → line ≡ usage_line → IsRefused words text own line
+  Unknown : IsNoCommand words → own ≡ 4 → line ≡ usage_line → IsRefused words text own line
+  TooLong : ReadsText words → 2097152 < length text → own ≡ 3 → line ≡ codes "input too long\n" → IsRefused words text own line
+  BadHex : ReadsHex words → length text ≤ 2097152 → (number : ℕ) → (fault : HexFault) → HexBad text number fault
+      → own ≡ 3 → line ≡ bad_line (codes "hex") number (hex_word fault) → IsRefused words text own line
+  BadScript : ReadsScript words → length text ≤ 2097152 → (image : List ℕ) → (position : ℕ) → HexText text image position → (number : ℕ) → (fault : ScriptFault)
+      → IsBad (drop position text) number fault → own ≡ 3 → line ≡ bad_line (codes "script") number (script_word fault) → IsRefused words text own line
+  BadScripts : (options : TaskOptions) → IsCommand words (Tasks options) → length text ≤ 2097152 → (image : List ℕ) → (position : ℕ) → HexText text image position → (number : ℕ) → (fault : ScriptFault)
+      → IsFirst options.count (lines_of (drop position text)) number fault → own ≡ 3 → line ≡ bad_line (codes "script") number (script_word fault) → IsRefused words text own line
+  BadImage : (options : TaskOptions) → IsCommand words (Tasks options) → length text ≤ 2097152 → (image : List ℕ) → (position : ℕ) → HexText text image position → (scripts : List Schedule)
+      → Schedules options.count (lines_of (drop position text)) scripts → (a : ℕ) → IsFirstMisplaced options.count image a → own ≡ 3 → line ≡ codes "bad task image " ++ address a ++ codes "\n" → IsRefused words text own line
+  BadDump : IsCommand words Check → length text ≤ 2097152 → (image : List ℕ) → (position : ℕ) → HexText text image position → (number : ℕ) → (fault : DumpFault)
+      → IsNoDump (drop position text) number fault → own ≡ 3 → line ≡ bad_line (codes "dump") number (dump_word fault) → IsRefused words text own line
+  BadSource : IsCommand words Asm → length text ≤ 2097152 → (number : ℕ) → (fault : AsmFault) → fault_of text ≡ Some (number, fault)
+      → own ≡ 3 → line ≡ bad_line (codes "asm") number (asm_word fault) → IsRefused words text own line
+
+-- memory was wanted, or this text is told with this status; no machine is kept
+pub data IsSaid (sink : Sink) (own : ℕ) (whole : List ℕ) (status : ℕ) (taken : List ℕ) (kept : Option Machine) : Type 0 where
+  NoMemory : IsTold sink 8 no_memory status taken → kept ≡ None → IsSaid sink own whole status taken kept
+  Said : IsTold sink own whole status taken → kept ≡ None → IsSaid sink own whole status taken kept
+
+-- the words are `asm`, and the text is a source without a fault, of this image
+pub record AsksAsm (words : List (List ℕ)) (text image : List ℕ) : Type 0 where
+  pub command : IsCommand words Asm
+  pub short : length text ≤ 2097152
+  pub faultless : fault_of text ≡ None
+  pub source : AsmText text image
+
+-- the HEX text of the image is told: records of 16 bytes, and the end record (`hex_image/Written`)
+abbrev pub IsAssembled : Sink → (image : List ℕ) → (status : ℕ) (taken : List ℕ) → Option Machine → Type 0
+IsAssembled sink image status taken kept = IsSaid sink 0 (written image) status taken kept
