@@ -3,7 +3,7 @@
 //! SRAM has a direct-mapped look-aside table of 32 entries and a two-way set-associative table of 64
 //! sets. An entry is an original address and its place in the code pool, and is empty where the place
 //! is 0. [`find`] looks for the place of an original address in three entries, and searches the pool
-//! only where none has it; [`find_by`] does so with hints at the pool's entries, and tells more where there is none.
+//! only where none has it; [`find_with_hints`] does so with hints at the pool's entries, and tells more where there is none.
 //! [`note`] puts a place into both tables, and [`forget_page`] takes out all places in one page of flash.
 //!
 //! ```rust
@@ -22,4 +22,4 @@
 
 mod tables;
 
-pub use tables::{find, find_by, forget_page, note};
+pub use tables::{find, find_with_hints, forget_page, note};

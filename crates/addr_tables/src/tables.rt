@@ -25,6 +25,8 @@ const SETS: u16 = 64;
 /// The place, a word address of flash, of the original address `t`: the one that the tables have, right
 /// or not, and else that of the pool's entry of `t`. It is noted in the tables. None where neither has
 /// one. Only where the tables have none is the pool searched.
+///
+/// This is the plain form: the program calls [`find_with_hints`].
 pub fn find(sram: &mut Sram, flash: &Flash, layout: &Layout, t: u16) -> Option<u16>
     requires right { IsRight layout.now }
     requires mapped { hit_of sram.old t ≡ Nothing → IsMapped layout.now flash.now.words }
@@ -52,9 +54,10 @@ fn known_place(sram: &Sram, flash: &Flash, layout: &Layout, t: u16) -> Option<u1
     }
 }
 
-/// The same with hints at the places of the pool's entries, for one who makes a page of `t` where it has none: where
-/// neither the tables nor the pool have a place, an `Err` tells what that page wants to know of the pool.
-pub fn find_by(
+/// Finds as [`find`] does, but searches the pool only where no hint has the place. It is for one who makes a page of `t`
+/// where it has none: where neither the tables nor the pool have a place, an `Err` tells what that page wants to know of the
+/// pool.
+pub fn find_with_hints(
     sram: &mut Sram,
     flash: &Flash,
     layout: &Layout,

@@ -6,7 +6,7 @@ use Rattle.std.specs.Borrow.{Bor}
 use Rattle.std.proofs.lemmas.List.{length-map, take-append-drop, drop_more, drop_all}
 use Rattle.std.proofs.lemmas.Bool.Decides.{nat_tests}
 use Rattle.std.proofs.lemmas.Bool.{ne_eqb}
-use Rattle.text_lines.specs.Cutting.{Lacks}
+use Rattle.line_reader.specs.Cutting.{Lacks}
 use Rattle.avr_asm.specs.Cuts.{is_blank, before, behind, skip_end, place_of, front_word, behind_word}
 
 like : (byte : ℕ) → eqb byte byte ≡ true

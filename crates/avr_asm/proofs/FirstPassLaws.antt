@@ -1,6 +1,6 @@
 -- The first pass: its start, and one line more.
 use Rattle.std.proofs.Common.{◌≡◌, ℕ, ◌+◌, List, [], ◌∷◌, ap, refl, sym, ◌∙◌, arith}
-use Rattle.text_lines.specs.Lines.{lines_of}
+use Rattle.line_reader.specs.Lines.{lines_of}
 use Rattle.avr_asm.specs.declared.first_pass.Pass.{Pass}
 use Rattle.avr_asm.specs.Addresses.{start, after, after_all, faults_from}
 use Rattle.avr_asm.specs.AsmText.{first_fault}

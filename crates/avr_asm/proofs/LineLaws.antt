@@ -5,7 +5,7 @@ use Rattle.arrayvec.specs.ArrayVec.{ArrayVec}
 use Rattle.std.specs.List.{list_any}
 use Rattle.avr_asm.specs.declared.fault.AsmFault.{AsmFault}
 use Rattle.avr_asm.specs.declared.line.Line.{Line}
-use Rattle.text_lines.specs.Cutting.{Lacks}
+use Rattle.line_reader.specs.Cutting.{Lacks}
 use Rattle.avr_asm.specs.Cuts.{before, behind, trimmed}
 use Rattle.avr_asm.specs.SourceLines.{behind_label, code_of, label_text, line_of, with_label, IsNamed}
 use Rattle.avr_asm.proofs.CutLaws.{before_cut, behind_cut, some_cut, none_lacking}

@@ -4,7 +4,7 @@ use Rattle.std.specs.Prelude.{None, Some, Option, Result, Ok, Err, MatchOption}
 use Rattle.std.specs.Bool.{⊤}
 use Rattle.std.proofs.lemmas.List.{drop_more, drop_all}
 use Rattle.std.proofs.lemmas.Option.{get_or_from_slice_get, slice_get_within}
-use Rattle.text_lines.specs.Lines.{lines_of}
+use Rattle.line_reader.specs.Lines.{lines_of}
 use Rattle.avr_isa.specs.declared.form.Form.{Form}
 use Rattle.avr_isa.specs.Encoding.{second_word}
 use Rattle.avr_isa.specs.Image.{word}

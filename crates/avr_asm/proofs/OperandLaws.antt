@@ -4,7 +4,7 @@ use Rattle.std.specs.Prelude.{Option, Some, None, MatchOption}
 use Rattle.std.specs.List.{onto_first}
 use Rattle.std.proofs.lemmas.Bool.Decides.{nat_tests}
 use Rattle.std.proofs.lemmas.Bool.{ne_eqb}
-use Rattle.text_lines.specs.Cutting.{Lacks}
+use Rattle.line_reader.specs.Cutting.{Lacks}
 use Rattle.avr_asm.specs.declared.operand.Operand.{Operand}
 use Rattle.avr_asm.specs.declared.operand.Operands.{Operands}
 use Rattle.avr_asm.specs.Cuts.{trimmed}

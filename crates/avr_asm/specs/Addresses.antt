@@ -10,6 +10,7 @@ use Rattle.avr_asm.specs.declared.mnemonic.Jump.TheVariants.{Jmp, Call}
 use Rattle.avr_asm.specs.declared.statement.Statement.{Statement}
 use Rattle.avr_asm.specs.declared.statement.Statement.TheVariants.{Ready, To, Word}
 use Rattle.avr_asm.specs.SourceLines.{line_of}
+use Rattle.hex_image.specs.Image.{most_words}
 
 -- how many words a statement has
 abbrev pub words_of_statement : Option Statement → ℕ
@@ -64,7 +65,7 @@ abbrev pub fault_behind : Place → Result Line AsmFault → Option AsmFault
 fault_behind place (Err fault) = Some fault
 fault_behind place (Ok line) =
     if is_twice line.label place.labels then Some Twice
-    else if nat_lt 24576 (place.at + words_of_statement line.statement) then Some TooLarge
+    else if nat_lt most_words (place.at + words_of_statement line.statement) then Some TooLarge
     else None
 
 abbrev pub fault_at : Place → List ℕ → Option AsmFault

@@ -1,4 +1,4 @@
--- Laws of texts.
+-- Serves the contract of `one_image`: laws of texts.
 use Rattle.std.specs.Prelude.{◌≡◌, ℕ, List}
 use Rattle.avr_asm.specs.AsmText.{AsmText}
 

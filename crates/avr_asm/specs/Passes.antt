@@ -1,6 +1,6 @@
 -- Serves private functions: what the two passes leave, line by line.
 use Rattle.std.specs.Prelude.{◌≡◌, ℕ, ◌+◌, ◌≤◌, List, ◌++◌, length, Option, Some, None, Ok}
-use Rattle.text_lines.specs.Lines.{lines_of}
+use Rattle.line_reader.specs.Lines.{lines_of}
 use Rattle.avr_isa.specs.declared.form.Form.{Form}
 use Rattle.avr_isa.specs.Instruction.{size_of}
 use Rattle.avr_asm.specs.declared.fault.AsmError.{AsmError}
@@ -16,6 +16,7 @@ use Rattle.avr_asm.specs.Addresses.{Label, Place, start, after, after_all, fault
 use Rattle.avr_asm.specs.Targets.{fault_of_line, fault_of_statement, target_faults}
 use Rattle.avr_asm.specs.AsmText.{AreLines, AsmText, IsInstruction, IsStatement, first_fault, labels_of}
 use Rattle.avr_asm.specs.Labels.{HasLabels}
+use Rattle.hex_image.specs.Image.{most_words}
 
 -- The first pass. ----------------------------------------------------------------------------------
 
@@ -26,7 +27,7 @@ pub record IsAt (place : Place) (pass : Pass) : Type 0 where
 
 -- a line was taken, wherever the pass was
 abbrev pub IsTaken : List ℕ → Pass → Pass → Type 0
-IsTaken line old new = (place : Place) → IsAt place old → (fault_at place line ≡ None) × IsAt (after place line) new × (new.at ≤ 24576)
+IsTaken line old new = (place : Place) → IsAt place old → (fault_at place line ≡ None) × IsAt (after place line) new × (new.at ≤ most_words)
 
 abbrev pub IsRefused : List ℕ → Pass → Refusal → Type 0
 IsRefused line old refusals.NoMemory = Unit {0}
@@ -36,7 +37,7 @@ IsRefused line old (refusals.Fault fault) = (place : Place) → IsAt place old �
 pub record IsFirstPart (text rest : List ℕ) (number : ℕ) (pass : Pass) : Type 0 where
   pub place : Place
   pub is : IsAt place pass
-  pub few : pass.at ≤ 24576
+  pub few : pass.at ≤ most_words
   pub faults : first_fault (number + 1) (faults_from place (lines_of rest)) ≡ first_fault 1 (faults_from start (lines_of text))
   pub ends : after_all place (lines_of rest) ≡ after_all start (lines_of text)
 
@@ -44,7 +45,7 @@ pub record IsFirstPart (text rest : List ℕ) (number : ℕ) (pass : Pass) : Typ
 pub record IsPassed (text : List ℕ) (pass : Pass) : Type 0 where
   pub sound : first_fault 1 (faults_from start (lines_of text)) ≡ None
   pub is : IsAt (after_all start (lines_of text)) pass
-  pub few : pass.at ≤ 24576
+  pub few : pass.at ≤ most_words
 
 abbrev pub IsFirstRefusal : List ℕ → AsmError → Type 0
 IsFirstRefusal text (Bad line fault) = first_fault 1 (faults_from start (lines_of text)) ≡ Some (line, fault)

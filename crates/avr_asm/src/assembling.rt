@@ -1,6 +1,7 @@
 //! Both passes.
 
 ghost use Rattle.std.specs.Prelude.{◌≡◌, ◌≤◌, length, None, IfOk, IfErr};
+ghost use Rattle.hex_image.specs.Image.{most_words};
 ghost use Rattle.avr_asm.specs.AsmText.{AsmText, fault_of, IsRefusal};
 
 use crate::fault::AsmError;
@@ -40,7 +41,7 @@ fn words_of(alloc: Global, text: &[u8]) -> Result<Vec<u16>, AsmError>
     requires short { length text.now ≤ 2097152 }
     ensures sound { IfOk result (λ words. fault_of text.now ≡ None) }
     ensures words { IfOk result (λ words. AsmText text.now words.items) }
-    ensures few { IfOk result (λ words. length words.items ≤ 24576) }
+    ensures few { IfOk result (λ words. length words.items ≤ most_words) }
     ensures bad { IfErr result (IsRefusal text.now) }
 {
     match first_pass(alloc, text) {

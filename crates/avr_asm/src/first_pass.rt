@@ -1,6 +1,7 @@
 //! The first pass over the lines: labels and addresses, and the faults that a line has by itself or behind others.
 
 ghost use Rattle.std.specs.Prelude.{◌≡◌, ◌≤◌, List, length, OnOk, IfOk, IfErr};
+ghost use Rattle.hex_image.specs.Image.{most_words};
 ghost use Rattle.avr_asm.specs.Addresses.{Label, Place, is_twice as is_twice_test, with_label, words_of_statement};
 ghost use Rattle.avr_asm.specs.Labels.{HasLabels};
 ghost use Rattle.avr_asm.specs.SourceLines.{label_text, IsNamed};
@@ -14,12 +15,10 @@ use crate::name::Name;
 use crate::statement::Statement;
 use crate::text::{trimmed, up_to};
 use avr_isa::size;
+use hex_image::MOST_WORDS;
+use line_reader::first_line;
 use no_memory::NoMemory;
 use std::alloc::Global;
-use text_lines::first_line;
-
-/// The most words of an image.
-const MOST_WORDS: u32 = 24_576;
 
 /// Why a line isn't taken.
 #[derive(Clone, Copy)]
@@ -38,7 +37,7 @@ pub(crate) struct Pass<'a> {
 impl<'a> Pass<'a> {
     /// Takes one line.
     fn take(&mut self, text: &'a [u8]) -> Result<(), Refusal>
-        requires few { self.old.at ≤ 24576 }
+        requires few { self.old.at ≤ most_words }
         ensures taken { OnOk result (IsTaken text.now self.old self.new) }
         ensures refused { IfErr result (IsRefused text.now self.old) }
     {

@@ -10,7 +10,7 @@ use crate::operand::operands_in;
 use crate::statement::{Statement, meaning_in};
 use crate::table::operation_in;
 use crate::text::{front_word, trimmed, up_to};
-use text_lines::split_once;
+use line_reader::split_once;
 
 /// What a line says.
 #[derive(Drop)]

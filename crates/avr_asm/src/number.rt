@@ -3,7 +3,7 @@
 ghost use Rattle.std.specs.Prelude.{◌≡◌, ◌≤◌};
 ghost use Rattle.avr_asm.specs.Numbers.{number_of, digits_of};
 
-use text_lines::value_of;
+use line_reader::value_of;
 
 /// The number that a text writes: 1 to 10 decimal digits, or `0x` and 1 to 8 hexadecimal digits.
 #[tactic(auto, unfolding(crate::specs::Numbers::number_of))]

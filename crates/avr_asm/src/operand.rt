@@ -7,7 +7,7 @@ use crate::name::{Name, name_in};
 use crate::number::number_in;
 use crate::text::{place_in, trimmed};
 use avr_isa::{Base, Ptr};
-use text_lines::split_once;
+use line_reader::split_once;
 
 /// A pointer as LD, ST, LPM and ELPM name it.
 #[derive(Clone, Copy)]

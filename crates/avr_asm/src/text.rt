@@ -3,7 +3,7 @@
 ghost use Rattle.std.specs.Prelude.{◌≡◌, ◌<◌, ◌≤◌, length, map, IfSome};
 ghost use Rattle.avr_asm.specs.Cuts.{is_blank as is_blank_test, before, skip_front, skip_end, trimmed as trimmed_of, place_of, front_word as front_word_of, behind_word};
 
-use text_lines::split_once;
+use line_reader::split_once;
 
 /// Whether the byte is a space or a tab.
 fn is_blank(byte: u8) -> bool

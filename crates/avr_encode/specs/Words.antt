@@ -1,4 +1,4 @@
--- The words of an instruction among the words of a program.
+-- Serves the contract of `encode`: the words of an instruction among the words of a program.
 use Rattle.std.specs.Prelude.{◌≡◌, ℕ, MatchOption, ⊤}
 use Rattle.avr_encode.specs.declared.Words.{Words}
 

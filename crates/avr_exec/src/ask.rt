@@ -31,7 +31,7 @@ pub enum Ask {
     Program(u16),
     /// The byte of the program at RAMPZ:Z.
     ExtendedProgram(u16),
-    /// The same, and RAMPZ as it is when RAMPZ:Z is raised by one.
+    /// The byte of the program at RAMPZ:Z, and RAMPZ as it is when RAMPZ:Z is raised by one.
     ExtendedProgramRaising(u16),
 }
 

@@ -17,6 +17,8 @@ use avr_isa::{Form, Instr};
 ///
 /// The registers, SPL, SPH and SREG are answered from `cpu`, also at their data addresses. The bus is
 /// asked for one thing at most, before anything is changed; a stop is the one that this call gave.
+///
+/// This is the plain form: the program calls [`exec_at`].
 #[inline(always)]
 pub fn exec<B: Bus>(i: &Instr, cpu: &mut Cpu, bus: &mut B, next_size: u16) -> Result<(), BusStop>
     requires executed { is_executed i.now ≡ true }
@@ -32,8 +34,8 @@ pub fn exec<B: Bus>(i: &Instr, cpu: &mut Cpu, bus: &mut B, next_size: u16) -> Re
     Ok(())
 }
 
-/// The same, where the pc is `pc`. Tells the new pc: who executes one instruction behind the other has it at hand, and waits
-/// for no memory to know it.
+/// Executes as [`exec`] does, from a pc that the caller has at hand, and tells the new one: who executes one instruction behind
+/// the other waits for no memory to know it.
 #[tactic(auto, unfolding(crate::specs::Kinds::kind_of, crate::specs::Kinds::is_seldom, crate::specs::Execution::exec_of, crate::specs::Execution::answer_of, crate::specs::Execution::is_executed, crate::specs::Asks::ask_of, crate::specs::Effects::finish_of))]
 #[inline(always)]
 pub fn exec_at<B: Bus>(

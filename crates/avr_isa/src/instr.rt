@@ -37,7 +37,7 @@ impl Instr {
     pub fn new(form: Form) -> Option<Instr>
         ensures value { SomeIff result (is_undefined form ≡ false) form }
     {
-        read_fields(&form);
+        keeps_ranges(&form);
         if is_undefined_pair(&form) {
             None
         } else {
@@ -91,17 +91,17 @@ fn is_own_pair(register: u8, pointer: &Ptr) -> bool
 }
 
 /// Reads each operand once, which tells the proof the ranges that the operands keep.
-fn read_fields(form: &Form)
+fn keeps_ranges(form: &Form)
     ensures ranges { IsTrue (fields_in_range form.now) }
 {
-    read_result_operands(form);
-    read_access_operands(form);
-    read_other_operands(form);
+    keeps_result_ranges(form);
+    keeps_access_ranges(form);
+    keeps_other_ranges(form);
 }
 
-/// The operands of an instruction that makes a result of registers and a constant.
+/// The ranges of the operands where the instruction makes a result of registers and a constant.
 #[tactic(auto, unfolding(crate::specs::Instruction::fields_in_range))]
-fn read_result_operands(form: &Form)
+fn keeps_result_ranges(form: &Form)
     ensures ranges { makes_result form.now ≡ true → IsTrue (fields_in_range form.now) }
 {
     match form {
@@ -136,9 +136,9 @@ fn read_result_operands(form: &Form)
     }
 }
 
-/// The operands of an instruction that moves a register to or from an address.
+/// The ranges of the operands where the instruction moves a register to or from an address.
 #[tactic(auto, unfolding(crate::specs::Instruction::fields_in_range))]
-fn read_access_operands(form: &Form)
+fn keeps_access_ranges(form: &Form)
     ensures ranges { makes_access form.now ≡ true → IsTrue (fields_in_range form.now) }
 {
     match form {
@@ -166,9 +166,9 @@ fn read_access_operands(form: &Form)
     }
 }
 
-/// The operands of every other instruction: bits and targets.
+/// The ranges of the operands of every other instruction: bits and targets.
 #[tactic(auto, unfolding(crate::specs::Instruction::fields_in_range))]
-fn read_other_operands(form: &Form)
+fn keeps_other_ranges(form: &Form)
     ensures ranges { makes_result form.now ≡ false → makes_access form.now ≡ false → IsTrue (fields_in_range form.now) }
 {
     match form {

@@ -1,9 +1,9 @@
 //! The instructions of the ATmega128, as types that only hold what an opcode can hold.
 //!
 //! A [`Form`] is an operation with its operands; each operand has a type of its own, which keeps its
-//! range. An [`Instr`] is a form whose effect the manual defines. [`io_access`] says which I/O
-//! registers a program may read and write, [`relative`] where a relative jump leads, and [`is_crossing`] which
-//! steps are counted.
+//! range. An [`Instr`] is a form whose effect the manual defines. [`io_row`] says which I/O registers
+//! a program may read and write and what each does, [`io_access`] the former alone, [`relative`] where
+//! a relative jump leads, and [`is_crossing`] which steps are counted.
 //!
 //! ```rust
 //! use avr_isa::{Form, HighReg, ImmOp, Instr, size};
@@ -32,7 +32,7 @@ pub use address::relative;
 pub use crossing::is_crossing;
 pub use form::Form;
 pub use instr::{Instr, size};
-pub use io::{IoAccess, io_access};
+pub use io::{EIMSK, IoAccess, IoRegister, RAMPZ, io_access, io_row};
 pub use operand::{Bit, IoAddr, LowIo, Rel7, Rel12, Six};
 pub use operation::{Base, ImmOp, OneOp, ProductOp, Ptr, TwoOp, WordOp};
 pub use register::{EvenReg, HighReg, MidReg, PairReg, Reg};

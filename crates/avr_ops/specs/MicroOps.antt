@@ -1,4 +1,5 @@
--- Which instruction each micro-operation stands for (AVR Instruction Set Manual), and which may be kept for an instruction.
+-- Serves private functions and the contract of `MicroOp::of`: which instruction each micro-operation stands for (AVR Instruction
+-- Set Manual), and which may be kept for an instruction.
 use Rattle.std.specs.Prelude.{ℕ, ◌≡◌, Bool, true, false}
 use Rattle.avr_isa.specs.declared.form.Form.{Form}
 use Rattle.avr_isa.specs.declared.form.Form.TheVariants as forms

@@ -39,10 +39,9 @@ unlinking_on_pool : (layout : Layout) (image : List ℕ) (victim page : ℕ) (m 
 unlinking_on_pool layout image victim page m right whole pool =
     let words = with_calls m.words (stubs_into image m.words victim page) in
     let long : length words ≡ word_count = length-with_calls m.words (stubs_into image m.words victim page) ∙ whole in
-    let here : length (page_of words page) ≡ page_words = length-page_of words page (omega (arith, long, pool.to, right.pool_below_kernel)) in
     let P : Bool → Type 0 = λ b. AreOnPool layout m (if b then rewriting page (page_of words page) else []) in
     elim (has_stubs_into image m.words victim page) as P [
-      | true ↦ rewriting_on_pool layout m page (page_of words page) right whole pool here
+      | true ↦ rewriting_on_pool layout m page (page_of words page) right whole pool (length-page_of words page (omega (arith, long, pool.to, right.pool_below_kernel)))
       | false ↦ tt
     ]
 
@@ -100,8 +99,7 @@ tried_recycled layout old new victim t result right whole pool (Erased unlinked 
     let there = first.size ∙ whole in
     let erased = erased_page unlinked victim in
     let second = tried_as layout unlinked erased None (Erase victim ∷ []) right there (pool, tt) (perform_done unlinked (Erase victim) [] unlisted) in
-    let free = erased_blank unlinked victim (omega (arith, there, pool.to, right.pool_below_kernel)) in
-    let third = tried_made layout _ new victim t true result right (second.size ∙ there) pool free makes in
+    let third = tried_made layout _ new victim t true result right (second.size ∙ there) pool (erased_blank unlinked victim (omega (arith, there, pool.to, right.pool_below_kernel))) makes in
     tried_on layout old.flash unlinked new.flash (stopped_by (refusal_in result)) first (tried_on layout unlinked erased new.flash (stopped_by (refusal_in result)) second third)
 
 -- an arrival
@@ -121,8 +119,7 @@ stub_in_pool : (layout : Layout) (image words : List ℕ) (s t : ℕ) → IsUnre
 stub_in_pool layout image words s t stub =
     let at = stub.link in
     let room = link_room image at.page at.first at.last s t at.holds.fits at.link in
-    let own : at.page ≡ s / page_words = omega arith in
-    subst (λ page. IsPool layout page) own at.pool
+    subst (λ page. IsPool layout page) (omega arith) at.pool
 
 stopped_is : (stop : Option ResolveStop) → stopped_by (option_map refused_by stop) ≡ stop
 stopped_is None = refl

@@ -39,8 +39,7 @@ pub emptied : (layout : Layout) (old unlinked erased : Memory) (victim t : ℕ) 
     → ((a v : ℕ) → IsEntry layout unlinked.words a v → IsEntry layout old.words a v) → HasNoEntry layout old.words t → erased ≡ erased_page unlinked victim → IsEmptied layout old unlinked erased victim t
 emptied layout old unlinked erased victim t right code same pool apart back unknown is =
     let image = image_of layout old.words in
-    let words = set_page unlinked.words victim blank in
-    let there : words ≡ erased.words = sym (ap (λ (m : Memory). m.words) is) in
+    let there : (set_page unlinked.words victim blank) ≡ erased.words = sym (ap (λ (m : Memory). m.words) is) in
     let alone : IsAlone layout image unlinked.words victim = record { pool = pool; apart = apart } in
     let image_there : image_of layout erased.words ≡ image = sym (ap (image_of layout) there) ∙ erased_image layout image unlinked.words victim right code pool ∙ same in
     let held : IsFaithful layout image erased.words = subst (IsFaithful layout image) there (erased_faithful layout image unlinked.words victim right code alone) in
@@ -69,8 +68,7 @@ ok_both P Q (Err refused) one other = tt
 turned_ring : (layout : Layout) (sram : List ℕ) → IsRight layout → length sram ≡ byte_count → ring_of (turned layout sram) < layout.pool_pages
 turned_ring layout sram right long =
     let is = word_same sram ring_cell ((ring_of sram + 1) % layout.pool_pages) (omega arith) (omega (arith, long)) in
-    let below : (ring_of sram + 1) % layout.pool_pages < layout.pool_pages = mod_below (ring_of sram + 1) layout.pool_pages right.pool_pages in
-    omega (arith, is, below)
+    omega (arith, is, mod_below (ring_of sram + 1) layout.pool_pages right.pool_pages)
 
 -- what is made in it leaves the whole as it should be
 pub emptied_kept : (layout : Layout) (old unlinked erased : Memory) (victim t : ℕ) (sram forgot turned_sram : List ℕ) (new : Store) (result : Result Moved Refused) → IsEmptied layout old unlinked erased victim t

@@ -166,11 +166,10 @@ pub makes_used : (layout : Layout) (old new : Store) (page t : ℕ) (again : Boo
     → Makes layout old new page t again result → used_pages layout (with_torn new.flash.words (torn_in result)) ≡ used_pages layout old.flash.words + one_if (again || made_in result)
 makes_used layout old new page t again result right code pool free (Made words place prepared performed noted_there answer) =
     let image = image_of layout old.flash.words in
-    let after = done_words old.flash new.flash page again words performed in
     let made = prepared_makes layout image old.flash.words page t place words prepared in
     let more = used_made layout image old.flash.words (set_page old.flash.words page words) page t place right code pool free made in
     let P : Result Moved Refused → Type 0 = λ r. used_pages layout (with_torn new.flash.words (torn_in r)) ≡ used_pages layout old.flash.words + one_if (again || made_in r) in
-    subst P (sym answer) (ap (used_pages layout) after ∙ more ∙ ap (λ n. used_pages layout old.flash.words + n) (sym (or_true again)))
+    subst P (sym answer) (ap (used_pages layout) (done_words old.flash new.flash page again words performed) ∙ more ∙ ap (λ n. used_pages layout old.flash.words + n) (sym (or_true again)))
 makes_used layout old new page t again result right code pool free (NotMade words place prepared stop performed same answer) =
     let image = image_of layout old.flash.words in
     let made = prepared_makes layout image old.flash.words page t place words prepared in

@@ -54,11 +54,8 @@ unlinked_parted layout image before words part victim page right code pool run i
     let last = entry_count words page - 1 in
     let stubs = stubs_into image words victim page in
     let words' = with_calls words stubs in
-    let short : length image ≤ 24576 = omega (arith, code.image_length, right.image_fits) in
     let low : page < 480 = omega (arith, pool.to, right.pool_below_kernel) in
-    let whole = code.whole in
-    let fits = own.holds.fits in
-    let keeps : KeepsRun layout image words words' page first last = unlinks layout image words (leads_into victim) page first last short whole low own.holds in
+    let keeps : KeepsRun layout image words words' page first last = unlinks layout image words (leads_into victim) page first last (omega (arith, code.image_length, right.image_fits)) code.whole low own.holds in
     let among = among_inside (page_words * page) (page_words * page + size (page_pieces image first last)) (length words) stubs (omega arith) (links_among words (leads_into victim) (page_words * page) (page_pieces image first last)) in
     record {
       parted = kept_parted layout image words words' part page first last right code pool keeps (λ s t link jump. elim (cases_eq (word_at words s) jump_word) [
@@ -180,18 +177,13 @@ Arrived layout old new part result =
 recycles_arrived : (layout : Layout) (old new : Store) (part : ℕ → ℕ) (victim t : ℕ) (result : Result Moved Refused) → IsRight layout → IsFaithful layout (image_of layout old.flash.words) old.flash.words → IsPool layout victim
     → Recycles layout old new victim t result → IsParted layout (image_of layout old.flash.words) old.flash.words part → Arrived layout old new part result
 recycles_arrived layout old new part victim t result right code pool (NotUnlinked stop performed same answer) parted =
-    let image = image_of layout old.flash.words in
-    let all = told_all layout part old.flash victim layout.pool_pages right code (omega arith) parted in
-    let P : Performed → Type 0 = λ p. Parted layout image part old.flash.words (mended p.memory.words p.stop) in
-    let here = subst P performed all.1 in
-    subst (Arrived layout old new part) (sym answer) (here.parted, tt)
+    let P : Performed → Type 0 = λ p. Parted layout (image_of layout old.flash.words) part old.flash.words (mended p.memory.words p.stop) in
+    subst (Arrived layout old new part) (sym answer) ((subst P performed (told_all layout part old.flash victim layout.pool_pages right code (omega arith) parted).1).parted, tt)
 recycles_arrived layout old new part victim t result right code pool (NotErased unlinked performed listed left same answer) parted =
     let image = image_of layout old.flash.words in
     let all = told_all layout part old.flash victim layout.pool_pages right code (omega arith) parted in
     let P : Performed → Type 0 = λ p. Parted layout image part old.flash.words (mended p.memory.words p.stop) in
-    let here = subst P performed all.1 in
-    let words : unlinked.words ≡ new.flash.words = sym (ap (λ (m : Memory). m.words) left) in
-    subst (Arrived layout old new part) (sym answer) (subst (λ w. IsParted layout image w part) words here.parted, tt)
+    subst (Arrived layout old new part) (sym answer) (subst (λ w. IsParted layout image w part) (sym (ap (λ (m : Memory). m.words) left)) (subst P performed all.1).parted, tt)
 recycles_arrived layout old new part victim t result right code pool (Erased unlinked performed free makes) parted =
     let image = image_of layout old.flash.words in
     let all = told_all layout part old.flash victim layout.pool_pages right code (omega arith) parted in
@@ -220,8 +212,7 @@ recycles_arrived layout old new part victim t result right code pool (Erased unl
 pub arrives_parted : (layout : Layout) (old new : Store) (part : ℕ → ℕ) (t : ℕ) (result : Result Moved Refused) → IsRight layout → IsFaithful layout (image_of layout old.flash.words) old.flash.words → ring_of old.sram < layout.pool_pages
     → Arrives layout old new t result → IsParted layout (image_of layout old.flash.words) old.flash.words part → Arrived layout old new part result
 arrives_parted layout old new part t result right code ring (Beyond out same answer) parted =
-    let words : old.flash.words ≡ new.flash.words = sym (ap (λ (s : Store). s.flash.words) same) in
-    subst (Arrived layout old new part) (sym answer) (subst (λ w. IsParted layout (image_of layout old.flash.words) w part) words parted, tt)
+    subst (Arrived layout old new part) (sym answer) (subst (λ w. IsParted layout (image_of layout old.flash.words) w part) (sym (ap (λ (s : Store). s.flash.words) same)) parted, tt)
 arrives_parted layout old new part t result right code ring (Found place inside finds same answer) parted =
     let image = image_of layout old.flash.words in
     let words : old.flash.words ≡ new.flash.words = sym (ap (λ (m : Memory). m.words) same) in
@@ -238,10 +229,8 @@ pub resolved_parted : (layout : Layout) (image : List ℕ) (old : Memory) (part 
 resolved_parted layout image old part s t place right code stub entry from parted =
     let words = old.words in
     let page = s / page_words in
-    let new = page_of (with_two_words words s jump_word place) page in
     let placed = link_placed layout image words s t jump_word place right code.whole stub.link in
-    let inside : page_words * page + page_words ≤ length words = omega (arith, code.whole, placed.low) in
     let is = is_resolved layout image words s t place right code stub in
     let own : part stub.link.first ≡ part t = ap part (same_origin layout image words s t t stub.link from.link) ∙ from.own in
-    mended_by (λ w. IsParted layout image w part) old page new inside parted
+    mended_by (λ w. IsParted layout image w part) old page (page_of (with_two_words words s jump_word place) page) (omega (arith, code.whole, placed.low)) parted
     (subst (λ w. IsParted layout image w part) (sym is) (relinked_parted layout image words part s t place right code stub (jump_links layout words t place entry) own parted))

@@ -30,8 +30,7 @@ pub mended_by : (P : List ℕ → Type 0) (m : Memory) (page : ℕ) (words : Lis
 unfolding blank
 mended_by P m page words inside before after =
     let m' = erased_page m page in
-    let twice : set_page (set_page m.words page blank) page words ≡ set_page m.words page words = set_page_twice m.words blank words page (length-many page_words 0xFFFF) inside in
-    let here : P (set_page (set_page m.words page blank) page words) = subst P (sym twice) after in
+    let here : P (set_page (set_page m.words page blank) page words) = subst P (sym (set_page_twice m.words blank words page (length-many page_words 0xFFFF) inside)) after in
     let refused : Performed = record { memory = left_by_refusal m page; stop = Some (stop_at m (Erase page)) } in
     let torn : Performed = record { memory = left_by_refusal m' page; stop = Some (stop_at m' (Program true page words)) } in
     let done : Performed = record { memory = programmed_page m' page words; stop = None } in
@@ -51,7 +50,6 @@ pub rewriting_done : (m m' : Memory) (page : ℕ) (words : List ℕ) → page_wo
 unfolding blank
 rewriting_done m m' page words inside performed =
     let e = erased_page m page in
-    let twice : set_page (set_page m.words page blank) page words ≡ set_page m.words page words = set_page_twice m.words blank words page (length-many page_words 0xFFFF) inside in
     let refused : Performed = record { memory = left_by_refusal m page; stop = Some (stop_at m (Erase page)) } in
     let torn : Performed = record { memory = left_by_refusal e page; stop = Some (stop_at e (Program true page words)) } in
     let done : Performed = record { memory = programmed_page e page words; stop = None } in
@@ -62,7 +60,7 @@ rewriting_done m m' page words inside performed =
       | true ↦ λ is. absurd (let told : Some (stop_at m (Erase page)) ≡ None = ap (λ (r : Performed). r.stop) is in cc)
       | false ↦ elim (fails e) as Inner [
         | true ↦ λ is. absurd (let told : Some (stop_at e (Program true page words)) ≡ None = ap (λ (r : Performed). r.stop) is in cc)
-        | false ↦ λ is. sym (ap (λ (r : Performed). r.memory.words) is) ∙ twice
+        | false ↦ λ is. sym (ap (λ (r : Performed). r.memory.words) is) ∙ set_page_twice m.words blank words page (length-many page_words 0xFFFF) inside
       ]
     ]) performed
 

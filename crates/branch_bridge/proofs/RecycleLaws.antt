@@ -107,16 +107,14 @@ erased_unresolved layout image words victim s t right code alone away stub =
     let link = stub.link in
     let page = link.page in
     let words' = set_page words victim blank in
-    let short : length image ≤ 24576 = omega (arith, code.image_length, right.image_fits) in
     let room = link_room image page link.first link.last s t link.holds.fits link.link in
-    let own : s / page_words ≡ page = omega arith in
-    let other : page ≢ victim = λ is. away (own ∙ is) in
+    let other : page ≢ victim = λ is. away ((omega arith) ∙ is) in
     let same = other_left layout image words victim page right code alone.pool other in
     let leads : ℕ → ℕ → Type 0 = λ a v. IsEntry layout words a v in
     let leads' : ℕ → ℕ → Type 0 = λ a v. IsEntry layout words' a v in
     let Run : ℕ → ℕ → Type 0 = λ first last. HoldsRun leads' image words' page first last in
     let holds : Run link.first link.last = elim (alone.apart page link.pool other) [
-      | inl free ↦ absurd (held_used leads image words page link.first link.last short link.holds free)
+      | inl free ↦ absurd (held_used leads image words page link.first link.last (omega (arith, code.image_length, right.image_fits)) link.holds free)
       | inr apart ↦ (
           let there : Run apart.first apart.last = holds_alike (Outside (IsEntry layout words) victim) leads' image words words' page apart.first apart.last (λ a v to. entry_left layout image words victim a v right code alone.pool to.0 to.1) same apart.holds in
           let run = same_run (Outside (IsEntry layout words) victim) leads image words page apart.first apart.last link.first link.last apart.holds link.holds in

@@ -26,20 +26,17 @@ jump_links layout words t place entry = inr (refl, entry)
 -- two stubs that aren't resolved don't overlap: neither begins at the other's second word
 pub stubs_apart : (words : List ℕ) (s b : ℕ) → word_at words (s + 1) ≡ bridge_entry → word_at words b ≡ call_word → b ≢ s + 1
 stubs_apart words s b bridge call is =
-    let same : call_word ≡ bridge_entry = sym call ∙ ap (word_at words) is ∙ bridge in
-    omega (arith, same)
+    omega (arith, sym call ∙ ap (word_at words) is ∙ bridge)
 
 -- each other stub stays as it is
 pub unresolved_beside : (layout : Layout) (image words : List ℕ) (s t place b to : ℕ) → IsRight layout → IsFaithful layout image words
     → IsUnresolved layout image words s t → IsEntry layout words t place → b ≢ s → IsUnresolved layout image words b to
     → IsUnresolved layout image (with_two_words words s jump_word place) b to
 unresolved_beside layout image words s t place b to right code stub entry apart other =
-    let behind = stubs_apart words s b stub.bridge other.call in
-    let before = stubs_apart words b s other.bridge stub.call in
     record {
       link = relinked_links layout image words s t jump_word place b to right code stub.link (jump_links layout words t place entry) other.link;
-      call = word_beside_two words s b jump_word place apart behind ∙ other.call;
-      bridge = word_beside_two words s (b + 1) jump_word place (λ is. before (sym is)) (λ is. apart (omega arith)) ∙ other.bridge;
+      call = word_beside_two words s b jump_word place apart (stubs_apart words s b stub.bridge other.call) ∙ other.call;
+      bridge = word_beside_two words s (b + 1) jump_word place (λ is. (stubs_apart words b s other.bridge stub.call) (sym is)) (λ is. apart (omega arith)) ∙ other.bridge;
     }
 
 -- what stays where the stub at s is resolved
@@ -76,18 +73,15 @@ pub record ResolveTold (layout : Layout) (image : List ℕ) (old : Memory) (told
 pub is_resolved : (layout : Layout) (image words : List ℕ) (s t place : ℕ) → IsRight layout → IsFaithful layout image words → IsUnresolved layout image words s t → set_page words (s / page_words) (page_of (with_two_words words s jump_word place) (s / page_words)) ≡ with_two_words words s jump_word place
 is_resolved layout image words s t place right code stub =
     let placed = link_placed layout image words s t jump_word place right code.whole stub.link in
-    let inside : page_words * (s / page_words) + page_words ≤ length words = omega (arith, code.whole, placed.low) in
-    ap (set_page words (s / page_words)) (page_of_two words (s / page_words) s jump_word place inside refl placed.room) ∙ placed.is
+    ap (set_page words (s / page_words)) (page_of_two words (s / page_words) s jump_word place (omega (arith, code.whole, placed.low)) refl placed.room) ∙ placed.is
 
 pub told_resolving : (layout : Layout) (image : List ℕ) (old : Memory) (s t place : ℕ) → IsRight layout → IsFaithful layout image old.words → IsUnresolved layout image old.words s t → IsEntry layout old.words t place
     → ResolveTold layout image old (perform old (resolving old.words s place))
 told_resolving layout image old s t place right code stub entry =
     let words = old.words in
     let page = s / page_words in
-    let words' = with_two_words words s jump_word place in
-    let new = page_of words' page in
-    let placed = link_placed layout image words s t jump_word place right code.whole stub.link in
-    let inside : page_words * page + page_words ≤ length words = omega (arith, code.whole, placed.low) in
+    let new = page_of (with_two_words words s jump_word place) page in
+    let inside : page_words * page + page_words ≤ length words = omega (arith, code.whole, (link_placed layout image words s t jump_word place right code.whole stub.link).low) in
     let is = is_resolved layout image words s t place right code stub in
     let stays = relinked layout image words s t place right code stub entry in
     record {

@@ -19,7 +19,6 @@ unequal a b test same = grind (arith, nat_tests)
 by_page : (page b s : ℕ) (test : Bool) → (page == b / page_words) ≡ test → (if test then None else Some b) ≡ Some s → IsToResolve (Some page) (Some b) s
 by_page page b s true test is = absurd (let never : None ≡ Some s = is in cc)
 by_page page b s false test is =
-    let there : Some b ≡ Some s = is in
     let same : b ≡ s = cc in
     record {
       same = is;

@@ -4,7 +4,7 @@ use Rattle.std.specs.Prelude.{◌≢◌, ◌==◌, ◌||◌, not, if◌then◌el
 use Rattle.std.proofs.lemmas.Bool.{cases_eq}
 use Rattle.std.proofs.lemmas.Bool.Decides.{nat_tests}
 use Rattle.flash_words.specs.Pages.{page_words, word_at, page_of, set_page}
-use Rattle.flash_words.specs.Layouts.{IsRight, image_of}
+use Rattle.flash_words.specs.Layouts.{IsRight, image_of, most_image_words}
 use Rattle.flash_words.specs.declared.layout.Layout.{Layout}
 use Rattle.flash_words.specs.Memory.{Memory}
 use Rattle.nat_template.specs.declared.piece.Piece.{Piece}
@@ -80,9 +80,8 @@ no_jump words (s ∷ stubs) x inside none =
 link_words : (leads : ℕ → ℕ → Type 0) (words : List ℕ) (pieces before behind : List Piece) (base s t : ℕ) → pieces ≡ before ++ Link t ∷ behind → s ≡ base + size before → Stands leads words base pieces → IsLink leads (word_at words s) (word_at words (s + 1)) t
 link_words leads words pieces before behind base s t split at stands =
     let P : List Piece → Type 0 = λ ps. Stands leads words base ps in
-    let two = stands_split leads words base before (Link t ∷ behind) (subst P split stands) in
     let Q : ℕ → Type 0 = λ b. IsLink leads (word_at words b) (word_at words (b + 1)) t in
-    subst Q (sym at) two.1.0.0
+    subst Q (sym at) (stands_split leads words base before (Link t ∷ behind) (subst P split stands)).1.0.0
 
 -- the page loses them
 pub page_unlinked : (layout : Layout) (image words : List ℕ) (victim page : ℕ) → IsRight layout → IsFaithful layout image words → IsPool layout page → IsRewritten layout image words page
@@ -95,13 +94,9 @@ page_unlinked layout image words victim page right code pool run =
     let stubs = stubs_into image words victim page in
     let words' = with_calls words stubs in
     let leads' : ℕ → ℕ → Type 0 = λ a v. IsEntry layout words' a v in
-    let short : length image ≤ 24576 = omega (arith, code.image_length, right.image_fits) in
-    let low : page < 480 = omega (arith, pool.to, right.pool_below_kernel) in
-    let whole = code.whole in
-    let inside : page_words * page + page_words ≤ length words = omega arith in
-    let keeps : KeepsRun layout image words words' page first last = unlinks layout image words (leads_into victim) page first last short whole low own.holds in
+    let short : length image ≤ most_image_words = omega (arith, code.image_length, right.image_fits) in
+    let keeps : KeepsRun layout image words words' page first last = unlinks layout image words (leads_into victim) page first last short code.whole (omega (arith, pool.to, right.pool_below_kernel)) own.holds in
     let on : (a v : ℕ) → IsEntry layout words a v → IsEntry layout words' a v = λ a v entry. kept_entries layout image words words' page first last a v keeps entry in
-    let fits = own.holds.fits in
     let among = among_inside (page_words * page) (page_words * page + size (page_pieces image first last)) (length words) stubs (omega arith) (links_among words (leads_into victim) (page_words * page) (page_pieces image first last)) in
     let kept : (other b n : ℕ) → HoldsRun leads image words other b n → HoldsRun leads' image words' other b n = λ other b n holds. kept_holds layout image words words' page first last other b n keeps holds in
     record {
@@ -111,7 +106,7 @@ page_unlinked layout image words victim page right code pool run =
       apart = λ away. inr (record {
         first = first;
         last = last;
-        holds = holds_unlinked leads (Outside leads' victim) image words (leads_into victim) page first last (λ b v entry other. (on b v entry, elsewhere victim b v other)) inside own.holds;
+        holds = holds_unlinked leads (Outside leads' victim) image words (leads_into victim) page first last (λ b v entry other. (on b v entry, elsewhere victim b v other)) (omega arith) own.holds;
       });
       entries = on;
       uses = λ other. elim (cases_eq other page) [
@@ -199,8 +194,7 @@ pub one_told : (layout : Layout) (image : List ℕ) (now : Memory) (victim page 
 one_told layout image now victim page right code pool =
     let words = now.words in
     let stubs = stubs_into image words victim page in
-    let more = rewriting page (page_of (with_calls words stubs) page) in
-    let Told : Bool → Type 0 = λ b. OneTold layout image now victim page (perform now (if b then more else [])) in
+    let Told : Bool → Type 0 = λ b. OneTold layout image now victim page (perform now (if b then (rewriting page (page_of (with_calls words stubs) page)) else [])) in
     let Some_ : Bool → Type 0 = λ b. are_some stubs ≡ b → IsRewritten layout image words page → Told b in
     let nothing : (page ≢ victim → IsFree words page ⊎ IsApart layout image words victim page) → Told false = λ apart. told_nothing layout image now victim page code apart in
     let Used : Bool → Type 0 = λ b. is_used words page ≡ b → (page == victim) ≡ false → Told (if false || not b then false else are_some stubs) in

@@ -64,14 +64,12 @@ up_to_next layout old now next victim k right up below performed =
     let image = image_of layout old.words in
     let page = layout.pool_first + k in
     let pool : IsPool layout page = record { from = omega arith; to = omega arith } in
-    let told = one_told layout image now victim page right up.code pool in
     let same : perform now (unlinking image now.words victim page) ≡ record { memory = next; stop = None } = ap (λ i. perform now (unlinking i now.words victim page)) (sym up.same_image) ∙ performed in
     let P : Performed → Type 0 = λ t. OneTold layout image now victim page t in
-    let here : OneTold layout image now victim page (record { memory = next; stop = None }) = subst P same told in
+    let here : OneTold layout image now victim page (record { memory = next; stop = None }) = subst P same (one_told layout image now victim page right up.code pool) in
     let done : PageDone layout image now.words next.words victim page = here.done refl in
     let more : Performed → Performed = λ p. then_on p (λ m. perform m (unlinking image m.words victim page)) in
     let ops = here.ops in
-    let before = up.ops in
     record {
       performed = ap more up.performed ∙ same;
       code = done.code;
@@ -101,8 +99,7 @@ up_to_passed layout old now victim k (suc n) right up fits none =
     let pool : IsPool layout page = record { from = omega arith; to = omega arith } in
     let stubless = nothing_to_unlink layout image now.words victim page code pool (λ run. no_stubs_into image now.words victim page run (λ j below. none page (omega arith) (omega arith) j (omega arith))) in
     let done = up_to_next layout old now now victim (k + n) right before (omega arith) (ap (λ operations. perform now operations) stubless) in
-    let same : suc (k + n) ≡ k + suc n = omega arith in
-    subst (λ n. UpTo layout old now victim n) same done
+    subst (λ n. UpTo layout old now victim n) (omega arith) done
 
 -- the pages below one are done, where those from another on have no jump into the victim
 pub up_to_page : (layout : Layout) (old now : Memory) (victim from page : ℕ) → IsRight layout → layout.pool_first ≤ from → from ≤ page → page ≤ layout.pool_first + layout.pool_pages → UpTo layout old now victim (from - layout.pool_first)
@@ -110,8 +107,7 @@ pub up_to_page : (layout : Layout) (old now : Memory) (victim from page : ℕ) �
 up_to_page layout old now victim from page right start order end up none =
     let k = from - layout.pool_first in
     let n = page - from in
-    let same : k + n ≡ page - layout.pool_first = omega arith in
-    subst (λ n. UpTo layout old now victim n) same (up_to_passed layout old now victim k n right up (omega arith) (λ lower above below. none lower (omega arith) (omega arith)))
+    subst (λ n. UpTo layout old now victim n) (omega arith) (up_to_passed layout old now victim k n right up (omega arith) (λ lower above below. none lower (omega arith) (omega arith)))
 
 -- .. and that one too
 pub up_to_done : (layout : Layout) (old now next : Memory) (victim page : ℕ) → IsRight layout → layout.pool_first ≤ page → page < layout.pool_first + layout.pool_pages → UpTo layout old now victim (page - layout.pool_first)
@@ -128,9 +124,8 @@ stopped_stays image victim first k zero old new stop is near = let same : 0 ≡ 
 stopped_stays image victim first k (suc n) old new stop is near = elim (cases_eq k (suc n)) [
   | inl same ↦ ap (λ j. unresolved image victim first j old) (sym same) ∙ is
   | inr apart ↦ (
-      let earlier = stopped_stays image victim first k n old new stop is (omega arith) in
       let more : Performed → Performed = λ p. then_on p (λ m. perform m (unlinking image m.words victim (first + n))) in
-      ap more earlier)
+      ap more (stopped_stays image victim first k n old new stop is (omega arith)))
 ]
 
 pub record IsStopped (layout : Layout) (old new : Memory) (victim : ℕ) (stop : ResolveStop) : Type 0 where
@@ -147,10 +142,9 @@ up_to_stop layout old now new victim k stop right up below performed =
     let image = image_of layout old.words in
     let page = layout.pool_first + k in
     let pool : IsPool layout page = record { from = omega arith; to = omega arith } in
-    let told = one_told layout image now victim page right up.code pool in
     let same : perform now (unlinking image now.words victim page) ≡ record { memory = new; stop = Some stop } = ap (λ i. perform now (unlinking i now.words victim page)) (sym up.same_image) ∙ performed in
     let P : Performed → Type 0 = λ t. OneTold layout image now victim page t in
-    let here : OneTold layout image now victim page (record { memory = new; stop = Some stop }) = subst P same told in
+    let here : OneTold layout image now victim page (record { memory = new; stop = Some stop }) = subst P same (one_told layout image now victim page right up.code pool) in
     let more : Performed → Performed = λ p. then_on p (λ m. perform m (unlinking image m.words victim page)) in
     record {
       performed = stopped_stays image victim layout.pool_first (suc k) layout.pool_pages old new stop (ap more up.performed ∙ same) (omega arith);
@@ -166,5 +160,4 @@ pub up_to_stopped : (layout : Layout) (old now new : Memory) (victim page : ℕ)
     → perform now (unlinking (image_of layout now.words) now.words victim page) ≡ record { memory = new; stop = Some stop } → IsStopped layout old new victim stop
 up_to_stopped layout old now new victim page stop right from to up performed =
     let k = page - layout.pool_first in
-    let here : page ≡ layout.pool_first + k = omega arith in
-    up_to_stop layout old now new victim k stop right up (omega arith) (ap (λ p. perform now (unlinking (image_of layout now.words) now.words victim p)) (sym here) ∙ performed)
+    up_to_stop layout old now new victim k stop right up (omega arith) (ap (λ p. perform now (unlinking (image_of layout now.words) now.words victim p)) (sym (omega arith)) ∙ performed)

@@ -4,3 +4,4 @@ pub mod Tried
 pub mod Resolving
 pub mod Unresolving
 pub mod Arrivals
+pub mod KnownPlaces

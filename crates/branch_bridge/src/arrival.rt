@@ -15,7 +15,7 @@ ghost use Rattle.branch_bridge.specs.declared.arrival.ArriveStop.TheVariants as 
 
 use crate::rewriting::Torn;
 use crate::unresolving::unresolve;
-use addr_tables::{find_by, forget_page, note};
+use addr_tables::{find_with_hints, forget_page, note};
 use flash_model::{Flash, Layout, PAGE_WORDS};
 use nat_page::prepare_with;
 use page_index::{Places, known_offsets};
@@ -59,6 +59,8 @@ pub struct Moved {
 /// Gives the place, a word address of flash, where the rewritten code of the original address `t` begins, and makes
 /// the page of `t` where none has it: in the lowest free page, or else in the one that RING names, which is recycled.
 /// A place that the kernel's tables have for `t` is taken without a search of the pool, right or not.
+///
+/// This is the plain form: the program calls [`arrive_through`](crate::arrive_through), which goes by [`arrive_with_hints`].
 pub fn arrive(sram: &mut Sram, flash: &mut Flash, layout: &Layout, t: u16) -> Result<Moved, Refused>
     requires right { IsRight layout.now }
     requires code { IsFaithful layout.now (image_of layout.now flash.old.words) flash.old.words }
@@ -75,11 +77,12 @@ pub fn arrive(sram: &mut Sram, flash: &mut Flash, layout: &Layout, t: u16) -> Re
     ensures rest { KeepsOtherBytes sram.old sram.new }
     ensures wild { IsErrOf result (record { why = stops.Wild t; torn = Nothing }) ↔ (layout.now.image_words ≤ t) }
 {
-    arrive_by(sram, flash, layout, &mut Places::new(), t)
+    arrive_with_hints(sram, flash, layout, &mut Places::new(), t)
 }
 
-/// The same with hints at the places of entries: the pool is searched only where neither the tables nor a hint have one.
-pub fn arrive_by(
+/// Arrives as [`arrive`] does, with hints at the places of entries: the pool is searched only where neither the tables nor a
+/// hint have one.
+pub fn arrive_with_hints(
     sram: &mut Sram,
     flash: &mut Flash,
     layout: &Layout,
@@ -103,7 +106,7 @@ pub fn arrive_by(
             torn: None,
         });
     }
-    let survey = match find_by(sram, flash, layout, places, t) {
+    let survey = match find_with_hints(sram, flash, layout, places, t) {
         Ok(place) => {
             return Ok(Moved {
                 place,

@@ -2,12 +2,12 @@
 //!
 //! [`arrive`] gives the place where the rewritten code of the address begins. Where no page has it, the page is
 //! made: in the lowest free page of the pool, or else in the one that RING names, which is recycled.
-//! [`arrive_by`] does the same with hints at the places of entries.
-//! [`arrive_from`] is the whole arrival, through a stub that is resolved then; [`arrive_at`] is the usual one, through
-//! none, at an address whose place is known, which leaves flash as it is.
+//! [`arrive_with_hints`] does the same with hints at the places of entries.
+//! [`arrive_through`] is the whole arrival, through a stub that is resolved then; [`arrive_at_known_place`] is the usual
+//! one, through none, at an address whose place is known, which leaves flash as it is.
 //!
 //! ```rust
-//! let arrival = arrive_from(&mut sram, &mut flash, &layout, t, Some(stub));
+//! let arrival = arrive_through(&mut sram, &mut flash, &layout, &mut places, t, Some(stub));
 //! if let Some(place) = arrival.place { /* control goes on there */ }
 //! if let Some(refused) = arrival.refused { /* outside the image, or flash refused an operation */ }
 //! ```
@@ -30,8 +30,8 @@ mod rewriting;
 mod through;
 mod unresolving;
 
-pub use arrival::{ArriveStop, Moved, Refused, arrive, arrive_by};
+pub use arrival::{ArriveStop, Moved, Refused, arrive, arrive_with_hints};
 pub use resolving::resolve;
 pub use rewriting::{ResolveStop, Torn};
-pub use through::{Arrival, arrive_at, arrive_from};
+pub use through::{Arrival, arrive_at_known_place, arrive_through};
 pub use unresolving::unresolve;

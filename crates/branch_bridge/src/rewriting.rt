@@ -1,6 +1,7 @@
 //! One page of flash that gets other words.
 
 ghost use Rattle.std.specs.Prelude.{◌≡◌, ◌+◌, ◌<◌, ◌^◌};
+ghost use Rattle.flash_words.specs.Pages.{page_count};
 ghost use Rattle.flash_words.specs.Memory.{IsWhole};
 ghost use Rattle.branch_bridge.specs.Operating.{perform, rewriting, stop_of};
 
@@ -26,7 +27,7 @@ pub struct ResolveStop {
 
 /// Erases a page, and programs it with these words.
 pub(crate) fn rewrite(flash: &mut Flash, page: u16, words: &[u16; 128]) -> Result<(), ResolveStop>
-    requires page { page < 512 }
+    requires page { page < page_count }
     requires room { flash.old.ops + 1 < 2 ^ 63 }
     ensures performed { perform flash.old (rewriting page words.now) ≡ record { memory = flash.new; stop = stop_of result } }
     ensures whole { IsWhole flash.old × IsWhole flash.new }

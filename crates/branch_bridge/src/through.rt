@@ -3,13 +3,15 @@
 ghost use Rattle.std.specs.Prelude.{◌≡◌, ◌<◌, ◌^◌, None as Nothing};
 ghost use Rattle.std.specs.Option.{option_map};
 ghost use Rattle.flash_words.specs.Layouts.{IsRight, image_of};
+ghost use Rattle.flash_words.specs.Memory.{Memory};
+ghost use Rattle.flash_words.specs.declared.layout.Layout.{Layout as LayoutOf};
 ghost use Rattle.nat_page.specs.Faithful.{IsFaithful};
-ghost use Rattle.page_index.specs.Entries.{IsEntry};
 ghost use Rattle.addr_tables.specs.Tables.{IsTables};
 ghost use Rattle.branch_bridge.specs.Arrivals.{ArrivesFrom, CameThrough, KeptThrough, KeepsParts, went_on, ring_of, to_resolve as to_resolve_of, refused_by};
+ghost use Rattle.branch_bridge.specs.KnownPlaces.{IsKnownAt};
 ghost use Rattle.branch_bridge.specs.Operating.{stop_of};
 
-use crate::arrival::{ArriveStop, Moved, Refused, arrive_by};
+use crate::arrival::{ArriveStop, Moved, Refused, arrive_with_hints};
 use crate::resolving::resolve;
 use crate::rewriting::ResolveStop;
 use addr_tables::note;
@@ -31,7 +33,7 @@ pub struct Arrival {
 /// An arrival where the tables are right, with hints at the places of entries. `stub` is the word address of the call of
 /// the kernel's bridge through which control came, if it came so: that stub is resolved, unless its page was recycled
 /// for the arrival.
-pub fn arrive_from(
+pub fn arrive_through(
     sram: &mut Sram,
     flash: &mut Flash,
     layout: &Layout,
@@ -49,7 +51,7 @@ pub fn arrive_from(
     ensures kept { KeptThrough layout.now (record { flash = flash.old; sram = sram.old }) (record { flash = flash.new; sram = sram.new }) t result }
     ensures parts { KeepsParts layout.now (record { flash = flash.old; sram = sram.old }) (record { flash = flash.new; sram = sram.new }) t stub result }
 {
-    let moved = match arrive_by(sram, flash, layout, places, t) {
+    let moved = match arrive_with_hints(sram, flash, layout, places, t) {
         Ok(moved) => moved,
         Err(refused) => {
             return Arrival {
@@ -75,14 +77,11 @@ pub fn arrive_from(
 
 /// An arrival through no stub at an address whose place is known. Flash stays; the place is noted in the kernel's tables.
 /// Most arrivals are of this kind, and here they want no room for the words of a page.
-pub fn arrive_at(sram: &mut Sram, flash: &Flash, layout: &Layout, t: u16, place: u16)
-    requires right { IsRight layout.now }
-    requires code { IsFaithful layout.now (image_of layout.now flash.now.words) flash.now.words }
-    requires tables { IsTables layout.now sram.old flash.now.words }
-    requires ring { ring_of sram.old < layout.now.pool_pages }
-    requires entry { IsEntry layout.now flash.now.words t place }
-    ensures arrives { ArrivesFrom layout.now (record { flash = flash.now; sram = sram.old }) (record { flash = flash.now; sram = sram.new }) t Nothing (went_on place) }
-    ensures kept { KeptThrough layout.now (record { flash = flash.now; sram = sram.old }) (record { flash = flash.now; sram = sram.new }) t (went_on place) }
+pub fn arrive_at_known_place(sram: &mut Sram, t: u16, place: u16)
+    ensures arrives { (layout : LayoutOf) (flash : Memory) → IsKnownAt layout flash sram.old t place
+        → ArrivesFrom layout (record { flash = flash; sram = sram.old }) (record { flash = flash; sram = sram.new }) t Nothing (went_on place) }
+    ensures kept { (layout : LayoutOf) (flash : Memory) → IsKnownAt layout flash sram.old t place
+        → KeptThrough layout (record { flash = flash; sram = sram.old }) (record { flash = flash; sram = sram.new }) t (went_on place) }
 {
     note(sram, t, place);
 }

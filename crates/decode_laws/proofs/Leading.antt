@@ -45,9 +45,8 @@ by_six : (n : ℕ) (form : ℕ → ℕ → Form) (d r w : ℕ) → (n == 36) || 
     → the_form (1024 * n + two_registers d r) w ≡ Some (form d r)
 by_six n form d r w other begins defined fits =
     let fields = registers_of n d r fits in
-    let short = short_by_six n (1024 * n + two_registers d r) other fields.0 in
     let one : one_word_form (1024 * n + two_registers d r) ≡ Some (form d r) = rw (begins (1024 * n + two_registers d r) fields.0, fields.1, fields.2) refl in
-    means (1024 * n + two_registers d r) w (form d r) short one defined
+    means (1024 * n + two_registers d r) w (form d r) (short_by_six n (1024 * n + two_registers d r) other fields.0) one defined
 
 fourth : (n m w : ℕ) → n / 4 ≡ m → w / 1024 ≡ n → w / 4096 ≡ m
 fourth n m w part leading = omega arith
@@ -142,9 +141,7 @@ by_leading : (n : ℕ) (op : ImmOp) (d k w : ℕ) → (n == 9) ≡ false → Beg
 unfolding the_form if_defined defined_form is_undefined
 by_leading n op d k w other begins fits =
     let fields = fields_of n d k fits in
-    let short = short_by_leading n (4096 * n + high_register_and_byte d k) other fields.0 in
-    let means = begins (4096 * n + high_register_and_byte d k) fields.0 in
-    rw (short, means, fields.1, fields.2) refl
+    rw (short_by_leading n (4096 * n + high_register_and_byte d k) other fields.0, begins (4096 * n + high_register_and_byte d k) fields.0, fields.1, fields.2) refl
 
 pub begins : (op : ImmOp) → Begins op (first_word (Imm op 16 0) / 4096)
 unfolding one_word_form first_word
@@ -168,18 +165,16 @@ immediate_complete Ldi d k w valid = by_leading 14 Ldi d k w refl (begins Ldi) (
 
 forward_of : (n k : ℕ) → k < 2048 → ((4096 * n + k) / 4096 ≡ n) × (jump_of (4096 * n + k) ≡ pos k)
 forward_of n k fits =
-    let leading : (4096 * n + k) / 4096 ≡ n = omega arith in
     let low : (4096 * n + k) % 4096 ≡ k = omega arith in
     let sign : nat_lt k 2048 ≡ true = grind (arith, nat_tests) in
-    (leading, rw (low, sign) refl)
+    (omega arith, rw (low, sign) refl)
 
 backward_of : (n k : ℕ) → k < 2048 → ((4096 * n + (4095 - k)) / 4096 ≡ n) × (jump_of (4096 * n + (4095 - k)) ≡ negsuc k)
 backward_of n k fits =
-    let leading : (4096 * n + (4095 - k)) / 4096 ≡ n = omega arith in
     let low : (4096 * n + (4095 - k)) % 4096 ≡ 4095 - k = omega arith in
     let sign : nat_lt (4095 - k) 2048 ≡ false = grind (arith, nat_tests) in
     let back : 4095 - (4095 - k) ≡ k = omega arith in
-    (leading, rw (low, sign, back) refl)
+    (omega arith, rw (low, sign, back) refl)
 
 abbrev pub Jumps : (ℤ → Form) → ℕ → Type 0
 Jumps form n = (w : ℕ) → w / 4096 ≡ n → one_word_form w ≡ Some (form (jump_of w))
@@ -211,10 +206,9 @@ rcall_complete (negsuc k) w valid = by_jump 13 (0xD000 + (4095 - k)) (negsuc k) 
 port_of : (n d a : ℕ) → d < 32 → a < 64
     → ((2048 * n + register_and_io d a) / 2048 ≡ n) × (destination_of (2048 * n + register_and_io d a) ≡ d) × (io_of (2048 * n + register_and_io d a) ≡ a)
 port_of n d a register port =
-    let leading : (2048 * n + register_and_io d a) / 2048 ≡ n = omega arith in
     let destination : destination_of (2048 * n + register_and_io d a) ≡ d = omega arith in
     let address : io_of (2048 * n + register_and_io d a) ≡ a = omega arith in
-    (leading, destination, address)
+    (omega arith, destination, address)
 
 half : (n m w : ℕ) → n / 2 ≡ m → w / 2048 ≡ n → w / 4096 ≡ m
 half n m w part leading = omega arith
@@ -261,15 +255,12 @@ displaced_of s y d q store base register displacement =
 short_apart : (s y w : ℕ) → Apart s y w → is_long w ≡ false
 unfolding is_long
 short_apart s y w apart =
-    let high : w / 16384 ≡ 2 = apart.high in
-    let middle : w / 4096 % 2 ≡ 0 = apart.middle in
     grind (arith, nat_tests)
 
 displaced_by_test : (w : ℕ) (low : Bool) → (w / 4096 == 8) ≡ low → w / 16384 ≡ 2 → w / 4096 % 2 ≡ 0 → one_word_form w ≡ displaced_form w
 unfolding one_word_form
 displaced_by_test w true test high middle =
-    let at : w / 4096 ≡ 8 = eqb-true _ _ test in
-    rw at refl
+    rw (eqb-true _ _ test) refl
 displaced_by_test w false test high middle =
     let at : w / 4096 ≡ 10 = grind (arith, nat_tests) in
     rw at refl
@@ -323,17 +314,15 @@ store_displaced_complete Z q r w valid =
 
 port_bit_of : (n a b : ℕ) → a < 32 → b < 8 → ((256 * n + io_and_bit a b) / 256 ≡ n) × (low_io_of (256 * n + io_and_bit a b) ≡ a) × (bit_of (256 * n + io_and_bit a b) ≡ b)
 port_bit_of n a b port bit =
-    let leading : (256 * n + io_and_bit a b) / 256 ≡ n = omega arith in
     let address : low_io_of (256 * n + io_and_bit a b) ≡ a = omega arith in
     let place : bit_of (256 * n + io_and_bit a b) ≡ b = omega arith in
-    (leading, address, place)
+    (omega arith, address, place)
 
 eight_bits : (m w : ℕ) → m < 4 → w / 256 ≡ 152 + m → (w / 4096 ≡ 9) × (w / 1024 ≡ 38) × (w / 256 % 4 ≡ m)
 eight_bits m w part leading =
-    let four : w / 4096 ≡ 9 = omega arith in
     let six : w / 1024 ≡ 38 = omega arith in
     let two : w / 256 % 4 ≡ m = omega arith in
-    (four, six, two)
+    (omega arith, six, two)
 
 abbrev PortBits : (ℕ → ℕ → Form) → ℕ → Type 0
 PortBits form m = (w : ℕ) → w / 4096 ≡ 9 → w / 1024 ≡ 38 → w / 256 % 4 ≡ m → one_word_form w ≡ Some (form (low_io_of w) (bit_of w))
@@ -383,21 +372,19 @@ sbis_complete a b w valid = by_eight 3 (λ a b. Sbis a b) a b w (omega arith) sb
 
 forward_branch_of : (n s k : ℕ) → s < 8 → k < 64 → ((1024 * n + (8 * k + s)) / 1024 ≡ n) × (bit_of (1024 * n + (8 * k + s)) ≡ s) × (branch_of (1024 * n + (8 * k + s)) ≡ pos k)
 forward_branch_of n s k flag distance =
-    let leading : (1024 * n + (8 * k + s)) / 1024 ≡ n = omega arith in
     let bit : bit_of (1024 * n + (8 * k + s)) ≡ s = omega arith in
     let low : (1024 * n + (8 * k + s)) / 8 % 128 ≡ k = omega arith in
     let sign : nat_lt k 64 ≡ true = grind (arith, nat_tests) in
-    (leading, bit, rw (low, sign) refl)
+    (omega arith, bit, rw (low, sign) refl)
 
 backward_branch_of : (n s k : ℕ) → s < 8 → k < 64
     → ((1024 * n + (8 * (127 - k) + s)) / 1024 ≡ n) × (bit_of (1024 * n + (8 * (127 - k) + s)) ≡ s) × (branch_of (1024 * n + (8 * (127 - k) + s)) ≡ negsuc k)
 backward_branch_of n s k flag distance =
-    let leading : (1024 * n + (8 * (127 - k) + s)) / 1024 ≡ n = omega arith in
     let bit : bit_of (1024 * n + (8 * (127 - k) + s)) ≡ s = omega arith in
     let low : (1024 * n + (8 * (127 - k) + s)) / 8 % 128 ≡ 127 - k = omega arith in
     let sign : nat_lt (127 - k) 64 ≡ false = grind (arith, nat_tests) in
     let back : 127 - (127 - k) ≡ k = omega arith in
-    (leading, bit, rw (low, sign, back) refl)
+    (omega arith, bit, rw (low, sign, back) refl)
 
 abbrev Branches : (ℕ → ℤ → Form) → ℕ → Type 0
 Branches form n = (w : ℕ) → w / 1024 ≡ n → one_word_form w ≡ Some (form (bit_of w) (branch_of w))

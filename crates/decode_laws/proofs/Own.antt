@@ -10,7 +10,7 @@ use Rattle.avr_isa.specs.declared.operation.ImmOp.TheVariants.{Cpi, Sbci, Subi, 
 use Rattle.avr_isa.specs.declared.operation.TwoOp.TheVariants.{Cpc, Sbc, Add, Cp, Sub, Adc, And, Eor, Or, Mov, Mul}
 use Rattle.avr_isa.specs.declared.operation.Base.TheVariants.{Y, Z}
 use Rattle.avr_isa.specs.Instruction.{fields_in_range, is_byte, is_high_register, is_jump_distance, is_register}
-use Rattle.avr_isa.specs.Encoding.{register_and_displacement, first_word, second_word, high_register_and_byte, jump, register_and_io, two_registers}
+use Rattle.avr_isa.specs.Encoding.{register_and_displacement, first_word, second_word, high_register_and_byte, jump, two_registers}
 use Rattle.avr_decode.specs.Decoding.{displacement_of, one_word_form, constant_of, destination_of, high_destination_of, io_of, jump_of, source_of}
 use Rattle.decode_laws.proofs.Leading.{Apart, Displaced, load_y_begins, load_z_begins, store_y_begins, store_z_begins, Begins, Jumps, Registers, begins, in_begins, out_begins, rcall_begins, rjmp_begins, cpse_begins, cpc_begins, sbc_begins, add_begins, cp_begins, sub_begins, adc_begins, and_begins, eor_begins, or_begins, mov_begins, mul_begins}
 
@@ -27,8 +27,7 @@ registers_fit : (n : ℕ) (form : ℕ → ℕ → Form) (w : ℕ) → Registers 
     → ((d r w : ℕ) → is_one_word w (Some (form d r)) ≡ ((1024 * n + two_registers d r == w) && (is_register d && is_register r) && true))
     → w / 1024 ≡ n → is_one_word w (one_word_form w) ≡ true
 registers_fit n form w begins tests leading =
-    let whole : 1024 * n + two_registers (destination_of w) (source_of w) ≡ w = omega arith in
-    rw (begins w leading, tests (destination_of w) (source_of w) w) (fit _ w (destination_of w) 32 (source_of w) 32 whole (omega arith) (omega arith))
+    rw (begins w leading, tests (destination_of w) (source_of w) w) (fit _ w (destination_of w) 32 (source_of w) 32 (omega arith) (omega arith) (omega arith))
 
 immediate_tests : (x w d k : ℕ) → x ≡ w → 15 < d → d < 32 → k < 256 → ((x == w) && (is_high_register d && is_byte k) && true) ≡ true
 immediate_tests x w d k same low high constant = grind (arith, nat_tests)
@@ -37,8 +36,7 @@ immediate_fits : (n : ℕ) (op : ImmOp) (w : ℕ) → Begins op n
     → ((d k w : ℕ) → is_one_word w (Some (Imm op d k)) ≡ ((4096 * n + high_register_and_byte d k == w) && (is_high_register d && is_byte k) && true))
     → w / 4096 ≡ n → is_one_word w (one_word_form w) ≡ true
 immediate_fits n op w means tests leading =
-    let whole : 4096 * n + high_register_and_byte (high_destination_of w) (constant_of w) ≡ w = omega arith in
-    rw (means w leading, tests (high_destination_of w) (constant_of w) w) (immediate_tests _ w (high_destination_of w) (constant_of w) whole (omega arith) (omega arith) (omega arith))
+    rw (means w leading, tests (high_destination_of w) (constant_of w) w) (immediate_tests _ w (high_destination_of w) (constant_of w) (omega arith) (omega arith) (omega arith) (omega arith))
 
 jump_tests : (n w k : ℕ) (low : Bool) → nat_lt k 2048 ≡ low → k < 4096 → 4096 * n + k ≡ w
     → ((4096 * n + jump (cond low (pos k) (negsuc (4095 - k))) == w) && is_jump_distance (cond low (pos k) (negsuc (4095 - k))) && true) ≡ true
@@ -54,22 +52,16 @@ jump_fits n form w begins tests leading =
 in_fits : (w : ℕ) → w / 2048 ≡ 22 → is_one_word w (one_word_form w) ≡ true
 unfolding is_one_word first_word fields_in_range second_word
 in_fits w leading =
-    let whole : 0xB000 + register_and_io (destination_of w) (io_of w) ≡ w = omega arith in
-    rw (in_begins w leading) (fit _ w (destination_of w) 32 (io_of w) 64 whole (omega arith) (omega arith))
+    rw (in_begins w leading) (fit _ w (destination_of w) 32 (io_of w) 64 (omega arith) (omega arith) (omega arith))
 
 out_fits : (w : ℕ) → w / 2048 ≡ 23 → is_one_word w (one_word_form w) ≡ true
 unfolding is_one_word first_word fields_in_range second_word
 out_fits w leading =
-    let whole : 0xB800 + register_and_io (destination_of w) (io_of w) ≡ w = omega arith in
-    rw (out_begins w leading) (fit _ w (io_of w) 64 (destination_of w) 32 whole (omega arith) (omega arith))
+    rw (out_begins w leading) (fit _ w (io_of w) 64 (destination_of w) 32 (omega arith) (omega arith) (omega arith))
 
 -- what the bits apart say of a word
 whole_apart : (s y w : ℕ) → Apart s y w → 32768 + (512 * s + 8 * y) + register_and_displacement (destination_of w) (displacement_of w) ≡ w
 whole_apart s y w apart =
-    let high : w / 16384 ≡ 2 = apart.high in
-    let middle : w / 4096 % 2 ≡ 0 = apart.middle in
-    let store : w / 512 % 2 ≡ s = apart.store in
-    let base : w / 8 % 2 ≡ y = apart.base in
     omega arith
 
 load_fits : (y : ℕ) (form : ℕ → ℕ → Form) (w : ℕ) → Displaced form 0 y

@@ -26,9 +26,8 @@ on_page : (own : Bool) (w : ℕ) → begins_own (w / 256) ≡ own → own || bel
 on_page true w own h = own_fits w own
 on_page false w own h =
     let column : ℕ → Bool = λ n. is_one_word (256 * (w / 256) + n) (one_word_form (256 * (w / 256) + n)) in
-    let here : column (w % 256) ≡ true = below-at column 256 h (w % 256) (omega arith) in
     let whole : 256 * (w / 256) + w % 256 ≡ w = omega arith in
-    rw whole at here
+    rw whole at (below-at column 256 h (w % 256) (omega arith))
 
 pub one_word_fits : (w : ℕ) → w < 65536 → is_one_word w (one_word_form w) ≡ true
 one_word_fits w bound = on_page (begins_own (w / 256)) w refl (below-at page 256 every_word (w / 256) (omega arith))

@@ -14,10 +14,10 @@ use Rattle.flash_words.specs.Pages.{word_count, page_words, page_count, word_at,
 use Rattle.flash_words.specs.Memory.{AreWords}
 use Rattle.flash_words.proofs.PageLaws.{page_word, length-page_of, length-set_page, word_in_page, word_out_of_page}
 use Rattle.base_laws.proofs.ManyLaws.{length-many, get_or-many}
-use Rattle.text_lines.specs.Lines.{lines_of}
-use Rattle.text_lines.specs.Cutting.{Lacks}
-use Rattle.text_lines.specs.Written.{IsPlain}
-use Rattle.text_lines.proofs.TextLaws.{lines_of-fed}
+use Rattle.line_reader.specs.Lines.{lines_of}
+use Rattle.line_reader.specs.Cutting.{Lacks}
+use Rattle.line_reader.specs.Written.{IsPlain}
+use Rattle.line_reader.proofs.TextLaws.{lines_of-fed}
 use Rattle.flash_dump.specs.DumpLines.{HasPage, next_page, page_in, with_line, word_digits, words_in}
 use Rattle.flash_dump.specs.Dumps.{AreSound, IsDump, erased, with_lines}
 use Rattle.flash_dump.specs.WrittenDumps.{bytes_of_words, is_erased, line_front, lines_of_pages, page_line, three_digits, written}

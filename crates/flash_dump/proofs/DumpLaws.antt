@@ -9,7 +9,7 @@ use Rattle.flash_words.specs.Pages.{word_count, page_words, word_at, page_of, se
 use Rattle.flash_words.specs.Memory.{Memory, erased_flash}
 use Rattle.flash_words.specs.Operations.{programmed_page}
 use Rattle.flash_words.proofs.PageLaws.{page_word, length-page_of, length-set_page, page_other}
-use Rattle.text_lines.specs.Lines.{lines_of}
+use Rattle.line_reader.specs.Lines.{lines_of}
 use Rattle.flash_dump.specs.DumpLines.{HasPage, page_in, word_digits, words_in}
 use Rattle.flash_dump.specs.Dumps.{AreSound, IsFirstFault, IsOpen, IsReadTo, IsTaken, erased, with_lines}
 

@@ -5,7 +5,7 @@ use Rattle.std.specs.List.{range_with_len}
 use Rattle.std.proofs.lemmas.Grind.{flat_map-append}
 use Rattle.std.proofs.lemmas.List.{append-nil}
 use Rattle.flash_words.specs.Pages.{page_of}
-use Rattle.text_lines.specs.Written.{fed}
+use Rattle.line_reader.specs.Written.{fed}
 use Rattle.flash_dump.specs.WrittenDumps.{lines_of_page, lines_of_pages}
 use Rattle.base_laws.proofs.Ranges.{range_with_len-push}
 

@@ -1,4 +1,4 @@
--- Why a dump was not read.
+-- Serves the contract of `read_dump`: why a dump was not read.
 use Rattle.std.specs.Prelude.{ℕ, List}
 use Rattle.flash_dump.specs.declared.dump.DumpError.{DumpError}
 use Rattle.flash_dump.specs.declared.dump.DumpError.TheVariants.{Bad, NoMemory}

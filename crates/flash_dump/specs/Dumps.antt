@@ -2,7 +2,7 @@
 use Rattle.std.specs.Prelude.{◌≡◌, ℕ, ◌+◌, ◌<◌, ◌≤◌, ◌⊎◌, List, [], ◌∷◌, length}
 use Rattle.flash_words.specs.Pages.{word_count, page_count, page_of, blank, many}
 use Rattle.flash_words.specs.Memory.{Memory}
-use Rattle.text_lines.specs.Lines.{lines_of}
+use Rattle.line_reader.specs.Lines.{lines_of}
 use Rattle.flash_dump.specs.declared.dump_line.DumpFault.{DumpFault}
 use Rattle.flash_dump.specs.DumpLines.{IsFaulty, IsSound, next_page, with_line}
 

@@ -8,10 +8,10 @@ ghost use Rattle.flash_dump.specs.Dumps.{IsDump, IsOpen, IsTaken, erased as eras
 ghost use Rattle.flash_dump.specs.DumpAnswers.{IsRefusal};
 
 use crate::dump_line::{DumpFault, page_line_in};
-use flash_model::Flash;
+use flash_model::{Flash, PAGES};
+use line_reader::first_line;
 use no_memory::NoMemory;
 use std::alloc::Global;
-use text_lines::first_line;
 use thiserror::Error;
 
 /// Why a text was not read.
@@ -58,7 +58,7 @@ pub fn read_dump(alloc: Global, text: &[u8]) -> Result<Flash, DumpError>
 /// Takes a line, where the pages from `least` on may follow, and gives the least page that may follow it.
 fn take_line(flash: &mut Flash, least: u16, line: &[u8]) -> Result<u16, DumpFault>
     requires open { IsOpen flash.old least }
-    requires low { least ≤ 512 }
+    requires low { least ≤ page_count }
     ensures taken { IfOk result (λ after. IsTaken line.now least after flash.old flash.new) }
     ensures faulty { IfErr result (IsFaulty least line.now) }
 {
@@ -72,7 +72,7 @@ fn take_line(flash: &mut Flash, least: u16, line: &[u8]) -> Result<u16, DumpFaul
     if told.page < least {
         return Err(DumpFault::Order);
     }
-    if told.page >= 512 {
+    if told.page >= PAGES as u16 {
         return Err(DumpFault::Range);
     }
     program(flash, told.page, &told.words);
@@ -88,7 +88,7 @@ fn erased(alloc: Global) -> Result<Flash, NoMemory>
 
 /// Programs a page that is erased, of a flash of which no operation fails.
 fn program(flash: &mut Flash, page: u16, words: &[u16; 128])
-    requires page { page < 512 }
+    requires page { page < page_count }
     requires sound { flash.old.failing ≡ [] }
     requires few { flash.old.ops < 1000 }
     requires erased { page_of flash.old.words page ≡ blank }

@@ -4,7 +4,7 @@ ghost use Rattle.std.specs.Prelude.{◌≡◌, ℕ, ◌<◌, ◌↔◌, length, 
 ghost use Rattle.std.specs.Str.Parse.{digits_value, AllDigits};
 ghost use Rattle.flash_dump.specs.DumpLines.{HasPage, IsReadLine, word_digits, words_in};
 
-use text_lines::value_of;
+use line_reader::value_of;
 use thiserror::Error;
 
 /// A fault of a line. A line's faults are tried in this order, and the first is reported.

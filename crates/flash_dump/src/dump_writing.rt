@@ -3,12 +3,12 @@
 ghost use Rattle.std.specs.Prelude.{◌≡◌, ◌≤◌, ◌<◌, ◌++◌, length, flat_map, IfOk, OnOk};
 ghost use Rattle.flash_words.specs.Memory.{IsWhole};
 ghost use Rattle.flash_words.specs.Pages.{page_count};
-ghost use Rattle.text_lines.specs.Written.{fed};
+ghost use Rattle.line_reader.specs.Written.{fed};
 ghost use Rattle.flash_dump.specs.Dumps.{IsDump};
 ghost use Rattle.flash_dump.specs.WrittenDumps.{bytes_of_words, is_erased as is_erased_test, line_front, lines_of_page, page_line, written};
 
 use arrayvec::ArrayVec;
-use flash_model::{BLANK, Flash};
+use flash_model::{BLANK, Flash, PAGES};
 use no_memory::NoMemory;
 use std::alloc::{AllocError, Global};
 
@@ -23,10 +23,7 @@ pub fn write_dump(alloc: Global, flash: &Flash) -> Result<Vec<u8>, NoMemory>
     // Reading it gives the words.
     ensures read_back { IfOk result (λ text. IsDump text.items flash.now.words) }
 {
-    match text_of(alloc, flash) {
-        Ok(text) => Ok(text),
-        Err(_) => Err(NoMemory),
-    }
+    Ok(text_of(alloc, flash)?)
 }
 
 /// The dump of a flash.
@@ -35,7 +32,7 @@ fn text_of(alloc: Global, flash: &Flash) -> Result<Vec<u8>, AllocError>
     ensures whole { IfOk result (λ _. IsWhole flash.now) }
 {
     let mut text = Vec::new(alloc);
-    'pages: for page in 0..512u16 {
+    'pages: for page in 0..PAGES as u16 {
         push_page(alloc, &mut text, page, flash.page(page))?;
     }
     Ok(text)

@@ -1,4 +1,4 @@
--- What is decoded at each word address.
+-- Serves the contracts of `Flash::decoded` and `Flash::predecode`: what is decoded at each word address.
 use Rattle.std.specs.Prelude.{ℕ, ◌+◌, ◌%◌, List}
 use Rattle.std.specs.Option.{unwrap_or}
 use Rattle.avr_isa.specs.declared.form.Form.TheVariants.{Nop}

@@ -1,5 +1,5 @@
--- What is decoded of the words of flash: what each of the first word addresses has, and for every word address the
--- micro-operation of what is decoded there, or none.
+-- Serves private functions and the contract of `Flash::micro_op`: what is decoded of the words of flash: what each of the first
+-- word addresses has, and for every word address the micro-operation of what is decoded there, or none.
 use Rattle.std.specs.Prelude.{ℕ, ◌≡◌, ◌<◌, ◌≤◌, ◌⊎◌, List, length, slice_index_or}
 use Rattle.avr_ops.specs.declared.micro_op.MicroOp.{MicroOp}
 use Rattle.avr_ops.specs.MicroOps.{CanStandFor}

@@ -1,4 +1,4 @@
--- Pairs of words that were decoded already.
+-- Serves private functions: pairs of words that were decoded already.
 use Rattle.std.specs.Prelude.{◌≡◌, ℕ}
 use Rattle.flash_model.specs.declared.decoded.Decoded.{Decoded}
 use Rattle.flash_model.specs.Code.{decoded_of}

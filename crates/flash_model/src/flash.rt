@@ -3,6 +3,7 @@
 ghost use Rattle.std.specs.Prelude.{◌≡◌, ◌≢◌, ℕ, ◌≤◌, ◌<◌, ◌^◌, true, false, [], ◌∷◌, length, OnOk, OnErr, IfOk, IfErr, IfSome, IfNone, slice_index};
 ghost use Rattle.flash_words.specs.Pages.{word_count, page_count, word_at, page_of, blank, programmed};
 ghost use Rattle.flash_words.specs.Memory.{IsWhole, erased_flash, new_flash};
+ghost use Rattle.flash_words.specs.Layouts.{most_image_words};
 ghost use Rattle.flash_words.specs.Operations.{next_op, fails, left_by_refusal, erased_page, programmed_page, renewed, Erase, Program, perform, refusal_of};
 ghost use Rattle.flash_model.specs.Code.{decoded_at};
 ghost use Rattle.flash_model.specs.DecodeCache.{StandsAt};
@@ -39,7 +40,7 @@ impl Flash {
     /// A flash that holds the image from word 0 on, and the kernel; no page was erased yet. The operations of
     /// these numbers, which may have any order, are to fail.
     pub fn new(alloc: Global, image: &[u16], failing: &[u32]) -> Result<Flash, NoMemory>
-        requires { length image.now ≤ 24576 }
+        requires { length image.now ≤ most_image_words }
         ensures new { IfOk result (λ flash. flash ≡ new_flash image.now failing.now) }
         ensures whole { IfOk result IsWhole }
     {
@@ -183,7 +184,7 @@ impl Flash {
         ensures listed { OnErr result (fails self.old ≡ true) }
         ensures stop { IfErr result (λ stop. stop ≡ record { op = next_op self.old; page = page }) }
 
-        // The same in one equation.
+        // All of that in one equation.
         ensures performed { perform self.old (Erase page ∷ []) ≡ record { memory = self.new; refusal = refusal_of (Erase page) result } }
         ensures whole { IsWhole self.old × IsWhole self.new }
     {
@@ -208,7 +209,7 @@ impl Flash {
         ensures listed { OnErr result (fails self.old ≡ true) }
         ensures stop { IfErr result (λ stop. stop ≡ record { op = next_op self.old; page = page }) }
 
-        // The same in one equation, for a page that is erased.
+        // All of that in one equation, for a page that is erased.
         ensures performed { page_of self.old.words page ≡ blank → perform self.old (Program page words.now ∷ []) ≡ record { memory = self.new; refusal = refusal_of (Program page words.now) result } }
         ensures whole { IsWhole self.old × IsWhole self.new }
     {

@@ -39,5 +39,8 @@ mod image;
 
 pub use decoded::Decoded;
 pub use flash::Flash;
-pub use flash_words::{BLANK, FlashStop, KERNEL_FIRST, Layout, PAGE_WORDS};
+pub use flash_words::{
+    BLANK, FIRST_ENTRY, FlashStop, JMP, KERNEL_FIRST, Layout, MOST_ENTRIES, MOST_IMAGE_PAGES,
+    MOST_IMAGE_WORDS, PAGE_WORDS, PAGES, RET,
+};
 pub use image::word_in_image;

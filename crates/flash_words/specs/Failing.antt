@@ -1,4 +1,4 @@
--- The next operation that is to fail.
+-- Serves private functions: the next operation that is to fail.
 use Rattle.std.specs.Prelude.{ℕ, ◌≡◌, ◌≢◌, ◌-◌, ◌^◌, ◌<◌, true, false, List}
 use Rattle.flash_words.specs.Operations.{is_listed}
 

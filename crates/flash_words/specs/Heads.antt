@@ -1,5 +1,5 @@
--- Which pages begin with which word: for each remainder by 512 a set of pages, among which are those whose first word
--- has it.
+-- Serves private functions and the contract of `page_beginning`: which pages begin with which word: for each remainder by 512 a
+-- set of pages, among which are those whose first word has it.
 use Rattle.std.specs.Prelude.{ℕ, ◌≡◌, ◌≢◌, ◌*◌, ◌%◌, ◌<◌, true, List, length, slice_index_or}
 use Rattle.flash_words.specs.Pages.{page_count, page_words, word_at}
 use Rattle.flash_words.specs.declared.page_set.PageSet.{PageSet}

@@ -1,5 +1,5 @@
--- What is kept of the jumps among the words of a page: for each page a set of pages, among which are those that its
--- jumps lead into; and its sources, among which are all pages whose set it is in.
+-- Serves private functions: what is kept of the jumps among the words of a page: for each page a set of pages, among which are
+-- those that its jumps lead into; and its sources, among which are all pages whose set it is in.
 use Rattle.std.specs.Prelude.{ℕ, ◌≡◌, ◌≢◌, ◌+◌, ◌/◌, ◌<◌, ◌≤◌, true, List, length, slice_index, slice_index_or}
 use Rattle.flash_words.specs.Pages.{page_count, page_words, page_of}
 use Rattle.flash_words.specs.declared.page_set.PageSet.{PageSet}

@@ -1,11 +1,22 @@
 -- How flash is divided between the image, the code pool and the kernel.
-use Rattle.std.specs.Prelude.{ℕ, ◌+◌, ◌*◌, ◌≤◌, nat_le, if◌then◌else◌, List, take}
+use Rattle.std.specs.Prelude.{ℕ, ◌+◌, ◌-◌, ◌*◌, ◌≤◌, nat_le, if◌then◌else◌, List, take}
 use Rattle.flash_words.specs.Pages.{page_words}
 use Rattle.flash_words.specs.declared.layout.Layout.{Layout}
 
+-- the most pages of an image, and the most words
+abbrev pub most_image_pages : ℕ
+most_image_pages = 192
+
+abbrev pub most_image_words : ℕ
+most_image_words = page_words * most_image_pages
+
+-- the most entries of a page of the pool: its first two words are none
+abbrev pub most_entries : ℕ
+most_entries = page_words - 2
+
 -- the image is below the pool, and the pool below the kernel's pages
 pub record IsRight (layout : Layout) : Type 0 where
-  pub image_fits : layout.image_words ≤ 24576
+  pub image_fits : layout.image_words ≤ most_image_words
   pub image_below_pool : layout.image_words ≤ page_words * layout.pool_first
   pub pool_first : 128 ≤ layout.pool_first
   pub pool_pages : 1 ≤ layout.pool_pages
@@ -15,7 +26,7 @@ pub record IsRight (layout : Layout) : Type 0 where
 abbrev pub layout_of : ℕ → Layout
 layout_of words = record {
   image_words = words;
-  pool_first = if nat_le words 16384 then 128 else 192;
+  pool_first = if nat_le words 16384 then 128 else most_image_pages;
   pool_pages = if nat_le words 16384 then 352 else 288;
 }
 

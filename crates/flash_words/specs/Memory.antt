@@ -26,9 +26,13 @@ pub record IsWhole (memory : Memory) : Type 0 where
 abbrev pub kernel_first : ℕ
 kernel_first = 0xF000
 
+-- RET (AVR Instruction Set Manual, "RET")
+abbrev pub return_word : ℕ
+return_word = 0x9508
+
 -- the image from word 0 on, erased words up to the kernel's pages, and RET in each word of these
 unfoldable pub loaded : List ℕ → List ℕ
-loaded image = image ++ many (kernel_first - length image) 0xFFFF ++ many (word_count - kernel_first) 0x9508
+loaded image = image ++ many (kernel_first - length image) 0xFFFF ++ many (word_count - kernel_first) return_word
 
 -- a new flash: no page was erased, and no operation was tried
 abbrev pub new_flash : (image failing : List ℕ) → Memory

@@ -1,4 +1,4 @@
--- A set of pages.
+-- Serves private functions: a set of pages.
 use Rattle.std.specs.Prelude.{ℕ, ◌/◌, ◌%◌, ◌==◌, Bool, slice_index}
 use Rattle.std.specs.Int.{bit_at}
 use Rattle.flash_words.specs.declared.page_set.PageSet.{PageSet}

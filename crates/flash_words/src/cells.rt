@@ -3,6 +3,7 @@
 ghost use Rattle.std.specs.Prelude.{◌≡◌, ◌≢◌, ℕ, ◌+◌, ◌*◌, ◌≤◌, ◌<◌, ◌^◌, ◌⊎◌, true, false, length, OnOk, OnErr, IfOk, IfErr, IfSome, IfNone, None, slice_index, slice_set};
 ghost use Rattle.flash_words.specs.Operations.{next_op, fails, left_by_refusal, erased_page, programmed_page, renewed};
 ghost use Rattle.flash_words.specs.Pages.{word_count, page_count, page_words, many, word_at, page_of, blank, programmed, raised};
+ghost use Rattle.flash_words.specs.Layouts.{most_image_words};
 ghost use Rattle.flash_words.specs.Memory.{AreWords, IsWhole, erased_flash, new_flash};
 ghost use Rattle.flash_words.specs.Jumps.{HasNoJumpInto};
 ghost use Rattle.flash_words.specs.JumpSets.{IsBlankFrom};
@@ -44,7 +45,7 @@ impl Model for Cells {
 impl Cells {
     /// A flash that holds the image from word 0 on, and the kernel; no page was erased yet.
     pub fn new(alloc: Global, image: &[u16], failing: &[u32]) -> Result<Cells, AllocError>
-        requires { length image.now ≤ 24576 }
+        requires { length image.now ≤ most_image_words }
         ensures new { IfOk result (λ cells. cells ≡ new_flash image.now failing.now) }
         ensures whole { IfOk result IsWhole }
     {

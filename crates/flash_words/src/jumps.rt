@@ -12,7 +12,7 @@ use crate::paged_words::{PAGE_WORDS, words_of};
 use std::alloc::{AllocError, Global};
 
 /// JMP, the first of its two words.
-const JMP: u16 = 0x940C;
+pub const JMP: u16 = 0x940C;
 
 /// For each page a set of pages, those that its jumps lead into among them, and its sources: all pages whose set it is in.
 #[derive(Drop)]

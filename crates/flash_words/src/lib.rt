@@ -35,4 +35,9 @@ mod paged_words;
 
 pub use cells::Cells;
 pub use failing::FlashStop;
-pub use layout::{BLANK, KERNEL_FIRST, Layout, PAGE_WORDS, PAGES, WORDS};
+pub use jumps::JMP;
+pub use layout::{
+    BLANK, FIRST_ENTRY, KERNEL_FIRST, Layout, MOST_ENTRIES, MOST_IMAGE_PAGES, MOST_IMAGE_WORDS,
+    PAGE_WORDS, PAGES, WORDS,
+};
+pub use paged_words::RET;

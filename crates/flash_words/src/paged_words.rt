@@ -3,6 +3,7 @@
 ghost use Rattle.std.specs.Prelude.{◌≡◌, ◌≢◌, ℕ, ◌-◌, ◌≤◌, ◌<◌, ◌++◌, length, IfOk, IfSome, IfNone, OnOk};
 ghost use Rattle.flash_words.specs.Pages.{word_count, page_count, page_words, many, word_at, page_of, set_page};
 ghost use Rattle.flash_words.specs.Memory.{AreWords, loaded};
+ghost use Rattle.flash_words.specs.Layouts.{most_image_words};
 ghost use Rattle.flash_words.specs.Jumps.{HasNoJumpInto};
 ghost use Rattle.flash_words.specs.JumpSets.{IsBlankFrom};
 ghost use Rattle.flash_words.specs.Heads.{head};
@@ -17,7 +18,7 @@ use std::marker::Model;
 pub(crate) const PAGE_WORDS: usize = layout::PAGE_WORDS as usize;
 
 /// RET, the word in each place of the kernel's pages.
-const RET: u16 = 0x9508;
+pub const RET: u16 = 0x9508;
 
 /// The words by their addresses.
 #[derive(Drop)]
@@ -43,7 +44,7 @@ impl Model for PagedWords {
 impl PagedWords {
     /// The image from word 0 on, and the kernel.
     pub(crate) fn new(alloc: Global, image: &[u16]) -> Result<PagedWords, AllocError>
-        requires { length image.now ≤ 24576 }
+        requires { length image.now ≤ most_image_words }
         ensures value { IfOk result (λ words. words ≡ loaded image.now) }
         ensures size { IfOk result (λ words. length words ≡ word_count) }
         ensures fit { IfOk result AreWords }
@@ -155,7 +156,7 @@ fn put_words(words: &mut Vec<u16>, page: u16, new: &[u16; 128])
 /// The words of a flash that holds the image and the kernel.
 #[tactic(auto, unfolding(crate::specs::Memory::loaded))]
 fn loaded_words(alloc: Global, image: &[u16]) -> Result<Vec<u16>, AllocError>
-    requires { length image.now ≤ 24576 }
+    requires { length image.now ≤ most_image_words }
     ensures value { IfOk result (λ words. words.items ≡ loaded image.now) }
     ensures size { IfOk result (λ words. length words.items ≡ word_count) }
 {

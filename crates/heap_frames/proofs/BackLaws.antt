@@ -7,7 +7,7 @@ use Rattle.sram_layout.specs.Bytes.{block_at}
 use Rattle.sram_layout.proofs.Laws.{length-block_at}
 use Rattle.swap_store.specs.Slots.{page_in, with_page, IsWhole}
 use Rattle.swap_store.proofs.Laws.{length-with_page, page_same, page_other, written_whole}
-use Rattle.heap_frames.specs.Frames.{clean, dirty, frame_bytes, page_held, state_of, is_occupied, slot_of}
+use Rattle.heap_frames.specs.Frames.{dirty, frame_bytes, page_held, state_of, is_occupied, slot_of}
 use Rattle.heap_frames.specs.Paged.{IsPaged}
 use Rattle.heap_frames.specs.Paging.{written_back}
 use Rattle.heap_frames.proofs.FrameLaws.{occupied_state, state_occupied}
@@ -28,8 +28,7 @@ back_other_state m w i apart =
 -- the slot of an occupied frame's page is one of the swap's
 pub backed_slot : (m : List ℕ) (w : List (List ℕ)) (i : ℕ) → IsPaged m w → i < 8 → is_occupied m i ≡ true → slot_of m (page_held m i) < length w
 backed_slot m w i paged inside occupied =
-    let below : page_held m i < 256 = page_below (page_held m i) (paged.held i inside occupied) in
-    omega (arith, paged.slots (page_held m i) below (paged.backed i inside occupied), paged.room)
+    omega (arith, paged.slots (page_held m i) (page_below (page_held m i) (paged.held i inside occupied)) (paged.backed i inside occupied), paged.room)
 
 pub back_length : (m : List ℕ) (w : List (List ℕ)) (i : ℕ) → length (written_back m w i) ≡ length w
 back_length m w i = elim (cases_eq (state_of m i) dirty) [
@@ -49,8 +48,7 @@ back_same m w i paged inside occupied = elim (cases_eq (state_of m i) dirty) [
   | inl is ↦ ap (λ swap. page_in swap (slot_of m (page_held m i))) (back_dirty m w i is) ∙ page_same w (slot_of m (page_held m i)) (block_at m (frame_bytes i)) (backed_slot m w i paged inside occupied)
   | inr apart ↦
       let some : state_of m i ≢ 0 = state_occupied m i occupied in
-      let is_clean : state_of m i ≡ clean = omega (arith, paged.states i inside) in
-      ap (λ swap. page_in swap (slot_of m (page_held m i))) (back_other_state m w i apart) ∙ sym (paged.equal i inside is_clean)
+      ap (λ swap. page_in swap (slot_of m (page_held m i))) (back_other_state m w i apart) ∙ sym (paged.equal i inside (omega (arith, paged.states i inside)))
 ]
 
 -- every other slot stays

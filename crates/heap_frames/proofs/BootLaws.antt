@@ -3,13 +3,13 @@ use Rattle.std.proofs.Common.{◌≡◌, ℕ, ◌+◌, ◌/◌, ◌%◌, ◌<◌
 use Rattle.std.specs.Prelude.{Bool, true, false, not, ◌==◌, replicate, None}
 use Rattle.std.proofs.lemmas.Bool.{false_from_ne_true}
 use Rattle.base_laws.specs.Lists.{many}
-use Rattle.sram_layout.specs.Cells.{frame_cell, victim_cell, given_cell}
+use Rattle.sram_layout.specs.Cells.{frame_cell, victim_cell, given_cell, no_slot}
 use Rattle.sram_layout.specs.Boot.{at_boot}
 use Rattle.sram_layout.proofs.BootLaws.{length-at_boot, boot_slot, boot_zero}
 use Rattle.swap_store.specs.Slots.{most_slots, zero_slots}
 use Rattle.swap_store.proofs.Laws.{zero_slots_whole}
-use Rattle.heap_frames.specs.Addresses.{is_stack, is_heap}
-use Rattle.heap_frames.specs.Frames.{empty, state_of, is_occupied, holds, frame_of, given, victim, has_slot, no_slot, pages}
+use Rattle.flat_machine.specs.Addresses.{is_stack, is_heap}
+use Rattle.heap_frames.specs.Frames.{empty, state_of, is_occupied, holds, frame_of, given, victim, has_slot, pages}
 use Rattle.heap_frames.specs.Memory.{virtual_byte, vmem}
 use Rattle.heap_frames.specs.Paged.{IsPaged}
 use Rattle.heap_frames.proofs.Tables.{table_of_one}

@@ -42,8 +42,7 @@ number_one (suc n) f i below passes alone = elim (cases_eq i n) [
       let last : f n ≡ true = rw (← same) passes in
       ap₂ (λ (k : ℕ) (b : Bool). k + cond b 1 0) (number_none n f (λ k low. alone k (omega arith) (λ equal. omega arith))) last
   | inr apart ↦
-      let last : f n ≡ false = alone n (omega arith) (λ equal. apart (sym equal)) in
-      ap₂ (λ (k : ℕ) (b : Bool). k + cond b 1 0) (number_one n f i (omega arith) passes (λ k low other. alone k (omega arith) other)) last
+      ap₂ (λ (k : ℕ) (b : Bool). k + cond b 1 0) (number_one n f i (omega arith) passes (λ k low other. alone k (omega arith) other)) (alone n (omega arith) (λ equal. apart (sym equal)))
 ]
 
 -- a test that two tests share out

@@ -6,8 +6,9 @@ use Rattle.std.proofs.lemmas.Bool.Decides.{nat_tests}
 use Rattle.sram_layout.specs.Bytes.{byte_at, block_at}
 use Rattle.sram_layout.proofs.Laws.{block_alike}
 use Rattle.swap_store.specs.Slots.{page_in}
-use Rattle.heap_frames.specs.Addresses.{is_heap_page}
-use Rattle.heap_frames.specs.Frames.{clean, no_slot, frame_bytes, page_held, state_of, is_occupied, holds, victim, given, slot_of, has_slot}
+use Rattle.flat_machine.specs.Addresses.{is_heap_page}
+use Rattle.sram_layout.specs.Cells.{no_slot}
+use Rattle.heap_frames.specs.Frames.{clean, frame_bytes, page_held, state_of, is_occupied, holds, victim, given, slot_of, has_slot}
 use Rattle.heap_frames.specs.Paged.{IsSized, IsPaged}
 use Rattle.heap_frames.proofs.FrameLaws.{holds_both, same_holds, same_occupied, occupied_state}
 
@@ -61,8 +62,7 @@ held_after {m} {n} {w} {w'} {v} {page} e i inside occupied = elim (cases_eq i v)
 
 backed_after : {m n : List ℕ} {w w' : List (List ℕ)} {v page state : ℕ} → Entry m n w w' v page state → (i : ℕ) → i < 8 → is_occupied n i ≡ true → has_slot n (page_held n i) ≡ true
 backed_after {m} {n} {w} {w'} {v} {page} e i inside occupied =
-    let below : page_held n i < 256 = page_below (page_held n i) (held_after e i inside occupied) in
-    same_slot m n (page_held n i) (e.entered.slots (page_held n i) below) ∙ elim (cases_eq i v) [
+    same_slot m n (page_held n i) (e.entered.slots (page_held n i) (page_below (page_held n i) (held_after e i inside occupied))) ∙ elim (cases_eq i v) [
       | inl same ↦ rw (same, e.entered.names) e.slot
       | inr apart ↦ rw (e.entered.pages i inside apart) (e.paged.backed i inside (sym (same_occupied m n i (e.entered.states i inside apart)) ∙ occupied))
     ]
@@ -89,13 +89,11 @@ different_after {m} {n} {w} {w'} {v} {page} e i j below below' occupied occupied
 equal_after : {m n : List ℕ} {w w' : List (List ℕ)} {v page state : ℕ} → Entry m n w w' v page state → (i : ℕ) → i < 8 → state_of n i ≡ clean → block_at n (frame_bytes i) ≡ page_in w' (slot_of n (page_held n i))
 equal_after {m} {n} {w} {w'} {v} {page} {state} e i inside is_clean =
     let occupied : is_occupied n i ≡ true = occupied_state n i (λ none. omega arith) in
-    let below : page_held n i < 256 = page_below (page_held n i) (held_after e i inside occupied) in
-    rw (e.entered.slots (page_held n i) below) (elim (cases_eq i v) [
+    rw (e.entered.slots (page_held n i) (page_below (page_held n i) (held_after e i inside occupied))) (elim (cases_eq i v) [
       | inl same ↦ rw (same, e.entered.names) (e.equal (sym e.entered.has_state ∙ ap (state_of n) (sym same) ∙ is_clean))
       | inr apart ↦
           let was : is_occupied m i ≡ true = sym (same_occupied m n i (e.entered.states i inside apart)) ∙ occupied in
-          let was_clean : state_of m i ≡ clean = sym (e.entered.states i inside apart) ∙ is_clean in
-          rw (e.entered.pages i inside apart) (same_block_other i e.entered inside apart ∙ e.paged.equal i inside was_clean ∙ sym (e.others i inside apart was))
+          rw (e.entered.pages i inside apart) (same_block_other i e.entered inside apart ∙ e.paged.equal i inside (sym (e.entered.states i inside apart) ∙ is_clean) ∙ sym (e.others i inside apart was))
     ])
 
 pub entry_paged : {m n : List ℕ} {w w' : List (List ℕ)} {v page state : ℕ} → Entry m n w w' v page state → IsPaged n w'

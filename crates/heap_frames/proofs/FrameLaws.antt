@@ -2,7 +2,8 @@
 use Rattle.std.proofs.Common.{◌≡◌, ℕ, ◌<◌, List, arith, ap, ap₂, ◌∙◌, sym}
 use Rattle.std.specs.Prelude.{◌≢◌, true, false, not, ◌&&◌, ◌==◌, Some, None, is_some}
 use Rattle.std.proofs.lemmas.Bool.Decides.{nat_tests}
-use Rattle.heap_frames.specs.Frames.{empty, clean, page_held, state_of, is_occupied, holds, frame_of, slot_of, has_slot, no_slot}
+use Rattle.sram_layout.specs.Cells.{no_slot}
+use Rattle.heap_frames.specs.Frames.{empty, clean, page_held, state_of, is_occupied, holds, frame_of, slot_of, has_slot}
 use Rattle.heap_frames.specs.Paged.{IsPaged}
 use Rattle.heap_frames.proofs.Searches.{found_passes, missed_passes, found_same, none_found, only_found}
 

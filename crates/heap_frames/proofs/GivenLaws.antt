@@ -5,7 +5,7 @@ use Rattle.std.proofs.lemmas.Bool.{cases_eq, false_from_ne_true}
 use Rattle.sram_layout.specs.Bytes.{byte_at, block_at}
 use Rattle.sram_layout.specs.Cells.{frame_cell, victim_cell, slot_cell}
 use Rattle.sram_layout.proofs.Laws.{block_alike}
-use Rattle.heap_frames.specs.Addresses.{is_heap_page}
+use Rattle.flat_machine.specs.Addresses.{is_heap_page}
 use Rattle.heap_frames.specs.Frames.{clean, dirty, frame_bytes, page_held, state_of, is_occupied, holds, frame_of, resident_pages, victim, given, slot_of, has_slot}
 use Rattle.heap_frames.specs.Memory.{heap_byte}
 use Rattle.heap_frames.specs.Paged.{IsPaged}
@@ -85,9 +85,7 @@ give_back {m} {w} {page} i g inside =
           let slots : slot_of n (page_held m i) ≡ slot_of m (page_held m i) = give_other (page_held m i) g (page_below (page_held m i) (g.paged.held i inside occupied)) (held_apart i g inside occupied) in
           rw (give_state i g inside, give_held i g inside, slots, give_block i g)
       | inr apart ↦
-          let same : (state_of n i == dirty) ≡ (state_of m i == dirty) = ap (λ (state : ℕ). state == dirty) (give_state i g inside) in
-          let no : (state_of m i == dirty) ≡ false = other_number (state_of m i) dirty apart in
-          rw (same, no)
+          rw (ap (λ (state : ℕ). state == dirty) (give_state i g inside), other_number (state_of m i) dirty apart)
     ]
 
 -- no page is in a frame without a slot
@@ -108,11 +106,10 @@ give_once : {m : List ℕ} {w : List (List ℕ)} {page : ℕ} → Gives m w page
 give_once {m} {w} {page} g q p low low' has same =
     let n = with_slot_given m page in
     let before = λ (k : ℕ) (low : k < 256) (apart : k ≢ page) (has : has_slot n k ≡ true). let had : has_slot m k ≡ true = sym (same_slot m n k (give_other k g low apart)) ∙ has in g.paged.slots k low had in
-    let has' : has_slot n p ≡ true = sym (same_slot_number n q p same) ∙ has in
     elim (cases_eq q page) [
       | inl here ↦ elim (cases_eq p page) [
         | inl here' ↦ here ∙ sym here'
-        | inr apart' ↦ absurd (omega (arith, same, ap (slot_of n) here, give_slot_of g, give_other p g low' apart', before p low' apart' has'))
+        | inr apart' ↦ absurd (omega (arith, same, ap (slot_of n) here, give_slot_of g, give_other p g low' apart', before p low' apart' (sym (same_slot_number n q p same) ∙ has)))
       ]
       | inr apart ↦ elim (cases_eq p page) [
         | inl here' ↦ absurd (omega (arith, same, ap (slot_of n) here', give_slot_of g, give_other q g low apart, before q low apart has))

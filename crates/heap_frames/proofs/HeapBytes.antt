@@ -3,7 +3,8 @@ use Rattle.std.proofs.Common.{◌≡◌, ℕ, ◌+◌, List, ap, ◌∙◌}
 use Rattle.std.specs.Prelude.{true, false, not, ◌==◌, if◌then◌else◌, Some, None, slice_index}
 use Rattle.sram_layout.specs.Bytes.{byte_at}
 use Rattle.swap_store.specs.Slots.{page_in}
-use Rattle.heap_frames.specs.Frames.{no_slot, frame_bytes, frame_of, slot_of, has_slot}
+use Rattle.sram_layout.specs.Cells.{no_slot}
+use Rattle.heap_frames.specs.Frames.{frame_bytes, frame_of, slot_of, has_slot}
 use Rattle.heap_frames.specs.Memory.{slot_byte, held_byte, heap_byte}
 
 -- of a page in a frame

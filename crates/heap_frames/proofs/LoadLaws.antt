@@ -1,9 +1,9 @@
 -- What a load leaves.
-use Rattle.std.proofs.Common.{◌≡◌, ℕ, ◌+◌, ◌/◌, ◌%◌, ◌<◌, List, arith, ◌∙◌, sym, refl}
+use Rattle.std.proofs.Common.{◌≡◌, ℕ, ◌+◌, ◌/◌, ◌%◌, List, arith, ◌∙◌, sym, refl}
 use Rattle.std.specs.Prelude.{Bool, true, false, None}
 use Rattle.std.proofs.lemmas.Bool.{false_from_ne_true}
 use Rattle.sram_layout.specs.Bytes.{byte_at}
-use Rattle.heap_frames.specs.Addresses.{is_heap}
+use Rattle.flat_machine.specs.Addresses.{is_heap}
 use Rattle.heap_frames.specs.Frames.{frame_bytes, frame_of, holds, has_slot, pages}
 use Rattle.heap_frames.specs.Paged.{IsPaged}
 use Rattle.heap_frames.specs.Paging.{Store, frame_for, seated, heap_load}
@@ -32,15 +32,13 @@ load_there h a has heap paged =
     let page = a / 256 in
     let g = seated h page in
     let i = frame_for h.sram page in
-    let below : a < 65536 = heap_below a heap in
     let ready = seated_ready h page paged heap has in
     let same = seated_slots h page paged heap has in
-    let low : page < 256 = page_below page heap in
     record {
       value =
           sym (byte_in_frame g.sram g.swap page (a % 256) i (paged_frame g.sram g.swap page i ready.paged ready.here))
-          ∙ ready.bytes page (a % 256) low (omega arith)
-          ∙ sym (vmem_byte h.sram h.swap a below ∙ page_byte h.sram h.swap a heap);
+          ∙ ready.bytes page (a % 256) (page_below page heap) (omega arith)
+          ∙ sym (vmem_byte h.sram h.swap a (heap_below a heap) ∙ page_byte h.sram h.swap a heap);
       memory = same_memory {m = h.sram} {n = g.sram} {w = h.swap} {w' = g.swap} (record {
         window = λ b stack always. ready.others.window b (stack_from b stack) (stack_to b stack);
         heap = λ b inside in_heap always. ready.bytes (b / 256) (b % 256) (omega arith) (omega arith);

@@ -4,7 +4,7 @@ use Rattle.std.specs.Prelude.{◌≢◌, Bool, true, false, slice_index, slice_s
 use Rattle.std.proofs.lemmas.Bool.Decides.{nat_tests}
 use Rattle.sram_layout.specs.Bytes.{byte_at}
 use Rattle.sram_layout.specs.Regions.{stack_window}
-use Rattle.heap_frames.specs.Addresses.{is_stack, is_heap}
+use Rattle.flat_machine.specs.Addresses.{is_stack, is_heap}
 use Rattle.heap_frames.specs.Memory.{heap_byte, virtual_byte, vmem}
 use Rattle.heap_frames.proofs.Tables.{table_item, table_same, table_set, length-table}
 use Rattle.heap_frames.proofs.EntryLaws.{page_below}
@@ -35,8 +35,7 @@ stack_byte m w a stack = rw stack
 pub page_byte : (m : List ℕ) (w : List (List ℕ)) (a : ℕ) → is_heap a ≡ true → virtual_byte m w a ≡ heap_byte m w (a / 256) (a % 256)
 unfolding virtual_byte
 page_byte m w a heap =
-    let outside : is_stack a ≡ false = heap_no_stack a heap in
-    rw (outside, heap)
+    rw (heap_no_stack a heap, heap)
 
 pub no_byte : (m : List ℕ) (w : List (List ℕ)) (a : ℕ) → is_stack a ≡ false → is_heap a ≡ false → virtual_byte m w a ≡ 0
 unfolding virtual_byte

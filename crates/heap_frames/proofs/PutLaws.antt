@@ -1,6 +1,6 @@
 -- A byte stored in a page that a frame holds.
 use Rattle.std.proofs.Common.{◌≡◌, ℕ, ◌+◌, ◌<◌, List, arith, ap, ap₂, ◌∙◌, sym, refl, inl, inr}
-use Rattle.std.specs.Prelude.{◌≢◌, Bool, true, ◌&&◌, ◌==◌, Option, Some, None, if◌then◌else◌}
+use Rattle.std.specs.Prelude.{◌≢◌, Bool, ◌&&◌, ◌==◌, Option, Some, None, if◌then◌else◌}
 use Rattle.std.proofs.lemmas.Bool.{cases_eq, false_from_ne_true}
 use Rattle.sram_layout.specs.Cells.{frame_cell, victim_cell, given_cell, slot_cell}
 use Rattle.heap_frames.specs.Frames.{dirty, frame_bytes, page_held, is_occupied, holds, frame_of, resident_pages, victim}
@@ -25,7 +25,6 @@ put_victim m i page offset v inside below = byte_elsewhere m i page offset v vic
 pub stored_entered : {m : List ℕ} {w : List (List ℕ)} {i page offset : ℕ} (v : ℕ) → Puts m w i page offset → Entered m (with_byte_in_frame m i page offset v) i page dirty
 stored_entered {m} {w} {i} {page} {offset} v p =
     let inside = p.here.inside in
-    let below = p.below in
     record {
       size = byte_length m i page offset v;
       inside = inside;
@@ -72,8 +71,7 @@ stored_occupied {m} {w} {i} {page} {offset} v j p low =
     let n = with_byte_in_frame m i page offset v in
     elim (cases_eq j i) [
       | inl same ↦
-          let now : is_occupied n i ≡ true = occupied_state n i (λ none. omega (arith, (stored_entered v p).has_state)) in
-          ap (is_occupied n) same ∙ now ∙ sym p.here.occupied ∙ sym (ap (is_occupied m) same)
+          ap (is_occupied n) same ∙ occupied_state n i (λ none. omega (arith, (stored_entered v p).has_state)) ∙ sym p.here.occupied ∙ sym (ap (is_occupied m) same)
       | inr apart ↦ same_occupied m n j ((stored_entered v p).states j low apart)
     ]
 
@@ -106,13 +104,11 @@ other_by {m} {w} {i} {page} {offset} v q o None is p small low apart =
     ∙ slot_byte_same m n w w q o ((stored_entered v p).slots q small) refl
     ∙ sym (byte_in_slot m w q o is)
 other_by {m} {w} {i} {page} {offset} v q o (Some k) is p small low apart =
-    let n = with_byte_in_frame m i page offset v in
     let there = frame_holds m q k is in
-    byte_in_frame n w q o k (stored_frame v q p ∙ is)
+    byte_in_frame (with_byte_in_frame m i page offset v) w q o k (stored_frame v q p ∙ is)
     ∙ elim (cases_eq k i) [
       | inl same ↦
-          let names : q ≡ page = sym there.names ∙ ap (page_held m) same ∙ p.here.names in
-          let away : o ≢ offset = apart names in
+          let away : o ≢ offset = apart (sym there.names ∙ ap (page_held m) same ∙ p.here.names) in
           byte_elsewhere m i page offset v (frame_bytes k + o) (omega arith) (λ same'. away (omega arith)) (λ same'. omega (arith, there.inside, p.here.inside)) (λ same'. omega (arith, there.inside, p.here.inside))
       | inr other ↦ (stored_entered v p).bytes k o there.inside other low
     ]

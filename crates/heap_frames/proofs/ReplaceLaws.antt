@@ -2,11 +2,11 @@
 use Rattle.std.proofs.Common.{◌≡◌, ℕ, ◌+◌, ◌<◌, ◌≤◌, ◌⊎◌, List, length, arith, ap, ◌∙◌, sym, refl, inl, inr}
 use Rattle.std.specs.Prelude.{◌≢◌, true, Option, Some, None, slice_index}
 use Rattle.std.proofs.lemmas.Bool.{cases_eq, cases_lt, false_from_ne_true}
-use Rattle.sram_layout.specs.Bytes.{byte_count, block_at}
+use Rattle.sram_layout.specs.Bytes.{byte_count}
 use Rattle.sram_layout.specs.Cells.{frame_cell, given_cell, slot_cell}
 use Rattle.sram_layout.proofs.Laws.{block_byte}
 use Rattle.swap_store.specs.Slots.{page_in}
-use Rattle.heap_frames.specs.Addresses.{is_heap_page}
+use Rattle.flat_machine.specs.Addresses.{is_heap_page}
 use Rattle.heap_frames.specs.Frames.{clean, frame_bytes, page_held, holds, frame_of, victim, slot_of, has_slot}
 use Rattle.heap_frames.specs.Memory.{heap_byte}
 use Rattle.heap_frames.specs.Paged.{IsPaged}
@@ -145,16 +145,12 @@ evicted_bytes {m} {w} {page} {bytes} {state} q offset r small apart below found 
     let v = victim m in
     let n = with_page_in_frame m v page bytes state in
     let w' = written_back m w v in
-    let e = entered_next r in
     let there = frame_holds m q v found in
-    let slots : slot_of n q ≡ slot_of m q = e.slots q small in
-    let had : has_slot m q ≡ true = rw there.names at (r.paged.backed v there.inside there.occupied) in
-    let has : has_slot n q ≡ true = same_slot m n q slots ∙ had in
-    let back : page_in w' (slot_of m q) ≡ block_at m (frame_bytes v) = rw there.names at (back_same m w v r.paged there.inside there.occupied) in
+    let slots : slot_of n q ≡ slot_of m q = (entered_next r).slots q small in
     byte_in_slot n w' q offset (evicted q r apart there)
-    ∙ byte_of_slot n w' q offset has
+    ∙ byte_of_slot n w' q offset (same_slot m n q slots ∙ (rw there.names at (r.paged.backed v there.inside there.occupied)))
     ∙ ap (λ (slot : ℕ). slice_index (page_in w' slot) offset) slots
-    ∙ ap (λ (block : List ℕ). slice_index block offset) back
+    ∙ ap (λ (block : List ℕ). slice_index block offset) (rw there.names at (back_same m w v r.paged there.inside there.occupied))
     ∙ block_byte m (frame_bytes v) offset (omega arith) below
     ∙ sym (byte_in_frame m w q offset v found)
 

@@ -117,9 +117,8 @@ byte_by : (m n : List ℕ) (w : List (List ℕ)) (page offset : ℕ) (found : Op
 byte_by m n w page offset None is same below inside =
     byte_in_slot n w page offset (frame_of_same m n page same ∙ is) ∙ slot_byte_same m n w w page offset (slot_same m n page same below) refl ∙ sym (byte_in_slot m w page offset is)
 byte_by m n w page offset (Some i) is same below inside =
-    let there = frame_holds m page i is in
     byte_in_frame n w page offset i (frame_of_same m n page same ∙ is)
-    ∙ same.tables (frame_bytes i + offset) (omega arith) (omega (arith, there.inside))
+    ∙ same.tables (frame_bytes i + offset) (omega arith) (omega (arith, (frame_holds m page i is).inside))
     ∙ sym (byte_in_frame m w page offset i is)
 
 pub heap_byte_same : (m n : List ℕ) (w : List (List ℕ)) (page offset : ℕ) → SamePaging m n → page < 256 → offset < 256 → heap_byte n w page offset ≡ heap_byte m w page offset

@@ -38,17 +38,13 @@ missed_passes p a (suc n) i missed from to = missed_at p a n i (p a) refl missed
 pub found_same : (p q : ℕ → Bool) (a n : ℕ) → ((i : ℕ) → a ≤ i → i < a + n → p i ≡ q i) → find p (range_with_len a n) ≡ find q (range_with_len a n)
 found_same p q a zero agree = refl
 found_same p q a (suc n) agree =
-    let here : p a ≡ q a = agree a (omega arith) (omega arith) in
-    let rest : find p (range_with_len (a + 1) n) ≡ find q (range_with_len (a + 1) n) = found_same p q (a + 1) n (λ i from to. agree i (omega arith) (omega arith)) in
-    rw (here, rest)
+    rw (agree a (omega arith) (omega arith), found_same p q (a + 1) n (λ i from to. agree i (omega arith) (omega arith)))
 
 -- where none passes, none is found
 pub none_found : (p : ℕ → Bool) (a n : ℕ) → ((i : ℕ) → a ≤ i → i < a + n → p i ≡ false) → find p (range_with_len a n) ≡ None
 none_found p a zero fail = refl
 none_found p a (suc n) fail =
-    let here : p a ≡ false = fail a (omega arith) (omega arith) in
-    let rest : find p (range_with_len (a + 1) n) ≡ None = none_found p (a + 1) n (λ i from to. fail i (omega arith) (omega arith)) in
-    rw (here, rest)
+    rw (fail a (omega arith) (omega arith), none_found p (a + 1) n (λ i from to. fail i (omega arith) (omega arith)))
 
 -- where one alone passes, it is found
 only_case : (p : ℕ → Bool) (a n i : ℕ) (answer : Option ℕ) → find p (range_with_len a n) ≡ answer → a ≤ i → i < a + n → p i ≡ true → ((j : ℕ) → a ≤ j → j < a + n → p j ≡ true → j ≡ i) → find p (range_with_len a n) ≡ Some i

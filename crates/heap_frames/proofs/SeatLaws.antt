@@ -4,7 +4,7 @@ use Rattle.std.specs.Prelude.{◌≢◌, Bool, true, Option, Some, None, is_some
 use Rattle.std.proofs.lemmas.Bool.{cases_eq}
 use Rattle.swap_store.specs.Slots.{page_in, zero_page}
 use Rattle.swap_store.proofs.Laws.{length-zero_page, zero_page_byte}
-use Rattle.heap_frames.specs.Addresses.{is_heap_page}
+use Rattle.flat_machine.specs.Addresses.{is_heap_page}
 use Rattle.heap_frames.specs.Frames.{clean, dirty, page_held, is_occupied, frame_of, resident_pages, victim, given, slot_of, has_slot}
 use Rattle.heap_frames.specs.Memory.{heap_byte}
 use Rattle.heap_frames.specs.Paged.{IsPaged}
@@ -57,10 +57,9 @@ put_resident_pages {m} {w} {page} {bytes} {state} r =
 
 put_takes : {m : List ℕ} {w : List (List ℕ)} {page : ℕ} {bytes : List ℕ} {state : ℕ} → Replaces m w page bytes state → TakesFrame m (with_page_in_frame m (victim m) page bytes state) page
 put_takes {m} {w} {page} {bytes} {state} r =
-    let n = with_page_in_frame m (victim m) page bytes state in
     let there = next_holds r in
     record {
-      holds = (victim m, there.inside, seat_item n page (victim m) there);
+      holds = (victim m, there.inside, seat_item (with_page_in_frame m (victim m) page bytes state) page (victim m) there);
       stays = λ held. let none = none_some m page r.absent in absurd (cc);
       comes = λ missed. (put_resident_pages r, page_victim m bytes (victim m) page state r.paged.sized.sram r.long there.inside);
     }
@@ -85,13 +84,12 @@ seated_there h page i paged found =
 -- the page comes from its slot
 slot_replaces : (h : Store) (page : ℕ) → IsPaged h.sram h.swap → is_heap_page page ≡ true → has_slot h.sram page ≡ true → frame_of h.sram page ≡ None → Replaces h.sram h.swap page (page_in h.swap (slot_of h.sram page)) clean
 slot_replaces h page paged heap has missed =
-    let below = page_below page heap in
     record {
       paged = paged;
       heap = heap;
       slot = has;
       absent = missed;
-      long = paged.sized.swap.sizes (slot_of h.sram page) (omega (arith, paged.slots page below has, paged.room));
+      long = paged.sized.swap.sizes (slot_of h.sram page) (omega (arith, paged.slots page (page_below page heap) has, paged.room));
       full = omega arith;
       known = omega arith;
       equal = λ is_clean. refl;
@@ -202,10 +200,8 @@ first_touched_byte {m} {w} {page} q o g low below =
 
 first_touched_takes : {m : List ℕ} {w : List (List ℕ)} {page : ℕ} → Gives m w page → TakesFrame m (with_page_in_frame (with_slot_given m page) (victim (with_slot_given m page)) page zero_page dirty) page
 first_touched_takes {m} {w} {page} g =
-    let m0 = with_slot_given m page in
-    let n = with_page_in_frame m0 (victim m0) page zero_page dirty in
     let t = put_takes (first_touched_replaces g) in
-    let come = t.comes (none_some m0 page (give_frame page g ∙ give_absent g)) in
+    let come = t.comes (none_some (with_slot_given m page) page (give_frame page g ∙ give_absent g)) in
     record {
       holds = t.holds;
       stays = λ held. let none = none_some m page (give_absent g) in absurd (cc);

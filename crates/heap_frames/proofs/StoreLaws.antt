@@ -2,7 +2,7 @@
 use Rattle.std.proofs.Common.{◌≡◌, ℕ, ◌/◌, ◌%◌, ◌<◌, List, length, arith, ap, ◌∙◌, refl}
 use Rattle.std.specs.Prelude.{◌≢◌, Bool, true, false, None, Option, nat_lt, slice_index_or, slice_set}
 use Rattle.std.proofs.lemmas.Bool.{ltb-true, ltb-false}
-use Rattle.heap_frames.specs.Addresses.{is_heap}
+use Rattle.flat_machine.specs.Addresses.{is_heap}
 use Rattle.heap_frames.specs.Frames.{resident_pages, victim, given, slot_of, has_slot, pages}
 use Rattle.heap_frames.specs.Memory.{vmem}
 use Rattle.heap_frames.specs.Paged.{IsPaged}
@@ -26,7 +26,6 @@ puts_there h g i a ready = record { paged = ready.paged; here = ready.here; belo
 
 put_leaves : (h g : Store) (i a v : ℕ) → Ready h g (a / 256) i → LeavesOthers h.sram (with_byte_in_frame g.sram i (a / 256) (a % 256) v)
 put_leaves h g i a v ready =
-    let inside = ready.here.inside in
     record {
       cells = λ b from below. byte_elsewhere g.sram i (a / 256) (a % 256) v b from (λ same. omega arith) (λ same. omega arith) (λ same. omega arith) ∙ ready.others.cells b from below;
       tables = λ b above below. byte_elsewhere g.sram i (a / 256) (a % 256) v b (omega arith) (λ same. omega arith) (λ same. omega arith) (λ same. omega arith) ∙ ready.others.tables b above below;

@@ -2,7 +2,7 @@
 use Rattle.std.specs.Prelude.{ℕ, ◌+◌, ◌*◌, Bool, ◌&&◌, not, ◌==◌, if◌then◌else◌, Option, None, Some, List, map}
 use Rattle.std.specs.List.{range_with_len, find}
 use Rattle.sram_layout.specs.Bytes.{byte_at}
-use Rattle.sram_layout.specs.Cells.{frame_cell, victim_cell, given_cell, slot_cell}
+use Rattle.sram_layout.specs.Cells.{frame_cell, victim_cell, given_cell, no_slot, slot_cell}
 use Rattle.sram_layout.specs.Regions.{frames}
 
 -- a list of n items, of which f gives item i
@@ -18,10 +18,6 @@ clean = 1
 
 abbrev pub dirty : ℕ
 dirty = 2
-
--- what the swap map has for a page without a slot
-abbrev pub no_slot : ℕ
-no_slot = 0xFF
 
 -- the address of frame i's 256 bytes, i from 0 to 7
 abbrev pub frame_bytes : ℕ → ℕ

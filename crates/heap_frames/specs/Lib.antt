@@ -1,4 +1,3 @@
-pub mod Addresses
 pub mod Frames
 pub mod Memory
 pub mod Paged

@@ -2,7 +2,7 @@
 use Rattle.std.specs.Prelude.{◌≡◌, ℕ, ◌<◌, ◌≤◌, true, List, length}
 use Rattle.sram_layout.specs.Bytes.{byte_count, block_at}
 use Rattle.swap_store.specs.Slots.{page_in, IsWhole}
-use Rattle.heap_frames.specs.Addresses.{is_heap_page}
+use Rattle.flat_machine.specs.Addresses.{is_heap_page}
 use Rattle.heap_frames.specs.Frames.{clean, frame_bytes, page_held, state_of, is_occupied, victim, given, slot_of, has_slot}
 
 -- the lists have the sizes that an SRAM and a swap area always have

@@ -6,11 +6,8 @@ ghost use Rattle.heap_frames.specs.Frames.{clean, frame_bytes, frame_of, holds, 
 ghost use Rattle.heap_frames.specs.Paged.{IsPaged};
 ghost use Rattle.heap_frames.specs.Paging.{store_of, written_back, with_page_in_frame, frame_for, seated, first_touched, with_slot_given};
 
-use sram_layout::Sram;
+use sram_layout::{FRAMES, Sram};
 use swap_store::Swap;
-
-/// The address of the first frame's bytes.
-const FRAMES: u16 = 0x0500;
 
 /// The number of frames.
 const COUNT: u8 = 8;

@@ -1,17 +1,14 @@
 //! One byte of the heap.
 
 ghost use Rattle.std.specs.Prelude.{◌≡◌, ◌/◌, ◌%◌, ◌<◌, ◌↔◌, true, IfErr, IsErr, OnOk, OnErr};
-ghost use Rattle.heap_frames.specs.Addresses.{is_heap};
+ghost use Rattle.flat_machine.specs.Addresses.{is_heap};
 ghost use Rattle.heap_frames.specs.Paged.{IsPaged};
 ghost use Rattle.heap_frames.specs.Paging.{store_of, heap_load, heap_store, stored_or_full, with_byte_in_frame};
 ghost use Rattle.heap_frames.specs.Changes.{Loaded, Stored, IsFull};
 
 use crate::frames::{self, DIRTY};
-use sram_layout::Sram;
+use sram_layout::{NO_SLOT, Sram};
 use swap_store::Swap;
-
-/// What the swap map has for a page without a slot.
-const NO_SLOT: u8 = 0xFF;
 
 /// A page was stored to for the first time, and every slot was given.
 #[derive(Clone, Copy, Debug, PartialEq, Eq)]

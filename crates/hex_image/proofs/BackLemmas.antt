@@ -8,13 +8,13 @@ use Rattle.std.proofs.lemmas.List.{append-nil, length-map, length-take, length_p
 use Rattle.std.proofs.lemmas.List.Elements.{All-drop, All-from_get_or, All-head, All-push, All-tail, All-take}
 use Rattle.std.proofs.lemmas.List.FromFn.{fill_by_all, get_or-map-range_with_len, length-map-range_with_len}
 use Rattle.hex.specs.Hex.{IsBytes}
-use Rattle.text_lines.specs.Lines.{pieces_of}
-use Rattle.text_lines.specs.Written.{fed, IsPlain}
-use Rattle.text_lines.proofs.TextLaws.{concat-fed, lines_of-fed, pieces_of-fed}
+use Rattle.line_reader.specs.Lines.{pieces_of}
+use Rattle.line_reader.specs.Written.{fed, IsPlain}
+use Rattle.line_reader.proofs.TextLaws.{concat-fed, lines_of-fed, pieces_of-fed}
 use Rattle.hex_image.specs.Lines.{Meaning, bytes_at, end_of_file, meaning_of}
 use Rattle.hex_image.specs.Places.{base_after, base_set_by, byte_at, byte_given, cells_of, extent, places_of, word_of_cells, image_of_cells}
 use Rattle.hex_image.specs.HexText.{AreDifferent, HexText, IsBeforeEnd, meanings_of}
-use Rattle.hex_image.specs.Image.{IsImage}
+use Rattle.hex_image.specs.Image.{IsImage, most_bytes}
 use Rattle.hex_image.specs.Written.{bytes_of_words, data_line, record_content, record_count, record_line, written}
 use Rattle.hex_image.proofs.ReadingLemmas.{cells_of-push}
 use Rattle.hex_image.proofs.GrammarLemmas.{AreSound, sound_row}
@@ -72,28 +72,23 @@ byte_given-row start (byte ∷ bytes) (suc i) inside =
 
 byte_at-row : (bytes : List ℕ) (i : ℕ) → i < length bytes → byte_at (enumerate_from 0 bytes) i ≡ get_or bytes i 0
 byte_at-row bytes i inside =
-    let at : i ≡ 0 + i = omega arith in
-    ap (λ z. byte_at (enumerate_from 0 bytes) z) at ∙ ap (λ z. unwrap_or z 255) (byte_given-row 0 bytes i inside)
+    ap (λ z. byte_at (enumerate_from 0 bytes) z) (omega arith) ∙ ap (λ z. unwrap_or z 255) (byte_given-row 0 bytes i inside)
 
 -- the bytes of words in a row are the image of the words
 image_back : (words : List ℕ) → words ≡ image_of_cells (enumerate_from 0 (bytes_of_words words))
 image_back words =
     let cells = enumerate_from 0 (bytes_of_words words) in
     let size = length-bytes_of_words words in
-    let count : length words ≡ (extent cells + 1) / 2 = omega (arith, extent-all (bytes_of_words words), size) in
     let at : (k : ℕ) → k < length words → get_or words k 0 ≡ word_of_cells cells k = λ k inside.
-    let low : byte_at cells (2 * k) ≡ get_or words k 0 % 256 = byte_at-row (bytes_of_words words) (2 * k) (omega (arith, size)) ∙ byte_low words k inside in
     let high : byte_at cells (2 * k + 1) ≡ get_or words k 0 / 256 = byte_at-row (bytes_of_words words) (2 * k + 1) (omega (arith, size)) ∙ byte_high words k inside in
-    omega (arith, low, high) in
-    fill_by_all (word_of_cells cells) words (length words) 0 refl at ∙ ap (λ n. map (word_of_cells cells) (range_with_len 0 n)) count
+    omega (arith, byte_at-row (bytes_of_words words) (2 * k) (omega (arith, size)) ∙ byte_low words k inside, high) in
+    fill_by_all (word_of_cells cells) words (length words) 0 refl at ∙ ap (λ n. map (word_of_cells cells) (range_with_len 0 n)) (omega (arith, extent-all (bytes_of_words words), size))
 
 enumerate_from-append : (start : ℕ) (xs ys : List ℕ) → enumerate_from start (xs ++ ys) ≡ enumerate_from start xs ++ enumerate_from (start + length xs) ys
 enumerate_from-append start [] ys =
-    let same : start ≡ start + 0 = omega arith in
-    ap (λ z. enumerate_from z ys) same
+    ap (λ z. enumerate_from z ys) (omega arith)
 enumerate_from-append start (x ∷ xs) ys =
-    let same : start + 1 + length xs ≡ start + suc (length xs) = omega arith in
-    ap (λ z. (start, x) ∷ z) (enumerate_from-append (start + 1) xs ys) ∙ ap (λ z. (start, x) ∷ (enumerate_from (start + 1) xs ++ enumerate_from z ys)) same
+    ap (λ z. (start, x) ∷ z) (enumerate_from-append (start + 1) xs ys) ∙ ap (λ z. (start, x) ∷ (enumerate_from (start + 1) xs ++ enumerate_from z ys)) (omega arith)
 
 take_nothing : {X : Type 0} (n : ℕ) → ◌≡◌ {A = List X} [] (take n [])
 take_nothing zero = refl
@@ -122,8 +117,7 @@ data_meanings words n = map (data_meaning words) (range_with_len 0 n)
 
 length-content : (words : List ℕ) (number : ℕ) → length (record_content words number) ≤ 16
 length-content words number =
-    let chunk = take 8 (drop (8 * number) words) in
-    omega (arith, length-bytes_of_words chunk, length-take 8 (drop (8 * number) words))
+    omega (arith, length-bytes_of_words (take 8 (drop (8 * number) words)), length-take 8 (drop (8 * number) words))
 
 writable : (words : List ℕ) (number : ℕ) → IsImage words → number < record_count words → IsWritable 0 (16 * number) (record_content words number)
 writable words number image below =
@@ -164,24 +158,20 @@ meanings-data : (words : List ℕ) → IsImage words → (n : ℕ) → n ≤ rec
 meanings-data words image zero fits = refl
 meanings-data words image (suc n) fits =
     let before = range_with_len 0 n in
-    let none : 0 + n ≡ n = omega arith in
-    let more : range_with_len 0 (suc n) ≡ before ++ n ∷ [] = range_with_len-push 0 n ∙ ap (λ z. before ++ z ∷ []) none in
-    let here : meaning_of (data_line words n) ≡ data_meaning words n = record_line-meaning 0 (16 * n) (record_content words n) (writable words n image (omega arith)) in
+    let more : range_with_len 0 (suc n) ≡ before ++ n ∷ [] = range_with_len-push 0 n ∙ ap (λ z. before ++ z ∷ []) (omega arith) in
     ap (λ z. map meaning_of (map (data_line words) z)) more
     ∙ ap (map meaning_of) (map-append (data_line words) before (n ∷ []))
     ∙ map-append meaning_of (map (data_line words) before) (data_line words n ∷ [])
     ∙ ap (λ z. z ++ meaning_of (data_line words n) ∷ []) (meanings-data words image n (omega arith))
-    ∙ ap (λ z. data_meanings words n ++ z ∷ []) here
+    ∙ ap (λ z. data_meanings words n ++ z ∷ []) (record_line-meaning 0 (16 * n) (record_content words n) (writable words n image (omega arith)))
     ∙ sym (ap (map (data_meaning words)) more ∙ map-append (data_meaning words) before (n ∷ []))
 
 meanings_of-written : (words : List ℕ) → IsImage words → meanings_of (written words) ≡ data_meanings words (record_count words) ++ end_of_file ∷ []
 meanings_of-written words image =
     let n = record_count words in
-    let plain = plain_lines words image in
-    let lines = map (data_line words) (range_with_len 0 n) in
     ap meanings_of (written-fed words)
-    ∙ ap (map meaning_of) (lines_of-fed (all_lines words) plain)
-    ∙ map-append meaning_of lines (record_line 1 0 [] ∷ [])
+    ∙ ap (map meaning_of) (lines_of-fed (all_lines words) (plain_lines words image))
+    ∙ map-append meaning_of (map (data_line words) (range_with_len 0 n)) (record_line 1 0 [] ∷ [])
     ∙ ap (λ z. z ++ meaning_of (record_line 1 0 []) ∷ []) (meanings-data words image n (omega arith))
     ∙ ap (λ z. data_meanings words n ++ z ∷ []) (record_line-meaning 1 0 [] writable_end)
 
@@ -197,15 +187,12 @@ cells_of-data words (suc n) fits =
     let before = range_with_len 0 n in
     let front = take (8 * n) words in
     let chunk = take 8 (drop (8 * n) words) in
-    let none : 0 + n ≡ n = omega arith in
     let more : data_meanings words (suc n) ≡ data_meanings words n ++ data_meaning words n ∷ [] =
-    ap (map (data_meaning words)) (range_with_len-push 0 n ∙ ap (λ z. before ++ z ∷ []) none) ∙ map-append (data_meaning words) before (n ∷ []) in
-    let at : base_after (data_meanings words n) ≡ 0 = ap (λ z. unwrap_or (last_or None z) 0) (no_base words 0 n) in
+    ap (map (data_meaning words)) (range_with_len-push 0 n ∙ ap (λ z. before ++ z ∷ []) (omega arith)) ∙ map-append (data_meaning words) before (n ∷ []) in
     let full : length front ≡ 8 * n = omega (arith, length-take (8 * n) words) in
-    let start : base_after (data_meanings words n) + 16 * n ≡ 0 + length (bytes_of_words front) = omega (arith, at, full, length-bytes_of_words front) in
-    let next : 8 * suc n ≡ 8 * n + 8 = omega arith in
+    let start : base_after (data_meanings words n) + 16 * n ≡ 0 + length (bytes_of_words front) = omega (arith, ap (λ z. unwrap_or (last_or None z) 0) (no_base words 0 n), full, length-bytes_of_words front) in
     let parts : bytes_of_words (take (8 * suc n) words) ≡ bytes_of_words front ++ bytes_of_words chunk =
-    ap (λ z. bytes_of_words (take z words)) next ∙ ap bytes_of_words (take-plus (8 * n) 8 words) ∙ flat_map-append (λ word. word % 256 ∷ word / 256 ∷ []) front chunk in
+    ap (λ z. bytes_of_words (take z words)) (omega arith) ∙ ap bytes_of_words (take-plus (8 * n) 8 words) ∙ flat_map-append (λ word. word % 256 ∷ word / 256 ∷ []) front chunk in
     ap cells_of more
     ∙ cells_of-push (data_meanings words n) (data_meaning words n)
     ∙ ap (λ z. z ++ enumerate_from (base_after (data_meanings words n) + 16 * n) (bytes_of_words chunk)) (cells_of-data words n (omega arith))
@@ -227,14 +214,11 @@ image_written words image =
     let ends : slice_get (meanings_of text) n ≡ Some end_of_file =
     ap (λ z. slice_get z n) lines ∙ ap (slice_get (metas ++ end_of_file ∷ [])) (sym size) ∙ slice_get-end metas end_of_file in
     let front : take n (meanings_of text) ≡ metas = ap (take n) lines ∙ take_at metas (end_of_file ∷ []) n size in
-    let all : take (8 * n) words ≡ words = take_all (8 * n) words (omega arith) in
     let cells : cells_of (take n (meanings_of text)) ≡ enumerate_from 0 (bytes_of_words words) =
-    ap cells_of front ∙ cells_of-data words n (omega arith) ∙ ap (λ z. enumerate_from 0 (bytes_of_words z)) all in
+    ap cells_of front ∙ cells_of-data words n (omega arith) ∙ ap (λ z. enumerate_from 0 (bytes_of_words z)) (take_all (8 * n) words (omega arith)) in
     let sound : AreSound (enumerate_from 0 (bytes_of_words words)) = sound_row 0 (bytes_of_words words) (omega (arith, image.few, length-bytes_of_words words)) in
     let right : All IsBeforeEnd metas = All-from_get_or IsBeforeEnd metas end_of_file (λ i inside.
-    let below : i < n = omega (arith, size) in
-    let fits : IsBeforeEnd (data_meaning words i) = omega (arith, image.few, length-content words i) in
-    subst IsBeforeEnd (sym (get_or-map-range_with_len (data_meaning words) 0 n i i end_of_file below (omega arith))) fits) in
+    subst IsBeforeEnd (sym (get_or-map-range_with_len (data_meaning words) 0 n i i end_of_file (omega (arith, size)) (omega arith))) (omega (arith, image.few, length-content words i))) in
     let pieces : pieces_of text ≡ map fed (all_lines words) = ap pieces_of (written-fed words) ∙ pieces_of-fed (all_lines words) (plain_lines words image) in
     let count : length (pieces_of text) ≤ n + 1 =
     omega (arith, ap length pieces, length-map (all_lines words) fed, length_push (map (data_line words) (range_with_len 0 n)) (record_line 1 0 []), length-map-range_with_len (data_line words) 0 n) in
@@ -245,7 +229,7 @@ image_written words image =
       ends = ends;
       lines = subst (λ z. All IsBeforeEnd z) (sym front) right;
       different = subst (λ z. AreDifferent (places_of z)) (sym cells) sound.different;
-      small = subst (λ z. All (λ place. place < 49152) (places_of z)) (sym cells) sound.small;
+      small = subst (λ z. All (λ place. place < most_bytes) (places_of z)) (sym cells) sound.small;
       image = image_back words ∙ ap image_of_cells (sym cells);
       cut = ap length (sym whole);
     }

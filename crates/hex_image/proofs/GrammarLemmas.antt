@@ -7,6 +7,7 @@ use Rattle.std.proofs.lemmas.Bool.Decides.{nat_tests}
 use Rattle.std.proofs.lemmas.List.{append-nil, append_assoc, drop_at, get_or-take, length-take, take-append-drop, take-take, take_at, get_or-append_right, get_or_append_left, length-append, map-append}
 use Rattle.std.proofs.lemmas.List.Elements.{All-append, All-drop, All-head, All-tail, All-take, All-from_get_or, All-get_or, All-nil, All-push}
 use Rattle.std.proofs.lemmas.List.FromFn.{get_or-range_with_len, length-range_with_len}
+use Rattle.hex_image.specs.Image.{most_bytes}
 use Rattle.hex_image.specs.Lines.{Meaning, blank, bytes_at, end_of_file, base, start_address, faulty}
 use Rattle.hex_image.specs.Places.{Cell, base_after, byte_given, cells_at, cells_behind, cells_of, extent, fault_behind, place_fault, places_of}
 use Rattle.hex_image.specs.HexText.{AreDifferent, IsBeforeEnd, IsPassed, fault_or_end}
@@ -60,8 +61,7 @@ any_from test a (suc n) some = elim (cases_or (test a) (list_any test (range_wit
   | inl here ↦ (0, omega arith, rw add-zero here)
   | inr later ↦
       let found = any_from test (a + 1) n later in
-      let at : a + 1 + found.0 ≡ a + suc found.0 = omega arith in
-      (suc found.0, omega (arith, found.1), ap test (sym at) ∙ found.2)
+      (suc found.0, omega (arith, found.1), ap test (sym (omega arith)) ∙ found.2)
 ]
 
 -- ---- different places
@@ -91,23 +91,19 @@ different-row xs start n before apart i j order below same =
 
 different-front : (xs ys : List ℕ) → AreDifferent (xs ++ ys) → AreDifferent xs
 different-front xs ys all i j order below same =
-    let first : slice_index (xs ++ ys) i ≡ slice_index xs i = get_or_append_left xs ys 0 i (omega arith) in
-    let second : slice_index (xs ++ ys) j ≡ slice_index xs j = get_or_append_left xs ys 0 j below in
-    all i j order (omega (arith, length-append xs ys)) (first ∙ same ∙ sym second)
+    all i j order (omega (arith, length-append xs ys)) (get_or_append_left xs ys 0 i (omega arith) ∙ same ∙ sym (get_or_append_left xs ys 0 j below))
 
 different-apart : (xs : List ℕ) (start n : ℕ) → AreDifferent (xs ++ range_with_len start n) → (i k : ℕ) → i < length xs → k < n → slice_index xs i ≢ start + k
 different-apart xs start n all i k inside below same =
-    let first : slice_index (xs ++ range_with_len start n) i ≡ slice_index xs i = get_or_append_left xs (range_with_len start n) 0 i inside in
-    let back : length xs + k - length xs ≡ k = omega arith in
     let second : slice_index (xs ++ range_with_len start n) (length xs + k) ≡ start + k =
-    get_or-append_right xs (range_with_len start n) (length xs) (length xs + k) 0 refl (omega arith) ∙ ap (λ z. slice_index (range_with_len start n) z) back ∙ get_or-range_with_len start n k 0 below in
+    get_or-append_right xs (range_with_len start n) (length xs) (length xs + k) 0 refl (omega arith) ∙ ap (λ z. slice_index (range_with_len start n) z) (omega arith) ∙ get_or-range_with_len start n k 0 below in
     let size : length (xs ++ range_with_len start n) ≡ length xs + n = length-append xs (range_with_len start n) ∙ ap (λ z. length xs + z) (length-range_with_len start n) in
-    all i (length xs + k) (omega arith) (omega (arith, size)) (first ∙ same ∙ sym second)
+    all i (length xs + k) (omega arith) (omega (arith, size)) (get_or_append_left xs (range_with_len start n) 0 i inside ∙ same ∙ sym second)
 
 -- ---- a record behind others
 
 abbrev IsSmall : ℕ → Type 0
-IsSmall place = place < 49152
+IsSmall place = place < most_bytes
 
 -- the cells of lines have different places, each below the limit
 pub record AreSound (cells : List Cell) : Type 0 where
@@ -117,7 +113,7 @@ pub record AreSound (cells : List Cell) : Type 0 where
 -- a record without a fault keeps the places different
 sound-record : (cells : List Cell) (start : ℕ) (content : List ℕ) → AreSound cells
     → list_any (λ place. is_some (byte_given cells place)) (range_with_len start (length content)) ≡ false
-    → list_any (λ place. nat_le 49152 place) (range_with_len start (length content)) ≡ false
+    → list_any (λ place. nat_le most_bytes place) (range_with_len start (length content)) ≡ false
     → AreSound (cells ++ enumerate_from start content)
 sound-record cells start content sound free small =
     let whole = places_of-append cells start content in
@@ -129,9 +125,9 @@ sound-record cells start content sound free small =
     let row : All IsSmall (range_with_len start (length content)) =
     All-from_get_or IsSmall (range_with_len start (length content)) 0 (λ k inside.
     let below : k < length content = omega (arith, length-range_with_len start (length content)) in
-    let no : nat_le 49152 (start + k) ≡ false = none_at (λ place. nat_le 49152 place) start (length content) k below small in
-    let less : start + k < 49152 = grind (arith, nat_tests) in
-    subst (λ z. z < 49152) (sym (get_or-range_with_len start (length content) k 0 below)) less) in
+    let no : nat_le most_bytes (start + k) ≡ false = none_at (λ place. nat_le most_bytes place) start (length content) k below small in
+    let less : start + k < most_bytes = grind (arith, nat_tests) in
+    subst (λ z. z < most_bytes) (sym (get_or-range_with_len start (length content) k 0 below)) less) in
     record {
       different = rw whole (different-row (places_of cells) start (length content) sound.different apart);
       small = rw whole (All-append IsSmall (places_of cells) (range_with_len start (length content)) sound.small row);
@@ -141,7 +137,7 @@ true_or_false : (b : Bool) → (b ≡ true) ⊎ (b ≡ false)
 true_or_false true = inl refl
 true_or_false false = inr refl
 
-large_or_small : (place : ℕ) → nat_le 49152 place ≡ true → place < 49152 → ⊥
+large_or_small : (place : ℕ) → nat_le most_bytes place ≡ true → place < most_bytes → ⊥
 large_or_small place large small = grind (arith, nat_tests)
 
 -- a record that keeps the places different has no fault
@@ -151,7 +147,6 @@ record-sound cells from address content sound fits =
     let start = from + address in
     let row = range_with_len start (length content) in
     let whole = places_of-append cells start content in
-    let different : AreDifferent (places_of cells ++ row) = rw whole at sound.different in
     let small : All IsSmall (places_of cells ++ row) = rw whole at sound.small in
     let behind : All IsSmall row = subst (All IsSmall) (drop_at (places_of cells) row (length (places_of cells)) refl) (All-drop IsSmall (length (places_of cells)) (places_of cells ++ row) small) in
     let wraps : nat_lt 65536 (address + length content) ≡ false = grind (arith, nat_tests) in
@@ -160,16 +155,15 @@ record-sound cells from address content sound fits =
       | inl some ↦
           let found = any_from (λ place. is_some (byte_given cells place)) start (length content) some in
           let given = given_from cells (start + found.0) found.2 in
-          absurd (different-apart (places_of cells) start (length content) different given.0 found.0 given.1 found.1 given.2)
+          absurd (different-apart (places_of cells) start (length content) (rw whole at sound.different) given.0 found.0 given.1 found.1 given.2)
       | inr none ↦ none
     ] in
-    let below : list_any (λ place. nat_le 49152 place) row ≡ false =
-    elim (true_or_false (list_any (λ place. nat_le 49152 place) row)) [
+    let below : list_any (λ place. nat_le most_bytes place) row ≡ false =
+    elim (true_or_false (list_any (λ place. nat_le most_bytes place) row)) [
       | inl some ↦
-          let found = any_from (λ place. nat_le 49152 place) start (length content) some in
-          let here : get_or row found.0 0 ≡ start + found.0 = get_or-range_with_len start (length content) found.0 0 found.1 in
-          let less : get_or row found.0 0 < 49152 = All-get_or IsSmall row found.0 0 (omega (arith, found.1, length-range_with_len start (length content))) behind in
-          absurd (large_or_small (start + found.0) found.2 (omega (arith, here, less)))
+          let found = any_from (λ place. nat_le most_bytes place) start (length content) some in
+          let less : get_or row found.0 0 < most_bytes = All-get_or IsSmall row found.0 0 (omega (arith, found.1, length-range_with_len start (length content))) behind in
+          absurd (large_or_small (start + found.0) found.2 (omega (arith, get_or-range_with_len start (length content) found.0 0 found.1, less)))
       | inr none ↦ none
     ] in
     fault_by cells from address content false false false wraps free below
@@ -218,8 +212,7 @@ line_passed : (before : List Meaning) (line : Meaning) → IsBeforeEnd line → 
     → (fault_behind before line ≡ None) × (line ≢ end_of_file)
 line_passed before blank fits sound = (refl, λ e. cc e)
 line_passed before (bytes_at address content) fits sound =
-    let whole : AreSound (cells_of before ++ enumerate_from (base_after before + address) content) = rw (cells_of-push before (bytes_at address content)) at sound in
-    (record-sound (cells_of before) (base_after before) address content whole fits, λ e. cc e)
+    (record-sound (cells_of before) (base_after before) address content (rw (cells_of-push before (bytes_at address content)) at sound) fits, λ e. cc e)
 line_passed before end_of_file fits sound = absurd fits
 line_passed before (base value) fits sound = (refl, λ e. cc e)
 line_passed before start_address fits sound = (refl, λ e. cc e)
@@ -250,11 +243,9 @@ before-slice_get (z ∷ zs) (suc n) (suc m) x is below = before-slice_get zs n m
 next_sound : (lines : List Meaning) (n : ℕ) (o : Option Meaning) → slice_get lines n ≡ o → All IsBeforeEnd (take n lines) × AreSound (cells_of (take n lines))
     → IsPassed lines n → All IsBeforeEnd (take (suc n) lines) × AreSound (cells_of (take (suc n) lines))
 next_sound lines n None is before here =
-    let none = ap (fault_or_end (take n lines)) (sym is) ∙ here.sound in
-    cc none
+    cc (ap (fault_or_end (take n lines)) (sym is) ∙ here.sound)
 next_sound lines n (Some line) is before here =
-    let sound : fault_behind (take n lines) line ≡ None = ap (fault_or_end (take n lines)) (sym is) ∙ here.sound in
-    let one = line_sound (take n lines) line before.1 sound (λ e. here.unended (is ∙ ap (λ z. Some z) e)) in
+    let one = line_sound (take n lines) line before.1 (ap (fault_or_end (take n lines)) (sym is) ∙ here.sound) (λ e. here.unended (is ∙ ap (λ z. Some z) e)) in
     rw (take-slice_get n lines line is) (All-push IsBeforeEnd (take n lines) line before.0 one.0, one.1)
 
 -- lines that are passed one by one are right all at once
@@ -275,24 +266,21 @@ passed_lines lines n last is right sound m below =
     let front : AreSound (cells_of (take (suc m) lines)) =
     sound-front (cells_of (take (suc m) lines)) (cells_behind (take (suc m) lines) (drop (suc m) (take n lines)))
     (subst AreSound (ap cells_of split ∙ cells_behind-append [] (take (suc m) lines) (drop (suc m) (take n lines))) sound) in
-    let here : AreSound (cells_of (take m lines ++ line ∷ [])) = subst (λ z. AreSound (cells_of z)) (take-slice_get m lines line found.1) front in
-    let at : get_or (take n lines) m line ≡ line = get_or-take n lines m line below ∙ inside.1 in
-    let before : IsBeforeEnd line = subst IsBeforeEnd at (All-get_or IsBeforeEnd (take n lines) m line (omega (arith, length-take n lines, inside.0)) right) in
-    let one = line_passed (take m lines) line before here in
+    let before : IsBeforeEnd line = subst IsBeforeEnd (get_or-take n lines m line below ∙ inside.1) (All-get_or IsBeforeEnd (take n lines) m line (omega (arith, length-take n lines, inside.0)) right) in
+    let one = line_passed (take m lines) line before (subst (λ z. AreSound (cells_of z)) (take-slice_get m lines line found.1) front) in
     record {
       sound = ap (fault_or_end (take m lines)) found.1 ∙ one.0;
       unended = λ e. one.1 (some_same _ _ (sym found.1 ∙ e));
     }
 
 -- an image's bytes
-pub extent-small : (cells : List Cell) → All IsSmall (places_of cells) → extent cells ≤ 49152
+pub extent-small : (cells : List Cell) → All IsSmall (places_of cells) → extent cells ≤ most_bytes
 extent-small [] small = omega arith
 extent-small (cell ∷ cells) small =
-    let here : cell.0 < 49152 = All-head IsSmall cell.0 (places_of cells) small in
-    omega (arith, here, extent-small cells (All-tail IsSmall cell.0 (places_of cells) small))
+    omega (arith, All-head IsSmall cell.0 (places_of cells) small, extent-small cells (All-tail IsSmall cell.0 (places_of cells) small))
 
 -- bytes in a row have different places
-pub sound_row : (start : ℕ) (content : List ℕ) → start + length content ≤ 49152 → AreSound (enumerate_from start content)
+pub sound_row : (start : ℕ) (content : List ℕ) → start + length content ≤ most_bytes → AreSound (enumerate_from start content)
 sound_row start content fits =
     let row = range_with_len start (length content) in
     let whole = places_of-row start content in
@@ -300,6 +288,6 @@ sound_row start content fits =
     let small : All IsSmall row =
     All-from_get_or IsSmall row 0 (λ k inside.
     let below : k < length content = omega (arith, length-range_with_len start (length content)) in
-    let less : start + k < 49152 = omega arith in
-    subst (λ z. z < 49152) (sym (get_or-range_with_len start (length content) k 0 below)) less) in
+    let less : start + k < most_bytes = omega arith in
+    subst (λ z. z < most_bytes) (sym (get_or-range_with_len start (length content) k 0 below)) less) in
     record { different = rw whole different; small = rw whole small }

@@ -3,6 +3,7 @@ use Rattle.std.proofs.Common.{◌≡◌, ℕ, ◌+◌, ◌*◌, ◌/◌, ◌<◌
 use Rattle.std.specs.Prelude.{◌⊎◌, take, unwrap_or}
 use Rattle.std.specs.List.{concat, range_with_len}
 use Rattle.std.proofs.lemmas.Bool.{cases_eq, cases_lt}
+use Rattle.hex_image.specs.Image.{most_bytes}
 use Rattle.hex_image.specs.declared.fault.HexFault.{HexFault}
 use Rattle.hex_image.specs.declared.fault.HexError.{HexError}
 use Rattle.hex_image.specs.declared.fault.HexError.TheVariants.{Bad, NoMemory}
@@ -11,7 +12,7 @@ use Rattle.std.specs.List.{slice_get}
 use Rattle.std.proofs.lemmas.Option.{slice_get_past}
 use Rattle.hex_image.specs.Lines.{Meaning, base, blank, bytes_at, end_of_file, faulty, start_address}
 use Rattle.hex_image.proofs.TextLemmas.{some_same}
-use Rattle.text_lines.specs.Lines.{pieces_of}
+use Rattle.line_reader.specs.Lines.{pieces_of}
 use Rattle.hex_image.specs.Places.{Cell, byte_at, cells_of, word_of_cells, image_of_cells}
 use Rattle.hex_image.specs.HexText.{HexBad, HexText, IsPassed, fault_at, fault_or_end, meanings_of}
 use Rattle.hex_image.specs.Reading.{AreSlots, IsEnded, IsImageAnswer, word_of_slots}
@@ -43,17 +44,14 @@ pub same_fault : (text : List ℕ) (l m : ℕ) (f g : HexFault) → HexBad text 
 same_fault text l m f g a b =
     elim (cases_lt a.before b.before) [
       | inl less ↦
-          let none = (b.passed a.before less).sound in
-          cc (none, a.at)
+          cc ((b.passed a.before less).sound, a.at)
       | inr least ↦
           elim (cases_lt b.before a.before) [
             | inl less ↦
-                let none = (a.passed b.before less).sound in
-                cc (none, b.at)
+                cc ((a.passed b.before less).sound, b.at)
             | inr most ↦
                 let same : a.before ≡ b.before = omega arith in
-                let faults = sym a.at ∙ ap (fault_at (meanings_of text)) same ∙ b.at in
-                (a.number ∙ ap (λ n. n + 1) same ∙ sym b.number, cc faults)
+                (a.number ∙ ap (λ n. n + 1) same ∙ sym b.number, cc (sym a.at ∙ ap (fault_at (meanings_of text)) same ∙ b.at))
           ]
     ]
 
@@ -91,7 +89,7 @@ words_of_slots cells slots are =
     ∙ ap (λ n. map (word_of_cells cells) (range_with_len 0 ((n + 1) / 2))) are.size
 
 -- an image's bytes are within the limit
-pub slots_few : (text : List ℕ) (slots : List (Option ℕ)) (position : ℕ) → IsEnded text slots position → length slots ≤ 49152
+pub slots_few : (text : List ℕ) (slots : List (Option ℕ)) (position : ℕ) → IsEnded text slots position → length slots ≤ most_bytes
 slots_few text slots position e =
     omega (arith, e.slots_are.size, extent-small (cells_of (take e.before (meanings_of text))) (sound_lines (meanings_of text) e.before e.passed).1.small)
 
@@ -138,8 +136,7 @@ passed_by lines n line is none other = record { sound = none; unended = λ e. ot
 passed_or_halts : (lines : List Meaning) (n : ℕ) (o : Option Meaning) (f : Option HexFault) → slice_get lines n ≡ o → fault_at lines n ≡ f → IsPassed lines n ⊎ Halts lines n
 passed_or_halts lines n o (Some fault) is at = inr (inr (fault, at))
 passed_or_halts lines n None None is at =
-    let none = ap (fault_or_end (take n lines)) (sym is) ∙ at in
-    cc none
+    cc (ap (fault_or_end (take n lines)) (sym is) ∙ at)
 passed_or_halts lines n (Some end_of_file) None is at = inr (inl is)
 passed_or_halts lines n (Some blank) None is at = inl (passed_by lines n blank is at (λ e. cc e))
 passed_or_halts lines n (Some (bytes_at address content)) None is at = inl (passed_by lines n (bytes_at address content) is at (λ e. cc e))
@@ -170,8 +167,7 @@ one_of_both text =
     let lines = meanings_of text in
     elim (first_halt lines (suc (length lines))) [
       | inl passed ↦
-          let beyond : slice_get lines (length lines) ≡ None = slice_get_past lines (length lines) (omega arith) in
-          let none = ap (fault_or_end (take (length lines) lines)) (sym beyond) ∙ (passed (length lines) (omega arith)).sound in
+          let none = ap (fault_or_end (take (length lines) lines)) (sym (slice_get_past lines (length lines) (omega arith))) ∙ (passed (length lines) (omega arith)).sound in
           cc none
       | inr found ↦
           elim found.2 [

@@ -1,7 +1,7 @@
 -- Judging a line.
 use Rattle.std.proofs.Common.{◌≡◌, ℕ, ◌+◌, ◌*◌, ◌/◌, ◌%◌, ◌<◌, ◌==◌, nat_lt, not, ◌||◌, true, List, [], ◌∷◌, length, refl, sym, ap, ◌∙◌, arith, inl, inr, Ok, Err, Some, Result, MatchResult}
 use Rattle.std.specs.Result.{is_err, result_unwrap_or}
-use Rattle.std.specs.List.{AllPass, list_all}
+use Rattle.std.specs.List.{AllPass}
 use Rattle.std.proofs.lemmas.Bool.{cases_eq}
 use Rattle.std.proofs.lemmas.Bool.Decides.{nat_tests}
 use Rattle.std.proofs.lemmas.List.Sums.{list_all-from_AllPass}
@@ -17,8 +17,7 @@ use Rattle.hex_image.specs.Reading.{IsRecordOf, IsRecordOfBytes, fault_in, meani
 -- a line of digits whose number is wrong
 wrong_length : (digits : List ℕ) → AllPass is_hex_digit digits → has_fault (58 ∷ digits) Length ≡ true → own_fault (58 ∷ digits) ≡ Some Length
 wrong_length digits all wrong =
-    let every : list_all is_hex_digit digits ≡ true = list_all-from_AllPass is_hex_digit digits all in
-    rw (every, wrong) refl
+    rw (list_all-from_AllPass is_hex_digit digits all, wrong) refl
 
 -- a count is a byte
 count_small : (digits : List ℕ) (r : Result (List ℕ) FromHexError) → decode_of digits ≡ r → count_in (result_unwrap_or r []) < 256
@@ -42,11 +41,7 @@ undecoded digits out n r all half answer bad =
     elim (cases_eq (length digits % 2) 1) [
       | inl odd ↦ wrong_length digits all (odd_length (length digits) (count_in (bytes_of (58 ∷ digits))) odd)
       | inr even ↦
-          let zero_rest : length digits % 2 ≡ 0 = omega arith in
-          let twice : length digits ≡ 2 * n = omega arith in
-          let good = decode_of-digits digits zero_rest all in
-          let sized : decode_sized digits n ≡ Ok good.0 = decode_sized-twice digits n twice ∙ good.1 in
-          let ok = rw sized at answer in
+          let ok = rw (decode_sized-twice digits n (omega arith) ∙ (decode_of-digits digits (omega arith) all).1) at answer in
           absurd (cc (ok.0, bad))
     ]
 
@@ -56,18 +51,15 @@ same_length n m c twice = grind (arith, nat_tests)
 -- the faults of a line of digits are those of its bytes
 pub own_in : (digits bytes : List ℕ) → AllPass is_hex_digit digits → decode_of digits ≡ Ok bytes → own_fault (58 ∷ digits) ≡ fault_in bytes
 own_in digits bytes all decoded =
-    let every : list_all is_hex_digit digits ≡ true = list_all-from_AllPass is_hex_digit digits all in
-    let whole : bytes_of (58 ∷ digits) ≡ bytes = ap (λ (r : Result (List ℕ) FromHexError). result_unwrap_or r []) decoded in
     let size = same_length (length digits) (length bytes) (count_in bytes) (decode_of-ok digits bytes decoded).2 in
-    rw (every, whole, size) refl
+    rw (list_all-from_AllPass is_hex_digit digits all, ap (λ (r : Result (List ℕ) FromHexError). result_unwrap_or r []) decoded, size) refl
 
 -- what was answered for the bytes is right for the line
 pub record_from_bytes : (digits bytes : List ℕ) (r : Result Line HexFault) → AllPass is_hex_digit digits → decode_of digits ≡ Ok bytes → IsRecordOfBytes bytes r
     → MatchResult r (IsRecordOf (58 ∷ digits)) (λ fault. own_fault (58 ∷ digits) ≡ Some fault)
 record_from_bytes digits bytes (Ok line) all decoded answer =
-    let whole : bytes_of (58 ∷ digits) ≡ bytes = ap (λ (r : Result (List ℕ) FromHexError). result_unwrap_or r []) decoded in
     record {
       sound = own_in digits bytes all decoded ∙ answer.judged.0;
-      says = answer.judged.1 ∙ ap meaning_in (sym whole);
+      says = answer.judged.1 ∙ ap meaning_in (sym (ap (λ (r : Result (List ℕ) FromHexError). result_unwrap_or r []) decoded));
     }
 record_from_bytes digits bytes (Err fault) all decoded answer = own_in digits bytes all decoded ∙ answer.judged

@@ -8,6 +8,7 @@ use Rattle.std.proofs.lemmas.Bool.Decides.{nat_tests}
 use Rattle.std.proofs.lemmas.List.{append_assoc, take_all, take_more}
 use Rattle.std.proofs.lemmas.List.Folds.{list_any-append, list_any_at}
 use Rattle.std.proofs.lemmas.List.FromFn.{get_or-enumerate_from, get_or-range_with_len, length-enumerate_from, length-range_with_len}
+use Rattle.hex_image.specs.Image.{most_bytes}
 use Rattle.hex_image.specs.declared.fault.HexFault.TheVariants.{Wrap, Twice, TooLarge}
 use Rattle.hex_image.specs.Places.{Cell, byte_given, extent, place_fault}
 use Rattle.hex_image.specs.Reading.{AreSlots}
@@ -21,8 +22,7 @@ any_more test a n before here =
 -- one of some places
 pub any_at : (test : ℕ → Bool) (a n i : ℕ) → i < n → test (a + i) ≡ true → list_any test (range_with_len a n) ≡ true
 any_at test a n i below here =
-    let inside : i < length (range_with_len a n) = omega (arith, length-range_with_len a n) in
-    list_any_at test (range_with_len a n) i 0 inside (ap test (get_or-range_with_len a n i 0 below) ∙ here)
+    list_any_at test (range_with_len a n) i 0 (omega (arith, length-range_with_len a n)) (ap test (get_or-range_with_len a n i 0 below) ∙ here)
 
 -- none of some places
 pub none_at : (test : ℕ → Bool) (a n i : ℕ) → i < n → list_any test (range_with_len a n) ≡ false → test (a + i) ≡ false
@@ -47,16 +47,15 @@ pub any_given : (cells : List Cell) (slots : List (Option ℕ)) (xs : List ℕ) 
 any_given cells slots xs are = any_same (λ place. is_some (byte_given cells place)) (λ place. is_some (get_or slots place None)) (λ place. ap is_some (sym (are.bytes place))) xs
 
 -- places in a row reach the limit where the last of them does
-pub any_large : (a n : ℕ) → list_any (λ place. nat_le 49152 place) (range_with_len a n) ≡ nat_lt (max 49152 a) (a + n)
+pub any_large : (a n : ℕ) → list_any (λ place. nat_le most_bytes place) (range_with_len a n) ≡ nat_lt (max most_bytes a) (a + n)
 any_large a zero = grind (arith, nat_tests)
 any_large a (suc n) =
-    let later = any_large (a + 1) n in
-    ap (λ z. nat_le 49152 a || z) later ∙ grind (arith, nat_tests)
+    ap (λ z. nat_le most_bytes a || z) (any_large (a + 1) n) ∙ grind (arith, nat_tests)
 
 -- the first fault, by the tests
 pub fault_by : (cells : List Cell) (from address : ℕ) (content : List ℕ) (w t l : Bool) → nat_lt 65536 (address + length content) ≡ w
     → list_any (λ place. is_some (byte_given cells place)) (range_with_len (from + address) (length content)) ≡ t
-    → list_any (λ place. nat_le 49152 place) (range_with_len (from + address) (length content)) ≡ l
+    → list_any (λ place. nat_le most_bytes place) (range_with_len (from + address) (length content)) ≡ l
     → place_fault cells from address content ≡ cond w (Some Wrap) (cond t (Some Twice) (cond l (Some TooLarge) None))
 fault_by cells from address content w t l wraps given large = rw (wraps, given, large) refl
 
@@ -64,13 +63,13 @@ fault_by cells from address content w t l wraps given large = rw (wraps, given, 
 pub large_or_none : (cells : List Cell) (slots : List (Option ℕ)) (from start address : ℕ) (content : List ℕ) (l : Bool) → AreSlots cells slots
     → address + length content ≤ 65536 → start ≡ from + address
     → list_any (λ place. is_some (get_or slots place None)) (range_with_len start (length content)) ≡ false
-    → nat_lt (max 49152 start) (start + length content) ≡ l
+    → nat_lt (max most_bytes start) (start + length content) ≡ l
     → place_fault cells from address content ≡ cond l (Some TooLarge) None
 large_or_none cells slots from start address content l are fits is free large =
     let wraps : nat_lt 65536 (address + length content) ≡ false = grind (arith, nat_tests) in
     let given : list_any (λ place. is_some (byte_given cells place)) (range_with_len (from + address) (length content)) ≡ false =
     rw (← is) (any_given cells slots (range_with_len start (length content)) are ∙ free) in
-    let beyond : list_any (λ place. nat_le 49152 place) (range_with_len (from + address) (length content)) ≡ l =
+    let beyond : list_any (λ place. nat_le most_bytes place) (range_with_len (from + address) (length content)) ≡ l =
     rw (← is) (any_large start (length content) ∙ large) in
     fault_by cells from address content false false l wraps given beyond
 
@@ -107,8 +106,7 @@ AreSlots-push cells place byte old new are free size here others = record {
   bytes = λ p. elim (cases_eq p place) [
     | inl same ↦
         let is : (place == p) ≡ true = grind (arith, nat_tests) in
-        let none : byte_given cells p ≡ None = ap (byte_given cells) same ∙ free in
-        ap (λ z. get_or new z None) same ∙ here ∙ sym (rw (byte_given-append cells ((place, byte) ∷ []) p, none, is) refl)
+        ap (λ z. get_or new z None) same ∙ here ∙ sym (rw (byte_given-append cells ((place, byte) ∷ []) p, ap (byte_given cells) same ∙ free, is) refl)
     | inr differ ↦
         let is : (place == p) ≡ false = grind (arith, nat_tests) in
         others p differ ∙ are.bytes p ∙ sym (byte_given-append cells ((place, byte) ∷ []) p ∙ rw is (kept (byte_given cells p)))
@@ -130,15 +128,12 @@ put_more cells old new start i byte content below is none are size here others =
     let inside : i < length (enumerate_from start content) = omega (arith, length-enumerate_from start content) in
     let cell : get_or (enumerate_from start content) i (0, 0) ≡ (start + i, byte) = get_or-enumerate_from start content i (0, 0) below ∙ ap (λ z. (start + i, z)) (sym is) in
     let more : take (i + 1) (enumerate_from start content) ≡ front ++ (start + i, byte) ∷ [] = take_more (enumerate_from start content) i (0, 0) inside ∙ ap (λ z. front ++ z ∷ []) cell in
-    let whole : cells ++ take (i + 1) (enumerate_from start content) ≡ (cells ++ front) ++ (start + i, byte) ∷ [] = ap (λ z. cells ++ z) more ∙ sym (append_assoc cells front ((start + i, byte) ∷ [])) in
     let first : byte_given cells (start + i) ≡ None = none_from_false _ (none_at (λ place. is_some (byte_given cells place)) start (length content) i below none) in
-    let second : byte_given front (start + i) ≡ None = fresh i start (start + i) content (omega arith) in
-    let free : byte_given (cells ++ front) (start + i) ≡ None = byte_given-append cells front (start + i) ∙ rw (first, second) refl in
-    rw whole (AreSlots-push (cells ++ front) (start + i) byte old new are free size here others)
+    let free : byte_given (cells ++ front) (start + i) ≡ None = byte_given-append cells front (start + i) ∙ rw (first, fresh i start (start + i) content (omega arith)) refl in
+    rw (ap (λ z. cells ++ z) more ∙ sym (append_assoc cells front ((start + i, byte) ∷ []))) (AreSlots-push (cells ++ front) (start + i) byte old new are free size here others)
 
 -- all bytes of a record
 pub put_all : (cells : List Cell) (slots : List (Option ℕ)) (start i : ℕ) (content : List ℕ) → length content ≤ i
     → AreSlots (cells ++ take i (enumerate_from start content)) slots → AreSlots (cells ++ enumerate_from start content) slots
 put_all cells slots start i content all are =
-    let whole : take i (enumerate_from start content) ≡ enumerate_from start content = take_all i (enumerate_from start content) (omega (arith, length-enumerate_from start content)) in
-    rw whole at are
+    rw (take_all i (enumerate_from start content) (omega (arith, length-enumerate_from start content))) at are

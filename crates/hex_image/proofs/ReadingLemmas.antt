@@ -4,6 +4,7 @@ use Rattle.std.specs.Prelude.{◌⊎◌, flat_map, is_some, nat_lt, nat_le, unwr
 use Rattle.std.specs.List.{enumerate_from, last_or, list_any, range_with_len}
 use Rattle.std.proofs.lemmas.List.{append-nil, append_assoc}
 use Rattle.std.proofs.lemmas.Grind.{flat_map-append}
+use Rattle.hex_image.specs.Image.{most_bytes}
 use Rattle.hex_image.specs.declared.fault.HexFault.{HexFault}
 use Rattle.hex_image.specs.declared.fault.HexFault.TheVariants.{Wrap, Twice, TooLarge}
 use Rattle.hex_image.specs.declared.reading.Reading.{Reading}
@@ -46,20 +47,18 @@ base_after-base lines value =
 pub IsReading-same : (lines : List Meaning) (line : Meaning) (reading : Reading) → base_set_by line ≡ [] → cells_at (base_after lines) line ≡ []
     → IsReading lines reading → IsReading (lines ++ line ∷ []) reading
 IsReading-same lines line reading sets gives is =
-    let cells : cells_of (lines ++ line ∷ []) ≡ cells_of lines = cells_of-push lines line ∙ ap (λ z. cells_of lines ++ z) gives ∙ append-nil (cells_of lines) in
     record {
       base_is = is.base_is ∙ sym (base_after-same lines line sets);
-      slots_are = rw cells is.slots_are;
+      slots_are = rw (cells_of-push lines line ∙ ap (λ z. cells_of lines ++ z) gives ∙ append-nil (cells_of lines)) is.slots_are;
     }
 
 -- a line that sets the base
 pub IsReading-base : (lines : List Meaning) (value : ℕ) (old new : Reading) → IsReading lines old → new.base ≡ value → new.slots ≡ old.slots
     → IsReading (lines ++ base value ∷ []) new
 IsReading-base lines value old new is sets same =
-    let cells : cells_of (lines ++ base value ∷ []) ≡ cells_of lines = cells_of-push lines (base value) ∙ append-nil (cells_of lines) in
     record {
       base_is = sets ∙ sym (base_after-base lines value);
-      slots_are = rw (cells, same) is.slots_are;
+      slots_are = rw (cells_of-push lines (base value) ∙ append-nil (cells_of lines), same) is.slots_are;
     }
 
 -- a line that says nothing was taken
@@ -94,7 +93,7 @@ no_fault false false false none = (refl, refl, refl)
 pub no_place_fault : (cells : List Cell) (from address : ℕ) (content : List ℕ) → place_fault cells from address content ≡ None
     → (nat_lt 65536 (address + length content) ≡ false)
     × (list_any (λ place. is_some (byte_given cells place)) (range_with_len (from + address) (length content)) ≡ false)
-    × (list_any (λ place. nat_le 49152 place) (range_with_len (from + address) (length content)) ≡ false)
+    × (list_any (λ place. nat_le most_bytes place) (range_with_len (from + address) (length content)) ≡ false)
 no_place_fault cells from address content none = no_fault _ _ _ (sym (fault_by cells from address content _ _ _ refl refl refl) ∙ none)
 
 -- a data record
@@ -121,8 +120,7 @@ pub data_step : (lines : List Meaning) (start address : ℕ) (content : List ℕ
 data_step lines start address content old new slots o is same judged none from kept put =
     let are : AreSlots (cells_of lines) slots = rw same is.slots_are in
     let free : place_fault (cells_of lines) old.base address content ≡ None = sym (judged (cells_of lines) are) ∙ none in
-    let given = rw (← from) at (no_place_fault (cells_of lines) old.base address content free).1 in
-    let placed = rw from at (put (cells_of lines) is.slots_are given) in (
+    let placed = rw from at (put (cells_of lines) is.slots_are (rw (← from) at (no_place_fault (cells_of lines) old.base address content free).1)) in (
       rw is.base_is at free,
       λ e. cc e,
       IsReading-data lines address content old new is kept placed,

@@ -6,8 +6,8 @@ use Rattle.std.proofs.lemmas.List.Folds.{concat-append}
 use Rattle.std.proofs.lemmas.Bool.{cases_eq}
 use Rattle.hex_image.specs.declared.fault.HexFault.{HexFault}
 use Rattle.hex_image.specs.declared.fault.HexFault.TheVariants.{NoEnd}
-use Rattle.text_lines.specs.Lines.{line_of, lines_of, pieces_of}
-use Rattle.text_lines.specs.Cutting.{IsCut}
+use Rattle.line_reader.specs.Lines.{line_of, lines_of, pieces_of}
+use Rattle.line_reader.specs.Cutting.{IsCut}
 use Rattle.hex_image.specs.Lines.{Meaning, end_of_file, meaning_of}
 use Rattle.hex_image.specs.Places.{cells_of, fault_behind}
 use Rattle.hex_image.specs.HexText.{HexBad, IsPassed, NeedsMemory, fault_at, fault_or_end, meanings_of}
@@ -55,9 +55,8 @@ pub record IsRead (text rest : List ℕ) (n : ℕ) (reading : Reading) : Type 0 
 pub next_line : (text rest line after : List ℕ) (n : ℕ) (reading : Reading) → IsRead text rest n reading → IsCut rest line after
     → slice_get (meanings_of text) n ≡ Some (meaning_of line)
 next_line text rest line after n reading is cut =
-    let left : drop n (pieces_of text) ≡ cut.piece ∷ pieces_of after = is.left ∙ cut.pieces in
     let mapped : drop n (meanings_of text) ≡ meaning_of (line_of cut.piece) ∷ meanings_of after =
-    drop-meanings n text ∙ ap (λ z. map meaning_of (map line_of z)) left in
+    drop-meanings n text ∙ ap (λ z. map meaning_of (map line_of z)) (is.left ∙ cut.pieces) in
     slice_get-drop n (meanings_of text) _ _ mapped ∙ ap (λ z. Some (meaning_of z)) (sym cut.line_is)
 
 -- the fault at the next line is the one that it has behind the lines before
@@ -70,17 +69,15 @@ fault_at-next text rest line after n reading is cut =
 pub lines-next : (text rest line after : List ℕ) (n : ℕ) (reading : Reading) → IsRead text rest n reading → IsCut rest line after
     → take (suc n) (meanings_of text) ≡ take n (meanings_of text) ++ meaning_of line ∷ []
 lines-next text rest line after n reading is cut =
-    let left : drop n (pieces_of text) ≡ cut.piece ∷ pieces_of after = is.left ∙ cut.pieces in
     let mapped : drop n (meanings_of text) ≡ meaning_of (line_of cut.piece) ∷ meanings_of after =
-    drop-meanings n text ∙ ap (λ z. map meaning_of (map line_of z)) left in
+    drop-meanings n text ∙ ap (λ z. map meaning_of (map line_of z)) (is.left ∙ cut.pieces) in
     take-drop n (meanings_of text) _ _ mapped ∙ ap (λ z. take n (meanings_of text) ++ meaning_of z ∷ []) (sym cut.line_is)
 
 -- how far the next line goes
 pub length-next : (text rest line after : List ℕ) (n : ℕ) (reading : Reading) → IsRead text rest n reading → IsCut rest line after
     → length (concat (take (n + 1) (pieces_of text))) + length after ≡ length text
 length-next text rest line after n reading is cut =
-    let left : drop n (pieces_of text) ≡ cut.piece ∷ pieces_of after = is.left ∙ cut.pieces in
-    let more : take (n + 1) (pieces_of text) ≡ take n (pieces_of text) ++ cut.piece ∷ [] = rw add-one (take-drop n (pieces_of text) cut.piece (pieces_of after) left) in
+    let more : take (n + 1) (pieces_of text) ≡ take n (pieces_of text) ++ cut.piece ∷ [] = rw add-one (take-drop n (pieces_of text) cut.piece (pieces_of after) (is.left ∙ cut.pieces)) in
     let joined : concat (take (n + 1) (pieces_of text)) ≡ concat (take n (pieces_of text)) ++ cut.piece =
     ap concat more ∙ concat-append (take n (pieces_of text)) (cut.piece ∷ []) ∙ ap (λ z. concat (take n (pieces_of text)) ++ z) (append-nil cut.piece) in
     let size : length rest ≡ length cut.piece + length after = ap length cut.joined ∙ length-append cut.piece after in
@@ -105,7 +102,6 @@ pub read_more : (text rest line after : List ℕ) (n : ℕ) (old new : Reading) 
     → IsReading (take n (meanings_of text) ++ meaning_of line ∷ []) new → IsRead text after (suc n) new
 read_more text rest line after n old new is cut sound unended reads =
     let left : drop n (pieces_of text) ≡ cut.piece ∷ pieces_of after = is.left ∙ cut.pieces in
-    let size : length rest ≡ length cut.piece + length after = ap length cut.joined ∙ length-append cut.piece after in
     let here : IsPassed (meanings_of text) n = record {
       sound = fault_at-next text rest line after n old is cut ∙ sound;
       unended = λ e. unended (some_same _ _ (sym (next_line text rest line after n old is cut) ∙ e));
@@ -113,7 +109,7 @@ read_more text rest line after n old new is cut sound unended reads =
     record {
       left = drop-more n (pieces_of text) cut.piece (pieces_of after) left;
       whole = rw (← add-one) (length-next text rest line after n old is cut);
-      few = omega (arith, is.few, cut.some, size);
+      few = omega (arith, is.few, cut.some, ap length cut.joined ∙ length-append cut.piece after);
       passed = λ m below. elim (cases_eq m n) [
         | inl same ↦ rw same here
         | inr differ ↦ is.passed m (omega arith)
@@ -145,13 +141,11 @@ read_fault text rest line after n number reading fault is cut counted bad = reco
 -- no end record came
 pub read_all : (text rest : List ℕ) (n number : ℕ) (reading : Reading) → IsRead text rest n reading → rest ≡ [] → number ≡ n + 1 → HexBad text number NoEnd
 read_all text rest n number reading is empty counted =
-    let left : drop n (pieces_of text) ≡ [] = is.left ∙ ap pieces_of empty in
-    let mapped : drop n (meanings_of text) ≡ [] = drop-meanings n text ∙ ap (λ z. map meaning_of (map line_of z)) left in
     record {
       before = n;
       number = counted;
       passed = is.passed;
-      at = ap (fault_or_end (take n (meanings_of text))) (slice_get-past n (meanings_of text) mapped);
+      at = ap (fault_or_end (take n (meanings_of text))) (slice_get-past n (meanings_of text) (drop-meanings n text ∙ ap (λ z. map meaning_of (map line_of z)) (is.left ∙ ap pieces_of empty)));
     }
 
 -- memory ran out at a line that gives bytes

@@ -1,5 +1,5 @@
 -- What is written is read back, line by line.
-use Rattle.std.proofs.Common.{◌≡◌, ℕ, zero, suc, ◌+◌, ◌-◌, ◌*◌, ◌/◌, ◌%◌, ◌<◌, ◌==◌, nat_lt, not, ◌||◌, true, false, cond, Bool, List, [], ◌∷◌, ◌++◌, length, get_or, take, sum, refl, ap, ◌∙◌, arith, None, Ok, Result}
+use Rattle.std.proofs.Common.{◌≡◌, ℕ, zero, suc, ◌+◌, ◌-◌, ◌/◌, ◌%◌, ◌<◌, ◌==◌, nat_lt, not, ◌||◌, true, false, cond, Bool, List, [], ◌∷◌, ◌++◌, length, get_or, take, sum, refl, ap, ◌∙◌, arith, None, Ok, Result}
 use Rattle.std.specs.Prelude.{◌≢◌}
 use Rattle.std.specs.List.{AllPass}
 use Rattle.std.specs.Result.{result_unwrap_or}
@@ -10,9 +10,9 @@ use Rattle.std.proofs.lemmas.List.Sums.{sum_by-append}
 use Rattle.hex.specs.Hex.{IsBytes, decode_of, encode_upper, is_hex_digit}
 use Rattle.hex.specs.declared.error.FromHexError.{FromHexError}
 use Rattle.hex.proofs.HexLemmas.{decode_of-encode_upper, decode_of-ok}
-use Rattle.text_lines.specs.Cutting.{Lacks}
-use Rattle.text_lines.specs.Written.{IsPlain}
-use Rattle.hex_image.specs.Lines.{bytes_of, has_right_count, judged, meaning_of, own_fault, record_meaning}
+use Rattle.line_reader.specs.Cutting.{Lacks}
+use Rattle.line_reader.specs.Written.{IsPlain}
+use Rattle.hex_image.specs.Lines.{has_right_count, judged, meaning_of, own_fault, record_meaning}
 use Rattle.hex_image.specs.Written.{checksum_of, fields_of, record_bytes, record_line}
 use Rattle.hex_image.specs.Reading.{fault_in, meaning_in}
 use Rattle.hex_image.proofs.LineLemmas.{own_in}
@@ -38,14 +38,11 @@ IsBytes-push (x ∷ xs) byte all fits (suc i) = IsBytes-push xs byte (λ k. all 
 -- the bytes of a record are bytes
 record_bytes-fit : (kind address : ℕ) (content : List ℕ) → IsWritable kind address content → IsBytes (record_bytes kind address content)
 record_bytes-fit kind address content w =
-    let check : checksum_of (fields_of kind address content) < 256 = omega arith in
-    let high : address / 256 < 256 = omega (arith, w.address_fits) in
-    let low : address % 256 < 256 = omega arith in
     let rest = content ++ checksum_of (fields_of kind address content) ∷ [] in
     IsBytes-cons (length content) (address / 256 ∷ address % 256 ∷ kind ∷ rest) w.short
-    (IsBytes-cons (address / 256) (address % 256 ∷ kind ∷ rest) high
-    (IsBytes-cons (address % 256) (kind ∷ rest) low
-    (IsBytes-cons kind rest w.kind_fits (IsBytes-push content (checksum_of (fields_of kind address content)) w.bytes check))))
+    (IsBytes-cons (address / 256) (address % 256 ∷ kind ∷ rest) (omega (arith, w.address_fits))
+    (IsBytes-cons (address % 256) (kind ∷ rest) (omega arith)
+    (IsBytes-cons kind rest w.kind_fits (IsBytes-push content (checksum_of (fields_of kind address content)) w.bytes (omega arith)))))
 
 sum-push : (xs : List ℕ) (y : ℕ) → sum (xs ++ y ∷ []) ≡ sum xs + y
 sum-push xs y = sum_by-append (λ x. x) xs (y ∷ []) ∙ omega arith
@@ -60,17 +57,13 @@ whole_length n = grind (arith, nat_tests)
 record_bytes-sound : (kind address : ℕ) (content : List ℕ) → IsWritable kind address content → fault_in (record_bytes kind address content) ≡ None
 record_bytes-sound kind address content w =
     let fields = fields_of kind address content in
-    let size : length (content ++ checksum_of fields ∷ []) ≡ length content + 1 = length_push content (checksum_of fields) in
-    let total : sum (fields ++ checksum_of fields ∷ []) ≡ sum fields + checksum_of fields = sum-push fields (checksum_of fields) in
-    rw (size, whole_length (length content), total, balanced (sum fields), w.right) refl
+    rw (length_push content (checksum_of fields), whole_length (length content), sum-push fields (checksum_of fields), balanced (sum fields), w.right) refl
 
 -- and say what the record says
 record_bytes-meaning : (kind address : ℕ) (content : List ℕ) → meaning_in (record_bytes kind address content) ≡ record_meaning kind address content
 record_bytes-meaning kind address content =
     let fields = fields_of kind address content in
-    let place : address / 256 * 256 + address % 256 ≡ address = omega arith in
-    let middle : take (length content) (content ++ checksum_of fields ∷ []) ≡ content = take_at content (checksum_of fields ∷ []) (length content) refl in
-    ap (λ z. record_meaning kind z (take (length content) (content ++ checksum_of fields ∷ []))) place ∙ ap (record_meaning kind address) middle
+    ap (λ z. record_meaning kind z (take (length content) (content ++ checksum_of fields ∷ []))) (omega arith) ∙ ap (record_meaning kind address) (take_at content (checksum_of fields ∷ []) (length content) refl)
 
 -- a line that is written says what its record says
 pub record_line-meaning : (kind address : ℕ) (content : List ℕ) → IsWritable kind address content → meaning_of (record_line kind address content) ≡ record_meaning kind address content
@@ -78,10 +71,8 @@ record_line-meaning kind address content w =
     let bytes = record_bytes kind address content in
     let digits = encode_upper bytes in
     let decoded : decode_of digits ≡ Ok bytes = decode_of-encode_upper bytes (record_bytes-fit kind address content w) in
-    let all : AllPass is_hex_digit digits = (decode_of-ok digits bytes decoded).1 in
-    let whole : bytes_of (58 ∷ digits) ≡ bytes = ap (λ (r : Result (List ℕ) FromHexError). result_unwrap_or r []) decoded in
-    let sound : own_fault (58 ∷ digits) ≡ None = own_in digits bytes all decoded ∙ record_bytes-sound kind address content w in
-    ap (judged (58 ∷ digits)) sound ∙ ap meaning_in whole ∙ record_bytes-meaning kind address content
+    let sound : own_fault (58 ∷ digits) ≡ None = own_in digits bytes ((decode_of-ok digits bytes decoded).1) decoded ∙ record_bytes-sound kind address content w in
+    ap (judged (58 ∷ digits)) sound ∙ ap meaning_in (ap (λ (r : Result (List ℕ) FromHexError). result_unwrap_or r []) decoded) ∙ record_bytes-meaning kind address content
 
 abbrev IsDigit : ℕ → Type 0
 IsDigit c = is_hex_digit c ≡ true
@@ -106,12 +97,10 @@ pub record_line-plain : (kind address : ℕ) (content : List ℕ) → IsWritable
 record_line-plain kind address content w =
     let bytes = record_bytes kind address content in
     let digits = encode_upper bytes in
-    let decoded : decode_of digits ≡ Ok bytes = decode_of-encode_upper bytes (record_bytes-fit kind address content w) in
-    let all : AllPass is_hex_digit digits = (decode_of-ok digits bytes decoded).1 in
+    let all : AllPass is_hex_digit digits = (decode_of-ok digits bytes (decode_of-encode_upper bytes (record_bytes-fit kind address content w))).1 in
     let returns : AllPass (λ c. not (c == 13)) digits = All-weaker IsDigit (λ c. not (c == 13) ≡ true) digit_no_return digits all in
-    let below : length (58 ∷ digits) - 1 < length (58 ∷ digits) = omega arith in
     let last : not (get_or (58 ∷ digits) (length (58 ∷ digits) - 1) 0 == 13) ≡ true =
-    All-get_or (λ c. not (c == 13) ≡ true) (58 ∷ digits) (length (58 ∷ digits) - 1) 0 below (All-cons (λ c. not (c == 13) ≡ true) 58 digits refl returns) in
+    All-get_or (λ c. not (c == 13) ≡ true) (58 ∷ digits) (length (58 ∷ digits) - 1) 0 (omega arith) (All-cons (λ c. not (c == 13) ≡ true) 58 digits refl returns) in
     record {
       inside = (λ same. omega (arith, same), digits_lack_feed digits all);
       plain = kept (get_or (58 ∷ digits) (length (58 ∷ digits) - 1) 0 == 13) (58 ∷ digits) last;

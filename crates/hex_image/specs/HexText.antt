@@ -1,9 +1,10 @@
 -- Which texts have an image, and what is wrong with the others.
 use Rattle.std.specs.Prelude.{◌≡◌, ◌≢◌, ℕ, ◌+◌, ◌<◌, ◌≤◌, List, [], length, take, map, slice_get, slice_index, All, Option, Some, None}
 use Rattle.std.specs.List.{concat}
+use Rattle.hex_image.specs.Image.{most_bytes}
 use Rattle.hex_image.specs.declared.fault.HexFault.{HexFault}
 use Rattle.hex_image.specs.declared.fault.HexFault.TheVariants.{NoEnd}
-use Rattle.text_lines.specs.Lines.{lines_of, pieces_of}
+use Rattle.line_reader.specs.Lines.{lines_of, pieces_of}
 use Rattle.hex_image.specs.Lines.{Meaning, bytes_at, end_of_file, faulty, meaning_of}
 use Rattle.hex_image.specs.Places.{cells_of, fault_behind, places_of, image_of_cells}
 
@@ -30,7 +31,7 @@ pub record HexText (text words : List ℕ) (position : ℕ) : Type 0 where
   pub ends : slice_get (meanings_of text) before ≡ Some end_of_file
   pub lines : All IsBeforeEnd (take before (meanings_of text))
   pub different : AreDifferent (places_of (cells_of (take before (meanings_of text))))
-  pub small : All (λ place. place < 49152) (places_of (cells_of (take before (meanings_of text))))
+  pub small : All (λ place. place < most_bytes) (places_of (cells_of (take before (meanings_of text))))
   pub image : words ≡ image_of_cells (cells_of (take before (meanings_of text)))
   pub cut : position ≡ length (concat (take (before + 1) (pieces_of text)))
 

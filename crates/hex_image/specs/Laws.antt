@@ -1,4 +1,4 @@
--- Laws of texts.
+-- Serves the contracts of `one_image`, `one_fault` and `image_or_fault`: laws of texts.
 use Rattle.std.specs.Prelude.{◌≡◌, ◌⊎◌, ℕ, List}
 use Rattle.hex_image.specs.declared.fault.HexFault.{HexFault}
 use Rattle.hex_image.specs.HexText.{HexBad, HexText}

@@ -2,6 +2,7 @@
 -- Specification", sections on the data record and on the extended address records).
 use Rattle.std.specs.Prelude.{ℕ, ◌+◌, ◌*◌, ◌/◌, ◌==◌, nat_lt, nat_le, max, Bool, false, if◌then◌else◌, List, [], ◌∷◌, ◌++◌, length, map, find, flat_map, unwrap_or, is_some, Option, Some, None}
 use Rattle.std.specs.List.{enumerate_from, last_or, list_any, range_with_len}
+use Rattle.hex_image.specs.Image.{most_bytes}
 use Rattle.hex_image.specs.declared.fault.HexFault.{HexFault}
 use Rattle.hex_image.specs.declared.fault.HexFault.TheVariants.{Wrap, Twice, TooLarge}
 use Rattle.hex_image.specs.Lines.{Meaning, bytes_at, base, faulty}
@@ -67,7 +68,7 @@ has_place_fault cells from address content Wrap = nat_lt 65536 (address + length
 has_place_fault cells from address content Twice =
     list_any (λ place. is_some (byte_given cells place)) (range_with_len (from + address) (length content))
 has_place_fault cells from address content TooLarge =
-    list_any (λ place. nat_le 49152 place) (range_with_len (from + address) (length content))
+    list_any (λ place. nat_le most_bytes place) (range_with_len (from + address) (length content))
 has_place_fault cells from address content _ = false
 
 -- the first of these faults

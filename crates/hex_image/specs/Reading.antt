@@ -17,7 +17,7 @@ use Rattle.hex_image.specs.declared.reading.Step.TheVariants.{Next, End}
 use Rattle.hex_image.specs.declared.reading.Refusal.{Refusal}
 use Rattle.hex_image.specs.declared.reading.Refusal.TheVariants.{Fault, NoMemory}
 use Rattle.hex_image.specs.Places.{Cell, base_after, byte_given, cells_of, extent, fault_behind}
-use Rattle.text_lines.specs.Lines.{pieces_of}
+use Rattle.line_reader.specs.Lines.{pieces_of}
 use Rattle.hex_image.specs.Lines.{Meaning, blank, bytes_at, end_of_file, base, start_address, faulty, address_in, bytes_of, content_in, count_in, has_right_count, kind_in, own_fault, record_meaning}
 
 -- what a line says, without where it lies in memory

@@ -1,12 +1,15 @@
 //! Program images.
 ghost use Rattle.std.specs.Prelude.{◌≡◌, ◌≤◌, ◌<◌, ℕ, List, length, IfOk, OnErr, slice_index_or};
-ghost use Rattle.hex_image.specs.Image.{IsImage};
+ghost use Rattle.hex_image.specs.Image.{IsImage, most_words};
 
 use no_memory::NoMemory;
 use std::alloc::Global;
 use std::marker::Model;
 
-/// A program image: its words from word address 0 on, at most 24,576.
+/// The most words of an image.
+pub const MOST_WORDS: u32 = 24_576;
+
+/// A program image: its words from word address 0 on, at most [`MOST_WORDS`].
 #[derive(Drop)]
 pub struct Image {
     words: Vec<u16>,
@@ -24,7 +27,7 @@ impl Model for Image {
 impl Image {
     /// The image of these words.
     pub fn from_words(alloc: Global, words: &[u16]) -> Result<Image, NoMemory>
-        requires { length words.now ≤ 24576 }
+        requires { length words.now ≤ most_words }
         ensures words { IfOk result (λ image. image ≡ words.now) }
         ensures memory { OnErr result (0 < length words.now) }
     {
@@ -41,7 +44,7 @@ impl Image {
         Image { words }
     }
 
-    /// The number of words, from 0 to 24,576.
+    /// The number of words.
     pub fn len_words(&self) -> u16
         ensures words { result ≡ length self.now }
         ensures image { IsImage self.now }

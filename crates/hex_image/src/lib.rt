@@ -8,7 +8,7 @@
 //!
 //! [`read`] gives the image of a text and the position behind its end record's line, or the first faulty
 //! line and the first of its faults; [`write`] gives the text of an image. What a text's image and its
-//! first fault are is defined over all lines at once: which lines a text has is said by `text_lines`, what
+//! first fault are is defined over all lines at once: which lines a text has is said by `line_reader`, what
 //! one line says by `specs/Lines.antt`, where the bytes of lines stand by `specs/Places.antt`, and which
 //! texts have an image and what is wrong with the others by `specs/HexText.antt`. The code reads line by
 //! line, with a running base, and keeps each byte at its place. [`one_image`], [`one_fault`] and
@@ -26,7 +26,7 @@ mod text;
 mod written;
 
 pub use fault::{HexError, HexFault};
-pub use image::Image;
+pub use image::{Image, MOST_WORDS};
 pub use laws::{image_or_fault, one_fault, one_image};
 pub use text::read;
 pub use written::write;

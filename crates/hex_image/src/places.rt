@@ -5,10 +5,11 @@ ghost use Rattle.hex_image.specs.Places.{Cell, byte_given, place_fault};
 ghost use Rattle.hex_image.specs.Reading.{AreSlots};
 
 use crate::fault::HexFault;
+use crate::image::MOST_WORDS;
 use std::alloc::AllocError;
 
 /// The most bytes that an image has.
-pub(crate) const MOST_BYTES: usize = 49_152;
+pub(crate) const MOST_BYTES: usize = 2 * MOST_WORDS as usize;
 
 /// The first fault that a data record has by its places, where these bytes were given before.
 pub(crate) fn place_fault(

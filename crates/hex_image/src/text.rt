@@ -3,6 +3,7 @@ ghost use Rattle.std.specs.Prelude.{◌≡◌, ◌≤◌, ◌+◌, ◌/◌, ◌<
 ghost use Rattle.hex_image.specs.declared.fault.HexFault.{HexFault};
 ghost use Rattle.hex_image.specs.declared.fault.HexError.{HexError};
 ghost use Rattle.std.specs.List.{range_with_len};
+ghost use Rattle.hex_image.specs.Image.{most_bytes};
 ghost use Rattle.hex_image.specs.HexText.{HexBad, HexText, NeedsMemory};
 ghost use Rattle.hex_image.specs.Reading.{IsAnswer, IsImageAnswer, word_of_slots};
 
@@ -11,8 +12,8 @@ use crate::image::Image;
 use crate::line::judge;
 use crate::places::byte_or_blank;
 use crate::reading::{Reading, Refusal, Step};
+use line_reader::first_line;
 use std::alloc::{AllocError, Global};
-use text_lines::first_line;
 
 /// Reads the image of a text, and where the text behind the end record's line begins.
 pub fn read(alloc: Global, text: &[u8]) -> Result<(Image, usize), HexError>
@@ -81,7 +82,7 @@ fn read_lines(alloc: Global, text: &[u8]) -> Result<(Vec<Option<u8>>, usize), He
 
 /// The words of bytes at their places.
 fn words_of(alloc: Global, slots: &[Option<u8>]) -> Result<Vec<u16>, AllocError>
-    requires { length slots.now ≤ 49152 }
+    requires { length slots.now ≤ most_bytes }
     ensures words { IfOk result (λ words. words.items ≡ map (word_of_slots slots.now) (range_with_len 0 ((length slots.now + 1) / 2))) }
     ensures small { IfOk result (λ words. All (λ word. word < 2 ^ 16) words.items) }
     ensures some { OnErr result (0 < length slots.now) }

@@ -1,8 +1,9 @@
 //! Writing the text of an image.
 ghost use Rattle.std.specs.Prelude.{◌≡◌, ◌≤◌, ◌*◌, ◌++◌, take, drop, length, IfOk, OnOk};
+ghost use Rattle.hex_image.specs.Image.{most_words};
 ghost use Rattle.hex_image.specs.HexText.{HexText};
 ghost use Rattle.hex_image.specs.Kinds.{code_of};
-ghost use Rattle.text_lines.specs.Written.{fed};
+ghost use Rattle.line_reader.specs.Written.{fed};
 ghost use Rattle.hex_image.specs.Written.{bytes_of_words, fields_of, record_bytes, record_line, written};
 
 use crate::image::Image;
@@ -23,15 +24,12 @@ pub fn write(alloc: Global, image: &Image) -> Result<Vec<u8>, NoMemory>
     // Reading it gives the image, and nothing is left of it.
     ensures read_back { IfOk result (λ text. HexText text.items image.now (length text.items)) }
 {
-    match text_of(alloc, image.words()) {
-        Ok(text) => Ok(text),
-        Err(_) => Err(NoMemory),
-    }
+    Ok(text_of(alloc, image.words())?)
 }
 
 /// The text of some words.
 fn text_of(alloc: Global, words: &[u16]) -> Result<Vec<u8>, AllocError>
-    requires { length words.now ≤ 24576 }
+    requires { length words.now ≤ most_words }
     ensures text { IfOk result (λ text. text.items ≡ written words.now) }
 {
     let mut text = Vec::new(alloc);

@@ -12,6 +12,7 @@ use Rattle.avr_flags.specs.Sums.{sub_of}
 use Rattle.avr_flags.specs.Pairs.{adiw_of}
 use Rattle.avr_flags.proofs.StatusLaws.{carry-difference_status}
 use Rattle.sram_layout.specs.Bytes.{byte_at, with_byte}
+use Rattle.sram_layout.specs.Cells.{sreg_cell, vsp_cell, z_cell}
 use Rattle.nat_template.specs.Inline.{save, restore, from_pointer, to_pointer, guard}
 use Rattle.nat_template.specs.Stubs.{mem_entry}
 use Rattle.mote_core.specs.declared.mote.Mote.{Mote}
@@ -27,23 +28,23 @@ use Rattle.inline_laws.proofs.Cells.{Holds}
 
 -- Z and SREG into their cells: the template's first step, and three more
 pub save_first : (m : Mote) (r : List ℕ) (s v : ℕ) (sram : List ℕ) (a : ℕ) (rest : List Form) → slice_index r 30 ≡ a → v + 64 < 65536 → Row m.flash.words v (save ++ rest)
-    → IsQuiet (held m r s v sram) (held m r s (v + 2) (with_byte sram 0x0105 a))
-save_first m r s v sram a rest low room row = quiet_sts m r s v sram 0x0105 30 a row.0 refl (omega arith) low (keeps_cell sram 0x0105 a (omega arith) (omega arith))
+    → IsQuiet (held m r s v sram) (held m r s (v + 2) (with_byte sram z_cell a))
+save_first m r s v sram a rest low room row = quiet_sts m r s v sram z_cell 30 a row.0 refl (omega arith) low (keeps_cell sram z_cell a (omega arith) (omega arith))
 
 set_first : (r : List ℕ) (b x : ℕ) → 31 < length r → slice_index r 31 ≡ b → slice_set r 30 x ≡ with_halves r x b
 set_first r b x long high = ap (λ l. slice_set l 30 x) (sym (own_halves r (slice_index r 30) b long refl high)) ∙ set_low r (slice_index r 30) b x long
 
 pub save_block : (m : Mote) (from to : ℕ) (r : List ℕ) (s v : ℕ) (sram : List ℕ) (a b : ℕ) (rest : List Form) → 31 < length r → slice_index r 31 ≡ b → from ≤ v + 2 → v + 7 ≤ to → v + 64 < 65536 → Row m.flash.words v (save ++ rest)
-    → Passes from to 3 (held m r s (v + 2) (with_byte sram 0x0105 a)) (held m (with_halves r s b) s (v + 2 + 2 + 1 + 2) (saved sram a b s))
+    → Passes from to 3 (held m r s (v + 2) (with_byte sram z_cell a)) (held m (with_halves r s b) s (v + 2 + 2 + 1 + 2) (saved sram a b s))
 unfolding second_word
 save_block m from to r s v sram a b rest long high above below room row =
-    let one = with_byte sram 0x0105 a in
-    let two = with_byte one 0x0106 b in
+    let one = with_byte sram z_cell a in
+    let two = with_byte one (z_cell + 1) b in
     let z = with_halves r s b in (
       held m r s (v + 2 + 2) two,
       above,
       omega arith,
-      quiet_sts m r s (v + 2) one 0x0106 31 b row.1.0 refl (omega arith) high (keeps_cell one 0x0106 b (omega arith) (omega arith)),
+      quiet_sts m r s (v + 2) one (z_cell + 1) 31 b row.1.0 refl (omega arith) high (keeps_cell one (z_cell + 1) b (omega arith) (omega arith)),
       (
         held m z s (v + 2 + 2 + 1) two,
         omega arith,
@@ -53,14 +54,14 @@ save_block m from to r s v sram a b rest long high above below room row =
           held m z s (v + 2 + 2 + 1 + 2) (saved sram a b s),
           omega arith,
           omega arith,
-          quiet_sts m z s (v + 2 + 2 + 1) two 0x0102 30 s row.1.1.1.0 refl (omega arith) (low_half r s b long) (keeps_cell two 0x0102 s (omega arith) (omega arith)),
+          quiet_sts m z s (v + 2 + 2 + 1) two sreg_cell 30 s row.1.1.1.0 refl (omega arith) (low_half r s b long) (keeps_cell two sreg_cell s (omega arith) (omega arith)),
           refl,
         ),
       ),
     )
 
 -- the program's stack pointer into Z
-pub pointer_block : (m : Mote) (from to : ℕ) (r : List ℕ) (x y s v : ℕ) (sram : List ℕ) (low high : ℕ) (rest : List Form) → 31 < length r → byte_at sram 0x0103 ≡ low → byte_at sram 0x0104 ≡ high
+pub pointer_block : (m : Mote) (from to : ℕ) (r : List ℕ) (x y s v : ℕ) (sram : List ℕ) (low high : ℕ) (rest : List Form) → 31 < length r → byte_at sram vsp_cell ≡ low → byte_at sram (vsp_cell + 1) ≡ high
     → from ≤ v → v + 4 ≤ to → v + 8 < 65536 → Row m.flash.words v (from_pointer ++ rest)
     → Passes from to 2 (held m (with_halves r x y) s v sram) (held m (with_halves r low high) s (v + 2 + 2) sram)
 unfolding second_word
@@ -68,12 +69,12 @@ pointer_block m from to r x y s v sram low high rest long is_low is_high above b
   held m (with_halves r low y) s (v + 2) sram,
   above,
   omega arith,
-  quiet_lds m (with_halves r x y) (with_halves r low y) s v sram 30 0x0103 row.0 refl (omega arith) (set_low r x y (byte_at sram 0x0103) long ∙ ap (λ n. with_halves r n y) is_low),
+  quiet_lds m (with_halves r x y) (with_halves r low y) s v sram 30 vsp_cell row.0 refl (omega arith) (set_low r x y (byte_at sram vsp_cell) long ∙ ap (λ n. with_halves r n y) is_low),
   (
     held m (with_halves r low high) s (v + 2 + 2) sram,
     omega arith,
     omega arith,
-    quiet_lds m (with_halves r low y) (with_halves r low high) s (v + 2) sram 31 0x0104 row.1.0 refl (omega arith) (set_high r low y (byte_at sram 0x0104) long ∙ ap (λ n. with_halves r low n) is_high),
+    quiet_lds m (with_halves r low y) (with_halves r low high) s (v + 2) sram 31 (vsp_cell + 1) row.1.0 refl (omega arith) (set_high r low y (byte_at sram (vsp_cell + 1)) long ∙ ap (λ n. with_halves r low n) is_high),
     refl,
   ),
 )
@@ -108,20 +109,20 @@ frame_block m from to r s x b v sram q y p rest long is_y is above below room ro
 
 -- Z into the program's stack pointer
 pub put_block : (m : Mote) (from to : ℕ) (r : List ℕ) (low high s v : ℕ) (sram : List ℕ) (rest : List Form) → 31 < length r → from ≤ v → v + 4 ≤ to → v + 8 < 65536 → Row m.flash.words v (to_pointer ++ rest)
-    → Passes from to 2 (held m (with_halves r low high) s v sram) (held m (with_halves r low high) s (v + 2 + 2) (with_byte (with_byte sram 0x0103 low) 0x0104 high))
+    → Passes from to 2 (held m (with_halves r low high) s v sram) (held m (with_halves r low high) s (v + 2 + 2) (with_byte (with_byte sram vsp_cell low) (vsp_cell + 1) high))
 unfolding second_word
 put_block m from to r low high s v sram rest long above below room row =
     let z = with_halves r low high in
-    let one = with_byte sram 0x0103 low in (
+    let one = with_byte sram vsp_cell low in (
       held m z s (v + 2) one,
       above,
       omega arith,
-      quiet_sts m z s v sram 0x0103 30 low row.0 refl (omega arith) (low_half r low high long) (keeps_cell sram 0x0103 low (omega arith) (omega arith)),
+      quiet_sts m z s v sram vsp_cell 30 low row.0 refl (omega arith) (low_half r low high long) (keeps_cell sram vsp_cell low (omega arith) (omega arith)),
       (
-        held m z s (v + 2 + 2) (with_byte one 0x0104 high),
+        held m z s (v + 2 + 2) (with_byte one (vsp_cell + 1) high),
         omega arith,
         omega arith,
-        quiet_sts m z s (v + 2) one 0x0104 31 high row.1.0 refl (omega arith) (high_half r low high long) (keeps_cell one 0x0104 high (omega arith) (omega arith)),
+        quiet_sts m z s (v + 2) one (vsp_cell + 1) 31 high row.1.0 refl (omega arith) (high_half r low high long) (keeps_cell one (vsp_cell + 1) high (omega arith) (omega arith)),
         refl,
       ),
     )
@@ -233,7 +234,7 @@ back_block m from to r x y s' v sram a b s rest long holds above below room row 
       held m one s' (v + 2) sram,
       above,
       omega arith,
-      quiet_lds m (with_halves r x y) one s' v sram 30 0x0102 row.0 refl (omega arith) (set_low r x y (byte_at sram 0x0102) long ∙ ap (λ n. with_halves r n y) holds.status_held),
+      quiet_lds m (with_halves r x y) one s' v sram 30 sreg_cell row.0 refl (omega arith) (set_low r x y (byte_at sram sreg_cell) long ∙ ap (λ n. with_halves r n y) holds.status_held),
       (
         held m one s (v + 2 + 1) sram,
         omega arith,
@@ -243,12 +244,12 @@ back_block m from to r x y s' v sram a b s rest long holds above below room row 
           held m two s (v + 2 + 1 + 2) sram,
           omega arith,
           omega arith,
-          quiet_lds m one two s (v + 2 + 1) sram 30 0x0105 row.1.1.0 refl (omega arith) (set_low r s y (byte_at sram 0x0105) long ∙ ap (λ n. with_halves r n y) holds.low_held),
+          quiet_lds m one two s (v + 2 + 1) sram 30 z_cell row.1.1.0 refl (omega arith) (set_low r s y (byte_at sram z_cell) long ∙ ap (λ n. with_halves r n y) holds.low_held),
           (
             held m (with_halves r a b) s (v + 2 + 1 + 2 + 2) sram,
             omega arith,
             omega arith,
-            quiet_lds m two (with_halves r a b) s (v + 2 + 1 + 2) sram 31 0x0106 row.1.1.1.0 refl (omega arith) (set_high r a y (byte_at sram 0x0106) long ∙ ap (λ n. with_halves r a n) holds.high_held),
+            quiet_lds m two (with_halves r a b) s (v + 2 + 1 + 2) sram 31 (z_cell + 1) row.1.1.1.0 refl (omega arith) (set_high r a y (byte_at sram (z_cell + 1)) long ∙ ap (λ n. with_halves r a n) holds.high_held),
             refl,
           ),
         ),

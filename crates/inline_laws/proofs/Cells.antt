@@ -2,46 +2,47 @@
 use Rattle.std.proofs.Common.{◌≡◌, ℕ, ◌+◌, ◌-◌, ◌*◌, ◌<◌, ◌/◌, ◌%◌, ◌≤◌, List, length, arith, ap, ap₂, refl, sym, ◌∙◌, inl, inr}
 use Rattle.std.specs.Prelude.{◌≢◌}
 use Rattle.std.proofs.lemmas.Bool.{cases_eq}
-use Rattle.sram_layout.specs.Bytes.{byte_at, with_byte, data_word_at}
-use Rattle.sram_layout.specs.Regions.{stack_window}
+use Rattle.sram_layout.specs.Bytes.{byte_at, with_byte, data_word_at, first_address}
+use Rattle.sram_layout.specs.Regions.{stack_window, inline_cells}
 use Rattle.sram_layout.proofs.Laws.{length-with_byte, byte_same, byte_other}
+use Rattle.sram_layout.specs.Cells.{sreg_cell, vsp_cell, z_cell}
 use Rattle.inline_laws.specs.InlineWays.{saved, with_pointer, with_pushed}
 
 -- Z, in halves, and SREG in their cells
 pub record Holds (low high status : ℕ) (sram : List ℕ) : Type 0 where
-  pub low_held : byte_at sram 0x0105 ≡ low
-  pub high_held : byte_at sram 0x0106 ≡ high
-  pub status_held : byte_at sram 0x0102 ≡ status
+  pub low_held : byte_at sram z_cell ≡ low
+  pub high_held : byte_at sram (z_cell + 1) ≡ high
+  pub status_held : byte_at sram sreg_cell ≡ status
 
 pub saved_holds : (sram : List ℕ) (low high status : ℕ) → length sram ≡ 4096 → Holds low high status (saved sram low high status)
 saved_holds sram low high status long =
-    let one = with_byte sram 0x0105 low in
-    let two = with_byte one 0x0106 high in
+    let one = with_byte sram z_cell low in
+    let two = with_byte one (z_cell + 1) high in
     record {
-      low_held = byte_other two 0x0102 0x0105 status (omega arith) (omega arith) (λ same. omega arith) ∙ byte_other one 0x0106 0x0105 high (omega arith) (omega arith) (λ same. omega arith) ∙ byte_same sram 0x0105 low (omega arith) (omega arith);
-      high_held = byte_other two 0x0102 0x0106 status (omega arith) (omega arith) (λ same. omega arith) ∙ byte_same one 0x0106 high (omega arith) (omega (arith, length-with_byte sram 0x0105 low));
-      status_held = byte_same two 0x0102 status (omega arith) (omega (arith, length-with_byte one 0x0106 high, length-with_byte sram 0x0105 low));
+      low_held = byte_other two sreg_cell z_cell status (omega arith) (omega arith) (λ same. omega arith) ∙ byte_other one (z_cell + 1) z_cell high (omega arith) (omega arith) (λ same. omega arith) ∙ byte_same sram z_cell low (omega arith) (omega arith);
+      high_held = byte_other two sreg_cell (z_cell + 1) status (omega arith) (omega arith) (λ same. omega arith) ∙ byte_same one (z_cell + 1) high (omega arith) (omega (arith, length-with_byte sram z_cell low));
+      status_held = byte_same two sreg_cell status (omega arith) (omega (arith, length-with_byte one (z_cell + 1) high, length-with_byte sram z_cell low));
     }
 
 -- another byte written
-pub holds_still : (low high status : ℕ) (sram : List ℕ) (a v : ℕ) → 0x0103 ≤ a → a ≢ 0x0105 → a ≢ 0x0106 → Holds low high status sram → Holds low high status (with_byte sram a v)
+pub holds_still : (low high status : ℕ) (sram : List ℕ) (a v : ℕ) → vsp_cell ≤ a → a ≢ z_cell → a ≢ z_cell + 1 → Holds low high status sram → Holds low high status (with_byte sram a v)
 holds_still low high status sram a v from l h holds = record {
-  low_held = byte_other sram a 0x0105 v (omega arith) (omega arith) (λ same. l (sym same)) ∙ holds.low_held;
-  high_held = byte_other sram a 0x0106 v (omega arith) (omega arith) (λ same. h (sym same)) ∙ holds.high_held;
-  status_held = byte_other sram a 0x0102 v (omega arith) (omega arith) (λ same. omega arith) ∙ holds.status_held;
+  low_held = byte_other sram a z_cell v (omega arith) (omega arith) (λ same. l (sym same)) ∙ holds.low_held;
+  high_held = byte_other sram a (z_cell + 1) v (omega arith) (omega arith) (λ same. h (sym same)) ∙ holds.high_held;
+  status_held = byte_other sram a sreg_cell v (omega arith) (omega arith) (λ same. omega arith) ∙ holds.status_held;
 }
 
--- All is the same but the cells of SREG, SP and Z, 0x0102 to 0x0106.
+-- All is the same but the cells of SREG, SP and Z.
 pub record SameButCells (m n : List ℕ) : Type 0 where
   pub size : length n ≡ length m
-  pub front : (b : ℕ) → 0x0100 ≤ b → b < 0x0102 → byte_at n b ≡ byte_at m b
-  pub bytes : (b : ℕ) → 0x0107 ≤ b → byte_at n b ≡ byte_at m b
+  pub front : (b : ℕ) → first_address ≤ b → b < inline_cells.first → byte_at n b ≡ byte_at m b
+  pub bytes : (b : ℕ) → inline_cells.behind ≤ b → byte_at n b ≡ byte_at m b
 
 pub same_cells : (m : List ℕ) → SameButCells m m
 same_cells m = record { size = refl; front = λ b from to. refl; bytes = λ b from. refl }
 
 -- a cell written
-pub cell_written : (m n : List ℕ) (a v : ℕ) → 0x0102 ≤ a → a ≤ 0x0106 → SameButCells m n → SameButCells m (with_byte n a v)
+pub cell_written : (m n : List ℕ) (a v : ℕ) → inline_cells.first ≤ a → a < inline_cells.behind → SameButCells m n → SameButCells m (with_byte n a v)
 cell_written m n a v from to same = record {
   size = length-with_byte n a v ∙ same.size;
   front = λ b low high. byte_other n a b v (omega arith) low (λ e. omega arith) ∙ same.front b low high;
@@ -50,9 +51,9 @@ cell_written m n a v from to same = record {
 
 pub saved_same : (m : List ℕ) (low high status : ℕ) → SameButCells m (saved m low high status)
 saved_same m low high status =
-    let one = with_byte m 0x0105 low in
-    let two = with_byte one 0x0106 high in
-    cell_written m two 0x0102 status (omega arith) (omega arith) (cell_written m one 0x0106 high (omega arith) (omega arith) (cell_written m m 0x0105 low (omega arith) (omega arith) (same_cells m)))
+    let one = with_byte m z_cell low in
+    let two = with_byte one (z_cell + 1) high in
+    cell_written m two sreg_cell status (omega arith) (omega arith) (cell_written m one (z_cell + 1) high (omega arith) (omega arith) (cell_written m m z_cell low (omega arith) (omega arith) (same_cells m)))
 
 -- a byte of the program's stack written in both
 pub stack_written : (m n : List ℕ) (a v : ℕ) → length m ≡ 4096 → stack_window.first ≤ a → a < stack_window.behind → SameButCells m n → SameButCells (with_byte m a v) (with_byte n a v)
@@ -66,35 +67,34 @@ stack_written m n a v long from to same = record {
 }
 
 -- the stack pointer, in its cells
-pub pointer_byte_saved : (m : List ℕ) (low high status a : ℕ) → 0x0103 ≤ a → a ≤ 0x0104 → byte_at (saved m low high status) a ≡ byte_at m a
+pub pointer_byte_saved : (m : List ℕ) (low high status a : ℕ) → vsp_cell ≤ a → a ≤ vsp_cell + 1 → byte_at (saved m low high status) a ≡ byte_at m a
 pointer_byte_saved m low high status a from to =
-    let one = with_byte m 0x0105 low in
-    let two = with_byte one 0x0106 high in
-    byte_other two 0x0102 a status (omega arith) (omega arith) (λ e. omega arith) ∙ byte_other one 0x0106 a high (omega arith) (omega arith) (λ e. omega arith) ∙ byte_other m 0x0105 a low (omega arith) (omega arith) (λ e. omega arith)
+    let one = with_byte m z_cell low in
+    let two = with_byte one (z_cell + 1) high in
+    byte_other two sreg_cell a status (omega arith) (omega arith) (λ e. omega arith) ∙ byte_other one (z_cell + 1) a high (omega arith) (omega arith) (λ e. omega arith) ∙ byte_other m z_cell a low (omega arith) (omega arith) (λ e. omega arith)
 
-pub pointer_saved : (m : List ℕ) (low high status : ℕ) → data_word_at (saved m low high status) 0x0103 ≡ data_word_at m 0x0103
+pub pointer_saved : (m : List ℕ) (low high status : ℕ) → data_word_at (saved m low high status) vsp_cell ≡ data_word_at m vsp_cell
 unfolding data_word_at
-pointer_saved m low high status = ap₂ (λ x y. x + 256 * y) (pointer_byte_saved m low high status 0x0103 (omega arith) (omega arith)) (pointer_byte_saved m low high status 0x0104 (omega arith) (omega arith))
+pointer_saved m low high status = ap₂ (λ x y. x + 256 * y) (pointer_byte_saved m low high status vsp_cell (omega arith) (omega arith)) (pointer_byte_saved m low high status (vsp_cell + 1) (omega arith) (omega arith))
 
-pub pointer_apart : (m : List ℕ) (a v : ℕ) → 0x0107 ≤ a → data_word_at (with_byte m a v) 0x0103 ≡ data_word_at m 0x0103
+pub pointer_apart : (m : List ℕ) (a v : ℕ) → inline_cells.behind ≤ a → data_word_at (with_byte m a v) vsp_cell ≡ data_word_at m vsp_cell
 unfolding data_word_at
-pointer_apart m a v from = ap₂ (λ x y. x + 256 * y) (byte_other m a 0x0103 v (omega arith) (omega arith) (λ e. omega arith)) (byte_other m a 0x0104 v (omega arith) (omega arith) (λ e. omega arith))
+pointer_apart m a v from = ap₂ (λ x y. x + 256 * y) (byte_other m a vsp_cell v (omega arith) (omega arith) (λ e. omega arith)) (byte_other m a (vsp_cell + 1) v (omega arith) (omega arith) (λ e. omega arith))
 
-pub pointer_written : (m : List ℕ) (p : ℕ) → length m ≡ 4096 → data_word_at (with_pointer m p) 0x0103 ≡ p
+pub pointer_written : (m : List ℕ) (p : ℕ) → length m ≡ 4096 → data_word_at (with_pointer m p) vsp_cell ≡ p
 unfolding data_word_at
 pointer_written m p long =
-    let one = with_byte m 0x0103 (p % 256) in
-    ap₂ (λ x y. x + 256 * y) (byte_other one 0x0104 0x0103 (p / 256) (omega arith) (omega arith) (λ e. omega arith) ∙ byte_same m 0x0103 (p % 256) (omega arith) (omega arith)) (byte_same one 0x0104 (p / 256) (omega arith) (omega (arith, length-with_byte m 0x0103 (p % 256)))) ∙ omega arith
+    let one = with_byte m vsp_cell (p % 256) in
+    ap₂ (λ x y. x + 256 * y) (byte_other one (vsp_cell + 1) vsp_cell (p / 256) (omega arith) (omega arith) (λ e. omega arith) ∙ byte_same m vsp_cell (p % 256) (omega arith) (omega arith)) (byte_same one (vsp_cell + 1) (p / 256) (omega arith) (omega (arith, length-with_byte m vsp_cell (p % 256)))) ∙ omega arith
 
 -- and its low half is a byte
-pub pointer_low : (m : List ℕ) (p : ℕ) → length m ≡ 4096 → byte_at (with_pointer m p) 0x0103 < 256
+pub pointer_low : (m : List ℕ) (p : ℕ) → length m ≡ 4096 → byte_at (with_pointer m p) vsp_cell < 256
 pointer_low m p long =
-    let one = with_byte m 0x0103 (p % 256) in
-    omega (arith, byte_other one 0x0104 0x0103 (p / 256) (omega arith) (omega arith) (λ e. omega arith), byte_same m 0x0103 (p % 256) (omega arith) (omega arith))
+    omega (arith, byte_other (with_byte m vsp_cell (p % 256)) (vsp_cell + 1) vsp_cell (p / 256) (omega arith) (omega arith) (λ e. omega arith), byte_same m vsp_cell (p % 256) (omega arith) (omega arith))
 
 -- SRAM with another pointer, and after a push
 pub pointer_same : (m n : List ℕ) (p : ℕ) → SameButCells m n → SameButCells m (with_pointer n p)
-pointer_same m n p same = cell_written m (with_byte n 0x0103 (p % 256)) 0x0104 (p / 256) (omega arith) (omega arith) (cell_written m n 0x0103 (p % 256) (omega arith) (omega arith) same)
+pointer_same m n p same = cell_written m (with_byte n vsp_cell (p % 256)) (vsp_cell + 1) (p / 256) (omega arith) (omega arith) (cell_written m n vsp_cell (p % 256) (omega arith) (omega arith) same)
 
 pub pushed_same : (m n : List ℕ) (p x : ℕ) → length m ≡ 4096 → stack_window.first ≤ p → p < stack_window.behind → SameButCells m n → SameButCells (with_byte m p x) (with_pushed n p x)
 pushed_same m n p x long from to same = pointer_same (with_byte m p x) (with_byte n p x) (p - 1) (stack_written m n p x long from to same)

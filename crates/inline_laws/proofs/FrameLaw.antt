@@ -46,7 +46,6 @@ frame_points : (m : Mote) (v to q p : ℕ) (access : Form) → CanPass m v → v
     → Passes (v + 1) to 2 (prepared m v) (pointing m (p % 256) (p / 256) (frame_status m q) (v + 2 + 2 + 1 + 2 + 1 + 1))
 unfolding second_word
 frame_points m v to q p access can fits is row =
-    let room = can.room in
     frame_block m (v + 1) to m.cpu.r m.cpu.sreg m.cpu.sreg (slice_index m.cpu.r 31) (v + 2 + 2 + 1 + 2) (saved_of m) q (y_of m) p (guard 11 9 ++ behind_guard access) can.registers refl is (omega arith) (omega arith) (omega arith) row.1.1.1.1
 
 -- an access of one step, inside the window: to these registers and bytes
@@ -56,39 +55,32 @@ frame_inside : (m : Mote) (v q p : ℕ) (access : Form) (r : List ℕ) (sram : L
     → Passes (v + 1) (v + 32) 15 (begun m v) (held m r m.cpu.sreg (v + 32) sram)
 unfolding second_word
 frame_inside m v q p access r sram can one is bottom top row low high long holds accesses =
-    let room = can.room in
     let w = v + 2 + 2 + 1 + 2 + 1 + 1 in
     let e = w + 1 + 1 + 1 + 1 + 1 in
     let s = guarded_status (frame_status m q) (p / 256) in
     let P : ℕ → Type 0 = λ pc. Passes (v + 1) (v + 32) 15 (begun m v) (held m r m.cpu.sreg pc sram) in
-    let there : e + 2 + 1 + 2 + 2 + 1 + 10 ≡ v + 32 = omega arith in
     let R : ℕ → Type 0 = λ n. Row m.flash.words (w + 1 + 1 + 1 + 1 + n) (restore ++ Rjmp (pos 10) ∷ trap) in
-    let here : R 1 = subst R one row.1.1.1.1.1.1.1.1.1.1.1 in
-    let next = held m (with_z r p) s e sram in
-    subst P there
+    subst P (omega arith)
     (inside_way m v 32 w e (p % 256) (p / 256) (frame_status m q) r (p % 256) (p / 256) s sram 2 1 11 9 10 (behind_save q access) (behind_guard access) trap can (omega arith) (omega arith)
     low high long holds (omega arith) (omega arith) (omega arith) (omega arith) (omega arith)
-    row row.1.1.1.1.1.1 here (frame_points m v (v + 32) q p access can (omega arith) is row)
-    (next, omega arith, omega arith, accesses s (w + 1 + 1 + 1 + 1) (omega arith) row.1.1.1.1.1.1.1.1.1.1.0, refl))
+    row row.1.1.1.1.1.1 (subst R one row.1.1.1.1.1.1.1.1.1.1.1) (frame_points m v (v + 32) q p access can (omega arith) is row)
+    (held m (with_z r p) s e sram, omega arith, omega arith, accesses s (w + 1 + 1 + 1 + 1) (omega arith) row.1.1.1.1.1.1.1.1.1.1.0, refl))
 
 frame_trap : (m : Mote) (v q t : ℕ) (access : Form) → width_of access ≡ 1 → v + 22 ≡ t → Row m.flash.words v (frame_forms q access) → Row m.flash.words t trap
 unfolding second_word
 frame_trap m v q t access one is row =
     let R : ℕ → Type 0 = λ pc. Row m.flash.words pc trap in
-    let here : v + 2 + 2 + 1 + 2 + 1 + 1 + 1 + 1 + 1 + 1 + width_of access + 2 + 1 + 2 + 2 + 1 ≡ t = omega arith in
-    subst R here row.1.1.1.1.1.1.1.1.1.1.1.1.1.1.1.1
+    subst R (omega arith) row.1.1.1.1.1.1.1.1.1.1.1.1.1.1.1.1
 
 -- outside
 frame_below : (m : Mote) (v q p : ℕ) (access : Form) → CanPass m v → width_of access ≡ 1 → wrapping_sum (y_of m) q ≡ p → p < 0x0D00 → Row m.flash.words v (frame_forms q access)
     → Passes (v + 1) (v + 32) 12 (begun m v) (trapped m (v + 31) (saved_of m))
 unfolding second_word
 frame_below m v q p access can one is under row =
-    let room = can.room in
     let w = v + 2 + 2 + 1 + 2 + 1 + 1 in
     let t = w + 1 + 1 + 11 in
     let P : ℕ → Type 0 = λ pc. Passes (v + 1) (v + 32) 12 (begun m v) (trapped m pc (saved_of m)) in
-    let there : t + 2 + 1 + 2 + 2 + 2 ≡ v + 31 = omega arith in
-    subst P there
+    subst P (omega arith)
     (below_way m v 32 w (p % 256) (p / 256) (frame_status m q) 2 11 9 t (behind_save q access) (behind_guard access) [] can (omega arith) (omega arith) (omega arith) (omega arith) (omega arith) refl
     row row.1.1.1.1.1.1 (frame_trap m v q t access one (omega arith) row) (frame_points m v (v + 32) q p access can (omega arith) is row))
 
@@ -96,12 +88,10 @@ frame_above : (m : Mote) (v q p : ℕ) (access : Form) → CanPass m v → width
     → Passes (v + 1) (v + 32) 14 (begun m v) (trapped m (v + 31) (saved_of m))
 unfolding second_word
 frame_above m v q p access can one is over row =
-    let room = can.room in
     let w = v + 2 + 2 + 1 + 2 + 1 + 1 in
     let t = w + 1 + 1 + 1 + 1 + 9 in
     let P : ℕ → Type 0 = λ pc. Passes (v + 1) (v + 32) 14 (begun m v) (trapped m pc (saved_of m)) in
-    let there : t + 2 + 1 + 2 + 2 + 2 ≡ v + 31 = omega arith in
-    subst P there
+    subst P (omega arith)
     (above_way m v 32 w (p % 256) (p / 256) (frame_status m q) 2 11 9 t (behind_save q access) (behind_guard access) [] can (omega arith) (omega arith) (omega arith) (omega arith) (omega arith) refl
     row row.1.1.1.1.1.1 (frame_trap m v q t access one (omega arith) row) (frame_points m v (v + 32) q p access can (omega arith) is row))
 
@@ -121,9 +111,8 @@ load_passes m v d q can other row =
     record {
       first = frame_first m v q access can row;
       inside = λ bottom top.
-          let same : x ≡ byte_at m.sram p = (saved_same m.sram a b m.cpu.sreg).bytes p (omega arith) in
           let P : ℕ → Type 0 = λ y. Passes (v + 1) (v + 32) 15 (begun m v) (held m (slice_set m.cpu.r d y) m.cpu.sreg (v + 32) (saved_of m)) in
-          subst P same
+          subst P ((saved_same m.sram a b m.cpu.sreg).bytes p (omega arith))
           (frame_inside m v q p access (slice_set m.cpu.r d x) (saved_of m) can refl refl bottom top row
           (get_or-set_other m.cpu.r d 30 x 0 (λ e. other.0 (sym e))) (get_or-set_other m.cpu.r d 31 x 0 (λ e. other.1 (sym e))) (let long = can.registers in omega (arith, length-set m.cpu.r d x)) (saved_holds m.sram a b m.cpu.sreg can.size)
           (λ s pc room is. load_step m m.cpu.r s pc (saved_of m) d p can.registers bottom top other.0 other.1 room is));

@@ -34,7 +34,6 @@ pub inside_way : (m : Mote) (v size w e low high s : ℕ) (r : List ℕ) (x y s'
     → Passes (v + 1) (v + size) j (pointing m low high (guarded_status s high) (w + 1 + 1 + 1 + 1)) (held m (with_halves r x y) s' e sram)
     → Passes (v + 1) (v + size) (3 + (i + (4 + (j + 5)))) (begun m v) (held m r m.cpu.sreg (e + 2 + 1 + 2 + 2 + 1 + t) sram)
 inside_way m v size w e low high s r x y s' sram i j n k t rest guards ends can bottom top low_same high_same long holds after_save after_guard in_size few near saves guarding ending points accesses =
-    let room = can.room in
     let from = v + 1 in
     let to = v + size in
     let a = slice_index m.cpu.r 30 in
@@ -42,13 +41,12 @@ inside_way m v size w e low high s r x y s' sram i j n k t rest guards ends can 
     let one = save_block m from to m.cpu.r m.cpu.sreg v m.sram a b rest can.registers refl (omega arith) (omega arith) (omega arith) saves in
     let three = guard_block m from to m.cpu.r low high s w (saved_of m) n k guards can.registers bottom top (omega arith) (omega arith) (omega arith) guarding in
     let five = over_block m from to r x y s' e sram a b m.cpu.sreg t ends long low_same high_same holds (omega arith) (omega arith) (omega arith) ending in
-    let c4 = held m (with_halves r x y) s' e sram in
     let c5 = held m r m.cpu.sreg (e + 2 + 1 + 2 + 2 + 1 + t) sram in
     let c3 = pointing m low high (guarded_status s high) (w + 1 + 1 + 1 + 1) in
     passes_join from to 3 (i + (4 + (j + 5))) (begun m v) (prepared m v) c5 one
     (passes_join from to i (4 + (j + 5)) (prepared m v) (pointing m low high s w) c5 points
     (passes_join from to 4 (j + 5) (pointing m low high s w) c3 c5 three
-    (passes_join from to j 5 c3 c4 c5 accesses five)))
+    (passes_join from to j 5 c3 (held m (with_halves r x y) s' e sram) c5 accesses five)))
 
 -- below the window, and above it: the trap at t
 pub below_way : (m : Mote) (v size w low high s i n k t : ℕ) (rest guards ends : List Form) → CanPass m v → high < 13 → v + 7 ≤ w → w + 4 ≤ t → t + 8 ≤ v + size → size ≤ 39 → w + 1 + 1 + n ≡ t
@@ -56,7 +54,6 @@ pub below_way : (m : Mote) (v size w low high s i n k t : ℕ) (rest guards ends
     → Passes (v + 1) (v + size) i (prepared m v) (pointing m low high s w)
     → Passes (v + 1) (v + size) (3 + (i + (2 + 5))) (begun m v) (trapped m (t + 2 + 1 + 2 + 2 + 2) (saved_of m))
 below_way m v size w low high s i n k t rest guards ends can under after_save after_guard in_size few there saves guarding ending points =
-    let room = can.room in
     let from = v + 1 in
     let to = v + size in
     let a = slice_index m.cpu.r 30 in
@@ -76,7 +73,6 @@ pub above_way : (m : Mote) (v size w low high s i n k t : ℕ) (rest guards ends
     → Passes (v + 1) (v + size) i (prepared m v) (pointing m low high s w)
     → Passes (v + 1) (v + size) (3 + (i + (4 + 5))) (begun m v) (trapped m (t + 2 + 1 + 2 + 2 + 2) (saved_of m))
 above_way m v size w low high s i n k t rest guards ends can over after_save after_guard in_size few there saves guarding ending points =
-    let room = can.room in
     let from = v + 1 in
     let to = v + size in
     let a = slice_index m.cpu.r 30 in
@@ -95,5 +91,4 @@ above_way m v size w low high s i n k t rest guards ends can over after_save aft
 pub at_trap : (m : Mote) (v size n back : ℕ) → size ≡ back + 1 → Passes (v + 1) (v + size) n (begun m v) (trapped m (v + back) (saved_of m)) → Passes (v + 1) (v + size) n (begun m v) (trapped m (v + size - 1) (saved_of m))
 at_trap m v size n back is passes =
     let P : ℕ → Type 0 = λ pc. Passes (v + 1) (v + size) n (begun m v) (trapped m pc (saved_of m)) in
-    let there : v + back ≡ v + size - 1 = omega arith in
-    subst P there passes
+    subst P (omega arith) passes

@@ -5,7 +5,7 @@ use Rattle.std.proofs.lemmas.Bool.Decides.{nat_tests}
 use Rattle.input_script.specs.declared.fault.ScriptFault.{ScriptFault}
 use Rattle.input_script.specs.declared.fault.ScriptError.{ScriptError}
 use Rattle.input_script.specs.declared.fault.ScriptError.TheVariants.{Bad, NoMemory}
-use Rattle.text_lines.specs.Lines.{lines_of}
+use Rattle.line_reader.specs.Lines.{lines_of}
 use Rattle.input_script.specs.Script.{Schedule, IsScript, IsBad, NeedsMemory}
 use Rattle.input_script.specs.Judging.{IsRefusal}
 use Rattle.input_script.proofs.Done.{IsDone, done_fault, done_memory}

@@ -5,7 +5,7 @@ use Rattle.input_script.specs.declared.line.Statement.{Statement}
 use Rattle.input_script.specs.declared.fault.ScriptFault.{ScriptFault}
 use Rattle.input_script.specs.Grammar.{IsStatement}
 use Rattle.input_script.specs.Script.{Schedule, Spells, Accepts, IsFirstFault, IsFaulty, NeedsMemory, said, size}
-use Rattle.text_lines.specs.Lines.{lines_of}
+use Rattle.line_reader.specs.Lines.{lines_of}
 use Rattle.input_script.specs.Judging.{IsNext, Takes, with_last}
 use Rattle.input_script.proofs.Spelling.{last_joined, spells_join, spells_line}
 use Rattle.input_script.proofs.Schedules.{schedule_next, size_joined}

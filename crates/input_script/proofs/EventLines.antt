@@ -46,6 +46,5 @@ says_no_fail line (FailFlash number) (inr (rest, is)) written =
 pub events_alone : (lines : List (List ℕ)) (schedule : Schedule) → All IsEventLine lines → Spells lines schedule → schedule.failing ≡ []
 events_alone [] schedule all spelled = ap (λ s. s.failing) spelled
 events_alone (line ∷ lines) schedule all spelled =
-    let here : (said spelled.0).failing ≡ [] = says_no_fail line spelled.0 (All-head IsEventLine line lines all) spelled.2 in
     let behind : spelled.1.failing ≡ [] = events_alone lines spelled.1 (All-tail IsEventLine line lines all) spelled.3 in
-    ap (λ s. s.failing) spelled.4 ∙ ap (λ f. f ++ spelled.1.failing) here ∙ behind
+    ap (λ s. s.failing) spelled.4 ∙ ap (λ f. f ++ spelled.1.failing) (says_no_fail line spelled.0 (All-head IsEventLine line lines all) spelled.2) ∙ behind

@@ -10,8 +10,8 @@ use Rattle.input_script.specs.declared.input.Kind.TheVariants.{PinA, PinB, PinC,
 use Rattle.input_script.specs.declared.input.Input.{Input}
 use Rattle.input_script.specs.declared.input.Event.{Event}
 use Rattle.input_script.specs.Kinds.{word_of, mark_of, radix_of, input_of}
-use Rattle.text_lines.specs.Cutting.{Lacks}
-use Rattle.text_lines.proofs.CutLaws.{one_cut}
+use Rattle.line_reader.specs.Cutting.{Lacks}
+use Rattle.line_reader.proofs.CutLaws.{one_cut}
 use Rattle.input_script.specs.Grammar.{IsNumber, IsValue, IsInput, IsEvent}
 
 -- a decimal digit is no space
@@ -20,8 +20,7 @@ digits_lack_space [] digits = tt
 digits_lack_space (x ∷ xs) digits = (
   λ space.
       let P : ℕ → Type 0 = λ c. digit_value c < 10 in
-      let wrong : 36 < 10 = subst P space digits.0 in
-      omega (arith, wrong),
+      omega (arith, subst P space digits.0),
   digits_lack_space xs digits.1,
 )
 
@@ -61,8 +60,7 @@ input_parts text word rest input lacks cut i =
 
 value_one : (kind : Kind) (text : List ℕ) (value other : ℕ) → IsValue kind text value → IsValue kind text other → value ≡ other
 value_one k text value other a b =
-    let same : a.number ≡ b.number = append_cancel_left (mark_of k) a.number b.number (sym a.written ∙ b.written) in
-    a.value_is ∙ ap (digits_value (radix_of k)) same ∙ sym b.value_is
+    a.value_is ∙ ap (digits_value (radix_of k)) (append_cancel_left (mark_of k) a.number b.number (sym a.written ∙ b.written)) ∙ sym b.value_is
 
 -- the value of an input whose kind and whose text are known otherwise
 pub value_as : (text word rest : List ℕ) (kind : Kind) (input : Input) → Lacks 32 word → text ≡ word ++ 32 ∷ rest → word ≡ word_of kind → (i : IsInput text input) → IsValue kind rest i.value
@@ -76,9 +74,8 @@ pub input_one : (text : List ℕ) (input other : Input) → IsInput text input �
 input_one text input other a b =
     let cut : text ≡ word_of b.kind ++ 32 ∷ b.rest = b.written ∙ append_assoc (word_of b.kind) (codes " ") b.rest in
     let lacks = word_lacks_space b.kind in
-    let kinds : a.kind ≡ b.kind = one_kind a.kind b.kind (input_parts text (word_of b.kind) b.rest input lacks cut a).0 in
     let values : a.value ≡ b.value = value_one b.kind b.rest a.value b.value (value_as text (word_of b.kind) b.rest b.kind input lacks cut refl a) b.valued in
-    a.meaning ∙ ap₂ (λ k v. input_of k v) kinds values ∙ sym b.meaning
+    a.meaning ∙ ap₂ (λ k v. input_of k v) (one_kind a.kind b.kind (input_parts text (word_of b.kind) b.rest input lacks cut a).0) values ∙ sym b.meaning
 
 -- the line of an event begins with `at `
 pub tail_front : (line : List ℕ) (event : Event) → (e : IsEvent line event) → line ≡ codes "at " ++ (e.number ++ 32 ∷ e.rest)
@@ -98,8 +95,5 @@ event_parts line text number rest event front lacks cut e =
 
 pub event_one : (line : List ℕ) (event other : Event) → IsEvent line event → IsEvent line other → event ≡ other
 event_one line event other a b =
-    let front : line ≡ codes "at " ++ (b.number ++ 32 ∷ b.rest) = tail_front line other b in
-    let parts = event_parts line (b.number ++ 32 ∷ b.rest) b.number b.rest event front (digits_lack_space b.number b.at.digits) refl a in
-    let ats : event.at ≡ other.at = parts.0.value ∙ sym b.at.value in
-    let inputs : event.input ≡ other.input = input_one b.rest event.input other.input parts.1 b.input in
-    ap₂ (λ n i. let e : Event = record { at = n; input = i } in e) ats inputs
+    let parts = event_parts line (b.number ++ 32 ∷ b.rest) b.number b.rest event (tail_front line other b) (digits_lack_space b.number b.at.digits) refl a in
+    ap₂ (λ n i. let e : Event = record { at = n; input = i } in e) (parts.0.value ∙ sym b.at.value) (input_one b.rest event.input other.input parts.1 b.input)

@@ -4,7 +4,7 @@ use Rattle.std.proofs.lemmas.Bool.{cases_lt}
 use Rattle.input_script.specs.declared.line.Statement.{Statement}
 use Rattle.input_script.specs.declared.fault.ScriptFault.{ScriptFault}
 use Rattle.input_script.specs.declared.fault.ScriptFault.TheVariants.{Form, Order, Range, TooMany}
-use Rattle.text_lines.specs.Lines.{lines_of}
+use Rattle.line_reader.specs.Lines.{lines_of}
 use Rattle.input_script.specs.Grammar.{IsStatement}
 use Rattle.input_script.specs.Script.{Schedule, IsInRange, IsLate, IsSchedule, Accepts, Has, number_of, IsFirstFault, IsFaulty, HasOneJudgement, said, joined, size}
 use Rattle.input_script.specs.Judging.{IsNext, IsWrong}
@@ -25,8 +25,7 @@ next_no_fault line before statement written next Range = λ has.
     let P : Statement → Type 0 = λ s. IsInRange s in
     has.2 (subst P (statement_one line statement has.0 written has.1) next.in_range)
 next_no_fault line before statement written next TooMany = λ has.
-    let same : size (joined before (said has.0)) ≡ size (joined before (said statement)) = ap (λ s. size (joined before (said s))) (statement_one line has.0 statement has.1 written) in
-    omega (arith, next.room, has.2, same)
+    omega (arith, next.room, has.2, ap (λ s. size (joined before (said s))) (statement_one line has.0 statement has.1 written))
 
 -- a line whose statement is wrong after those before it
 pub wrong_is_first : (line : List ℕ) (before : Schedule) (statement : Statement) (fault : ScriptFault) → IsStatement line statement → IsWrong fault before statement → IsFirstFault fault before line
@@ -67,9 +66,8 @@ no_fault_inside front rest line before whole accepted front_accepted fault =
     let parts = spells_split front (line ∷ rest) whole accepted.spelled in
     let s = parts.second in
     let same : parts.a ≡ before = spells_one front parts.a before parts.first front_accepted.spelled in
-    let all : whole ≡ joined before (joined (said s.0) s.1) = parts.is ∙ ap₂ (λ a b. joined a b) same s.4 in
     let P : Schedule → Type 0 = λ w. IsSchedule w in
-    next_no_fault line before s.0 s.2 (schedule_inside before s.1 s.0 (subst P all accepted.in_order)) fault
+    next_no_fault line before s.0 s.2 (schedule_inside before s.1 s.0 (subst P (parts.is ∙ ap₂ (λ a b. joined a b) same s.4) accepted.in_order)) fault
 
 -- of two cuts of the same lines, the longer front has the shorter one, and the line after it
 longer_front : (xs ys r s : List (List ℕ)) (x : List ℕ) → xs ++ x ∷ r ≡ ys ++ s → length xs < length ys → (mid : List (List ℕ)) × (ys ≡ xs ++ x ∷ mid)
@@ -97,11 +95,9 @@ no_earlier_fault lines n m f g a b earlier =
 
 one_line : (lines : List (List ℕ)) (n m : ℕ) (f g : ScriptFault) → IsFaulty lines n f → IsFaulty lines m g → n ≡ m
 one_line lines n m f g a b =
-    let left = no_earlier_fault lines n m f g a b in
-    let right = no_earlier_fault lines m n g f b a in
     elim (cases_lt n m) [
-      | inl less ↦ absurd (left less)
-      | inr ge ↦ elim (cases_lt m n) [ inl less ↦ absurd (right less) | inr le ↦ omega arith ]
+      | inl less ↦ absurd ((no_earlier_fault lines n m f g a b) less)
+      | inr ge ↦ elim (cases_lt m n) [ inl less ↦ absurd ((no_earlier_fault lines m n g f b a) less) | inr le ↦ omega arith ]
     ]
 
 fault_with : ℕ → ScriptFault
@@ -120,8 +116,7 @@ first_one before line f g a b = elim (cases_lt (number_of f) (number_of g)) [
   | inr ge ↦ elim (cases_lt (number_of g) (number_of f)) [
     | inl less ↦ absurd (a.first g less b.has)
     | inr le ↦
-        let same : number_of f ≡ number_of g = omega arith in
-        sym (fault_numbered f) ∙ ap fault_with same ∙ fault_numbered g
+        sym (fault_numbered f) ∙ ap fault_with (omega arith) ∙ fault_numbered g
   ]
 ]
 

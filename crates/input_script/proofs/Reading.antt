@@ -8,7 +8,7 @@ use Rattle.input_script.specs.declared.input.Kind.TheVariants.{PinA, PinB, PinC,
 use Rattle.input_script.specs.declared.input.Input.{Input}
 use Rattle.input_script.specs.declared.input.Event.{Event}
 use Rattle.input_script.specs.Kinds.{word_of, radix_of, width_of}
-use Rattle.text_lines.specs.Cutting.{Lacks}
+use Rattle.line_reader.specs.Cutting.{Lacks}
 use Rattle.input_script.specs.Grammar.{IsNumber, IsValue, IsInput, IsEvent}
 use Rattle.input_script.proofs.Events.{event_parts, input_parts, value_as}
 

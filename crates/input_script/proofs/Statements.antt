@@ -30,8 +30,7 @@ fail_front line operation f = ap (λ l. get_or l 0 0) f.written
 
 fail_one : (line : List ℕ) (operation other : ℕ) → IsFailLine line operation → IsFailLine line other → operation ≡ other
 fail_one line operation other a b =
-    let same : a.number ≡ b.number = append_cancel_left (codes "fail flash ") a.number b.number (sym a.written ∙ b.written) in
-    a.operation_is.value ∙ ap (digits_value 10) same ∙ sym b.operation_is.value
+    a.operation_is.value ∙ ap (digits_value 10) (append_cancel_left (codes "fail flash ") a.number b.number (sym a.written ∙ b.written)) ∙ sym b.operation_is.value
 
 pub statement_one : (line : List ℕ) (a b : Statement) → IsStatement line a → IsStatement line b → a ≡ b
 statement_one line Nothing Nothing x y = refl

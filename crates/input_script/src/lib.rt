@@ -5,7 +5,7 @@
 //! program of flash fail. A line is empty, begins with `#`, or is one of these. [`read`] answers what the
 //! lines schedule, or the first faulty line and its first fault.
 //!
-//! The lines of a text are those of `text_lines`; `specs/Grammar.antt` says which forms a line has, and
+//! The lines of a text are those of `line_reader`; `specs/Grammar.antt` says which forms a line has, and
 //! `specs/Script.antt` what is accepted as a whole.
 #![tactic(auto)]
 

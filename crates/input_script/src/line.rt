@@ -7,7 +7,7 @@ ghost use Rattle.input_script.specs.declared.line.Statement.{Statement};
 ghost use Rattle.input_script.specs.Grammar.{IsNumber, IsValue, IsInput, IsEvent, IsFailLine, IsStatement};
 
 use crate::input::{Input, Kind};
-use text_lines::{split_once, value_of};
+use line_reader::{split_once, value_of};
 
 /// What a line says. Its number is as it was written, of up to 10 digits.
 #[derive(Clone, Copy)]

@@ -13,7 +13,7 @@ use Rattle.sram_layout.proofs.Laws.{byte_out_of_word}
 use Rattle.nat_template.specs.declared.shapes.TemplateShape.TheVariants.{Fault}
 use Rattle.nat_template.specs.Shapes.{shape_of}
 use Rattle.kernel_entry.proofs.ShapeLaws.{runs_or_faults}
-use Rattle.mem_guard.specs.FlatMachine.{next_size}
+use Rattle.flat_machine.specs.FlatMachine.{next_size}
 use Rattle.mem_guard.specs.Guarded.{Guarded}
 use Rattle.mem_guard.specs.Left.{IsKept, HeapAfter}
 use Rattle.mem_guard.proofs.Leaves.{executed_leaves}

@@ -25,14 +25,15 @@ use Rattle.mote_devices.proofs.AccessLaws.{read_refused, write_refused}
 use Rattle.nat_template.specs.declared.shapes.TemplateShape.{TemplateShape}
 use Rattle.nat_template.specs.declared.shapes.TemplateShape.TheVariants.{Native, Mem, Jump, Skip, SelfJump, Fault}
 use Rattle.nat_template.specs.Shapes.{shape_of, shape_of_form, is_stack_pointer, can_modify}
-use Rattle.mem_guard.specs.declared.address.AddrClass.TheVariants.{Io}
-use Rattle.mem_guard.specs.Classes.{class_of}
-use Rattle.mem_guard.specs.FlatSpace.{FlatSpace, flat_calls, load, store, modify, load_in, store_in, from_device, to_device}
-use Rattle.mem_guard.specs.FlatMachine.{slept as slept_at}
-use Rattle.mem_guard.specs.FlatMachine.{Stops, Io as IoEnd, tried, stepped, next_size, jumps_to_itself}
-use Rattle.mem_guard.proofs.MachineLaws.{tried_illegal, tried_spm, tried_sleep, tried_step}
+use Rattle.flat_machine.specs.declared.address.AddrClass.TheVariants.{Io}
+use Rattle.flat_machine.specs.Classes.{class_of}
+use Rattle.flat_machine.specs.FlatSpace.{FlatSpace, flat_calls, load, store, modify, load_in, store_in, from_device, to_device}
+use Rattle.flat_machine.specs.FlatMachine.{slept as slept_at}
+use Rattle.flat_machine.specs.FlatMachine.{Stops, Io as IoEnd, tried, stepped, next_size, jumps_to_itself}
+use Rattle.flat_machine.proofs.MachineLaws.{tried_illegal, tried_spm, tried_sleep, tried_step}
 use Rattle.kernel_entry.specs.declared.kernel.Kernel.{Kernel}
-use Rattle.mem_guard.proofs.ReadLaws.{reads_program, reads_own}
+use Rattle.flat_machine.proofs.ReadLaws.{reads_program}
+use Rattle.mem_guard.proofs.GuardedStep.{reads_own}
 use Rattle.kernel_entry.specs.Parts.{descriptor, instruction, memory_of, core_of, image_held}
 use Rattle.kernel_entry.specs.Services.{is_sleep, fault_of}
 use Rattle.kernel_entry.specs.Seen.{space_of, program, state_at, end_of}

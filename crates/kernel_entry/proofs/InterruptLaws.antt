@@ -9,7 +9,7 @@ use Rattle.avr_isa.specs.Addresses.{wrapping_difference}
 use Rattle.avr_exec.specs.Spaces.{Outcome, Went, Stopped}
 use Rattle.avr_exec.specs.Likeness.{over, Leaves}
 use Rattle.avr_exec.specs.declared.stop.BusStop.{BusStop}
-use Rattle.heap_frames.specs.Addresses.{is_stack}
+use Rattle.flat_machine.specs.Addresses.{is_stack}
 use Rattle.heap_frames.specs.Paged.{IsPaged}
 use Rattle.sram_layout.specs.Bytes.{byte_at, with_word}
 use Rattle.sram_layout.specs.Cells.{vsp_cell}
@@ -19,12 +19,12 @@ use Rattle.kernel_entry.proofs.LeftLaws.{same_stored}
 use Rattle.kernel_entry.specs.declared.kernel.Stop.{Stop}
 use Rattle.mote_devices.specs.State.{State as Devices}
 use Rattle.mote_devices.specs.Waking.{enabled, is_enabled, with_taken}
-use Rattle.mem_guard.specs.FlatMachine.{Ends, On, next_of, interrupted, interrupted_by, lowest, vector}
+use Rattle.flat_machine.specs.FlatMachine.{Ends, On, next_of, interrupted, interrupted_by, lowest, vector}
 use Rattle.mem_guard.specs.Guarded.{Guarded, flat_of, push_return}
 use Rattle.mem_guard.specs.Left.{IsKept, KeepsHeap}
 use Rattle.mem_guard.proofs.Alike.{push_return_alike}
 use Rattle.mem_guard.proofs.Leaves.{push_return_leaves_kept}
-use Rattle.mem_guard.proofs.MachineLaws.{next_taken}
+use Rattle.flat_machine.proofs.MachineLaws.{next_taken}
 use Rattle.kernel_entry.specs.declared.kernel.Kernel.{Kernel}
 use Rattle.kernel_entry.specs.declared.kernel.Taken.{Taken}
 use Rattle.kernel_entry.specs.declared.kernel.Taken.TheVariants as answers

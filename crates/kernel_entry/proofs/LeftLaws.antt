@@ -14,7 +14,7 @@ use Rattle.sram_layout.proofs.Laws.{byte_out_of_word, length-with_word}
 use Rattle.heap_frames.specs.Paged.{IsPaged}
 use Rattle.heap_frames.specs.SamePaging.{SamePaging}
 use Rattle.heap_frames.proofs.SamePagingLaws.{same_paging_word, paged_same}
-use Rattle.mem_guard.specs.FlatMachine.{next_size}
+use Rattle.flat_machine.specs.FlatMachine.{next_size}
 use Rattle.mem_guard.specs.Guarded.{Guarded}
 use Rattle.mem_guard.specs.Left.{IsKept, HeapAfter}
 use Rattle.mem_guard.proofs.Leaves.{executed_leaves}

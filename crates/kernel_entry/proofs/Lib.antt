@@ -13,4 +13,3 @@ pub mod InterruptLaws
 mod LowestBit
 mod Sleeping
 pub mod TakingRows
-mod WorkedTexts

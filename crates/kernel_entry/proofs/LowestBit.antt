@@ -4,7 +4,7 @@ use Rattle.std.specs.Prelude.{◌⊎◌, ◌≢◌, ◌==◌, if◌then◌else�
 use Rattle.std.specs.Int.{bit_at, trailing_zeros}
 use Rattle.std.proofs.lemmas.Bool.{cases_eq}
 use Rattle.std.proofs.lemmas.Nat.Bits.{bit_at-trailing_zeros}
-use Rattle.mem_guard.specs.FlatMachine.{lowest}
+use Rattle.flat_machine.specs.FlatMachine.{lowest}
 
 -- the bits from one on are tried in turn
 ladder : ℕ → (k i : ℕ) → ℕ

@@ -18,12 +18,12 @@ use Rattle.avr_exec.proofs.OtherPlace.{exec_moved}
 use Rattle.sram_layout.specs.Bytes.{with_word}
 use Rattle.sram_layout.specs.Cells.{count_cell, vsp_cell}
 use Rattle.sram_layout.proofs.Laws.{byte_out_of_word, length-with_word}
-use Rattle.heap_frames.specs.Addresses.{is_stack}
+use Rattle.flat_machine.specs.Addresses.{is_stack}
 use Rattle.heap_frames.specs.Paged.{IsPaged}
 use Rattle.nat_template.specs.declared.shapes.TemplateShape.TheVariants.{Mem, Call, Ret, Ind, SelfJump}
 use Rattle.nat_template.specs.Shapes.{shape_of_form}
-use Rattle.mem_guard.specs.FlatSpace.{FlatSpace, flat_calls, push_return, pop_return, with_memory}
-use Rattle.mem_guard.specs.FlatMachine.{next_size}
+use Rattle.flat_machine.specs.FlatSpace.{FlatSpace, flat_calls, push_return, pop_return, with_memory}
+use Rattle.flat_machine.specs.FlatMachine.{next_size}
 use Rattle.mem_guard.specs.Guarded.{Guarded, flat_of}
 use Rattle.mem_guard.proofs.Alike.{executed_alike}
 use Rattle.preempt_count.specs.Counting.{count_over}

@@ -19,7 +19,7 @@ use Rattle.nat_template.specs.Shapes.{shape_of, shape_of_form}
 use Rattle.nat_template.specs.Stubs.{bridge_entry, quantum_entry, mem_entry, push_return_entry, return_entry, indirect_entry, self_entry, fault_entry}
 use Rattle.mem_guard.specs.Guarded.{Guarded}
 use Rattle.mem_guard.specs.Left.{HeapAfter, KeepsHeap}
-use Rattle.mem_guard.specs.FlatMachine.{jumps_to_itself, tried, Stops, Wakes, slept as slept_at, slept_by as slept_by_at, Asleep as AsleepEnd}
+use Rattle.flat_machine.specs.FlatMachine.{jumps_to_itself, tried, Stops, Wakes, slept as slept_at, slept_by as slept_by_at, Asleep as AsleepEnd}
 use Rattle.std.specs.Prelude.{max, Option, None, ◌≤◌, ◌+◌}
 use Rattle.avr_isa.specs.Crossing.{is_crossing}
 use Rattle.mote_devices.specs.State.{State}
@@ -27,9 +27,8 @@ use Rattle.mote_devices.specs.Waking.{wake, Timely}
 use Rattle.mote_devices.proofs.WakeLaws.{wake_polls}
 use Rattle.preempt_count.proofs.CountLaws.{count_crossed, byte_crossed}
 use Rattle.heap_frames.proofs.SamePagingLaws.{paged_same}
-use Rattle.mem_guard.proofs.MachineLaws.{tried_halt, tried_read}
-use Rattle.mem_guard.proofs.GuardedStep.{ReadsOwn}
-use Rattle.mem_guard.proofs.ReadLaws.{reads_own}
+use Rattle.flat_machine.proofs.MachineLaws.{tried_halt, tried_read}
+use Rattle.mem_guard.proofs.GuardedStep.{ReadsOwn, reads_own}
 use Rattle.preempt_count.specs.Counting.{crossed}
 use Rattle.kernel_entry.specs.declared.kernel.Kernel.{Kernel}
 use Rattle.kernel_entry.specs.declared.kernel.Served.{Served}
@@ -38,7 +37,7 @@ use Rattle.kernel_entry.specs.Parts.{return_address, descriptor, instruction, me
 use Rattle.avr_isa.specs.Instruction.{size_of}
 use Rattle.avr_isa.specs.Addresses.{wrapping_sum}
 use Rattle.heap_frames.specs.SamePaging.{SamePaging}
-use Rattle.mem_guard.specs.FlatSpace.{push_return, pop_return}
+use Rattle.flat_machine.specs.FlatSpace.{push_return, pop_return}
 use Rattle.kernel_entry.specs.Services.{bridged, faulted, foreign_in, foreign_read, read_by, accessed, executed, execution, execution_by, if_instruction, resumed_by, resumed, gone_by, gone, halted, halted_or_gone, quantum_ended, fault_of, is_sleep, slept, slept_by, woken, served, served_at}
 use Rattle.kernel_entry.specs.Conditions.{CanServe, CanExecute, IsCalled, shape_behind, executes}
 use Rattle.kernel_entry.specs.Seen.{View, view_of, space_of, program, state_at}

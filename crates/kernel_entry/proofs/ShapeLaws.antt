@@ -11,8 +11,8 @@ use Rattle.avr_exec.specs.Likeness.{is_transfer}
 use Rattle.nat_template.specs.declared.shapes.TemplateShape.{TemplateShape}
 use Rattle.nat_template.specs.declared.shapes.TemplateShape.TheVariants.{Native, Mem, Jump, Branch, Skip, Call, Ret, Ind, SelfJump, Fault}
 use Rattle.nat_template.specs.Shapes.{shape_of_form, is_stack_pointer, can_modify}
-use Rattle.mem_guard.specs.FlatMachine.{jumps_to_itself}
-use Rattle.mem_guard.proofs.ReadLaws.{reads_program}
+use Rattle.flat_machine.specs.FlatMachine.{jumps_to_itself}
+use Rattle.flat_machine.proofs.ReadLaws.{reads_program}
 
 -- what may not be executed has a shape of its own
 pub runs_or_faults : (pc : ℕ) (form : Form) → shape_of_form pc form ≢ Fault → is_executed form ≡ true

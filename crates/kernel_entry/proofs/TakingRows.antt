@@ -4,10 +4,10 @@ use Rattle.std.specs.Prelude.{Some, None}
 use Rattle.avr_isa.specs.Addresses.{wrapping_difference}
 use Rattle.avr_exec.specs.Spaces.{Outcome, Went, Stopped}
 use Rattle.avr_exec.specs.declared.stop.BusStop.TheVariants as bus
-use Rattle.heap_frames.specs.Addresses.{is_stack}
+use Rattle.flat_machine.specs.Addresses.{is_stack}
 use Rattle.heap_frames.specs.Paged.{IsPaged}
 use Rattle.mote_devices.specs.Waking.{enabled}
-use Rattle.mem_guard.specs.FlatMachine.{lowest, vector}
+use Rattle.flat_machine.specs.FlatMachine.{lowest, vector}
 use Rattle.mem_guard.specs.Guarded.{Guarded, push_return}
 use Rattle.mem_guard.proofs.Leaves.{push_return_leaves_kept}
 use Rattle.kernel_entry.specs.declared.kernel.Kernel.{Kernel}

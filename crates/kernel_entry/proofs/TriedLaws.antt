@@ -13,7 +13,7 @@ use Rattle.avr_exec.specs.Likeness.{is_transfer, Leaves as LeavesSpace}
 use Rattle.heap_frames.specs.Paged.{IsPaged}
 use Rattle.nat_template.specs.declared.shapes.TemplateShape.TheVariants.{SelfJump}
 use Rattle.nat_template.specs.Shapes.{shape_of_form}
-use Rattle.mem_guard.specs.FlatMachine.{FlatState, Goes as GoesOn, Stops, jumps_to_itself, end_at, next_size}
+use Rattle.flat_machine.specs.FlatMachine.{FlatState, Goes as GoesOn, Stops, jumps_to_itself, end_at, next_size}
 use Rattle.mem_guard.specs.Guarded.{Guarded, flat_of}
 use Rattle.mem_guard.proofs.GuardedStep.{ReadsOwn, guarded_goes, guarded_stops}
 use Rattle.mem_guard.proofs.LineLaws.{transfer_line}

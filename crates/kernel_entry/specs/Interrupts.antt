@@ -6,10 +6,10 @@ use Rattle.avr_exec.specs.Spaces.{Outcome, Went, Stopped}
 use Rattle.avr_flags.specs.Status.{has_bit, with_bit, interrupts}
 use Rattle.sram_layout.specs.Bytes.{with_byte, with_word}
 use Rattle.sram_layout.specs.Cells.{vsp_cell}
-use Rattle.heap_frames.specs.Addresses.{is_stack}
+use Rattle.flat_machine.specs.Addresses.{is_stack}
 use Rattle.heap_frames.specs.Paged.{IsPaged}
 use Rattle.mote_devices.specs.Waking.{enabled, is_enabled, with_taken}
-use Rattle.mem_guard.specs.FlatMachine.{lowest, vector}
+use Rattle.flat_machine.specs.FlatMachine.{lowest, vector}
 use Rattle.mem_guard.specs.Guarded.{Guarded, push_return}
 use Rattle.kernel_entry.specs.declared.kernel.Kernel.{Kernel}
 use Rattle.kernel_entry.specs.declared.kernel.Stop.{Stop}

@@ -6,4 +6,3 @@ pub mod Conditions
 pub mod Seen
 pub mod Left
 pub mod Rows
-pub mod Texts

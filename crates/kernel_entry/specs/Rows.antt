@@ -17,8 +17,8 @@ use Rattle.mote_devices.specs.State.{State}
 use Rattle.mote_devices.specs.Waking.{wake}
 use Rattle.sram_layout.specs.Bytes.{byte_at}
 use Rattle.sram_layout.specs.Cells.{count_cell, r24_cell, sreg_cell}
-use Rattle.mem_guard.specs.FlatSpace.{FlatSpace, flat_calls, push_return, pop_return}
-use Rattle.mem_guard.specs.FlatMachine.{next_size, tried, Goes as GoesOn, Stops, Wakes}
+use Rattle.flat_machine.specs.FlatSpace.{FlatSpace, flat_calls, push_return, pop_return}
+use Rattle.flat_machine.specs.FlatMachine.{next_size, tried, Goes as GoesOn, Stops, Wakes}
 use Rattle.preempt_count.specs.Counting.{count_over}
 use Rattle.kernel_entry.specs.declared.kernel.Kernel.{Kernel}
 use Rattle.kernel_entry.specs.declared.kernel.Stop.{Stop}

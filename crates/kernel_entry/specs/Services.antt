@@ -17,7 +17,7 @@ use Rattle.avr_exec.specs.Execution.{exec_of}
 use Rattle.sram_layout.specs.Bytes.{byte_at, with_byte}
 use Rattle.sram_layout.specs.Cells.{count_cell, r24_cell, sreg_cell, kernel_stack_top}
 use Rattle.nat_template.specs.Stubs.{bridge_entry, quantum_entry, mem_entry, push_return_entry, return_entry, indirect_entry, self_entry}
-use Rattle.mem_guard.specs.FlatMachine.{next_size, word_asked, if_foreign}
+use Rattle.flat_machine.specs.FlatMachine.{next_size, word_asked, if_foreign}
 use Rattle.mem_guard.specs.Guarded.{Guarded, guarded_calls}
 use Rattle.preempt_count.specs.Counting.{crossed}
 use Rattle.kernel_entry.specs.declared.kernel.Kernel.{Kernel}

@@ -4,13 +4,14 @@ ghost use Rattle.std.specs.Prelude.{◌≡◌, ◌≢◌, ◌<◌, ◌^◌, fals
 ghost use Rattle.std.specs.Int.{bit_at};
 ghost use Rattle.avr_flags.specs.Status.{with_bit, interrupts};
 ghost use Rattle.heap_frames.specs.Paged.{IsPaged};
-ghost use Rattle.mem_guard.specs.FlatMachine.{lowest as lowest_of, vector as vector_of};
+ghost use Rattle.flat_machine.specs.FlatMachine.{lowest as lowest_of, vector as vector_of};
 ghost use Rattle.kernel_entry.specs.Interrupts.{taken, pushed, TakesLeast};
 
 use crate::kernel::{Kernel, Taken};
 use crate::services::{has_interrupts, stop_of};
 use avr_exec::{Bus, BusStop};
-use mem_guard::{Part, VirtualBus};
+use flat_machine::Part;
+use mem_guard::VirtualBus;
 
 /// Takes the pending and enabled interrupt with the least number, where interrupts are on: `target`, the address where
 /// the program would go on, is pushed onto its stack, and interrupts are off. Its vector stands at the front of the

@@ -1,7 +1,7 @@
-//! The kernel's state, and its answers.
+//! The kernel's state, its answers, and what is known of a run between two of them.
 
 use flash_model::Layout;
-use mem_guard::Part;
+use flat_machine::Part;
 use mote_core::Mote;
 use mote_devices::Line;
 
@@ -60,4 +60,27 @@ pub enum Taken {
     Vector(u16),
     /// The return address would lie outside the stack window.
     Stopped(Stop),
+}
+
+/// An arrival that is owed: it is made before anything else but an interrupt.
+#[derive(Clone, Copy)]
+pub struct Owed {
+    /// The original address to arrive at.
+    pub target: u16,
+    /// The flash word address of the stub that asked for it, where one did.
+    pub stub: Option<u16>,
+}
+
+/// How a run ends. `Spent` is an answer alone: a run that is spent has not ended, and goes on when it is asked
+/// for more.
+#[derive(Clone, Copy)]
+pub enum End {
+    /// The bound of steps was reached.
+    Spent,
+    /// The program stopped by itself.
+    Stopped(Stop),
+    /// The program left its image, for this address.
+    Wild(u16),
+    /// The operation on flash of this number was refused.
+    Flash(u64),
 }

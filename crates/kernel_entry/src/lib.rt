@@ -15,11 +15,12 @@
 //! ```
 //!
 //! [`serve_told`] says besides whether an interrupt may be taken next; [`interrupt`] then takes one, if any.
+//! [`Owed`] and [`End`] say where a run stands between two services, and how it ends.
 //!
 //! docs/LOADER.md has the entries and what each service does. `specs/Services` is that as one function of
 //! the whole kernel, `specs/Rows` the same entry by entry, over what the program sees (`specs/Seen`), and
 //! `specs/Left` what every service leaves; `specs/Conditions` says when a service may be asked.
-//! `specs/Interrupts` says when an interrupt is taken, and what that changes. `specs/Texts` has the text of a device's line and of the end of a run. `proofs/ServedLaws` has the rows
+//! `specs/Interrupts` says when an interrupt is taken, and what that changes. `proofs/ServedLaws` has the rows
 //! as laws of the one function.
 #![tactic(auto)]
 
@@ -29,5 +30,5 @@ mod kernel;
 mod services;
 
 pub use interrupts::interrupt;
-pub use kernel::{Kernel, Served, Stop, Taken};
+pub use kernel::{End, Kernel, Owed, Served, Stop, Taken};
 pub use services::{has_interrupts, serve, serve_told};

@@ -17,13 +17,16 @@ use crate::execution::execute;
 use crate::kernel::{Kernel, Served, Stop};
 use avr_exec::{BusStop, Cpu};
 use avr_isa::{Form, Instr};
-use mem_guard::{foreign_word, instruction_in_image, known_instruction};
+use flat_machine::foreign_word;
+use mem_guard::{instruction_in_image, known_instruction};
 use nat_template::entries::{BRIDGE, MEM, QUANTUM, RETURN, SELF};
 use preempt_count::{cross, is_crossing};
 use sram_layout::KERNEL_STACK_TOP;
 
 /// Serves the entry of the kernel at which the pc stands. The call has left the address behind it, where
 /// the descriptor is, at the top of the kernel's own stack, which is empty again then.
+///
+/// This is the plain form: the program calls [`serve_told`].
 pub fn serve(k: &mut Kernel) -> Served
     requires can { CanServe k.old }
     // The answer and the whole kernel are a function of the kernel.
@@ -50,7 +53,8 @@ pub fn serve(k: &mut Kernel) -> Served
     serve_at(k, at).0
 }
 
-/// The same, and tells whether the service ends at a checkpoint, or woke the program: then an interrupt may be taken next.
+/// Serves as [`serve`] does, and tells whether the service ends at a checkpoint, or woke the program: then an interrupt may be
+/// taken next.
 #[inline(always)]
 pub fn serve_told(k: &mut Kernel) -> (Served, bool)
     requires can { CanServe k.old }
@@ -62,8 +66,8 @@ pub fn serve_told(k: &mut Kernel) -> (Served, bool)
     serve_at(k, at)
 }
 
-/// The same, where the descriptor is `at`. Most services execute an instruction of the program, so what they do stands in
-/// one place, and is inlined.
+/// Serves a call whose descriptor is `at`. Most services execute an instruction of the program, so what they do stands in one
+/// place, and is inlined.
 #[inline(always)]
 fn serve_at(k: &mut Kernel, at: u16) -> (Served, bool)
     requires can { CanServe k.old }
@@ -223,7 +227,7 @@ fn foreign_read(k: &Kernel, at: u16) -> Option<u16>
     foreign_read_if_shut(k, at)
 }
 
-/// The same, where the part may be shut.
+/// That word, told by the instruction itself, whether the part is shut or not.
 #[inline(never)]
 fn foreign_read_if_shut(k: &Kernel, at: u16) -> Option<u16>
     requires at { at ≡ descriptor_of k.now }

@@ -82,7 +82,7 @@ fn execute(
     Ok(bus.line)
 }
 
-/// The same, where it shows nothing.
+/// Executes an instruction that shows nothing.
 fn execute_silently(rt: &impl Abort, cpu: &mut Cpu, parts: &mut Parts, words: (u16, u16))
     requires paged { IsPaged parts.old.sram parts.old.swap }
     ensures paged { IsPaged parts.new.sram parts.new.swap }

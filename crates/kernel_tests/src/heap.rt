@@ -2,7 +2,7 @@
 
 ghost use Rattle.std.specs.Prelude.{◌≡◌, ◌≤◌, IfOk, true};
 ghost use Rattle.swap_store.specs.Slots.{most_slots};
-ghost use Rattle.heap_frames.specs.Addresses.{is_heap};
+ghost use Rattle.flat_machine.specs.Addresses.{is_heap};
 ghost use Rattle.heap_frames.specs.Paged.{IsPaged};
 
 use heap_frames::{SwapFull, load, store};

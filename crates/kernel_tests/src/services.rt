@@ -6,8 +6,9 @@ ghost use Rattle.kernel_entry.specs.Conditions.{CanServe, shape_behind};
 ghost use Rattle.kernel_entry.specs.Parts.{descriptor as called_address};
 
 use flash_model::Layout;
+use flat_machine::Part;
 use kernel_entry::{Kernel, Served, Stop, Taken, interrupt, serve};
-use mem_guard::{Part, instruction_in_image};
+use mem_guard::instruction_in_image;
 use mote_core::Mote;
 use nat_template::entries::{BRIDGE, FAULT, INDIRECT, MEM, PUSH_RETURN, QUANTUM, RETURN, SELF};
 use nat_template::{TemplateShape, shape};

@@ -1,7 +1,7 @@
 //! Lines as users see them.
 
-use line_text::device_line;
 use mote_devices::{Line, Port};
+use printed_text::device_line;
 
 #[test]
 fn a_line_has_the_outputs_name_and_the_value(rt: HostRuntime) {

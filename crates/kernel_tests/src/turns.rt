@@ -12,7 +12,7 @@ use tk_run::{End, Machine, Options};
 /// steps 65,535 and 65,536.
 const IN_TURN: [u16; 7] = [0xEF8E, 0xE79F, 0x9701, 0xF7F1, 0xBB0B, 0xBB0B, 0xCFFF];
 
-/// The same behind a NOP: the lines are those of steps 65,536 and 65,537.
+/// A NOP before those words: the lines are those of steps 65,536 and 65,537.
 const ACROSS: [u16; 8] = [
     0x0000, 0xEF8E, 0xE79F, 0x9701, 0xF7F1, 0xBB0B, 0xBB0B, 0xCFFF,
 ];

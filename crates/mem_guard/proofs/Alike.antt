@@ -13,7 +13,7 @@ use Rattle.avr_exec.specs.Execution.{answered_by, answer_of, exec_of}
 use Rattle.avr_exec.specs.Likeness.{over}
 use Rattle.avr_exec.proofs.OneAnswer.{exec_alike}
 use Rattle.sram_layout.specs.Bytes.{byte_at, with_byte}
-use Rattle.heap_frames.specs.Addresses.{is_stack, is_heap}
+use Rattle.flat_machine.specs.Addresses.{is_stack, is_heap}
 use Rattle.heap_frames.specs.Frames.{pages}
 use Rattle.heap_frames.specs.Memory.{vmem}
 use Rattle.heap_frames.specs.Paged.{IsPaged}
@@ -21,14 +21,14 @@ use Rattle.heap_frames.specs.Paging.{Store, heap_load, heap_store}
 use Rattle.heap_frames.proofs.LoadLaws.{load_leaves}
 use Rattle.mote_devices.specs.declared.line.Line.{Line}
 use Rattle.mote_devices.specs.Accesses.{Asked, Gave, Refused, read, write, modify as modify_device}
-use Rattle.mem_guard.specs.declared.address.AddrClass.{AddrClass}
-use Rattle.mem_guard.specs.declared.address.AddrClass.TheVariants.{Stack, Heap}
-use Rattle.mem_guard.specs.Classes.{class_of}
-use Rattle.mem_guard.specs.FlatSpace.{FlatSpace, with_memory, with_page, store_to_heap, flat_calls}
-use Rattle.mem_guard.specs.FlatSpace.{load as flat_load, store as flat_store, modify as flat_modify, push as flat_push, pop as flat_pop, push_return as flat_push_return, pop_return as flat_pop_return}
-use Rattle.mem_guard.specs.FlatSpace.{load_in as flat_load_in, store_in as flat_store_in, from_device as flat_from_device, to_device as flat_to_device}
+use Rattle.flat_machine.specs.declared.address.AddrClass.{AddrClass}
+use Rattle.flat_machine.specs.declared.address.AddrClass.TheVariants.{Stack, Heap}
+use Rattle.flat_machine.specs.Classes.{class_of}
+use Rattle.flat_machine.specs.FlatSpace.{FlatSpace, with_memory, with_page, store_to_heap, flat_calls}
+use Rattle.flat_machine.specs.FlatSpace.{load as flat_load, store as flat_store, modify as flat_modify, push as flat_push, pop as flat_pop, push_return as flat_push_return, pop_return as flat_pop_return}
+use Rattle.flat_machine.specs.FlatSpace.{load_in as flat_load_in, store_in as flat_store_in, from_device as flat_from_device, to_device as flat_to_device}
 use Rattle.mem_guard.specs.Guarded.{Guarded, flat_of, heap_of, with_sram, from_device, to_device, to_heap, load_in, store_in, load, store, modify, push, pop, push_return, pop_return, guarded_calls}
-use Rattle.mem_guard.proofs.ClassLaws.{class_stack, class_heap}
+use Rattle.flat_machine.proofs.ClassLaws.{class_stack, class_heap}
 use Rattle.mem_guard.proofs.HeapLaws.{stack_read, stack_write, stack_pages, stack_paged, stored_some, stored_none}
 
 -- the same answer told in other words

@@ -5,7 +5,7 @@ use Rattle.sram_layout.specs.Boot.{at_boot}
 use Rattle.heap_frames.specs.Frames.{pages}
 use Rattle.heap_frames.specs.Memory.{vmem}
 use Rattle.heap_frames.proofs.BootLaws.{boot_memory, boot_pages}
-use Rattle.mem_guard.specs.FlatMachine.{no_pages}
+use Rattle.flat_machine.specs.FlatMachine.{no_pages}
 
 -- whatever the swap holds, all of the memory is 0
 pub memory_at_reset : (w : List (List ℕ)) → vmem at_boot w ≡ zeros 65536

@@ -5,7 +5,7 @@ use Rattle.avr_exec.specs.declared.stop.BusStop.{BusStop}
 use Rattle.avr_exec.specs.Spaces.{Outcome, outcome_of}
 use Rattle.avr_exec.specs.Likeness.{over, Leaves}
 use Rattle.heap_frames.specs.Paged.{IsPaged}
-use Rattle.mem_guard.specs.FlatSpace.{FlatSpace}
+use Rattle.flat_machine.specs.FlatSpace.{FlatSpace}
 use Rattle.mem_guard.specs.Guarded.{Guarded, flat_of}
 use Rattle.mem_guard.specs.Left.{IsKept}
 use Rattle.mem_guard.proofs.Leaves.{kept_same}

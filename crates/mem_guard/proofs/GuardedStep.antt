@@ -13,13 +13,14 @@ use Rattle.avr_exec.specs.Execution.{exec_of, is_executed, finished}
 use Rattle.avr_exec.specs.Likeness.{over, Leaves}
 use Rattle.heap_frames.specs.Paged.{IsPaged}
 use Rattle.flash_words.specs.Layouts.{image_of}
-use Rattle.mem_guard.specs.declared.part.Part.{Part}
-use Rattle.mem_guard.specs.FlatSpace.{flat_calls}
+use Rattle.flat_machine.specs.declared.part.Part.{Part}
+use Rattle.flat_machine.specs.FlatSpace.{flat_calls}
 use Rattle.mote_devices.specs.State.{stored, rampz_address}
-use Rattle.mem_guard.specs.FlatMachine.{word_asked, if_foreign, Stops, Goes, tried, stepped, space_of, next_size, jumps_to_itself, end_at}
+use Rattle.flat_machine.specs.FlatMachine.{word_asked, if_foreign, Stops, Goes, tried, stepped, space_of, next_size, jumps_to_itself, end_at}
 use Rattle.mem_guard.specs.Guarded.{Guarded, flat_of, state_of, program_of, guarded_calls}
 use Rattle.mem_guard.specs.Left.{IsKept, HeapAfter}
-use Rattle.mem_guard.proofs.MachineLaws.{tried_step}
+use Rattle.flat_machine.proofs.MachineLaws.{tried_step}
+use Rattle.flat_machine.proofs.ReadLaws.{reads_program, asks_none}
 use Rattle.mem_guard.proofs.Alike.{executed_alike}
 use Rattle.mem_guard.proofs.Leaves.{executed_leaves, kept_same}
 
@@ -46,6 +47,9 @@ same_space part q g cpu steps crossings none = ap (λ line. record (flat_of g) {
 -- the instruction reads no word of the program that it may not
 abbrev pub ReadsOwn : Part → Guarded → Cpu → Form → Type 0
 ReadsOwn part g cpu form = if_foreign part (word_asked (stored g.devices rampz_address) (ask_of form cpu)) ≡ None
+
+pub reads_own : (part : Part) (g : Guarded) (cpu : Cpu) (form : Form) → reads_program form ≡ false → ReadsOwn part g cpu form
+reads_own part g cpu form none = ap (if_foreign part) (asks_none (stored g.devices rampz_address) form cpu none)
 
 step_tried : (part : Part) (q : ℕ) (g : Guarded) (cpu : Cpu) (steps crossings : ℕ) (form : Form) → IsPaged g.sram g.swap → g.line ≡ None
     → instruction_at (image_of g.layout g.words) cpu.pc ≡ Some form → is_executed form ≡ true → ReadsOwn part g cpu form → jumps_to_itself cpu.pc form && not (has_bit cpu.sreg interrupts) ≡ false

@@ -4,7 +4,7 @@ use Rattle.std.specs.Prelude.{Some, None, nat_lt, count_by, slice_index_or}
 use Rattle.std.proofs.lemmas.Bool.Decides.{nat_tests}
 use Rattle.std.proofs.lemmas.List.FromFn.{get_or-map-range_with_len}
 use Rattle.sram_layout.specs.Bytes.{byte_at, with_byte}
-use Rattle.heap_frames.specs.Addresses.{is_stack, is_heap}
+use Rattle.flat_machine.specs.Addresses.{is_stack, is_heap}
 use Rattle.heap_frames.specs.Changes.{Stored, StoredOr}
 use Rattle.heap_frames.specs.Frames.{table, pages, has_slot, given}
 use Rattle.heap_frames.specs.Memory.{vmem}

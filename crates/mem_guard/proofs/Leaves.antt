@@ -2,7 +2,7 @@
 use Rattle.std.proofs.Common.{◌≡◌, ℕ, ◌+◌, ◌/◌, ◌%◌, ◌≤◌, Bool, true, false, cond, length, slice_index, refl, ◌∙◌, subst, arith}
 use Rattle.std.specs.Prelude.{Option, Some, None}
 use Rattle.avr_isa.specs.declared.form.Form.{Form}
-use Rattle.avr_isa.specs.IoTable.{can_write}
+use Rattle.avr_isa.specs.IoTable.{can_write, register_at}
 use Rattle.avr_exec.specs.declared.cpu.Cpu.{Cpu}
 use Rattle.avr_exec.specs.declared.ask.Ask.{Ask}
 use Rattle.avr_exec.specs.declared.ask.Ask.TheVariants.{Nothing, Load as LoadAsk, Store as StoreAsk, Modify, PushByte, PopByte, PushReturn, PopReturn, Program, ExtendedProgram, ExtendedProgramRaising}
@@ -15,7 +15,7 @@ use Rattle.avr_exec.specs.Likeness.{Leaves}
 use Rattle.avr_exec.proofs.OneAnswer.{exec_leaves, answered_by-leaves}
 use Rattle.sram_layout.specs.Bytes.{byte_at, with_byte}
 use Rattle.sram_layout.proofs.Laws.{byte_other}
-use Rattle.heap_frames.specs.Addresses.{is_stack, is_heap}
+use Rattle.flat_machine.specs.Addresses.{is_stack, is_heap}
 use Rattle.heap_frames.specs.Changes.{LeavesOthers, Loaded, Stored}
 use Rattle.heap_frames.specs.Memory.{vmem}
 use Rattle.heap_frames.specs.Paged.{IsPaged}
@@ -24,16 +24,15 @@ use Rattle.heap_frames.proofs.MemoryLaws.{stack_from}
 use Rattle.heap_frames.proofs.LoadLaws.{load_leaves}
 use Rattle.heap_frames.proofs.SamePagingLaws.{same_paging_refl, same_paging_trans}
 use Rattle.mote_devices.specs.declared.line.Line.{Line}
-use Rattle.mote_devices.specs.Registers.{register_at}
 use Rattle.mote_devices.specs.State.{State}
 use Rattle.mote_devices.specs.Accesses.{Asked, Gave, Refused, read, write, modify as modify_device, line_written, after_write}
 use Rattle.mote_devices.proofs.AccessLaws.{Afterwards, polls_after_read, polls_after_write, polls_after_modify}
-use Rattle.mem_guard.specs.declared.address.AddrClass.{AddrClass}
-use Rattle.mem_guard.specs.declared.address.AddrClass.TheVariants.{Stack, Heap}
-use Rattle.mem_guard.specs.Classes.{class_of}
+use Rattle.flat_machine.specs.declared.address.AddrClass.{AddrClass}
+use Rattle.flat_machine.specs.declared.address.AddrClass.TheVariants.{Stack, Heap}
+use Rattle.flat_machine.specs.Classes.{class_of}
 use Rattle.mem_guard.specs.Guarded.{Guarded, heap_of, with_heap, with_sram, from_device, to_device, from_heap, to_heap, load_in, store_in, load, store, modify, push, pop, push_return, pop_return, guarded_calls}
 use Rattle.mem_guard.specs.Left.{IsKept, KeepsHeap, AfterLoad, AfterStore, HeapAfter}
-use Rattle.mem_guard.proofs.ClassLaws.{class_stack, class_heap}
+use Rattle.flat_machine.proofs.ClassLaws.{class_stack, class_heap}
 use Rattle.mem_guard.proofs.HeapLaws.{stack_paging, stack_paged, stored_some}
 
 -- nothing changed

@@ -17,13 +17,13 @@ use Rattle.avr_exec.specs.Execution.{answer_of, exec_of}
 use Rattle.avr_exec.specs.Likeness.{Leaves, is_transfer}
 use Rattle.avr_exec.proofs.OneAnswer.{exec_leaves, answered_by-leaves}
 use Rattle.sram_layout.specs.Bytes.{byte_at}
-use Rattle.heap_frames.specs.Addresses.{is_stack}
+use Rattle.flat_machine.specs.Addresses.{is_stack}
 use Rattle.heap_frames.specs.Paging.{Store, heap_store}
 use Rattle.mote_devices.specs.declared.line.Line.{Line}
 use Rattle.mote_devices.specs.Accesses.{Asked, Gave, Refused, read, write, modify as modify_device}
-use Rattle.mem_guard.specs.declared.address.AddrClass.{AddrClass}
-use Rattle.mem_guard.specs.declared.address.AddrClass.TheVariants.{Stack, Heap}
-use Rattle.mem_guard.specs.Classes.{class_of}
+use Rattle.flat_machine.specs.declared.address.AddrClass.{AddrClass}
+use Rattle.flat_machine.specs.declared.address.AddrClass.TheVariants.{Stack, Heap}
+use Rattle.flat_machine.specs.Classes.{class_of}
 use Rattle.mem_guard.specs.Guarded.{Guarded, heap_of, with_sram, from_device, to_device, to_heap, load_in, store_in, load, store, modify, push, pop, push_return, pop_return, guarded_calls}
 use Rattle.mem_guard.specs.Left.{LineAfterStore, LineAfter}
 

@@ -1,9 +1,9 @@
--- What a VirtualBus stands for.
+-- Serves the contracts of `VirtualBus`: what one stands for.
 use Rattle.std.specs.Borrow.{GName}
 use Rattle.flash_words.specs.Memory.{Memory}
 use Rattle.flash_words.specs.declared.layout.Layout.{Layout}
 use Rattle.mem_guard.specs.declared.virtual_bus.VirtualBus.{VirtualBus}
-use Rattle.mem_guard.specs.FlatSpace.{FlatSpace}
+use Rattle.flat_machine.specs.FlatSpace.{FlatSpace}
 use Rattle.mem_guard.specs.Guarded.{Guarded, flat_of}
 
 -- what it reaches, as plain data

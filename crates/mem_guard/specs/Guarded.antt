@@ -9,19 +9,19 @@ use Rattle.avr_exec.specs.StackRules.{StackRule, push_on, pop_from, push_return_
 use Rattle.flash_words.specs.declared.layout.Layout.{Layout}
 use Rattle.flash_words.specs.Layouts.{image_of}
 use Rattle.sram_layout.specs.Bytes.{byte_at, with_byte}
-use Rattle.heap_frames.specs.Addresses.{is_stack}
+use Rattle.flat_machine.specs.Addresses.{is_stack}
 use Rattle.heap_frames.specs.Frames.{pages}
 use Rattle.heap_frames.specs.Memory.{vmem}
 use Rattle.heap_frames.specs.Paging.{Store, heap_load, heap_store}
 use Rattle.mote_devices.specs.declared.line.Line.{Line}
 use Rattle.mote_devices.specs.State.{State, stored, with_stored, rampz_address}
 use Rattle.mote_devices.specs.Accesses.{Asked, answered_or, read, write, modify as modify_device}
-use Rattle.mem_guard.specs.declared.address.AddrClass.{AddrClass}
-use Rattle.mem_guard.specs.declared.part.Part.{Part}
-use Rattle.mem_guard.specs.declared.address.AddrClass.TheVariants.{Stack, Heap}
-use Rattle.mem_guard.specs.Classes.{class_of}
-use Rattle.mem_guard.specs.FlatSpace.{FlatSpace}
-use Rattle.mem_guard.specs.FlatMachine.{Program, FlatState}
+use Rattle.flat_machine.specs.declared.address.AddrClass.{AddrClass}
+use Rattle.flat_machine.specs.declared.part.Part.{Part}
+use Rattle.flat_machine.specs.declared.address.AddrClass.TheVariants.{Stack, Heap}
+use Rattle.flat_machine.specs.Classes.{class_of}
+use Rattle.flat_machine.specs.FlatSpace.{FlatSpace}
+use Rattle.flat_machine.specs.FlatMachine.{Program, FlatState}
 
 -- the bytes of SRAM, the swap slots, the devices, the words of flash and which of them are the image's,
 -- and what the last write of a device showed outside

@@ -7,9 +7,9 @@ use Rattle.heap_frames.specs.Changes.{Loaded, Stored}
 use Rattle.heap_frames.specs.Memory.{vmem}
 use Rattle.heap_frames.specs.Paged.{IsPaged}
 use Rattle.heap_frames.specs.SamePaging.{SamePaging}
-use Rattle.mem_guard.specs.declared.address.AddrClass.{AddrClass}
-use Rattle.mem_guard.specs.declared.address.AddrClass.TheVariants.{Stack, Heap}
-use Rattle.mem_guard.specs.Classes.{class_of}
+use Rattle.flat_machine.specs.declared.address.AddrClass.{AddrClass}
+use Rattle.flat_machine.specs.declared.address.AddrClass.TheVariants.{Stack, Heap}
+use Rattle.flat_machine.specs.Classes.{class_of}
 use Rattle.mem_guard.specs.Guarded.{Guarded, heap_of}
 
 -- the heap is still in order; the kernel's cells and its tables of places, the number of slots, flash and

@@ -1,4 +1,4 @@
--- When the guarded space may be used.
+-- Serves the contracts of `VirtualBus`: when the guarded space may be used.
 use Rattle.std.specs.Prelude.{◌<◌, ◌^◌}
 use Rattle.heap_frames.specs.Paged.{IsPaged}
 use Rattle.mem_guard.specs.Guarded.{Guarded}

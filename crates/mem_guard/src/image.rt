@@ -4,7 +4,7 @@ ghost use Rattle.std.specs.Prelude.{◌≡◌, ◌+◌, ◌%◌, ◌<◌, ◌≤
 ghost use Rattle.avr_isa.specs.Image.{word};
 ghost use Rattle.avr_decode.specs.Program.{instruction_at};
 ghost use Rattle.flash_words.specs.Layouts.{image_of};
-ghost use Rattle.mem_guard.specs.FlatMachine.{next_size};
+ghost use Rattle.flat_machine.specs.FlatMachine.{next_size};
 
 use avr_decode::{decode, size_by_first_word};
 use avr_isa::Instr;

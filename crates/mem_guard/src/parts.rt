@@ -3,18 +3,18 @@
 ghost use Rattle.std.specs.Prelude.{◌≡◌, ◌≤◌, false, OnErr};
 ghost use Rattle.avr_exec.specs.Registers.{is_own};
 ghost use Rattle.avr_exec.specs.Spaces.{outcome_of};
-ghost use Rattle.heap_frames.specs.Addresses.{is_stack as is_stack_test};
+ghost use Rattle.flat_machine.specs.Addresses.{is_stack as is_stack_test};
 ghost use Rattle.mem_guard.specs.Guarded.{load, store, modify, push, pop, push_return, pop_return};
 ghost use Rattle.mem_guard.specs.Bus.{guarded_of, lent_of};
 ghost use Rattle.mem_guard.specs.Readiness.{IsReady};
 
-use crate::address::{AddrClass, class};
 use crate::virtual_bus::VirtualBus;
 use avr_exec::BusStop;
+use flat_machine::{AddrClass, class};
 
 impl VirtualBus<'_> {
     /// The byte at a data address.
-    #[tactic(auto, unfolding(crate::specs::Guarded::load, crate::specs::Classes::class_of))]
+    #[tactic(auto, unfolding(crate::specs::Guarded::load, flat_machine::specs::Classes::class_of))]
     #[inline(always)]
     pub(crate) fn load_byte(&mut self, a: u16) -> Result<u8, BusStop>
         requires ready { IsReady (guarded_of self.old) }
@@ -34,7 +34,7 @@ impl VirtualBus<'_> {
     }
 
     /// A byte for a data address.
-    #[tactic(auto, unfolding(crate::specs::Guarded::store, crate::specs::Classes::class_of))]
+    #[tactic(auto, unfolding(crate::specs::Guarded::store, flat_machine::specs::Classes::class_of))]
     #[inline(always)]
     pub(crate) fn store_byte(&mut self, a: u16, v: u8) -> Result<(), BusStop>
         requires ready { IsReady (guarded_of self.old) }

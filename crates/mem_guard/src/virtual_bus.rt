@@ -24,7 +24,7 @@ impl Bus for VirtualBus<'_> {
     ghost use Rattle.std.specs.Prelude.{◌≡◌, ◌≤◌, false, OnOk, OnErr};
     ghost use Rattle.avr_exec.specs.Registers.{is_own};
     ghost use Rattle.avr_exec.specs.Spaces.{outcome_of};
-    ghost use Rattle.mem_guard.specs.FlatSpace.{load as flat_load, store as flat_store, modify as flat_modify, push as flat_push, pop as flat_pop, push_return as flat_push_return, pop_return as flat_pop_return};
+    ghost use Rattle.flat_machine.specs.FlatSpace.{load as flat_load, store as flat_store, modify as flat_modify, push as flat_push, pop as flat_pop, push_return as flat_push_return, pop_return as flat_pop_return};
     ghost use Rattle.mem_guard.specs.Guarded.{Guarded, guarded_calls, load as load_of, store as store_of, modify as modify_of, push as push_of, pop as pop_of, push_return as push_return_of, pop_return as pop_return_of};
     ghost use Rattle.mem_guard.specs.Bus.{guarded_of, seen_of, Lent, lent_of};
     ghost use Rattle.mem_guard.specs.Left.{IsKept, HeapAfter};

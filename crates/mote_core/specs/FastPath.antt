@@ -1,4 +1,5 @@
--- A plain step with a place for the line that it shows, and what a step reaches on the fast path.
+-- Serves private functions and the contract of `Mote::plain_step_into`: a plain step with a place for the line that it shows, and
+-- what a step reaches on the fast path.
 use Rattle.std.specs.Prelude.{◌≡◌, ℕ, List, Option, None}
 use Rattle.std.specs.Option.{option_or}
 use Rattle.mote_devices.specs.declared.line.Line.{Line}

@@ -44,6 +44,7 @@ pub struct Mote {
 impl Mote {
     ghost use Rattle.std.specs.Prelude.{◌≡◌, ◌<◌, ◌≤◌, ◌^◌, true, length, IfOk};
     ghost use Rattle.flash_words.specs.Memory.{IsWhole};
+    ghost use Rattle.flash_words.specs.Layouts.{most_image_words};
     ghost use Rattle.swap_store.specs.Slots.{most_slots};
     ghost use Rattle.mote_core.specs.Step.{IsAtReset, cpu_at_reset, form_at, IsPlainStep};
     ghost use Rattle.mote_core.specs.FastPath.{IsStepInto};
@@ -55,7 +56,7 @@ impl Mote {
     /// most 251. The operations of flash that the script lists are to fail. The stack pointer is at the top of
     /// the kernel's own stack.
     pub fn new(alloc: Global, image: &[u16], script: Script, slots: u8) -> Result<Mote, NoMemory>
-        requires image { length image.now ≤ 24576 }
+        requires image { length image.now ≤ most_image_words }
         requires slots { slots ≤ most_slots }
         ensures reset { IfOk result (IsAtReset image.now script slots) }
         ensures whole { IfOk result (λ mote. IsWhole mote.flash) }
@@ -85,7 +86,7 @@ impl Mote {
         }
     }
 
-    /// Executes the instruction of flash at the pc.
+    /// Executes the instruction of flash at the pc. This is the plain form: the program calls [`Mote::plain_step_into`].
     pub fn plain_step(&mut self) -> Plain
         requires step { can_step (form_at self.old) self.old.cpu ≡ true }
         requires room { self.old.devices.polls < 2 ^ 63 }
@@ -96,8 +97,8 @@ impl Mote {
         self.plain_step_at(pc).0
     }
 
-    /// The same, where the pc is `pc`. Tells the new pc too: who makes one step behind the other has it at hand, and waits for
-    /// no memory to know it.
+    /// Makes the step of [`Mote::plain_step`] from a pc that the caller has at hand, and tells the new one too: who makes one
+    /// step behind the other waits for no memory to know it.
     #[inline(always)]
     pub fn plain_step_at(&mut self, pc: u16) -> (Plain, u16)
         requires at { pc ≡ self.old.cpu.pc }
@@ -119,8 +120,8 @@ impl Mote {
         )
     }
 
-    /// The same, where the line that the step shows, if any, goes into `line`, and else stays: so the new pc alone is told. It
-    /// goes by the micro-operation that flash has at the pc, where the fast path knows that.
+    /// Makes the step of [`Mote::plain_step_at`], but tells the new pc alone: the line that the step shows, if any, goes into
+    /// `line`, which else stays. It goes by the micro-operation that flash has at the pc, where the fast path knows that.
     #[inline(always)]
     pub fn plain_step_into(&mut self, pc: u16, line: &mut Option<Line>) -> u16
         requires at { pc ≡ self.old.cpu.pc }
@@ -135,7 +136,7 @@ impl Mote {
         }
     }
 
-    /// The same by the instruction, whichever it is.
+    /// Makes the step by the instruction, whichever it is, with its line into `line`.
     #[inline(never)]
     fn slow_step_into(&mut self, pc: u16, line: &mut Option<Line>) -> u16
         requires at { pc ≡ self.old.cpu.pc }

@@ -1,10 +1,10 @@
 -- What the layers above need of a program's accesses.
 use Rattle.std.proofs.Common.{◌≡◌, ℕ, ◌+◌, ◌<◌, ◌≤◌, Bool, true, false, cond, refl, ap, ◌∙◌, arith}
 use Rattle.std.proofs.lemmas.Bool.Decides.{nat_tests}
-use Rattle.avr_isa.specs.IoTable.{can_read, can_write}
-use Rattle.mote_devices.specs.declared.register.Register.{Register}
-use Rattle.mote_devices.specs.declared.register.Register.TheVariants.{SerialStatus, SerialData, Timer}
-use Rattle.mote_devices.specs.Registers.{register_at, is_polled}
+use Rattle.avr_isa.specs.IoTable.{can_read, can_write, register_at}
+use Rattle.avr_isa.specs.declared.io.IoRegister.{IoRegister}
+use Rattle.avr_isa.specs.declared.io.IoRegister.TheVariants.{SerialStatus, SerialData, Timer}
+use Rattle.mote_devices.specs.Registers.{is_polled}
 use Rattle.mote_devices.specs.State.{State, polled, register_count}
 use Rattle.mote_devices.specs.Accesses.{Asked, Gave, Refused, read, read_from, written_back, write, modify, written_byte, after_value, line_written, after_write}
 
@@ -45,11 +45,11 @@ Afterwards P (Gave answer next) = P next
 Afterwards P Refused = Unit {0}
 
 -- an access makes one poll at most, and a write none
-pub polls_after_value : (register : Register) (s : State) → (after_value register s).polls ≡ s.polls
+pub polls_after_value : (register : IoRegister) (s : State) → (after_value register s).polls ≡ s.polls
 polls_after_value SerialData s = refl
 polls_after_value _ s = refl
 
-polls_from : (b : Bool) (register : Register) (s : State) → (after_value register (cond b (polled s) s)).polls ≤ s.polls + 1
+polls_from : (b : Bool) (register : IoRegister) (s : State) → (after_value register (cond b (polled s) s)).polls ≤ s.polls + 1
 polls_from true register s = omega (arith, polls_after_value register (polled s))
 polls_from false register s = omega (arith, polls_after_value register s)
 
@@ -60,7 +60,7 @@ polls_after_read s a = elim (can_read a) as (λ b. Afterwards (λ next. next.pol
   | false ↦ tt
 ]
 
-pub polls_after_write : (register : Register) (s : State) (a v : ℕ) → (after_write register s a v).polls ≡ s.polls
+pub polls_after_write : (register : IoRegister) (s : State) (a v : ℕ) → (after_write register s a v).polls ≡ s.polls
 polls_after_write SerialStatus s a v = refl
 polls_after_write SerialData s a v = refl
 polls_after_write Timer s a v = refl

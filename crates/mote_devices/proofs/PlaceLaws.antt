@@ -36,8 +36,7 @@ unfolding bytes_between
 bytes_between-last events from to d order within =
     let more : to + 1 - from ≡ suc (to - from) = omega arith in
     let inside : to - from < length (drop from events) = omega (arith, length-drop from events) in
-    let there : from + (to - from) ≡ to = omega arith in
-    let last : get_or (drop from events) (to - from) d ≡ get_or events to d = get_or-drop from events (to - from) d ∙ ap (λ k. get_or events k d) there in
+    let last : get_or (drop from events) (to - from) d ≡ get_or events to d = get_or-drop from events (to - from) d ∙ ap (λ k. get_or events k d) (omega arith) in
     let whole : slice_range events from (to + 1) ≡ slice_range events from to ++ get_or events to d ∷ [] = ap (λ k. take k (drop from events)) more ∙ take-suc (drop from events) (to - from) d inside ∙ ap (λ e. slice_range events from to ++ e ∷ []) last in
     ap (flat_map brought) whole ∙ flat_map-append brought (slice_range events from to) (get_or events to d ∷ []) ∙ ap (λ bytes. flat_map brought (slice_range events from to) ++ bytes) (append-nil (brought (get_or events to d)))
 

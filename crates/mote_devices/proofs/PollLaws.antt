@@ -38,8 +38,7 @@ later n events = filter (λ (event : Event). not (is_due n event)) events
 first_of : (n : ℕ) (r : Received) (event : Event) (events : List Event) → is_due n event ≡ true → at_poll n (after_input (with_coming r events) event.input) ≡ at_poll n (with_coming r (event ∷ events))
 unfolding at_poll
 first_of n r event events is =
-    let stays = coming_kept (with_coming r events) event.input in
-    ap (λ coming. all_after (with_coming (after_input (with_coming r events) event.input) (later n coming)) (due n coming)) stays
+    ap (λ coming. all_after (with_coming (after_input (with_coming r events) event.input) (later n coming)) (due n coming)) (coming_kept (with_coming r events) event.input)
     ∙ ap (λ now. all_after now (due n events)) (coming_apart (with_coming r events) event.input (later n events))
     ∙ sym (ap (λ b. all_after (with_coming r (cond (not b) (event ∷ later n events) (later n events))) (cond b (event ∷ due n events) (due n events))) is)
 
@@ -63,14 +62,12 @@ tail_none n event events none k d below = none (suc k) d (omega arith)
 due_none : (n : ℕ) (events : List Event) → NoneDue n events → due n events ≡ []
 due_none n [] none = refl
 due_none n (event ∷ events) none =
-    let front = not_due n event (none zero event (omega arith)) in
-    ap (λ b. cond b (event ∷ due n events) (due n events)) front ∙ due_none n events (tail_none n event events none)
+    ap (λ b. cond b (event ∷ due n events) (due n events)) (not_due n event (none zero event (omega arith))) ∙ due_none n events (tail_none n event events none)
 
 later_all : (n : ℕ) (events : List Event) → NoneDue n events → later n events ≡ events
 later_all n [] none = refl
 later_all n (event ∷ events) none =
-    let front = not_due n event (none zero event (omega arith)) in
-    ap (λ b. cond (not b) (event ∷ later n events) (later n events)) front ∙ ap (λ rest. event ∷ rest) (later_all n events (tail_none n event events none))
+    ap (λ b. cond (not b) (event ∷ later n events) (later n events)) (not_due n event (none zero event (omega arith))) ∙ ap (λ rest. event ∷ rest) (later_all n events (tail_none n event events none))
 
 pub at_poll-none : (n : ℕ) (r : Received) → NoneDue n r.coming → at_poll n r ≡ r
 unfolding at_poll

@@ -37,9 +37,8 @@ none_due n (event ∷ events) = none_by n event events (is_due n event) refl (no
 poll_twice : (n : ℕ) (r : Received) → at_poll n (at_poll n r) ≡ at_poll n r
 unfolding at_poll
 poll_twice n r =
-    let once = at_poll n r in
     let left = poll_coming n r in
-    ap₂ (λ coming taken. all_after (record once { coming = coming }) taken) (ap (later n) left ∙ later_twice n r.coming ∙ sym left) (ap (due n) left ∙ none_due n r.coming)
+    ap₂ (λ coming taken. all_after (record (at_poll n r) { coming = coming }) taken) (ap (later n) left ∙ later_twice n r.coming ∙ sym left) (ap (due n) left ∙ none_due n r.coming)
 
 -- all that is due by now has come
 abbrev IsSettled : State → Type 0
@@ -50,8 +49,7 @@ brought_settles n s = poll_twice (max s.polls n) s.received
 
 stays : (n : ℕ) (s : State) → n ≤ s.polls → IsSettled s → brought_to n s ≡ s
 stays n s past settled =
-    let same : max s.polls n ≡ s.polls = omega arith in
-    ap (λ p. record s { polls = p; received = at_poll p s.received }) same ∙ ap (λ r. record s { received = r }) settled
+    ap (λ p. record s { polls = p; received = at_poll p s.received }) (omega arith) ∙ ap (λ r. record s { received = r }) settled
 
 else_same : (b : Bool) (now some other : Option State) → (b ≡ false → some ≡ other) → cond b now some ≡ cond b now other
 else_same true now some other same = refl

@@ -126,8 +126,7 @@ any_due mask m (event ∷ events) none = any_due_by mask m event events (calls m
 late_none : (m n : ℕ) (events : List Event) → m < n → Rising n events → due m events ≡ []
 late_none m n [] late rising = refl
 late_none m n (event ∷ events) late rising =
-    let above : is_due m event ≡ false = not_due m event (omega (arith, rising.0)) in
-    ap (λ d. cond d (event ∷ due m events) (due m events)) above ∙ late_none m event.at events (omega (arith, rising.0)) rising.1
+    ap (λ d. cond d (event ∷ due m events) (due m events)) (not_due m event (omega (arith, rising.0))) ∙ late_none m event.at events (omega (arith, rising.0)) rising.1
 
 abbrev Found : (mask m low : ℕ) → List Event → Type 0
 Found mask m low events = (n : ℕ) × (first_call mask events ≡ Some n) × (low ≤ n) × (n ≤ m)
@@ -162,8 +161,7 @@ due_max p n event is = grind (arith, nat_tests)
 
 same_number : (s : State) (n m : ℕ) → m ≤ n → n ≤ max s.polls m → brought_to n s ≡ brought_to m s
 same_number s n m low high =
-    let same : max s.polls n ≡ max s.polls m = omega arith in
-    ap (λ p. record s { polls = p; received = at_poll p s.received }) same
+    ap (λ p. record s { polls = p; received = at_poll p s.received }) (omega arith)
 
 abbrev IsFirst : State → List Event → Type 0
 IsFirst s events = find_by events s ≡ option_map (λ n. brought_to n s) (first_call (stored s mask_address) events)
@@ -183,8 +181,7 @@ first_by s front event events true c off cut none rising is now rest =
     let mask = stored s mask_address in
     let m = max s.polls event.at in
     let there : any_calls mask (due m (event ∷ events)) ≡ true = ap (λ d. any_calls mask (cond d (event ∷ due m events) (due m events))) (due_max s.polls event.at event refl) ∙ ap (λ b. b || any_calls mask (due m events)) is in
-    let on : is_enabled (brought_to event.at s) ≡ true = enabled_behind s event.at front (event ∷ events) off cut none ∙ there in
-    ap (λ d. cond d (Some (brought_to event.at s)) (find_by events s)) on
+    ap (λ d. cond d (Some (brought_to event.at s)) (find_by events s)) (enabled_behind s event.at front (event ∷ events) off cut none ∙ there)
     ∙ sym (ap (λ d. option_map (λ n. brought_to n s) (cond d (Some event.at) (first_call mask events))) is)
 first_by s front event events false true off cut none rising is now rest =
     let mask = stored s mask_address in
@@ -197,8 +194,7 @@ first_by s front event events false true off cut none rising is now rest =
     ∙ sym (ap (λ d. option_map (λ n. brought_to n s) (cond d (Some event.at) (first_call mask events))) is ∙ ap (option_map (λ n. brought_to n s)) f.1)
 first_by s front event events false false off cut none rising is now rest =
     let mask = stored s mask_address in
-    let more : any_calls mask (front ++ event ∷ []) ≡ false = any_append mask front (event ∷ []) ∙ ap₂ (λ a b. a || (b || false)) none is in
-    ap (λ d. cond d (Some (brought_to event.at s)) (find_by events s)) now ∙ rest more
+    ap (λ d. cond d (Some (brought_to event.at s)) (find_by events s)) now ∙ rest (any_append mask front (event ∷ []) ∙ ap₂ (λ a b. a || (b || false)) none is)
     ∙ sym (ap (λ d. option_map (λ n. brought_to n s) (cond d (Some event.at) (first_call mask events))) is)
 
 first_of : (s : State) (front events : List Event) (low : ℕ) → is_enabled s ≡ false → s.received.coming ≡ front ++ events → any_calls (stored s mask_address) front ≡ false → Rising low events → IsFirst s events
@@ -216,9 +212,7 @@ none_of m n (event ∷ events) late rising (suc k) d below = none_of m event.at 
 twice_by : (m n : ℕ) (event : Event) (events : List Event) (r : Received) (b : Bool) → m ≤ n → Rising event.at events → r.coming ≡ event ∷ events → is_due m event ≡ b
     → at_poll n (at_poll m (with_first r)) ≡ at_poll n (with_first r) → at_poll n (at_poll m r) ≡ at_poll n r
 twice_by m n event events r true less rising coming now rest =
-    let due_m : first_is_due m r.coming ≡ true = ap (first_is_due m) coming ∙ now in
-    let due_n : first_is_due n r.coming ≡ true = ap (first_is_due n) coming ∙ grind (arith, nat_tests) in
-    ap (at_poll n) (sym (at_poll-with_first m r due_m)) ∙ rest ∙ at_poll-with_first n r due_n
+    ap (at_poll n) (sym (at_poll-with_first m r (ap (first_is_due m) coming ∙ now))) ∙ rest ∙ at_poll-with_first n r (ap (first_is_due n) coming ∙ grind (arith, nat_tests))
 twice_by m n event events r false less rising coming late rest =
     let beyond : m < event.at = grind (arith, nat_tests) in
     ap (at_poll n) (at_poll-none m r (subst (NoneDue m) (sym coming) (none_of m event.at (event ∷ events) beyond (omega arith, rising))))
@@ -233,15 +227,13 @@ twice m n low (event ∷ events) r less rising coming =
 
 brought_twice : (s : State) (n m low : ℕ) → n ≤ m → Rising low s.received.coming → brought_to m (brought_to n s) ≡ brought_to m s
 brought_twice s n m low less rising =
-    let same : max (max s.polls n) m ≡ max s.polls m = omega arith in
-    ap (λ p. record s { polls = p; received = at_poll p (at_poll (max s.polls n) s.received) }) same
+    ap (λ p. record s { polls = p; received = at_poll p (at_poll (max s.polls n) s.received) }) (omega arith)
     ∙ ap (λ r. record s { polls = max s.polls m; received = r }) (twice (max s.polls n) (max s.polls m) low s.received.coming s.received (omega arith) rising refl)
 
 wake_on : (s : State) (n low : ℕ) (events : List Event) → Rising low s.received.coming → Rising n events → wake_by events (brought_to n s) ≡ find_by events s
 wake_on s n low [] rising up = refl
 wake_on s n low (event ∷ events) rising up =
-    let same = brought_twice s n event.at low up.0 rising in
-    ap (λ t. cond (is_enabled t) (Some t) (wake_by events t)) same
+    ap (λ t. cond (is_enabled t) (Some t) (wake_by events t)) (brought_twice s n event.at low up.0 rising)
     ∙ ap (cond (is_enabled (brought_to event.at s)) (Some (brought_to event.at s))) (wake_on s event.at low events rising up.1)
 
 wake_find : (s : State) (low : ℕ) (events : List Event) → Rising low s.received.coming → Rising low events → wake_by events s ≡ find_by events s

@@ -1,12 +1,15 @@
 -- What a program reads and writes of the devices: the value or the line that it gets and the state after it.
-use Rattle.std.specs.Prelude.{slice_index, ℕ, ◌-◌, ◌/◌, ◌%◌, Bool, ◌&&◌, nat_le, if◌then◌else◌, Option, Some, None, Result, Ok, Err, drop, bit_and, bit_or}
-use Rattle.avr_isa.specs.IoTable.{can_read, can_write}
+use Rattle.std.specs.Prelude.{slice_index, ℕ, ◌-◌, ◌/◌, ◌%◌, Bool, ◌&&◌, nat_le, if◌then◌else◌, List, Option, Some, None, Result, Ok, Err, drop, bit_and, bit_or}
+use Rattle.std.specs.List.{slice_get}
+use Rattle.std.specs.Option.{option_map}
+use Rattle.avr_isa.specs.IoTable.{can_read, can_write, register_at}
+use Rattle.avr_isa.specs.declared.io.IoRegister.{IoRegister}
+use Rattle.avr_isa.specs.declared.io.IoRegister.TheVariants.{Stored, Direction, Output, Pins, SerialStatus, SerialData, ConverterLow, ConverterHigh, ConverterControl, Timer}
 use Rattle.mote_devices.specs.declared.line.Line.{Line}
+use Rattle.mote_devices.specs.declared.line.Port.{Port}
 use Rattle.mote_devices.specs.declared.line.Port.TheVariants.{Uart0}
-use Rattle.mote_devices.specs.declared.register.Register.{Register}
-use Rattle.mote_devices.specs.declared.register.Register.TheVariants.{Stored, Shown, Pins, SerialStatus, SerialData, ConverterLow, ConverterHigh, ConverterControl, Timer}
 use Rattle.mote_devices.specs.declared.devices.IoStop.{IoStop}
-use Rattle.mote_devices.specs.Registers.{register_at, is_polled}
+use Rattle.mote_devices.specs.Registers.{is_polled, outputs, directions}
 use Rattle.mote_devices.specs.Inputs.{first_byte, is_empty}
 use Rattle.mote_devices.specs.State.{State, stored, with_stored, polled}
 
@@ -38,9 +41,10 @@ abbrev pub converter_status : ℕ → ℕ
 converter_status stored = bit_or (bit_and stored (255 - 0x40)) 0x10
 
 -- the value of a register at data address a
-abbrev pub value_of : Register → State → ℕ → ℕ
+abbrev pub value_of : IoRegister → State → ℕ → ℕ
 value_of Stored s a = stored s a
-value_of (Shown port) s a = stored s a
+value_of (Direction port) s a = stored s a
+value_of (Output port) s a = stored s a
 value_of (Pins port) s a = slice_index s.received.pins port
 value_of SerialStatus s a = serial_status (is_empty s.received.queue)
 value_of SerialData s a = first_byte s.received.queue
@@ -50,27 +54,32 @@ value_of ConverterControl s a = converter_status (stored s a)
 value_of Timer s a = s.polls % 256
 
 -- the serial port's byte is taken by a read
-abbrev pub after_value : Register → State → State
+abbrev pub after_value : IoRegister → State → State
 after_value SerialData s = record s { received = record s.received { queue = drop 1 s.received.queue } }
 after_value _ s = s
 
 -- a read of a register: a poll comes before the value
-abbrev pub read_from : State → Register → ℕ → Asked ℕ
+abbrev pub read_from : State → IoRegister → ℕ → Asked ℕ
 read_from s register a = let now = if is_polled register then polled s else s in Gave (value_of register now a) (after_value register now)
 
 unfoldable pub read : State → ℕ → Asked ℕ
 read s a = if can_read a then read_from s (register_at a) a else Refused
 
 -- the state after a write; the serial port's registers and the timer store nothing
-abbrev pub after_write : Register → State → ℕ → ℕ → State
+abbrev pub after_write : IoRegister → State → ℕ → ℕ → State
 after_write SerialStatus s a v = s
 after_write SerialData s a v = s
 after_write Timer s a v = s
 after_write _ s a v = with_stored s a v
 
+-- a byte at the port with a number, if there is one
+abbrev pub line_at : List Port → ℕ → ℕ → Option Line
+line_at ports number v = option_map (λ port. record { port = port; value = v }) (slice_get ports number)
+
 -- what a write shows outside
-abbrev pub line_written : Register → ℕ → Option Line
-line_written (Shown port) v = Some (record { port = port; value = v })
+abbrev pub line_written : IoRegister → ℕ → Option Line
+line_written (Direction port) v = line_at directions port v
+line_written (Output port) v = line_at outputs port v
 line_written SerialData v = Some (record { port = Uart0; value = v })
 line_written _ v = None
 

@@ -14,9 +14,13 @@ pub record Received : Type 0 where
   pub pending : ℕ
   pub coming : List Event
 
+-- how many ports have pins
+abbrev pub port_count : ℕ
+port_count = 4
+
 -- nothing was received, and these events are to come
 unfoldable pub unreceived : List Event → Received
-unreceived events = record { pins = zeros 4; converter = 0; queue = []; pending = 0; coming = events }
+unreceived events = record { pins = zeros port_count; converter = 0; queue = []; pending = 0; coming = events }
 
 -- an input takes effect
 abbrev pub after_input : Received → Input → Received

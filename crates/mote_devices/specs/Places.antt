@@ -4,7 +4,7 @@ use Rattle.std.specs.List.{flat_map, slice_range}
 use Rattle.input_script.specs.declared.input.Input.{Input}
 use Rattle.input_script.specs.declared.input.Input.TheVariants.{Uart}
 use Rattle.input_script.specs.declared.input.Event.{Event}
-use Rattle.mote_devices.specs.Inputs.{Received, after_input, is_due}
+use Rattle.mote_devices.specs.Inputs.{Received, after_input, is_due, port_count}
 use Rattle.mote_devices.specs.declared.inputs.Waiting.{Waiting}
 
 -- the byte that an input brings to the serial port, if it does
@@ -16,11 +16,11 @@ serial_byte _ = []
 unfoldable pub bytes_between : List Event → ℕ → ℕ → List ℕ
 bytes_between events from to = flat_map (λ (event : Event). serial_byte event.input) (slice_range events from to)
 
--- the places are in order and within the script; each of the four ports has its pins
+-- the places are in order and within the script; each port has its pins
 pub record IsKept (pins : List ℕ) (script : List Event) (taken serial : ℕ) : Type 0 where
   pub queued : serial ≤ taken
   pub within : taken ≤ length script
-  pub ports : length pins ≡ 4
+  pub ports : length pins ≡ port_count
 
 -- the first of these bytes: the event that brought it, and the byte
 pub record IsNextByte (events : List Event) (from to : ℕ) (waiting : Waiting) : Type 0 where

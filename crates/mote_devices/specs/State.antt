@@ -1,5 +1,6 @@
 -- The devices as plain data.
 use Rattle.std.specs.Prelude.{ℕ, ◌+◌, List, slice_index, slice_set}
+pub use Rattle.avr_isa.specs.IoTable.{rampz_address, mask_address}
 use Rattle.input_script.specs.declared.input.Event.{Event}
 use Rattle.mote_devices.specs.Inputs.{Received, at_poll, unreceived}
 use Rattle.base_laws.specs.Lists.{zeros}
@@ -33,11 +34,3 @@ with_stored s a v = record s { registers = slice_set s.registers a v }
 -- one more poll
 abbrev pub polled : State → State
 polled s = record s { polls = s.polls + 1; received = at_poll (s.polls + 1) s.received }
-
--- RAMPZ (ATmega128 datasheet, "RAM Page Z Select Register")
-abbrev pub rampz_address : ℕ
-rampz_address = 0x5B
-
--- EIMSK (ATmega128 datasheet, "External Interrupt Mask Register"): bit k enables INTk
-abbrev pub mask_address : ℕ
-mask_address = 0x59

@@ -2,16 +2,10 @@
 
 use crate::inputs::Inputs;
 use crate::line::{Line, Port};
-use crate::register::{Register, is_polled, register_at};
-use avr_isa::io_access;
+use crate::register::{DIRECTIONS, OUTPUTS, is_polled, line_at};
+use avr_isa::{EIMSK, IoRegister, RAMPZ, io_access, io_row};
 use input_script::Script;
 use std::marker::Model;
-
-/// The data address of EIMSK.
-const EIMSK: usize = 0x59;
-
-/// The data address of RAMPZ.
-const RAMPZ: usize = 0x5B;
 
 /// UCSR0A: a byte was received.
 const RECEIVED: u8 = 0x80;
@@ -73,7 +67,7 @@ impl Devices {
         ensures value { result ≡ self.now.polls }
         ensures timely { Timely self.now }
     {
-        self.inputs.are_timely();
+        self.inputs.keeps_timely();
         self.polls
     }
 
@@ -81,21 +75,21 @@ impl Devices {
     pub fn rampz(&self) -> u8
         ensures value { result ≡ stored self.now rampz_address }
     {
-        self.registers[RAMPZ]
+        self.registers[RAMPZ as usize]
     }
 
     /// Writes the register RAMPZ.
     pub fn set_rampz(&mut self, v: u8)
         ensures after { self.new ≡ with_stored self.old rampz_address v }
     {
-        self.registers[RAMPZ] = v;
+        self.registers[RAMPZ as usize] = v;
     }
 
     /// The external interrupts that are pending and enabled, INTk in bit k. This is no poll.
     pub fn enabled(&self) -> u8
         ensures value { result ≡ enabled_of self.now }
     {
-        self.inputs.pending() & self.registers[EIMSK]
+        self.inputs.pending() & self.registers[EIMSK as usize]
     }
 
     /// Takes an interrupt that is pending and enabled: it is no longer pending.
@@ -116,7 +110,7 @@ impl Devices {
         if self.enabled() != 0 {
             return true;
         }
-        match self.inputs.next_call(self.registers[EIMSK]) {
+        match self.inputs.next_call(self.registers[EIMSK as usize]) {
             None => false,
             Some(at) => {
                 self.polls = self.polls.max(at);
@@ -141,8 +135,9 @@ impl Devices {
         ensures address { IfErr result (λ stop. stop.address ≡ a) }
         ensures refused { OnErr result (self.new ≡ self.old) }
     {
-        if io_access(a).read {
-            Ok(self.read_register(register_at(a), a))
+        let (access, register) = io_row(a);
+        if access.read {
+            Ok(self.read_register(register, a))
         } else {
             Err(IoStop { address: a })
         }
@@ -161,8 +156,9 @@ impl Devices {
         ensures address { IfErr result (λ stop. stop.address ≡ a) }
         ensures refused { OnErr result (self.new ≡ self.old) }
     {
-        if io_access(a).write {
-            Ok(self.write_register(register_at(a), a, v))
+        let (access, register) = io_row(a);
+        if access.write {
+            Ok(self.write_register(register, a, v))
         } else {
             Err(IoStop { address: a })
         }
@@ -200,7 +196,7 @@ impl Devices {
     }
 
     /// The value of a register that a program may read.
-    fn read_register(&mut self, register: Register, a: u16) -> u8
+    fn read_register(&mut self, register: IoRegister, a: u16) -> u8
         requires within { a < register_count }
         requires room { self.old.polls < 2 ^ 63 }
         ensures answer { Gave result self.new ≡ read_from self.old register a }
@@ -212,20 +208,22 @@ impl Devices {
     }
 
     /// The value of a register after its poll, and what the read takes.
-    fn value(&mut self, register: Register, a: u16) -> u8
+    fn value(&mut self, register: IoRegister, a: u16) -> u8
         requires within { a < register_count }
         ensures value { result ≡ value_of register self.old a }
         ensures taken { self.new ≡ after_value register self.old }
     {
         match register {
-            Register::Stored | Register::Shown(_) => self.registers[a as usize],
-            Register::Pins(port) => self.inputs.pin(port),
-            Register::SerialStatus => self.serial_status(),
-            Register::SerialData => self.inputs.take_byte(),
-            Register::ConverterLow => (self.inputs.converter() & 0xFF) as u8,
-            Register::ConverterHigh => (self.inputs.converter() >> 8 & 3) as u8,
-            Register::ConverterControl => self.registers[a as usize] & !CONVERTING | CONVERTED,
-            Register::Timer => (self.polls & 0xFF) as u8,
+            IoRegister::Stored | IoRegister::Direction(_) | IoRegister::Output(_) => {
+                self.registers[a as usize]
+            }
+            IoRegister::Pins(port) => self.inputs.pin(port),
+            IoRegister::SerialStatus => self.serial_status(),
+            IoRegister::SerialData => self.inputs.take_byte(),
+            IoRegister::ConverterLow => (self.inputs.converter() & 0xFF) as u8,
+            IoRegister::ConverterHigh => (self.inputs.converter() >> 8 & 3) as u8,
+            IoRegister::ConverterControl => self.registers[a as usize] & !CONVERTING | CONVERTED,
+            IoRegister::Timer => (self.polls & 0xFF) as u8,
         }
     }
 
@@ -242,20 +240,24 @@ impl Devices {
     }
 
     /// Writes a register that a program may write.
-    fn write_register(&mut self, register: Register, a: u16, v: u8) -> Option<Line>
+    fn write_register(&mut self, register: IoRegister, a: u16, v: u8) -> Option<Line>
         requires within { a < register_count }
         ensures line { result ≡ line_written register v }
         ensures after { self.new ≡ after_write register self.old a v }
     {
         match register {
-            Register::SerialStatus | Register::Timer => None,
-            Register::SerialData => Some(Line {
+            IoRegister::SerialStatus | IoRegister::Timer => None,
+            IoRegister::SerialData => Some(Line {
                 port: Port::Uart0,
                 value: v,
             }),
-            Register::Shown(port) => {
+            IoRegister::Direction(port) => {
                 self.registers[a as usize] = v;
-                Some(Line { port, value: v })
+                line_at(&DIRECTIONS, port, v)
+            }
+            IoRegister::Output(port) => {
+                self.registers[a as usize] = v;
+                line_at(&OUTPUTS, port, v)
             }
             _ => {
                 self.registers[a as usize] = v;

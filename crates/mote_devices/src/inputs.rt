@@ -7,11 +7,14 @@ ghost use Rattle.mote_devices.specs.Waking.{without, calls as calls_of, first_ca
 use input_script::{Event, Input, Script};
 use std::marker::Model;
 
+/// How many ports have pins.
+const PORTS: u8 = 4;
+
 /// What the devices have received. The serial port's queue is kept as places in the script: the bytes of
 /// the events taken, from place `serial` on.
 #[derive(Drop)]
 pub(crate) struct Inputs {
-    pins: [u8; 4],
+    pins: [u8; PORTS as usize],
     converter: u16,
     /// Bit k: INTk is pending.
     pending: u8,
@@ -45,7 +48,7 @@ impl Inputs {
         ensures value { result ≡ unreceived script.events }
     {
         Inputs {
-            pins: [0; 4],
+            pins: [0; PORTS as usize],
             converter: 0,
             pending: 0,
             script,
@@ -58,7 +61,7 @@ impl Inputs {
     pub(crate) fn pin(&self, port: u8) -> u8
         ensures value { result ≡ slice_index self.now.pins port }
     {
-        if port < 4 {
+        if port < PORTS {
             self.pins[port as usize]
         } else {
             0
@@ -99,7 +102,7 @@ impl Inputs {
         self.taken += 1;
         match event.input {
             Input::Pin(port, value) => {
-                if port < 4 {
+                if port < PORTS {
                     self.pins[port as usize] = value;
                 }
             }
@@ -129,7 +132,7 @@ impl Inputs {
     }
 
     /// The numbers of the events to come fit 32 bits, as a script keeps it.
-    pub(crate) fn are_timely(&self)
+    pub(crate) fn keeps_timely(&self)
         ensures timely { All (λ (event : Event). event.at ≤ 4294967295) self.now.coming }
     {
         let _ = self.script.events();

@@ -11,8 +11,9 @@
 //! ```
 //!
 //! Contracts see the devices as plain data (`specs/State`), and `read`, `write` and `modify` as
-//! functions of it (`specs/Accesses`). `specs/Registers` says what each register does, and
-//! `specs/Inputs` when an input takes effect; `specs/Waking` has the interrupts. `proofs/AccessLaws` has what the layers above need of them.
+//! functions of it (`specs/Accesses`). `specs/Registers` says which registers are polled and which are
+//! seen outside, and `specs/Inputs` when an input takes effect; `specs/Waking` has the interrupts.
+//! `proofs/AccessLaws` has what the layers above need of them.
 #![tactic(auto)]
 
 mod devices;

@@ -19,12 +19,10 @@ like a b same = grind (arith, nat_tests)
 
 pub one_more : (words : List ℕ) (first n w : ℕ) → w ≡ word_at words (128 * (first + n)) → w ≢ 0xFFFF → used_among words first (n + 1) ≡ used_among words first n + 1
 one_more words first n w is apart =
-    let here : word_at words (128 * (first + n) + 0) ≡ w = ap (word_at words) (omega arith) ∙ sym is in
-    let yes' : is_used words (first + n) ≡ true = ap (λ v. not (eqb v 0xFFFF)) here ∙ ap not (ne_eqb w 0xFFFF apart) in
+    let yes' : is_used words (first + n) ≡ true = ap (λ v. not (eqb v 0xFFFF)) (ap (word_at words) (omega arith) ∙ sym is) ∙ ap not (ne_eqb w 0xFFFF apart) in
     used_more words first n ∙ ap (λ b. cond b 1 0 + used_among words first n) yes' ∙ omega arith
 
 pub no_more : (words : List ℕ) (first n w : ℕ) → w ≡ word_at words (128 * (first + n)) → w ≡ 0xFFFF → used_among words first (n + 1) ≡ used_among words first n
 no_more words first n w is same =
-    let here : word_at words (128 * (first + n) + 0) ≡ w = ap (word_at words) (omega arith) ∙ sym is in
-    let not_so : is_used words (first + n) ≡ false = ap (λ v. not (eqb v 0xFFFF)) here ∙ ap not (like w 0xFFFF same) in
+    let not_so : is_used words (first + n) ≡ false = ap (λ v. not (eqb v 0xFFFF)) (ap (word_at words) (omega arith) ∙ sym is) ∙ ap not (like w 0xFFFF same) in
     used_more words first n ∙ ap (λ b. cond b 1 0 + used_among words first n) not_so ∙ omega arith

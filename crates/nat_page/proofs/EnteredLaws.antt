@@ -1,8 +1,8 @@
 -- What stands at an entry, and behind it.
-use Rattle.std.proofs.Common.{◌≡◌, ℕ, suc, ◌+◌, ◌*◌, ◌/◌, ◌<◌, ◌≤◌, List, length, arith, sym, ◌∙◌, inl, inr, subst}
+use Rattle.std.proofs.Common.{◌≡◌, ℕ, suc, ◌+◌, ◌*◌, ◌<◌, ◌≤◌, List, length, arith, sym, ◌∙◌, inl, inr, subst}
 use Rattle.std.proofs.lemmas.Bool.{cases_lt}
 use Rattle.flash_words.specs.Pages.{page_words}
-use Rattle.flash_words.specs.Layouts.{IsRight}
+use Rattle.flash_words.specs.Layouts.{IsRight, most_image_words}
 use Rattle.flash_words.specs.declared.layout.Layout.{Layout}
 use Rattle.page_index.specs.Maps.{IsPool, place_of}
 use Rattle.page_index.specs.Entries.{Lists, IsEntry, IsMapped}
@@ -11,7 +11,7 @@ use Rattle.page_draft.specs.Standing.{Stands, size}
 use Rattle.page_draft.specs.Runs.{template_at, closing_at, address, templates, next_of}
 use Rattle.page_draft.specs.CodePages.{page_pieces, place_in_page, HoldsRun}
 use Rattle.nat_page.specs.Links.{IsLinkOf, IsLinkIn, EachLink}
-use Rattle.nat_page.specs.Entered.{HasNoPlace, page_end, HasNext, IsLast, Behind, StandsIn}
+use Rattle.nat_page.specs.Entered.{HasNoPlace, HasNext, IsLast, Behind, StandsIn}
 use Rattle.nat_page.specs.Faithful.{IsFaithful}
 use Rattle.page_draft.proofs.RunLaws.{address-rises, size-templates, page_size-is, uncounted}
 use Rattle.nat_page.proofs.HeldLaws.{parts_of, template_stands, place_range, place_held, count_held, lists_held, held_listed, map_held}
@@ -38,7 +38,7 @@ links_in links image page t last i each near =
     (each_link_more own links (page_words * page + place_in_page image t (suc last) i) (template_at image (address image t i)) each both.0, each_link_more own links (page_words * page + (2 + suc last + size (templates image t (suc last)))) (closing_at image (address image t last)) each both.1)
 
 -- instruction i of a page that isn't its last
-next_in : (leads : ℕ → ℕ → Type 0) (layout : Layout) (image words : List ℕ) (page t last i : ℕ) → length image ≤ 24576 → IsMapped layout words → IsPool layout page
+next_in : (leads : ℕ → ℕ → Type 0) (layout : Layout) (image words : List ℕ) (page t last i : ℕ) → length image ≤ most_image_words → IsMapped layout words → IsPool layout page
     → HoldsRun leads image words page t last → OwnLead leads layout image words t last → i < last
     → HasNext leads layout image words (address image t i) (page_words * page + place_in_page image t (suc last) i)
 next_in leads layout image words page t last i short mapped pool holds own before =
@@ -48,7 +48,6 @@ next_in leads layout image words page t last i short mapped pool holds own befor
     let next : page_words * page + place_in_page image t (suc last) (suc i) ≡ v + size (template_at image a) = omega arith in
     let range = place_range leads image words page t last i holds (omega arith) in
     let range' = place_range leads image words page t last (suc i) holds (omega arith) in
-    let there = place_held leads image words page t last i holds (omega arith) in
     let there' = place_held leads image words page t last (suc i) holds (omega arith) in
     let Entry : ℕ → Type 0 = λ place. leads (next_of image a) place in
     let Alone : ℕ → ℕ → Type 0 = λ from to. HasNoPlace layout words from to in
@@ -57,11 +56,11 @@ next_in leads layout image words page t last i short mapped pool holds own befor
       entry = subst Entry next (own (suc i) (page_words * page + place_in_page image t (suc last) (suc i)) (omega arith) (record { page = page; index = suc i; pool = pool; lists = lists_held leads image words page t last (suc i) short holds (omega arith) }));
       uncounted = uncounted a (next_of image a) (address-rises image t i (suc i) (omega arith)) (holds.run.paged (suc i) (omega arith) ∙ sym (holds.run.paged i (omega arith)));
       fits = omega arith;
-      alone = subst (Alone v) (there' ∙ next) (subst (λ (from : ℕ). Alone from (place_of words page (suc i))) there alone);
+      alone = subst (Alone v) (there' ∙ next) (subst (λ (from : ℕ). Alone from (place_of words page (suc i))) (place_held leads image words page t last i holds (omega arith)) alone);
     }
 
 -- the last instruction of a page
-last_in : (leads links : ℕ → ℕ → Type 0) (layout : Layout) (image words : List ℕ) (page t last : ℕ) → length image ≤ 24576 → IsMapped layout words → IsPool layout page
+last_in : (leads links : ℕ → ℕ → Type 0) (layout : Layout) (image words : List ℕ) (page t last : ℕ) → length image ≤ most_image_words → IsMapped layout words → IsPool layout page
     → HoldsRun leads image words page t last → OwnLink links image page t last
     → IsLast leads links layout image words (address image t last)
     (page_words * page + place_in_page image t (suc last) last)
@@ -73,7 +72,6 @@ last_in leads links layout image words page t last short mapped pool holds each 
     let fits = holds.fits in
     let range = place_range leads image words page t last last holds (omega arith) in
     let there = place_held leads image words page t last last holds (omega arith) in
-    let end : page_words * page + page_words ≡ page_end v = omega arith in
     let place : page_words * page + (2 + suc last + size (templates image t (suc last))) ≡ v + size (template_at image a) = omega arith in
     let Closing : ℕ → Type 0 = λ b. Stands leads words b (closing_at image a) in
     let Linked : ℕ → Type 0 = λ b. EachLink links b (closing_at image a) in
@@ -83,12 +81,12 @@ last_in leads links layout image words page t last short mapped pool holds each 
       closing = subst Closing place (parts_of leads image words (page_words * page) t last holds.stands).closing;
       linked = subst Linked place (links_in links image page t last last each (omega arith)).1;
       fits = omega arith;
-      alone = subst (Alone v) end (subst (λ (from : ℕ). Alone from (page_words * page + page_words)) there alone);
+      alone = subst (Alone v) (omega arith) (subst (λ (from : ℕ). Alone from (page_words * page + page_words)) there alone);
     }
 
 -- at each entry of a page that holds a run, whatever the other pages hold: its links lead where `leads` allows,
 -- the entries of the run's own addresses among it, and are among `links`
-pub stands_by : (leads links : ℕ → ℕ → Type 0) (layout : Layout) (image words : List ℕ) (page t last i a v : ℕ) → length image ≤ 24576 → IsMapped layout words
+pub stands_by : (leads links : ℕ → ℕ → Type 0) (layout : Layout) (image words : List ℕ) (page t last i a v : ℕ) → length image ≤ most_image_words → IsMapped layout words
     → IsPool layout page → HoldsRun leads image words page t last → OwnLead leads layout image words t last
     → OwnLink links image page t last → Lists words page i a v → StandsIn leads links layout image words a v
 stands_by leads links layout image words page t last i a v short mapped pool holds own_leads each lists =
@@ -97,26 +95,24 @@ stands_by leads links layout image words page t last i a v short mapped pool hol
     let range = place_range leads image words page t last i holds near in
     let here = address image t i in
     let there = page_words * page + place_in_page image t (suc last) i in
-    let own : page ≡ there / page_words = omega arith in
     let Pool : ℕ → Type 0 = λ p. IsPool layout p in
     let All : ℕ → ℕ → Type 0 = λ pc place. StandsIn leads links layout image words pc place in
     let at_i : StandsIn leads links layout image words here there = record {
       inside = holds.run.inside i near;
-      pool = subst Pool own pool;
+      pool = subst Pool (omega arith) pool;
       place = (here, record { page = page; index = i; pool = pool; lists = lists_held leads image words page t last i short holds near });
       template = template_stands leads image words page t last i holds near;
       linked = (links_in links image page t last i each near).0;
       behind = elim (cases_lt i last) [
         | inl before ↦ Behind.Next (next_in leads layout image words page t last i short mapped pool holds own_leads before)
         | inr same ↦ (
-            let last_one : last ≡ i = omega arith in
             let Closed : ℕ → Type 0 = λ k. IsLast leads links layout image words (address image t k) (page_words * page + place_in_page image t (suc last) k) in
-            Behind.Closed (subst Closed last_one (last_in leads links layout image words page t last short mapped pool holds each)))
+            Behind.Closed (subst Closed (omega arith) (last_in leads links layout image words page t last short mapped pool holds each)))
       ];
     } in
     subst (All a) (sym held.place) (subst (λ (pc : ℕ). All pc there) (sym held.address) at_i)
 
-pub entry_stands : (layout : Layout) (image words : List ℕ) (page t last i a v : ℕ) → length image ≤ 24576 → IsMapped layout words
+pub entry_stands : (layout : Layout) (image words : List ℕ) (page t last i a v : ℕ) → length image ≤ most_image_words → IsMapped layout words
     → IsPool layout page → HoldsRun (IsEntry layout words) image words page t last → Lists words page i a v
     → StandsIn (IsEntry layout words) (IsLinkIn layout image words) layout image words a v
 entry_stands layout image words page t last i a v short mapped pool holds lists =

@@ -25,7 +25,6 @@ pub new_flash_faithful : (layout : Layout) (image : List ℕ) → IsRight layout
 new_flash_faithful layout image right long =
     let short : length image ≤ kernel_first = omega (arith, right.image_fits) in
     let free : (page : ℕ) → IsPool layout page → IsFree (loaded image) page = λ page pool. new_flash_free layout image page right (omega arith) pool in
-    let mapped = new_flash_mapped layout image right (omega arith) in
     record {
       whole = length-loaded image short;
       image_length = long;
@@ -33,7 +32,7 @@ new_flash_faithful layout image right long =
       erased = λ a after before. loaded_blank image a (omega arith) (omega (arith, right.pool_below_kernel));
       kernel = λ a from to. loaded_kernel image a short from to;
       pages = λ page pool. inl (free page pool);
-      once = mapped.once;
+      once = (new_flash_mapped layout image right (omega arith)).once;
     }
 
 -- the same said of its words

@@ -43,7 +43,6 @@ begun_more layout image words t last next begun on =
     let Inside : ℕ → Type 0 = λ i. address image t i < length image in
     let Unknown : ℕ → Type 0 = λ i. HasNoEntry layout words (address image t i) in
     let Returns : ℕ → Type 0 = λ i. ends_at image (address image t i) ≡ false in
-    let paged_last = begun.run.paged last (omega arith) in
     let here : next.pc ≡ address image t (suc last) = on.follows in
     let P : ℕ → Type 0 = λ pc. HasNoEntry layout words pc in
     let fit : size_with image (last + 3 + size (templates image t (suc last))) (address image t (suc last)) ≤ page_words = subst (λ (pc : ℕ). size_with image (last + 3 + size (templates image t (suc last))) pc ≤ page_words) here on.fits in
@@ -57,7 +56,7 @@ begun_more layout image words t last next begun on =
         ];
         paged = λ i near. elim (cases_lt i (suc last)) [
           | inl before ↦ begun.run.paged i (omega arith)
-          | inr same ↦ (let last_one : i ≡ suc last = omega arith in ap (λ k. address image t k / 128) last_one ∙ ap (λ pc. pc / 128) (sym here) ∙ on.paged ∙ paged_last)
+          | inr same ↦ (let last_one : i ≡ suc last = omega arith in ap (λ k. address image t k / 128) last_one ∙ ap (λ pc. pc / 128) (sym here) ∙ on.paged ∙ begun.run.paged last (omega arith))
         ];
         goes_on = λ i below. elim (cases_lt i last) [
           | inl before ↦ begun.run.goes_on i before
@@ -154,15 +153,13 @@ drafted layout image words t others draft more whole here drafting told stops ad
     let last = drafting.last in
     let end : closing_of here ≡ closing_at image (address image t last) = drafting.read.closing ∙ ap (λ pc. closing_at image pc) drafting.reached in
     let end_size : here.closing_size ≡ size (closing_at image (address image t last)) = drafting.read.closing_size ∙ ap (λ pc. size (closing_at image pc)) drafting.reached in
-    let body = code_more image t last draft more here drafting.reached drafting.code drafting.read adds in
-    let body_size = size_more image t last draft more here drafting.reached drafting.sized drafting.read adds in
     record {
       last = last;
       begun = drafting.begun;
       stops = subst (P (address image t last)) (behind layout image words t others draft here drafting told) (subst (λ (pc : ℕ). P pc others) drafting.reached stops);
       entries = ap (λ (e : ArrayVec ℕ). e.items) entries ∙ entries_more image t last draft more here drafting.reached drafting.entries drafting.sized adds;
-      code = closed ∙ ap₂ (λ front back. front ++ back) body end;
-      sized = omega (arith, sized, body_size, end_size, size-code image t last);
+      code = closed ∙ ap₂ (λ front back. front ++ back) (code_more image t last draft more here drafting.reached drafting.code drafting.read adds) end;
+      sized = omega (arith, sized, size_more image t last draft more here drafting.reached drafting.sized drafting.read adds, end_size, size-code image t last);
     }
 
 -- the pieces of the whole draft fit into a page

@@ -3,6 +3,7 @@ use Rattle.std.proofs.Common.{◌≡◌, ℕ, zero, suc, ◌+◌, ◌*◌, ◌/�
 use Rattle.std.proofs.lemmas.Bool.{cases_lt}
 use Rattle.std.proofs.lemmas.List.FromFn.{get_or-map-range_with_len}
 use Rattle.flash_words.specs.Pages.{page_words, word_at}
+use Rattle.flash_words.specs.Layouts.{most_image_words}
 use Rattle.nat_template.specs.declared.piece.Piece.{Piece}
 use Rattle.nat_template.specs.declared.piece.Piece.TheVariants.{Fixed}
 use Rattle.page_index.specs.Maps.{page_word, original_page, entry_count, address_of, place_of, IsMap}
@@ -31,18 +32,15 @@ parts_of leads image words a t last stands =
     let P : List Piece → ℕ → Type 0 = λ pieces b. Stands leads words b pieces in
     let fixed = map_words image t (suc last) in
     let two = stands_split leads words (a + 1 + 1) (map (λ word. Fixed word) fixed) (templates image t (suc last) ++ closing_at image (address image t last)) stands.1.1 in
-    let behind : a + 1 + 1 + size (map (λ word. Fixed word) fixed) ≡ a + (2 + suc last) = omega (arith, size-fixed fixed, length-map_words image t (suc last)) in
-    let rest = subst (P (templates image t (suc last) ++ closing_at image (address image t last))) behind two.1 in
+    let rest = subst (P (templates image t (suc last) ++ closing_at image (address image t last))) (omega (arith, size-fixed fixed, length-map_words image t (suc last))) two.1 in
     let three = stands_split leads words (a + (2 + suc last)) (templates image t (suc last)) (closing_at image (address image t last)) rest in
-    let end : a + (2 + suc last) + size (templates image t (suc last)) ≡ a + (2 + suc last + size (templates image t (suc last))) = omega arith in
     record {
       original = stands.0;
       count = stands.1.0;
       entries = λ i near.
-          let here : a + (2 + i) ≡ a + 1 + 1 + i = omega arith in
-          ap (word_at words) here ∙ stands_fixed leads words fixed (a + 1 + 1) i two.0 (omega (arith, length-map_words image t (suc last))) ∙ map_words-item image t (suc last) i (omega arith);
+          ap (word_at words) (omega arith) ∙ stands_fixed leads words fixed (a + 1 + 1) i two.0 (omega (arith, length-map_words image t (suc last))) ∙ map_words-item image t (suc last) i (omega arith);
       bodies = three.0;
-      closing = subst (P (closing_at image (address image t last))) end three.1;
+      closing = subst (P (closing_at image (address image t last))) (omega arith) three.1;
     }
 
 -- one of the templates in a row
@@ -63,8 +61,7 @@ template_stands leads image words page t last i holds near =
     let parts = parts_of leads image words (page_words * page) t last holds.stands in
     let stands = one_template leads image words (page_words * page + (2 + suc last)) t (suc last) i (omega arith) parts.bodies in
     let P : ℕ → Type 0 = λ a. Stands leads words a (template_at image (address image t i)) in
-    let here : page_words * page + (2 + suc last) + size (templates image t i) ≡ page_words * page + place_in_page image t (suc last) i = omega arith in
-    subst P here stands
+    subst P (omega arith) stands
 
 -- the places of a page are behind its map and inside it
 pub place_range : (leads : ℕ → ℕ → Type 0) (image words : List ℕ) (page t last i : ℕ) → HoldsRun leads image words page t last → i ≤ last → (last + 3 ≤ place_in_page image t (suc last) i) × (place_in_page image t (suc last) i < page_words)
@@ -93,24 +90,17 @@ in_page a t paged = omega arith
 -- the two parts of a map's word
 pub offset_held : (leads : ℕ → ℕ → Type 0) (image words : List ℕ) (page t last i : ℕ) → HoldsRun leads image words page t last → i ≤ last → page_word words page (2 + i) / 256 ≡ address image t i % page_words
 offset_held leads image words page t last i holds near =
-    let parts = parts_of leads image words (page_words * page) t last holds.stands in
-    let range = place_range leads image words page t last i holds near in
-    let word : page_word words page (2 + i) ≡ map_word image t (suc last) i = parts.entries i near in
-    ap (λ w. w / 256) word ∙ high _ _ range.1
+    ap (λ w. w / 256) ((parts_of leads image words (page_words * page) t last holds.stands).entries i near) ∙ high _ _ (place_range leads image words page t last i holds near).1
 
 pub low_held : (leads : ℕ → ℕ → Type 0) (image words : List ℕ) (page t last i : ℕ) → HoldsRun leads image words page t last → i ≤ last → page_word words page (2 + i) % 256 ≡ place_in_page image t (suc last) i
 low_held leads image words page t last i holds near =
-    let parts = parts_of leads image words (page_words * page) t last holds.stands in
-    let range = place_range leads image words page t last i holds near in
-    let word : page_word words page (2 + i) ≡ map_word image t (suc last) i = parts.entries i near in
-    ap (λ w. w % 256) word ∙ low _ _ range.1
+    ap (λ w. w % 256) ((parts_of leads image words (page_words * page) t last holds.stands).entries i near) ∙ low _ _ (place_range leads image words page t last i holds near).1
 
 -- the map's entries
 pub address_held : (leads : ℕ → ℕ → Type 0) (image words : List ℕ) (page t last i : ℕ) → HoldsRun leads image words page t last → i ≤ last → address_of words page i ≡ address image t i
 address_held leads image words page t last i holds near =
     let parts = parts_of leads image words (page_words * page) t last holds.stands in
-    let here : page_words * page + 0 ≡ page_words * page = omega arith in
-    let original : original_page words page ≡ t / page_words = ap (word_at words) here ∙ parts.original in
+    let original : original_page words page ≡ t / page_words = ap (word_at words) (omega arith) ∙ parts.original in
     let offset = offset_held leads image words page t last i holds near in
     let whole = in_page (address image t i) t (holds.run.paged i near) in
     omega arith
@@ -121,15 +111,14 @@ place_held leads image words page t last i holds near = ap (λ place. page_words
 -- the number of the original page, and the number of entries
 pub original_held : (leads : ℕ → ℕ → Type 0) (image words : List ℕ) (page t last : ℕ) → HoldsRun leads image words page t last → original_page words page ≡ t / page_words
 original_held leads image words page t last holds =
-    let here : page_words * page + 0 ≡ page_words * page = omega arith in
-    ap (word_at words) here ∙ (parts_of leads image words (page_words * page) t last holds.stands).original
+    ap (word_at words) (omega arith) ∙ (parts_of leads image words (page_words * page) t last holds.stands).original
 
 pub count_held : (leads : ℕ → ℕ → Type 0) (image words : List ℕ) (page t last : ℕ) → HoldsRun leads image words page t last → entry_count words page ≡ suc last
 count_held leads image words page t last holds =
     (parts_of leads image words (page_words * page) t last holds.stands).count
 
 -- an instruction of the run is listed, and no other address is
-pub lists_held : (leads : ℕ → ℕ → Type 0) (image words : List ℕ) (page t last i : ℕ) → length image ≤ 24576 → HoldsRun leads image words page t last → i ≤ last → Lists words page i (address image t i) (page_words * page + place_in_page image t (suc last) i)
+pub lists_held : (leads : ℕ → ℕ → Type 0) (image words : List ℕ) (page t last i : ℕ) → length image ≤ most_image_words → HoldsRun leads image words page t last → i ≤ last → Lists words page i (address image t i) (page_words * page + place_in_page image t (suc last) i)
 lists_held leads image words page t last i short holds near =
     let begins : t < length image = holds.run.inside 0 (omega arith) in
     let original = original_held leads image words page t last holds in
@@ -161,7 +150,7 @@ held_listed leads image words page t last i a v holds lists =
     }
 
 -- the page has a map
-pub map_held : (leads : ℕ → ℕ → Type 0) (image words : List ℕ) (page t last : ℕ) → length image ≤ 24576 → HoldsRun leads image words page t last → IsMap words page
+pub map_held : (leads : ℕ → ℕ → Type 0) (image words : List ℕ) (page t last : ℕ) → length image ≤ most_image_words → HoldsRun leads image words page t last → IsMap words page
 map_held leads image words page t last short holds =
     let begins : t < length image = holds.run.inside 0 (omega arith) in
     let original = original_held leads image words page t last holds in

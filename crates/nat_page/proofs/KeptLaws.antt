@@ -6,7 +6,7 @@ use Rattle.std.proofs.lemmas.Bool.{cases_eq}
 use Rattle.std.proofs.lemmas.Grind.{same_number_lists}
 use Rattle.std.proofs.lemmas.List.{get_or-take}
 use Rattle.flash_words.specs.Pages.{word_count, page_words, word_at}
-use Rattle.flash_words.specs.Layouts.{IsRight, image_of}
+use Rattle.flash_words.specs.Layouts.{IsRight, image_of, most_image_words}
 use Rattle.flash_words.specs.declared.layout.Layout.{Layout}
 use Rattle.page_index.specs.Maps.{IsPool, IsFree}
 use Rattle.page_index.specs.Entries.{Lists, IsEntry}
@@ -19,7 +19,7 @@ use Rattle.nat_page.proofs.StayLaws.{held_used, same_run, holds_alike, holds_mor
 -- The page holds the same run in both, and each other page has the same words. Links of the new one may lead
 -- where they did.
 pub record KeepsRun (layout : Layout) (image words words' : List ℕ) (page t last : ℕ) : Type 0 where
-  pub short : length image ≤ 24576
+  pub short : length image ≤ most_image_words
   pub whole : length words ≡ word_count
   pub whole' : length words' ≡ word_count
   pub others : (other : ℕ) → other ≢ page → change.SamePage words words' other
@@ -27,7 +27,7 @@ pub record KeepsRun (layout : Layout) (image words words' : List ℕ) (page t la
   pub new : HoldsRun (IsEntry layout words) image words' page t last
 
 -- a page lists the same where it holds the same run
-pub lists_again : (leads leads' : ℕ → ℕ → Type 0) (image words words' : List ℕ) (page t last i a v : ℕ) → length image ≤ 24576 → HoldsRun leads image words page t last → HoldsRun leads' image words' page t last → Lists words page i a v → Lists words' page i a v
+pub lists_again : (leads leads' : ℕ → ℕ → Type 0) (image words words' : List ℕ) (page t last i a v : ℕ) → length image ≤ most_image_words → HoldsRun leads image words page t last → HoldsRun leads' image words' page t last → Lists words page i a v → Lists words' page i a v
 lists_again leads leads' image words words' page t last i a v short holds holds' lists =
     let held = held_listed leads image words page t last i a v holds lists in
     let there = lists_held leads' image words' page t last i short holds' held.near in
@@ -98,8 +98,7 @@ kept_free layout image words words' page t last other keeps low free = elim (cas
 pub kept_word : (layout : Layout) (image words words' : List ℕ) (page t last a : ℕ) → KeepsRun layout image words words' page t last → a / page_words ≢ page → word_at words' a ≡ word_at words a
 kept_word layout image words words' page t last a keeps apart =
     let here : page_words * (a / page_words) + a % page_words ≡ a = omega arith in
-    let same = (keeps.others (a / page_words) apart).word (a % page_words) (omega arith) in
-    sym (ap (word_at words') here) ∙ sym same ∙ ap (word_at words) here
+    sym (ap (word_at words') here) ∙ sym ((keeps.others (a / page_words) apart).word (a % page_words) (omega arith)) ∙ ap (word_at words) here
 
 -- the image stays
 pub kept_image : (layout : Layout) (image words words' : List ℕ) (page t last : ℕ) → IsRight layout → IsPool layout page → KeepsRun layout image words words' page t last → image_of layout words' ≡ image_of layout words

@@ -17,13 +17,11 @@ each_link_split links a [] back all = (tt, let P : ℕ → Type 0 = λ b. EachLi
 each_link_split links a (Fixed word ∷ front) back all =
     let rest = each_link_split links (a + 1) front back all in
     let P : ℕ → Type 0 = λ b. EachLink links b back in
-    let here : a + 1 + size front ≡ a + size (Fixed word ∷ front) = omega (arith, size-cons (Fixed word) front) in
-    (rest.0, subst P here rest.1)
+    (rest.0, subst P (omega (arith, size-cons (Fixed word) front)) rest.1)
 each_link_split links a (Link t ∷ front) back all =
     let rest = each_link_split links (a + 3) front back all.1 in
     let P : ℕ → Type 0 = λ b. EachLink links b back in
-    let here : a + 3 + size front ≡ a + size (Link t ∷ front) = omega (arith, size-cons (Link t) front) in
-    ((all.0, rest.0), subst P here rest.1)
+    ((all.0, rest.0), subst P (omega (arith, size-cons (Link t) front)) rest.1)
 
 -- links that are among more
 pub each_link_more : (links links' : ℕ → ℕ → Type 0) (a : ℕ) (pieces : List Piece) → ((s t : ℕ) → links s t → links' s t) → EachLink links a pieces → EachLink links' a pieces
@@ -35,25 +33,18 @@ each_link_more links links' a (Link t ∷ pieces) more all =
 links_behind : (pieces before rest : List Piece) (base : ℕ) → pieces ≡ before ++ rest → EachLink (IsLinkOf pieces base) (base + size before) rest
 links_behind pieces before [] base is = tt
 links_behind pieces before (Fixed word ∷ rest) base is =
-    let front = before ++ Fixed word ∷ [] in
-    let more : pieces ≡ front ++ rest = is ∙ sym (append_assoc before (Fixed word ∷ []) rest) in
-    let here : base + size front ≡ base + size before + 1 = omega (arith, size-append before (Fixed word ∷ [])) in
     let P : ℕ → Type 0 = λ b. EachLink (IsLinkOf pieces base) b rest in
-    subst P here (links_behind pieces front rest base more)
+    subst P (omega (arith, size-append before (Fixed word ∷ []))) (links_behind pieces (before ++ Fixed word ∷ []) rest base (is ∙ sym (append_assoc before (Fixed word ∷ []) rest)))
 links_behind pieces before (Link t ∷ rest) base is =
-    let front = before ++ Link t ∷ [] in
-    let more : pieces ≡ front ++ rest = is ∙ sym (append_assoc before (Link t ∷ []) rest) in
-    let here : base + size front ≡ base + size before + 3 = omega (arith, size-append before (Link t ∷ [])) in
     let P : ℕ → Type 0 = λ b. EachLink (IsLinkOf pieces base) b rest in
     let link : IsLinkOf pieces base (base + size before) t = record { before = before; behind = rest; split = is; at = refl } in
-    (link, subst P here (links_behind pieces front rest base more))
+    (link, subst P (omega (arith, size-append before (Link t ∷ []))) (links_behind pieces (before ++ Link t ∷ []) rest base (is ∙ sym (append_assoc before (Link t ∷ []) rest))))
 
 -- each link of pieces is one of them
 pub all_links : (pieces : List Piece) (base : ℕ) → EachLink (IsLinkOf pieces base) base pieces
 all_links pieces base =
     let P : ℕ → Type 0 = λ b. EachLink (IsLinkOf pieces base) b pieces in
-    let here : base + 0 ≡ base = omega arith in
-    subst P here (links_behind pieces [] pieces base refl)
+    subst P (omega arith) (links_behind pieces [] pieces base refl)
 
 one_template : (links : ℕ → ℕ → Type 0) (image : List ℕ) (a t n i : ℕ) → i < n → EachLink links a (templates image t n) → EachLink links (a + size (templates image t i)) (template_at image (address image t i))
 one_template links image a t zero i below all = absurd (omega arith)
@@ -78,11 +69,8 @@ page_links image a t last i near =
     let end = closing_at image (address image t last) in
     let P : List Piece → ℕ → Type 0 = λ pieces b. EachLink links b pieces in
     let two = each_link_split links (a + 1 + 1) (map (λ word. Fixed word) fixed) (bodies ++ end) (all_links (page_pieces image t last) a) in
-    let behind : a + 1 + 1 + size (map (λ word. Fixed word) fixed) ≡ a + (2 + suc last) = omega (arith, size-fixed fixed, length-map_words image t (suc last)) in
-    let three = each_link_split links (a + (2 + suc last)) bodies end (subst (P (bodies ++ end)) behind two.1) in
-    let here : a + (2 + suc last) + size (templates image t i) ≡ a + place_in_page image t (suc last) i = omega arith in
-    let there : a + (2 + suc last) + size bodies ≡ a + (2 + suc last + size bodies) = omega arith in
-    (subst (P (template_at image (address image t i))) here (one_template links image (a + (2 + suc last)) t (suc last) i (omega arith) three.0), subst (P end) there three.1)
+    let three = each_link_split links (a + (2 + suc last)) bodies end (subst (P (bodies ++ end)) (omega (arith, size-fixed fixed, length-map_words image t (suc last))) two.1) in
+    (subst (P (template_at image (address image t i))) (omega arith) (one_template links image (a + (2 + suc last)) t (suc last) i (omega arith) three.0), subst (P end) (omega arith) three.1)
 
 -- a link lies inside its page
 pub link_room : (image : List ℕ) (page first last s t : ℕ) → page_size image first last ≤ page_words → IsLinkOf (page_pieces image first last) (page_words * page) s t → (page_words * page ≤ s) × (s + 3 ≤ page_words * page + page_words)

@@ -5,7 +5,7 @@ use Rattle.std.proofs.lemmas.Bool.{cases_eq}
 use Rattle.std.proofs.lemmas.List.{length-append, get_or_append_left, get_or-append_right}
 use Rattle.flash_words.specs.Pages.{word_count, page_words, word_at, set_page}
 use Rattle.base_laws.specs.Lists.{many}
-use Rattle.flash_words.specs.Layouts.{IsRight, image_of}
+use Rattle.flash_words.specs.Layouts.{IsRight, image_of, most_image_words}
 use Rattle.flash_words.specs.declared.layout.Layout.{Layout}
 use Rattle.flash_words.proofs.PageLaws.{length-set_page, word_in_page, word_out_of_page, take-set_page}
 use Rattle.base_laws.proofs.ManyLaws.{get_or-many, length-many}
@@ -39,8 +39,7 @@ filled_rest front k behind below =
 -- a word of the page that is set
 word_set : (words new : List ℕ) (page k : ℕ) → length words ≡ word_count → page < 480 → length new ≡ page_words → k < page_words → word_at (set_page words page new) (page_words * page + k) ≡ get_or new k 0
 word_set words new page k whole low fits below =
-    let at_k : page_words * page + k - page_words * page ≡ k = omega arith in
-    word_in_page words new page (page_words * page + k) fits (omega arith) (omega arith) (omega arith) ∙ ap (λ i. slice_index new i) at_k
+    word_in_page words new page (page_words * page + k) fits (omega arith) (omega arith) (omega arith) ∙ ap (λ i. slice_index new i) (omega arith)
 
 -- the page with the words of a run holds it, with no link resolved
 pub holds_made : (leads : ℕ → ℕ → Type 0) (image words : List ℕ) (page t last : ℕ) → length words ≡ word_count → page < 480 → IsRun image t last → page_size image t last ≤ page_words → HoldsRun leads image (set_page words page (filled (words_of (page_pieces image t last)))) page t last
@@ -59,7 +58,7 @@ pub record Fits (image words : List ℕ) (page t last : ℕ) : Type 0 where
   pub whole : length words ≡ word_count
   pub inside : page_words * page + page_words ≤ length words
   pub low : page < 480
-  pub short : length image ≤ 24576
+  pub short : length image ≤ most_image_words
   pub run : IsRun image t last
   pub fits : page_size image t last ≤ page_words
   pub long : length (filled (words_of (page_pieces image t last))) ≡ page_words
@@ -143,10 +142,9 @@ makes_holds layout leads image old new page t place right code pool makes =
 pub makes_first : (layout : Layout) (image old new : List ℕ) (page t place : ℕ) → IsRight layout → IsFaithful layout image old → IsPool layout page → MakesPage layout image old new page t place → Lists new page 0 t place
 makes_first layout image old new page t place right code pool makes =
     let leads : ℕ → ℕ → Type 0 = λ a v. IsEntry layout new a v in
-    let short : length image ≤ 24576 = omega (arith, code.image_length, right.image_fits) in
     let holds = makes_holds layout leads image old new page t place right code pool makes in
     let P : ℕ → Type 0 = λ v. Lists new page 0 t v in
-    subst P (sym makes.prepared.placed) (lists_held leads image new page t makes.prepared.last 0 short holds (omega arith))
+    subst P (sym makes.prepared.placed) (lists_held leads image new page t makes.prepared.last 0 (omega (arith, code.image_length, right.image_fits)) holds (omega arith))
 
 pub makes_entry : (layout : Layout) (image old new : List ℕ) (page t place : ℕ) → IsRight layout → IsFaithful layout image old → IsPool layout page → MakesPage layout image old new page t place → IsEntry layout new t place
 makes_entry layout image old new page t place right code pool makes =
@@ -169,7 +167,6 @@ makes_entries layout image old new page t place right code pool free makes a v e
 -- the image stays
 pub makes_image : (layout : Layout) (image old new : List ℕ) (page t place : ℕ) → IsRight layout → IsFaithful layout image old → IsPool layout page → MakesPage layout image old new page t place → image_of layout new ≡ image_of layout old
 makes_image layout image old new page t place right code pool makes =
-    let whole = code.whole in
     let front = filled (words_of (page_pieces image t makes.prepared.last)) in
     ap (image_of layout) (made_flash layout image old new page t place makes) ∙ take-set_page old front page layout.image_words (omega (arith, pool.to, right.pool_below_kernel)) (omega (arith, right.image_below_pool, pool.from))
 
@@ -178,9 +175,8 @@ pub makes_runs : (layout : Layout) (image old new : List ℕ) (page t place othe
     → IsPool layout page → IsFree old page → MakesPage layout image old new page t place → HoldsRun (IsEntry layout old) image old other first end
     → HoldsRun (IsEntry layout new) image new other first end
 makes_runs layout image old new page t place other first end right code pool free makes holds =
-    let short : length image ≤ 24576 = omega (arith, code.image_length, right.image_fits) in
     let P : ℕ → Type 0 = λ p. HoldsRun (IsEntry layout old) image old p first end in
-    let apart : other ≢ page = λ same. held_used (IsEntry layout old) image old page first end short (subst P same holds) free in
+    let apart : other ≢ page = λ same. held_used (IsEntry layout old) image old page first end (omega (arith, code.image_length, right.image_fits)) (subst P same holds) free in
     holds_alike (IsEntry layout old) (IsEntry layout new) image old new other first end (λ a v entry. makes_entries layout image old new page t place right code pool free makes a v entry) (makes_other layout image old new page t place other right code pool makes apart) holds
 
 -- each link stays where it is, with its words
@@ -198,10 +194,9 @@ pub makes_link_words : (layout : Layout) (image old new : List ℕ) (page t plac
     → IsPool layout page → IsFree old page → MakesPage layout image old new page t place → IsLinkIn layout image old s to → k < 3
     → word_at new (s + k) ≡ word_at old (s + k)
 makes_link_words layout image old new page t place s to k right code pool free makes link below =
-    let short : length image ≤ 24576 = omega (arith, code.image_length, right.image_fits) in
     let room = link_room image link.page link.first link.last s to link.holds.fits link.link in
     let P : ℕ → Type 0 = λ p. HoldsRun (IsEntry layout old) image old p link.first link.last in
-    let apart : link.page ≢ page = λ same. held_used (IsEntry layout old) image old page link.first link.last short (subst P same link.holds) free in
+    let apart : link.page ≢ page = λ same. held_used (IsEntry layout old) image old page link.first link.last (omega (arith, code.image_length, right.image_fits)) (subst P same link.holds) free in
     let same = (makes_other layout image old new page t place link.page right code pool makes apart).word (s + k - page_words * link.page) (omega arith) in
     let here : page_words * link.page + (s + k - page_words * link.page) ≡ s + k = omega arith in
     sym (ap (word_at new) here) ∙ sym same ∙ ap (word_at old) here

@@ -1,9 +1,9 @@
 -- What changes of flash leave of the parts that links keep to, and what that says of an entry.
-use Rattle.std.proofs.Common.{◌≡◌, ℕ, ◌+◌, ◌-◌, ◌*◌, ◌/◌, ◌<◌, ◌≤◌, ◌⊎◌, List, [], ◌∷◌, length, arith, refl, sym, ap, ◌∙◌, inl, inr, subst}
+use Rattle.std.proofs.Common.{◌≡◌, ℕ, ◌+◌, ◌-◌, ◌*◌, ◌/◌, ◌≤◌, ◌⊎◌, List, [], ◌∷◌, length, arith, refl, sym, ap, ◌∙◌, inl, inr, subst}
 use Rattle.std.specs.Prelude.{◌≢◌}
 use Rattle.std.proofs.lemmas.Bool.{cases_eq}
 use Rattle.flash_words.specs.Pages.{page_words, word_at, word_count}
-use Rattle.flash_words.specs.Layouts.{IsRight}
+use Rattle.flash_words.specs.Layouts.{IsRight, most_image_words}
 use Rattle.flash_words.specs.declared.layout.Layout.{Layout}
 use Rattle.nat_template.specs.declared.piece.Piece.{Piece}
 use Rattle.nat_template.specs.declared.piece.Piece.TheVariants.{Fixed, Link}
@@ -72,7 +72,7 @@ pub parted_stands : (layout : Layout) (image words : List ℕ) (part : ℕ → �
 parted_stands layout image words part a v paged right code parted entry = elim (code.pages entry.page entry.pool) [
   | inl free ↦ absurd (free_lists_nothing words entry.page entry.index a v free entry.lists)
   | inr run ↦ (
-      let short : length image ≤ 24576 = omega (arith, code.image_length, right.image_fits) in
+      let short : length image ≤ most_image_words = omega (arith, code.image_length, right.image_fits) in
       let q = part run.first in
       let Marks : ℕ → ℕ → Type 0 = λ s to. IsLinkFrom layout image words part q s to in
       let held = held_listed (IsEntry layout words) image words entry.page run.first run.last entry.index a v run.holds entry.lists in
@@ -90,11 +90,8 @@ parted_stands layout image words part a v paged right code parted entry = elim (
 run_before : (layout : Layout) (leads : ℕ → ℕ → Type 0) (image words words' : List ℕ) (other b n : ℕ) → IsRight layout → IsFaithful layout image words → length words' ≡ word_count → IsPool layout other → change.SamePage words words' other
     → HoldsRun leads image words' other b n → HoldsRun (IsEntry layout words) image words other b n
 run_before layout leads image words words' other b n right code whole pool same holds =
-    let short : length image ≤ 24576 = omega (arith, code.image_length, right.image_fits) in
-    let low : other < 480 = omega (arith, pool.to, right.pool_below_kernel) in
-    let whole_before = code.whole in
     elim (code.pages other pool) [
-      | inl free ↦ absurd (held_used leads image words' other b n short holds (change.free_alike words words' other same (omega arith) (omega arith) free))
+      | inl free ↦ absurd (held_used leads image words' other b n (omega (arith, code.image_length, right.image_fits)) holds (change.free_alike words words' other same (omega arith) (omega arith) free))
       | inr run ↦ (
           let there = holds_alike (IsEntry layout words) Anywhere image words words' other run.first run.last (λ t v entry. tt) same run.holds in
           let equal = same_run Anywhere leads image words' other run.first run.last b n there holds in
@@ -108,8 +105,7 @@ other_parted : (layout : Layout) (image words words' : List ℕ) (part : ℕ →
 other_parted layout image words words' part s t right code whole parted link same jump =
     let room = link_room image link.page link.first link.last s t link.holds.fits link.link in
     let there : page_words * link.page + (s - page_words * link.page) ≡ s = omega arith in
-    let word = same.word (s - page_words * link.page) (omega arith) in
-    let before : word_at words s ≡ jump_word = sym (ap (word_at words) there) ∙ word ∙ ap (word_at words') there ∙ jump in
+    let before : word_at words s ≡ jump_word = sym (ap (word_at words) there) ∙ same.word (s - page_words * link.page) (omega arith) ∙ ap (word_at words') there ∙ jump in
     parted s t (record { page = link.page; pool = link.pool; first = link.first; last = link.last; holds = run_before layout (IsEntry layout words') image words words' link.page link.first link.last right code whole link.pool same link.holds; link = link.link }) before
 
 -- where one page keeps its run, each of its links that is resolved was, or leads into its part
@@ -220,6 +216,5 @@ pub same_origin : (layout : Layout) (image words : List ℕ) (s t t' : ℕ) → 
 same_origin layout image words s t t' link other =
     let room = link_room image link.page link.first link.last s t link.holds.fits link.link in
     let room' = link_room image other.page other.first other.last s t' other.holds.fits other.link in
-    let same : other.page ≡ link.page = omega arith in
     let Held : ℕ → Type 0 = λ p. HoldsRun (IsEntry layout words) image words p other.first other.last in
-    (same_run (IsEntry layout words) (IsEntry layout words) image words link.page link.first link.last other.first other.last link.holds (subst Held same other.holds)).0
+    (same_run (IsEntry layout words) (IsEntry layout words) image words link.page link.first link.last other.first other.last link.holds (subst Held (omega arith) other.holds)).0

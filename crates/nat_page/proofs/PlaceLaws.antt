@@ -1,5 +1,5 @@
 -- Between the places of two entries that follow in a page, and behind the last, no entry begins.
-use Rattle.std.proofs.Common.{◌≡◌, ℕ, suc, ◌+◌, ◌*◌, ◌/◌, ◌<◌, ◌≤◌, List, arith, ap, ◌∙◌, inl, inr, subst}
+use Rattle.std.proofs.Common.{◌≡◌, ℕ, suc, ◌+◌, ◌*◌, ◌<◌, ◌≤◌, List, arith, ap, ◌∙◌, inl, inr, subst}
 use Rattle.std.proofs.lemmas.Bool.{cases_order}
 use Rattle.flash_words.specs.Pages.{page_words}
 use Rattle.flash_words.specs.declared.layout.Layout.{Layout}
@@ -12,10 +12,8 @@ use Rattle.nat_page.specs.Entered.{HasNoPlace}
 no_place : (layout : Layout) (words : List ℕ) (page from to : ℕ) → IsMapped layout words → page_words * page ≤ from → to ≤ page_words * page + page_words → ((j : ℕ) → j < entry_count words page → from < place_of words page j → place_of words page j < to → ⊥) → HasNoPlace layout words from to
 no_place layout words page from to mapped begins ends none v above below place =
     let entry : IsEntry layout words place.0 v = place.1 in
-    let here : v / page_words ≡ page = omega arith in
-    let same : entry.page ≡ page = page_of_place layout words place.0 v mapped entry ∙ here in
     let P : ℕ → Type 0 = λ p. Lists words p entry.index place.0 v in
-    let lists : Lists words page entry.index place.0 v = subst P same entry.lists in
+    let lists : Lists words page entry.index place.0 v = subst P (page_of_place layout words place.0 v mapped entry ∙ (omega arith)) entry.lists in
     none entry.index lists.listed (omega (arith, lists.place)) (omega (arith, lists.place))
 
 -- between an entry's place and the next entry's

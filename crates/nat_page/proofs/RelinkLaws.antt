@@ -66,14 +66,12 @@ pub record IsPlaced (words : List ℕ) (s w w' : ℕ) : Type 0 where
 pub link_placed : (layout : Layout) (image words : List ℕ) (s t w w' : ℕ) → IsRight layout → length words ≡ word_count → IsLinkIn layout image words s t → IsPlaced words s w w'
 link_placed layout image words s t w w' right whole in_page =
     let room = link_room image in_page.page in_page.first in_page.last s t in_page.holds.fits in_page.link in
-    let own : s / page_words ≡ in_page.page = omega arith in
-    let there : page_words * (s / page_words) + s % page_words ≡ s = omega arith in
     let low : s / page_words < 480 = omega (arith, in_page.pool.to, right.pool_below_kernel) in
     let below : s % page_words + 1 < page_words = omega arith in
     record {
       low = low;
       room = below;
-      is = two_in_page words (s / page_words) (s % page_words) w w' (omega arith) below ∙ ap (λ b. with_two_words words b w w') there;
+      is = two_in_page words (s / page_words) (s % page_words) w w' (omega arith) below ∙ ap (λ b. with_two_words words b w w') (omega arith);
     }
 
 -- all other pages stay, and this one keeps its run
@@ -84,7 +82,6 @@ relinks layout image words s t w w' right code in_page link =
     let page = in_page.page in
     let whole = code.whole in
     let low : page < 480 = omega (arith, in_page.pool.to, right.pool_below_kernel) in
-    let inside : page_words * page + page_words ≤ length words = omega arith in
     let room = link_room image page in_page.first in_page.last s t in_page.holds.fits in_page.link in
     record {
       short = omega (arith, code.image_length, right.image_fits);
@@ -92,7 +89,7 @@ relinks layout image words s t w w' right code in_page link =
       whole' = length-with_two_words words s w w' ∙ whole;
       others = λ other apart. record { word = λ k below. sym (word_beside_two words s (page_words * other + k) w w' (λ is. apart (omega arith)) (λ is. apart (omega arith))) };
       old = in_page.holds;
-      new = holds_relinked (IsEntry layout words) image words page in_page.first in_page.last s t w w' inside in_page.link link in_page.holds;
+      new = holds_relinked (IsEntry layout words) image words page in_page.first in_page.last s t w w' (omega arith) in_page.link link in_page.holds;
     }
 
 -- the pool stays faithful

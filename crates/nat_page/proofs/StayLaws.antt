@@ -1,6 +1,7 @@
 -- A page that holds a run, where flash changes: its run is determined, and stays where its words stay.
 use Rattle.std.proofs.Common.{◌≡◌, ℕ, ◌*◌, ◌/◌, ◌<◌, ◌≤◌, List, length, arith, refl, sym, ◌∙◌}
 use Rattle.flash_words.specs.Pages.{page_words}
+use Rattle.flash_words.specs.Layouts.{most_image_words}
 use Rattle.page_index.specs.Maps.{IsFree, page_word}
 use Rattle.page_index.proofs.MapLaws.{free_word}
 use Rattle.page_index.proofs.ChangeLaws.{SamePage}
@@ -9,7 +10,7 @@ use Rattle.page_draft.proofs.PieceLaws.{stands_same}
 use Rattle.nat_page.proofs.HeldLaws.{original_held, count_held, address_held}
 
 -- a page that holds a run isn't free
-pub held_used : (leads : ℕ → ℕ → Type 0) (image words : List ℕ) (page t last : ℕ) → length image ≤ 24576 → HoldsRun leads image words page t last → IsFree words page → ⊥
+pub held_used : (leads : ℕ → ℕ → Type 0) (image words : List ℕ) (page t last : ℕ) → length image ≤ most_image_words → HoldsRun leads image words page t last → IsFree words page → ⊥
 held_used leads image words page t last short holds free =
     let first : page_word words page 0 ≡ 0xFFFF = free_word words page 0 (omega arith) free in
     let original : page_word words page 0 ≡ t / page_words = original_held leads image words page t last holds in

@@ -41,8 +41,7 @@ word_of_page words page k j first second inside below near =
           subst Word here (ap (slice_index (with_two_words old k first second)) same ∙ first_of_two old k first second (omega arith) ∙ sym (first_of_two words s first second (omega arith))))
       | inr apart ↦ elim (cases_eq j (k + 1)) [
         | inl same ↦ (
-            let here : s + 1 ≡ page_words * page + j = omega arith in
-            subst Word here (ap (slice_index (with_two_words old k first second)) same ∙ second_of_two old k first second (omega arith) ∙ sym (second_of_two words s first second (omega arith))))
+            subst Word (omega arith) (ap (slice_index (with_two_words old k first second)) same ∙ second_of_two old k first second (omega arith) ∙ sym (second_of_two words s first second (omega arith))))
         | inr apart' ↦
             word_beside_two old k j first second apart apart' ∙ page_word words page j near ∙ sym (word_beside_two words s (page_words * page + j) first second (λ same. apart (omega arith)) (λ same. apart' (omega arith)))
       ]
@@ -60,8 +59,7 @@ two_in_page words page k first second inside below =
       | inr from ↦ elim (cases_lt i (page_words * page + page_words)) [
         | inr high ↦ word_out_of_page words new page i long inside (inr high) ∙ sym (word_beside_two words s i first second (λ same. omega arith) (λ same. omega arith))
         | inl to ↦ (
-            let there : page_words * page + (i - page_words * page) ≡ i = omega arith in
             let Word : ℕ → Type 0 = λ b. slice_index new (i - page_words * page) ≡ word_at (with_two_words words s first second) b in
-            word_in_page words new page i long inside from to ∙ subst Word there (word_of_page words page k (i - page_words * page) first second inside below (omega arith)))
+            word_in_page words new page i long inside from to ∙ subst Word (omega arith) (word_of_page words page k (i - page_words * page) first second inside below (omega arith)))
       ]
     ])

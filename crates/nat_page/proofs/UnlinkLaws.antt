@@ -8,6 +8,7 @@ use Rattle.std.proofs.lemmas.Grind.{same_number_lists}
 use Rattle.flash_words.specs.Pages.{word_count, page_words, word_at, page_of, set_page}
 use Rattle.flash_words.specs.declared.layout.Layout.{Layout}
 use Rattle.flash_words.proofs.PageLaws.{length-set_page, word_in_page, word_out_of_page, page_word, length-page_of, page_same}
+use Rattle.flash_words.specs.Layouts.{most_image_words}
 use Rattle.nat_template.specs.declared.piece.Piece.{Piece}
 use Rattle.nat_template.specs.declared.piece.Piece.TheVariants.{Fixed, Link}
 use Rattle.nat_template.specs.Stubs.{call_word, bridge_entry}
@@ -55,15 +56,13 @@ calls_beside words (s ∷ stubs) x beside =
 two_alike : (words words' : List ℕ) (s x first second : ℕ) → length words ≡ length words' → s + 1 < length words → word_at words x ≡ word_at words' x → word_at (with_two_words words s first second) x ≡ word_at (with_two_words words' s first second) x
 two_alike words words' s x first second long inside same = elim (cases_eq x s) [
   | inl is ↦ (
-      let Word : List ℕ → Type 0 = λ w. word_at (with_two_words w s first second) x ≡ first in
       let here : word_at (with_two_words words s first second) x ≡ first = ap (word_at (with_two_words words s first second)) is ∙ first_of_two words s first second inside in
       let here' : word_at (with_two_words words' s first second) x ≡ first = ap (word_at (with_two_words words' s first second)) is ∙ first_of_two words' s first second (omega arith) in
       here ∙ sym here')
   | inr apart ↦ elim (cases_eq x (s + 1)) [
     | inl is ↦ (
-        let here : word_at (with_two_words words s first second) x ≡ second = ap (word_at (with_two_words words s first second)) is ∙ second_of_two words s first second inside in
         let here' : word_at (with_two_words words' s first second) x ≡ second = ap (word_at (with_two_words words' s first second)) is ∙ second_of_two words' s first second (omega arith) in
-        here ∙ sym here')
+        (ap (word_at (with_two_words words s first second)) is ∙ second_of_two words s first second inside) ∙ sym here')
     | inr apart' ↦ word_beside_two words s x first second apart apart' ∙ same ∙ sym (word_beside_two words' s x first second apart apart')
   ]
 ]
@@ -83,8 +82,6 @@ Among a end s = (a ≤ s) × (s + 3 ≤ end)
 among_more : (a a' end end' : ℕ) (stubs : List ℕ) → a' ≤ a → end ≤ end' → Each (Among a end) stubs → Each (Among a' end') stubs
 among_more a a' end end' [] low high all = tt
 among_more a a' end end' (s ∷ stubs) low high all =
-    let first = all.0.0 in
-    let last = all.0.1 in
     ((omega arith, omega arith), among_more a a' end end' stubs low high all.1)
 
 pub links_among : (words : List ℕ) (test : ℕ → ℕ → Bool) (a : ℕ) (pieces : List Piece) → Each (Among a (a + size pieces)) (links_where words test a pieces)
@@ -92,7 +89,6 @@ links_among words test a [] = tt
 links_among words test a (Fixed word ∷ pieces) =
     among_more (a + 1) a (a + 1 + size pieces) (a + size (Fixed word ∷ pieces)) (links_where words test (a + 1) pieces) (omega arith) (omega (arith, size-cons (Fixed word) pieces)) (links_among words test (a + 1) pieces)
 links_among words test a (Link t ∷ pieces) =
-    let long = size-cons (Link t) pieces in
     let rest = among_more (a + 3) a (a + 3 + size pieces) (a + size (Link t ∷ pieces)) (links_where words test (a + 3) pieces) (omega arith) (omega arith) (links_among words test (a + 3) pieces) in
     let P : Bool → Type 0 = λ b. Each (Among a (a + size (Link t ∷ pieces))) (if b then a ∷ links_where words test (a + 3) pieces else links_where words test (a + 3) pieces) in
     by_test (is_picked words test a t) P ((omega arith, omega arith), rest) rest
@@ -100,19 +96,16 @@ links_among words test a (Link t ∷ pieces) =
 pub beside_below : (a end x : ℕ) (stubs : List ℕ) → x < a → Each (Among a end) stubs → Each (Beside x) stubs
 beside_below a end x [] below all = tt
 beside_below a end x (s ∷ stubs) below all =
-    let first = all.0.0 in
     ((λ is. omega arith, λ is. omega arith), beside_below a end x stubs below all.1)
 
 pub beside_above : (a end x : ℕ) (stubs : List ℕ) → end ≤ x → Each (Among a end) stubs → Each (Beside x) stubs
 beside_above a end x [] above all = tt
 beside_above a end x (s ∷ stubs) above all =
-    let last = all.0.1 in
     ((λ is. omega arith, λ is. omega arith), beside_above a end x stubs above all.1)
 
 pub among_inside : (a end n : ℕ) (stubs : List ℕ) → end ≤ n → Each (Among a end) stubs → Each (λ s. s + 1 < n) stubs
 among_inside a end n [] fits all = tt
 among_inside a end n (s ∷ stubs) fits all =
-    let last = all.0.1 in
     (omega arith, among_inside a end n stubs fits all.1)
 
 -- a link that isn't picked leads elsewhere
@@ -151,11 +144,9 @@ pub stands_unlinked : (leads leads' : ℕ → ℕ → Type 0) (words : List ℕ)
     → a + size pieces ≤ length words → Stands leads words a pieces → Stands leads' (with_calls words (links_where words test a pieces)) a pieces
 stands_unlinked leads leads' words test a [] more inside stands = tt
 stands_unlinked leads leads' words test a (Fixed word ∷ pieces) more inside stands =
-    let long = size-cons (Fixed word) pieces in
     let stubs = links_where words test (a + 1) pieces in
     (calls_beside words stubs a (beside_below (a + 1) (a + 1 + size pieces) a stubs (omega arith) (links_among words test (a + 1) pieces)) ∙ stands.0, stands_unlinked leads leads' words test (a + 1) pieces more (omega arith) stands.1)
 stands_unlinked leads leads' words test a (Link t ∷ pieces) more inside stands =
-    let long = size-cons (Link t) pieces in
     let stubs = links_where words test (a + 3) pieces in
     let among = links_among words test (a + 3) pieces in
     let rest = stands_unlinked leads leads' words test (a + 3) pieces more (omega arith) stands.1 in
@@ -183,7 +174,6 @@ pub other_unlinked : (leads : ℕ → ℕ → Type 0) (image words : List ℕ) (
 other_unlinked leads image words test page first last other holds apart =
     let base = page_words * page in
     let pieces = page_pieces image first last in
-    let fits = holds.fits in
     let stubs = links_where words test base pieces in
     let among = links_among words test base pieces in
     record {
@@ -206,8 +196,7 @@ set_page_of words words' page long inside beside =
       | inr from ↦ elim (cases_lt i (page_words * page + page_words)) [
         | inr high ↦ word_out_of_page words new page i size' inside (inr high) ∙ sym (beside i (inr high))
         | inl to ↦ (
-            let there : page_words * page + (i - page_words * page) ≡ i = omega arith in
-            word_in_page words new page i size' inside from to ∙ page_word words' page (i - page_words * page) (omega arith) ∙ ap (word_at words') there)
+            word_in_page words new page i size' inside from to ∙ page_word words' page (i - page_words * page) (omega arith) ∙ ap (word_at words') (omega arith))
       ]
     ])
 
@@ -217,7 +206,6 @@ pub unlinked_page : (leads : ℕ → ℕ → Type 0) (image words : List ℕ) (t
 unlinked_page leads image words test page first last inside holds =
     let base = page_words * page in
     let pieces = page_pieces image first last in
-    let fits = holds.fits in
     let stubs = links_where words test base pieces in
     let among = links_among words test base pieces in
     set_page_of words (with_calls words stubs) page (length-with_calls words stubs) inside (λ x out. calls_beside words stubs x (elim out [
@@ -226,15 +214,14 @@ unlinked_page leads image words test page first last inside holds =
     ]))
 
 -- the pool keeps all
-pub unlinks : (layout : Layout) (image words : List ℕ) (test : ℕ → ℕ → Bool) (page first last : ℕ) → length image ≤ 24576 → length words ≡ word_count → page < 480 → HoldsRun (IsEntry layout words) image words page first last
+pub unlinks : (layout : Layout) (image words : List ℕ) (test : ℕ → ℕ → Bool) (page first last : ℕ) → length image ≤ most_image_words → length words ≡ word_count → page < 480 → HoldsRun (IsEntry layout words) image words page first last
     → KeepsRun layout image words (with_calls words (links_where words test (page_words * page) (page_pieces image first last))) page first last
 unlinks layout image words test page first last short whole low holds =
     let leads : ℕ → ℕ → Type 0 = λ a v. IsEntry layout words a v in
-    let stubs = links_where words test (page_words * page) (page_pieces image first last) in
     record {
       short = short;
       whole = whole;
-      whole' = length-with_calls words stubs ∙ whole;
+      whole' = length-with_calls words (links_where words test (page_words * page) (page_pieces image first last)) ∙ whole;
       others = λ other apart. other_unlinked leads image words test page first last other holds apart;
       old = holds;
       new = holds_unlinked leads leads image words test page first last (λ b v entry apart. entry) (omega arith) holds;
@@ -245,20 +232,17 @@ pub page_of_two : (words : List ℕ) (page s first second : ℕ) → page_words 
     → page_of (with_two_words words s first second) page ≡ with_two_words (page_of words page) (s % page_words) first second
 page_of_two words page s first second inside own room =
     let k = s % page_words in
-    let there : page_words * page + k ≡ s = omega arith in
     let new = with_two_words (page_of words page) k first second in
     let long : length new ≡ page_words = length-with_two_words (page_of words page) k first second ∙ length-page_of words page inside in
-    sym (ap (λ w. page_of w page) (two_in_page words page k first second inside room ∙ ap (λ b. with_two_words words b first second) there)) ∙ page_same words new page long inside
+    sym (ap (λ w. page_of w page) (two_in_page words page k first second inside room ∙ ap (λ b. with_two_words words b first second) (omega arith))) ∙ page_same words new page long inside
 
 -- rows behind one another
 pub links_where-append : (words : List ℕ) (test : ℕ → ℕ → Bool) (a : ℕ) (front back : List Piece) → links_where words test a (front ++ back) ≡ links_where words test a front ++ links_where words test (a + size front) back
 links_where-append words test a [] back = ap (λ b. links_where words test b back) (omega arith)
 links_where-append words test a (Fixed word ∷ front) back =
-    let here : a + 1 + size front ≡ a + size (Fixed word ∷ front) = omega (arith, size-cons (Fixed word) front) in
-    links_where-append words test (a + 1) front back ∙ ap (λ b. links_where words test (a + 1) front ++ links_where words test b back) here
+    links_where-append words test (a + 1) front back ∙ ap (λ b. links_where words test (a + 1) front ++ links_where words test b back) (omega (arith, size-cons (Fixed word) front))
 links_where-append words test a (Link t ∷ front) back =
-    let here : a + 3 + size front ≡ a + size (Link t ∷ front) = omega (arith, size-cons (Link t) front) in
-    let rest = links_where-append words test (a + 3) front back ∙ ap (λ b. links_where words test (a + 3) front ++ links_where words test b back) here in
+    let rest = links_where-append words test (a + 3) front back ∙ ap (λ b. links_where words test (a + 3) front ++ links_where words test b back) (omega (arith, size-cons (Link t) front)) in
     let behind = links_where words test (a + size (Link t ∷ front)) back in
     let P : Bool → Type 0 = λ b. (if b then a ∷ links_where words test (a + 3) (front ++ back) else links_where words test (a + 3) (front ++ back)) ≡ (if b then a ∷ links_where words test (a + 3) front else links_where words test (a + 3) front) ++ behind in
     by_test (is_picked words test a t) P (ap (λ xs. a ∷ xs) rest) rest

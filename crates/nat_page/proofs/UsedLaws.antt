@@ -4,7 +4,7 @@ use Rattle.std.proofs.Common.{◌≡◌, ℕ, zero, suc, ◌+◌, ◌<◌, ◌�
 use Rattle.std.specs.Prelude.{◌≢◌, if◌then◌else◌}
 use Rattle.std.proofs.lemmas.Bool.{cases_eq}
 use Rattle.std.proofs.lemmas.Bool.Decides.{nat_tests}
-use Rattle.flash_words.specs.Layouts.{IsRight}
+use Rattle.flash_words.specs.Layouts.{IsRight, most_image_words, most_image_pages}
 use Rattle.flash_words.specs.declared.layout.Layout.{Layout}
 use Rattle.page_index.specs.Maps.{IsPool, IsFree, IsMap, original_page}
 use Rattle.page_index.specs.Entries.{IsEntry, IsMapped}
@@ -21,7 +21,7 @@ use Rattle.nat_page.proofs.MadeLaws.{makes_holds, makes_other}
 use Rattle.nat_page.proofs.KeptLaws.{KeepsRun}
 use Rattle.nat_page.proofs.RelinkLaws.{relinks}
 
-original_small : (w : ℕ) → w < 192 → not (w == 0xFFFF) ≡ true
+original_small : (w : ℕ) → w < most_image_pages → not (w == 0xFFFF) ≡ true
 original_small w small = grind (arith, nat_tests)
 
 -- a free page isn't used, and one with a map is
@@ -31,7 +31,7 @@ free_unused words page free = ap (λ w. not (w == 0xFFFF)) (free_word words page
 pub map_used : (words : List ℕ) (page : ℕ) → IsMap words page → is_used words page ≡ true
 map_used words page map = original_small (original_page words page) map.original
 
-pub holds_run_used : (leads : ℕ → ℕ → Type 0) (image words : List ℕ) (page t last : ℕ) → length image ≤ 24576 → HoldsRun leads image words page t last → is_used words page ≡ true
+pub holds_run_used : (leads : ℕ → ℕ → Type 0) (image words : List ℕ) (page t last : ℕ) → length image ≤ most_image_words → HoldsRun leads image words page t last → is_used words page ≡ true
 holds_run_used leads image words page t last short holds =
     let original = original_held leads image words page t last holds in
     let begins : t < length image = holds.run.inside 0 (omega arith) in
@@ -118,7 +118,7 @@ all_used layout words mapped full =
 pub used_made : (layout : Layout) (image old new : List ℕ) (page t place : ℕ) → IsRight layout → IsFaithful layout image old → IsPool layout page → IsFree old page → MakesPage layout image old new page t place → used_pages layout new ≡ used_pages layout old + 1
 used_made layout image old new page t place right code pool free makes =
     let leads : ℕ → ℕ → Type 0 = λ a v. IsEntry layout new a v in
-    let short : length image ≤ 24576 = omega (arith, code.image_length, right.image_fits) in
+    let short : length image ≤ most_image_words = omega (arith, code.image_length, right.image_fits) in
     let holds = makes_holds layout leads image old new page t place right code pool makes in
     used_among-more old new layout.pool_first layout.pool_pages page pool.from pool.to (free_unused old page free) (holds_run_used leads image new page t makes.prepared.last short holds) (λ other apart. same_used old new other (makes_other layout image old new page t place other right code pool makes apart))
 

@@ -12,7 +12,6 @@ use Rattle.page_draft.specs.Standing.{size}
 use Rattle.page_draft.specs.CodePages.{page_pieces, HoldsRun, Anywhere, IsCodePage, IsPage}
 use Rattle.nat_page.specs.Faithful.{IsRewritten}
 use Rattle.nat_page.specs.Unlinking.{leads_into, is_picked, links_where, stubs_into, are_some}
-use Rattle.page_draft.proofs.PieceLaws.{size-cons}
 use Rattle.nat_page.proofs.HeldLaws.{address_held, count_held, place_range}
 use Rattle.nat_page.proofs.StayLaws.{holds_more}
 
@@ -24,13 +23,11 @@ pub record OwnRun (leads : ℕ → ℕ → Type 0) (image words : List ℕ) (pag
 
 pub own_run : (leads : ℕ → ℕ → Type 0) (image words : List ℕ) (page t last : ℕ) → HoldsRun leads image words page t last → OwnRun leads image words page
 own_run leads image words page t last holds =
-    let first = address_held leads image words page t last 0 holds (omega arith) in
     let count = count_held leads image words page t last holds in
-    let end : last ≡ entry_count words page - 1 = omega (arith, count) in
     let range = place_range leads image words page t last 0 holds (omega arith) in
     let P : ℕ → ℕ → Type 0 = λ b n. HoldsRun leads image words page b n in
     record {
-      holds = subst (λ (b : ℕ). P b (entry_count words page - 1)) (sym first) (subst (P t) end holds);
+      holds = subst (λ (b : ℕ). P b (entry_count words page - 1)) (sym (address_held leads image words page t last 0 holds (omega arith))) (subst (P t) (omega (arith, count)) holds);
       some = omega (arith, count);
       few = omega (arith, count);
     }
@@ -61,18 +58,14 @@ by_none true words victim a stubs is none = absurd (cc)
 pub none_into : (words : List ℕ) (victim a : ℕ) (pieces : List Piece) → ((x : ℕ) → a ≤ x → x + 3 ≤ a + size pieces → is_picked words (leads_into victim) x 0 ≡ false) → links_where words (leads_into victim) a pieces ≡ []
 none_into words victim a [] none = refl
 none_into words victim a (Fixed word ∷ pieces) none =
-    let long = size-cons (Fixed word) pieces in
     none_into words victim (a + 1) pieces (λ x from to. none x (omega arith) (omega arith))
 none_into words victim a (Link t ∷ pieces) none =
-    let long = size-cons (Link t) pieces in
     by_none (is_picked words (leads_into victim) a t) words victim a (links_where words (leads_into victim) (a + 3) pieces) (none a (omega arith) (omega arith)) (none_into words victim (a + 3) pieces (λ x from to. none x (omega arith) (omega arith)))
 
 pub no_stubs_into : (image words : List ℕ) (victim page : ℕ) → IsCodePage image words page → ((k : ℕ) → k < 127 → is_picked words (leads_into victim) (page_words * page + k) 0 ≡ false) → are_some (stubs_into image words victim page) ≡ false
 no_stubs_into image words victim page run none =
-    let own = own_run Anywhere image words page run.first run.last run.holds in
-    let fits = own.holds.fits in
+    let fits = (own_run Anywhere image words page run.first run.last run.holds).holds.fits in
     let pieces = page_pieces image (address_of words page 0) (entry_count words page - 1) in
     let base = page_words * page in
     ap are_some (none_into words victim base pieces (λ x from to.
-    let here : base + (x - base) ≡ x = omega arith in
-    subst (λ (b : ℕ). is_picked words (leads_into victim) b 0 ≡ false) here (none (x - base) (omega arith))))
+    subst (λ (b : ℕ). is_picked words (leads_into victim) b 0 ≡ false) (omega arith) (none (x - base) (omega arith))))

@@ -1,7 +1,7 @@
 -- When a code pool is faithful to the image: all that it holds is rewritten code of the image.
 use Rattle.std.specs.Prelude.{◌≡◌, ℕ, ◌*◌, ◌<◌, ◌≤◌, ◌⊎◌, List, length}
 use Rattle.flash_words.specs.Pages.{word_count, page_words, word_at}
-use Rattle.flash_words.specs.Memory.{kernel_first}
+use Rattle.flash_words.specs.Memory.{kernel_first, return_word}
 use Rattle.flash_words.specs.declared.layout.Layout.{Layout}
 use Rattle.flash_words.specs.Layouts.{image_of}
 use Rattle.page_index.specs.Maps.{IsPool, IsFree}
@@ -21,6 +21,6 @@ pub record IsFaithful (layout : Layout) (image words : List ℕ) : Type 0 where
   pub image_length : length image ≡ layout.image_words
   pub held : image_of layout words ≡ image
   pub erased : (a : ℕ) → layout.image_words ≤ a → a < page_words * layout.pool_first → word_at words a ≡ 0xFFFF
-  pub kernel : (a : ℕ) → kernel_first ≤ a → a < word_count → word_at words a ≡ 0x9508
+  pub kernel : (a : ℕ) → kernel_first ≤ a → a < word_count → word_at words a ≡ return_word
   pub pages : (page : ℕ) → IsPool layout page → IsFree words page ⊎ IsRewritten layout image words page
   pub once : (page page' i i' t v v' : ℕ) → IsPool layout page → IsPool layout page' → Lists words page i t v → Lists words page' i' t v' → (page ≡ page') × (i ≡ i')

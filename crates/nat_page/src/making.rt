@@ -38,6 +38,8 @@ pub struct Prepared {
 /// Makes the page of the original address `t` in this page of the pool, which is free, and gives the place of
 /// `t`, a word address of flash. The run begins at `t` and goes on as far as it may; its links are calls of
 /// the kernel's bridge.
+///
+/// This is the plain form: the program calls [`prepare_with`], and programs the page itself.
 pub fn naturalise(flash: &mut Flash, layout: &Layout, page: u16, t: u16) -> Result<u16, NatStop>
     requires right { IsRight layout.now }
     requires code { IsFaithful layout.now (image_of layout.now flash.old.words) flash.old.words }
@@ -66,7 +68,7 @@ pub fn naturalise(flash: &mut Flash, layout: &Layout, page: u16, t: u16) -> Resu
     }
 }
 
-/// The page of `t`, as it would stand in this page of the pool.
+/// The page of `t`, as it would stand in this page of the pool. This is the plain form: the program calls [`prepare_with`].
 pub fn prepare(flash: &Flash, layout: &Layout, page: u16, t: u16) -> Prepared
     requires right { IsRight layout.now }
     requires code { IsFaithful layout.now (image_of layout.now flash.now.words) flash.now.words }
@@ -83,7 +85,8 @@ pub fn prepare(flash: &Flash, layout: &Layout, page: u16, t: u16) -> Prepared
     prepare_with(flash, layout, &known, page, t)
 }
 
-/// The same for one who knows which addresses of the original page have entries, by their offsets there.
+/// Prepares the page as [`prepare`] does, for one who knows already which addresses of the original page have entries, by their
+/// offsets there.
 pub fn prepare_with(
     flash: &Flash,
     layout: &Layout,

@@ -1,7 +1,7 @@
 //! The links of one page that call the kernel's bridge again.
 
-ghost use Rattle.std.specs.Prelude.{◌≡◌, ◌+◌, ◌*◌, ◌/◌, ◌%◌, ◌<◌, ◌≤◌, [], true, false, length};
-ghost use Rattle.flash_words.specs.Pages.{page_of};
+ghost use Rattle.std.specs.Prelude.{◌≡◌, ◌+◌, ◌*◌, ◌%◌, ◌<◌, ◌≤◌, [], true, false, length};
+ghost use Rattle.flash_words.specs.Pages.{page_of, word_count, page_count};
 ghost use Rattle.flash_words.specs.Layouts.{IsRight, image_of};
 ghost use Rattle.flash_words.specs.Memory.{IsWhole};
 ghost use Rattle.nat_template.specs.Stubs.{call_word, bridge_entry};
@@ -12,12 +12,9 @@ ghost use Rattle.nat_page.specs.Links.{with_two_words};
 ghost use Rattle.nat_page.specs.Unlinking.{leads_into, is_picked, links_where, with_calls, stubs_where, are_some, IsPatched};
 
 use crate::image::FlashImage;
-use flash_model::{Flash, Layout, PAGE_WORDS};
+use flash_model::{Flash, JMP, Layout, PAGE_WORDS};
 use nat_template::Piece;
 use page_draft::{CALL_BRIDGE, remade};
-
-/// JMP, the first of its two words.
-const JMP: u16 = 0x940C;
 
 /// Which links that are resolved are to call the kernel's bridge again.
 pub trait LinkTest {
@@ -90,29 +87,21 @@ fn unlink<L: LinkTest>(flash: &Flash, links: &L, page: u16, pieces: &[Piece], pa
         match *piece {
             Piece::Fixed(_) => at += 1,
             Piece::Link(t) => {
-                unlink_one(flash, links, page, at, t, patch);
+                unlink_one(flash, links, at, t, patch);
                 at += 3;
             }
         }
     }
 }
 
-/// The same of one link.
+/// Puts a call into one link, where the test picks it.
 #[tactic(auto, unfolding(crate::specs::Links::with_two_words))]
-fn unlink_one<L: LinkTest>(
-    flash: &Flash,
-    links: &L,
-    page: u16,
-    at: u16,
-    t: u16,
-    patch: &mut Unlinked,
-)
-    requires own { at / 128 ≡ page }
+fn unlink_one<L: LinkTest>(flash: &Flash, links: &L, at: u16, t: u16, patch: &mut Unlinked)
     requires room { at % 128 + 2 < 128 }
     ensures stays { is_picked flash.now.words (L.test links.now) at t ≡ false → patch.new ≡ patch.old }
     ensures calls { is_picked flash.now.words (L.test links.now) at t ≡ true
         → (patch.new.words ≡ with_two_words patch.old.words (at % 128) call_word bridge_entry) × (patch.new.any ≡ true) }
-    ensures whole { length flash.now.words ≡ 65536 }
+    ensures whole { length flash.now.words ≡ word_count }
 {
     if flash.word(at) == JMP && links.picks(t, flash.word(at + 1)) {
         let k = (at % PAGE_WORDS) as usize;
@@ -124,7 +113,7 @@ fn unlink_one<L: LinkTest>(
 
 /// The words of a page.
 pub fn page_words(flash: &Flash, page: u16) -> [u16; 128]
-    requires page { page < 512 }
+    requires page { page < page_count }
     ensures words { result ≡ page_of flash.now.words page }
     ensures whole { IsWhole flash.now }
 {

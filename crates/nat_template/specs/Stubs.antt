@@ -6,6 +6,7 @@ use Rattle.avr_isa.specs.declared.form.Form.{Form}
 use Rattle.avr_isa.specs.declared.form.Form.TheVariants.{One, Lds, Sts, InIo, OutIo, Brbs}
 use Rattle.avr_isa.specs.declared.operation.OneOp.TheVariants.{Dec}
 use Rattle.sram_layout.specs.Cells.{count_cell, r24_cell, sreg_cell}
+use Rattle.flash_words.specs.Jumps.{jump_word}
 use Rattle.nat_template.specs.Words.{words_of_forms, sreg_field}
 use Rattle.nat_template.specs.declared.piece.Piece.{Piece}
 use Rattle.nat_template.specs.declared.piece.Piece.TheVariants.{Fixed, Link}
@@ -42,9 +43,9 @@ fault_entry = 0xF00E
 abbrev pub service : ℕ → ℕ → List Piece
 service entry word = Fixed call_word ∷ Fixed entry ∷ Fixed word ∷ []
 
--- JMP to a place, a word address of flash (AVR Instruction Set Manual, "JMP")
+-- JMP to a place, a word address of flash
 abbrev pub jump_words : ℕ → List ℕ
-jump_words place = 0x940C ∷ place ∷ []
+jump_words place = jump_word ∷ place ∷ []
 
 -- the words of a piece: a link leads to the kernel's bridge until it is resolved
 abbrev pub words_of_piece : Piece → List ℕ

@@ -4,33 +4,46 @@ ghost use Rattle.std.specs.Prelude.{◌≡◌, ◌≤◌, ◌+◌, ◌++◌, ◌
 ghost use Rattle.nat_template.specs.Inline.{back, guard as guard_of, load_forms, pop_forms, push_forms, save, store_forms, trap};
 ghost use Rattle.nat_template.specs.Words.{words_of_forms};
 
+use crate::entries::MEM;
+use crate::piece::CALL;
 use arrayvec::ArrayVec;
 use avr_isa::{Form, Reg, Six, WordOp};
+use sram_layout::{SREG_CELL, VSP_CELL, Z_CELL};
+
+/// The program's stack pointer, its low byte and its high one.
+const SPL: u16 = VSP_CELL;
+
+const SPH: u16 = VSP_CELL + 1;
+
+/// Its Z, so too.
+const Z0: u16 = Z_CELL;
+
+const Z1: u16 = Z_CELL + 1;
 
 /// Z and SREG into their cells.
 const SAVE: [u16; 7] = [
-    0x93E0, 0x0105, // STS Z0, r30
-    0x93F0, 0x0106, // STS Z1, r31
+    0x93E0, Z0, // STS Z0, r30
+    0x93F0, Z1, // STS Z1, r31
     0xB7EF, // IN r30, SREG
-    0x93E0, 0x0102, // STS SREG cell, r30
+    0x93E0, SREG_CELL, // STS SREG cell, r30
 ];
 
 /// Z and SREG from their cells, and over the trap and the pc behind it.
 const BACK: [u16; 8] = [
-    0x91E0, 0x0102, // LDS r30, SREG cell
+    0x91E0, SREG_CELL, // LDS r30, SREG cell
     0xBFEF, // OUT SREG, r30
-    0x91E0, 0x0105, // LDS r30, Z0
-    0x91F0, 0x0106, // LDS r31, Z1
+    0x91E0, Z0, // LDS r30, Z0
+    0x91F0, Z1, // LDS r31, Z1
     0xC00A, // RJMP over ten words
 ];
 
 /// Z and SREG from their cells, and the kernel.
 const TRAP: [u16; 9] = [
-    0x91E0, 0x0102, // LDS r30, SREG cell
+    0x91E0, SREG_CELL, // LDS r30, SREG cell
     0xBFEF, // OUT SREG, r30
-    0x91E0, 0x0105, // LDS r30, Z0
-    0x91F0, 0x0106, // LDS r31, Z1
-    0x940E, 0xF004, // CALL MEM
+    0x91E0, Z0, // LDS r30, Z0
+    0x91F0, Z1, // LDS r31, Z1
+    CALL, MEM,
 ];
 
 /// PUSH r, where r is none of Z's: these words use Z themselves, as those of the three below.
@@ -40,14 +53,14 @@ pub(crate) fn push_words(r: Reg) -> ArrayVec<u16, 38>
 {
     let store = 0x8200 + 16 * u16::from(r.get());
     let pointer = [
-        0x91E0, 0x0103, // LDS r30, SPL
-        0x91F0, 0x0104, // LDS r31, SPH
+        0x91E0, SPL, // LDS r30, SPL
+        0x91F0, SPH, // LDS r31, SPH
     ];
     let access = [
         store, // ST Z, r
         0x9731, // SBIW r30, 1
-        0x93E0, 0x0103, // STS SPL, r30
-        0x93F0, 0x0104, // STS SPH, r31
+        0x93E0, SPL, // STS SPL, r30
+        0x93F0, SPH, // STS SPH, r31
     ];
     guarded(&pointer, &access)
 }
@@ -59,14 +72,14 @@ pub(crate) fn pop_words(d: Reg) -> ArrayVec<u16, 38>
 {
     let load = 0x8000 + 16 * u16::from(d.get());
     let pointer = [
-        0x91E0, 0x0103, // LDS r30, SPL
-        0x91F0, 0x0104, // LDS r31, SPH
+        0x91E0, SPL, // LDS r30, SPL
+        0x91F0, SPH, // LDS r31, SPH
         0x9631, // ADIW r30, 1
     ];
     let access = [
         load, // LD d, Z
-        0x93E0, 0x0103, // STS SPL, r30
-        0x93F0, 0x0104, // STS SPH, r31
+        0x93E0, SPL, // STS SPL, r30
+        0x93F0, SPH, // STS SPH, r31
     ];
     guarded(&pointer, &access)
 }

@@ -23,7 +23,7 @@ mod shapes;
 mod stubs;
 mod templates;
 
-pub use piece::Piece;
+pub use piece::{CALL, Piece};
 pub use shapes::{TemplateShape, shape};
 pub use stubs::{closing, resolved, stub, stub_size};
 pub use templates::{pieces, pieces_by, size_by, template};

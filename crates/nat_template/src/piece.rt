@@ -25,7 +25,7 @@ impl Default for Piece {
 }
 
 /// CALL, the first of its two words.
-pub(crate) const CALL: u16 = 0x940E;
+pub const CALL: u16 = 0x940E;
 
 /// The words of pieces whose links are not resolved.
 pub(crate) fn written(pieces: &[Piece]) -> ArrayVec<u16, 64>

@@ -9,28 +9,27 @@ use crate::entries::QUANTUM;
 use crate::piece::{CALL, Piece, written};
 use arrayvec::ArrayVec;
 use avr_isa::is_crossing;
-
-/// JMP, the first of its two words.
-const JMP: u16 = 0x940C;
+use flash_words::JMP;
+use sram_layout::{COUNT_CELL, R24_CELL, SREG_CELL};
 
 /// One is taken off COUNT, with r24 and SREG kept in their cells; a branch passes over what follows at 0.
 const COUNT_DOWN: [Piece; 16] = [
     Piece::Fixed(0x9380), // STS R24, r24
-    Piece::Fixed(0x0101),
+    Piece::Fixed(R24_CELL),
     Piece::Fixed(0xB78F), // IN r24, SREG
     Piece::Fixed(0x9380), // STS SREG cell, r24
-    Piece::Fixed(0x0102),
+    Piece::Fixed(SREG_CELL),
     Piece::Fixed(0x9180), // LDS r24, COUNT
-    Piece::Fixed(0x0100),
+    Piece::Fixed(COUNT_CELL),
     Piece::Fixed(0x958A), // DEC r24
     Piece::Fixed(0x9380), // STS COUNT, r24
-    Piece::Fixed(0x0100),
+    Piece::Fixed(COUNT_CELL),
     Piece::Fixed(0xF041), // BREQ over the next eight words
     Piece::Fixed(0x9180), // LDS r24, SREG cell
-    Piece::Fixed(0x0102),
+    Piece::Fixed(SREG_CELL),
     Piece::Fixed(0xBF8F), // OUT SREG, r24
     Piece::Fixed(0x9180), // LDS r24, R24
-    Piece::Fixed(0x0101),
+    Piece::Fixed(R24_CELL),
 ];
 
 /// A call of the kernel, with the word behind it that the service reads.
@@ -42,6 +41,8 @@ pub(crate) fn service(entry: u16, word: u16) -> [Piece; 3]
 
 /// The words of the stub for the step from the pc to `t`: a crossing stub exactly where that step goes
 /// back, stays, or leaves its page. It closes a page whose last instruction goes on to `t`.
+///
+/// This is the plain form: the program calls [`stub`].
 #[tactic(auto, using(crate::proofs::Sizes::stub_size))]
 pub fn closing(pc: u16, t: u16) -> ArrayVec<u16, 22>
     ensures words { result.items ≡ words_of (stub_of pc t) }
@@ -60,7 +61,7 @@ pub fn resolved(place: u16) -> [u16; 2]
     [JMP, place]
 }
 
-/// The same stub in pieces.
+/// The pieces of the stub for the step from `from` to `to`.
 #[tactic(auto, unfolding(crate::specs::Stubs::stub))]
 pub fn stub(from: u16, to: u16) -> ArrayVec<Piece, 20>
     ensures pieces { result.items ≡ stub_of from to }

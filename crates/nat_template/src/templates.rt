@@ -19,6 +19,8 @@ use avr_isa::{Base, Form, Instr, Reg, relative};
 ///
 /// The instruction's words are `w0` and, where it has two, `w1`. The next instruction has `next_size`
 /// words, 1 or 2, which a skip passes over.
+///
+/// This is the plain form: the program calls [`pieces_by`].
 pub fn template(pc: u16, w0: u16, w1: u16, next_size: u16) -> ArrayVec<u16, 64>
     ensures words { result.items ≡ words_of (template_of pc w0 (the_form w0 w1) next_size) }
     ensures size { (1 ≤ array_vec_len result) × (array_vec_len result ≤ 39) }
@@ -26,7 +28,8 @@ pub fn template(pc: u16, w0: u16, w1: u16, next_size: u16) -> ArrayVec<u16, 64>
     written(&pieces(pc, w0, w1, next_size))
 }
 
-/// The same template in pieces.
+/// The template's pieces, of which each link stands for the three words of a call of the bridge. The program
+/// calls [`pieces_by`], since it has the shape at hand.
 #[tactic(auto, using(crate::proofs::Sizes::template_size))]
 pub fn pieces(pc: u16, w0: u16, w1: u16, next_size: u16) -> ArrayVec<Piece, 40>
     ensures pieces { result.items ≡ template_of pc w0 (the_form w0 w1) next_size }
@@ -80,7 +83,7 @@ pub fn size_by(shape: TemplateShape, pc: u16, instr: Option<&Instr>, next_size: 
     }
 }
 
-/// The same of what reaches data memory.
+/// How many words the template of what reaches data memory has.
 #[tactic(auto, using(crate::proofs::Sizes::push_size, crate::proofs::Sizes::pop_size, crate::proofs::Sizes::load_size, crate::proofs::Sizes::store_size), unfolding(crate::specs::Templates::mem_pieces))]
 fn mem_size(instr: Option<&Instr>) -> u16
     ensures size { (pc : ℕ) → result ≡ length (words_of (mem_pieces pc (option_map (λ borrowed. borrowed.now) instr.entry))) }
@@ -206,7 +209,7 @@ fn passed_over(word: u16, from: u16, to: u16) -> ArrayVec<Piece, 40>
     behind(pieces, from, to)
 }
 
-/// The same branch, over one word.
+/// The word of the conditional branch on the same bit that passes over one word.
 #[tactic(auto, unfolding(avr_isa::specs::Encoding::first_word))]
 fn short_branch(instr: Option<&Instr>) -> u16
     ensures word { result ≡ short_branch_of (option_map (λ borrowed. borrowed.now) instr.entry) }

@@ -1,5 +1,5 @@
--- What a cursor knows of the pool: where no entry begins, which entry comes next, and which were reached
--- before (docs/LOADER.md).
+-- Serves private functions and the contracts of `Cursor`: what one knows of the pool: where no entry begins, which entry comes
+-- next, and which were reached before (docs/LOADER.md).
 use Rattle.std.specs.Prelude.{◌≡◌, ◌≢◌, ℕ, ◌%◌, ◌<◌, ◌≤◌, List, slice_index_or}
 use Rattle.flash_words.specs.declared.layout.Layout.{Layout}
 use Rattle.page_index.specs.Entries.{IsEntry, IsListed}

@@ -94,7 +94,8 @@ impl Cursor {
         self.find(flash, layout, place)
     }
 
-    /// The same at a place that isn't kept. An entry that is found is kept from then on.
+    /// The address whose code begins at a place that isn't kept, by a walk of its page. An entry that is found is kept from then
+    /// on.
     #[inline(never)]
     fn find(&mut self, flash: &Flash, layout: &Layout, place: u16) -> Option<u16>
         requires right { IsRight layout.now }

@@ -6,8 +6,8 @@ ghost use Rattle.page_index.specs.Maps.{IsPool, IsMap, entry_count, place_of};
 ghost use Rattle.page_index.specs.Entries.{IsEntry, IsListed, IsMapped};
 ghost use Rattle.page_cursor.specs.Cursors.{IsStretch, IsStretchAnywhere};
 
-use flash_model::{Flash, Layout, PAGE_WORDS};
-use page_index::{FIRST_ENTRY, address_at, entries, is_free, is_in_pool, place_at};
+use flash_model::{FIRST_ENTRY, Flash, Layout, PAGE_WORDS};
+use page_index::{address_at, entries, is_free, is_in_pool, place_at};
 
 /// Where the last search was, and how far behind it no other entry begins. A stretch is right for one state
 /// of flash.
@@ -97,7 +97,7 @@ impl Stretch {
     }
 }
 
-/// The stretch at a place of the page, of whose entries so many begin at most there.
+/// The stretch at a place of the page, of whose entries so many begin at most there. `layout` serves the contract alone.
 fn before(flash: &Flash, layout: &Layout, page: u16, place: u16, behind: u16) -> Stretch
     requires right { IsRight layout.now }
     requires mapped { IsMapped layout.now flash.now.words }

@@ -31,44 +31,35 @@ stands_split leads words a [] back all = (tt, let P : ℕ → Type 0 = λ b. Sta
 stands_split leads words a (piece ∷ front) back all =
     let rest = stands_split leads words (a + width piece) front back all.1 in
     let P : ℕ → Type 0 = λ b. Stands leads words b back in
-    let here : a + width piece + size front ≡ a + size (piece ∷ front) = omega (arith, size-cons piece front) in
-    ((all.0, rest.0), subst P here rest.1)
+    ((all.0, rest.0), subst P (omega (arith, size-cons piece front)) rest.1)
 
 pub stands_join : (leads : ℕ → ℕ → Type 0) (words : List ℕ) (a : ℕ) (front back : List Piece) → Stands leads words a front → Stands leads words (a + size front) back → Stands leads words a (front ++ back)
 stands_join leads words a [] back first second = let P : ℕ → Type 0 = λ b. Stands leads words b back in subst P (omega arith) second
 stands_join leads words a (piece ∷ front) back first second =
     let P : ℕ → Type 0 = λ b. Stands leads words b back in
-    let here : a + size (piece ∷ front) ≡ a + width piece + size front = omega (arith, size-cons piece front) in
-    (first.0, stands_join leads words (a + width piece) front back first.1 (subst P here second))
+    (first.0, stands_join leads words (a + width piece) front back first.1 (subst P (omega (arith, size-cons piece front)) second))
 
 -- the words of fixed pieces
 pub stands_fixed : (leads : ℕ → ℕ → Type 0) (words fixed : List ℕ) (a k : ℕ) → Stands leads words a (map (λ word. Fixed word) fixed) → k < length fixed → word_at words (a + k) ≡ get_or fixed k 0
 stands_fixed leads words [] a k all below = absurd (omega arith)
 stands_fixed leads words (word ∷ fixed) a zero all below = ap (word_at words) (omega arith) ∙ all.0
 stands_fixed leads words (word ∷ fixed) a (suc k) all below =
-    let here : a + suc k ≡ a + 1 + k = omega arith in
-    ap (word_at words) here ∙ stands_fixed leads words fixed (a + 1) k all.1 (omega arith)
+    ap (word_at words) (omega arith) ∙ stands_fixed leads words fixed (a + 1) k all.1 (omega arith)
 
 -- words that are those of the pieces, with no link resolved
 pub stands_unresolved : (leads : ℕ → ℕ → Type 0) (words : List ℕ) (a : ℕ) (pieces : List Piece) → ((k : ℕ) → k < size pieces → word_at words (a + k) ≡ get_or (words_of pieces) k 0) → Stands leads words a pieces
 stands_unresolved leads words a [] agree = tt
 stands_unresolved leads words a (Fixed word ∷ pieces) agree =
-    let first : word_at words (a + 0) ≡ word = agree 0 (omega arith) in
     let here : a + 0 ≡ a = omega arith in (
-      ap (word_at words) (sym here) ∙ first,
+      ap (word_at words) (sym here) ∙ agree 0 (omega arith),
       stands_unresolved leads words (a + 1) pieces (λ k below.
-          let there : a + 1 + k ≡ a + suc k = omega arith in
-          ap (word_at words) there ∙ agree (suc k) (omega arith)),
+          ap (word_at words) (omega arith) ∙ agree (suc k) (omega arith)),
     )
 stands_unresolved leads words a (Link t ∷ pieces) agree =
-    let here : a ≡ a + 0 = omega arith in
-    let call = agree 0 (omega arith) in
-    let entry = agree 1 (omega arith) in
     let target = agree 2 (omega arith) in (
-      (inl (ap (word_at words) here ∙ call, entry), target),
+      (inl (ap (word_at words) (omega arith) ∙ agree 0 (omega arith), agree 1 (omega arith)), target),
       stands_unresolved leads words (a + 3) pieces (λ k below.
-          let there : a + 3 + k ≡ a + suc (suc (suc k)) = omega arith in
-          ap (word_at words) there ∙ agree (suc (suc (suc k))) (omega arith)),
+          ap (word_at words) (omega arith) ∙ agree (suc (suc (suc k))) (omega arith)),
     )
 
 -- the same words, where links may lead to no less
@@ -84,8 +75,7 @@ stands_at_same leads leads' words words' a (Fixed word) more agree stands =
     ap (word_at words') here ∙ agree 0 (omega arith) ∙ ap (word_at words) (sym here) ∙ stands
 stands_at_same leads leads' words words' a (Link t) more agree stands =
     let here : a ≡ a + 0 = omega arith in
-    let first = ap (word_at words') here ∙ agree 0 (omega arith) ∙ ap (word_at words) (sym here) in
-    (link_same leads leads' _ _ _ _ t more first (agree 1 (omega arith)) stands.0, agree 2 (omega arith) ∙ stands.1)
+    (link_same leads leads' _ _ _ _ t more (ap (word_at words') here ∙ agree 0 (omega arith) ∙ ap (word_at words) (sym here)) (agree 1 (omega arith)) stands.0, agree 2 (omega arith) ∙ stands.1)
 
 pub stands_same : (leads leads' : ℕ → ℕ → Type 0) (words words' : List ℕ) (a : ℕ) (pieces : List Piece) → ((t v : ℕ) → leads t v → leads' t v) → ((k : ℕ) → k < size pieces → word_at words' (a + k) ≡ word_at words (a + k)) → Stands leads words a pieces → Stands leads' words' a pieces
 stands_same leads leads' words words' a [] more agree stands = tt

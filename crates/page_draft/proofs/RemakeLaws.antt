@@ -59,8 +59,7 @@ refused image t count last taken pc draft is near walked (CanNotTake.Outside out
 refused image t count last taken pc draft is near walked (CanNotTake.Leaves leaves) page =
     leaves (ap (λ a. a / page_words) walked.reached ∙ page.run.paged taken near)
 refused image t count last taken pc draft is near walked (CanNotTake.Full full) page =
-    let here : size (template_at image pc) ≡ size (template_at image (address image t taken)) = ap (λ a. size (template_at image a)) walked.reached in
-    omega (arith, page.fits, page_size-is image t last, templates-rise image t taken (suc last) (omega arith), walked.sized, here)
+    omega (arith, page.fits, page_size-is image t last, templates-rise image t taken (suc last) (omega arith), walked.sized, ap (λ a. size (template_at image a)) walked.reached)
 
 pub ended : (image : List ℕ) (t count last taken pc : ℕ) (old new : Draft) (here : Instruction) → taken < last → IsWalked image t count taken pc old → HasTaken image t count pc old new here → here.ends ≡ true → ¬ IsPage image t last
 ended image t count last taken pc old new here before walked has ends page =

@@ -1,5 +1,5 @@
 -- A run's addresses and templates: both go up, and a page with more instructions has more words.
-use Rattle.std.proofs.Common.{◌≡◌, ℕ, zero, suc, ◌+◌, ◌/◌, ◌%◌, ◌<◌, ◌≤◌, Bool, true, false, cond, List, length, map, arith, sym, ap, ◌∙◌, inl, inr}
+use Rattle.std.proofs.Common.{◌≡◌, ℕ, zero, suc, ◌+◌, ◌/◌, ◌<◌, ◌≤◌, Bool, true, false, cond, List, length, map, arith, sym, ap, ◌∙◌, inl, inr}
 use Rattle.std.proofs.lemmas.Bool.{cases_lt}
 use Rattle.std.proofs.lemmas.Bool.Decides.{nat_tests}
 use Rattle.std.proofs.lemmas.List.FromFn.{length-map-range_with_len}
@@ -14,12 +14,12 @@ use Rattle.page_draft.specs.CodePages.{map_words, map_word, code, page_pieces, p
 use Rattle.page_draft.proofs.PieceLaws.{size-append, size-fixed}
 use Rattle.nat_template.proofs.Sizes.{template_size}
 use Rattle.page_draft.proofs.Widths.{closed_range, plain_range}
+use Rattle.flash_words.specs.Layouts.{most_image_words}
 
 -- inside an image no address wraps, so an instruction's second word is the one at the next address
-pub same_second : (image : List ℕ) (a : ℕ) → a < length image → length image ≤ 24576 → instruction_at image a ≡ the_form (word image a) (word image (a + 1))
+pub same_second : (image : List ℕ) (a : ℕ) → a < length image → length image ≤ most_image_words → instruction_at image a ≡ the_form (word image a) (word image (a + 1))
 same_second image a inside short =
-    let next : (a + 1) % 65536 ≡ a + 1 = omega arith in
-    ap (λ b. the_form (word image a) (word image b)) next
+    ap (λ b. the_form (word image a) (word image b)) (omega arith)
 
 one_or_two : (long : Bool) → (1 ≤ cond long 2 1) × (cond long 2 1 ≤ 2)
 one_or_two true = (omega arith, omega arith)
@@ -75,8 +75,7 @@ pub page_size-is : (image : List ℕ) (t last : ℕ) → page_size image t last 
 unfolding page_pieces
 page_size-is image t last =
     let words = map_words image t (suc last) in
-    let whole = size-append (map (λ word. Fixed word) words) (code image t last) in
-    omega (arith, whole, size-fixed words, length-map_words image t (suc last), size-code image t last)
+    omega (arith, size-append (map (λ word. Fixed word) words) (code image t last), size-fixed words, length-map_words image t (suc last), size-code image t last)
 
 -- a step onward in one original page is no crossing
 pub uncounted : (from to : ℕ) → from < to → to / 128 ≡ from / 128 → is_crossing from to ≡ false

@@ -26,8 +26,7 @@ starts-more image t n =
 pub entries_more : (image : List ℕ) (t last : ℕ) (old new : Draft) (here : Instruction) → here.pc ≡ address image t last → old.entries.items ≡ starts image t last → old.size ≡ size (templates image t last) → Adds old new here
     → new.entries.items ≡ starts image t (suc last)
 entries_more image t last old new here reached before sized adds =
-    let start : 256 * (here.pc % 128) + old.size ≡ 256 * (address image t last % 128) + size (templates image t last) = ap₂ (λ pc n. 256 * (pc % 128) + n) reached sized in
-    adds.entries ∙ ap₂ (λ front x. front ++ x ∷ []) before start ∙ sym (starts-more image t last)
+    adds.entries ∙ ap₂ (λ front x. front ++ x ∷ []) before (ap₂ (λ pc n. 256 * (pc % 128) + n) reached sized) ∙ sym (starts-more image t last)
 
 pub code_more : (image : List ℕ) (t last : ℕ) (old new : Draft) (here : Instruction) → here.pc ≡ address image t last → old.code.items ≡ templates image t last → IsRead image here → Adds old new here
     → new.code.items ≡ templates image t (suc last)

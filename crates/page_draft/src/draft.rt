@@ -2,6 +2,7 @@
 
 ghost use Rattle.std.specs.Prelude.{◌≡◌, ◌+◌, ◌-◌, ◌<◌, ◌≤◌, ◌++◌, [], All, length, map};
 ghost use Rattle.arrayvec.specs.ArrayVec.{array_vec_len};
+ghost use Rattle.flash_words.specs.Layouts.{most_entries};
 ghost use Rattle.nat_template.specs.declared.piece.Piece.TheVariants.{Fixed};
 ghost use Rattle.page_draft.specs.Standing.{size as size_of};
 ghost use Rattle.page_draft.specs.Drafts.{Adds, code_of, closing_of, draft_pieces};
@@ -11,12 +12,15 @@ use arrayvec::ArrayVec;
 use flash_words::PAGE_WORDS;
 use nat_template::{Piece, TemplateShape};
 
+/// The most entries of a page.
+const MOST_ENTRIES: usize = flash_words::MOST_ENTRIES as usize;
+
 /// The entries and the code of a page.
 #[derive(Drop)]
 pub struct Draft {
     /// For each instruction 256 times its offset in the original page, and the words of code in front of
     /// its template.
-    pub entries: ArrayVec<u16, 126>,
+    pub entries: ArrayVec<u16, MOST_ENTRIES>,
     /// The templates, and the closing.
     pub code: ArrayVec<Piece, 128>,
     /// How many words these have.
@@ -39,7 +43,7 @@ impl Draft {
 
     /// Adds the instruction.
     pub fn add(&mut self, here: &Instruction)
-        requires entries { array_vec_len self.old.entries < 126 }
+        requires entries { array_vec_len self.old.entries < most_entries }
         requires sized { self.old.size ≡ size_of self.old.code.items }
         requires read { here.now.code_size ≡ size_of (code_of here.now) }
         requires room { self.old.size + here.now.code_size ≤ 128 }

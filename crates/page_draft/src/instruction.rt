@@ -2,6 +2,7 @@
 
 ghost use Rattle.std.specs.Prelude.{◌≡◌, ◌<◌, ◌≤◌, [], length, if◌then◌else◌};
 ghost use Rattle.std.specs.Option.{option_map};
+ghost use Rattle.flash_words.specs.Layouts.{most_image_words};
 ghost use Rattle.nat_template.specs.Stubs.{stub as stub_of};
 ghost use Rattle.page_draft.specs.Runs.{is_closed as is_closed_test, is_jump_through_z as is_jump_through_z_test, never_returns as never_returns_test};
 ghost use Rattle.page_draft.specs.Standing.{size};
@@ -65,7 +66,7 @@ impl Instruction {
 /// Reads the instruction of the image at the pc.
 #[tactic(auto, using(crate::proofs::RunLaws::same_second))]
 pub fn read<I: ImageWords>(image: &I, pc: u16) -> Instruction
-    requires short { length (I.words image.now) ≤ 24576 }
+    requires short { length (I.words image.now) ≤ most_image_words }
     requires inside { pc < length (I.words image.now) }
     ensures pc { result.pc ≡ pc }
     ensures read { IsRead (I.words image.now) result }

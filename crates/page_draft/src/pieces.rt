@@ -6,10 +6,11 @@ ghost use Rattle.page_draft.specs.Standing.{size as size_of, width as width_of};
 ghost use Rattle.page_draft.specs.CodePages.{filled};
 
 use arrayvec::ArrayVec;
-use nat_template::Piece;
+use nat_template::entries::BRIDGE;
+use nat_template::{CALL, Piece};
 
 /// CALL of the kernel's bridge.
-pub const CALL_BRIDGE: [u16; 2] = [0x940E, 0xF000];
+pub const CALL_BRIDGE: [u16; 2] = [CALL, BRIDGE];
 
 /// How many words the pieces have, each link unresolved or resolved: one for a fixed word, three for a link.
 pub fn size(pieces: &[Piece]) -> u16

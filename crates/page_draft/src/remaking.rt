@@ -2,6 +2,7 @@
 
 ghost use Rattle.std.specs.Prelude.{◌≡◌, ◌+◌, ◌-◌, ◌<◌, ◌≤◌, length, MatchOption};
 ghost use Rattle.arrayvec.specs.ArrayVec.{array_vec_len};
+ghost use Rattle.flash_words.specs.Layouts.{most_entries, most_image_words};
 ghost use Rattle.page_draft.specs.Standing.{size as size_of};
 ghost use Rattle.page_draft.specs.CodePages.{page_pieces, IsPage};
 ghost use Rattle.page_draft.specs.Remaking.{CanNotTake, HasTaken};
@@ -17,9 +18,9 @@ use nat_template::Piece;
 /// The page tells both: its first word and its first map word the address, its second word the number.
 pub fn remade<I: ImageWords>(image: &I, t: u16, count: u16) -> Option<ArrayVec<Piece, 128>>
     requires counted { I.counted image.now }
-    requires short { length (I.words image.now) ≤ 24576 }
+    requires short { length (I.words image.now) ≤ most_image_words }
     requires some { 1 ≤ count }
-    requires few { count < 126 }
+    requires few { count < most_entries }
     ensures page { MatchOption result (¬ IsPage (I.words image.now) t (count - 1))
         (λ pieces. IsPage (I.words image.now) t (count - 1) × (pieces.items ≡ page_pieces (I.words image.now) t (count - 1))) }
 {
@@ -49,8 +50,8 @@ fn take<I: ImageWords>(
     pc: u16,
 ) -> Option<Instruction>
     requires counted { I.counted image.now }
-    requires short { length (I.words image.now) ≤ 24576 }
-    requires few { count < 126 }
+    requires short { length (I.words image.now) ≤ most_image_words }
+    requires few { count < most_entries }
     requires sized { draft.old.size ≡ size_of draft.old.code.items }
     requires room { 2 + count + draft.old.size ≤ 128 }
     requires more { array_vec_len draft.old.entries < count }

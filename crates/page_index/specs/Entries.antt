@@ -2,12 +2,13 @@
 use Rattle.std.specs.Prelude.{◌≡◌, ℕ, ◌+◌, ◌*◌, ◌<◌, ◌⊎◌, Bool, true, false, List, length, slice_index_or}
 use Rattle.flash_words.specs.Pages.{page_words}
 use Rattle.flash_words.specs.declared.layout.Layout.{Layout}
+use Rattle.flash_words.specs.Layouts.{most_image_pages, most_entries}
 use Rattle.page_index.specs.Maps.{IsPool, IsFree, IsMap, original_page, entry_count, address_of, place_of}
 
 -- entry i of the page is of the address t, at the place v of flash
 pub record Lists (words : List ℕ) (page i t v : ℕ) : Type 0 where
-  pub used : original_page words page < 192
-  pub near : i < 126
+  pub used : original_page words page < most_image_pages
+  pub near : i < most_entries
   pub listed : i < entry_count words page
   pub address : t ≡ address_of words page i
   pub place : v ≡ place_of words page i

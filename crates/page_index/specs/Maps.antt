@@ -4,6 +4,7 @@
 use Rattle.std.specs.Prelude.{◌≡◌, ℕ, ◌+◌, ◌*◌, ◌/◌, ◌%◌, ◌<◌, ◌≤◌, List}
 use Rattle.flash_words.specs.Pages.{page_words, word_at, page_of, blank}
 use Rattle.flash_words.specs.declared.layout.Layout.{Layout}
+use Rattle.flash_words.specs.Layouts.{most_image_pages}
 
 -- the page is one of the code pool
 pub record IsPool (layout : Layout) (page : ℕ) : Type 0 where
@@ -33,7 +34,7 @@ IsFree words page = page_of words page ≡ blank
 
 -- A page's words 0 to n + 1 are a map: offsets and places ascend, and the places are behind the map.
 pub record IsMap (words : List ℕ) (page : ℕ) : Type 0 where
-  pub original : original_page words page < 192
+  pub original : original_page words page < most_image_pages
   pub some : 1 ≤ entry_count words page
   pub offset : (i : ℕ) → i < entry_count words page → page_word words page (2 + i) / 256 < page_words
   pub behind : (i : ℕ) → i < entry_count words page → entry_count words page + 2 ≤ page_word words page (2 + i) % 256

@@ -1,4 +1,5 @@
--- What a page for the addresses of one original page wants to know of the pool (docs/LOADER.md, "An arrival").
+-- Serves private functions and the contracts of `Places::find` and `find_with_hints`: what a page for the addresses of one original page
+-- wants to know of the pool (docs/LOADER.md, "An arrival").
 use Rattle.std.specs.Prelude.{ℕ, ◌<◌, List, IfSome, IfNone}
 use Rattle.flash_words.specs.declared.layout.Layout.{Layout}
 use Rattle.page_index.specs.Maps.{IsPool, IsFree}

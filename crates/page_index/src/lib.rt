@@ -23,7 +23,7 @@ mod places;
 mod pool;
 mod survey;
 
-pub use page::{FIRST_ENTRY, address_at, entries, is_free, place_at, place_in};
+pub use page::{address_at, entries, is_free, place_at, place_in};
 pub use places::{Listed, Places};
 pub use pool::{entry, free_page, is_in_pool, known_offsets, origin};
 pub use survey::Survey;

@@ -1,13 +1,11 @@
 //! One page of the pool and its map.
 
 ghost use Rattle.std.specs.Prelude.{◌≡◌, ℕ, ◌+◌, ◌*◌, ◌/◌, ◌%◌, ◌<◌, ◌↔◌, ◌⊎◌, true, false, length, slice_index_or, IsTrue, IfSome};
+ghost use Rattle.flash_words.specs.Pages.{page_count};
 ghost use Rattle.page_index.specs.Maps.{page_word, entry_count, address_of, place_of, IsFree, IsMap};
 ghost use Rattle.page_index.specs.Entries.{Lists};
 
-use flash_model::{BLANK, Flash, PAGE_WORDS};
-
-/// Where in a map its entries begin.
-pub const FIRST_ENTRY: u16 = 2;
+use flash_model::{BLANK, FIRST_ENTRY, Flash, PAGE_WORDS};
 
 /// An entry of a map.
 #[derive(Clone, Copy)]
@@ -71,7 +69,7 @@ pub(crate) fn place_if_listed(flash: &Flash, page: u16, i: u16, t: u16) -> Optio
 pub(crate) fn mark_offsets(flash: &Flash, page: u16, original: u16, known: &mut [bool; 128])
     requires below_kernel { page < 480 }
     requires mapped { IsFree flash.now.words page ⊎ IsMap flash.now.words page }
-    requires original { original < 512 }
+    requires original { original < page_count }
     ensures size { length known.new ≡ length known.old }
     ensures kept { (k : ℕ) → slice_index_or known.old k false ≡ true → slice_index_or known.new k false ≡ true }
     ensures marked { (k i v : ℕ) → k < 128 → Lists flash.now.words page i (128 * original + k) v → slice_index_or known.new k false ≡ true }

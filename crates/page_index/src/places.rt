@@ -6,13 +6,13 @@ ghost use Rattle.flash_words.specs.Pages.{page_count};
 ghost use Rattle.page_index.specs.Entries.{IsEntry, IsListed, IsMapped};
 ghost use Rattle.page_index.specs.Surveys.{IsSurvey};
 
-use crate::page::{FIRST_ENTRY, place_if_listed};
+use crate::page::place_if_listed;
 use crate::pool::{entry, is_in_pool};
 use crate::survey::{Survey, survey_of};
-use flash_model::{Flash, Layout, PAGE_WORDS};
+use flash_model::{FIRST_ENTRY, Flash, Layout, MOST_ENTRIES, MOST_IMAGE_WORDS, PAGE_WORDS};
 
 /// How many addresses an image has at most.
-const ADDRESSES: usize = 24576;
+const ADDRESSES: usize = MOST_IMAGE_WORDS as usize;
 
 /// An entry of the pool, as a hint leads to it.
 #[derive(Clone, Copy)]
@@ -28,7 +28,7 @@ pub struct Listed {
 #[derive(Clone, Copy)]
 pub struct Places {
     /// By the address, the word address in flash of the map's word that listed it; 0 where none was seen.
-    listed: [u16; 24576],
+    listed: [u16; ADDRESSES],
 }
 
 impl Places {
@@ -80,7 +80,7 @@ impl Places {
         }
     }
 
-    /// The same by a search of all pages. The entries of a page that has one of `t` get their hints.
+    /// Finds the place by a search of all pages, without the hints. The entries of a page that has one of `t` get their hints.
     #[inline(never)]
     fn search(&mut self, flash: &Flash, layout: &Layout, t: u16) -> Result<u16, Survey>
         requires right { IsRight layout.now }
@@ -108,7 +108,7 @@ impl Places {
     {
         let first = PAGE_WORDS * page;
         let original = usize::from(PAGE_WORDS) * usize::from(flash.word(first));
-        for i in 0..flash.word(first + 1).min(PAGE_WORDS - FIRST_ENTRY) {
+        for i in 0..flash.word(first + 1).min(MOST_ENTRIES) {
             let listed = first + FIRST_ENTRY + i;
             let address = original + usize::from(flash.word(listed) / 256);
             if address < ADDRESSES {

@@ -1,6 +1,7 @@
 //! The search in all pages of the pool.
 
 ghost use Rattle.std.specs.Prelude.{◌≡◌, ℕ, ◌<◌, ◌↔◌, IsTrue, IfSome, IfNone};
+ghost use Rattle.flash_words.specs.Pages.{page_count};
 ghost use Rattle.flash_words.specs.Layouts.{IsRight};
 ghost use Rattle.page_index.specs.Maps.{IsPool, IsFree};
 ghost use Rattle.page_index.specs.Entries.{IsEntry, IsMapped, AreKnown};
@@ -29,7 +30,7 @@ pub fn entry(flash: &Flash, layout: &Layout, t: u16) -> Option<u16>
 pub fn known_offsets(flash: &Flash, layout: &Layout, original: u16) -> [bool; 128]
     requires right { IsRight layout.now }
     requires mapped { IsMapped layout.now flash.now.words }
-    requires original { original < 512 }
+    requires original { original < page_count }
     ensures known { AreKnown layout.now flash.now.words original result }
 {
     let mut known = [false; 128];
@@ -44,6 +45,8 @@ pub fn known_offsets(flash: &Flash, layout: &Layout, original: u16) -> [bool; 12
 
 /// The original address whose code begins at this place, a word address of flash; None where that is
 /// no entry's place.
+///
+/// This is the plain form: the program calls `origin` of `page_cursor`, which knows where the last search ended.
 pub fn origin(flash: &Flash, layout: &Layout, place: u16) -> Option<u16>
     requires right { IsRight layout.now }
     requires mapped { IsMapped layout.now flash.now.words }

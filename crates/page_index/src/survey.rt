@@ -1,6 +1,7 @@
 //! What a page for an original page's addresses wants to know of the pool.
 
 ghost use Rattle.std.specs.Prelude.{◌<◌};
+ghost use Rattle.flash_words.specs.Pages.{page_count};
 ghost use Rattle.flash_words.specs.Layouts.{IsRight};
 ghost use Rattle.page_index.specs.Entries.{IsMapped};
 ghost use Rattle.page_index.specs.Surveys.{IsSurvey};
@@ -21,7 +22,7 @@ pub struct Survey {
 pub(crate) fn survey_of(flash: &Flash, layout: &Layout, original: u16) -> Survey
     requires right { IsRight layout.now }
     requires mapped { IsMapped layout.now flash.now.words }
-    requires original { original < 512 }
+    requires original { original < page_count }
     ensures survey { IsSurvey layout.now flash.now.words original result }
 {
     Survey {

@@ -13,7 +13,7 @@ use Rattle.heap_frames.specs.Frames.{pages}
 use Rattle.heap_frames.proofs.SamePagingLaws.{vmem_same, pages_same, paged_same}
 use Rattle.mote_devices.specs.State.{State as Devices}
 use Rattle.mote_core.specs.declared.mote.Mote.{Mote}
-use Rattle.mem_guard.specs.FlatMachine.{FlatState}
+use Rattle.flat_machine.specs.FlatMachine.{FlatState}
 use Rattle.kernel_entry.specs.declared.kernel.Kernel.{Kernel}
 use Rattle.kernel_entry.specs.Seen.{state_at}
 use Rattle.parked_tasks.specs.declared.parked.Parked.{Parked}

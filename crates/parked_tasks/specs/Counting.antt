@@ -1,4 +1,4 @@
--- What is counted of all tasks.
+-- Serves the contract of `arrivals_of_others`: what is counted of all tasks.
 use Rattle.std.specs.Prelude.{ℕ, suc, zero, ◌+◌, List, [], ◌∷◌, Option, Some, None}
 use Rattle.parked_tasks.specs.declared.task.Task.{Task}
 

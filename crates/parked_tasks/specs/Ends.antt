@@ -1,7 +1,7 @@
 -- How a task ended, as its program did (docs/TASKS.md, "The tasks on a mote").
 use Rattle.std.specs.Prelude.{Option, Some, None}
-use Rattle.mem_guard.specs.FlatMachine.{End as FlatEnd}
-use Rattle.mem_guard.specs.FlatMachine as flat_ends
+use Rattle.flat_machine.specs.FlatMachine.{End as FlatEnd}
+use Rattle.flat_machine.specs.FlatMachine as flat_ends
 use Rattle.kernel_entry.specs.Seen.{end_of}
 use Rattle.parked_tasks.specs.declared.task.TaskEnd.{TaskEnd}
 use Rattle.parked_tasks.specs.declared.task.TaskEnd.TheVariants.{Spent, Stopped, Wild, Read}

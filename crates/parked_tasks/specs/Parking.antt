@@ -1,4 +1,4 @@
--- What a task has of the mote (docs/TASKS.md, "What is exchanged"): it is parked while another task runs.
+-- What a task has of the mote (docs/TASKS.md, "What is shared, and what is exchanged"): it is parked while another task runs.
 use Rattle.std.specs.Prelude.{◌≡◌, ℕ, ◌-◌, length}
 use Rattle.sram_layout.specs.Bytes.{part_at, with_part}
 use Rattle.sram_layout.specs.Regions.{Region, template_cells, frame_cells, swap_map, stack_window, through, between, KeepsRegion}

@@ -103,8 +103,5 @@ fn tasks_at_boot(
 fn add(task: Task, tasks: &mut Vec<Task>) -> Result<(), NoMemory>
     ensures added { IfOk result (λ done. tasks.new.items ≡ tasks.old.items ++ task ∷ []) }
 {
-    match tasks.push(task) {
-        Ok(()) => Ok(()),
-        Err(_) => Err(NoMemory),
-    }
+    tasks.push(task).map_err(|_| NoMemory)
 }

@@ -11,16 +11,20 @@ use input_script::Script;
 use mote_core::Mote;
 use mote_devices::Devices;
 use no_memory::NoMemory;
-use sram_layout::{KERNEL_STACK_TOP, Sram};
+use sram_layout::{KERNEL_STACK_TOP, PLACE_CELLS, SRAM_BEHIND, SRAM_FIRST, SWAP_MAP, Sram};
 use std::alloc::Global;
 use std::mem::swap;
 use swap_store::Swap;
 
-/// The data address of the first byte of a task's own cells.
-const LOW: u16 = 0x0100;
+/// The data address of a task's own cells and its frame table, and how many bytes these are.
+const LOW: u16 = SRAM_FIRST;
 
-/// The data address of the first byte of its swap map, frames and stack window.
-const HIGH: u16 = 0x0400;
+const LOW_BYTES: usize = (PLACE_CELLS - SRAM_FIRST) as usize;
+
+/// The data address of its swap map, frames and stack window, and how many bytes these are.
+const HIGH: u16 = SWAP_MAP;
+
+const HIGH_BYTES: usize = (SRAM_BEHIND - SWAP_MAP) as usize;
 
 /// A task's own parts of the mote, while another task has the mote.
 #[derive(Drop)]
@@ -28,9 +32,9 @@ pub struct Parked {
     /// The core's registers. The stack pointer is the physical one.
     pub cpu: Cpu,
     /// SRAM from 0x0100 to 0x0141: the kernel's cells and its frame table.
-    pub low: [u8; 66],
+    pub low: [u8; LOW_BYTES],
     /// SRAM from 0x0400 to 0x10FF: the swap map, the frames and the stack window.
-    pub high: [u8; 3328],
+    pub high: [u8; HIGH_BYTES],
     pub swap: Swap,
     pub devices: Devices,
 }
@@ -49,9 +53,9 @@ impl Parked {
     {
         let mut sram = Sram::new();
         sram.set_count(quantum);
-        let mut low = [0; 66];
+        let mut low = [0; LOW_BYTES];
         sram.part(LOW, &mut low);
-        let mut high = [0; 3328];
+        let mut high = [0; HIGH_BYTES];
         sram.part(HIGH, &mut high);
         Ok(Parked {
             cpu: Cpu {
@@ -76,9 +80,9 @@ impl Parked {
         // What was parked of a mote is what comes back.
         ensures back { (was : Mote) → length was.sram ≡ byte_count → self.old ≡ parked_of was → IsBack was mote.new }
     {
-        let mut low = [0; 66];
+        let mut low = [0; LOW_BYTES];
         mote.sram.part(LOW, &mut low);
-        let mut high = [0; 3328];
+        let mut high = [0; HIGH_BYTES];
         mote.sram.part(HIGH, &mut high);
         mote.sram.set_part(LOW, &self.low);
         mote.sram.set_part(HIGH, &self.high);

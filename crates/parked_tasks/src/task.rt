@@ -5,8 +5,8 @@ ghost use Rattle.task_turns.specs.Quarters.{quarter_part};
 ghost use Rattle.parked_tasks.specs.AtBoot.{at_start};
 
 use crate::parked::Parked;
+use flat_machine::Part;
 use kernel_entry::Stop;
-use mem_guard::Part;
 use task_input::QUARTER;
 
 /// How a task ended.

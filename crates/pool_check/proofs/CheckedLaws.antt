@@ -7,7 +7,8 @@ use Rattle.std.proofs.lemmas.List.{get_or-take, get_or_past, get_or_default}
 use Rattle.avr_isa.specs.Image.{word}
 use Rattle.flash_words.proofs.PageLaws.{page_word}
 use Rattle.flash_words.specs.Pages.{word_count, page_count, page_words, word_at, page_of}
-use Rattle.flash_words.specs.Layouts.{IsRight, image_of}
+use Rattle.flash_words.specs.Memory.{kernel_first, return_word}
+use Rattle.flash_words.specs.Layouts.{IsRight, image_of, most_image_words}
 use Rattle.flash_words.specs.declared.layout.Layout.{Layout}
 use Rattle.page_index.specs.Maps.{IsPool, IsFree, IsMap}
 use Rattle.page_index.specs.Entries.{Lists, IsEntry}
@@ -29,7 +30,7 @@ use Rattle.pool_check.specs.Links.{IsOneEntry, HasLinks, HaveForms, HaveFormsAro
 use Rattle.pool_check.proofs.MovedLaws.{holds_alone, holds_in_flash, stands_leading}
 
 -- a page of the pool that has its form
-pub mapped_page : (layout : Layout) (image words : List ℕ) (page : ℕ) → length image ≤ 24576 → IsPool layout page → HasForm layout image page (page_of words page) → IsFree words page ⊎ IsMap words page
+pub mapped_page : (layout : Layout) (image words : List ℕ) (page : ℕ) → length image ≤ most_image_words → IsPool layout page → HasForm layout image page (page_of words page) → IsFree words page ⊎ IsMap words page
 mapped_page layout image words page short pool form = elim (form.pool pool) [
   | inl free ↦ inl free
   | inr code ↦ inr (map_held Anywhere image words page code.first code.last short (holds_in_flash image words page code.first code.last code.holds))
@@ -39,14 +40,13 @@ pub pool_low : (layout : Layout) (page : ℕ) → IsRight layout → IsPool layo
 pool_low layout page right pool = omega (arith, pool.to, right.pool_below_kernel)
 
 -- no address has two entries
-once : (layout : Layout) (image words : List ℕ) → IsRight layout → length image ≤ 24576 → IsChecked layout image words
+once : (layout : Layout) (image words : List ℕ) → IsRight layout → length image ≤ most_image_words → IsChecked layout image words
     → (page page' i i' t v v' : ℕ) → IsPool layout page → IsPool layout page' → Lists words page i t v → Lists words page' i' t v' → (page ≡ page') × (i ≡ i')
 once layout image words right short checked page page' i i' t v v' pool pool' lists lists' = elim (cases_order page page') [
   | inl same ↦ (
       let P : ℕ → Type 0 = λ p. Lists words p i t v in
-      let there = subst P same lists in
       let map = map_of_entry words page' i' t v' (mapped_page layout image words page' short pool' (checked.forms page' (pool_low layout page' right pool'))) lists' in
-      (same, same_address words page' i i' t v v' map there lists'))
+      (same, same_address words page' i i' t v v' map (subst P same lists) lists'))
   | inr (inl lower) ↦ absurd ((checked.links page' pool').alone page i i' t v v' pool lower lists lists')
   | inr (inr higher) ↦ absurd ((checked.links page pool).alone page' i' i t v' v pool' higher lists' lists)
 ]
@@ -81,7 +81,7 @@ below_pool layout image words a right around below =
     let form = around page (omega (arith, right.pool_below_kernel)) (λ pool. omega (arith, pool.from)) in
     sym (page_word words page (a % page_words) (omega arith) ∙ ap (word_at words) there) ∙ form.below (omega arith) (a % page_words) (omega arith) ∙ ap (word image) there
 
-pub kernel_word : (layout : Layout) (image words : List ℕ) (a : ℕ) → IsRight layout → HaveFormsAround layout image words → 0xF000 ≤ a → a < word_count → word_at words a ≡ 0x9508
+pub kernel_word : (layout : Layout) (image words : List ℕ) (a : ℕ) → IsRight layout → HaveFormsAround layout image words → kernel_first ≤ a → a < word_count → word_at words a ≡ return_word
 kernel_word layout image words a right around from to =
     let page = a / page_words in
     let there : page_words * page + (a % page_words) ≡ a = omega arith in
@@ -110,7 +110,6 @@ below_word layout image words a right code below = elim (cases_lt a layout.image
 
 pub checked_code : (layout : Layout) (image words : List ℕ) → IsRight layout → length words ≡ word_count → length image ≡ layout.image_words → IsChecked layout image words → IsFaithful layout image words
 checked_code layout image words right whole long checked =
-    let short : length image ≤ 24576 = omega (arith, right.image_fits) in
     let around = forms_around layout image words checked.forms in
     record {
       whole = whole;
@@ -119,7 +118,7 @@ checked_code layout image words right whole long checked =
       erased = λ a after before. below_pool layout image words a right around before ∙ outside image a (omega (arith, long));
       kernel = λ a from to. kernel_word layout image words a right around from to;
       pages = λ page pool. rewritten layout image words page pool (checked.forms page (pool_low layout page right pool)) (checked.links page pool);
-      once = once layout image words right short checked;
+      once = once layout image words right (omega (arith, right.image_fits)) checked;
     }
 
 -- the other way round
@@ -132,8 +131,7 @@ one_entry layout image words t v right code entry = record {
 -- each link of pieces that stand with leads
 lead_of : (leads : ℕ → ℕ → Type 0) (words : List ℕ) (a : ℕ) (before behind : List Piece) (t : ℕ) → Stands leads words a (before ++ Link t ∷ behind) → word_at words (a + size before) ≡ jump_word → leads t (word_at words (a + size before + 1))
 lead_of leads words a before behind t stands jump =
-    let two = stands_split leads words a before (Link t ∷ behind) stands in
-    elim two.1.0.0 [
+    elim (stands_split leads words a before (Link t ∷ behind) stands).1.0.0 [
       | inl bridge ↦ absurd (omega (arith, bridge.0, jump))
       | inr leading ↦ leading.1
     ]

@@ -1,7 +1,7 @@
 -- Rewritten code tells its first address and its number of instructions itself.
 use Rattle.std.proofs.Common.{◌≡◌, ℕ, ◌+◌, ◌*◌, ◌<◌, ◌≤◌, List, length, arith, sym, ap, ◌∙◌, subst}
 use Rattle.flash_words.specs.Pages.{word_at}
-use Rattle.page_index.specs.Maps.{address_of}
+use Rattle.flash_words.specs.Layouts.{most_image_words, most_image_pages, most_entries}
 use Rattle.nat_template.specs.declared.piece.Piece.{Piece}
 use Rattle.page_draft.specs.Standing.{Stands, size}
 use Rattle.page_draft.specs.CodePages.{page_pieces, page_size, HoldsRun, Anywhere, IsCodePage, IsPage}
@@ -12,16 +12,15 @@ own : (image words : List ℕ) → IsCodePage image words 0 → OwnRun Anywhere 
 own image words code = own_run Anywhere image words 0 code.first code.last code.holds
 
 pub record IsTold (words : List ℕ) : Type 0 where
-  pub original : word_at words 0 < 192
+  pub original : word_at words 0 < most_image_pages
   pub some : 1 ≤ word_at words 1
-  pub few : word_at words 1 < 126
+  pub few : word_at words 1 < most_entries
 
-pub told : (image words : List ℕ) → length image ≤ 24576 → IsCodePage image words 0 → IsTold words
+pub told : (image words : List ℕ) → length image ≤ most_image_words → IsCodePage image words 0 → IsTold words
 told image words short code =
     let run = own image words code in
-    let begins : address_of words 0 0 < length image = run.holds.run.inside 0 (omega arith) in
     record {
-      original = omega (arith, begins);
+      original = omega (arith, run.holds.run.inside 0 (omega arith));
       some = omega (arith, run.some);
       few = omega (arith, run.few);
     }

@@ -5,6 +5,7 @@ use Rattle.std.proofs.lemmas.List.{drop_more, get_or_default}
 use Rattle.pool_check.proofs.WidthLaws.{size_more}
 use Rattle.flash_words.specs.Pages.{page_words, page_of}
 use Rattle.flash_words.specs.declared.layout.Layout.{Layout}
+use Rattle.flash_words.specs.Layouts.{most_image_words}
 use Rattle.nat_template.specs.declared.piece.Piece.{Piece}
 use Rattle.nat_template.specs.declared.piece.Piece.TheVariants.{Fixed, Link}
 use Rattle.page_index.specs.Maps.{IsFree}
@@ -54,11 +55,10 @@ one_of : (links : ℕ → ℕ → Type 0) (a s t : ℕ) (pieces : List Piece) �
 one_of links a s t pieces all link =
     let P : List Piece → Type 0 = λ r. EachLink links a r in
     let Q : ℕ → Type 0 = λ b. links b t in
-    let two = each_link_split links a link.before (Link t ∷ link.behind) (subst P link.split all) in
-    subst Q (sym link.at) two.1.0
+    subst Q (sym link.at) (each_link_split links a link.before (Link t ∷ link.behind) (subst P link.split all)).1.0
 
 -- a page that is free has no entry and no link
-pub free_links : (layout : Layout) (image words : List ℕ) (page : ℕ) → length image ≤ 24576 → IsFree words page → HasLinks layout image words page
+pub free_links : (layout : Layout) (image words : List ℕ) (page : ℕ) → length image ≤ most_image_words → IsFree words page → HasLinks layout image words page
 free_links layout image words page short free = record {
   alone = λ lower i j t v v' pool below lists lists'. free_lists_nothing words page j t v' free lists';
   lead = λ first last s t holds link jump. absurd (held_used Anywhere image words page first last short holds free);

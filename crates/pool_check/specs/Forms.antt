@@ -2,6 +2,7 @@
 use Rattle.std.specs.Prelude.{◌≡◌, ℕ, ◌+◌, ◌-◌, ◌*◌, ◌<◌, ◌≤◌, ◌⊎◌, List}
 use Rattle.avr_isa.specs.Image.{word}
 use Rattle.flash_words.specs.Pages.{page_words, word_at, blank}
+use Rattle.flash_words.specs.Memory.{return_word}
 use Rattle.flash_words.specs.declared.layout.Layout.{Layout}
 use Rattle.page_index.specs.Maps.{IsPool, address_of, entry_count}
 use Rattle.nat_template.specs.Stubs.{call_word, bridge_entry}
@@ -12,7 +13,7 @@ use Rattle.page_draft.specs.CodePages.{IsCodePage}
 -- of the pool all erased, or those of a run of the image, wherever its links lead.
 pub record HasForm (layout : Layout) (image : List ℕ) (page : ℕ) (words : List ℕ) : Type 0 where
   pub below : page < layout.pool_first → (k : ℕ) → k < page_words → word_at words k ≡ word image (page_words * page + k)
-  pub kernel : 480 ≤ page → (k : ℕ) → k < page_words → word_at words k ≡ 0x9508
+  pub kernel : 480 ≤ page → (k : ℕ) → k < page_words → word_at words k ≡ return_word
   pub pool : IsPool layout page → (words ≡ blank) ⊎ IsCodePage image words 0
 
 -- Serves private functions: the first address of a page of code and the last of its instructions, by its own words.

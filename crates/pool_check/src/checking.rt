@@ -10,7 +10,7 @@ ghost use Rattle.pool_check.specs.declared.checking.Verdict.TheVariants.{Faithfu
 
 use crate::form::page_form;
 use crate::links::has_links;
-use flash_model::{Flash, Layout};
+use flash_model::{Flash, Layout, PAGES};
 use nat_page::{page_words, pages_in_use};
 
 /// What a checker says of a flash.
@@ -42,7 +42,7 @@ pub fn check(flash: &Flash, image: &[u16], layout: &Layout) -> Verdict
     // Of a pool that is faithful it says so.
     ensures faithful { IsFaithful layout.now image.now flash.now.words → result ≡ Faithful (used_pages layout.now flash.now.words) }
 {
-    for page in 0..512u16 {
+    for page in 0..PAGES as u16 {
         if !page_form(image, layout, page, &page_words(flash, page)) {
             return Verdict::Form { page };
         }

@@ -1,7 +1,7 @@
 //! Whether a page agrees with the other pages of the pool.
 
 ghost use Rattle.std.specs.Prelude.{◌≡◌, ◌+◌, ◌<◌, ◌≤◌, ◌↔◌, length, IsTrue};
-ghost use Rattle.flash_words.specs.Layouts.{IsRight};
+ghost use Rattle.flash_words.specs.Layouts.{IsRight, most_image_pages, most_image_words};
 ghost use Rattle.flash_words.specs.Pages.{page_of, word_at};
 ghost use Rattle.page_index.specs.Maps.{IsPool};
 ghost use Rattle.page_draft.specs.CodePages.{page_pieces, IsCodePage};
@@ -12,14 +12,11 @@ ghost use Rattle.pool_check.specs.Links.{ArePages, ArePagesTo, HasLinks, IsAlone
 
 use crate::image::GivenImage;
 use arrayvec::ArrayVec;
-use flash_model::{Flash, Layout, PAGE_WORDS};
+use flash_model::{Flash, JMP, Layout, PAGE_WORDS};
 use nat_page::page_words;
 use nat_template::Piece;
 use page_draft::{remade, width};
 use page_index::{address_at, entries, is_free, place_in};
-
-/// JMP, the first of its two words.
-const JMP: u16 = 0x940C;
 
 /// Whether this place is that of the one entry of `t`.
 fn is_one_entry(flash: &Flash, layout: &Layout, t: u16, place: u16) -> bool
@@ -141,7 +138,7 @@ pub(crate) fn has_links(flash: &Flash, layout: &Layout, image: &[u16], page: u16
 
 /// The pieces of a page that is rewritten code.
 pub(crate) fn pieces_of(flash: &Flash, image: &[u16], page: u16) -> ArrayVec<Piece, 128>
-    requires short { length image.now ≤ 24576 }
+    requires short { length image.now ≤ most_image_words }
     requires low { page < 480 }
     requires code { IsCodePage image.now (page_of flash.now.words page) 0 }
     ensures pieces { result.items ≡ page_pieces image.now (first_told (page_of flash.now.words page)) (last_told (page_of flash.now.words page)) }
@@ -156,7 +153,7 @@ pub(crate) fn pieces_of(flash: &Flash, image: &[u16], page: u16) -> ArrayVec<Pie
 
 /// The first address of a page of code.
 fn first_of(words: &[u16; 128]) -> u16
-    requires original { word_at words.now 0 < 192 }
+    requires original { word_at words.now 0 < most_image_pages }
     ensures value { result ≡ first_told words.now }
 {
     PAGE_WORDS * words[0] + words[2] / 256

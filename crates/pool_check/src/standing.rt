@@ -5,14 +5,10 @@ ghost use Rattle.page_draft.specs.Standing.{size as size_of_pieces, Stands, Stan
 ghost use Rattle.page_draft.specs.CodePages.{Anywhere};
 ghost use Rattle.pool_check.specs.Forms.{IsLinkWords};
 
-use nat_template::Piece;
+use flash_model::JMP;
 use nat_template::entries::BRIDGE;
+use nat_template::{CALL, Piece};
 use page_draft::width;
-
-/// CALL and JMP, the first of their two words.
-const CALL: u16 = 0x940E;
-
-const JMP: u16 = 0x940C;
 
 /// Whether the pieces stand at the front of a page, whatever their links lead to once they are resolved.
 pub(crate) fn stands(words: &[u16; 128], pieces: &[Piece]) -> bool

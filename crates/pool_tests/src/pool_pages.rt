@@ -30,7 +30,7 @@ fn made(flash: &mut Flash, layout: &Layout, t: u16) -> Option<Result<u16, NatSto
     }
 }
 
-/// The same, of an address without an entry.
+/// What `naturalise` answers for an address without an entry.
 #[tactic(auto, using(nat_page::proofs::FaithfulLaws::faithful_mapped))]
 fn made_anew(flash: &mut Flash, layout: &Layout, t: u16) -> Option<Result<u16, NatStop>>
     requires right { IsRight layout.now }

@@ -101,7 +101,7 @@ pub(crate) fn loaded(
     loaded_to_fail(rt, layout, image, &[])
 }
 
-/// The same, where the operations of these numbers are to fail.
+/// A flash that holds the image and an empty pool, whose operations of these numbers are to fail.
 pub(crate) fn loaded_to_fail(
     rt: &HostRuntime,
     layout: &Layout,

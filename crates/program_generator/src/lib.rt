@@ -45,10 +45,8 @@ const ENDING: [u16; 13] = [
 pub fn generate(alloc: Global, seed: u32) -> Result<Image, NoMemory>
     ensures image { IfOk result (λ image. image ≡ generated seed) }
 {
-    match words(alloc, seed) {
-        Ok(words) => Image::from_words(alloc, &words),
-        Err(_) => Err(NoMemory),
-    }
+    let words = words(alloc, seed)?;
+    Image::from_words(alloc, &words)
 }
 
 // The words of the program.

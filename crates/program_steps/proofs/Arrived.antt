@@ -1,22 +1,17 @@
 -- What an arrival leaves, whatever it answers.
-use Rattle.std.proofs.Common.{◌≡◌, ℕ, ◌+◌, ◌<◌, ◌≤◌, Bool, true, List, length, refl, sym, ap, ◌∙◌, arith, subst, inl, inr}
+use Rattle.std.proofs.Common.{◌≡◌, ℕ, ◌+◌, ◌<◌, ◌≤◌, Bool, true, false, List, length, refl, sym, ap, ap₂, ◌∙◌, arith, subst, inl, inr}
 use Rattle.std.specs.Prelude.{min, Option, Some, None, IfSome}
 use Rattle.std.proofs.lemmas.Bool.{cases_lt}
-use Rattle.sram_layout.specs.Bytes.{data_word_at}
-use Rattle.sram_layout.specs.Cells.{vsp_cell}
 use Rattle.flash_words.specs.Memory.{Memory, IsWhole}
 use Rattle.flash_words.specs.Layouts.{IsRight, image_of, layout_of}
 use Rattle.flash_words.specs.declared.layout.Layout.{Layout}
 use Rattle.heap_frames.specs.Paged.{IsPaged}
 use Rattle.heap_frames.specs.Memory.{vmem}
-use Rattle.heap_frames.specs.Frames.{pages}
 use Rattle.page_index.specs.Maps.{IsPool}
 use Rattle.nat_page.specs.Faithful.{IsFaithful}
 use Rattle.nat_page.specs.Used.{used_pages}
 use Rattle.nat_page.proofs.EnteredLaws.{entry_law}
 use Rattle.addr_tables.specs.Tables.{IsTables}
-use Rattle.mote_devices.specs.State.{State as Devices}
-use Rattle.mem_guard.specs.FlatMachine.{FlatState}
 use Rattle.branch_bridge.specs.declared.arrival.Refused.{Refused}
 use Rattle.branch_bridge.specs.declared.rewriting.ResolveStop.{ResolveStop}
 use Rattle.branch_bridge.specs.declared.rewriting.Torn.{Torn}
@@ -26,51 +21,44 @@ use Rattle.flash_words.specs.Operations.{is_listed}
 use Rattle.branch_bridge.specs.Tried.{IsTorn, Tried}
 use Rattle.branch_bridge.specs.Arrivals.{Store, IsOwnStub, KeptThrough, KeepsOtherBytes, refused_by, stopped_by, torn_by, ring_of}
 use Rattle.kernel_entry.specs.Parts.{image_held}
-use Rattle.step_laws.specs.declared.moves.Owed.{Owed}
-use Rattle.step_laws.specs.declared.moves.End.TheVariants as ends
+use Rattle.kernel_entry.specs.declared.kernel.Owed.{Owed}
+use Rattle.kernel_entry.specs.declared.kernel.End.TheVariants as ends
 use Rattle.step_laws.specs.Moves.{Arrive}
 use Rattle.step_laws.specs.Numbers.{Numbers, moved, one_if}
+use Rattle.step_laws.specs.Bounds.{AreBounded}
 use Rattle.step_laws.specs.States.{Awaited, State, mote_of, store_of, with_store, placed, settled_by, arrived, end_by}
-use Rattle.step_laws.specs.StepLaws.{Reaches}
-use Rattle.program_steps.specs.Machines.{Machine, awaited, state_of, numbers_of, flat_of, awaits}
+use Rattle.step_laws.proofs.SameProgram.{flat_parts as flat_same_parts}
+use Rattle.kernel_entry.specs.Seen.{state_at}
+use Rattle.program_steps.specs.Machines.{Machine, awaited, state_of, numbers_of, flat_of}
 use Rattle.program_steps.specs.Ready.{IsRightPart, HasFault, AreTried, IsGoing, IsInOrder, most_arrivals}
-use Rattle.program_steps.specs.Stepping.{links_in}
 use Rattle.program_steps.specs.Loop.{HasArrived}
+use Rattle.page_cursor.specs.declared.cursor.Cursor.{Cursor}
+use Rattle.page_cursor.specs.Cursors.{IsCursor, IsCursorAnywhere}
+use Rattle.program_steps.proofs.Told.{cursor_same}
 use Rattle.program_steps.proofs.Arriving.{Answered, answered, owed_own}
 use Rattle.program_steps.proofs.Owning.{number_own, admitted_number}
-use Rattle.mem_guard.specs.FlatMachine.{is_own}
-use Rattle.step_laws.specs.Links.{part_number, number_of}
+use Rattle.flat_machine.specs.FlatMachine.{is_own}
+use Rattle.step_laws.specs.Links.{part_number}
 use Rattle.step_laws.specs.States.{admits}
 use Rattle.nat_page.specs.Parts.{IsParted}
 use Rattle.program_steps.proofs.ReadyLaws.{no_refusal}
 use Rattle.program_steps.proofs.OutsideTables.{outside_paged, outside_memory, outside_pages, outside_pointer, outside_stack}
-use Rattle.program_steps.proofs.Awaiting.{awaits_some, awaits_none, free_of, some_same}
-use Rattle.program_steps.proofs.Laws.{faithful_going, parted_going, used_going}
+use Rattle.program_steps.proofs.Awaiting.{awaits_some, free_of}
+use Rattle.program_steps.proofs.Laws.{by_stands, owing, faithful_going, parted_going, used_going}
 
 -- where the machine stands
-stands_inside : (m : Machine) → IsGoing m → m.owed ≡ None → Reaches (links_in m) m.at (awaits m) (state_of m) → (m.at < length (image_held m.kernel)) × (part_number m.kernel.part.shut m.at ≡ number_of m.kernel.part)
-stands_inside m ready placed (Reaches.Placed quiet free entry) = ((entry_law m.kernel.layout (image_held m.kernel) m.kernel.mote.flash.words m.at m.kernel.mote.cpu.pc ready.order.right (faithful_going m ready) entry.0).inside, entry.1)
-stands_inside m ready placed (Reaches.Owing stub alone owes of) = absurd (let e = sym owes ∙ awaits_none m placed in cc)
-
 pub place_inside : (m : Machine) → IsGoing m → m.owed ≡ None → is_own m.kernel.part m.at ≡ true
 place_inside m ready placed =
-    let stands = stands_inside m ready placed ready.stands in
-    number_own m.kernel.part m.kernel.layout.image_words m.at ready.order.part (omega (arith, stands.0, ready.order.faithful.image_length)) stands.1
-
-owed_by : (m : Machine) (owed : Owed) → m.owed ≡ Some owed → Reaches (links_in m) m.at (awaits m) (state_of m) → owed.target ≡ m.at
-owed_by m owed owes (Reaches.Placed quiet free entry) = absurd (let e = sym (awaits_some m owed owes) ∙ free in cc)
-owed_by m owed owes (Reaches.Owing stub alone owes' of) = ap (λ (w : Awaited). w.target) (some_same _ _ (sym (awaits_some m owed owes) ∙ owes'))
+    let enters = by_stands m placed ready.stands in
+    let entry = entry_law m.kernel.layout (image_held m.kernel) m.kernel.mote.flash.words m.at m.kernel.mote.cpu.pc ready.order.right (faithful_going m ready) enters.0 in
+    number_own m.kernel.part m.kernel.layout.image_words m.at ready.order.part (omega (arith, entry.inside, ready.order.faithful.image_length)) enters.1
 
 pub owed_at : (m : Machine) (owed : Owed) → IsGoing m → m.owed ≡ Some owed → owed.target ≡ m.at
-owed_at m owed ready owes = owed_by m owed owes ready.stands
+owed_at m owed ready owes = (owing m _ ready (awaits_some m owed owes)).0
 
 -- the same of the arrival as its moves see it
-awaited_by : (m : Machine) (w : Awaited) → (state_of m).owed ≡ Some w → Reaches (links_in m) m.at (awaits m) (state_of m) → w.target ≡ m.at
-awaited_by m w owes (Reaches.Placed quiet free entry) = absurd (let e = sym owes ∙ free in cc)
-awaited_by m w owes (Reaches.Owing stub alone owes' of) = ap (λ (v : Awaited). v.target) (some_same _ _ (sym owes ∙ owes'))
-
 pub awaited_at : (m : Machine) (w : Awaited) → IsGoing m → (state_of m).owed ≡ Some w → w.target ≡ m.at
-awaited_at m w ready owes = awaited_by m w owes ready.stands
+awaited_at m w ready owes = (owing m w ready owes).0
 
 -- an arrival leaves all but the store and the pc
 pub record After (x y : State) (store : Store) : Type 0 where
@@ -96,30 +84,25 @@ after_by x y store (Some place) (Some refused) is = after_same x y store _ is (r
 pub after_arrived : (x y : State) (store : Store) (arrival : Arrival) → y ≡ arrived x store arrival → After x y store
 after_arrived x y store arrival is = after_by x y store arrival.place arrival.refused is
 
+-- where it leaves flash: the cursor that is kept where nothing has changed, and else a new one
+pub cursor_kept : (old new : Machine) (changed : Bool) (before after : Cursor) → (changed ≡ false → new.kernel.mote.flash ≡ old.kernel.mote.flash) → HasArrived old new
+    → (changed ≡ false → after ≡ before) → (changed ≡ true → IsCursorAnywhere after) → IsCursor old.kernel.layout old.kernel.mote.flash.words before → IsCursor new.kernel.layout new.kernel.mote.flash.words after
+cursor_kept old new true before after same arrived kept forgotten cursor = forgotten refl new.kernel.layout new.kernel.mote.flash.words
+cursor_kept old new false before after same arrived kept forgotten cursor =
+    let layout = (after_arrived (state_of old) (state_of new) arrived.makes.store arrived.makes.arrival arrived.makes.after).layout in
+    subst (IsCursor new.kernel.layout new.kernel.mote.flash.words) (sym (kept refl)) (cursor_same old new before layout (same refl) cursor)
+
 after_self : (x y : State) (store : Store) → After x y store → After x y (store_of y)
 after_self x y store after = record { layout = after.layout; part = after.part; quantum = after.quantum; swap = after.swap; devices = after.devices; r = after.r; sreg = after.sreg; sp = after.sp; store_is = refl }
 
--- the flat state, from its parts
-put_together : (r : List ℕ) (sreg sp : ℕ) (memory : List ℕ) (devices : Devices) (stored : List Bool) (a s c : ℕ) → FlatState
-put_together r sreg sp memory devices stored a s c = record { cpu = record { r = r; sreg = sreg; sp = sp; pc = a }; memory = memory; devices = devices; pages = stored; steps = s; crossings = c }
-
+-- what the program sees
 pub flat_parts : (old new : Machine) (store : Store) → After (state_of old) (state_of new) store → KeepsOtherBytes old.kernel.mote.sram new.kernel.mote.sram → new.at ≡ old.at → new.steps ≡ old.steps → new.crossings ≡ old.crossings → (flat_of new).now ≡ (flat_of old).now
-unfolding put_together
 flat_parts old new store same rest at steps crossings =
     let n = new.kernel.mote in
     let o = old.kernel.mote in
-    let nsp = data_word_at n.sram vsp_cell in
-    let osp = data_word_at o.sram vsp_cell in
     let heap : vmem n.sram n.swap ≡ vmem o.sram o.swap = ap (vmem n.sram) same.swap ∙ outside_memory o.sram n.sram o.swap rest in
-    ap (λ x. put_together x n.cpu.sreg nsp (vmem n.sram n.swap) n.devices (pages n.sram) new.at new.steps new.crossings) same.r
-    ∙ ap (λ x. put_together o.cpu.r x nsp (vmem n.sram n.swap) n.devices (pages n.sram) new.at new.steps new.crossings) same.sreg
-    ∙ ap (λ x. put_together o.cpu.r o.cpu.sreg x (vmem n.sram n.swap) n.devices (pages n.sram) new.at new.steps new.crossings) (outside_stack o.sram n.sram rest)
-    ∙ ap (λ x. put_together o.cpu.r o.cpu.sreg osp x n.devices (pages n.sram) new.at new.steps new.crossings) heap
-    ∙ ap (λ x. put_together o.cpu.r o.cpu.sreg osp (vmem o.sram o.swap) x (pages n.sram) new.at new.steps new.crossings) same.devices
-    ∙ ap (λ x. put_together o.cpu.r o.cpu.sreg osp (vmem o.sram o.swap) o.devices x new.at new.steps new.crossings) (outside_pages o.sram n.sram rest)
-    ∙ ap (λ x. put_together o.cpu.r o.cpu.sreg osp (vmem o.sram o.swap) o.devices (pages o.sram) x new.steps new.crossings) at
-    ∙ ap (λ x. put_together o.cpu.r o.cpu.sreg osp (vmem o.sram o.swap) o.devices (pages o.sram) old.at x new.crossings) steps
-    ∙ ap (λ x. put_together o.cpu.r o.cpu.sreg osp (vmem o.sram o.swap) o.devices (pages o.sram) old.at old.steps x) crossings
+    flat_same_parts _ _ _ _ _ _ new.at new.steps new.crossings _ _ _ _ _ _ same.r same.sreg (outside_stack o.sram n.sram rest) heap same.devices (outside_pages o.sram n.sram rest)
+    ∙ ap₂ (λ a s. state_at old.kernel a s new.crossings) at steps ∙ ap (state_at old.kernel old.at old.steps) crossings
 
 -- how it ended, and what is torn
 torn_settled : (x : State) (refused : Option Refused) → x.torn ≡ None → (settled_by x refused).torn ≡ torn_by refused
@@ -147,25 +130,19 @@ pc_in x (Some place) (Some refused) v is = (let e : place ≡ v = cc in e)
 -- what the numbers become
 pub record IsMoved (n n' : Numbers) (made : Bool) : Type 0 where
   pub steps : n'.steps ≡ n.steps
-  pub natural : n'.natural ≡ n.natural
-  pub entries : n'.entries ≡ n.entries
   pub pages : n'.pages ≡ n.pages + one_if made
-  pub since : n'.since ≡ n.since
-  pub longest : n'.longest ≡ n.longest
   pub began : n'.began ≡ n.began
   pub others : n'.others ≡ n.others
+  pub bounded : (crossings quantum count at : ℕ) → AreBounded n crossings quantum count at → AreBounded n' crossings quantum count at
 
 moved_numbers : (n n' : Numbers) (t ops : ℕ) (made made' : Bool) → n' ≡ moved (Arrive t made ops) n → made' ≡ made → IsMoved n n' made'
 unfolding moved
 moved_numbers n n' t ops made made' is same = record {
   steps = ap (λ (k : Numbers). k.steps) is;
-  natural = ap (λ (k : Numbers). k.natural) is;
-  entries = ap (λ (k : Numbers). k.entries) is;
   pages = ap (λ (k : Numbers). k.pages) is ∙ ap (λ b. n.pages + one_if b) (sym same);
-  since = ap (λ (k : Numbers). k.since) is;
-  longest = ap (λ (k : Numbers). k.longest) is;
   began = ap (λ (k : Numbers). k.began) is;
   others = ap (λ (k : Numbers). k.others) is;
+  bounded = λ c q k a b. subst (λ x. AreBounded x c q k a) (sym is) (record { natural = b.natural; entries = b.entries; crossed = b.crossed; since = b.since; longest = b.longest; within = b.within; most = b.most });
 }
 
 -- what holds of the machine after an arrival, whatever its answer
@@ -188,9 +165,9 @@ pub record Arrived (old new : Machine) (arrival : Arrival) : Type 0 where
   pub crossings : new.crossings ≡ old.crossings
   pub due : new.due ≡ old.due
 
-owing : (owed : Option Owed) (due : Bool) (w : Awaited) (steps : ℕ) → awaited owed due ≡ Some w → most_arrivals owed steps ≡ steps
-owing (Some a) due w steps is = refl
-owing None due w steps is = absurd (cc)
+counted_owing : (owed : Option Owed) (due : Bool) (w : Awaited) (steps : ℕ) → awaited owed due ≡ Some w → most_arrivals owed steps ≡ steps
+counted_owing (Some a) due w steps is = refl
+counted_owing None due w steps is = absurd (cc)
 
 pub arrived_by : (old new : Machine) → (arrived : HasArrived old new) → IsWhole new.kernel.mote.flash → IsGoing old → Arrived old new arrived.makes.arrival
 arrived_by old new arrived whole ready =
@@ -223,7 +200,7 @@ arrived_by old new arrived whole ready =
       refused = λ r is. ap (λ (s : State). s.end) makes.after ∙ end_refused y arrival.refused r is;
       goes_on = λ none. (let e = end_in y arrival.refused none in (ap (λ (s : State). s.end) makes.after ∙ e.0, free_of new (ap (λ (s : State). s.owed) makes.after ∙ e.1)));
       pc = λ v is. ap (λ (s : State). (mote_of s).cpu.pc) makes.after ∙ pc_in (with_store x makes.store) arrival.place arrival.refused v is;
-      owed = owing old.owed old.due makes.owed old.steps makes.owes;
+      owed = counted_owing old.owed old.due makes.owed old.steps makes.owes;
       numbers = moved_numbers (numbers_of old) (numbers_of new) arrived.target arrived.ops arrived.made arrival.made arrived.numbers makes.makes;
       at = arrived.at;
       crossings = arrived.crossings;
@@ -237,7 +214,7 @@ listed_before m n op same there = ap (λ failing. is_listed failing op) (sym sam
 never_before : (old : Machine) (op : ℕ) → IsGoing old → 1 ≤ op → op ≤ old.kernel.mote.flash.ops → is_listed old.kernel.mote.flash.failing op ≡ true → ⊥
 never_before old op ready from to there = let e : Some (ends.Flash op) ≡ None = sym (ready.order.tried.listed op from to there) ∙ ready.going in absurd (cc)
 
-tried_quiet : (old new : Machine) → Tried old.kernel.layout old.kernel.mote.flash new.kernel.mote.flash None → new.torn ≡ None → IsGoing old → AreTried new
+tried_quiet : (old new : Machine) → Tried old.kernel.layout old.kernel.mote.flash new.kernel.mote.flash None → new.torn ≡ None → IsGoing old → AreTried new.kernel.layout new.kernel.mote.flash new.end new.torn
 tried_quiet old new tried torn ready = record {
   listed = λ op from to there.
       let listed = listed_before old.kernel.mote.flash new.kernel.mote.flash op tried.failing there in
@@ -258,7 +235,7 @@ some_both : (torn : Option Torn) (layout : Layout) (words : List ℕ) (m : Machi
 some_both None layout words m each fault = tt
 some_both (Some torn) layout words m each fault = (each, fault)
 
-tried_failed : (old new : Machine) (stop : ResolveStop) → new.kernel.layout ≡ old.kernel.layout → Tried old.kernel.layout old.kernel.mote.flash new.kernel.mote.flash (Some stop) → new.end ≡ Some (ends.Flash stop.op) → new.torn ≡ stop.torn → IsGoing old → AreTried new
+tried_failed : (old new : Machine) (stop : ResolveStop) → new.kernel.layout ≡ old.kernel.layout → Tried old.kernel.layout old.kernel.mote.flash new.kernel.mote.flash (Some stop) → new.end ≡ Some (ends.Flash stop.op) → new.torn ≡ stop.torn → IsGoing old → AreTried new.kernel.layout new.kernel.mote.flash new.end new.torn
 tried_failed old new stop layout tried end torn ready = record {
   listed = λ op from to there.
       let listed = listed_before old.kernel.mote.flash new.kernel.mote.flash op tried.failing there in
@@ -276,7 +253,7 @@ tried_failed old new stop layout tried end torn ready = record {
 tried_as : (old new : Machine) (arrival : Arrival) (refused : Option Refused) → arrival.refused ≡ refused → Arrived old new arrival → Tried old.kernel.layout old.kernel.mote.flash new.kernel.mote.flash (stopped_by refused)
 tried_as old new arrival refused is told = subst (λ r. Tried old.kernel.layout old.kernel.mote.flash new.kernel.mote.flash (stopped_by r)) is told.kept.tried
 
-tried_arrived : (old new : Machine) (arrival : Arrival) → Arrived old new arrival → IsGoing old → Answered old.kernel.layout (store_of (state_of old)) (store_of (state_of new)) old.at arrival → AreTried new
+tried_arrived : (old new : Machine) (arrival : Arrival) → Arrived old new arrival → IsGoing old → Answered old.kernel.layout (store_of (state_of old)) (store_of (state_of new)) old.at arrival → AreTried new.kernel.layout new.kernel.mote.flash new.end new.torn
 tried_arrived old new arrival told ready (Answered.Wild is outside) = tried_quiet old new (tried_as old new arrival _ is told) (told.torn ∙ ap torn_by is) ready
 tried_arrived old new arrival told ready (Answered.In place there is inside) = tried_quiet old new (tried_as old new arrival _ is told) (told.torn ∙ ap torn_by is) ready
 tried_arrived old new arrival told ready (Answered.Failed stop is inside) =

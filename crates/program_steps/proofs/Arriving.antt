@@ -1,6 +1,6 @@
 -- What an arrival answers, and the move that it is.
-use Rattle.program_steps.proofs.Awaiting.{awaits_some, some_same}
-use Rattle.std.proofs.Common.{◌≡◌, ℕ, ◌+◌, ◌-◌, ◌<◌, ◌≤◌, Bool, true, false, refl, sym, ap, ap₂, ◌∙◌, subst, arith}
+use Rattle.program_steps.proofs.Awaiting.{awaits_some}
+use Rattle.std.proofs.Common.{◌≡◌, ℕ, ◌+◌, ◌-◌, ◌<◌, ◌≤◌, Bool, true, false, refl, sym, ap, ◌∙◌, subst, arith}
 use Rattle.std.specs.Prelude.{Option, Some, None, Ok, Err, unwrap_or}
 use Rattle.std.specs.Option.{option_map}
 use Rattle.flash_words.specs.declared.layout.Layout.{Layout}
@@ -11,54 +11,41 @@ use Rattle.branch_bridge.specs.declared.rewriting.ResolveStop.{ResolveStop}
 use Rattle.branch_bridge.specs.declared.through.Arrival.{Arrival}
 use Rattle.branch_bridge.specs.Arrivals.{Store, Arrives, ArrivesFrom, Makes, Recycles, CameThrough, KeptThrough, KeepsParts, IsOwnStub, refused_by, recycled_page, to_resolve}
 use Rattle.kernel_entry.specs.declared.kernel.Kernel.{Kernel}
-use Rattle.step_laws.specs.declared.moves.Owed.{Owed}
+use Rattle.kernel_entry.specs.declared.kernel.Owed.{Owed}
 use Rattle.step_laws.specs.Moves.{Arrive}
 use Rattle.step_laws.specs.Numbers.{moved, one_if}
 use Rattle.step_laws.specs.States.{Awaited, admits, State, mote_of, store_of, arrived}
 use Rattle.step_laws.specs.Walks.{CanArrive}
 use Rattle.step_laws.specs.Links.{OfStub, part_number, number_of}
-use Rattle.step_laws.specs.StepLaws.{Reaches, links_at}
+use Rattle.step_laws.specs.StepLaws.{links_at}
 use Rattle.program_steps.specs.declared.progress.Progress.{Progress}
-use Rattle.program_steps.specs.Machines.{Machine, state_of, numbers_of, awaits}
+use Rattle.program_steps.specs.Machines.{Machine, state_of, numbers_of}
 use Rattle.program_steps.specs.Wholes.{whole}
 use Rattle.program_steps.specs.Ready.{IsGoing}
 use Rattle.program_steps.specs.Loop.{HasArrived, after_arrival}
-use Rattle.program_steps.specs.Stepping.{links_in}
 use Rattle.program_steps.specs.Interrupts.{IsUntaken}
 use Rattle.program_steps.proofs.Told.{same_state}
+use Rattle.program_steps.proofs.Laws.{owing}
 
 -- the stub that an arrival names is an unresolved link to its address
 came_by : (x : State) (stub : Option ℕ) (t : ℕ) → OfStub (links_at x) (mote_of x).flash.words stub t → CameThrough x.kernel.layout (mote_of x).flash.words stub t
 came_by x None t of = tt
 came_by x (Some s) t of = record { link = of.mark.link; call = of.call; bridge = of.bridge }
 
-came_owed : (m : Machine) (owed : Owed) → m.owed ≡ Some owed → Reaches (links_in m) m.at (awaits m) (state_of m) → CameThrough m.kernel.layout m.kernel.mote.flash.words owed.stub owed.target
-came_owed m owed owes (Reaches.Placed quiet free entry) = absurd (let e = sym (awaits_some m owed owes) ∙ free in cc)
-came_owed m owed owes (Reaches.Owing stub alone owes' of) =
-    let from : Owed = record { target = m.at; stub = stub } in
-    let same = some_same _ _ (sym (awaits_some m owed owes) ∙ owes') in
-    let is : owed ≡ from = ap₂ (λ t s. record { target = t; stub = s }) (ap (λ (w : Awaited). w.target) same) (ap (λ (w : Awaited). w.stub) same) in
-    let P : Owed → Type 0 = λ o. CameThrough m.kernel.layout m.kernel.mote.flash.words o.stub o.target in
-    subst P (sym is) (came_by (state_of m) stub m.at of)
-
 pub owed_came : (m : Machine) (owed : Owed) → IsGoing m → m.owed ≡ Some owed → CameThrough m.kernel.layout m.kernel.mote.flash.words owed.stub owed.target
-owed_came m owed ready owes = came_owed m owed owes ready.stands
+owed_came m owed ready owes =
+    let at = owing m _ ready (awaits_some m owed owes) in
+    came_by (state_of m) owed.stub owed.target (subst (OfStub (links_at (state_of m)) m.kernel.mote.flash.words owed.stub) (sym at.0) at.1)
 
 -- .. of a page of its part, where the address is of the program's
 stub_by : (x : State) (stub : Option ℕ) (t : ℕ) → part_number x.kernel.part.shut t ≡ number_of x.kernel.part → OfStub (links_at x) (mote_of x).flash.words stub t → IsOwnStub x.kernel.layout (mote_of x).flash.words (part_number x.kernel.part.shut) stub t
 stub_by x None t own of = tt
 stub_by x (Some s) t own of = record { link = of.mark.link; own = of.mark.own ∙ sym own }
 
-own_stub : (m : Machine) (w : Awaited) → (state_of m).owed ≡ Some w → part_number m.kernel.part.shut m.at ≡ number_of m.kernel.part → Reaches (links_in m) m.at (awaits m) (state_of m)
-    → IsOwnStub m.kernel.layout m.kernel.mote.flash.words (part_number m.kernel.part.shut) w.stub w.target
-own_stub m w owes own (Reaches.Placed quiet free entry) = absurd (let e = sym owes ∙ free in cc)
-own_stub m w owes own (Reaches.Owing stub alone owes' of) =
-    let same = some_same _ _ (sym owes ∙ owes') in
-    let P : Awaited → Type 0 = λ v. IsOwnStub m.kernel.layout m.kernel.mote.flash.words (part_number m.kernel.part.shut) v.stub v.target in
-    subst P (sym same) (stub_by (state_of m) stub m.at own of)
-
 pub owed_own : (m : Machine) (w : Awaited) → IsGoing m → (state_of m).owed ≡ Some w → part_number m.kernel.part.shut m.at ≡ number_of m.kernel.part → IsOwnStub m.kernel.layout m.kernel.mote.flash.words (part_number m.kernel.part.shut) w.stub w.target
-owed_own m w ready owes own = own_stub m w owes own ready.stands
+owed_own m w ready owes own =
+    let at = owing m w ready owes in
+    subst (IsOwnStub m.kernel.layout m.kernel.mote.flash.words (part_number m.kernel.part.shut) w.stub) (sym at.0) (stub_by (state_of m) w.stub m.at own at.1)
 
 -- how an arrival was answered: it was refused outside the image, or by flash, or control goes on at a place
 pub data Answered (layout : Layout) (old new : Store) (t : ℕ) (arrival : Arrival) : Type 0 where

@@ -1,7 +1,7 @@
 -- The arrival that a machine owes, as its moves see it.
 use Rattle.std.proofs.Common.{◌≡◌, ℕ, Bool, refl, sym, ap, ◌∙◌}
 use Rattle.std.specs.Prelude.{◌≢◌, ◌&&◌, is_some, Option, Some, None}
-use Rattle.step_laws.specs.declared.moves.Owed.{Owed}
+use Rattle.kernel_entry.specs.declared.kernel.Owed.{Owed}
 use Rattle.step_laws.specs.States.{Awaited, State}
 use Rattle.step_laws.specs.Links.{Links}
 use Rattle.step_laws.specs.StepLaws.{Reaches}
@@ -40,11 +40,8 @@ owing_by : (o : Option Owed) (due d : Bool) (t : ℕ) (stub : Option ℕ) → aw
 owing_by None due d t stub is = absurd (cc)
 owing_by (Some owed) due d t stub is = ap (λ (w : Awaited). w.due) (some_same _ _ is)
 
-reached_by : (m : Machine) (links : Links) (t : ℕ) (d : Bool) (z : State) → state_of m ≡ z → Reaches links t d z → awaits m ≡ d
-reached_by m links t d z is (Reaches.Placed quiet free entry) =
+pub due_reached : (m : Machine) (links : Links) (t : ℕ) (d : Bool) (z : State) → state_of m ≡ z → Reaches links t d z → awaits m ≡ d
+due_reached m links t d z is (Reaches.Placed quiet free entry) =
     let none : m.owed ≡ None = free_of m (ap (λ (s : State). s.owed) is ∙ free) in
     ap (λ o. is_some o && m.due) none ∙ sym quiet
-reached_by m links t d z is (Reaches.Owing stub alone owes of) = owing_by m.owed m.due d t stub (ap (λ (s : State). s.owed) is ∙ owes)
-
-pub due_reached : (m : Machine) (links : Links) (t : ℕ) (d : Bool) (z : State) → state_of m ≡ z → Reaches links t d z → awaits m ≡ d
-due_reached m links t d z is reaches = reached_by m links t d z is reaches
+due_reached m links t d z is (Reaches.Owing stub alone owes of) = owing_by m.owed m.due d t stub (ap (λ (s : State). s.owed) is ∙ owes)

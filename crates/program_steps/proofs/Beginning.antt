@@ -1,6 +1,6 @@
 -- A machine whose mote is at reset, but for flash and COUNT: it is ready to go on, and stands for its program at reset.
 use Rattle.std.proofs.Common.{false, ◌≡◌, ℕ, ◌-◌, ◌%◌, ◌<◌, ◌≤◌, List, length, refl, sym, ap, ap₂, ◌∙◌, arith, subst, inl}
-use Rattle.std.specs.Prelude.{◌^◌, Some, None, IfSome}
+use Rattle.std.specs.Prelude.{◌^◌, None, IfSome}
 use Rattle.std.proofs.Math.Nat.{zero-mod}
 use Rattle.base_laws.specs.Lists.{many}
 use Rattle.base_laws.proofs.ManyLaws.{length-many}
@@ -10,7 +10,7 @@ use Rattle.sram_layout.specs.Cells.{count_cell, vsp_cell}
 use Rattle.sram_layout.proofs.Laws.{byte_same, byte_other, word_out_of_byte, length-with_byte}
 use Rattle.sram_layout.proofs.BootLaws.{length-at_boot, boot_zero}
 use Rattle.flash_words.specs.Memory.{loaded, new_flash, Memory, IsWhole}
-use Rattle.flash_words.specs.Layouts.{layout_of}
+use Rattle.flash_words.specs.Layouts.{layout_of, most_image_words}
 use Rattle.flash_words.specs.declared.layout.Layout.{Layout}
 use Rattle.flash_words.proofs.LayoutLaws.{layout_right}
 use Rattle.page_index.specs.Maps.{IsPool}
@@ -29,14 +29,14 @@ use Rattle.mote_core.specs.declared.mote.Mote.{Mote}
 use Rattle.mote_core.specs.Step.{cpu_at_reset}
 use Rattle.swap_store.specs.Slots.{zero_slots}
 use Rattle.swap_store.proofs.Laws.{length-zero_slots}
-use Rattle.mem_guard.specs.declared.part.Part.{Part}
-use Rattle.mem_guard.specs.FlatMachine.{at_reset as flat_at_reset}
+use Rattle.flat_machine.specs.declared.part.Part.{Part}
+use Rattle.flat_machine.specs.FlatMachine.{at_reset as flat_at_reset}
 use Rattle.mem_guard.proofs.AtReset.{memory_at_reset, pages_at_reset}
 use Rattle.kernel_entry.specs.Seen.{program as program_of}
 use Rattle.step_laws.specs.Links.{part_number}
 use Rattle.step_laws.specs.StepLaws.{Reaches}
 use Rattle.step_laws.proofs.SameProgram.{SameProgram, flat_same, paged_after, flat_parts}
-use Rattle.program_steps.specs.Machines.{Machine, flat_of}
+use Rattle.program_steps.specs.Machines.{Machine, unstarted, flat_of}
 use Rattle.program_steps.specs.Ready.{IsGoing, IsInOrder, IsRightPart}
 
 -- flash holds the image and a faithful pool with so many pages, and no operation was tried
@@ -48,7 +48,7 @@ pub record IsBegun (image : List ℕ) (flash : Memory) (pages : ℕ) : Type 0 wh
   pub used : pages ≡ used_pages (layout_of (length image)) flash.words
 
 -- a new flash with the image is such a one
-pub begun_new : (image failing : List ℕ) → length image ≤ 24576 → IsWhole (new_flash image failing) → IsBegun image (new_flash image failing) 0
+pub begun_new : (image failing : List ℕ) → length image ≤ most_image_words → IsWhole (new_flash image failing) → IsBegun image (new_flash image failing) 0
 begun_new image failing few whole =
     let layout : Layout = layout_of (length image) in
     let right = layout_right (length image) few in
@@ -67,26 +67,9 @@ begun_bytes quantum = with_byte at_boot count_cell quantum
 abbrev pub begun_mote : (flash : Memory) (script : Schedule) (quantum slots : ℕ) → Mote
 begun_mote flash script quantum slots = record { cpu = cpu_at_reset; sram = begun_bytes quantum; flash = flash; devices = at_reset script.events; swap = zero_slots slots }
 
--- its machine owes an arrival at the first word of its part, and has counted nothing but these pages
+-- its machine, which has done nothing yet
 abbrev pub begun_machine : (flash : Memory) (script : Schedule) (words : ℕ) (part : Part) (quantum slots pages others : ℕ) → Machine
-begun_machine flash script words part quantum slots pages others = record {
-  kernel = record { mote = begun_mote flash script quantum slots; layout = layout_of words; part = part; quantum = quantum };
-  at = part.first;
-  owed = Some (record { target = part.first; stub = None });
-  end = None;
-  due = false;
-  torn = None;
-  broken = false;
-  steps = 0;
-  crossings = 0;
-  natural = 0;
-  entries = 0;
-  pages = pages;
-  since = 0;
-  longest = 0;
-  began = pages;
-  others = others;
-}
+begun_machine flash script words part quantum slots pages others = unstarted (record { mote = begun_mote flash script quantum slots; layout = layout_of words; part = part; quantum = quantum }) pages others
 
 -- SRAM of boot with COUNT set, as far as the machine looks at it
 count_begun : (quantum : ℕ) → byte_at (begun_bytes quantum) count_cell ≡ quantum
@@ -112,7 +95,7 @@ same_begun flash script quantum slots = record {
 }
 
 -- where the part is right, and the links of the pool keep to the parts
-order_begun : (image : List ℕ) (flash : Memory) (script : Schedule) (part : Part) (quantum slots pages others : ℕ) → length image ≤ 24576 → quantum < 256 → slots ≤ 251 → IsBegun image flash pages → IsRightPart part (length image)
+order_begun : (image : List ℕ) (flash : Memory) (script : Schedule) (part : Part) (quantum slots pages others : ℕ) → length image ≤ most_image_words → quantum < 256 → slots ≤ 251 → IsBegun image flash pages → IsRightPart part (length image)
     → IsParted (layout_of (length image)) image flash.words (part_number part.shut) → IsInOrder (begun_machine flash script (length image) part quantum slots pages others)
 order_begun image flash script part quantum slots pages others few low room begun right_part parted =
     let layout : Layout = layout_of (length image) in
@@ -141,7 +124,7 @@ order_begun image flash script part quantum slots pages others few low room begu
 none_off : (q : ℕ) → q ≡ q - 0 % q
 none_off q = let z : 0 % q ≡ 0 = zero-mod q in omega arith
 
-pub going_begun : (image : List ℕ) (flash : Memory) (script : Schedule) (part : Part) (quantum slots pages others : ℕ) → length image ≤ 24576 → 1 ≤ quantum → quantum < 256 → slots ≤ 251 → others ≤ 10 ^ 12 → IsBegun image flash pages → IsRightPart part (length image)
+pub going_begun : (image : List ℕ) (flash : Memory) (script : Schedule) (part : Part) (quantum slots pages others : ℕ) → length image ≤ most_image_words → 1 ≤ quantum → quantum < 256 → slots ≤ 251 → others ≤ 10 ^ 12 → IsBegun image flash pages → IsRightPart part (length image)
     → IsParted (layout_of (length image)) image flash.words (part_number part.shut) → IsGoing (begun_machine flash script (length image) part quantum slots pages others)
 going_begun image flash script part quantum slots pages others few some low room little begun right_part parted =
     let count = count_begun quantum in

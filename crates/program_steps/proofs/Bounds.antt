@@ -4,7 +4,7 @@ use Rattle.std.specs.Prelude.{◌^◌, max, Option, Some, None}
 use Rattle.step_laws.specs.Moves.{Inner, Begin, Within}
 use Rattle.step_laws.specs.Numbers.{Numbers, moved, numbered}
 use Rattle.step_laws.specs.Bounds.{AreBounded, AreEnded}
-use Rattle.step_laws.specs.declared.moves.Owed.{Owed}
+use Rattle.kernel_entry.specs.declared.kernel.Owed.{Owed}
 use Rattle.program_steps.specs.Machines.{Machine, numbers_of}
 use Rattle.program_steps.specs.Ready.{IsBounded, AreArrivals, most_arrivals, count_in, IsGoing, HasBounds}
 use Rattle.step_laws.proofs.NumberLaws.{SameArrivals, arrivals_within}

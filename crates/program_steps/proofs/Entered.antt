@@ -1,12 +1,12 @@
 -- What the arrival that is owed leaves of the machine.
 use Rattle.avr_flags.specs.Status.{has_bit, interrupts}
 use Rattle.mote_devices.specs.Waking.{is_enabled}
-use Rattle.mem_guard.specs.FlatMachine.{is_taken}
+use Rattle.flat_machine.specs.FlatMachine.{is_taken}
 use Rattle.program_steps.proofs.Awaiting.{awaits_some, awaits_none, some_same}
-use Rattle.std.proofs.Common.{◌≡◌, ℕ, ◌+◌, ◌-◌, ◌*◌, ◌%◌, ◌<◌, ◌≤◌, Bool, true, false, List, [], ◌∷◌, length, refl, sym, ap, ap₂, ◌∙◌, arith, subst}
+use Rattle.std.proofs.Common.{◌≡◌, ℕ, ◌+◌, ◌-◌, ◌%◌, ◌<◌, ◌≤◌, Bool, true, false, List, [], ◌∷◌, length, refl, sym, ap, ap₂, ◌∙◌, arith, subst}
 use Rattle.std.specs.Prelude.{◌&&◌, is_some, ◌^◌, Option, Some, None, IfSome}
-use Rattle.mem_guard.specs.FlatMachine.{is_own}
-use Rattle.mem_guard.specs.declared.part.Part.{Part}
+use Rattle.flat_machine.specs.FlatMachine.{is_own}
+use Rattle.flat_machine.specs.declared.part.Part.{Part}
 use Rattle.step_laws.specs.Links.{part_number, number_of}
 use Rattle.program_steps.proofs.Owning.{beyond_own, admitted_own, admitted_number, open_admits}
 use Rattle.flash_words.specs.Memory.{IsWhole}
@@ -21,23 +21,24 @@ use Rattle.flash_words.specs.Operations.{is_listed}
 use Rattle.branch_bridge.specs.Tried.{Tried}
 use Rattle.branch_bridge.specs.Arrivals.{KeepsOtherBytes, refused_by, stopped_by, torn_by}
 use Rattle.kernel_entry.specs.Parts.{image_held}
-use Rattle.step_laws.specs.declared.moves.Owed.{Owed}
-use Rattle.step_laws.specs.declared.moves.End.{End}
-use Rattle.step_laws.specs.declared.moves.End.TheVariants as ends
+use Rattle.kernel_entry.specs.declared.kernel.Owed.{Owed}
+use Rattle.kernel_entry.specs.declared.kernel.End.{End}
+use Rattle.kernel_entry.specs.declared.kernel.End.TheVariants as ends
 use Rattle.step_laws.specs.Moves.{Arrive, lines_of}
-use Rattle.step_laws.specs.Numbers.{Numbers, moved, one_if}
+use Rattle.step_laws.specs.Numbers.{moved, one_if}
 use Rattle.step_laws.specs.States.{Awaited, is_taken_at, store_of, placed, arrived}
 use Rattle.step_laws.specs.Walks.{MakesArrive}
 use Rattle.step_laws.specs.StepLaws.{Reaches}
 use Rattle.program_steps.specs.Machines.{Machine, awaited, state_of, numbers_of, flat_of}
 use Rattle.program_steps.specs.Ready.{count_in, IsGoing, IsQuiet, IsEnded, AreArrivals, most_arrivals, IsExact}
-use Rattle.program_steps.specs.Stepping.{AreMadeAt, Goes, IsFault, Entering, HasEntered, HasBound}
+use Rattle.program_steps.specs.Stepping.{IsArrival, Goes, IsFault, Entering, HasEntered, HasBound}
 use Rattle.kernel_entry.specs.Interrupts.{is_wanted}
 use Rattle.program_steps.specs.Interrupts.{IsUntaken}
 use Rattle.program_steps.specs.Loop.{HasArrived}
 use Rattle.program_steps.proofs.Arriving.{Answered}
-use Rattle.program_steps.proofs.Arrived.{place_inside, owed_at, awaited_at, flat_parts, IsMoved, Arrived, arrived_by, order_arrived}
+use Rattle.program_steps.proofs.Arrived.{place_inside, owed_at, awaited_at, flat_parts, Arrived, arrived_by, order_arrived}
 use Rattle.program_steps.proofs.Leading.{stays_self}
+use Rattle.program_steps.proofs.OneBehindOther.{let_in}
 use Rattle.program_steps.proofs.OutsideTables.{outside_count}
 use Rattle.program_steps.proofs.ReadyLaws.{counted_same}
 use Rattle.step_laws.specs.Bounds.{AreBounded}
@@ -45,36 +46,17 @@ use Rattle.program_steps.proofs.Bounds.{bounded_counted, most_owed}
 
 pub entered_none : (m : Machine) → IsGoing m → IsQuiet m → m.owed ≡ None → HasEntered m m None
 unfolding lines_of
-entered_none m ready quiet placed = record { moves = []; goes = record { walk = refl; told = refl; numbers = refl }; stays = stays_self m; broken = refl; steps = refl; flat = refl; made = tt; way = Entering.In ready placed (place_inside m ready placed) (ap (λ d. d && (has_bit m.kernel.mote.cpu.sreg interrupts && is_enabled m.kernel.mote.devices)) (quiet placed)) }
+entered_none m ready quiet placed = record { moves = []; goes = record { walk = refl; told = refl; numbers = refl }; stays = stays_self m; broken = refl; steps = refl; flat = refl; arrives = IsArrival.NoArrival refl; way = Entering.In ready placed (place_inside m ready placed) (ap (λ d. d && (has_bit m.kernel.mote.cpu.sreg interrupts && is_enabled m.kernel.mote.devices)) (quiet placed)) }
 
 exact_same : (old new : Machine) → KeepsOtherBytes old.kernel.mote.sram new.kernel.mote.sram → new.kernel.quantum ≡ old.kernel.quantum → new.crossings ≡ old.crossings → IsExact old → IsExact new
 exact_same old new rest quantum crossings is = outside_count old.kernel.mote.sram new.kernel.mote.sram rest ∙ is ∙ ap₂ (λ q c. q - c % q) (sym quantum) (sym crossings)
 
 -- the numbers
-counted_by : (n n' : Numbers) (made : Bool) (c q k a : ℕ) → IsMoved n n' made → AreBounded n c q k a → AreBounded n' c q k a
-counted_by n n' made c q k a same counted =
-    let natural = counted.natural in
-    let entries = counted.entries in
-    let since = counted.since in
-    let longest = counted.longest in
-    let crossed = counted.crossed in
-    let within = counted.within in
-    let most = counted.most in
-    record {
-      natural = omega (arith, same.natural, same.steps);
-      entries = omega (arith, same.entries, same.steps);
-      since = omega (arith, same.since, same.longest);
-      longest = omega (arith, same.longest, same.natural);
-      crossed = omega (arith, same.steps);
-      within = subst (λ s. s ≤ 40 * (128 * (q - k) + a % 128)) (sym same.since) within;
-      most = omega (arith, same.longest);
-    }
-
 counted_arrived : (old new : Machine) (arrival : Arrival) → Arrived old new arrival → IsGoing old → AreBounded (numbers_of new) new.crossings new.kernel.quantum (count_in new) new.at
 counted_arrived old new arrival told ready =
     let count : count_in new ≡ count_in old = outside_count old.kernel.mote.sram new.kernel.mote.sram told.rest in
     counted_same (numbers_of new) (numbers_of new) new.crossings old.crossings new.kernel.quantum old.kernel.quantum (count_in new) (count_in old) new.at old.at refl told.crossings told.after.quantum count told.at
-    (counted_by (numbers_of old) (numbers_of new) arrival.made old.crossings old.kernel.quantum (count_in old) old.at told.numbers ready.counted)
+    (told.numbers.bounded old.crossings old.kernel.quantum (count_in old) old.at ready.counted)
 
 one_most : (made : Bool) → one_if made ≤ 1
 one_most true = omega arith
@@ -192,9 +174,8 @@ untaken_by m w owes ready untaken inside =
     (ap₂ (λ d t. d && (is_own m.kernel.part t && (has_bit m.kernel.mote.cpu.sreg interrupts && is_enabled m.kernel.mote.devices))) (sym (awaited_due m.owed m.due w owes)) (sym (awaited_at m w ready owes)) ∙ untaken) inside
 
 -- one move
-made_at : (t at ops : ℕ) (made : Bool) → t ≡ at → AreMadeAt (λ a. a ≡ at) (Arrive t made ops ∷ [])
-made_at t at ops true is = (is, tt)
-made_at t at ops false is = (tt, tt)
+arrival_at : (t at ops : ℕ) (made : Bool) → t ≡ at → IsArrival at (Arrive t made ops ∷ [])
+arrival_at t at ops made is = subst (λ a. IsArrival a (Arrive t made ops ∷ [])) is (IsArrival.OneArrival made ops refl)
 
 goes_arrived : (old new : Machine) (t ops : ℕ) (made : Bool) → MakesArrive (state_of old) t made ops (state_of new) → numbers_of new ≡ moved (Arrive t made ops) (numbers_of old) → Goes old new (Arrive t made ops ∷ []) []
 unfolding lines_of
@@ -213,7 +194,7 @@ entered_some old new arrived whole ready =
       broken = arrived.broken;
       steps = steps;
       flat = flat;
-      made = made_at arrived.target old.at arrived.ops arrived.made (makes.at ∙ awaited_at old makes.owed ready makes.owes);
+      arrives = arrival_at arrived.target old.at arrived.ops arrived.made (makes.at ∙ awaited_at old makes.owed ready makes.owes);
       way = way_by old new makes.arrival told ready (λ inside. ap is_taken flat ∙ untaken_by old makes.owed makes.owes ready makes.untaken inside) told.answer;
     }
 
@@ -240,13 +221,8 @@ bound_by m new result end outside entered (Entering.Failed op over kept inside f
 pub bound_wild : (m new : Machine) (owed : Owed) (result : Option End) (end : End) → IsGoing m → m.owed ≡ Some owed → m.kernel.layout.image_words ≤ owed.target → HasEntered m new result → result ≡ Some end → HasBound m new end
 bound_wild m new owed result end ready owes beyond entered is = bound_by m new result end (bound_outside m owed ready owes beyond) entered entered.way is
 
-none_by : (m new : Machine) (result : Option End) → is_own m.kernel.part m.at ≡ false → Entering m new result → result ≡ None → ⊥
-none_by m new result outside (Entering.In ready free inside untaken) is = let e : true ≡ false = sym inside ∙ outside in absurd (cc)
-none_by m new result outside (Entering.Out over kept out) is = absurd (cc)
-none_by m new result outside (Entering.Failed op over kept inside fault) is = absurd (cc)
-
 pub bound_none : (m new : Machine) (owed : Owed) (result : Option End) → IsGoing m → m.owed ≡ Some owed → m.kernel.layout.image_words ≤ owed.target → HasEntered m new result → result ≡ None → ⊥
-bound_none m new owed result ready owes beyond entered is = none_by m new result (bound_outside m owed ready owes beyond) entered.way is
+bound_none m new owed result ready owes beyond entered is = absurd (let e : true ≡ false = sym (let_in m new result entered is).inside ∙ bound_outside m owed ready owes beyond in cc)
 
 -- room for one page more, and for its operations
 pub few_pages : (m : Machine) → IsGoing m → m.steps ≤ 10 ^ 12 → (m.pages < 2 ^ 62) × (m.kernel.mote.flash.ops < 2 ^ 61)

@@ -1,8 +1,8 @@
 -- A machine that is going stands at an entry, so its step has its law.
-use Rattle.program_steps.proofs.Awaiting.{awaits_none}
+use Rattle.program_steps.proofs.Awaiting.{awaits_none, some_same}
 use Rattle.mote_devices.specs.Waking.{Timely}
-use Rattle.std.proofs.Common.{◌≡◌, ◌<◌, sym, ◌∙◌, arith, subst}
-use Rattle.std.specs.Prelude.{◌^◌, min, Option, None}
+use Rattle.std.proofs.Common.{◌≡◌, ◌<◌, sym, ap, ◌∙◌, arith, subst}
+use Rattle.std.specs.Prelude.{◌^◌, min, Option, Some, None}
 use Rattle.page_index.specs.Entries.{IsMapped}
 use Rattle.nat_page.specs.Faithful.{IsFaithful}
 use Rattle.nat_page.specs.Used.{used_pages}
@@ -13,7 +13,8 @@ use Rattle.branch_bridge.specs.Operating.{with_torn}
 use Rattle.kernel_entry.specs.Parts.{image_held}
 use Rattle.step_laws.specs.StepLaws.{StepLaw, Reaches, links_at}
 use Rattle.step_laws.proofs.EveryShape.{entry_laws}
-use Rattle.step_laws.specs.Links.{part_number}
+use Rattle.step_laws.specs.Links.{part_number, OfStub}
+use Rattle.step_laws.specs.States.{Awaited}
 use Rattle.nat_page.specs.Parts.{IsParted}
 use Rattle.program_steps.specs.Machines.{Machine, state_of, awaits}
 use Rattle.program_steps.specs.Ready.{IsGoing}
@@ -22,6 +23,16 @@ use Rattle.program_steps.specs.Stepping.{links_in}
 pub by_stands : (m : Machine) → m.owed ≡ None → Reaches (links_in m) m.at (awaits m) (state_of m) → (links_in m).enters m.at m.kernel.mote.cpu.pc
 by_stands m placed (Reaches.Placed quiet free entry) = entry
 by_stands m placed (Reaches.Owing stub alone owes of) = absurd (let e = sym owes ∙ awaits_none m placed in cc)
+
+-- .. and owes an arrival at its address, of the stub that asked for it, where it owes one
+owing_by : (m : Machine) (w : Awaited) → (state_of m).owed ≡ Some w → Reaches (links_in m) m.at (awaits m) (state_of m) → (w.target ≡ m.at) × OfStub (links_in m) m.kernel.mote.flash.words w.stub m.at
+owing_by m w owes (Reaches.Placed quiet free entry) = absurd (let e = sym owes ∙ free in cc)
+owing_by m w owes (Reaches.Owing stub alone owes' of) =
+    let same = some_same _ _ (sym owes ∙ owes') in
+    (ap (λ (v : Awaited). v.target) same, subst (λ (v : Awaited). OfStub (links_in m) m.kernel.mote.flash.words v.stub m.at) (sym same) of)
+
+pub owing : (m : Machine) (w : Awaited) → IsGoing m → (state_of m).owed ≡ Some w → (w.target ≡ m.at) × OfStub (links_in m) m.kernel.mote.flash.words w.stub m.at
+owing m w ready owes = owing_by m w owes ready.stands
 
 -- flash holds faithful code as it is, since no page is torn
 pub faithful_going : (m : Machine) → IsGoing m → IsFaithful m.kernel.layout (image_held m.kernel) m.kernel.mote.flash.words

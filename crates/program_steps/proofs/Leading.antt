@@ -1,7 +1,7 @@
 -- What leads from one machine to the next, and on.
 use Rattle.std.proofs.Common.{◌≡◌, List, [], ◌∷◌, ◌++◌, refl, ◌∙◌}
 use Rattle.mote_devices.specs.declared.line.Line.{Line}
-use Rattle.step_laws.specs.Moves.{Move, Begin, Within, Arrive, Take}
+use Rattle.step_laws.specs.Moves.{Move, Begin}
 use Rattle.step_laws.proofs.Joining.{joins}
 use Rattle.program_steps.specs.Machines.{Machine, counted_of}
 use Rattle.program_steps.specs.Stepping.{Goes, Stays, ends_in_arrive}
@@ -11,9 +11,7 @@ goes_on x y z ms ns a b first then = joins (counted_of x) (counted_of y) (counte
 
 pub last_cons : (m : Move) (ns : List Move) (n : Move) → ends_in_arrive (m ∷ n ∷ ns) ≡ ends_in_arrive (n ∷ ns)
 last_cons (Begin line) ns n = refl
-last_cons (Within inner) ns n = refl
-last_cons (Arrive target made ops) ns n = refl
-last_cons (Take stops) ns n = refl
+last_cons _ ns n = refl
 
 -- the last of both is the last of the second, which isn't empty
 pub last_on : (ms ns : List Move) (n : Move) → ends_in_arrive (ms ++ n ∷ ns) ≡ ends_in_arrive (n ∷ ns)

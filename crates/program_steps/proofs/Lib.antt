@@ -13,11 +13,8 @@ pub mod Arriving
 pub mod Arrived
 pub mod Entered
 pub mod TakingLaws
-pub mod SameFlash
-pub mod MadeAt
 pub mod OneBehindOther
 pub mod Undue
 pub mod Leading
 pub mod Waiting
-pub mod Marked
 pub mod Beginning

@@ -2,12 +2,12 @@
 use Rattle.std.proofs.Common.{◌≡◌, ℕ, ◌+◌, ◌<◌, ◌≤◌, Bool, true, false, refl, ap, arith}
 use Rattle.std.specs.Prelude.{◌||◌, not}
 use Rattle.std.proofs.lemmas.Bool.Decides.{nat_tests}
-use Rattle.mem_guard.specs.declared.part.Part.{Part}
-use Rattle.mem_guard.specs.FlatMachine.{is_own}
+use Rattle.flat_machine.specs.declared.part.Part.{Part}
+use Rattle.flat_machine.specs.FlatMachine.{is_own}
 use Rattle.step_laws.specs.Links.{part_number, number_of}
 use Rattle.step_laws.specs.States.{admits}
 use Rattle.program_steps.specs.Ready.{IsRightPart}
-use Rattle.mem_guard.proofs.PartLaws.{own_range}
+use Rattle.flat_machine.proofs.PartLaws.{own_range}
 
 range_own : (part : Part) (a : ℕ) → part.first ≤ a → a < part.first + part.count → is_own part a ≡ true
 range_own part a from to = grind (arith, nat_tests)

@@ -3,26 +3,21 @@ use Rattle.program_steps.proofs.Awaiting.{due_reached}
 use Rattle.std.proofs.Common.{suc, ◌≡◌, ℕ, ◌+◌, ◌-◌, ◌*◌, ◌%◌, ◌<◌, ◌≤◌, ◌==◌, Bool, true, false, List, refl, sym, ap, ap₂, ◌∙◌, arith, subst}
 use Rattle.std.proofs.Math.Nat.{mod-lt, mod-eq_of_lt, mod_self, suc-mod}
 use Rattle.std.proofs.Math.Numerals.{suc-eq-add-one}
-use Rattle.std.specs.Prelude.{◌≢◌, ◌&&◌, ◌||◌, min, Option, Some, None, IfSome, if◌then◌else◌}
+use Rattle.std.specs.Prelude.{◌≢◌, ◌&&◌, ◌||◌, Option, Some, None, IfSome, if◌then◌else◌}
 use Rattle.std.proofs.lemmas.Bool.{and_parts}
 use Rattle.std.proofs.lemmas.Bool.Decides.{nat_tests}
 use Rattle.avr_isa.specs.Crossing.{is_crossing}
-use Rattle.flash_words.specs.Memory.{Memory, IsWhole}
-use Rattle.flash_words.specs.Layouts.{IsRight, image_of}
+use Rattle.flash_words.specs.Memory.{Memory}
 use Rattle.flash_words.specs.declared.layout.Layout.{Layout}
-use Rattle.flash_words.specs.Layouts.{layout_of}
 use Rattle.sram_layout.specs.Bytes.{byte_at, data_word_at}
 use Rattle.page_index.specs.Maps.{IsPool}
-use Rattle.nat_page.specs.Faithful.{IsFaithful}
 use Rattle.branch_bridge.specs.declared.rewriting.Torn.{Torn}
-use Rattle.branch_bridge.specs.Operating.{with_torn}
 use Rattle.branch_bridge.specs.Arrivals.{ring_of}
-use Rattle.flash_words.specs.Operations.{is_listed}
 use Rattle.branch_bridge.specs.Tried.{IsTorn}
-use Rattle.step_laws.specs.declared.moves.Owed.{Owed}
-use Rattle.step_laws.specs.declared.moves.End.TheVariants as ends
-use Rattle.nat_page.specs.Used.{used_pages}
-use Rattle.addr_tables.specs.Tables.{IsTables}
+use Rattle.kernel_entry.specs.declared.kernel.Kernel.{Kernel}
+use Rattle.kernel_entry.specs.declared.kernel.Owed.{Owed}
+use Rattle.kernel_entry.specs.declared.kernel.End.{End}
+use Rattle.kernel_entry.specs.declared.kernel.End.TheVariants as ends
 use Rattle.addr_tables.proofs.TableLaws.{tables_kept}
 use Rattle.preempt_count.specs.Counting.{count_over, is_checkpoint}
 use Rattle.kernel_entry.specs.Seen.{count_of}
@@ -31,15 +26,13 @@ use Rattle.step_laws.specs.Bounds.{AreBounded}
 use Rattle.step_laws.proofs.BoundLaws.{is_one, keep_bounds}
 use Rattle.step_laws.specs.Numbers.{Numbers, moved, numbered}
 use Rattle.step_laws.specs.States.{State}
-use Rattle.mem_guard.specs.declared.part.Part.{Part}
-use Rattle.nat_page.specs.Parts.{IsParted}
-use Rattle.step_laws.specs.Links.{links_of, part_number}
+use Rattle.flat_machine.specs.declared.part.Part.{Part}
+use Rattle.step_laws.specs.Links.{links_of}
 use Rattle.step_laws.specs.StepLaws.{moves_of, GoesTo, Reaches, Keeps, crossings_over, links_at}
 use Rattle.program_steps.specs.Machines.{Machine, state_of, numbers_of, awaits}
-use Rattle.program_steps.specs.Ready.{IsRightPart, count_in, HasFault, AreTried, IsInOrder, IsGoing, AreArrivals, most_arrivals}
+use Rattle.program_steps.specs.Ready.{count_in, IsByFlash, HasFault, AreTried, IsOrder, IsInOrder, IsGoing, AreArrivals, most_arrivals}
 use Rattle.program_steps.specs.Loop.{LawOf, Taken}
 use Rattle.program_steps.proofs.Bounds.{arrivals_first}
-use Rattle.program_steps.proofs.Laws.{tables_going}
 
 pub ring_kept : (m n : List ℕ) → ((b : ℕ) → 0x0142 ≤ b → b < 0x0400 → byte_at n b ≡ byte_at m b) → ring_of n ≡ ring_of m
 unfolding data_word_at
@@ -50,52 +43,43 @@ pub no_refusal : (refused : Option ℕ) (layout : Layout) → (refused ≢ None 
 no_refusal None layout never = tt
 no_refusal (Some page) layout never = absurd (never (λ none. let e : Some page ≡ None = none in cc))
 
--- no operation on flash is tried in a step
-pub tried_on : (old new : Machine) → new.kernel.mote.flash ≡ old.kernel.mote.flash → new.torn ≡ None → IsGoing old → AreTried new
-tried_on old new flash torn ready =
+-- no operation on flash is tried in a step, however it ends
+tried_on : (m : Machine) (end : Option End) → IsGoing m → AreTried m.kernel.layout m.kernel.mote.flash end m.torn
+tried_on m end ready =
     let before = ready.order.tried in
-    let never : HasFault old → ⊥ = λ fault. (let e : Some (ends.Flash fault.0) ≡ None = sym fault.1 ∙ ready.going in absurd (cc)) in
+    let never : HasFault m → ⊥ = λ fault. (let e : Some (ends.Flash fault.0) ≡ None = sym fault.1 ∙ ready.going in absurd (cc)) in
     record {
-      listed = λ op from to there.
-          let L : Memory → Type 0 = λ f. op ≤ f.ops → is_listed f.failing op ≡ true → old.end ≡ Some (ends.Flash op) in
-          absurd (never (op, subst L (sym flash) (before.listed op from) to there));
-      refused = λ some. absurd (never (before.refused (subst (λ (f : Memory). f.refused ≢ None) flash some)));
-      pool = no_refusal new.kernel.mote.flash.refused new.kernel.layout (λ some. never (before.refused (subst (λ (f : Memory). f.refused ≢ None) flash some)));
-      torn = subst (λ t. IfSome t (λ torn. IsTorn new.kernel.layout new.kernel.mote.flash.words torn × HasFault new)) (sym torn) tt;
+      listed = λ op from to there. absurd (never (op, before.listed op from to there));
+      refused = λ some. absurd (never (before.refused some));
+      pool = before.pool;
+      torn = subst (λ t. IfSome t (λ torn. IsTorn m.kernel.layout m.kernel.mote.flash.words torn × IsByFlash end)) (sym ready.untorn) tt;
     }
 
 -- what is in order stays so
 pub order_on : (old new : Machine) → Keeps (state_of old) (state_of new) → new.torn ≡ old.torn → new.pages ≡ old.pages → IsGoing old → IsInOrder new
 order_on old new keeps torn same ready =
     let order = ready.order in
-    let untorn : new.torn ≡ None = torn ∙ ready.untorn in
-    let F : Layout → Memory → Option Torn → Type 0 = λ l f t. IsFaithful l (image_of l f.words) (with_torn f.words t) in
-    let I : Part → Layout → Memory → Option Torn → Type 0 = λ p l f t. IsParted l (image_of l f.words) (with_torn f.words t) (part_number p.shut) in
-    let T : Layout → List ℕ → Memory → Option Torn → Type 0 = λ l m f t. IsTables l m (with_torn f.words t) in
-    let U : Layout → Memory → Option Torn → Type 0 = λ l f t. used_pages l (with_torn f.words t) ≡ min new.pages l.pool_pages in
-    let l = old.kernel.layout in
-    let f = old.kernel.mote.flash in
-    let m = old.kernel.mote.sram in
-    let words = f.words in
-    let registers = order.registers in
-    let quantum = order.quantum in
-    record {
-      layout = subst (λ (l : Layout). l ≡ layout_of l.image_words) (sym keeps.layout) order.layout;
-      right = subst IsRight (sym keeps.layout) order.right;
-      faithful = subst (λ k. F k new.kernel.mote.flash new.torn) (sym keeps.layout) (subst (λ g. F l g new.torn) (sym keeps.flash) (subst (F l f) (sym torn) order.faithful));
-      part = subst (λ (k : Layout). IsRightPart new.kernel.part k.image_words) (sym keeps.layout) (subst (λ p. IsRightPart p l.image_words) (sym keeps.part) order.part);
-      parted = subst (λ p. I p new.kernel.layout new.kernel.mote.flash new.torn) (sym keeps.part) (subst (λ k. I old.kernel.part k new.kernel.mote.flash new.torn) (sym keeps.layout) (subst (λ g. I old.kernel.part l g new.torn) (sym keeps.flash) (subst (I old.kernel.part l f) (sym torn) order.parted)));
-      tables = subst (λ k. T k new.kernel.mote.sram new.kernel.mote.flash new.torn) (sym keeps.layout) (subst (λ g. T l new.kernel.mote.sram g new.torn) (sym keeps.flash) (subst (T l new.kernel.mote.sram f) (sym untorn)
-          (tables_kept l m new.kernel.mote.sram words words (λ a from to. keeps.tables a (omega arith) to) (λ t v entry. entry) (tables_going old ready))));
+    let k = old.kernel in
+    let n = new.kernel in
+    let make : Layout → Part → ℕ → Memory → Kernel = λ l p q f. record n { layout = l; part = p; quantum = q; mote = record n.mote { flash = f } } in
+    let is : n ≡ make k.layout k.part k.quantum k.mote.flash = ap₂ (λ l p. make l p n.quantum n.mote.flash) keeps.layout keeps.part ∙ ap₂ (make k.layout k.part) keeps.quantum keeps.flash in
+    let O : Kernel → Option Torn → ℕ → Type 0 = λ x t pages. IsOrder x new.end t pages in
+    subst (λ x. O x new.torn new.pages) (sym is) (subst (λ t. O (make k.layout k.part k.quantum k.mote.flash) t new.pages) (sym torn) (subst (O (make k.layout k.part k.quantum k.mote.flash) old.torn) (sym same) (record {
+      layout = order.layout;
+      right = order.right;
+      faithful = order.faithful;
+      part = order.part;
+      parted = order.parted;
+      tables = tables_kept k.layout k.mote.sram n.mote.sram _ _ (λ a from to. keeps.tables a (omega arith) to) (λ t v entry. entry) order.tables;
       paged = keeps.paged;
-      whole = subst IsWhole (sym keeps.flash) order.whole;
-      registers = omega (arith, keeps.registers);
+      whole = order.whole;
+      registers = omega (arith, keeps.registers, order.registers);
       pointer = keeps.pointer;
-      quantum = omega (arith, keeps.quantum);
-      pages = subst (λ k. U k new.kernel.mote.flash new.torn) (sym keeps.layout) (subst (λ g. U l g new.torn) (sym keeps.flash) (subst (U l f) (sym torn) (order.pages ∙ ap (λ n. min n l.pool_pages) (sym same))));
-      ring = omega (arith, ring_kept m new.kernel.mote.sram keeps.tables, order.ring, ap (λ (k : Layout). k.pool_pages) keeps.layout);
-      tried = tried_on old new keeps.flash untorn ready;
-    }
+      quantum = order.quantum;
+      pages = order.pages;
+      ring = omega (arith, ring_kept k.mote.sram n.mote.sram keeps.tables, order.ring);
+      tried = tried_on old new.end ready;
+    })))
 
 by : (b c : Bool) (q count : ℕ) → 1 ≤ count → count ≤ q → (count == 1) ≡ c → (1 ≤ (if b then (if c then q else count - 1) else count)) × ((if b then (if c then q else count - 1) else count) ≤ q)
 by false c q count some most one = (some, most)

@@ -6,7 +6,7 @@ use Rattle.std.specs.Prelude.{◌≢◌, ◌&&◌, is_some, Option, Some, None}
 use Rattle.page_index.specs.Entries.{IsEntry, IsMapped}
 use Rattle.page_index.proofs.EntryLaws.{one_address}
 use Rattle.kernel_entry.specs.declared.kernel.Kernel.{Kernel}
-use Rattle.step_laws.specs.declared.moves.Owed.{Owed}
+use Rattle.kernel_entry.specs.declared.kernel.Owed.{Owed}
 use Rattle.program_steps.specs.declared.progress.Progress.{Progress}
 use Rattle.program_steps.specs.Machines.{Machine}
 use Rattle.step_laws.specs.StepLaws.{Reaches, crossings_over}

@@ -2,9 +2,9 @@
 use Rattle.avr_isa.specs.Crossing.{is_crossing}
 use Rattle.preempt_count.specs.Counting.{is_checkpoint}
 use Rattle.mote_devices.specs.Waking.{Timely}
-use Rattle.mem_guard.specs.declared.part.Part.{Part}
-use Rattle.mem_guard.specs.FlatMachine.{is_taken, next_of, tried}
-use Rattle.mem_guard.proofs.MachineLaws.{next_tried}
+use Rattle.flat_machine.specs.declared.part.Part.{Part}
+use Rattle.flat_machine.specs.FlatMachine.{is_taken, next_of, tried}
+use Rattle.flat_machine.proofs.MachineLaws.{next_tried}
 use Rattle.program_steps.proofs.Awaiting.{state_settled, due_reached, free_of}
 use Rattle.std.proofs.Common.{◌≡◌, ℕ, ◌+◌, ◌-◌, ◌%◌, ◌<◌, length, Bool, true, false, List, [], ◌∷◌, refl, sym, ap, ap₂, ◌∙◌, arith, subst, map}
 use Rattle.std.specs.Prelude.{◌&&◌, ◌||◌, ◌==◌, is_some, ◌^◌, Option, Some, None}
@@ -13,12 +13,12 @@ use Rattle.flash_words.specs.Memory.{Memory}
 use Rattle.flash_words.specs.declared.layout.Layout.{Layout}
 use Rattle.flash_words.specs.Layouts.{image_of}
 use Rattle.page_index.specs.Entries.{IsMapped}
-use Rattle.mem_guard.specs.FlatMachine as flat_ends
+use Rattle.flat_machine.specs.FlatMachine as flat_ends
 use Rattle.kernel_entry.specs.declared.kernel.Kernel.{Kernel}
 use Rattle.kernel_entry.specs.declared.kernel.Stop.{Stop}
 use Rattle.kernel_entry.specs.Parts.{image_held}
 use Rattle.kernel_entry.specs.Seen.{count_of}
-use Rattle.step_laws.specs.declared.moves.End.TheVariants as ends
+use Rattle.kernel_entry.specs.declared.kernel.End.TheVariants as ends
 use Rattle.step_laws.specs.Moves.{Inner, lines_of, line_before, Within}
 use Rattle.step_laws.specs.Numbers.{Numbers, moved, numbered}
 use Rattle.step_laws.specs.States.{State, mote_of}
@@ -30,7 +30,7 @@ use Rattle.kernel_entry.specs.Seen.{state_at, program}
 use Rattle.program_steps.specs.Machines.{Machine, state_of, numbers_of, flat_of}
 use Rattle.program_steps.specs.Ready.{count_in, IsGoing, IsQuiet, IsBounded, HasBounds, AreArrivals, most_arrivals}
 use Rattle.program_steps.specs.Loop.{is_small, LawOf, Taken, Took, HasTaken}
-use Rattle.program_steps.specs.Stepping.{Goes, links_in, settled, HasSettled, HasStepped, StepWay, Stays, AreMadeAt, ends_in_arrive}
+use Rattle.program_steps.specs.Stepping.{Goes, links_in, settled, HasSettled, HasStepped, StepWay, Stays, AreOwn, ends_in_arrive}
 use Rattle.program_steps.proofs.Told.{mapped_same}
 use Rattle.step_laws.proofs.BoundLaws.{keep_bounds, end_bounds}
 use Rattle.program_steps.proofs.Bounds.{arrivals_first, most_owed, bounded_stop}
@@ -48,11 +48,6 @@ inner_last : (rest : List Inner) → ends_in_arrive (map Within rest) ≡ false
 inner_last [] = refl
 inner_last (m ∷ rest) = inner_last rest
 
--- .. and makes no page
-inner_made : (rest : List Inner) → AreMadeAt (λ t. ⊥) (map Within rest)
-inner_made [] = tt
-inner_made (m ∷ rest) = (tt, inner_made rest)
-
 -- the law's walk as moves
 law_goes : (old new : Machine) (line : Option Line) (law : LawOf old) → Taken old new law → line ≡ law.line → Goes old new (moves_of law) (line_before line [])
 unfolding lines_of
@@ -65,7 +60,7 @@ law_goes old new line law taken written = record {
 flat_same : (k k' : Kernel) (a a' s s' c c' : ℕ) → k ≡ k' → a ≡ a' → s ≡ s' → c ≡ c' → state_at k a s c ≡ state_at k' a' s' c'
 flat_same k k' a a' s s' c c' ek ea es ec = ap (λ (x : Kernel). state_at x a s c) ek ∙ ap (λ x. state_at k' x s c) ea ∙ ap (λ x. state_at k' a' x c) es ∙ ap (λ x. state_at k' a' s' x) ec
 
-stays_by : (old new : Machine) → Keeps (state_of old) (state_of new) → Stays old new
+pub stays_by : (old new : Machine) → Keeps (state_of old) (state_of new) → Stays old new
 stays_by old new keeps = record {
   program = ap₂ (λ i n. record { image = i; part = new.kernel.part; page_limit = n; quantum = new.kernel.quantum }) (ap₂ (λ (l : Layout) (f : Memory). image_of l f.words) keeps.layout keeps.flash) keeps.slots ∙ ap₂ (λ q r. record { image = image_held old.kernel; part = r; page_limit = length old.kernel.mote.swap; quantum = q }) keeps.quantum keeps.part;
   layout = keeps.layout;
@@ -89,7 +84,7 @@ went_by : (old mid : Machine) (line : Option Line) (law : StepLaw (links_in old)
 unfolding moved
 went_by old mid line law to ready untaken torn took goes =
     let new = settled mid to in
-    let crossed : crossings_over mid.at to mid.crossings ≡ crossings_over old.at to old.crossings = ap₂ (λ a c. crossings_over a to c) took.at took.crossings in
+    let crossed : crossings_over mid.at to mid.crossings ≡ crossings_over old.at to old.crossings = ap₂ (λ a c. crossings_over a to c) took.rest.at took.rest.crossings in
     let state : state_of new ≡ law.end = state_settled mid to ∙ took.taken.state in
     let taken : Taken old new law = record { state = state; numbers = took.taken.numbers } in
     let due : new.due ≡ (goes.wakes || is_checkpoint old.at to (count_in old)) = due_reached mid (links_in old) to _ law.end took.taken.state goes.reaches in
@@ -105,9 +100,9 @@ went_by old mid line law to ready untaken torn took goes =
       goes = law_goes old new line law taken took.written;
       last = inner_last law.rest;
       some = λ e. cc;
-      none_made = (tt, inner_made law.rest);
+      own = AreOwn.Making law.first law.rest refl law.few law.serves;
       stays = stays_by old new (subst (Keeps (state_of old)) (sym state) law.keeps);
-      broken = took.broken;
+      broken = took.rest.broken;
       flash = ap (λ (s : State). (mote_of s).flash) took.taken.state ∙ law.keeps.flash;
       arrivals = on.arrivals;
       way = StepWay.On on (λ free. ap (λ o. is_some o && mid.due) free) steps
@@ -147,20 +142,20 @@ stopped_by old mid line law stop ready untaken torn took stops =
       goes = law_goes old mid line law took.taken took.written;
       last = inner_last law.rest;
       some = λ e. cc;
-      none_made = (tt, inner_made law.rest);
+      own = AreOwn.Making law.first law.rest refl law.few law.serves;
       stays = stays_by old mid keeps;
-      broken = took.broken;
+      broken = took.rest.broken;
       flash = ap (λ (s : State). (mote_of s).flash) took.taken.state ∙ law.keeps.flash;
       arrivals = arrivals_stopped old mid law ready took.taken.numbers steps (free_of mid (ap (λ (s : State). s.owed) took.taken.state ∙ stops.free)) keeps;
       way = StepWay.Stopped stop (record {
         order = order_on old mid keeps torn (ap (λ (k : Numbers). k.pages) took.taken.numbers ∙ (arrivals_first law.first law.rest (numbers_of old)).pages) ready;
-        bounded = bounded_to mid (numbered (moves_of law) (numbers_of old)) old.crossings old.kernel.quantum took.taken.numbers took.crossings keeps.quantum
+        bounded = bounded_to mid (numbered (moves_of law) (numbers_of old)) old.crossings old.kernel.quantum took.taken.numbers took.rest.crossings keeps.quantum
             (bounded_stop (numbers_of old) _ old.crossings old.kernel.quantum old.kernel.mote.devices.polls mid.kernel.mote.devices.polls old.owed ended.2 (arrivals_first law.first law.rest (numbers_of old)) ended.0 ready.arrivals ready.polls keeps.polls);
         ended = λ going. let e : Some (ends.Stopped stop) ≡ None = sym stopped ∙ going in cc;
-        exact = ap (λ (s : State). count_of s.kernel) took.taken.state ∙ stops.count ∙ ready.exact ∙ ap₂ (λ q c. q - c % q) (sym keeps.quantum) (sym took.crossings);
+        exact = ap (λ (s : State). count_of s.kernel) took.taken.state ∙ stops.count ∙ ready.exact ∙ ap₂ (λ q c. q - c % q) (sym keeps.quantum) (sym took.rest.crossings);
       }) stopped (took.written ∙ stops.silent) steps (next_tried (program old.kernel) (flat_of old) _ untaken (stops.original old.steps old.crossings))
-          (ap₂ (λ s d. record { now = s; due = d }) (flat_same mid.kernel law.end.kernel mid.at old.at mid.steps old.steps mid.crossings old.crossings (ap (λ (s : State). s.kernel) took.taken.state) took.at steps took.crossings ∙ stops.same old.steps old.crossings)
-          (took.due (free_of mid (ap (λ (s : State). s.owed) took.taken.state ∙ stops.free))));
+          (ap₂ (λ s d. record { now = s; due = d }) (flat_same mid.kernel law.end.kernel mid.at old.at mid.steps old.steps mid.crossings old.crossings (ap (λ (s : State). s.kernel) took.taken.state) took.rest.at steps took.rest.crossings ∙ stops.same old.steps old.crossings)
+          (took.rest.due (free_of mid (ap (λ (s : State). s.owed) took.taken.state ∙ stops.free))));
     }
 
 stepped_as : (old mid new : Machine) (line : Option Line) (law : StepLaw (links_in old) (state_of old) old.at) → IsGoing old → is_taken (flat_of old) ≡ false → mid.torn ≡ old.torn → Took old mid line law → mid.kernel.layout ≡ old.kernel.layout → mid.kernel.mote.flash ≡ old.kernel.mote.flash
@@ -185,7 +180,7 @@ gone_by old mid new line ready timely untaken few placed torn told layout flash 
 
 pub few_after : (old mid : Machine) (line : Option Line) → IsGoing old → Timely old.kernel.mote.devices → old.owed ≡ None → old.steps < 2 ^ 50 → HasTaken old mid line → mid.crossings < 2 ^ 62
 few_after old mid line ready timely placed steps told =
-    let same = (told (law_of old ready timely steps placed)).crossings in
+    let same = (told (law_of old ready timely steps placed)).rest.crossings in
     let few = ready.counted.crossed in
     omega arith
 
@@ -193,4 +188,4 @@ pub mapped_after : (old mid : Machine) → IsGoing old → mid.kernel.layout ≡
 mapped_after old mid ready layout flash = mapped_same old mid layout flash (mapped_going old ready)
 
 pub quiet_after : (old mid : Machine) (line : Option Line) → IsGoing old → Timely old.kernel.mote.devices → old.owed ≡ None → old.steps < 2 ^ 50 → old.due ≡ false → HasTaken old mid line → IsQuiet mid
-quiet_after old mid line ready timely placed steps undue told = λ free. (told (law_of old ready timely steps placed)).due free ∙ undue
+quiet_after old mid line ready timely placed steps undue told = λ free. (told (law_of old ready timely steps placed)).rest.due free ∙ undue

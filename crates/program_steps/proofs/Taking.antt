@@ -15,7 +15,7 @@ use Rattle.step_laws.specs.Numbers.{moved, numbered}
 use Rattle.step_laws.specs.States.{State, mote_of}
 use Rattle.step_laws.specs.Walks.{WalkWithin, MakesOf}
 use Rattle.step_laws.specs.StepLaws.{moves_of, Reaches, Outcome, Keeps, links_at}
-use Rattle.program_steps.specs.Loop.{IsOver, CanMove, HasMoved, LawOf, moves_made, Rest, IsMidway, Took}
+use Rattle.program_steps.specs.Loop.{IsAsBegun, IsOver, CanMove, HasMoved, LawOf, moves_made, Rest, IsMidway, Took}
 use Rattle.program_steps.proofs.Told.{none_left, moved_made}
 
 some_none : {A : Type 0} (o : Option A) (a : A) → o ≡ Some a → o ≢ None
@@ -70,19 +70,15 @@ rest_first old new after law told =
       walk = subst (λ s. WalkWithin s law.rest law.end) (sym t.state) law.walk.2;
       short = omega (arith, law.few, law.serves, length_is law.rest, moved_made (record old { steps = old.steps + 1 }) new None after (first_can old law) told);
       numbers = ap (numbered (map Within law.rest)) t.numbers;
-      at = t.at;
-      broken = t.broken;
-      crossings = t.crossings;
-      due = t.due;
+      begun = record { at = t.rest.at; broken = t.rest.broken; crossings = t.rest.crossings; due = t.rest.due };
       lines = lines_on None after law.line (Plain law.first) (lines_of (map Within law.rest)) t.written law.lines;
     }
 
 rest_by : (old now new : Machine) (before after : Option Line) (law : LawOf old) (ms : List Inner) → WalkWithin (state_of now) ms law.end → length ms + moves_made now ≤ moves_made old + 65
-    → numbered (map Within ms) (numbers_of now) ≡ numbered (moves_of law) (numbers_of old) → now.at ≡ old.at → now.broken ≡ old.broken → now.crossings ≡ old.crossings → (now.owed ≡ None → now.due ≡ old.due)
-    → line_before before (lines_of (map Within ms)) ≡ line_before law.line [] → ¬ IsOver (state_of now) → HasMoved now new before after → Rest old new after law
+    → numbered (map Within ms) (numbers_of now) ≡ numbered (moves_of law) (numbers_of old) → IsAsBegun old now → line_before before (lines_of (map Within ms)) ≡ line_before law.line [] → ¬ IsOver (state_of now) → HasMoved now new before after → Rest old new after law
 unfolding lines_of
-rest_by old now new before after law [] walk short numbers at broken crossings due lines on told = absurd (on (subst IsOver (sym walk) (over_law old law)))
-rest_by old now new before after law (m ∷ ms) walk short numbers at broken crossings due lines on told =
+rest_by old now new before after law [] walk short numbers begun lines on told = absurd (on (subst IsOver (sym walk) (over_law old law)))
+rest_by old now new before after law (m ∷ ms) walk short numbers begun lines on told =
     let t = told false m walk.0 walk.1 in
     let made = moved_made now new before after (record { begins = false; inner = m; next = walk.0; makes = walk.1 }) told in
     record {
@@ -90,10 +86,7 @@ rest_by old now new before after law (m ∷ ms) walk short numbers at broken cro
       walk = subst (λ s. WalkWithin s ms law.end) (sym t.state) walk.2;
       short = omega (arith, short, made);
       numbers = ap (numbered (map Within ms)) t.numbers ∙ numbers;
-      at = t.at ∙ at;
-      broken = t.broken ∙ broken;
-      crossings = t.crossings ∙ crossings;
-      due = λ free. t.due free ∙ due (free_of now (free_move (state_of now) walk.0 m walk.1));
+      begun = record { at = t.rest.at ∙ begun.at; broken = t.rest.broken ∙ begun.broken; crossings = t.rest.crossings ∙ begun.crossings; due = λ free. t.rest.due free ∙ begun.due (free_of now (free_move (state_of now) walk.0 m walk.1)) };
       lines = lines_on before after law.line m (lines_of (map Within ms)) t.written lines;
     }
 
@@ -103,7 +96,7 @@ midway_on old now new before after (IsMidway.Begun same silent) told law =
     rest_first old new after law (subst (λ m. HasMoved m new None after) same (subst (λ l. HasMoved now new l after) silent told))
 midway_on old now new before after (IsMidway.Going on left) told law =
     let r = left law in
-    rest_by old now new before after law r.rest r.walk r.short r.numbers r.at r.broken r.crossings r.due r.lines on told
+    rest_by old now new before after law r.rest r.walk r.short r.numbers r.begun r.lines on told
 
 -- some move of the step may be made
 next_by : (x z : State) (ms : List Inner) → WalkWithin x ms z → IsOver z → ¬ IsOver x → CanMove x
@@ -127,12 +120,12 @@ midway_few old now line law (IsMidway.Going on left) = let r = left law in few_b
 
 -- where it is over, all moves were made
 took_by : (old new : Machine) (line : Option Line) (law : LawOf old) (ms : List Inner) → ms ≡ [] → WalkWithin (state_of new) ms law.end → numbered (map Within ms) (numbers_of new) ≡ numbered (moves_of law) (numbers_of old)
-    → new.at ≡ old.at → new.broken ≡ old.broken → new.crossings ≡ old.crossings → (new.owed ≡ None → new.due ≡ old.due) → line_before line (lines_of (map Within ms)) ≡ line_before law.line [] → Took old new line law
+    → IsAsBegun old new → line_before line (lines_of (map Within ms)) ≡ line_before law.line [] → Took old new line law
 unfolding lines_of
-took_by old new line law [] none walk numbers at broken crossings due lines =
-    record { taken = record { state = walk; numbers = numbers }; written = same_line line law.line lines; at = at; broken = broken; crossings = crossings; due = due }
-took_by old new line law (m ∷ ms) none walk numbers at broken crossings due lines = absurd (cc)
+took_by old new line law [] none walk numbers begun lines =
+    record { taken = record { state = walk; numbers = numbers }; written = same_line line law.line lines; rest = begun }
+took_by old new line law (m ∷ ms) none walk numbers begun lines = absurd (cc)
 
 pub took_over : (old new : Machine) (line : Option Line) → IsRight new.kernel.layout → IsMapped new.kernel.layout new.kernel.mote.flash.words → IsOver (state_of new) → (law : LawOf old) → Rest old new line law → Took old new line law
 took_over old new line right mapped over law r =
-    took_by old new line law r.rest (none_left (state_of new) law.end r.rest right mapped r.walk over) r.walk r.numbers r.at r.broken r.crossings r.due r.lines
+    took_by old new line law r.rest (none_left (state_of new) law.end r.rest right mapped r.walk over) r.walk r.numbers r.begun r.lines

@@ -1,47 +1,35 @@
 -- An interrupt that is taken is a step of the program.
 use Rattle.std.proofs.Common.{◌≡◌, ℕ, ◌+◌, ◌<◌, Bool, true, false, [], ◌∷◌, length, refl, sym, ap, ap₂, ◌∙◌, arith, subst}
-use Rattle.std.specs.Prelude.{◌^◌, ◌&&◌, ◌-◌, ◌%◌, is_some, min, Some, None, Option}
+use Rattle.std.specs.Prelude.{◌^◌, ◌&&◌, ◌-◌, ◌%◌, is_some, Some, None, Option}
 use Rattle.std.proofs.lemmas.Bool.{and_parts}
-use Rattle.mem_guard.specs.FlatMachine.{is_own}
-use Rattle.mem_guard.specs.declared.part.Part.{Part}
-use Rattle.nat_page.specs.Parts.{IsParted}
-use Rattle.step_laws.specs.Links.{part_number}
+use Rattle.flat_machine.specs.FlatMachine.{is_own}
 use Rattle.avr_flags.specs.Status.{has_bit, interrupts}
-use Rattle.flash_words.specs.Memory.{Memory, IsWhole}
-use Rattle.flash_words.specs.Layouts.{IsRight, image_of, layout_of}
-use Rattle.flash_words.specs.declared.layout.Layout.{Layout}
-use Rattle.nat_page.specs.Faithful.{IsFaithful}
-use Rattle.nat_page.specs.Used.{used_pages}
-use Rattle.addr_tables.specs.Tables.{IsTables}
-use Rattle.branch_bridge.specs.declared.rewriting.Torn.{Torn}
-use Rattle.branch_bridge.specs.Operating.{with_torn}
-use Rattle.addr_tables.proofs.TableLaws.{tables_kept}
+use Rattle.flash_words.specs.Memory.{Memory}
 use Rattle.mote_devices.specs.Waking.{is_enabled}
-use Rattle.mem_guard.specs.FlatMachine.{next_of}
-use Rattle.mem_guard.specs.FlatMachine as flat_ends
+use Rattle.flat_machine.specs.FlatMachine.{next_of}
+use Rattle.flat_machine.specs.FlatMachine as flat_ends
 use Rattle.kernel_entry.specs.declared.kernel.Kernel.{Kernel}
 use Rattle.kernel_entry.specs.declared.kernel.Stop.{Stop}
 use Rattle.kernel_entry.specs.declared.kernel.Taken.{Taken}
 use Rattle.kernel_entry.specs.declared.kernel.Taken.TheVariants as answers
-use Rattle.kernel_entry.specs.Parts.{image_held}
 use Rattle.kernel_entry.specs.Seen.{program, state_at, end_of}
 use Rattle.kernel_entry.specs.Interrupts.{is_wanted, taken}
 use Rattle.kernel_entry.proofs.InterruptLaws.{AsTaken, KeepsTaken, interrupt_taken, interrupt_keeps, interrupt_stays}
-use Rattle.step_laws.specs.declared.moves.Owed.{Owed}
-use Rattle.step_laws.specs.declared.moves.End.TheVariants as ends
+use Rattle.kernel_entry.specs.declared.kernel.Owed.{Owed}
+use Rattle.kernel_entry.specs.declared.kernel.End.TheVariants as ends
 use Rattle.step_laws.specs.Moves.{Take, lines_of}
 use Rattle.step_laws.specs.Numbers.{moved}
 use Rattle.step_laws.specs.States.{Awaited, State, after_taking, stops_taking}
 use Rattle.step_laws.specs.Walks.{MakesTake}
-use Rattle.step_laws.specs.StepLaws.{Reaches}
+use Rattle.step_laws.specs.StepLaws.{Keeps, Reaches}
 use Rattle.program_steps.specs.Machines.{Machine, awaited, state_of, numbers_of}
-use Rattle.program_steps.specs.Ready.{IsRightPart, count_in, IsGoing, IsInOrder, HasBounds}
-use Rattle.program_steps.specs.Stepping.{HasStepped, StepWay}
+use Rattle.program_steps.specs.Ready.{count_in, IsGoing, HasBounds}
+use Rattle.program_steps.specs.Stepping.{HasStepped, StepWay, AreOwn}
 use Rattle.program_steps.specs.Interrupts.{IsUntaken, is_wanted_at, is_to_be_taken}
 use Rattle.program_steps.proofs.Bounds.{bounded_counted, most_owed}
 use Rattle.program_steps.proofs.Arrived.{owed_at}
-use Rattle.program_steps.proofs.Laws.{tables_going}
-use Rattle.program_steps.proofs.ReadyLaws.{ring_kept, tried_on}
+use Rattle.program_steps.proofs.ReadyLaws.{order_on}
+use Rattle.program_steps.proofs.Stepped.{stays_by}
 use Rattle.program_steps.proofs.Awaiting.{awaits_some, some_same}
 
 -- what is known where one is to be taken
@@ -91,35 +79,20 @@ take_move m owed answer stops y ready owes few w is halts result =
 abbrev vectored : Machine → ℕ → Kernel → Machine
 vectored m v k = record m { kernel = k; owed = Some (record { target = v; stub = None }); due = false; at = v; steps = m.steps + 1 }
 
-order_taken : (m : Machine) (v : ℕ) (k : Kernel) → KeepsTaken m.kernel k → IsGoing m → IsInOrder (vectored m v k)
-order_taken m v k same ready =
-    let order = ready.order in
-    let F : Layout → Memory → Type 0 = λ l f. IsFaithful l (image_of l f.words) (with_torn f.words m.torn) in
-    let I : Part → Layout → Memory → Type 0 = λ p l f. IsParted l (image_of l f.words) (with_torn f.words m.torn) (part_number p.shut) in
-    let T : Layout → Memory → Option Torn → Type 0 = λ l f t. IsTables l k.mote.sram (with_torn f.words t) in
-    let U : Layout → Memory → Type 0 = λ l f. used_pages l (with_torn f.words m.torn) ≡ min m.pages l.pool_pages in
-    let l = m.kernel.layout in
-    let f = m.kernel.mote.flash in
-    let words = f.words in
-    let registers = order.registers in
-    let quantum = order.quantum in
-    record {
-      layout = subst (λ (l : Layout). l ≡ layout_of l.image_words) (sym same.layout) order.layout;
-      right = subst IsRight (sym same.layout) order.right;
-      faithful = subst (λ l. F l k.mote.flash) (sym same.layout) (subst (F l) (sym same.flash) order.faithful);
-      part = subst (λ (l : Layout). IsRightPart k.part l.image_words) (sym same.layout) (subst (λ p. IsRightPart p l.image_words) (sym same.part) order.part);
-      parted = subst (λ p. I p k.layout k.mote.flash) (sym same.part) (subst (λ l. I m.kernel.part l k.mote.flash) (sym same.layout) (subst (I m.kernel.part l) (sym same.flash) order.parted));
-      tables = subst (λ l. T l k.mote.flash m.torn) (sym same.layout) (subst (λ g. T l g m.torn) (sym same.flash) (subst (T l f) (sym ready.untorn)
-          (tables_kept l m.kernel.mote.sram k.mote.sram words words (λ a from to. same.tables a (omega arith) to) (λ t w entry. entry) (tables_going m ready))));
-      paged = same.paged;
-      whole = subst IsWhole (sym same.flash) order.whole;
-      registers = omega (arith, ap length same.registers);
-      pointer = same.pointer;
-      quantum = omega (arith, same.quantum);
-      pages = subst (λ l. U l k.mote.flash) (sym same.layout) (subst (U l) (sym same.flash) order.pages);
-      ring = omega (arith, ring_kept m.kernel.mote.sram k.mote.sram same.tables, order.ring, ap (λ (l : Layout). l.pool_pages) same.layout);
-      tried = tried_on m (vectored m v k) same.flash ready.untorn ready;
-    }
+keeps_taken : (m : Machine) (v : ℕ) (k : Kernel) → KeepsTaken m.kernel k → IsGoing m → Keeps (state_of m) (state_of (vectored m v k))
+keeps_taken m v k same ready = record {
+  layout = same.layout;
+  part = same.part;
+  quantum = same.quantum;
+  flash = same.flash;
+  slots = ap length same.swap;
+  paged = same.paged;
+  registers = ap length same.registers;
+  top = same.top ∙ ready.top;
+  polls = omega (arith, same.polls);
+  tables = same.tables;
+  pointer = same.pointer;
+}
 
 going_taken : (m : Machine) (v : ℕ) (k : Kernel) → m.since ≡ 0 → KeepsTaken m.kernel k → IsGoing m → IsGoing (vectored m v k)
 going_taken m v k fresh same ready =
@@ -136,7 +109,7 @@ going_taken m v k fresh same ready =
     let ops = ready.arrivals.ops in
     let few = ready.arrivals.few in
     record {
-      order = order_taken m v k same ready;
+      order = order_on m (vectored m v k) (keeps_taken m v k same ready) refl refl ready;
       going = ready.going;
       untorn = ready.untorn;
       top = same.top ∙ ready.top;
@@ -173,13 +146,8 @@ taken_vector m owed v k ready owes few wanted is =
       goes = record { walk = (state_of (vectored m v k), take_move m owed (answers.Vector v, k) false (state_of (vectored m v k)) ready owes few w is refl (ap₂ (λ e t. record { kernel = k; owed = Some (record { target = v; stub = None; due = false }); end = e; torn = t }) ready.going ready.untorn), refl); told = refl; numbers = numbers_taken m v k same };
       last = refl;
       some = λ e. cc;
-      none_made = (tt, tt);
-      stays = record {
-        program = ap₂ (λ i n. record { image = i; part = k.part; page_limit = n; quantum = k.quantum }) (ap₂ (λ (l : Layout) (f : Memory). image_of l f.words) same.layout same.flash) (ap length same.swap) ∙ ap₂ (λ q r. record { image = image_held m.kernel; part = r; page_limit = length m.kernel.mote.swap; quantum = q }) same.quantum same.part;
-        layout = same.layout;
-        quantum = same.quantum;
-        failing = ap (λ (f : Memory). f.failing) same.flash;
-      };
+      own = AreOwn.Taking false refl;
+      stays = stays_by m (vectored m v k) (keeps_taken m v k same ready);
       broken = refl;
       flash = same.flash;
       arrivals = goes.arrivals;
@@ -196,34 +164,20 @@ taken_stopped m owed stop k ready owes few wanted is =
     let on : next_of (program m.kernel) (record { now = state_at m.kernel owed.target m.steps m.crossings; due = true }) ≡ flat_ends.Ends (end_of stop) =
     subst (AsTaken m.kernel owed.target) (sym is) (interrupt_taken m.kernel owed.target w.on w.some ready.order.paged) m.steps m.crossings in
     let new : Machine = record m { kernel = m.kernel; end = Some (ends.Stopped stop) } in
+    let keeps : Keeps (state_of m) (state_of new) = record { layout = refl; part = refl; quantum = refl; flash = refl; slots = refl; paged = ready.order.paged; registers = refl; top = ready.top; polls = omega arith; tables = λ b from to. refl; pointer = ready.order.pointer } in
     let bounded : HasBounds m = bounded_counted (numbers_of m) m.crossings m.kernel.quantum (count_in m) m.at m.kernel.mote.devices.polls m.owed ready.counted ready.arrivals ready.polls in
     subst (λ x. HasStepped m (record m { kernel = x; end = Some (ends.Stopped stop) }) None) (sym same) (record {
       moves = Take true ∷ [];
       goes = record { walk = (state_of new, take_move m owed (answers.Stopped stop, m.kernel) true (state_of new) ready owes few w (ap (λ x. (answers.Stopped stop, x)) (sym same) ∙ is) refl refl, refl); told = refl; numbers = numbers_stopped m };
       last = refl;
       some = λ e. cc;
-      none_made = (tt, tt);
-      stays = record { program = refl; layout = refl; quantum = refl; failing = refl };
+      own = AreOwn.Taking true refl;
+      stays = stays_by m new keeps;
       broken = refl;
       flash = refl;
       arrivals = ready.arrivals;
       way = StepWay.Stopped stop (record {
-        order = record {
-          layout = ready.order.layout;
-          right = ready.order.right;
-          faithful = ready.order.faithful;
-          part = ready.order.part;
-          parted = ready.order.parted;
-          tables = ready.order.tables;
-          paged = ready.order.paged;
-          whole = ready.order.whole;
-          registers = ready.order.registers;
-          pointer = ready.order.pointer;
-          quantum = ready.order.quantum;
-          pages = ready.order.pages;
-          ring = ready.order.ring;
-          tried = tried_on m new refl ready.untorn ready;
-        };
+        order = order_on m new keeps refl refl ready;
         bounded = bounded;
         ended = λ e. cc;
         exact = ready.exact;

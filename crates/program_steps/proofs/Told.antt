@@ -2,6 +2,8 @@
 use Rattle.program_steps.proofs.Awaiting.{owes_of}
 use Rattle.std.proofs.Common.{◌≡◌, ℕ, ◌+◌, ◌-◌, ◌<◌, ◌≤◌, Bool, false, List, [], ◌∷◌, refl, sym, ap, ap₂, ◌∙◌, arith, subst, inl, inr}
 use Rattle.std.specs.Prelude.{◌⊎◌, ◌≢◌, ◌^◌, max, IfNone, Option, Some, None}
+use Rattle.std.specs.Option.{option_or}
+use Rattle.flash_words.specs.Memory.{Memory}
 use Rattle.mote_devices.specs.declared.line.Line.{Line}
 use Rattle.mote_core.specs.declared.mote.Mote.{Mote}
 use Rattle.mote_core.specs.declared.mote.Plain.{Plain}
@@ -12,7 +14,10 @@ use Rattle.kernel_entry.specs.declared.kernel.Kernel.{Kernel}
 use Rattle.kernel_entry.specs.declared.kernel.Served.{Served}
 use Rattle.kernel_entry.specs.Services.{served, is_due}
 use Rattle.branch_bridge.specs.declared.rewriting.Torn.{Torn}
-use Rattle.step_laws.specs.declared.moves.End.{End}
+use Rattle.kernel_entry.specs.declared.kernel.End.{End}
+use Rattle.kernel_entry.specs.declared.kernel.Owed.{Owed}
+use Rattle.program_steps.specs.declared.progress.Progress.{Progress}
+use Rattle.program_steps.specs.Wholes.{whole}
 use Rattle.step_laws.specs.Moves.{Inner, Plain as PlainMove, Serve, Within}
 use Rattle.step_laws.specs.Numbers.{Numbers, moved, one_if}
 use Rattle.page_index.specs.Entries.{IsEntry, IsMapped}
@@ -66,7 +71,7 @@ same_state k o o' e e' t t' eo ee et =
     let S : Option Awaited → Option End → Option Torn → State = λ x y z. record { kernel = k; owed = x; end = y; torn = z } in
     ap (λ x. S x e t) eo ∙ ap (λ y. S o' y t) ee ∙ ap (λ z. S o' e' z) et
 
-pub none_behind : (n : ℕ) → n + 0 ≡ n
+none_behind : (n : ℕ) → n + 0 ≡ n
 none_behind n = omega arith
 
 pub none_off : (n : ℕ) → n ≡ n - 0
@@ -76,8 +81,22 @@ pub is_there : {A : Type 0} (a : A) → Some a ≢ None
 is_there a is = cc
 
 -- at a service `longest` is raised to what it stood for, and nothing is behind it
-pub raised : (longest since reach : ℕ) → reach ≡ max longest since → max reach 0 ≡ max longest since
+raised : (longest since reach : ℕ) → reach ≡ max longest since → max reach 0 ≡ max longest since
 raised longest since reach is = omega (arith, is)
+
+-- .. and what the loop has written down behind it
+pub has_served : (k new : Kernel) (p : Progress) (answer : Served) (told due : Bool) (owed : Option Owed) (end : Option End) (steps longest : ℕ) (line : Option Line)
+    → (answer, new) ≡ served k → told ≡ is_due k → longest ≡ max p.longest p.since → new.mote.flash ≡ k.mote.flash
+    → state_of (whole new (record p { owed = owed; due = due; end = end })) ≡ after_service told (answer, new) → steps ≡ p.steps - one_if (is_stop answer) → line ≡ option_or (line_served answer) p.line → (owed ≡ None → due ≡ p.due)
+    → HasServed (whole k p) (whole new (record p { owed = owed; due = due; end = end; steps = steps; before = p.before + p.since; entries = p.entries + 1; since = 0; longest = longest; line = line })) p.line line
+has_served k new p answer told due owed end steps longest line is same reach flash state counted written undue = λ shown stops y makes.
+    let after = serve_state (state_of (whole k p)) y answer new told shown stops is same makes in
+    record {
+      state = state ∙ after.0;
+      numbers = serve_numbers (numbers_of (whole k p)) shown stops (is_stop answer) steps _ _ _ after.2 counted (none_behind _) (raised p.longest p.since longest reach) (ap (λ (f : Memory). f.ops) flash);
+      written = written ∙ ap (λ l. option_or l p.line) after.1;
+      rest = record { at = refl; broken = refl; crossings = refl; due = undue };
+    }
 
 pub not_over : (x : State) → x.owed ≡ None → x.end ≡ None → ((t : ℕ) → ¬ IsEntry x.kernel.layout (mote_of x).flash.words t (mote_of x).cpu.pc) → ¬ IsOver x
 not_over x free going none (IsOver.Owes owes) = owes free

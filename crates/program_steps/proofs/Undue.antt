@@ -4,11 +4,11 @@ use Rattle.std.specs.Prelude.{◌≢◌, ◌&&◌, is_some, Option, Some, None}
 use Rattle.avr_flags.specs.Status.{has_bit, interrupts}
 use Rattle.mote_devices.specs.declared.line.Line.{Line}
 use Rattle.mote_devices.specs.Waking.{is_enabled}
-use Rattle.mem_guard.specs.FlatMachine.{Moment, is_taken, next_of}
-use Rattle.mem_guard.proofs.MachineLaws.{next_tried}
+use Rattle.flat_machine.specs.FlatMachine.{Moment, is_taken, next_of}
+use Rattle.flat_machine.proofs.MachineLaws.{next_tried}
 use Rattle.kernel_entry.specs.Seen.{program as program_of}
-use Rattle.step_laws.specs.declared.moves.End.{End}
-use Rattle.step_laws.specs.declared.moves.Owed.{Owed}
+use Rattle.kernel_entry.specs.declared.kernel.End.{End}
+use Rattle.kernel_entry.specs.declared.kernel.Owed.{Owed}
 use Rattle.step_laws.specs.States.{State}
 use Rattle.step_laws.specs.Walks.{Walk}
 use Rattle.step_laws.specs.StepLaws.{Reaches}
@@ -18,7 +18,6 @@ use Rattle.program_steps.specs.Stepping.{HasStepped, StepWay}
 use Rattle.program_steps.specs.Several.{Silently, HasDone}
 use Rattle.program_steps.proofs.Awaiting.{awaits_none}
 use Rattle.program_steps.proofs.Laws.{by_stands}
-use Rattle.program_steps.proofs.Marked.{order_marked}
 
 abbrev pub undue : Machine → Machine
 undue m = record m { due = false }
@@ -32,7 +31,7 @@ undue_state m d free = ap (λ o. record { kernel = m.kernel; owed = o; end = m.e
 
 pub going_undue : (m : Machine) → IsGoing m → m.owed ≡ None → IsGoing (undue m)
 going_undue m ready free = record {
-  order = order_marked m m.owed false m.broken ready.order;
+  order = ready.order;
   going = ready.going;
   untorn = ready.untorn;
   top = ready.top;
@@ -55,44 +54,32 @@ way_on : (m z : Machine) (line : Option Line) → is_taken (flat_of m) ≡ false
 way_on m z line untaken going (StepWay.On ready quiet steps is) = StepWay.On ready quiet steps (undue_next m untaken ∙ is)
 way_on m z line untaken going (StepWay.Stopped stop over kept silent steps is same) = absurd (over.ended going)
 
-step_on : (m z : Machine) (line : Option Line) → m.owed ≡ None → is_taken (flat_of m) ≡ false → z.end ≡ None → HasStepped (undue m) z line → HasStepped m z line
-step_on m z line free untaken going step = record {
+stepped_undue : (m z : Machine) (due : Bool) (line : Option Line) → m.owed ≡ None → state_of (record z { due = due }) ≡ state_of z → StepWay m (record z { due = due }) line → HasStepped (undue m) z line → HasStepped m (record z { due = due }) line
+stepped_undue m z due line free same way step = record {
   moves = step.moves;
-  goes = record { walk = subst (λ (s : State). Walk s step.moves (state_of z)) (undue_state m false free) step.goes.walk; told = step.goes.told; numbers = step.goes.numbers };
+  goes = record { walk = subst (Walk (state_of m) step.moves) (sym same) (subst (λ (s : State). Walk s step.moves (state_of z)) (undue_state m false free) step.goes.walk); told = step.goes.told; numbers = step.goes.numbers };
   last = step.last;
   some = step.some;
-  none_made = step.none_made;
+  own = step.own;
   stays = record { program = step.stays.program; layout = step.stays.layout; quantum = step.stays.quantum; failing = step.stays.failing };
   broken = step.broken;
   flash = step.flash;
   arrivals = step.arrivals;
-  way = way_on m z line untaken going step.way;
+  way = way;
 }
+
+step_on : (m z : Machine) (line : Option Line) → m.owed ≡ None → is_taken (flat_of m) ≡ false → z.end ≡ None → HasStepped (undue m) z line → HasStepped m z line
+step_on m z line free untaken going step = stepped_undue m z z.due line free refl (way_on m z line untaken going step.way) step
 
 -- a step that stops leaves one due
 way_over : (m z : Machine) (line : Option Line) → is_taken (flat_of m) ≡ false → z.end ≢ None → StepWay (undue m) z line → StepWay m (record z { due = m.due }) line
 way_over m z line untaken ended (StepWay.On ready quiet steps is) = absurd (ended ready.going)
 way_over m z line untaken ended (StepWay.Stopped stop over kept silent steps is same) =
-    StepWay.Stopped stop (record { order = order_marked z z.owed m.due z.broken over.order; bounded = over.bounded; ended = over.ended; exact = over.exact }) kept silent steps (undue_next m untaken ∙ is)
+    StepWay.Stopped stop (record { order = over.order; bounded = over.bounded; ended = over.ended; exact = over.exact }) kept silent steps (undue_next m untaken ∙ is)
     (ap (λ (f : Moment). record { now = f.now; due = m.due }) same)
 
 step_over : (m z : Machine) (line : Option Line) → m.owed ≡ None → is_taken (flat_of m) ≡ false → z.end ≢ None → z.owed ≡ None → HasStepped (undue m) z line → HasStepped m (record z { due = m.due }) line
-step_over m z line free untaken ended nothing step = record {
-  moves = step.moves;
-  goes = record {
-    walk = subst (Walk (state_of m) step.moves) (sym (undue_state z m.due nothing)) (subst (λ (s : State). Walk s step.moves (state_of z)) (undue_state m false free) step.goes.walk);
-    told = step.goes.told;
-    numbers = step.goes.numbers;
-  };
-  last = step.last;
-  some = step.some;
-  none_made = step.none_made;
-  stays = record { program = step.stays.program; layout = step.stays.layout; quantum = step.stays.quantum; failing = step.stays.failing };
-  broken = step.broken;
-  flash = step.flash;
-  arrivals = step.arrivals;
-  way = way_over m z line untaken ended step.way;
-}
+step_over m z line free untaken ended nothing step = stepped_undue m z m.due line free (undue_state z m.due nothing) (way_over m z line untaken ended step.way) step
 
 -- several steps
 silently_undue : (n : ℕ) (m z : Machine) → m.owed ≡ None → is_taken (flat_of m) ≡ false → Silently (suc n) (undue m) z → Silently (suc n) m z

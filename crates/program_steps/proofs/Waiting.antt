@@ -1,12 +1,8 @@
 -- A program that waits stands as it did, over what another one has made of flash and the tables.
-use Rattle.std.proofs.Common.{◌≡◌, ℕ, ◌+◌, ◌-◌, ◌*◌, ◌%◌, ◌≤◌, Bool, true, false, List, length, refl, sym, ap, ◌∙◌, arith, subst}
+use Rattle.std.proofs.Common.{◌≡◌, ℕ, Bool, true, false, List, length, refl, sym, ap, ◌∙◌, arith, subst}
 use Rattle.std.specs.Prelude.{◌≢◌, min, Option, Some, None, IfSome}
 use Rattle.flash_words.specs.Operations.{is_listed}
 use Rattle.flash_words.specs.declared.layout.Layout.{Layout}
-use Rattle.sram_layout.specs.Bytes.{data_word_at}
-use Rattle.sram_layout.specs.Cells.{vsp_cell}
-use Rattle.heap_frames.specs.Memory.{vmem}
-use Rattle.heap_frames.specs.Frames.{pages}
 use Rattle.page_index.specs.Maps.{IsPool}
 use Rattle.nat_page.specs.Faithful.{IsFaithful}
 use Rattle.nat_page.specs.Parts.{IsParted}
@@ -16,19 +12,20 @@ use Rattle.addr_tables.proofs.TableLaws.{tables_kept}
 use Rattle.branch_bridge.specs.declared.rewriting.Torn.{Torn}
 use Rattle.branch_bridge.specs.Operating.{with_torn}
 use Rattle.branch_bridge.specs.Tried.{IsTorn}
-use Rattle.mote_core.specs.declared.mote.Mote.{Mote}
-use Rattle.mem_guard.specs.FlatMachine.{FlatState, is_own}
+use Rattle.flat_machine.specs.FlatMachine.{is_own}
 use Rattle.kernel_entry.specs.Parts.{image_held}
 use Rattle.kernel_entry.specs.Seen.{program as program_of}
-use Rattle.step_laws.specs.declared.moves.End.{End}
-use Rattle.step_laws.specs.declared.moves.End.TheVariants as ends
+use Rattle.kernel_entry.specs.declared.kernel.End.{End}
+use Rattle.kernel_entry.specs.declared.kernel.End.TheVariants as ends
 use Rattle.step_laws.specs.Links.{part_number}
 use Rattle.step_laws.specs.States.{Awaited}
 use Rattle.step_laws.specs.StepLaws.{Reaches}
+use Rattle.step_laws.specs.Bounds.{AreBounded}
+use Rattle.step_laws.proofs.SameProgram.{flat_parts}
 use Rattle.mote_devices.specs.declared.line.Line.{Line}
 use Rattle.program_steps.specs.Machines.{Machine, state_of, numbers_of, flat_of, awaits}
 use Rattle.program_steps.specs.Ready.{HasFault, AreTried, AreArrivals, IsInOrder, IsSound, IsGoing, IsExact, most_arrivals}
-use Rattle.program_steps.specs.Stepping.{links_in, HasStepped, StepWay, HasEntered, Entering}
+use Rattle.program_steps.specs.Stepping.{links_in, StepWay, Entering}
 use Rattle.program_steps.specs.Waiting.{over, IsLeft, HasWaited}
 use Rattle.program_steps.proofs.Awaiting.{awaits_some, some_same}
 use Rattle.program_steps.proofs.ReadyLaws.{ring_kept}
@@ -47,14 +44,14 @@ never_torn (Some t) is fault told never = absurd (never told.1)
 pub untorn_left : (x : Machine) → IsLeft x → x.torn ≡ None
 untorn_left x left = never_torn x.torn (IsTorn x.kernel.layout x.kernel.mote.flash.words) (HasFault x) left.order.tried.torn left.unrefused
 
-tried_waiting : (y x : Machine) (sram : List ℕ) (others : ℕ) → HasWaited y x sram others → y.torn ≡ None → AreTried (over y x sram others)
+tried_waiting : (y x : Machine) (sram : List ℕ) (others : ℕ) → HasWaited y x sram others → y.torn ≡ None → AreTried y.kernel.layout x.kernel.mote.flash y.end y.torn
 tried_waiting y x sram others waited untorn =
     let none : x.kernel.mote.flash.refused ≡ None = never_refused x.kernel.mote.flash.refused (HasFault x) waited.left.order.tried.refused waited.left.unrefused in
     record {
       listed = λ op from to there. absurd (let e : true ≡ false = sym there ∙ waited.unfailing op in cc);
       refused = λ some. absurd (some none);
       pool = subst (λ r. IfSome r (IsPool y.kernel.layout)) (sym none) tt;
-      torn = subst (λ t. IfSome t (λ torn. IsTorn y.kernel.layout x.kernel.mote.flash.words torn × HasFault (over y x sram others))) (sym untorn) tt;
+      torn = subst (λ t. IfSome t (λ torn. IsTorn y.kernel.layout x.kernel.mote.flash.words torn × HasFault y)) (sym untorn) tt;
     }
 
 -- flash, the tables and the heap stay in order
@@ -144,15 +141,8 @@ going_waiting y x sram others t waited owes ready =
       some = omega arith;
       most = omega arith;
       stands = owing_waiting y x sram others t owes ready.stands;
-      counted = record {
-        natural = counted.natural;
-        entries = counted.entries;
-        since = counted.since;
-        longest = counted.longest;
-        crossed = counted.crossed;
-        within = subst (λ c. y.since ≤ 40 * (128 * (y.kernel.quantum - c) + y.at % 128)) (sym count) counted.within;
-        most = counted.most;
-      };
+      counted = subst (λ c. AreBounded (numbers_of (over y x sram others)) y.crossings y.kernel.quantum c y.at) (sym count)
+          (record { natural = counted.natural; entries = counted.entries; since = counted.since; longest = counted.longest; crossed = counted.crossed; within = counted.within; most = counted.most });
       arrivals = arrivals_waiting y x sram others waited;
       polls = ready.polls;
       exact = exact_waiting y x sram others waited ready.exact;
@@ -160,16 +150,10 @@ going_waiting y x sram others t waited owes ready =
     }
 
 -- its program sees nothing of it
-flat_by : (m : Mote) (sp : ℕ) (memory : List ℕ) (has : List Bool) (pc steps crossings : ℕ) → FlatState
-flat_by m sp memory has pc steps crossings = record { cpu = record { r = m.cpu.r; sreg = m.cpu.sreg; sp = sp; pc = pc }; memory = memory; devices = m.devices; pages = has; steps = steps; crossings = crossings }
-
 pub flat_waiting : (y x : Machine) (sram : List ℕ) (others : ℕ) → HasWaited y x sram others → flat_of (over y x sram others) ≡ flat_of y
-unfolding flat_by
 flat_waiting y x sram others waited =
     let m = y.kernel.mote in
-    let now : (flat_of (over y x sram others)).now ≡ (flat_of y).now = ap (λ s. flat_by m s (vmem sram m.swap) (pages sram) y.at y.steps y.crossings) (outside_stack m.sram sram waited.own)
-    ∙ ap (λ v. flat_by m (data_word_at m.sram vsp_cell) v (pages sram) y.at y.steps y.crossings) (outside_memory m.sram sram m.swap waited.own)
-    ∙ ap (λ h. flat_by m (data_word_at m.sram vsp_cell) (vmem m.sram m.swap) h y.at y.steps y.crossings) (outside_pages m.sram sram waited.own) in
+    let now : (flat_of (over y x sram others)).now ≡ (flat_of y).now = flat_parts _ _ _ _ _ _ y.at y.steps y.crossings _ _ _ _ _ _ refl refl (outside_stack m.sram sram waited.own) (outside_memory m.sram sram m.swap waited.own) refl (outside_pages m.sram sram waited.own) in
     ap (λ s. record { now = s; due = y.due }) now
 
 pub program_waiting : (y x : Machine) (sram : List ℕ) (others : ℕ) → HasWaited y x sram others → program_of (over y x sram others).kernel ≡ program_of y.kernel
@@ -184,22 +168,16 @@ not_fault m going fault = absurd (let e : Some (ends.Flash fault.0) ≡ None = s
 pub left_going : (m : Machine) → IsGoing m → IsLeft m
 left_going m ready = record { order = ready.order; arrivals = ready.arrivals; unrefused = not_fault m ready.going }
 
-left_by : (old new : Machine) (line : Option Line) → AreArrivals (numbers_of new) (most_arrivals new.owed new.steps) → StepWay old new line → IsLeft new
-left_by old new line arrivals (StepWay.On ready quiet steps is) = left_going new ready
-left_by old new line arrivals (StepWay.Stopped stop over' is silent steps original same) = record {
+pub left_stepped : (old new : Machine) (line : Option Line) → AreArrivals (numbers_of new) (most_arrivals new.owed new.steps) → StepWay old new line → IsLeft new
+left_stepped old new line arrivals (StepWay.On ready quiet steps is) = left_going new ready
+left_stepped old new line arrivals (StepWay.Stopped stop over' is silent steps original same) = record {
   order = over'.order;
   arrivals = arrivals;
   unrefused = λ fault. absurd (let e : Some (ends.Flash fault.0) ≡ Some (ends.Stopped stop) = sym fault.1 ∙ is in cc);
 }
 
-pub left_stepped : (old new : Machine) (line : Option Line) → HasStepped old new line → IsLeft new
-left_stepped old new line step = left_by old new line step.arrivals step.way
-
 -- a program that comes to its own words, where no operation is to fail, is let in
-let_in : (old new : Machine) (result : Option End) → is_own old.kernel.part old.at ≡ true → ((op : ℕ) → is_listed new.kernel.mote.flash.failing op ≡ false) → Entering old new result → (result ≡ None) × IsGoing new × (new.owed ≡ None)
-let_in old new result own unfailing (Entering.In ready free inside untaken) = (refl, ready, free)
-let_in old new result own unfailing (Entering.Out over' is outside) = absurd (let e : true ≡ false = sym own ∙ outside in cc)
-let_in old new result own unfailing (Entering.Failed op over' is inside fault) = absurd (let e : true ≡ false = sym fault.listed ∙ unfailing op in cc)
-
-pub entered_own : (old new : Machine) (result : Option End) → is_own old.kernel.part old.at ≡ true → ((op : ℕ) → is_listed new.kernel.mote.flash.failing op ≡ false) → HasEntered old new result → (result ≡ None) × IsGoing new × (new.owed ≡ None)
-entered_own old new result own unfailing entered = let_in old new result own unfailing entered.way
+pub entered_own : (old new : Machine) (result : Option End) → is_own old.kernel.part old.at ≡ true → ((op : ℕ) → is_listed new.kernel.mote.flash.failing op ≡ false) → Entering old new result → (result ≡ None) × IsGoing new × (new.owed ≡ None)
+entered_own old new result own unfailing (Entering.In ready free inside untaken) = (refl, ready, free)
+entered_own old new result own unfailing (Entering.Out over' is outside) = absurd (let e : true ≡ false = sym own ∙ outside in cc)
+entered_own old new result own unfailing (Entering.Failed op over' is inside fault) = absurd (let e : true ≡ false = sym fault.listed ∙ unfailing op in cc)

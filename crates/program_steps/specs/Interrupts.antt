@@ -1,10 +1,11 @@
--- When an interrupt is taken instead of the arrival that is owed (docs/MACHINE.md, "A run of n steps").
+-- Serves private functions and the contracts of `enter`, `must_take` and `take`: when an interrupt is taken instead of the arrival
+-- that is owed (docs/MACHINE.md, "A run of n steps").
 use Rattle.std.specs.Prelude.{◌≡◌, ◌&&◌, Bool, false, Option, Some, None}
 use Rattle.avr_flags.specs.Status.{has_bit, interrupts}
 use Rattle.mote_devices.specs.Waking.{is_enabled}
 use Rattle.kernel_entry.specs.declared.kernel.Kernel.{Kernel}
-use Rattle.mem_guard.specs.FlatMachine.{is_own}
-use Rattle.step_laws.specs.declared.moves.Owed.{Owed}
+use Rattle.flat_machine.specs.FlatMachine.{is_own}
+use Rattle.kernel_entry.specs.declared.kernel.Owed.{Owed}
 use Rattle.step_laws.specs.States.{Awaited, is_taken_at}
 use Rattle.program_steps.specs.Machines.{Machine, state_of}
 

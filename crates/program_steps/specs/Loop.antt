@@ -9,7 +9,7 @@ use Rattle.page_index.specs.Entries.{IsEntry}
 use Rattle.branch_bridge.specs.declared.arrival.Refused.{Refused}
 use Rattle.branch_bridge.specs.declared.through.Arrival.{Arrival}
 use Rattle.branch_bridge.specs.Arrivals.{KeptThrough, KeepsParts}
-use Rattle.step_laws.specs.declared.moves.Owed.{Owed}
+use Rattle.kernel_entry.specs.declared.kernel.Owed.{Owed}
 use Rattle.program_steps.specs.declared.progress.Progress.{Progress}
 use Rattle.program_steps.specs.Machines.{Machine, state_of, numbers_of}
 use Rattle.program_steps.specs.Ready.{IsGoing}
@@ -34,15 +34,20 @@ pub record CanPlain (x : State) : Type 0 where
   pub next : State
   pub makes : MakesPlain x begins line next
 
+-- What no move of a step changes: where the step began, the crossings, whether lines could be put; and whether an interrupt
+-- is due, but where the move leaves an arrival to be made.
+pub record IsAsBegun (old new : Machine) : Type 0 where
+  pub at : new.at ≡ old.at
+  pub broken : new.broken ≡ old.broken
+  pub crossings : new.crossings ≡ old.crossings
+  pub due : new.owed ≡ None → new.due ≡ old.due
+
 -- The move of a step was made. It counts as one in the midst of the step: a step that it begins was counted before.
 pub record Moved (old new : Machine) (before after : Option Line) (inner : Inner) (next : State) : Type 0 where
   pub state : state_of new ≡ next
   pub numbers : numbers_of new ≡ moved (Within inner) (numbers_of old)
   pub written : after ≡ option_or (line_within inner) before
-  pub at : new.at ≡ old.at
-  pub broken : new.broken ≡ old.broken
-  pub crossings : new.crossings ≡ old.crossings
-  pub due : new.owed ≡ None → new.due ≡ old.due
+  pub rest : IsAsBegun old new
 
 abbrev pub HasPlain : Machine → Machine → (before after : Option Line) → Type 0
 HasPlain old new before after = (begins : Bool) → (line : Option Line) → (next : State) → MakesPlain (state_of old) begins line next → Moved old new before after (Plain line) next
@@ -132,10 +137,7 @@ pub record Rest (old now : Machine) (line : Option Line) (law : LawOf old) : Typ
   pub walk : WalkWithin (state_of now) rest law.end
   pub short : length rest + moves_made now ≤ moves_made old + 65
   pub numbers : numbered (map Within rest) (numbers_of now) ≡ numbered (moves_of law) (numbers_of old)
-  pub at : now.at ≡ old.at
-  pub broken : now.broken ≡ old.broken
-  pub crossings : now.crossings ≡ old.crossings
-  pub due : now.owed ≡ None → now.due ≡ old.due
+  pub begun : IsAsBegun old now
   pub lines : line_before line (lines_of (map Within rest)) ≡ line_before law.line []
 
 -- A step was counted, and has not moved yet; or some of its moves were made, whichever the law gives, and it
@@ -152,10 +154,7 @@ pub record Taken (old new : Machine) (law : LawOf old) : Type 0 where
 pub record Took (old new : Machine) (line : Option Line) (law : LawOf old) : Type 0 where
   pub taken : Taken old new law
   pub written : line ≡ law.line
-  pub at : new.at ≡ old.at
-  pub broken : new.broken ≡ old.broken
-  pub crossings : new.crossings ≡ old.crossings
-  pub due : new.owed ≡ None → new.due ≡ old.due
+  pub rest : IsAsBegun old new
 
 abbrev pub HasTaken : Machine → Machine → Option Line → Type 0
 HasTaken old new line = (law : LawOf old) → Took old new line law

@@ -1,9 +1,9 @@
 -- A machine as its contracts see it, and what it stands for (docs/MACHINE.md, "The fields").
-use Rattle.std.specs.Prelude.{ℕ, Bool, ◌&&◌, is_some, Option, Some, None}
-use Rattle.mem_guard.specs.FlatMachine.{Moment}
+use Rattle.std.specs.Prelude.{ℕ, Bool, false, ◌&&◌, is_some, Option, Some, None}
+use Rattle.flat_machine.specs.FlatMachine.{Moment}
 use Rattle.kernel_entry.specs.declared.kernel.Kernel.{Kernel}
-use Rattle.step_laws.specs.declared.moves.Owed.{Owed}
-use Rattle.step_laws.specs.declared.moves.End.{End}
+use Rattle.kernel_entry.specs.declared.kernel.Owed.{Owed}
+use Rattle.kernel_entry.specs.declared.kernel.End.{End}
 use Rattle.branch_bridge.specs.declared.rewriting.Torn.{Torn}
 use Rattle.step_laws.specs.Numbers.{Numbers}
 use Rattle.step_laws.specs.States.{Awaited, State}
@@ -28,6 +28,28 @@ pub record Machine : Type 0 where
   pub longest : ℕ
   pub began : ℕ
   pub others : ℕ
+
+-- one that has done nothing yet: it owes an arrival at the first word of its part, and has counted nothing but these pages,
+-- which were there when it began
+abbrev pub unstarted : Kernel → (pages others : ℕ) → Machine
+unstarted k pages others = record {
+  kernel = k;
+  at = k.part.first;
+  owed = Some (record { target = k.part.first; stub = None });
+  end = None;
+  due = false;
+  torn = None;
+  broken = false;
+  steps = 0;
+  crossings = 0;
+  natural = 0;
+  entries = 0;
+  pages = pages;
+  since = 0;
+  longest = 0;
+  began = pages;
+  others = others;
+}
 
 -- the arrival that is owed, and whether an interrupt is due at it
 abbrev pub awaited : Option Owed → Bool → Option Awaited

@@ -4,12 +4,13 @@ use Rattle.sram_layout.specs.Bytes.{byte_at}
 use Rattle.sram_layout.specs.Cells.{vsp_cell, kernel_stack_top}
 use Rattle.heap_frames.specs.Paged.{IsPaged}
 use Rattle.flash_words.specs.Layouts.{IsRight, layout_of}
-use Rattle.flash_words.specs.Memory.{IsWhole}
+use Rattle.flash_words.specs.declared.layout.Layout.{Layout}
+use Rattle.flash_words.specs.Memory.{Memory, IsWhole}
 use Rattle.page_index.specs.Maps.{IsPool}
 use Rattle.nat_page.specs.Faithful.{IsFaithful}
 use Rattle.nat_page.specs.Used.{used_pages}
 use Rattle.nat_page.specs.Parts.{IsParted}
-use Rattle.mem_guard.specs.declared.part.Part.{Part}
+use Rattle.flat_machine.specs.declared.part.Part.{Part}
 use Rattle.step_laws.specs.Links.{part_number}
 use Rattle.addr_tables.specs.Tables.{IsTables}
 use Rattle.branch_bridge.specs.Operating.{with_torn}
@@ -18,8 +19,11 @@ use Rattle.branch_bridge.specs.Tried.{IsTorn}
 use Rattle.branch_bridge.specs.Arrivals.{ring_of}
 use Rattle.kernel_entry.specs.Parts.{image_held}
 use Rattle.kernel_entry.specs.Seen.{count_of}
-use Rattle.step_laws.specs.declared.moves.Owed.{Owed}
-use Rattle.step_laws.specs.declared.moves.End.TheVariants as ends
+use Rattle.kernel_entry.specs.declared.kernel.Owed.{Owed}
+use Rattle.kernel_entry.specs.declared.kernel.End.{End}
+use Rattle.kernel_entry.specs.declared.kernel.Kernel.{Kernel}
+use Rattle.branch_bridge.specs.declared.rewriting.Torn.{Torn}
+use Rattle.kernel_entry.specs.declared.kernel.End.TheVariants as ends
 use Rattle.step_laws.specs.Numbers.{Numbers}
 use Rattle.step_laws.specs.Bounds.{AreBounded, AreEnded}
 use Rattle.step_laws.specs.StepLaws.{Reaches, links_at}
@@ -30,20 +34,23 @@ abbrev pub count_in : Machine → ℕ
 count_in m = count_of m.kernel
 
 -- the words of flash, with those put in that a torn page lacks
-abbrev pub mended_words : Machine → List ℕ
-mended_words m = with_torn m.kernel.mote.flash.words m.torn
+abbrev pub mended_words : Kernel → Option Torn → List ℕ
+mended_words k torn = with_torn k.mote.flash.words torn
 
 -- the operation on flash of some number was refused, and ended the run
+abbrev pub IsByFlash : Option End → Type 0
+IsByFlash end = (op : ℕ) × (end ≡ Some (ends.Flash op))
+
 abbrev pub HasFault : Machine → Type 0
-HasFault m = (op : ℕ) × (m.end ≡ Some (ends.Flash op))
+HasFault m = IsByFlash m.end
 
 -- Of the operations on flash that were tried, none is listed to fail and none was refused, but for the last of a
 -- run that this ended; it concerns a page of the pool. Only then a page may be torn.
-pub record AreTried (m : Machine) : Type 0 where
-  pub listed : (op : ℕ) → 1 ≤ op → op ≤ m.kernel.mote.flash.ops → is_listed m.kernel.mote.flash.failing op ≡ true → m.end ≡ Some (ends.Flash op)
-  pub refused : m.kernel.mote.flash.refused ≢ None → HasFault m
-  pub pool : IfSome m.kernel.mote.flash.refused (IsPool m.kernel.layout)
-  pub torn : IfSome m.torn (λ torn. IsTorn m.kernel.layout m.kernel.mote.flash.words torn × HasFault m)
+pub record AreTried (layout : Layout) (flash : Memory) (end : Option End) (lacks : Option Torn) : Type 0 where
+  pub listed : (op : ℕ) → 1 ≤ op → op ≤ flash.ops → is_listed flash.failing op ≡ true → end ≡ Some (ends.Flash op)
+  pub refused : flash.refused ≢ None → IsByFlash end
+  pub pool : IfSome flash.refused (IsPool layout)
+  pub torn : IfSome lacks (λ torn. IsTorn layout flash.words torn × IsByFlash end)
 
 -- The program's part is all of the image; or, where it is shut, a quarter that lies in the image.
 pub record IsRightPart (part : Part) (words : ℕ) : Type 0 where
@@ -52,22 +59,25 @@ pub record IsRightPart (part : Part) (words : ℕ) : Type 0 where
 
 -- The layout is that of the image's length; flash, with the words that a torn page lacks, holds the image and its
 -- faithful rewritten code, whose links keep to the parts of the image; the tables and the heap are in order; as many pages are used as were made, up to the whole
--- pool; r0 to r31 are there, and the low half of the program's stack pointer is a byte.
-pub record IsInOrder (m : Machine) : Type 0 where
-  pub layout : m.kernel.layout ≡ layout_of m.kernel.layout.image_words
-  pub right : IsRight m.kernel.layout
-  pub faithful : IsFaithful m.kernel.layout (image_held m.kernel) (mended_words m)
-  pub part : IsRightPart m.kernel.part m.kernel.layout.image_words
-  pub parted : IsParted m.kernel.layout (image_held m.kernel) (mended_words m) (part_number m.kernel.part.shut)
-  pub tables : IsTables m.kernel.layout m.kernel.mote.sram (mended_words m)
-  pub paged : IsPaged m.kernel.mote.sram m.kernel.mote.swap
-  pub whole : IsWhole m.kernel.mote.flash
-  pub registers : 31 < length m.kernel.mote.cpu.r
-  pub pointer : byte_at m.kernel.mote.sram vsp_cell < 256
-  pub quantum : m.kernel.quantum < 256
-  pub pages : used_pages m.kernel.layout (mended_words m) ≡ min m.pages m.kernel.layout.pool_pages
-  pub ring : ring_of m.kernel.mote.sram < m.kernel.layout.pool_pages
-  pub tried : AreTried m
+-- pool; r0 to r31 are there, and the low half of the program's stack pointer is a byte. The rest of a machine has no part in it.
+pub record IsOrder (k : Kernel) (end : Option End) (lacks : Option Torn) (made : ℕ) : Type 0 where
+  pub layout : k.layout ≡ layout_of k.layout.image_words
+  pub right : IsRight k.layout
+  pub faithful : IsFaithful k.layout (image_held k) (mended_words k lacks)
+  pub part : IsRightPart k.part k.layout.image_words
+  pub parted : IsParted k.layout (image_held k) (mended_words k lacks) (part_number k.part.shut)
+  pub tables : IsTables k.layout k.mote.sram (mended_words k lacks)
+  pub paged : IsPaged k.mote.sram k.mote.swap
+  pub whole : IsWhole k.mote.flash
+  pub registers : 31 < length k.mote.cpu.r
+  pub pointer : byte_at k.mote.sram vsp_cell < 256
+  pub quantum : k.quantum < 256
+  pub pages : used_pages k.layout (mended_words k lacks) ≡ min made k.layout.pool_pages
+  pub ring : ring_of k.mote.sram < k.layout.pool_pages
+  pub tried : AreTried k.layout k.mote.flash end lacks
+
+abbrev pub IsInOrder : Machine → Type 0
+IsInOrder m = IsOrder m.kernel m.end m.torn m.pages
 
 -- How far the numbers go, also in a machine that stopped in the midst of a step. No arrival, also of other programs on the
 -- same mote, tries more than 1,000 operations.

@@ -1,24 +1,19 @@
 -- What one step of the program, and one arrival, leave of the machine.
-use Rattle.std.specs.Prelude.{◌≡◌, ◌≢◌, ℕ, ◌+◌, Bool, true, false, List, [], ◌∷◌, Option, Some, None, IfSome, flat_map}
+use Rattle.std.specs.Prelude.{◌≡◌, ◌≢◌, ℕ, ◌+◌, ◌≤◌, ◌⊎◌, Bool, true, false, List, [], ◌∷◌, ◌++◌, Option, Some, None, map}
 use Rattle.flash_words.specs.Operations.{is_listed}
 use Rattle.mote_devices.specs.declared.line.Line.{Line}
-use Rattle.mem_guard.specs.FlatMachine.{Ends, is_own, next_of, is_taken}
-use Rattle.mem_guard.specs.FlatMachine as flat_ends
+use Rattle.flat_machine.specs.FlatMachine.{Ends, is_own, next_of, is_taken}
+use Rattle.flat_machine.specs.FlatMachine as flat_ends
 use Rattle.kernel_entry.specs.declared.kernel.Stop.{Stop}
-use Rattle.kernel_entry.specs.Texts.{line_text}
-use Rattle.step_laws.specs.declared.moves.End.{End}
-use Rattle.step_laws.specs.declared.moves.End.TheVariants as ends
-use Rattle.step_laws.specs.Moves.{Move, Arrive, line_before}
+use Rattle.kernel_entry.specs.declared.kernel.End.{End}
+use Rattle.kernel_entry.specs.declared.kernel.End.TheVariants as ends
+use Rattle.step_laws.specs.Moves.{Inner, Move, Begin, Within, Arrive, Take, line_before, count_plain, count_serve}
 use Rattle.step_laws.specs.Joining.{Leads}
 use Rattle.step_laws.specs.Links.{Links}
 use Rattle.step_laws.specs.StepLaws.{Reaches, links_at, crossings_over}
 use Rattle.kernel_entry.specs.Seen.{program as program_of, end_of}
 use Rattle.program_steps.specs.Machines.{Machine, state_of, numbers_of, counted_of, flat_of, awaits}
 use Rattle.program_steps.specs.Ready.{IsGoing, IsQuiet, IsEnded, AreArrivals, most_arrivals}
-
--- the text of device lines, one after another
-abbrev pub lines_text : List Line → List ℕ
-lines_text lines = flat_map line_text lines
 
 -- the links of the pool that the machine runs in
 abbrev pub links_in : Machine → Links
@@ -46,15 +41,24 @@ ends_in_arrive (m ∷ ms) = ends_in_arrive ms
 abbrev pub Goes : (old new : Machine) → List Move → List Line → Type 0
 Goes old new moves lines = Leads (counted_of old) moves lines (counted_of new)
 
--- the address at which a move made a page, if it made one
-abbrev pub page_made : Move → Option ℕ
-page_made (Arrive target true ops) = Some target
-page_made _ = None
+-- at most an arrival, at this address
+pub data IsArrival (t : ℕ) (moves : List Move) : Type 0 where
+  NoArrival : moves ≡ [] → IsArrival t moves
+  OneArrival : (made : Bool) → (ops : ℕ) → moves ≡ Arrive t made ops ∷ [] → IsArrival t moves
 
--- each page that was made was made at an address of which this holds
-abbrev pub AreMadeAt : (ℕ → Type 0) → List Move → Type 0
-AreMadeAt holds [] = Unit {0}
-AreMadeAt holds (move ∷ moves) = IfSome (page_made move) holds × AreMadeAt holds moves
+-- The moves of a step itself: an interrupt that is taken; or a plain move that begins it, and behind it at most 39 more
+-- and two services.
+pub data AreOwn (moves : List Move) : Type 0 where
+  Taking : (stops : Bool) → moves ≡ Take stops ∷ [] → AreOwn moves
+  Making : (line : Option Line) → (rest : List Inner) → moves ≡ Begin line ∷ map Within rest → count_plain rest ≤ 39 → count_serve rest ≤ 2 → AreOwn moves
+
+-- at most an arrival at this address, and behind it at most the moves of one step
+pub record AreOfStep (t : ℕ) (moves : List Move) : Type 0 where
+  pub arrival : List Move
+  pub own : List Move
+  pub parts : moves ≡ arrival ++ own
+  pub arrives : IsArrival t arrival
+  pub makes : (own ≡ []) ⊎ AreOwn own
 
 -- the program, the layout, the quantum and the list of operations that are to fail stay
 pub record Stays (old new : Machine) : Type 0 where
@@ -77,7 +81,7 @@ pub record HasStepped (old new : Machine) (line : Option Line) : Type 0 where
   pub goes : Goes old new moves (line_before line [])
   pub last : ends_in_arrive moves ≡ false
   pub some : moves ≢ []
-  pub none_made : AreMadeAt (λ t. ⊥) moves
+  pub own : AreOwn moves
   pub stays : Stays old new
   pub broken : new.broken ≡ old.broken
   pub flash : new.kernel.mote.flash ≡ old.kernel.mote.flash
@@ -104,7 +108,7 @@ pub record HasEntered (old new : Machine) (result : Option End) : Type 0 where
   pub broken : new.broken ≡ old.broken
   pub steps : new.steps ≡ old.steps
   pub flat : flat_of new ≡ flat_of old
-  pub made : AreMadeAt (λ t. t ≡ old.at) moves
+  pub arrives : IsArrival old.at moves
   pub way : Entering old new result
 
 -- at the bound only an arrival outside the program's part is made, and refused

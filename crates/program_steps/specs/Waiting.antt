@@ -1,4 +1,4 @@
--- A program that waits while another one runs on the same mote (docs/TASKS.md, "While a task waits").
+-- Serves private functions: a program that waits while another one runs on the same mote (docs/TASKS.md, "While a task waits").
 use Rattle.std.specs.Prelude.{◌≡◌, ℕ, ◌+◌, ◌≤◌, ◌^◌, false, List}
 use Rattle.sram_layout.specs.Regions.{place_cells, KeepsRegion}
 use Rattle.flash_words.specs.Operations.{is_listed}

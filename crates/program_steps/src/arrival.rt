@@ -17,12 +17,11 @@ ghost use Rattle.program_steps.specs.Interrupts.{IsUntaken};
 ghost use Rattle.program_steps.specs.Wholes.{whole};
 
 use crate::progress::Progress;
-use branch_bridge::{Arrival, ArriveStop, arrive_at, arrive_from};
+use branch_bridge::{Arrival, ArriveStop, arrive_at_known_place, arrive_through};
 use flash_model::Flash;
-use kernel_entry::Kernel;
+use kernel_entry::{End, Kernel, Owed};
 use page_cursor::Cursor;
 use page_index::Places;
-use step_laws::{End, Owed};
 
 /// Whether the program may go on where it stands: one that is shut in its part may not outside it, and then ends there
 /// without an arrival.
@@ -63,19 +62,19 @@ fn arrive(k: &mut Kernel, p: &mut Progress, cursor: &mut Cursor, owed: Owed)
     ensures cursor { IsCursor k.new.layout k.new.mote.flash.words cursor.new }
 {
     if owed.stub.is_some() {
-        arrive_anyhow(k, p, cursor, owed);
+        arrive_renewing_cursor(k, p, cursor, owed);
         return;
     }
     if !arrive_known(k, p, cursor, owed.target) {
-        arrive_anyhow(k, p, cursor, owed);
+        arrive_renewing_cursor(k, p, cursor, owed);
         return;
     }
-    is_whole(&k.mote.flash);
+    keeps_whole(&k.mote.flash);
 }
 
 /// Makes the arrival that is owed, whatever it changes.
 #[inline(always)]
-fn arrive_anyhow(k: &mut Kernel, p: &mut Progress, cursor: &mut Cursor, owed: Owed)
+fn arrive_renewing_cursor(k: &mut Kernel, p: &mut Progress, cursor: &mut Cursor, owed: Owed)
     requires may { MayArrive (whole k.old p.old) owed }
     requires cursor { IsCursor k.old.layout k.old.mote.flash.words cursor.old }
     ensures arrived { HasArrived (whole k.old p.old) (whole k.new p.new) }
@@ -83,7 +82,7 @@ fn arrive_anyhow(k: &mut Kernel, p: &mut Progress, cursor: &mut Cursor, owed: Ow
     ensures cursor { IsCursor k.new.layout k.new.mote.flash.words cursor.new }
 {
     let changed = arrive_owed(k, p, &mut cursor.places, owed);
-    is_whole(&k.mote.flash);
+    keeps_whole(&k.mote.flash);
     forget_if(changed, cursor);
 }
 
@@ -98,7 +97,12 @@ pub(crate) fn is_followed(p: &Progress, end: u64) -> bool
 /// Makes the arrival that a step has led to, where it leaves flash as it is, no interrupt is due, the program may go there,
 /// and a step may follow. Tells whether it was made; elsewhere nothing is done.
 #[inline(always)]
-pub(crate) fn go_on(k: &mut Kernel, p: &mut Progress, cursor: &mut Cursor, end: u64) -> bool
+pub(crate) fn arrive_between_steps(
+    k: &mut Kernel,
+    p: &mut Progress,
+    cursor: &mut Cursor,
+    end: u64,
+) -> bool
     requires going { p.old.end ≡ None → IsGoing (whole k.old p.old) }
     requires ended { p.old.end ≢ None → p.old.owed ≡ None }
     requires cursor { IsCursor k.old.layout k.old.mote.flash.words cursor.old }
@@ -125,7 +129,7 @@ pub(crate) fn go_on(k: &mut Kernel, p: &mut Progress, cursor: &mut Cursor, end: 
         return false;
     }
     let made = arrive_known(k, p, cursor, owed.target);
-    is_whole(&k.mote.flash);
+    keeps_whole(&k.mote.flash);
     made
 }
 
@@ -151,7 +155,7 @@ fn arrive_known(k: &mut Kernel, p: &mut Progress, cursor: &mut Cursor, target: u
     match cursor.go_to(&k.mote.flash, &k.layout, target) {
         None => false,
         Some(place) => {
-            arrive_at(&mut k.mote.sram, &k.mote.flash, &k.layout, target, place);
+            arrive_at_known_place(&mut k.mote.sram, target, place);
             k.mote.cpu.pc = place;
             p.owed = None;
             true
@@ -209,7 +213,7 @@ fn arrive_owed(k: &mut Kernel, p: &mut Progress, places: &mut Places, owed: Owed
     ensures arrived { HasArrived (whole k.old p.old) (whole k.new p.new) }
     ensures unchanged { result ≡ false → k.new.mote.flash ≡ k.old.mote.flash }
 {
-    let arrival = arrive_from(
+    let arrival = arrive_through(
         &mut k.mote.sram,
         &mut k.mote.flash,
         &k.layout,
@@ -257,7 +261,7 @@ fn end_by(why: ArriveStop) -> End
 }
 
 /// Flash is whole, as its type keeps it; a read of any word tells so to the proof.
-fn is_whole(flash: &Flash)
+fn keeps_whole(flash: &Flash)
     ensures whole { IsWhole flash.now }
 {
     let _ = flash.word(0);

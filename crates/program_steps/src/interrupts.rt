@@ -7,8 +7,7 @@ ghost use Rattle.program_steps.specs.Interrupts.{is_wanted_at, is_to_be_taken};
 ghost use Rattle.program_steps.specs.Wholes.{whole};
 
 use crate::progress::Progress;
-use kernel_entry::{Kernel, Taken, has_interrupts, interrupt};
-use step_laws::{End, Owed};
+use kernel_entry::{End, Kernel, Owed, Taken, has_interrupts, interrupt};
 
 /// Whether an interrupt is to be taken instead of the arrival that is owed: one is due, the arrival is inside the program's part,
 /// interrupts are on, and one is enabled.
@@ -20,7 +19,8 @@ pub fn must_take(k: &Kernel, p: &Progress) -> bool
     if p.due { is_wanted(k, p.owed) } else { false }
 }
 
-/// The same, where one is due.
+/// Whether an interrupt that is due is to be taken so: an arrival is owed, inside the program's part, interrupts are on, and one
+/// is enabled.
 fn is_wanted(k: &Kernel, owed: Option<Owed>) -> bool
     ensures value { result ≡ is_wanted_at k.now owed }
 {

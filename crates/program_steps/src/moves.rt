@@ -9,9 +9,8 @@ ghost use Rattle.program_steps.specs.Wholes.{whole};
 
 use crate::progress::Progress;
 use flash_model::KERNEL_FIRST;
-use kernel_entry::{Kernel, Served, serve_told};
+use kernel_entry::{End, Kernel, Owed, Served, serve_told};
 use mote_devices::Line;
-use step_laws::{End, Owed};
 
 /// A plain step where the pc, which is `pc`, is in the pool, else a service. Tells the new pc; None where an arrival is owed
 /// now, or the program has stopped.

@@ -1,8 +1,8 @@
 //! What a run counts, apart from the kernel.
 
 use branch_bridge::Torn;
+use kernel_entry::{End, Owed};
 use mote_devices::Line;
-use step_laws::{End, Owed};
 
 /// All of a machine but its kernel, and the device line of a step. While it runs, `longest` is raised at
 /// services alone, so it may be behind `since`; and a plain step raises one counter alone, `since`.

@@ -5,7 +5,7 @@ ghost use Rattle.flash_words.specs.Layouts.{IsRight};
 ghost use Rattle.page_index.specs.Entries.{IsEntry, IsMapped};
 ghost use Rattle.page_cursor.specs.Cursors.{IsCursor};
 ghost use Rattle.mote_devices.specs.Waking.{Timely};
-ghost use Rattle.mem_guard.specs.FlatMachine.{is_taken};
+ghost use Rattle.flat_machine.specs.FlatMachine.{is_taken};
 ghost use Rattle.program_steps.specs.Machines.{state_of, numbers_of, flat_of};
 ghost use Rattle.step_laws.specs.Links.{links_of};
 ghost use Rattle.step_laws.specs.StepLaws.{StepLaw, crossings_over};
@@ -15,7 +15,7 @@ ghost use Rattle.program_steps.specs.Stepping.{HasStepped};
 ghost use Rattle.program_steps.specs.Several.{HasFollowed, HasDone};
 ghost use Rattle.program_steps.specs.Wholes.{whole};
 
-use crate::arrival::{go_on, is_followed};
+use crate::arrival::{arrive_between_steps, is_followed};
 use crate::moves::one_move;
 use crate::progress::Progress;
 use kernel_entry::Kernel;
@@ -51,7 +51,7 @@ pub fn steps(k: &mut Kernel, p: &mut Progress, cursor: &mut Cursor, most: u64) -
     1
 }
 
-/// The same where no interrupt is due.
+/// Makes steps where no interrupt is due.
 #[inline(always)]
 fn undue_steps(k: &mut Kernel, p: &mut Progress, cursor: &mut Cursor, most: u64) -> u64
     requires ready { IsGoing (whole k.old p.old) }
@@ -93,7 +93,7 @@ fn follows(k: &mut Kernel, p: &mut Progress, cursor: &mut Cursor, goes_on: bool,
     if goes_on {
         return is_followed(p, end);
     }
-    go_on(k, p, cursor, end)
+    arrive_between_steps(k, p, cursor, end)
 }
 
 /// How many steps there were since so many were counted. One that stopped the program isn't counted.
@@ -125,7 +125,7 @@ fn step(k: &mut Kernel, p: &mut Progress, cursor: &mut Cursor) -> bool
     ensures ended { p.new.end ≢ None → p.new.owed ≡ None }
     ensures cursor { IsCursor k.new.layout k.new.mote.flash.words cursor.new }
 {
-    is_timely(&k.mote.devices);
+    keeps_timely(&k.mote.devices);
     match all_moves(k, p, cursor) {
         Some(t) => {
             settle(p, Some(t));
@@ -184,7 +184,7 @@ fn look(k: &Kernel, cursor: &mut Cursor, pc: u16) -> Option<u16>
 /// The numbers of the events to come fit 32 bits, as the devices' type keeps it; a read of their count tells so to the
 /// proof.
 #[inline(always)]
-fn is_timely(devices: &Devices)
+fn keeps_timely(devices: &Devices)
     ensures timely { Timely devices.now }
 {
     let _ = devices.polls();

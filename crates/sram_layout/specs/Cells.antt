@@ -56,6 +56,10 @@ way_cell set n = 0x0200 + 8 * set + 4 * n
 abbrev pub slot_cell : ℕ → ℕ
 slot_cell page = swap_map.first + page
 
+-- what the swap map has for a page without a slot
+abbrev pub no_slot : ℕ
+no_slot = 0xFF
+
 -- the two bytes of a frame table entry at address a: page and state
 abbrev pub frame_at : List ℕ → ℕ → ℕ × ℕ
 frame_at m a = (byte_at m a, byte_at m (a + 1))

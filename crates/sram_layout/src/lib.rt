@@ -10,8 +10,10 @@
 #![tactic(auto)]
 
 mod cells;
+mod regions;
 mod sram;
 mod tables;
 
-pub use cells::KERNEL_STACK_TOP;
-pub use sram::Sram;
+pub use cells::{COUNT_CELL, KERNEL_STACK_TOP, R24_CELL, SREG_CELL, VSP_CELL, Z_CELL};
+pub use regions::{FRAMES, PLACE_CELLS, SRAM_BEHIND, SRAM_FIRST, SWAP_MAP};
+pub use sram::{NO_SLOT, Sram};

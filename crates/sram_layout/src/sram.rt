@@ -3,19 +3,15 @@
 ghost use Rattle.std.specs.Prelude.{◌≡◌, ◌+◌, ◌-◌, ◌/◌, ◌%◌, ◌≤◌, ◌<◌, length};
 ghost use Rattle.sram_layout.specs.Bytes.{byte_count, byte_at, with_byte, data_word_at, with_word, block_at, with_block, part_at, with_part};
 ghost use Rattle.base_laws.specs.Lists.{many};
+ghost use Rattle.sram_layout.specs.Cells.{no_slot};
 ghost use Rattle.sram_layout.specs.Boot.{at_boot};
 ghost use Rattle.sram_layout.specs.Regions.{whole_sram, is_within};
 
+use crate::regions::{SRAM_FIRST, SWAP_MAP};
 use std::marker::Model;
 
-/// The data address of the first byte.
-const FIRST: u16 = 0x0100;
-
-/// The data address of the swap map, of 256 bytes.
-const SWAP_MAP: u16 = 0x0400;
-
 /// What the swap map has for a page without a slot.
-const NO_SLOT: u8 = 0xFF;
+pub const NO_SLOT: u8 = 0xFF;
 
 /// The internal SRAM, data addresses 0x0100 to 0x10FF. Contracts see the list of its 4,096 bytes.
 #[derive(Debug, Drop)]
@@ -57,7 +53,7 @@ impl Sram {
         ensures value { result ≡ byte_at self.now a }
         ensures size { length self.now ≡ byte_count }
     {
-        self.bytes[(a - FIRST) as usize]
+        self.bytes[(a - SRAM_FIRST) as usize]
     }
 
     /// Writes the byte at a data address.
@@ -67,7 +63,7 @@ impl Sram {
         ensures after { self.new ≡ with_byte self.old a v }
         ensures size { (length self.old ≡ byte_count) × (length self.new ≡ byte_count) }
     {
-        self.bytes[(a - FIRST) as usize] = v;
+        self.bytes[(a - SRAM_FIRST) as usize] = v;
     }
 
     /// Writes a return address as a call leaves it: its low byte at a data address, its high byte below.
@@ -78,7 +74,7 @@ impl Sram {
         ensures after { self.new ≡ with_byte (with_byte self.old a (ret % 256)) (a - 1) (ret / 256) }
         ensures size { (length self.old ≡ byte_count) × (length self.new ≡ byte_count) }
     {
-        let low = (a - FIRST) as usize;
+        let low = (a - SRAM_FIRST) as usize;
         self.bytes[low] = (ret % 256) as u8;
         self.bytes[low - 1] = (ret / 256) as u8;
     }
@@ -90,7 +86,7 @@ impl Sram {
         ensures value { into.new ≡ block_at self.now a }
         ensures size { length self.now ≡ byte_count }
     {
-        let first = (a - FIRST) as usize;
+        let first = (a - SRAM_FIRST) as usize;
         into.copy_from_slice(&self.bytes[first..first + 256]);
     }
 
@@ -101,7 +97,7 @@ impl Sram {
         ensures after { self.new ≡ with_block self.old a block.now }
         ensures size { (length self.old ≡ byte_count) × (length self.new ≡ byte_count) }
     {
-        let first = (a - FIRST) as usize;
+        let first = (a - SRAM_FIRST) as usize;
         self.bytes[first..first + 256].copy_from_slice(block);
     }
 
@@ -112,7 +108,7 @@ impl Sram {
         ensures value { into.new ≡ part_at self.now a (length into.old) }
         ensures size { length self.now ≡ byte_count }
     {
-        let first = (a - FIRST) as usize;
+        let first = (a - SRAM_FIRST) as usize;
         into.copy_from_slice(&self.bytes[first..first + into.len()]);
     }
 
@@ -123,7 +119,7 @@ impl Sram {
         ensures after { self.new ≡ with_part self.old a part.now }
         ensures size { (length self.old ≡ byte_count) × (length self.new ≡ byte_count) }
     {
-        let first = (a - FIRST) as usize;
+        let first = (a - SRAM_FIRST) as usize;
         self.bytes[first..first + part.len()].copy_from_slice(part);
     }
 
@@ -158,7 +154,7 @@ fn zeros() -> [u8; 4096]
 
 #[tactic(auto, unfolding(base_laws::specs::Lists::many))]
 fn no_slots() -> [u8; 256]
-    ensures value { result ≡ many 256 0xFF }
+    ensures value { result ≡ many 256 no_slot }
 {
     [NO_SLOT; 256]
 }

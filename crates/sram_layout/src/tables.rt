@@ -4,15 +4,14 @@ ghost use Rattle.std.specs.Prelude.{◌≡◌, ◌≤◌, ◌<◌, length};
 ghost use Rattle.sram_layout.specs.Bytes.{byte_count, byte_at, with_byte};
 ghost use Rattle.sram_layout.specs.Cells.{frame_cell, aside_cell, way_cell, slot_cell, frame_at, with_frame, entry_at, with_entry};
 
+use crate::regions::SWAP_MAP;
 use crate::sram::Sram;
 
-const FRAMES: u16 = 0x0120;
+const FRAME_TABLE: u16 = 0x0120;
 
 const ASIDE: u16 = 0x0180;
 
 const WAYS: u16 = 0x0200;
-
-const SLOTS: u16 = 0x0400;
 
 impl Sram {
     /// Entry `i` of the frame table: the page, and the state 0 empty, 1 clean, 2 dirty.
@@ -21,7 +20,7 @@ impl Sram {
         ensures value { (result.0, result.1) ≡ frame_at self.now (frame_cell i) }
         ensures size { length self.now ≡ byte_count }
     {
-        let a = FRAMES + 4 * u16::from(i);
+        let a = FRAME_TABLE + 4 * u16::from(i);
         (self.byte(a), self.byte(a + 1))
     }
 
@@ -31,7 +30,7 @@ impl Sram {
         ensures after { self.new ≡ with_frame self.old (frame_cell i) page state }
         ensures size { (length self.old ≡ byte_count) × (length self.new ≡ byte_count) }
     {
-        let a = FRAMES + 4 * u16::from(i);
+        let a = FRAME_TABLE + 4 * u16::from(i);
         self.set(a, page);
         self.set(a + 1, state);
     }
@@ -79,7 +78,7 @@ impl Sram {
         ensures value { result ≡ byte_at self.now (slot_cell page) }
         ensures size { length self.now ≡ byte_count }
     {
-        self.byte(SLOTS + u16::from(page))
+        self.byte(SWAP_MAP + u16::from(page))
     }
 
     /// Writes what [`slot`](Self::slot) reads.
@@ -87,7 +86,7 @@ impl Sram {
         ensures after { self.new ≡ with_byte self.old (slot_cell page) slot }
         ensures size { (length self.old ≡ byte_count) × (length self.new ≡ byte_count) }
     {
-        self.set(SLOTS + u16::from(page), slot);
+        self.set(SWAP_MAP + u16::from(page), slot);
     }
 
     fn entry(&self, a: u16) -> (u16, u16)

@@ -10,24 +10,24 @@ use Rattle.avr_isa.specs.Addresses.{wrapping_sum}
 use Rattle.avr_exec.specs.Execution.{is_executed}
 use Rattle.avr_exec.specs.Spaces.{Outcome, Went as WentOn, Stopped as StoppedOn}
 use Rattle.sram_layout.specs.Bytes.{byte_at, with_word}
-use Rattle.sram_layout.specs.Cells.{vsp_cell}
+use Rattle.sram_layout.specs.Cells.{vsp_cell, count_cell}
 use Rattle.sram_layout.proofs.Laws.{byte_out_of_word, length-with_word, word_low}
 use Rattle.heap_frames.specs.Paged.{IsPaged}
 use Rattle.heap_frames.proofs.SamePagingLaws.{same_paging_word, paged_same}
 use Rattle.nat_template.specs.declared.shapes.TemplateShape.TheVariants.{SelfJump}
 use Rattle.nat_template.specs.Shapes.{shape_of_form}
 use Rattle.page_draft.specs.Runs.{shape_at}
-use Rattle.mem_guard.specs.FlatMachine.{Goes, Stops, tried, next_size, jumps_to_itself, word_asked, if_foreign}
+use Rattle.flat_machine.specs.FlatMachine.{Goes, Stops, tried, next_size, jumps_to_itself, word_asked, if_foreign}
 use Rattle.mote_devices.specs.State.{stored, rampz_address}
 use Rattle.avr_exec.specs.Asks.{ask_of}
 use Rattle.avr_exec.specs.declared.ask.Ask.{Ask}
 use Rattle.avr_exec.specs.declared.ask.Ask.TheVariants as asks
 use Rattle.mote_core.specs.Conditions.{is_device_ask}
-use Rattle.mem_guard.proofs.MachineLaws.{tried_read}
-use Rattle.mem_guard.proofs.ReadLaws.{reads_program, reads_own}
+use Rattle.flat_machine.proofs.MachineLaws.{tried_read}
+use Rattle.flat_machine.proofs.ReadLaws.{reads_program}
 use Rattle.mem_guard.specs.Guarded.{Guarded, guarded_calls}
 use Rattle.mem_guard.specs.Left.{IsKept}
-use Rattle.mem_guard.proofs.GuardedStep.{ReadsOwn, guarded_goes, guarded_stops}
+use Rattle.mem_guard.proofs.GuardedStep.{ReadsOwn, reads_own, guarded_goes, guarded_stops}
 use Rattle.kernel_entry.specs.declared.kernel.Kernel.{Kernel}
 use Rattle.kernel_entry.specs.declared.kernel.Stop.{Stop}
 use Rattle.kernel_entry.specs.declared.kernel.Stop.TheVariants.{Read}
@@ -45,7 +45,7 @@ use Rattle.step_laws.specs.StepLaws.{Reaches, StepLaw, Outcome as StepOutcome, c
 use Rattle.step_laws.proofs.KernelCalls.{pushed, serve_by}
 use Rattle.avr_exec.proofs.RegistersKept.{exec_kept}
 use Rattle.step_laws.proofs.Executed.{end_stop, flat_put, kept_of, executed_at, returned, executed_is}
-use Rattle.step_laws.specs.declared.moves.End.TheVariants as ends
+use Rattle.kernel_entry.specs.declared.kernel.End.TheVariants as ends
 use Rattle.step_laws.specs.Numbers.{moved}
 use Rattle.avr_decode.specs.Program.{instruction_at}
 use Rattle.kernel_entry.specs.Parts.{core_of, descriptor, memory_of, rested, return_address, image_held}
@@ -69,8 +69,8 @@ pub record IsAsked (x : State) (a : ℕ) (ram : List ℕ) (back entry : ℕ) : T
   pub address : return_address (asked x ram back entry) ≡ back
   pub behind : descriptor (asked x ram back entry) ≡ a
   pub sees : (pc s c : ℕ) → state_at (rested (asked x ram back entry)) pc s c ≡ state_at x.kernel pc s c
-  pub count : byte_at (pushed ram back) 0x0100 ≡ byte_at (mote_of x).sram 0x0100
-  pub pointer : byte_at (pushed ram back) 0x0103 < 256
+  pub count : byte_at (pushed ram back) count_cell ≡ byte_at (mote_of x).sram count_cell
+  pub pointer : byte_at (pushed ram back) vsp_cell < 256
   pub tables : (b : ℕ) → 0x0142 ≤ b → b < 0x0400 → byte_at (pushed ram back) b ≡ byte_at (mote_of x).sram b
   pub shape : shape_behind (asked x ram back entry) ≡ shape_at (image_held x.kernel) a
   pub can : CanExecute (asked x ram back entry)
@@ -168,7 +168,7 @@ bus_stops_asked x a ram back entry more form stop c is runs own apart stopped n 
 pub resume_asked : (links : Links) (x : State) (a v : ℕ) (ram : List ℕ) (back entry more to : ℕ) (form : Form) (cpu : Cpu) (g : Guarded) → IsSetting links x a v → Asked x a ram back entry more → CanServe (asked x ram back entry)
     → instruction_at (image_held x.kernel) a ≡ Some form → is_executed form ≡ true → Owns (asked x ram back entry) a form → RunsOn x.kernel a form → executed_at (asked x ram back entry) a form ≡ WentOn cpu g → cpu.pc ≡ to
     → served (asked x ram back entry) ≡ (answers.Resume g.line, returned (asked x ram back entry) cpu g (wrapping_sum back 1))
-    → (let z : State = record { kernel = returned (asked x ram back entry) cpu g (wrapping_sum back 1); owed = None; end = None; torn = None } in IsRunning z → IsIdle z.kernel → Onward 0 links z to (count_over x.kernel.quantum a to (byte_at (mote_of z).sram 0x0100)) (is_crossing a to)) → StepLaw links x a
+    → (let z : State = record { kernel = returned (asked x ram back entry) cpu g (wrapping_sum back 1); owed = None; end = None; torn = None } in IsRunning z → IsIdle z.kernel → Onward 0 links z to (count_over x.kernel.quantum a to (byte_at (mote_of z).sram count_cell)) (is_crossing a to)) → StepLaw links x a
 unfolding lines_of
 resume_asked links x a v ram back entry more to form cpu g s c can is runs own apart went pc answer ahead =
     let k = x.kernel in
@@ -179,8 +179,8 @@ resume_asked links x a v ram back entry more to form cpu g s c can is runs own a
     let size' : length g.sram ≡ 4096 = kept.paged.sized.sram in
     let z1 : State = record { kernel = returned kc cpu g (wrapping_sum back 1); owed = None; end = None; torn = None } in
     let served' : MakesServe y g.line false z1 = serve_by y (answers.Resume g.line, returned kc cpu g (wrapping_sum back 1)) (record { free = s.ready.running.free; going = s.ready.running.going; room = s.ready.running.room }) can answer in
-    let count' : byte_at (with_word g.sram vsp_cell cpu.sp) 0x0100 ≡ byte_at k.mote.sram 0x0100 = byte_out_of_word g.sram vsp_cell 0x0100 cpu.sp (omega arith) (omega arith) (λ e. omega arith) (λ e. omega arith) ∙ kept.cells 0x0100 (omega arith) (omega arith) ∙ c.state.count in
-    let pointer' : byte_at (with_word g.sram vsp_cell cpu.sp) 0x0103 < 256 = omega (arith, word_low g.sram vsp_cell cpu.sp (omega arith) (omega arith)) in
+    let count' : byte_at (with_word g.sram vsp_cell cpu.sp) count_cell ≡ byte_at k.mote.sram count_cell = byte_out_of_word g.sram vsp_cell count_cell cpu.sp (omega arith) (omega arith) (λ e. omega arith) (λ e. omega arith) ∙ kept.cells count_cell (omega arith) (omega arith) ∙ c.state.count in
+    let pointer' : byte_at (with_word g.sram vsp_cell cpu.sp) vsp_cell < 256 = omega (arith, word_low g.sram vsp_cell cpu.sp (omega arith) (omega arith)) in
     let some = s.ready.idle.some in
     let most = s.ready.idle.most in
     let room = s.ready.bounded.polls in
@@ -216,7 +216,7 @@ resume_asked links x a v ram back entry more to form cpu g s c can is runs own a
         top = on.left.same.top;
         polls = let polls = kept.polls in omega (arith, ap (λ d. d.polls) on.left.same.devices);
         tables = λ b low high. on.left.same.bytes b (omega arith) (λ e. omega arith) (λ e. omega arith) ∙ byte_out_of_word g.sram vsp_cell b cpu.sp (omega arith) (omega arith) (λ e. omega arith) (λ e. omega arith) ∙ kept.tables b (omega arith) high ∙ c.state.tables b low high;
-        pointer = omega (arith, on.left.same.bytes 0x0103 (omega arith) (λ e. omega arith) (λ e. omega arith));
+        pointer = omega (arith, on.left.same.bytes vsp_cell (omega arith) (λ e. omega arith) (λ e. omega arith));
       };
       outcome = StepOutcome.Went to (record {
         wakes = false;

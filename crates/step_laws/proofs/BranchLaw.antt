@@ -28,7 +28,7 @@ use Rattle.nat_template.specs.Stubs.{stub}
 use Rattle.nat_template.specs.Templates.{template_by, target_of, jump_over, short_branch}
 use Rattle.page_draft.specs.Standing.{Stands}
 use Rattle.page_draft.specs.Runs.{shape_at, template_at, size_at, next_of, is_closed}
-use Rattle.mem_guard.specs.FlatMachine.{next_size, jumps_to_itself}
+use Rattle.flat_machine.specs.FlatMachine.{next_size, jumps_to_itself}
 use Rattle.step_laws.specs.Settings.{IsSetting}
 use Rattle.step_laws.specs.Links.{Links}
 use Rattle.step_laws.specs.StepLaws.{ShapeLaw, StepLaw}

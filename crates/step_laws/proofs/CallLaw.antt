@@ -21,7 +21,7 @@ use Rattle.nat_template.proofs.Sizes.{stub_bound}
 use Rattle.page_draft.specs.Standing.{Stands, size}
 use Rattle.page_draft.specs.Runs.{template_at, size_at}
 use Rattle.page_draft.proofs.PieceLaws.{size-cons}
-use Rattle.mem_guard.specs.FlatMachine.{next_size}
+use Rattle.flat_machine.specs.FlatMachine.{next_size}
 use Rattle.mem_guard.specs.Guarded.{Guarded, guarded_calls}
 use Rattle.kernel_entry.specs.declared.kernel.Kernel.{Kernel}
 use Rattle.step_laws.proofs.ServiceLaw.{Called, bus_stops, called, called_by, resume_law, stop_law}

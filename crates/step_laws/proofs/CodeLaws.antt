@@ -7,7 +7,7 @@ use Rattle.nat_template.specs.declared.shapes.TemplateShape.{TemplateShape}
 use Rattle.nat_template.specs.declared.shapes.TemplateShape.TheVariants.{Fault}
 use Rattle.nat_template.specs.Shapes.{shape_of, shape_of_form}
 use Rattle.step_laws.specs.States.{State, mote_of}
-use Rattle.flash_words.specs.Layouts.{IsRight}
+use Rattle.flash_words.specs.Layouts.{IsRight, most_image_words}
 use Rattle.flash_model.proofs.ImageLaws.{front_fits}
 use Rattle.kernel_entry.specs.declared.kernel.Kernel.{Kernel}
 use Rattle.step_laws.specs.Settings.{IsBounded}
@@ -15,7 +15,7 @@ use Rattle.std.proofs.lemmas.List.{length-take}
 use Rattle.kernel_entry.specs.Parts.{image_held}
 
 -- the image is short, and its words are words
-pub setting_short : (x : State) → IsRight x.kernel.layout → length (image_held x.kernel) ≤ 24576
+pub setting_short : (x : State) → IsRight x.kernel.layout → length (image_held x.kernel) ≤ most_image_words
 setting_short x right = let fits = right.image_fits in omega (arith, length-take x.kernel.layout.image_words (mote_of x).flash.words)
 
 pub image_words : (k : Kernel) → IsBounded k → (a : ℕ) → word (image_held k) a < 65536

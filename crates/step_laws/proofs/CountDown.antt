@@ -11,6 +11,7 @@ use Rattle.flash_words.specs.declared.layout.Layout.{Layout}
 use Rattle.flash_words.specs.Pages.{word_at}
 use Rattle.sram_layout.specs.Bytes.{byte_at, with_byte}
 use Rattle.sram_layout.proofs.Laws.{byte_same, byte_other, length-with_byte}
+use Rattle.sram_layout.specs.Cells.{count_cell, r24_cell, sreg_cell}
 use Rattle.nat_template.specs.Words.{words_of_forms}
 use Rattle.nat_template.specs.Stubs.{count_down, plain_stub, call_word}
 use Rattle.page_draft.specs.Standing.{Stands}
@@ -30,8 +31,8 @@ use Rattle.mote_core.specs.QuietSteps.{IsQuiet}
 -- the words of the instructions before the link
 abbrev pub count_words : List ℕ
 count_words =
-    0x9380 ∷ 0x0101 ∷ 0xB78F ∷ 0x9380 ∷ 0x0102 ∷ 0x9180 ∷ 0x0100 ∷ 0x958A ∷ 0x9380 ∷ 0x0100 ∷ 0xF041
-    ∷ 0x9180 ∷ 0x0102 ∷ 0xBF8F ∷ 0x9180 ∷ 0x0101 ∷ []
+    0x9380 ∷ r24_cell ∷ 0xB78F ∷ 0x9380 ∷ sreg_cell ∷ 0x9180 ∷ count_cell ∷ 0x958A ∷ 0x9380 ∷ count_cell ∷ 0xF041
+    ∷ 0x9180 ∷ sreg_cell ∷ 0xBF8F ∷ 0x9180 ∷ r24_cell ∷ []
 
 pub count_words_are : words_of_forms count_down ≡ count_words
 unfolding first_word second_word
@@ -65,16 +66,16 @@ inner_move links x w t k v s v' s' p' ram ram' free stub some below quiet =
 
 -- the bytes after r24 and SREG were put into their cells
 abbrev pub put_away : Mote → List ℕ
-put_away m = with_byte (with_byte m.sram 0x0101 (register m.cpu 24)) 0x0102 m.cpu.sreg
+put_away m = with_byte (with_byte m.sram r24_cell (register m.cpu 24)) sreg_cell m.cpu.sreg
 
 abbrev count_of : Mote → ℕ
-count_of m = byte_at (put_away m) 0x0100
+count_of m = byte_at (put_away m) count_cell
 
 abbrev pub lowered_of : Mote → ℕ × ℕ
 lowered_of m = dec_of m.cpu.sreg (count_of m)
 
 abbrev pub counted_down : Mote → List ℕ
-counted_down m = with_byte (put_away m) 0x0100 (lowered_of m).0
+counted_down m = with_byte (put_away m) count_cell (lowered_of m).0
 
 -- the first six instructions
 pub front : (links : Links) (x : State) (w t : ℕ) (b : Bool) → IsRunning x → CrossingStub links x.kernel.layout (mote_of x).flash.words w t → 24 < length (mote_of x).cpu.r
@@ -86,7 +87,7 @@ front links x w t b free stub fits starts =
     let v = register m.cpu 24 in
     let s = m.cpu.sreg in
     let low = stub.row.low in
-    let ram1 = with_byte m.sram 0x0101 v in
+    let ram1 = with_byte m.sram r24_cell v in
     let ram2 = put_away m in
     let ram3 = counted_down m in
     let c = count_of m in
@@ -95,8 +96,8 @@ front links x w t b free stub fits starts =
     let P : ℕ → Type 0 = λ p. Begins l m.flash.words p b in
     let first : MakesPlain (with_held x v s (w + 0) m.sram) b None (with_held x v s (w + 2) ram1) = quiet_move (with_held x v s (w + 0) m.sram)
     (held m v s (w + 2) ram1) b (record { free = free.free; going = free.going; room = free.room }) (stub.row.pool 0 (omega arith))
-    (subst P (sym w0) starts) (sts_held m v s (w + 0) (w + 2) 0x0101 m.sram fits
-    (form_there m (w + 0) 0x9380 0x0101 _ (word_pair links l m w t 0 stub (omega arith)) (sts_form 0x0101)) (omega arith) (omega arith)
+    (subst P (sym w0) starts) (sts_held m v s (w + 0) (w + 2) r24_cell m.sram fits
+    (form_there m (w + 0) 0x9380 r24_cell _ (word_pair links l m w t 0 stub (omega arith)) (sts_form r24_cell)) (omega arith) (omega arith)
     (omega arith) (omega arith)) in (
       with_held x v s (w + 2) ram1,
       first,
@@ -106,14 +107,14 @@ front links x w t b free stub fits starts =
         (
           with_held x s s (w + 5) ram2,
           inner_move links x w t 3 s s s s (w + 5) ram1 ram2 free stub (omega arith) (omega arith)
-              (sts_held m s s (w + 3) (w + 5) 0x0102 ram1 fits
-              (form_there m (w + 3) 0x9380 0x0102 _ (word_pair links l m w t 3 stub (omega arith)) (sts_form 0x0102)) (omega arith) (omega arith)
+              (sts_held m s s (w + 3) (w + 5) sreg_cell ram1 fits
+              (form_there m (w + 3) 0x9380 sreg_cell _ (word_pair links l m w t 3 stub (omega arith)) (sts_form sreg_cell)) (omega arith) (omega arith)
               (omega arith) (omega arith)),
           (
             with_held x c s (w + 7) ram2,
             inner_move links x w t 5 s s c s (w + 7) ram2 ram2 free stub (omega arith) (omega arith)
-                (lds_held m s s (w + 5) (w + 7) 0x0100 ram2
-                (form_there m (w + 5) 0x9180 0x0100 _ (word_pair links l m w t 5 stub (omega arith)) (lds_form 0x0100)) (omega arith) (omega arith)
+                (lds_held m s s (w + 5) (w + 7) count_cell ram2
+                (form_there m (w + 5) 0x9180 count_cell _ (word_pair links l m w t 5 stub (omega arith)) (lds_form count_cell)) (omega arith) (omega arith)
                 (omega arith) (omega arith)),
             (
               with_held x d.0 d.1 (w + 8) ram2,
@@ -121,8 +122,8 @@ front links x w t b free stub fits starts =
               (
                 with_held x d.0 d.1 (w + 10) ram3,
                 inner_move links x w t 8 d.0 d.1 d.0 d.1 (w + 10) ram2 ram3 free stub (omega arith) (omega arith)
-                    (sts_held m d.0 d.1 (w + 8) (w + 10) 0x0100 ram2 fits
-                    (form_there m (w + 8) 0x9380 0x0100 _ (word_pair links l m w t 8 stub (omega arith)) (sts_form 0x0100)) (omega arith) (omega arith)
+                    (sts_held m d.0 d.1 (w + 8) (w + 10) count_cell ram2 fits
+                    (form_there m (w + 8) 0x9380 count_cell _ (word_pair links l m w t 8 stub (omega arith)) (sts_form count_cell)) (omega arith) (omega arith)
                     (omega arith) (omega arith)),
                 refl,
               ),
@@ -133,25 +134,25 @@ front links x w t b free stub fits starts =
     )
 
 -- COUNT before, and r24 and SREG in their cells
-pub count_read : (m : Mote) → count_of m ≡ byte_at m.sram 0x0100
-count_read m = byte_other (with_byte m.sram 0x0101 (register m.cpu 24)) 0x0102 0x0100 m.cpu.sreg (omega arith) (omega arith) (λ same. omega arith) ∙ byte_other m.sram 0x0101 0x0100 (register m.cpu 24) (omega arith) (omega arith) (λ same. omega arith)
+pub count_read : (m : Mote) → count_of m ≡ byte_at m.sram count_cell
+count_read m = byte_other (with_byte m.sram r24_cell (register m.cpu 24)) sreg_cell count_cell m.cpu.sreg (omega arith) (omega arith) (λ same. omega arith) ∙ byte_other m.sram r24_cell count_cell (register m.cpu 24) (omega arith) (omega arith) (λ same. omega arith)
 
-pub sreg_read : (m : Mote) → length m.sram ≡ 4096 → byte_at (counted_down m) 0x0102 ≡ m.cpu.sreg
+pub sreg_read : (m : Mote) → length m.sram ≡ 4096 → byte_at (counted_down m) sreg_cell ≡ m.cpu.sreg
 sreg_read m whole =
-    byte_other (put_away m) 0x0100 0x0102 (lowered_of m).0 (omega arith) (omega arith) (λ same. omega arith) ∙ byte_same (with_byte m.sram 0x0101 (register m.cpu 24)) 0x0102 m.cpu.sreg (omega arith) (omega (arith, length-with_byte m.sram 0x0101 (register m.cpu 24)))
+    byte_other (put_away m) count_cell sreg_cell (lowered_of m).0 (omega arith) (omega arith) (λ same. omega arith) ∙ byte_same (with_byte m.sram r24_cell (register m.cpu 24)) sreg_cell m.cpu.sreg (omega arith) (omega (arith, length-with_byte m.sram r24_cell (register m.cpu 24)))
 
-pub r24_read : (m : Mote) → length m.sram ≡ 4096 → byte_at (counted_down m) 0x0101 ≡ register m.cpu 24
+pub r24_read : (m : Mote) → length m.sram ≡ 4096 → byte_at (counted_down m) r24_cell ≡ register m.cpu 24
 r24_read m whole =
-    byte_other (put_away m) 0x0100 0x0101 (lowered_of m).0 (omega arith) (omega arith) (λ same. omega arith)
-    ∙ byte_other (with_byte m.sram 0x0101 (register m.cpu 24)) 0x0102 0x0101 m.cpu.sreg (omega arith) (omega arith) (λ same. omega arith)
-    ∙ byte_same m.sram 0x0101 (register m.cpu 24) (omega arith) (omega arith)
+    byte_other (put_away m) count_cell r24_cell (lowered_of m).0 (omega arith) (omega arith) (λ same. omega arith)
+    ∙ byte_other (with_byte m.sram r24_cell (register m.cpu 24)) sreg_cell r24_cell m.cpu.sreg (omega arith) (omega arith) (λ same. omega arith)
+    ∙ byte_same m.sram r24_cell (register m.cpu 24) (omega arith) (omega arith)
 
 -- the last of the quantum: the branch is taken
 zero_made : (n : ℕ) (z : Bool) → has_bit (with_bit n 2 z) 2 ≡ z
 zero_made n true = grind (arith, nat_tests)
 zero_made n false = grind (arith, nat_tests)
 
-pub taken_is : (m : Mote) (c : ℕ) → byte_at m.sram 0x0100 ≡ c → has_bit (lowered_of m).1 2 ≡ (byte_difference c 1 0 == 0)
+pub taken_is : (m : Mote) (c : ℕ) → byte_at m.sram count_cell ≡ c → has_bit (lowered_of m).1 2 ≡ (byte_difference c 1 0 == 0)
 unfolding dec_status with_result_flags
 taken_is m c is = zero_made _ (byte_difference (count_of m) 1 0 == 0) ∙ ap (λ n. byte_difference n 1 0 == 0) (count_read m ∙ is)
 
@@ -167,16 +168,16 @@ tail_on links x w t free stub fit on =
     let low = stub.row.low in
     let ram = counted_down m in
     let d = lowered_of m in
-    let e = byte_at ram 0x0102 in
+    let e = byte_at ram sreg_cell in
     let es : e ≡ s = sreg_read m fit.size in
-    let ev : byte_at ram 0x0101 ≡ v = r24_read m fit.size in
+    let ev : byte_at ram r24_cell ≡ v = r24_read m fit.size in
     let on' : (if has_bit d.1 2 then relative (w + 10) (pos 8) else wrapping_sum (w + 10) 1) ≡ w + 11 = ap (λ b. if b then relative (w + 10) (pos 8) else wrapping_sum (w + 10) 1) on ∙ omega arith in
     let P : ℕ → ℕ → Type 0 = λ y u. WalkWithin (with_held x y u (w + 14) ram) (Plain None ∷ []) (with_held x v s (w + 16) ram) in
     let last : P s s = (
-      with_held x (byte_at ram 0x0101) s (w + 16) ram,
-      inner_move links x w t 14 s s (byte_at ram 0x0101) s (w + 16) ram ram free stub (omega arith) (omega arith)
-          (lds_held m s s (w + 14) (w + 16) 0x0101 ram
-          (form_there m (w + 14) 0x9180 0x0101 _ (word_pair links l m w t 14 stub (omega arith)) (lds_form 0x0101)) (omega arith) (omega arith)
+      with_held x (byte_at ram r24_cell) s (w + 16) ram,
+      inner_move links x w t 14 s s (byte_at ram r24_cell) s (w + 16) ram ram free stub (omega arith) (omega arith)
+          (lds_held m s s (w + 14) (w + 16) r24_cell ram
+          (form_there m (w + 14) 0x9180 r24_cell _ (word_pair links l m w t 14 stub (omega arith)) (lds_form r24_cell)) (omega arith) (omega arith)
           (omega arith) (omega arith)),
       ap (λ y. with_held x y s (w + 16) ram) ev,
     ) in (
@@ -185,8 +186,8 @@ tail_on links x w t free stub fit on =
       (
         with_held x e d.1 (w + 13) ram,
         inner_move links x w t 11 d.0 d.1 e d.1 (w + 13) ram ram free stub (omega arith) (omega arith)
-            (lds_held m d.0 d.1 (w + 11) (w + 13) 0x0102 ram
-            (form_there m (w + 11) 0x9180 0x0102 _ (word_pair links l m w t 11 stub (omega arith)) (lds_form 0x0102)) (omega arith) (omega arith)
+            (lds_held m d.0 d.1 (w + 11) (w + 13) sreg_cell ram
+            (form_there m (w + 11) 0x9180 sreg_cell _ (word_pair links l m w t 11 stub (omega arith)) (lds_form sreg_cell)) (omega arith) (omega arith)
             (omega arith) (omega arith)),
         (
           with_held x e e (w + 14) ram,

@@ -8,6 +8,7 @@ use Rattle.avr_exec.specs.Registers.{register}
 use Rattle.flash_words.specs.Pages.{word_at}
 use Rattle.sram_layout.specs.Bytes.{byte_at, with_byte}
 use Rattle.sram_layout.proofs.Laws.{byte_same, byte_other, length-with_byte}
+use Rattle.sram_layout.specs.Cells.{count_cell, r24_cell, sreg_cell, vsp_cell}
 use Rattle.mote_core.specs.declared.mote.Mote.{Mote}
 use Rattle.preempt_count.specs.Counting.{count_after}
 use Rattle.step_laws.specs.States.{Begins, State, mote_of, with_mote}
@@ -27,14 +28,14 @@ use Rattle.step_laws.proofs.HeldSteps.{held, set_twice}
 use Rattle.step_laws.specs.Numbers.{moved}
 
 -- the bytes below the cells stay
-down_kept : (m : Mote) (b : ℕ) → 0x0103 ≤ b → byte_at (counted_down m) b ≡ byte_at m.sram b
+down_kept : (m : Mote) (b : ℕ) → vsp_cell ≤ b → byte_at (counted_down m) b ≡ byte_at m.sram b
 down_kept m b low =
-    byte_other (put_away m) 0x0100 b (lowered_of m).0 (omega arith) (omega arith) (λ same. omega arith)
-    ∙ byte_other (with_byte m.sram 0x0101 (register m.cpu 24)) 0x0102 b m.cpu.sreg (omega arith) (omega arith) (λ same. omega arith)
-    ∙ byte_other m.sram 0x0101 b (register m.cpu 24) (omega arith) (omega arith) (λ same. omega arith)
+    byte_other (put_away m) count_cell b (lowered_of m).0 (omega arith) (omega arith) (λ same. omega arith)
+    ∙ byte_other (with_byte m.sram r24_cell (register m.cpu 24)) sreg_cell b m.cpu.sreg (omega arith) (omega arith) (λ same. omega arith)
+    ∙ byte_other m.sram r24_cell b (register m.cpu 24) (omega arith) (omega arith) (λ same. omega arith)
 
 down_size : (m : Mote) → length (counted_down m) ≡ length m.sram
-down_size m = length-with_byte (put_away m) 0x0100 (lowered_of m).0 ∙ length-with_byte (with_byte m.sram 0x0101 (register m.cpu 24)) 0x0102 m.cpu.sreg ∙ length-with_byte m.sram 0x0101 (register m.cpu 24)
+down_size m = length-with_byte (put_away m) count_cell (lowered_of m).0 ∙ length-with_byte (with_byte m.sram r24_cell (register m.cpu 24)) sreg_cell m.cpu.sreg ∙ length-with_byte m.sram r24_cell (register m.cpu 24)
 
 lowered_by_one : (q c : ℕ) → 1 ≤ c → c < 256 → (c == 1) ≡ false → byte_difference c 1 0 ≡ count_after q c
 lowered_by_one q c some most more = let e : byte_difference c 1 0 ≡ c - 1 = omega arith in e ∙ sym (ap (λ b. if b then q else c - 1) more)
@@ -65,25 +66,25 @@ same_down m p fit = record {
   swap = refl;
 }
 
-count_down_is : (m : Mote) (q : ℕ) → length m.sram ≡ 4096 → 1 ≤ byte_at m.sram 0x0100 → byte_at m.sram 0x0100 < 256 → (byte_at m.sram 0x0100 == 1) ≡ false → byte_at (counted_down m) 0x0100 ≡ count_after q (byte_at m.sram 0x0100)
+count_down_is : (m : Mote) (q : ℕ) → length m.sram ≡ 4096 → 1 ≤ byte_at m.sram count_cell → byte_at m.sram count_cell < 256 → (byte_at m.sram count_cell == 1) ≡ false → byte_at (counted_down m) count_cell ≡ count_after q (byte_at m.sram count_cell)
 count_down_is m q size some most more =
-    byte_same (put_away m) 0x0100 (lowered_of m).0 (omega arith) (omega (arith, length-with_byte (with_byte m.sram 0x0101 (register m.cpu 24)) 0x0102 m.cpu.sreg, length-with_byte m.sram 0x0101 (register m.cpu 24)))
-    ∙ ap (λ n. byte_difference n 1 0) (count_read m) ∙ lowered_by_one q (byte_at m.sram 0x0100) some most more
+    byte_same (put_away m) count_cell (lowered_of m).0 (omega arith) (omega (arith, length-with_byte (with_byte m.sram r24_cell (register m.cpu 24)) sreg_cell m.cpu.sreg, length-with_byte m.sram r24_cell (register m.cpu 24)))
+    ∙ ap (λ n. byte_difference n 1 0) (count_read m) ∙ lowered_by_one q (byte_at m.sram count_cell) some most more
 
 -- behind QUANTUM, which takes r24 and SREG from their cells
 same_timed : (m : Mote) (d q : ℕ × ℕ) (ret quantum pc : ℕ) → length m.sram ≡ 4096 → m.cpu.sp ≡ 0x011F
     → (let ram = pushed (counted_down m) ret in
-    SameProgram m (record (held m d.0 d.1 0 (with_byte ram 0x0100 quantum)) { cpu = record m.cpu { r = slice_set (slice_set m.cpu.r 24 d.0) 24 (byte_at ram 0x0101); sreg = byte_at ram 0x0102; sp = 0x011F; pc = pc } }))
+    SameProgram m (record (held m d.0 d.1 0 (with_byte ram count_cell quantum)) { cpu = record m.cpu { r = slice_set (slice_set m.cpu.r 24 d.0) 24 (byte_at ram r24_cell); sreg = byte_at ram sreg_cell; sp = 0x011F; pc = pc } }))
 same_timed m d q ret quantum pc size top =
     let ram = pushed (counted_down m) ret in
-    let v : byte_at ram 0x0101 ≡ register m.cpu 24 = pushed_kept (counted_down m) ret 0x0101 (omega arith) (λ e. omega arith) (λ e. omega arith) ∙ r24_read m size in
-    let s : byte_at ram 0x0102 ≡ m.cpu.sreg = pushed_kept (counted_down m) ret 0x0102 (omega arith) (λ e. omega arith) (λ e. omega arith) ∙ sreg_read m size in
+    let v : byte_at ram r24_cell ≡ register m.cpu 24 = pushed_kept (counted_down m) ret r24_cell (omega arith) (λ e. omega arith) (λ e. omega arith) ∙ r24_read m size in
+    let s : byte_at ram sreg_cell ≡ m.cpu.sreg = pushed_kept (counted_down m) ret sreg_cell (omega arith) (λ e. omega arith) (λ e. omega arith) ∙ sreg_read m size in
     record {
-      registers = set_twice m.cpu.r 24 d.0 (byte_at ram 0x0101) ∙ ap (slice_set m.cpu.r 24) v ∙ set-get_or m.cpu.r 24 0;
+      registers = set_twice m.cpu.r 24 d.0 (byte_at ram r24_cell) ∙ ap (slice_set m.cpu.r 24) v ∙ set-get_or m.cpu.r 24 0;
       status = s;
       top = refl;
-      size = length-with_byte ram 0x0100 quantum ∙ pushed_size (counted_down m) ret ∙ down_size m;
-      bytes = λ b low apart apart'. byte_other ram 0x0100 b quantum (omega arith) (omega arith) (λ e. omega arith) ∙ pushed_kept (counted_down m) ret b (omega arith) apart apart' ∙ down_kept m b low;
+      size = length-with_byte ram count_cell quantum ∙ pushed_size (counted_down m) ret ∙ down_size m;
+      bytes = λ b low apart apart'. byte_other ram count_cell b quantum (omega arith) (omega arith) (λ e. omega arith) ∙ pushed_kept (counted_down m) ret b (omega arith) apart apart' ∙ down_kept m b low;
       flash = refl;
       devices = refl;
       swap = refl;
@@ -95,15 +96,15 @@ due_to links t b c z same reaches = subst (λ d. Reaches links t d z) same reach
 
 -- after the ten instructions, the link
 link_way : (links : Links) (x : State) (w t : ℕ) (b : Bool) → IsRunning x → CrossingStub links x.kernel.layout (mote_of x).flash.words w t → IsIdle x.kernel → (mote_of x).cpu.pc ≡ w
-    → (byte_at (mote_of x).sram 0x0100 == 1) ≡ false
+    → (byte_at (mote_of x).sram count_cell == 1) ≡ false
     → WalkFrom x b None (plains 9) (with_held x (register (mote_of x).cpu 24) (mote_of x).cpu.sreg (w + 16) (counted_down (mote_of x)))
-    → Way links x b t (count_after x.kernel.quantum (byte_at (mote_of x).sram 0x0100)) true
+    → Way links x b t (count_after x.kernel.quantum (byte_at (mote_of x).sram count_cell)) true
 unfolding lines_of
 link_way links x w t b free stub fit is more way =
     let m = mote_of x in
     let l = x.kernel.layout in
     let q = x.kernel.quantum in
-    let c = byte_at m.sram 0x0100 in
+    let c = byte_at m.sram count_cell in
     let low = stub.row.low in
     let registers = fit.registers in
     let pointer = fit.pointer in
@@ -116,7 +117,7 @@ link_way links x w t b free stub fit is more way =
     let apart = not_one c more in
     let behind = stretch_behind l m.flash.words w 16 6 stub.row (omega arith) (omega arith) in
     let row : IsStretch l m.flash.words (w + 16) 3 = record { pool = λ k below. behind.pool k (omega arith); inner = λ k some below. behind.inner k some (omega arith); low = omega arith } in
-    let fit' : IsIdle y.kernel = record { registers = omega (arith, ap length down.registers); size = down.size ∙ fit.size; pointer = omega (arith, down_kept m 0x0103 (omega arith)); top = fit.top; some = omega (arith, count, left); most = omega (arith, count, left) } in
+    let fit' : IsIdle y.kernel = record { registers = omega (arith, ap length down.registers); size = down.size ∙ fit.size; pointer = omega (arith, down_kept m vsp_cell (omega arith)); top = fit.top; some = omega (arith, count, left); most = omega (arith, count, left) } in
     let on = link_law links y (w + 16) t false (record { free = free.free; going = free.going; room = free.room }) row stub.stands stub.marks fit' refl (stub.row.inner 16 (omega arith) (omega arith)) in
     let end = on.0.end in
     record {
@@ -141,9 +142,9 @@ link_way links x w t b free stub fit is more way =
 
 -- the quantum is over
 over_way : (links : Links) (x : State) (w t : ℕ) (b : Bool) → IsRunning x → CrossingStub links x.kernel.layout (mote_of x).flash.words w t → IsIdle x.kernel
-    → (byte_at (mote_of x).sram 0x0100 == 1) ≡ true
+    → (byte_at (mote_of x).sram count_cell == 1) ≡ true
     → WalkFrom x b None (plains 6) (with_held x (lowered_of (mote_of x)).0 (lowered_of (mote_of x)).1 (w + 19) (counted_down (mote_of x)))
-    → Way links x b t (count_after x.kernel.quantum (byte_at (mote_of x).sram 0x0100)) true
+    → Way links x b t (count_after x.kernel.quantum (byte_at (mote_of x).sram count_cell)) true
 unfolding lines_of moved
 over_way links x w t b free stub fit one way =
     let m = mote_of x in
@@ -174,27 +175,27 @@ over_way links x w t b free stub fit one way =
         part = refl;
         quantum = refl;
         same = same_timed m d d (w + 19 + 2) x.kernel.quantum 0xF002 fit.size fit.top;
-        count = byte_same (pushed ram (w + 19 + 2)) 0x0100 x.kernel.quantum (omega arith) (omega (arith, pushed_size ram (w + 19 + 2))) ∙ sym (ap (λ c. if c then x.kernel.quantum else byte_at m.sram 0x0100 - 1) one);
-        reaches = due_to links t true (byte_at m.sram 0x0100 == 1) (quantum_state called t) (sym one) (Reaches.Owing None (λ e. refl) refl tt);
+        count = byte_same (pushed ram (w + 19 + 2)) count_cell x.kernel.quantum (omega arith) (omega (arith, pushed_size ram (w + 19 + 2))) ∙ sym (ap (λ c. if c then x.kernel.quantum else byte_at m.sram count_cell - 1) one);
+        reaches = due_to links t true (byte_at m.sram count_cell == 1) (quantum_state called t) (sym one) (Reaches.Owing None (λ e. refl) refl tt);
       };
     }
 
 -- the whole stub
 crossing_by : (links : Links) (x : State) (w t : ℕ) (b c : Bool) → IsRunning x → CrossingStub links x.kernel.layout (mote_of x).flash.words w t → IsIdle x.kernel → (mote_of x).cpu.pc ≡ w
-    → Begins x.kernel.layout (mote_of x).flash.words w b → (byte_at (mote_of x).sram 0x0100 == 1) ≡ c → Way links x b t (count_after x.kernel.quantum (byte_at (mote_of x).sram 0x0100)) true
+    → Begins x.kernel.layout (mote_of x).flash.words w b → (byte_at (mote_of x).sram count_cell == 1) ≡ c → Way links x b t (count_after x.kernel.quantum (byte_at (mote_of x).sram count_cell)) true
 crossing_by links x w t b true free stub fit is starts one =
     let m = mote_of x in
     let P : State → Type 0 = λ s. WalkFrom s b None (plains 5) (with_held x (lowered_of m).0 (lowered_of m).1 (w + 10) (counted_down m)) in
     let begun : P x = subst P (sym (start_held x w is)) (front links x w t b free stub (let registers = fit.registers in omega arith) starts) in
-    let over = taken_is m (byte_at m.sram 0x0100) refl ∙ is_zero (byte_at m.sram 0x0100) one in
+    let over = taken_is m (byte_at m.sram count_cell) refl ∙ is_zero (byte_at m.sram count_cell) one in
     over_way links x w t b free stub fit one (from_on x (with_held x (lowered_of m).0 (lowered_of m).1 (w + 10) (counted_down m)) _ b None (plains 5) (plains 1) begun (tail_over links x w t free stub over))
 crossing_by links x w t b false free stub fit is starts more =
     let m = mote_of x in
     let P : State → Type 0 = λ s. WalkFrom s b None (plains 5) (with_held x (lowered_of m).0 (lowered_of m).1 (w + 10) (counted_down m)) in
     let begun : P x = subst P (sym (start_held x w is)) (front links x w t b free stub (let registers = fit.registers in omega arith) starts) in
-    let on = taken_is m (byte_at m.sram 0x0100) refl ∙ not_zero (byte_at m.sram 0x0100) fit.some fit.most more in
+    let on = taken_is m (byte_at m.sram count_cell) refl ∙ not_zero (byte_at m.sram count_cell) fit.some fit.most more in
     link_way links x w t b free stub fit is more (from_on x (with_held x (lowered_of m).0 (lowered_of m).1 (w + 10) (counted_down m)) _ b None (plains 5) (plains 4) begun (tail_on links x w t free stub fit on))
 
 pub crossing_law : (links : Links) (x : State) (w t : ℕ) (b : Bool) → IsRunning x → CrossingStub links x.kernel.layout (mote_of x).flash.words w t → IsIdle x.kernel → (mote_of x).cpu.pc ≡ w
-    → Begins x.kernel.layout (mote_of x).flash.words w b → Way links x b t (count_after x.kernel.quantum (byte_at (mote_of x).sram 0x0100)) true
-crossing_law links x w t b free stub fit is starts = crossing_by links x w t b (byte_at (mote_of x).sram 0x0100 == 1) free stub fit is starts refl
+    → Begins x.kernel.layout (mote_of x).flash.words w b → Way links x b t (count_after x.kernel.quantum (byte_at (mote_of x).sram count_cell)) true
+crossing_law links x w t b free stub fit is starts = crossing_by links x w t b (byte_at (mote_of x).sram count_cell == 1) free stub fit is starts refl

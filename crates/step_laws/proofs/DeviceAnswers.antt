@@ -2,23 +2,23 @@
 use Rattle.std.proofs.Common.{◌≡◌, ℕ, ◌+◌, ◌<◌, ◌≤◌, Bool, true, false, cond, ◌&&◌, nat_lt, nat_le, List, refl, ap, subst, arith, ◌∙◌}
 use Rattle.std.proofs.lemmas.Bool.Decides.{nat_tests}
 use Rattle.std.proofs.lemmas.Bool.{and_parts}
-use Rattle.avr_isa.specs.IoTable.{can_read, can_write}
+use Rattle.avr_isa.specs.IoTable.{can_read, can_write, register_at}
 use Rattle.avr_exec.specs.declared.ask.Ask.{Ask}
 use Rattle.avr_exec.specs.declared.ask.Ask.TheVariants.{Nothing, Load, Store, Modify}
 use Rattle.avr_exec.specs.declared.answer.Answer.TheVariants.{Done, Byte}
 use Rattle.avr_exec.specs.Spaces.{Went}
 use Rattle.avr_exec.specs.Execution.{answered_by, answer_of}
 use Rattle.sram_layout.specs.Bytes.{byte_at}
-use Rattle.heap_frames.specs.Addresses.{is_stack, is_heap}
-use Rattle.mote_devices.specs.Registers.{register_at, is_polled}
+use Rattle.flat_machine.specs.Addresses.{is_stack, is_heap}
+use Rattle.mote_devices.specs.Registers.{is_polled}
 use Rattle.mote_devices.specs.State.{State, polled}
 use Rattle.mote_devices.specs.Accesses.{Gave, read, write, modify, value_of, after_value, after_write, line_written, written_byte}
 use Rattle.mote_devices.proofs.AccessLaws.{can_read_below, can_write_below, read_allowed, write_allowed, modify_allowed, Afterwards, polls_after_read, polls_after_write, polls_after_modify}
 use Rattle.mote_core.specs.Physical.{Physical, is_sram, with_sram, load as physical_load, store as physical_store, modify as physical_modify, from_device as physical_from, to_device as physical_to}
 use Rattle.mote_core.specs.Conditions.{is_device_ask}
-use Rattle.mem_guard.specs.declared.address.AddrClass.{AddrClass}
-use Rattle.mem_guard.specs.declared.address.AddrClass.TheVariants.{Register, Cpu as Core, Io, Stack, Heap}
-use Rattle.mem_guard.specs.Classes.{class_of}
+use Rattle.flat_machine.specs.declared.address.AddrClass.{AddrClass}
+use Rattle.flat_machine.specs.declared.address.AddrClass.TheVariants.{Register, Cpu as Core, Io, Stack, Heap}
+use Rattle.flat_machine.specs.Classes.{class_of}
 use Rattle.mem_guard.specs.Guarded.{Guarded, load as guarded_load, store as guarded_store, modify as guarded_modify, load_in, store_in, from_device, to_device}
 use Rattle.step_laws.specs.Physically.{physical_of, AnswersAlike}
 

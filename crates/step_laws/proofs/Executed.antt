@@ -18,7 +18,7 @@ use Rattle.heap_frames.specs.Frames.{pages}
 use Rattle.heap_frames.specs.Memory.{vmem}
 use Rattle.heap_frames.specs.Paged.{IsPaged}
 use Rattle.heap_frames.proofs.SamePagingLaws.{vmem_word_cell, same_paging_word, pages_same}
-use Rattle.mem_guard.specs.FlatMachine.{next_size, jumps_to_itself, end_at}
+use Rattle.flat_machine.specs.FlatMachine.{next_size, jumps_to_itself, end_at}
 use Rattle.mem_guard.specs.Guarded.{Guarded, guarded_calls, state_of}
 use Rattle.mem_guard.specs.Left.{IsKept, HeapAfter}
 use Rattle.mem_guard.proofs.Leaves.{executed_leaves}

@@ -21,11 +21,11 @@ use Rattle.mote_devices.specs.Accesses.{Refused, read, modify as modify_device, 
 use Rattle.mote_devices.proofs.AccessLaws.{read_refused, write_refused}
 use Rattle.nat_template.specs.declared.shapes.TemplateShape.TheVariants.{Native, Mem, Jump, Skip, SelfJump, Fault}
 use Rattle.nat_template.specs.Shapes.{shape_of, shape_of_form, is_stack_pointer, can_modify}
-use Rattle.mem_guard.specs.FlatMachine.{Stops, tried, next_size, jumps_to_itself}
-use Rattle.mem_guard.specs.FlatMachine as flat_ends
+use Rattle.flat_machine.specs.FlatMachine.{Stops, tried, next_size, jumps_to_itself}
+use Rattle.flat_machine.specs.FlatMachine as flat_ends
 use Rattle.mem_guard.specs.Guarded.{Guarded, guarded_calls, load, store, modify, load_in, store_in, from_device, to_device}
 use Rattle.mem_guard.proofs.GuardedStep.{guarded_stops}
-use Rattle.mem_guard.proofs.MachineLaws.{tried_illegal, tried_spm}
+use Rattle.flat_machine.proofs.MachineLaws.{tried_illegal, tried_spm}
 use Rattle.kernel_entry.specs.declared.kernel.Kernel.{Kernel}
 use Rattle.step_laws.proofs.SkipForms.{low_field}
 use Rattle.avr_decode.specs.Program.{instruction_at}
@@ -35,7 +35,7 @@ use Rattle.step_laws.proofs.ShapeTests.{not_chosen, chosen_other}
 use Rattle.kernel_entry.specs.Seen.{program, state_at, end_of}
 use Rattle.kernel_entry.proofs.FaultLaws.{io_class, reads_not, six_right, six_left, low_left, own_read, own_write}
 use Rattle.step_laws.proofs.AskedLaw.{owns_by}
-use Rattle.mem_guard.proofs.ReadLaws.{reads_program}
+use Rattle.flat_machine.proofs.ReadLaws.{reads_program}
 
 -- a register that isn't allowed stops the program
 refused_load : (g : Guarded) (a : ℕ) → a < 256 → is_own a ≡ false → can_read a ≡ false → answer_of guarded_calls g (load_of a) ≡ StoppedOn (bus.Io a)

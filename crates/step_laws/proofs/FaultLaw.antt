@@ -8,6 +8,7 @@ use Rattle.avr_isa.specs.Addresses.{wrapping_sum}
 use Rattle.decode_laws.proofs.Decoded.{valid_at}
 use Rattle.avr_decode.specs.Program.{instruction_at}
 use Rattle.sram_layout.specs.Bytes.{byte_at}
+use Rattle.sram_layout.specs.Cells.{count_cell, vsp_cell}
 use Rattle.mote_devices.specs.State.{State as Devices}
 use Rattle.mote_devices.specs.Waking.{wake}
 use Rattle.mote_devices.proofs.WakeLaws.{wake_polls}
@@ -15,7 +16,7 @@ use Rattle.nat_template.specs.declared.shapes.TemplateShape.TheVariants.{Fault}
 use Rattle.nat_template.specs.Stubs.{fault_entry}
 use Rattle.nat_template.specs.Templates.{template_by}
 use Rattle.page_draft.specs.Runs.{size_at}
-use Rattle.mem_guard.specs.FlatMachine.{Wakes, tried}
+use Rattle.flat_machine.specs.FlatMachine.{Wakes, tried}
 use Rattle.preempt_count.specs.Counting.{count_over, crossed}
 use Rattle.preempt_count.proofs.CountLaws.{count_crossed}
 use Rattle.kernel_entry.specs.declared.kernel.Stop.TheVariants as stops
@@ -61,7 +62,7 @@ wake_law links x a v devices s c can is on wakes =
     let answer : served kc ≡ (answers.Woke to, k2) = served_faulted kc refl ∙ faulted_is kc true is ∙ slept_is kc true on ∙ ap (slept_by kc) wakes in
     let served' : MakesServe y None false z = serve_by y (answers.Woke to, k2) (record { free = s.ready.running.free; going = s.ready.running.going; room = s.ready.running.room }) can answer in
     let due' : is_due kc ≡ true = due_is kc (answers.Woke to, k2) answer in
-    let count' : byte_at kc.mote.sram 0x0100 ≡ byte_at ram 0x0100 = pushed_kept ram (v + 2) 0x0100 (omega arith) (λ e. omega arith) (λ e. omega arith) in
+    let count' : byte_at kc.mote.sram count_cell ≡ byte_at ram count_cell = pushed_kept ram (v + 2) count_cell (omega arith) (λ e. omega arith) (λ e. omega arith) in
     let k3 = with_sram (rested kc) (crossed k.quantum from to kc.mote.sram) in
     let same2 : SameProgram (rested kc).mote k3.mote = same_crossed (rested kc) k.quantum from to kc.mote.sram refl in
     let polls = wake_polls (mote_of x).devices devices s.ready.bounded.timely wakes in
@@ -87,7 +88,7 @@ wake_law links x a v devices s c can is on wakes =
         top = refl;
         polls = omega arith;
         tables = λ b low high. same2.bytes b (omega arith) (λ e. omega arith) (λ e. omega arith) ∙ pushed_kept ram (v + 2) b (omega arith) (λ e. omega arith) (λ e. omega arith);
-        pointer = let pointer = s.ready.idle.pointer in omega (arith, same2.bytes 0x0103 (omega arith) (λ e. omega arith) (λ e. omega arith), pushed_kept ram (v + 2) 0x0103 (omega arith) (λ e. omega arith) (λ e. omega arith));
+        pointer = let pointer = s.ready.idle.pointer in omega (arith, same2.bytes vsp_cell (omega arith) (λ e. omega arith) (λ e. omega arith), pushed_kept ram (v + 2) vsp_cell (omega arith) (λ e. omega arith) (λ e. omega arith));
       };
       outcome = Outcome.Went to (record {
         wakes = true;

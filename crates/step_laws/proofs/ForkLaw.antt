@@ -7,6 +7,7 @@ use Rattle.avr_isa.specs.declared.form.Form.TheVariants as forms
 use Rattle.avr_decode.specs.Decoding.{the_form, is_long, two_word_form, one_word_form, transfer_form, defined_form, if_defined}
 use Rattle.flash_words.specs.Pages.{word_at}
 use Rattle.sram_layout.specs.Bytes.{byte_at}
+use Rattle.sram_layout.specs.Cells.{count_cell}
 use Rattle.mote_devices.specs.State.{State as Devices}
 use Rattle.mote_core.specs.declared.mote.Mote.{Mote}
 use Rattle.mote_core.specs.declared.mote.Plain.TheVariants as shown
@@ -20,7 +21,7 @@ use Rattle.nat_template.proofs.Sizes.{stub_size, stub_bound}
 use Rattle.page_draft.specs.Standing.{Stands, size}
 use Rattle.page_draft.specs.Runs.{shape_at, template_at, next_of, is_closed}
 use Rattle.page_draft.proofs.PieceLaws.{size-cons}
-use Rattle.mem_guard.specs.FlatMachine.{Goes, tried}
+use Rattle.flat_machine.specs.FlatMachine.{Goes, tried}
 use Rattle.kernel_entry.specs.declared.kernel.Kernel.{Kernel}
 use Rattle.step_laws.specs.Links.{Links}
 use Rattle.step_laws.specs.States.{InPool, State, mote_of, with_mote}
@@ -56,7 +57,7 @@ pub record Forks (k : Kernel) (a to p : ℕ) : Type 0 where
   pub goes : (s c : ℕ) → tried (program k) (state_at k a s c) ≡ Goes None (record (state_at k to (s + 1) (crossings_over a to c)) { devices = devices })
 
 fork_ends : (links : Links) (x : State) (a v to p : ℕ) → IsSetting links x a v → 0 < size (template_at (image_held x.kernel) a) → (f : Forks x.kernel a to p)
-    → Onward 1 links (with_mote x (at_place (mote_of x) p f.devices)) to (count_over x.kernel.quantum a to (byte_at (mote_of x).sram 0x0100)) (is_crossing a to) → StepLaw links x a
+    → Onward 1 links (with_mote x (at_place (mote_of x) p f.devices)) to (count_over x.kernel.quantum a to (byte_at (mote_of x).sram count_cell)) (is_crossing a to) → StepLaw links x a
 unfolding lines_of
 fork_ends links x a v to p s some f on =
     let k = x.kernel in

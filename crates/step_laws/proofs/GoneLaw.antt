@@ -9,7 +9,7 @@ use Rattle.avr_exec.specs.Execution.{is_executed}
 use Rattle.avr_exec.specs.Spaces.{Outcome, Went as WentOn, Stopped as StoppedOn}
 use Rattle.avr_exec.specs.Likeness.{is_transfer}
 use Rattle.sram_layout.specs.Bytes.{byte_at, with_word}
-use Rattle.sram_layout.specs.Cells.{vsp_cell}
+use Rattle.sram_layout.specs.Cells.{vsp_cell, count_cell}
 use Rattle.sram_layout.proofs.Laws.{byte_out_of_word, length-with_word, word_low}
 use Rattle.heap_frames.specs.Paged.{IsPaged}
 use Rattle.heap_frames.proofs.SamePagingLaws.{same_paging_word, paged_same}
@@ -17,7 +17,7 @@ use Rattle.nat_template.specs.declared.shapes.TemplateShape.TheVariants.{Ret, In
 use Rattle.nat_template.specs.Stubs.{quantum_entry, return_entry, indirect_entry}
 use Rattle.nat_template.specs.Templates.{template_by}
 use Rattle.page_draft.specs.Runs.{size_at}
-use Rattle.mem_guard.specs.FlatMachine.{Goes, tried, next_size}
+use Rattle.flat_machine.specs.FlatMachine.{Goes, tried, next_size}
 use Rattle.mem_guard.specs.Guarded.{Guarded, guarded_calls, state_of}
 use Rattle.mem_guard.specs.Left.{IsKept}
 use Rattle.mem_guard.proofs.GuardedStep.{guarded_goes}
@@ -49,7 +49,7 @@ use Rattle.kernel_entry.specs.Seen.{program}
 use Rattle.kernel_entry.proofs.ShapeLaws.{runs_or_faults, is_service_jump}
 use Rattle.kernel_entry.proofs.TriedLaws.{transfers}
 use Rattle.avr_isa.specs.declared.form.Form.TheVariants as forms
-use Rattle.mem_guard.proofs.ReadLaws.{reads_program}
+use Rattle.flat_machine.proofs.ReadLaws.{reads_program}
 
 -- the answer, by the outcome of the execution
 abbrev pub gone_to : Kernel → ℕ → Outcome Guarded Cpu → Served × Kernel
@@ -75,13 +75,13 @@ go_law links x a v entry form cpu g other s c can is runs reads apart went quiet
     let k2 = with_sram put (crossed k.quantum a cpu.pc m) in
     let z : State = record { kernel = k2; owed = Some (record { target = cpu.pc; stub = None; due = is_due kc }); end = None; torn = None } in
     let served' : MakesServe y None false z = serve_by y (answers.Goto cpu.pc None, k2) (record { free = s.ready.running.free; going = s.ready.running.going; room = s.ready.running.room }) can answer in
-    let count' : byte_at m 0x0100 ≡ byte_at ram 0x0100 = byte_out_of_word g.sram vsp_cell 0x0100 cpu.sp (omega arith) (omega arith) (λ e. omega arith)
-    (λ e. omega arith) ∙ kept.cells 0x0100 (omega arith) (omega arith)
-    ∙ pushed_kept ram (v + 2) 0x0100 (omega arith) (λ e. omega arith) (λ e. omega arith) in
-    let due' : is_due kc ≡ is_checkpoint a cpu.pc (byte_at ram 0x0100) =
+    let count' : byte_at m count_cell ≡ byte_at ram count_cell = byte_out_of_word g.sram vsp_cell count_cell cpu.sp (omega arith) (omega arith) (λ e. omega arith)
+    (λ e. omega arith) ∙ kept.cells count_cell (omega arith) (omega arith)
+    ∙ pushed_kept ram (v + 2) count_cell (omega arith) (λ e. omega arith) (λ e. omega arith) in
+    let due' : is_due kc ≡ is_checkpoint a cpu.pc (byte_at ram count_cell) =
     due_is kc (answers.Goto cpu.pc None, k2) answer
-    ∙ ap₂ (λ e w. e || (is_crossing w cpu.pc && (byte_at kc.mote.sram 0x0100 == 1))) other c.behind
-    ∙ ap (λ n. is_crossing a cpu.pc && (n == 1)) (pushed_kept ram (v + 2) 0x0100 (omega arith) (λ e. omega arith) (λ e. omega arith)) in
+    ∙ ap₂ (λ e w. e || (is_crossing w cpu.pc && (byte_at kc.mote.sram count_cell == 1))) other c.behind
+    ∙ ap (λ n. is_crossing a cpu.pc && (n == 1)) (pushed_kept ram (v + 2) count_cell (omega arith) (λ e. omega arith) (λ e. omega arith)) in
     let same2 : SameProgram put.mote k2.mote = same_crossed put k.quantum a cpu.pc m refl in
     let paged2 : IsPaged put.mote.sram put.mote.swap = paged_same g.sram m g.swap (same_paging_word g.sram vsp_cell cpu.sp (omega arith) (inl (omega arith))) kept.paged in
     let registers' : length cpu.r ≡ length k.mote.cpu.r = exec_kept guarded_calls form (core_of kc a) cpu (memory_of kc) g (next_size image a) went in
@@ -107,7 +107,7 @@ go_law links x a v entry form cpu g other s c can is runs reads apart went quiet
         tables = λ b low high.
             same2.bytes b (omega arith) (λ e. omega arith) (λ e. omega arith) ∙ byte_out_of_word g.sram vsp_cell b cpu.sp (omega arith) (omega arith) (λ e. omega arith) (λ e. omega arith)
             ∙ kept.tables b (omega arith) high ∙ pushed_kept ram (v + 2) b (omega arith) (λ e. omega arith) (λ e. omega arith);
-        pointer = omega (arith, same2.bytes 0x0103 (omega arith) (λ e. omega arith) (λ e. omega arith), word_low g.sram vsp_cell cpu.sp (omega arith) (omega arith));
+        pointer = omega (arith, same2.bytes vsp_cell (omega arith) (λ e. omega arith) (λ e. omega arith), word_low g.sram vsp_cell cpu.sp (omega arith) (omega arith));
       };
       outcome = StepOutcome.Went cpu.pc (record {
         wakes = false;

@@ -8,7 +8,8 @@ use Rattle.avr_isa.specs.declared.operation.OneOp.TheVariants as ops
 use Rattle.avr_flags.specs.Status.{has_bit}
 use Rattle.avr_flags.specs.Sums.{dec_of}
 use Rattle.avr_isa.specs.Addresses.{wrapping_sum, relative}
-use Rattle.sram_layout.specs.Bytes.{byte_at, with_byte}
+use Rattle.sram_layout.specs.Bytes.{byte_at, with_byte, first_address}
+use Rattle.sram_layout.specs.Cells.{sreg_cell}
 use Rattle.mote_core.specs.declared.mote.Mote.{Mote}
 use Rattle.mote_core.specs.QuietSteps.{IsQuiet, flash_form}
 use Rattle.mote_core.specs.QuietSteps.{held as with_core}
@@ -29,13 +30,13 @@ r24_held : (m : Mote) (x : ℕ) → 24 < length m.cpu.r → slice_index (slice_s
 r24_held m x fits = get_or-set_same m.cpu.r 24 x 0 fits
 
 -- p' is the address behind the instruction at p
-pub sts_held : (m : Mote) (x s p p' a : ℕ) (ram : List ℕ) → 24 < length m.cpu.r → flash_form m p ≡ Some (forms.Sts a 24) → p < 0xF000 → p' ≡ p + 2 → 0x0100 ≤ a → a ≤ 0x0102
+pub sts_held : (m : Mote) (x s p p' a : ℕ) (ram : List ℕ) → 24 < length m.cpu.r → flash_form m p ≡ Some (forms.Sts a 24) → p < 0xF000 → p' ≡ p + 2 → first_address ≤ a → a ≤ sreg_cell
     → IsQuiet (held m x s p ram) (held m x s p' (with_byte ram a x))
 sts_held m x s p p' a ram fits is low behind from to =
     let P : ℕ → Type 0 = λ q. IsQuiet (held m x s p ram) (held m x s q (with_byte ram a x)) in
     subst P (sym behind) (quiet_sts m (slice_set m.cpu.r 24 x) s p ram a 24 x is (grind (arith, nat_tests)) (omega arith) (r24_held m x fits) (keeps_cell ram a x from (omega arith)))
 
-pub lds_held : (m : Mote) (x s p p' a : ℕ) (ram : List ℕ) → flash_form m p ≡ Some (forms.Lds 24 a) → p < 0xF000 → p' ≡ p + 2 → 0x0100 ≤ a → a ≤ 0x0102
+pub lds_held : (m : Mote) (x s p p' a : ℕ) (ram : List ℕ) → flash_form m p ≡ Some (forms.Lds 24 a) → p < 0xF000 → p' ≡ p + 2 → first_address ≤ a → a ≤ sreg_cell
     → IsQuiet (held m x s p ram) (held m (byte_at ram a) s p' ram)
 lds_held m x s p p' a ram is low behind from to =
     let P : ℕ → Type 0 = λ q. IsQuiet (held m x s p ram) (held m (byte_at ram a) s q ram) in

@@ -7,8 +7,8 @@ use Rattle.avr_isa.specs.declared.form.Form.{Form}
 use Rattle.avr_isa.specs.Addresses.{wrapping_sum}
 use Rattle.avr_exec.specs.Spaces.{Went as WentOn}
 use Rattle.flash_words.specs.Pages.{word_at as flash_word}
-use Rattle.sram_layout.specs.Bytes.{byte_at, with_byte, data_word_at}
-use Rattle.sram_layout.specs.Cells.{vsp_cell}
+use Rattle.sram_layout.specs.Bytes.{byte_at, with_byte, data_word_at, first_address}
+use Rattle.sram_layout.specs.Cells.{vsp_cell, count_cell}
 use Rattle.sram_layout.specs.Regions.{stack_window}
 use Rattle.std.proofs.lemmas.Bool.{cases_lt}
 use Rattle.kernel_entry.specs.Conditions.{CanServe}
@@ -24,7 +24,7 @@ use Rattle.page_draft.specs.Standing.{size}
 use Rattle.page_draft.specs.Runs.{template_at, next_of, is_closed}
 use Rattle.nat_page.specs.Entered.{IsPlace}
 use Rattle.avr_decode.specs.Program.{instruction_at}
-use Rattle.mem_guard.specs.FlatMachine.{Goes, tried}
+use Rattle.flat_machine.specs.FlatMachine.{Goes, tried}
 use Rattle.mem_guard.specs.Left.{IsKept}
 use Rattle.mem_guard.proofs.GuardedStep.{guarded_goes}
 use Rattle.preempt_count.specs.Counting.{count_over}
@@ -50,7 +50,7 @@ use Rattle.step_laws.proofs.PlainRuns.{plains_counted, plains_served, plains_sto
 use Rattle.step_laws.proofs.SameProgram.{flat_same, paged_after}
 use Rattle.step_laws.proofs.Stretches.{stretch_of}
 use Rattle.step_laws.proofs.Ways.{from_on}
-use Rattle.mem_guard.proofs.ReadLaws.{reads_program}
+use Rattle.flat_machine.proofs.ReadLaws.{reads_program}
 
 -- the walk of the steps, from the place of the template on
 pub inline_walk : (links : Links) (x : State) (a v n more : ℕ) (last : Mote) → IsSetting links x a v → size (template_at (image_held x.kernel) a) ≡ n → IsQuiet (placed (mote_of x) v) (begun (mote_of x) v)
@@ -94,7 +94,7 @@ inside_law links x a v n more form r sram sram' sp s f g next width some =
     let kept : IsKept (memory_of k) (memory_after k sram) = kept_of k a form (core_after k a r sp) (memory_after k sram) s.ready.paged f.went in
     let paging : SamePaging sram sram' = record { size = f.same.size; cells = λ b from to. f.same.bytes b (omega arith); tables = λ b from to. f.same.bytes b (omega arith) } in
     let paged : IsPaged sram' m.swap = paged_same sram sram' m.swap paging kept.paged in
-    let count : byte_at sram' 0x0100 ≡ byte_at m.sram 0x0100 = f.same.front 0x0100 (omega arith) (omega arith) ∙ kept.cells 0x0100 (omega arith) (omega arith) in
+    let count : byte_at sram' count_cell ≡ byte_at m.sram count_cell = f.same.front count_cell (omega arith) (omega arith) ∙ kept.cells count_cell (omega arith) (omega arith) in
     let registers = s.ready.idle.registers in
     let positive = s.ready.idle.some in
     let most = s.ready.idle.most in
@@ -129,7 +129,7 @@ inside_law links x a v n more form r sram sram' sp s f g next width some =
         top = on.left.same.top;
         polls = omega (arith, ap (λ d. d.polls) on.left.same.devices);
         tables = λ b low high. on.left.same.bytes b (omega arith) (λ e. omega arith) (λ e. omega arith) ∙ f.same.bytes b (omega arith) ∙ kept.tables b (omega arith) high;
-        pointer = let low = f.low in omega (arith, on.left.same.bytes 0x0103 (omega arith) (λ e. omega arith) (λ e. omega arith));
+        pointer = let low = f.low in omega (arith, on.left.same.bytes vsp_cell (omega arith) (λ e. omega arith) (λ e. omega arith));
       };
       outcome = StepOutcome.Went (next_of image a) (record {
         wakes = false;
@@ -175,8 +175,8 @@ trap_asks links x a v n s can width word =
       address = address;
       behind = behind;
       sees = λ pc steps c. seen_alike k (rested kc) m.sram (pointer_of m) pc steps c pointer size' bytes refl refl;
-      count = pushed_kept ram back 0x0100 (omega arith) (λ e. omega arith) (λ e. omega arith) ∙ same.front 0x0100 (omega arith) (omega arith);
-      pointer = omega (arith, pushed_kept ram back 0x0103 (omega arith) (λ e. omega arith) (λ e. omega arith), pointer_byte_saved m.sram z_low z_high m.cpu.sreg 0x0103 (omega arith) (omega arith));
+      count = pushed_kept ram back count_cell (omega arith) (λ e. omega arith) (λ e. omega arith) ∙ same.front count_cell (omega arith) (omega arith);
+      pointer = omega (arith, pushed_kept ram back vsp_cell (omega arith) (λ e. omega arith) (λ e. omega arith), pointer_byte_saved m.sram z_low z_high m.cpu.sreg vsp_cell (omega arith) (omega arith));
       tables = λ b from to. bytes b (omega arith);
       shape = ap (λ w. shape_of w (instruction_at image w)) behind;
       can = record { paged = paged_same m.sram (pushed ram back) m.swap paging s.ready.paged; room = omega arith };
@@ -195,7 +195,7 @@ pub record IsInline (x : State) (a v n address steps lower upper : ℕ) (form : 
   pub pointer : 0x0D00 ≤ address → data_word_at sram' vsp_cell ≡ sp
   pub low : 0x0D00 ≤ address → byte_at sram' vsp_cell < 256
   pub registers : length r ≡ length (mote_of x).cpu.r
-  pub others : 0x0D00 ≤ address → (b : ℕ) → 0x0100 ≤ b → b < 0x0D00 → byte_at sram b ≡ byte_at (mote_of x).sram b
+  pub others : 0x0D00 ≤ address → (b : ℕ) → first_address ≤ b → b < 0x0D00 → byte_at sram b ≡ byte_at (mote_of x).sram b
 
 pub can_pass : (links : Links) (x : State) (a v : ℕ) → IsSetting links x a v → CanPass (mote_of x) v
 can_pass links x a v s =

@@ -17,7 +17,7 @@ use Rattle.nat_template.specs.Inline.{push_forms, pop_forms, load_forms, store_f
 use Rattle.nat_template.specs.Stubs.{mem_entry}
 use Rattle.nat_template.specs.Templates.{is_z, mem_pieces, mem_or}
 use Rattle.page_draft.specs.Runs.{shape_at}
-use Rattle.mem_guard.specs.FlatMachine.{FlatState, Goes, tried}
+use Rattle.flat_machine.specs.FlatMachine.{FlatState, Goes, tried}
 use Rattle.mem_guard.specs.Guarded.{Guarded, state_of}
 use Rattle.mem_guard.proofs.GuardedStep.{guarded_goes, guarded_stops}
 use Rattle.kernel_entry.specs.declared.kernel.Kernel.{Kernel}
@@ -37,7 +37,7 @@ use Rattle.step_laws.specs.Settings.{IsSetting}
 use Rattle.step_laws.specs.States.{State, mote_of, with_mote}
 use Rattle.step_laws.specs.StepLaws.{tried_at, crossings_over, links_at}
 use Rattle.step_laws.proofs.AskedLaw.{IsAsked, RunsOn, Owns, foreign_at, foreign_is, accessed_own, asked, resumed_is, runs_on}
-use Rattle.mem_guard.proofs.MachineLaws.{tried_read}
+use Rattle.flat_machine.proofs.MachineLaws.{tried_read}
 use Rattle.step_laws.proofs.EveryShape.{entry_setting}
 use Rattle.step_laws.proofs.Executed.{executed_at, flat_put, kept_of, returned}
 use Rattle.step_laws.proofs.InlineLaw.{IsInline, can_pass, inside_goes, inside_of, outside_of, trap_asks}

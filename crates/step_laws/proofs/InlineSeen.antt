@@ -19,14 +19,14 @@ use Rattle.avr_exec.proofs.OneAnswer.{exec_went}
 use Rattle.sram_layout.specs.Bytes.{byte_at, with_byte, data_word_at}
 use Rattle.sram_layout.specs.Cells.{vsp_cell}
 use Rattle.sram_layout.specs.Regions.{stack_window}
-use Rattle.heap_frames.specs.Addresses.{is_stack, is_heap}
+use Rattle.flat_machine.specs.Addresses.{is_stack, is_heap}
 use Rattle.heap_frames.specs.Memory.{vmem}
 use Rattle.heap_frames.specs.SamePaging.{SamePaging}
 use Rattle.heap_frames.proofs.MemoryLaws.{in_window}
 use Rattle.heap_frames.proofs.SamePagingLaws.{pages_same, vmem_same}
-use Rattle.mem_guard.specs.declared.address.AddrClass.TheVariants.{Register, Cpu as Core, Io, Stack, Heap}
-use Rattle.mem_guard.specs.Classes.{class_of}
-use Rattle.mem_guard.specs.FlatMachine.{next_size}
+use Rattle.flat_machine.specs.declared.address.AddrClass.TheVariants.{Register, Cpu as Core, Io, Stack, Heap}
+use Rattle.flat_machine.specs.Classes.{class_of}
+use Rattle.flat_machine.specs.FlatMachine.{next_size}
 use Rattle.mem_guard.specs.Guarded.{Guarded, guarded_calls, load, load_in, store, store_in, push, pop, with_sram, state_of}
 use Rattle.kernel_entry.specs.declared.kernel.Kernel.{Kernel}
 use Rattle.kernel_entry.specs.Parts.{core_of, memory_of, virtual_sp, image_held}

@@ -20,6 +20,7 @@ use Rattle.inline_laws.proofs.PushLaw.{push_passes}
 use Rattle.inline_laws.proofs.PopLaw.{pop_passes}
 use Rattle.inline_laws.proofs.FrameLaw.{load_passes, store_passes}
 use Rattle.sram_layout.proofs.Laws.{length-with_byte, byte_other}
+use Rattle.sram_layout.specs.Cells.{vsp_cell}
 use Rattle.step_laws.specs.Settings.{IsSetting}
 use Rattle.step_laws.specs.Links.{Links}
 use Rattle.step_laws.specs.StepLaws.{StepLaw}
@@ -130,7 +131,7 @@ load_inline links x a v d q is s f template =
       went = λ from to. load_executed x.kernel a d q from to;
       same = λ from to. saves;
       pointer = λ from. pointer_saved m.sram z_low z_high m.cpu.sreg;
-      low = λ from. let byte = can.pointer in omega (arith, pointer_byte_saved m.sram z_low z_high m.cpu.sreg 0x0103 (omega arith) (omega arith));
+      low = λ from. let byte = can.pointer in omega (arith, pointer_byte_saved m.sram z_low z_high m.cpu.sreg vsp_cell (omega arith) (omega arith));
       others = λ from b low high. refl;
       registers = length-set m.cpu.r d (byte_at m.sram p);
     }
@@ -163,7 +164,7 @@ store_inline links x a v d q is s f template =
       went = λ from to. store_executed x.kernel a d q from to;
       same = λ from to. stack_written m.sram (saved_of m) p (slice_index m.cpu.r d) can.size from to saves;
       pointer = λ from. pointer_apart (saved_of m) p (slice_index m.cpu.r d) (omega arith) ∙ pointer_saved m.sram z_low z_high m.cpu.sreg;
-      low = λ from. let byte = can.pointer in omega (arith, byte_other (saved_of m) p 0x0103 (slice_index m.cpu.r d) (omega arith) (omega arith) (λ e. omega arith), pointer_byte_saved m.sram z_low z_high m.cpu.sreg 0x0103 (omega arith) (omega arith));
+      low = λ from. let byte = can.pointer in omega (arith, byte_other (saved_of m) p vsp_cell (slice_index m.cpu.r d) (omega arith) (omega arith) (λ e. omega arith), pointer_byte_saved m.sram z_low z_high m.cpu.sreg vsp_cell (omega arith) (omega arith));
       others = λ from b low high. byte_other m.sram p b (slice_index m.cpu.r d) (omega arith) low (λ e. omega arith);
       registers = refl;
     }

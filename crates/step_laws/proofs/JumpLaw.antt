@@ -16,6 +16,7 @@ use Rattle.avr_exec.specs.Execution.{is_executed}
 use Rattle.avr_exec.specs.Spaces.{Went as WentOn}
 use Rattle.avr_exec.proofs.OneAnswer.{exec_nothing}
 use Rattle.sram_layout.specs.Bytes.{byte_at}
+use Rattle.sram_layout.specs.Cells.{count_cell, vsp_cell}
 use Rattle.heap_frames.specs.Paged.{IsPaged}
 use Rattle.nat_template.specs.declared.shapes.TemplateShape.TheVariants.{Native, Jump, Skip, SelfJump, Fault}
 use Rattle.nat_template.specs.Shapes.{shape_of_form, is_stack_pointer, can_modify}
@@ -24,7 +25,7 @@ use Rattle.nat_template.specs.Stubs.{stub}
 use Rattle.nat_template.specs.Templates.{template_by, target_of}
 use Rattle.page_draft.specs.Standing.{Stands, size}
 use Rattle.page_draft.specs.Runs.{template_at, size_at}
-use Rattle.mem_guard.specs.FlatMachine.{Goes, tried, next_size, jumps_to_itself, if_foreign, word_asked}
+use Rattle.flat_machine.specs.FlatMachine.{Goes, tried, next_size, jumps_to_itself, if_foreign, word_asked}
 use Rattle.mem_guard.specs.Guarded.{guarded_calls}
 use Rattle.mem_guard.proofs.GuardedStep.{guarded_goes}
 use Rattle.kernel_entry.specs.declared.kernel.Kernel.{Kernel}
@@ -71,7 +72,7 @@ jump_tried k a t form paged is runs apart asks after s c =
     (exec_nothing guarded_calls form (core_of k a) (memory_of k) (next_size (image_held k) a) asks ∙ ap (λ cpu. WentOn cpu (memory_of k)) after)
 
 -- the step from the way through the stub
-keeps_by : (links : Links) (x z : State) (t c : ℕ) (b : Bool) → IsPaged (mote_of x).sram (mote_of x).swap → byte_at (mote_of x).sram 0x0103 < 256 → Reached links x t c b z → Keeps x z
+keeps_by : (links : Links) (x z : State) (t c : ℕ) (b : Bool) → IsPaged (mote_of x).sram (mote_of x).swap → byte_at (mote_of x).sram vsp_cell < 256 → Reached links x t c b z → Keeps x z
 keeps_by links x z t c b paged pointer left = record {
   layout = left.layout;
   part = left.part;
@@ -83,12 +84,12 @@ keeps_by links x z t c b paged pointer left = record {
   top = left.same.top;
   polls = omega (arith, ap (λ d. d.polls) left.same.devices);
   tables = λ b low high. left.same.bytes b (omega arith) (λ e. omega arith) (λ e. omega arith);
-  pointer = omega (arith, left.same.bytes 0x0103 (omega arith) (λ e. omega arith) (λ e. omega arith));
+  pointer = omega (arith, left.same.bytes vsp_cell (omega arith) (λ e. omega arith) (λ e. omega arith));
 }
 
-jumps_by : (links : Links) (x : State) (a t : ℕ) → IsPaged (mote_of x).sram (mote_of x).swap → byte_at (mote_of x).sram 0x0103 < 256
+jumps_by : (links : Links) (x : State) (a t : ℕ) → IsPaged (mote_of x).sram (mote_of x).swap → byte_at (mote_of x).sram vsp_cell < 256
     → ((s c : ℕ) → tried (program x.kernel) (state_at x.kernel a s c) ≡ Goes None (state_at x.kernel t (s + 1) (crossings_over a t c)))
-    → Way links x true t (count_over x.kernel.quantum a t (byte_at (mote_of x).sram 0x0100)) (is_crossing a t) → StepLaw links x a
+    → Way links x true t (count_over x.kernel.quantum a t (byte_at (mote_of x).sram count_cell)) (is_crossing a t) → StepLaw links x a
 unfolding lines_of
 jumps_by links x a t paged pointer goes way = record {
   end = way.end;

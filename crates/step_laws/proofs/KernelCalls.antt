@@ -4,7 +4,7 @@ use Rattle.std.specs.Prelude.{◌≢◌, ◌==◌, Some, None, Option}
 use Rattle.avr_isa.specs.declared.form.Form.TheVariants as forms
 use Rattle.avr_isa.specs.Addresses.{wrapping_difference}
 use Rattle.flash_words.specs.Pages.{word_at}
-use Rattle.sram_layout.specs.Bytes.{byte_at, with_byte}
+use Rattle.sram_layout.specs.Bytes.{byte_at, with_byte, first_address}
 use Rattle.sram_layout.specs.Cells.{count_cell}
 use Rattle.sram_layout.proofs.Laws.{byte_same, byte_other, length-with_byte}
 use Rattle.nat_template.specs.Stubs.{call_word}
@@ -32,7 +32,7 @@ pushed_address ram ret size =
     (byte_other (with_byte ram 0x011F (ret % 256)) 0x011E 0x011F (ret / 256) (omega arith) (omega arith) (λ same. omega arith) ∙ byte_same ram 0x011F (ret % 256) (omega arith) (omega arith))
     ∙ omega arith
 
-pub pushed_kept : (ram : List ℕ) (ret b : ℕ) → 0x0100 ≤ b → b ≢ 0x011E → b ≢ 0x011F → byte_at (pushed ram ret) b ≡ byte_at ram b
+pub pushed_kept : (ram : List ℕ) (ret b : ℕ) → first_address ≤ b → b ≢ 0x011E → b ≢ 0x011F → byte_at (pushed ram ret) b ≡ byte_at ram b
 pushed_kept ram ret b low apart apart' = byte_other (with_byte ram 0x011F (ret % 256)) 0x011E b (ret / 256) (omega arith) low apart ∙ byte_other ram 0x011F b (ret % 256) (omega arith) low apart'
 
 pub pushed_size : (ram : List ℕ) (ret : ℕ) → length (pushed ram ret) ≡ length ram

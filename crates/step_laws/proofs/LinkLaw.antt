@@ -4,6 +4,7 @@ use Rattle.std.specs.Prelude.{Some, None}
 use Rattle.avr_isa.specs.declared.form.Form.TheVariants as forms
 use Rattle.flash_words.specs.Pages.{word_at}
 use Rattle.sram_layout.specs.Bytes.{byte_at}
+use Rattle.sram_layout.specs.Cells.{count_cell}
 use Rattle.nat_template.specs.Stubs.{plain_stub}
 use Rattle.page_draft.specs.Standing.{Stands, jump_word}
 use Rattle.mote_core.specs.declared.mote.Mote.{Mote}
@@ -32,7 +33,7 @@ same_bridged m ret p = record { registers = refl; status = refl; top = refl; siz
 
 -- one plain move, and behind it at most the service BRIDGE
 pub link_law : (links : Links) (x : State) (w t : ℕ) (b : Bool) → IsRunning x → IsStretch x.kernel.layout (mote_of x).flash.words w 3 → Stands links.enters (mote_of x).flash.words w (plain_stub t) → EachLink links.marks w (plain_stub t) → IsIdle x.kernel → (mote_of x).cpu.pc ≡ w
-    → Begins x.kernel.layout (mote_of x).flash.words w b → (way : Way links x b t (byte_at (mote_of x).sram 0x0100) false) × (count_plain way.rest ≡ 0)
+    → Begins x.kernel.layout (mote_of x).flash.words w b → (way : Way links x b t (byte_at (mote_of x).sram count_cell) false) × (count_plain way.rest ≡ 0)
 unfolding lines_of
 link_law links x w t b free row stands marks fit is starts =
     let m = mote_of x in
@@ -60,7 +61,7 @@ link_law links x w t b free row stands marks fit is starts =
                 part = refl;
                 quantum = refl;
                 same = same_bridged m (w + 2) 0xF000;
-                count = pushed_kept m.sram (w + 2) 0x0100 (omega arith) (λ e. omega arith) (λ e. omega arith);
+                count = pushed_kept m.sram (w + 2) count_cell (omega arith) (λ e. omega arith) (λ e. omega arith);
                 reaches = Reaches.Owing (Some w) (λ e. absurd (cc)) refl (record { mark = marks.0; call = bridge.0; bridge = bridge.1 });
               };
             },

@@ -36,7 +36,7 @@ use Rattle.nat_template.specs.Templates.{template_by}
 use Rattle.nat_template.proofs.Sizes.{native_size, stub_bound}
 use Rattle.page_draft.specs.Standing.{Stands, size}
 use Rattle.page_draft.specs.Runs.{template_at, size_at, next_of, is_closed}
-use Rattle.mem_guard.specs.FlatMachine.{Goes, tried, next_size}
+use Rattle.flat_machine.specs.FlatMachine.{Goes, tried, next_size}
 use Rattle.mem_guard.proofs.GuardedStep.{guarded_goes}
 use Rattle.kernel_entry.specs.declared.kernel.Kernel.{Kernel}
 use Rattle.mem_guard.specs.Guarded.{guarded_calls}

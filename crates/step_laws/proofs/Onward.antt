@@ -3,6 +3,7 @@ use Rattle.std.proofs.Common.{[], ℕ, ◌≡◌, ◌+◌, ◌<◌, ◌≤◌, �
 use Rattle.std.specs.Prelude.{if◌then◌else◌, None, ◌&&◌, ◌==◌}
 use Rattle.avr_isa.specs.Crossing.{is_crossing}
 use Rattle.sram_layout.specs.Bytes.{byte_at}
+use Rattle.sram_layout.specs.Cells.{count_cell}
 use Rattle.nat_template.specs.declared.piece.Piece.{Piece}
 use Rattle.nat_template.specs.Stubs.{stub}
 use Rattle.page_draft.specs.Standing.{Stands, size}
@@ -51,7 +52,7 @@ by_way more links y t c crosses way = record {
 
 onward_by : (links : Links) (y : State) (image : List ℕ) (a v : ℕ) → IsRunning y → IsIdle y.kernel → IsRight y.kernel.layout → InPool y.kernel.layout v → Behind links.enters links.marks y.kernel.layout image (mote_of y).flash.words a v
     → 0 < size (template_at image a) → 0 < size (stub a (next_of image a)) → is_closed (shape_at image a) ≡ true → (mote_of y).cpu.pc ≡ v + size (template_at image a)
-    → Onward 0 links y (next_of image a) (count_over y.kernel.quantum a (next_of image a) (byte_at (mote_of y).sram 0x0100)) (is_crossing a (next_of image a))
+    → Onward 0 links y (next_of image a) (count_over y.kernel.quantum a (next_of image a) (byte_at (mote_of y).sram count_cell)) (is_crossing a (next_of image a))
 unfolding lines_of
 onward_by links y image a v free fit right pool (Next next) some some' closed at = record {
   end = y;
@@ -68,8 +69,8 @@ onward_by links y image a v free fit right pool (Next next) some some' closed at
     part = refl;
     quantum = refl;
     same = same_program (mote_of y) fit.top;
-    count = sym (ap (λ b. if b then count_after y.kernel.quantum (byte_at (mote_of y).sram 0x0100) else byte_at (mote_of y).sram 0x0100) next.uncounted);
-    reaches = Reaches.Placed (ap (λ b. b && (byte_at (mote_of y).sram 0x0100 == 1)) next.uncounted) free.free (subst (links.enters (next_of image a)) (sym at) next.entry);
+    count = sym (ap (λ b. if b then count_after y.kernel.quantum (byte_at (mote_of y).sram count_cell) else byte_at (mote_of y).sram count_cell) next.uncounted);
+    reaches = Reaches.Placed (ap (λ b. b && (byte_at (mote_of y).sram count_cell == 1)) next.uncounted) free.free (subst (links.enters (next_of image a)) (sym at) next.entry);
   };
 }
 onward_by links y image a v free fit right pool (Closed last) some some' closed at =
@@ -87,5 +88,5 @@ onward_by links y image a v free fit right pool (Closed last) some some' closed 
 
 pub onward : (links : Links) (y : State) (image : List ℕ) (a v : ℕ) → IsRunning y → IsIdle y.kernel → IsRight y.kernel.layout → StandsIn links.enters links.marks y.kernel.layout image (mote_of y).flash.words a v
     → 0 < size (template_at image a) → 0 < size (stub a (next_of image a)) → is_closed (shape_at image a) ≡ true → (mote_of y).cpu.pc ≡ v + size (template_at image a)
-    → Onward 0 links y (next_of image a) (count_over y.kernel.quantum a (next_of image a) (byte_at (mote_of y).sram 0x0100)) (is_crossing a (next_of image a))
+    → Onward 0 links y (next_of image a) (count_over y.kernel.quantum a (next_of image a) (byte_at (mote_of y).sram count_cell)) (is_crossing a (next_of image a))
 onward links y image a v free fit right code some some' closed at = onward_by links y image a v free fit right code.pool code.behind some some' closed at

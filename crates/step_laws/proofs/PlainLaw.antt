@@ -3,10 +3,11 @@ use Rattle.std.proofs.Common.{false, List, subst, ℕ, ◌≡◌, ◌+◌, ◌<�
 use Rattle.std.specs.Prelude.{◌&&◌, ◌==◌, Option}
 use Rattle.avr_isa.specs.Crossing.{is_crossing}
 use Rattle.sram_layout.specs.Bytes.{byte_at}
+use Rattle.sram_layout.specs.Cells.{count_cell, vsp_cell}
 use Rattle.heap_frames.specs.Paged.{IsPaged}
 use Rattle.mote_devices.specs.declared.line.Line.{Line}
 use Rattle.mote_core.specs.declared.mote.Mote.{Mote}
-use Rattle.mem_guard.specs.FlatMachine.{Goes, tried}
+use Rattle.flat_machine.specs.FlatMachine.{Goes, tried}
 use Rattle.step_laws.specs.Links.{Links}
 use Rattle.step_laws.specs.Walks.{MakesPlain}
 use Rattle.step_laws.proofs.Onward.{Onward}
@@ -26,11 +27,11 @@ pub record Works (x : State) (a to : ℕ) (line : Option Line) (n : Mote) : Type
   pub swap : n.swap ≡ (mote_of x).swap
   pub registers : length n.cpu.r ≡ length (mote_of x).cpu.r
   pub polls : n.devices.polls ≤ (mote_of x).devices.polls + 1
-  pub pointer : byte_at (mote_of x).sram 0x0103 < 256
+  pub pointer : byte_at (mote_of x).sram vsp_cell < 256
   pub goes : (s c : ℕ) → tried (program x.kernel) (state_at x.kernel a s c) ≡ Goes line (state_at (with_mote x n).kernel to (s + 1) (crossings_over a to c))
 
 pub plain_law : (links : Links) (x : State) (a to : ℕ) (line : Option Line) (n : Mote) (more : ℕ) → more ≤ 9 → IsPaged n.sram n.swap → Works x a to line n
-    → Onward more links (with_mote x n) to (count_over x.kernel.quantum a to (byte_at (mote_of x).sram 0x0100)) (is_crossing a to) → StepLaw links x a
+    → Onward more links (with_mote x n) to (count_over x.kernel.quantum a to (byte_at (mote_of x).sram count_cell)) (is_crossing a to) → StepLaw links x a
 unfolding lines_of
 plain_law links x a to line n more low paged f on =
     let y = with_mote x n in
@@ -55,7 +56,7 @@ plain_law links x a to line n more low paged f on =
         top = on.left.same.top;
         polls = let polls = f.polls in omega (arith, ap (λ d. d.polls) on.left.same.devices);
         tables = λ b low high. on.left.same.bytes b (omega arith) (λ e. omega arith) (λ e. omega arith) ∙ ap (λ ram. byte_at ram b) f.sram;
-        pointer = let pointer = f.pointer in omega (arith, on.left.same.bytes 0x0103 (omega arith) (λ e. omega arith) (λ e. omega arith), ap (λ ram. byte_at ram 0x0103) f.sram);
+        pointer = let pointer = f.pointer in omega (arith, on.left.same.bytes vsp_cell (omega arith) (λ e. omega arith) (λ e. omega arith), ap (λ ram. byte_at ram vsp_cell) f.sram);
       };
       outcome = StepOutcome.Went to (record {
         wakes = false;
@@ -64,9 +65,9 @@ plain_law links x a to line n more low paged f on =
         polls = λ e. let polls = f.polls in omega (arith, ap (λ d. d.polls) on.left.same.devices);
         going = on.left.going;
         original = λ s c. f.goes s c ∙ ap (Goes line) (sym (flat_same y.kernel end.kernel to (s + 1) (crossings_over a to c) on.left.same));
-        reaches = subst (λ (ram : List ℕ). Reaches links to (is_crossing a to && (byte_at ram 0x0100 == 1)) end) f.sram on.left.reaches;
+        reaches = subst (λ (ram : List ℕ). Reaches links to (is_crossing a to && (byte_at ram count_cell == 1)) end) f.sram on.left.reaches;
         count = on.left.count;
         unstopped = on.goes;
-        reset = λ crosses one. on.reset crosses (ap (λ ram. byte_at ram 0x0100) f.sram ∙ one);
+        reset = λ crosses one. on.reset crosses (ap (λ ram. byte_at ram count_cell) f.sram ∙ one);
       });
     }

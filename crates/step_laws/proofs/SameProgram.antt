@@ -9,7 +9,7 @@ use Rattle.heap_frames.specs.Memory.{vmem}
 use Rattle.heap_frames.specs.Paged.{IsPaged}
 use Rattle.heap_frames.proofs.SamePagingLaws.{pages_same, paged_same, vmem_same}
 use Rattle.mote_devices.specs.State.{State as Devices}
-use Rattle.mem_guard.specs.FlatMachine.{FlatState}
+use Rattle.flat_machine.specs.FlatMachine.{FlatState}
 use Rattle.kernel_entry.specs.declared.kernel.Kernel.{Kernel}
 use Rattle.kernel_entry.specs.Seen.{state_at}
 
@@ -20,7 +20,7 @@ pub record SameProgram (m n : Mote) : Type 0 where
   pub status : n.cpu.sreg ≡ m.cpu.sreg
   pub top : n.cpu.sp ≡ 0x011F
   pub size : length n.sram ≡ length m.sram
-  pub bytes : (b : ℕ) → 0x0103 ≤ b → b ≢ 0x011E → b ≢ 0x011F → byte_at n.sram b ≡ byte_at m.sram b
+  pub bytes : (b : ℕ) → vsp_cell ≤ b → b ≢ 0x011E → b ≢ 0x011F → byte_at n.sram b ≡ byte_at m.sram b
   pub flash : n.flash ≡ m.flash
   pub devices : n.devices ≡ m.devices
   pub swap : n.swap ≡ m.swap
@@ -34,7 +34,7 @@ same_paging m n same = record {
 
 same_stack : (m n : Mote) → SameProgram m n → data_word_at n.sram vsp_cell ≡ data_word_at m.sram vsp_cell
 unfolding data_word_at
-same_stack m n same = ap₂ (λ low high. low + 256 * high) (same.bytes 0x0103 (omega arith) (λ e. omega arith) (λ e. omega arith)) (same.bytes 0x0104 (omega arith) (λ e. omega arith) (λ e. omega arith))
+same_stack m n same = ap₂ (λ low high. low + 256 * high) (same.bytes vsp_cell (omega arith) (λ e. omega arith) (λ e. omega arith)) (same.bytes (vsp_cell + 1) (omega arith) (λ e. omega arith) (λ e. omega arith))
 
 pub flat_parts : (r r' : List ℕ) (s s' sp sp' a steps crossings : ℕ) (memory memory' : List ℕ) (devices devices' : Devices) (has has' : List Bool) → r ≡ r' → s ≡ s' → sp ≡ sp' → memory ≡ memory' → devices ≡ devices' → has ≡ has'
     → ◌≡◌ {A = FlatState} (record { cpu = record { r = r; sreg = s; sp = sp; pc = a }; memory = memory; devices = devices; pages = has; steps = steps; crossings = crossings })

@@ -10,7 +10,7 @@ use Rattle.nat_template.specs.Shapes.{shape_of_form}
 use Rattle.nat_template.specs.Stubs.{self_entry}
 use Rattle.nat_template.specs.Templates.{template_by}
 use Rattle.page_draft.specs.Runs.{size_at}
-use Rattle.mem_guard.proofs.MachineLaws.{tried_halt}
+use Rattle.flat_machine.proofs.MachineLaws.{tried_halt}
 use Rattle.kernel_entry.specs.declared.kernel.Kernel.{Kernel}
 use Rattle.kernel_entry.specs.declared.kernel.Stop.TheVariants as stops
 use Rattle.kernel_entry.specs.declared.kernel.Served.TheVariants as answers

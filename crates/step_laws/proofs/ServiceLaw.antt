@@ -10,6 +10,7 @@ use Rattle.avr_exec.specs.Execution.{is_executed}
 use Rattle.avr_exec.specs.Spaces.{Went as WentOn, Stopped as StoppedOn}
 use Rattle.flash_words.specs.Pages.{word_at as flash_word}
 use Rattle.sram_layout.specs.Bytes.{byte_at}
+use Rattle.sram_layout.specs.Cells.{count_cell, vsp_cell}
 use Rattle.nat_template.specs.declared.piece.Piece.{Piece}
 use Rattle.nat_template.specs.declared.piece.Piece.TheVariants.{Fixed}
 use Rattle.nat_template.specs.Shapes.{shape_of}
@@ -17,7 +18,7 @@ use Rattle.nat_template.specs.Stubs.{call_word}
 use Rattle.page_draft.specs.Standing.{Stands, size}
 use Rattle.page_draft.specs.Runs.{shape_at, template_at}
 use Rattle.page_draft.proofs.PieceLaws.{size-cons}
-use Rattle.mem_guard.specs.FlatMachine.{Stops, tried}
+use Rattle.flat_machine.specs.FlatMachine.{Stops, tried}
 use Rattle.mem_guard.specs.Guarded.{Guarded}
 use Rattle.kernel_entry.specs.declared.kernel.Kernel.{Kernel}
 use Rattle.kernel_entry.specs.declared.kernel.Stop.{Stop}
@@ -39,7 +40,7 @@ use Rattle.kernel_entry.specs.Services.{served, stop_of}
 use Rattle.kernel_entry.specs.Conditions.{CanExecute, CanServe, shape_behind, CanCount}
 use Rattle.preempt_count.specs.Counting.{count_over}
 use Rattle.kernel_entry.specs.Seen.{program, state_at, end_of}
-use Rattle.mem_guard.proofs.ReadLaws.{reads_program}
+use Rattle.flat_machine.proofs.ReadLaws.{reads_program}
 
 -- the mote after the CALL at an entry's place
 abbrev pub called : State → ℕ → ℕ → Kernel
@@ -74,7 +75,7 @@ called_by links x a v entry rest s template =
     let kc = called x v entry in
     let ram = k.mote.sram in
     let same : SameProgram k.mote (rested kc).mote = record { registers = refl; status = refl; top = refl; size = pushed_size ram (v + 2); bytes = λ b low apart apart'. pushed_kept ram (v + 2) b (omega arith) apart apart'; flash = refl; devices = refl; swap = refl } in
-    let count = pushed_kept ram (v + 2) 0x0100 (omega arith) (λ e. omega arith) (λ e. omega arith) in
+    let count = pushed_kept ram (v + 2) count_cell (omega arith) (λ e. omega arith) (λ e. omega arith) in
     let back : return_address kc ≡ v + 2 = pushed_address ram (v + 2) s.ready.idle.size in
     let behind : descriptor kc ≡ a = ap (flash_word words) back ∙ word' in
     let some = s.ready.idle.some in
@@ -106,8 +107,8 @@ asked_by x a v entry idle c =
         address = c.back;
         behind = c.behind;
         sees = λ pc s n. flat_same x.kernel (rested (called x v entry)) pc s n c.same;
-        count = pushed_kept ram (v + 2) 0x0100 (omega arith) (λ e. omega arith) (λ e. omega arith);
-        pointer = omega (arith, pushed_kept ram (v + 2) 0x0103 (omega arith) (λ e. omega arith) (λ e. omega arith));
+        count = pushed_kept ram (v + 2) count_cell (omega arith) (λ e. omega arith) (λ e. omega arith);
+        pointer = omega (arith, pushed_kept ram (v + 2) vsp_cell (omega arith) (λ e. omega arith) (λ e. omega arith));
         tables = λ b low high. pushed_kept ram (v + 2) b (omega arith) (λ e. omega arith) (λ e. omega arith);
         shape = c.shape;
         can = c.can;
@@ -125,6 +126,6 @@ bus_stops links x a v entry form stop s c is runs reads apart stopped = bus_stop
 pub resume_law : (links : Links) (x : State) (a v entry to : ℕ) (form : Form) (cpu : Cpu) (g : Guarded) → IsSetting links x a v → Called x a v entry → CanServe (called x v entry)
     → instruction_at (image_held x.kernel) a ≡ Some form → is_executed form ≡ true → reads_program form ≡ false → RunsOn x.kernel a form → executed_at (called x v entry) a form ≡ WentOn cpu g → cpu.pc ≡ to
     → served (called x v entry) ≡ (answers.Resume g.line, returned (called x v entry) cpu g (wrapping_sum (v + 2) 1))
-    → (let z : State = record { kernel = returned (called x v entry) cpu g (wrapping_sum (v + 2) 1); owed = None; end = None; torn = None } in IsRunning z → IsIdle z.kernel → Onward 0 links z to (count_over x.kernel.quantum a to (byte_at (mote_of z).sram 0x0100)) (is_crossing a to)) → StepLaw links x a
+    → (let z : State = record { kernel = returned (called x v entry) cpu g (wrapping_sum (v + 2) 1); owed = None; end = None; torn = None } in IsRunning z → IsIdle z.kernel → Onward 0 links z to (count_over x.kernel.quantum a to (byte_at (mote_of z).sram count_cell)) (is_crossing a to)) → StepLaw links x a
 resume_law links x a v entry to form cpu g s c can is runs reads apart went pc answer ahead =
     resume_asked links x a v (mote_of x).sram (v + 2) entry 0 to form cpu g s (asked_by x a v entry s.ready.idle c) can is runs (owns_by (called x v entry) a form reads) apart went pc answer ahead

@@ -18,7 +18,7 @@ use Rattle.avr_exec.specs.Execution.{is_executed}
 use Rattle.avr_exec.specs.Likeness.{placed, is_transfer}
 use Rattle.nat_template.specs.declared.shapes.TemplateShape.TheVariants.{Native, Jump, Skip, SelfJump, Fault}
 use Rattle.nat_template.specs.Shapes.{shape_of_form, is_stack_pointer, can_modify}
-use Rattle.mem_guard.specs.FlatMachine.{jumps_to_itself}
+use Rattle.flat_machine.specs.FlatMachine.{jumps_to_itself}
 use Rattle.mote_core.specs.Conditions.{is_device_ask}
 use Rattle.step_laws.proofs.ShapeTests.{not_chosen, not_io, chosen_one}
 

@@ -29,7 +29,7 @@ use Rattle.nat_template.specs.Templates.{template_by, jump_over, skip_target}
 use Rattle.nat_template.proofs.Sizes.{stub_size}
 use Rattle.page_draft.specs.Standing.{Stands}
 use Rattle.page_draft.specs.Runs.{shape_at, template_at, size_at, next_of, is_closed}
-use Rattle.mem_guard.specs.FlatMachine.{next_size}
+use Rattle.flat_machine.specs.FlatMachine.{next_size}
 use Rattle.mem_guard.specs.Guarded.{Guarded, guarded_calls}
 use Rattle.mem_guard.proofs.GuardedStep.{guarded_goes}
 use Rattle.step_laws.specs.Settings.{IsSetting}

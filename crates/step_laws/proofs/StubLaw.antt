@@ -6,6 +6,7 @@ use Rattle.avr_isa.specs.Encoding.{second_word}
 use Rattle.flash_words.specs.declared.layout.Layout.{Layout}
 use Rattle.flash_words.specs.Pages.{word_at}
 use Rattle.sram_layout.specs.Bytes.{byte_at}
+use Rattle.sram_layout.specs.Cells.{count_cell}
 use Rattle.nat_template.specs.declared.piece.Piece.TheVariants.{Fixed, Link}
 use Rattle.nat_template.specs.Words.{words_of_forms}
 use Rattle.nat_template.specs.Stubs.{count_down, call_word, stub, crossing_stub, plain_stub, service, quantum_entry}
@@ -44,7 +45,7 @@ stub_by : (links : Links) (x : State) (from t w : ℕ) (b c : Bool) → is_cross
     → IsStretch x.kernel.layout (mote_of x).flash.words w (size (if c then crossing_stub t else plain_stub t))
     → Stands links.enters (mote_of x).flash.words w (if c then crossing_stub t else plain_stub t)
     → EachLink links.marks w (if c then crossing_stub t else plain_stub t) → IsIdle x.kernel → (mote_of x).cpu.pc ≡ w
-    → Begins x.kernel.layout (mote_of x).flash.words w b → Way links x b t (if c then count_after x.kernel.quantum (byte_at (mote_of x).sram 0x0100) else byte_at (mote_of x).sram 0x0100) c
+    → Begins x.kernel.layout (mote_of x).flash.words w b → Way links x b t (if c then count_after x.kernel.quantum (byte_at (mote_of x).sram count_cell) else byte_at (mote_of x).sram count_cell) c
 unfolding second_word
 stub_by links x from t w b true crosses free row stands marks fit is starts = crossing_law links x w t b free (crossing_parts links x.kernel.layout (mote_of x).flash.words w t row stands marks) fit is starts
 stub_by links x from t w b false crosses free row stands marks fit is starts = (link_law links x w t b free row stands marks fit is starts).0
@@ -52,6 +53,6 @@ stub_by links x from t w b false crosses free row stands marks fit is starts = (
 pub stub_law : (links : Links) (x : State) (from t w : ℕ) (b : Bool) → IsRunning x
     → IsStretch x.kernel.layout (mote_of x).flash.words w (size (stub from t)) → Stands links.enters (mote_of x).flash.words w (stub from t)
     → EachLink links.marks w (stub from t) → IsIdle x.kernel → (mote_of x).cpu.pc ≡ w
-    → Begins x.kernel.layout (mote_of x).flash.words w b → Way links x b t (count_over x.kernel.quantum from t (byte_at (mote_of x).sram 0x0100)) (is_crossing from t)
+    → Begins x.kernel.layout (mote_of x).flash.words w b → Way links x b t (count_over x.kernel.quantum from t (byte_at (mote_of x).sram count_cell)) (is_crossing from t)
 unfolding stub
 stub_law links x from t w b free row stands marks fit is starts = stub_by links x from t w b (is_crossing from t) refl free row stands marks fit is starts

@@ -4,6 +4,8 @@ use Rattle.std.specs.Prelude.{Some, pos}
 use Rattle.avr_isa.specs.declared.form.Form.TheVariants as forms
 use Rattle.avr_isa.specs.declared.operation.OneOp.TheVariants as ops
 use Rattle.avr_isa.specs.Instruction.{is_undefined}
+use Rattle.flash_words.specs.Jumps.{jump_word}
+use Rattle.nat_template.specs.Stubs.{call_word}
 use Rattle.avr_decode.specs.Decoding.{the_form, is_long, two_word_form, one_word_form, one_register_form, register_or_pair_form, form_1001, io_form, register_bit_form, form_1111, defined_form, if_defined}
 
 pub sts_form : (a : ℕ) → the_form 0x9380 a ≡ Some (forms.Sts a 24)
@@ -14,11 +16,11 @@ pub lds_form : (a : ℕ) → the_form 0x9180 a ≡ Some (forms.Lds 24 a)
 unfolding the_form is_long two_word_form defined_form if_defined is_undefined
 lds_form a = refl
 
-pub call_form : (a : ℕ) → the_form 0x940E a ≡ Some (forms.Call a)
+pub call_form : (a : ℕ) → the_form call_word a ≡ Some (forms.Call a)
 unfolding the_form is_long two_word_form defined_form if_defined is_undefined
 call_form a = refl
 
-pub jmp_form : (a : ℕ) → the_form 0x940C a ≡ Some (forms.Jmp a)
+pub jmp_form : (a : ℕ) → the_form jump_word a ≡ Some (forms.Jmp a)
 unfolding the_form is_long two_word_form defined_form if_defined is_undefined
 jmp_form a = refl
 

@@ -3,6 +3,7 @@ use Rattle.std.proofs.Common.{[], ℕ, ◌≡◌, ◌≤◌, ◌∷◌, ◌++◌
 use Rattle.std.specs.Prelude.{Option, None, ◌&&◌, ◌==◌}
 use Rattle.mote_devices.specs.declared.line.Line.{Line}
 use Rattle.sram_layout.specs.Bytes.{byte_at}
+use Rattle.sram_layout.specs.Cells.{count_cell}
 use Rattle.step_laws.specs.StepLaws.{IsReset, Reaches}
 use Rattle.step_laws.specs.Links.{Links}
 use Rattle.step_laws.specs.Moves.{Inner, count_plain, count_serve, count_stop, lines_of, Within}
@@ -16,8 +17,8 @@ pub record Reached (links : Links) (x : State) (t c : ℕ) (crosses : Bool) (z :
   pub part : z.kernel.part ≡ x.kernel.part
   pub quantum : z.kernel.quantum ≡ x.kernel.quantum
   pub same : SameProgram (mote_of x) (mote_of z)
-  pub count : byte_at (mote_of z).sram 0x0100 ≡ c
-  pub reaches : Reaches links t (crosses && (byte_at (mote_of x).sram 0x0100 == 1)) z
+  pub count : byte_at (mote_of z).sram count_cell ≡ c
+  pub reaches : Reaches links t (crosses && (byte_at (mote_of x).sram count_cell == 1)) z
 
 -- A walk through a stub to t, from a plain move on that begins at an entry or not. It writes no line.
 pub record Way (links : Links) (x : State) (b : Bool) (t c : ℕ) (crosses : Bool) : Type 0 where

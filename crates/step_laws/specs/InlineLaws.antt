@@ -9,7 +9,7 @@ use Rattle.sram_layout.specs.Regions.{crossing_cells, inline_cells, kernel_stack
 use Rattle.mote_core.specs.declared.mote.Mote.{Mote}
 use Rattle.nat_template.specs.Stubs.{mem_entry}
 use Rattle.nat_template.specs.Templates.{is_z}
-use Rattle.mem_guard.specs.FlatMachine.{Goes}
+use Rattle.flat_machine.specs.FlatMachine.{Goes}
 use Rattle.kernel_entry.specs.declared.kernel.Kernel.{Kernel}
 use Rattle.kernel_entry.specs.declared.kernel.Served.TheVariants as answers
 use Rattle.kernel_entry.specs.Conditions.{CanServe}

@@ -5,7 +5,7 @@ use Rattle.flash_words.specs.declared.layout.Layout.{Layout}
 use Rattle.flash_words.specs.Layouts.{image_of}
 use Rattle.nat_template.specs.Stubs.{call_word, bridge_entry}
 use Rattle.nat_page.specs.Parts.{EntersPart, IsLinkFrom}
-use Rattle.mem_guard.specs.declared.part.Part.{Part}
+use Rattle.flat_machine.specs.declared.part.Part.{Part}
 
 -- `enters t v`: control may go on to address t at place v. `marks s t`: a link to t stands at s.
 pub record Links : Type 1 where

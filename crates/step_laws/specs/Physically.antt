@@ -1,5 +1,5 @@
--- The guarded space beside the physical space of the same mote. Where a program asks for nothing or for a register of the
--- devices, both answer alike: so an instruction that asks no more may run as it stands.
+-- Serves proofs: the guarded space beside the physical space of the same mote. Where a program asks for nothing or for a register
+-- of the devices, both answer alike: so an instruction that asks no more may run as it stands.
 use Rattle.std.specs.Prelude.{◌≡◌, ℕ, ◌+◌, ◌≤◌, List, Option}
 use Rattle.avr_exec.specs.declared.ask.Ask.{Ask}
 use Rattle.avr_exec.specs.declared.answer.Answer.{Answer}

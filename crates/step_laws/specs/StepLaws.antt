@@ -9,10 +9,10 @@ use Rattle.heap_frames.specs.Paged.{IsPaged}
 use Rattle.mote_devices.specs.declared.line.Line.{Line}
 use Rattle.nat_template.specs.declared.shapes.TemplateShape.{TemplateShape}
 use Rattle.page_draft.specs.Runs.{shape_at}
-use Rattle.mem_guard.specs.FlatMachine.{FlatState, Tried, Stops, Goes, Wakes, tried}
+use Rattle.flat_machine.specs.FlatMachine.{FlatState, Tried, Stops, Goes, Wakes, tried}
 use Rattle.preempt_count.specs.Counting.{count_over, is_checkpoint}
 use Rattle.kernel_entry.specs.declared.kernel.Stop.{Stop}
-use Rattle.step_laws.specs.declared.moves.End.TheVariants as ends
+use Rattle.kernel_entry.specs.declared.kernel.End.TheVariants as ends
 use Rattle.step_laws.specs.Moves.{Inner, Move, Begin, lines_of, line_before, count_plain, count_serve, count_stop, Within}
 use Rattle.step_laws.specs.Numbers.{Numbers, numbered}
 use Rattle.step_laws.specs.States.{State, mote_of}

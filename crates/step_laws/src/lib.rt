@@ -16,10 +16,8 @@
 #![tactic(auto)]
 
 mod laws;
-mod moves;
 
 pub use laws::{
     each_move_has_one_outcome, each_service_has_its_row, each_step_keeps_the_bounds,
     every_entry_has_its_law, every_shape_has_its_law, stack_instructions_run_inline, walks_join,
 };
-pub use moves::{End, Owed};

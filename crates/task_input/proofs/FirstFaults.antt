@@ -5,13 +5,13 @@ use Rattle.std.proofs.lemmas.List.{get_or_default, get_or_push, get_or_append_le
 use Rattle.std.proofs.lemmas.List.Elements.{All-nil, All-cons}
 use Rattle.std.proofs.lemmas.Bool.{cases_lt}
 use Rattle.std.proofs.lemmas.Bool.Decides.{nat_tests}
-use Rattle.text_lines.specs.Lines.{lines_of}
+use Rattle.line_reader.specs.Lines.{lines_of}
 use Rattle.input_script.specs.declared.fault.ScriptFault.{ScriptFault}
 use Rattle.input_script.specs.Script.{Schedule, Accepts, IsFaulty, IsFirstFault, nothing, size, most_statements, IsScript}
 use Rattle.input_script.proofs.Judgement.{one_judgement}
 use Rattle.input_script.proofs.EventLines.{empty_fine, IsEventLine, events_alone}
 use Rattle.task_input.specs.declared.script.BadLine.{BadLine}
-use Rattle.text_pieces.specs.Pieces.{task_text}
+use Rattle.line_writer.specs.Pieces.{task_text}
 use Rattle.task_input.specs.Scripts.{at_word, own_line, own_lines, Schedules, IsFormless, IsFault, Formless, InText, IsFirst}
 use Rattle.task_input.specs.Reading.{text_of, earlier, AllFine, IsBad, IsFar}
 use Rattle.task_input.proofs.OwnLines.{OwnWay, Not, Own, own_way}

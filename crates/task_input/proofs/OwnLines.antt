@@ -1,49 +1,25 @@
 -- A line, as a task has it.
-use Rattle.std.proofs.Common.{◌≡◌, ℕ, ◌≤◌, eqb, Bool, true, false, cond, List, [], ◌∷◌, ◌++◌, length, arith, ap, sym, refl, subst}
+use Rattle.std.proofs.Common.{◌≡◌, ℕ, ◌≤◌, List, [], ◌∷◌, ◌++◌, length, arith, ap, refl, subst}
 use Rattle.std.specs.Prelude.{Option, Some, None}
 use Rattle.std.proofs.lemmas.List.{length-append}
-use Rattle.std.proofs.lemmas.Bool.Decides.{nat_tests}
-use Rattle.text_lines.specs.Cutting.{Lacks}
-use Rattle.text_pieces.specs.Pieces.{task_text}
-use Rattle.task_input.specs.Scripts.{at_word, behind, own_by, own_line}
+use Rattle.line_reader.specs.Cutting.{Lacks}
+use Rattle.line_reader.specs.Stripping.{stripped}
+use Rattle.line_reader.proofs.StripLaws.{stripped_front}
+use Rattle.line_writer.specs.Pieces.{task_text}
+use Rattle.task_input.specs.Scripts.{at_word, own_by, own_line}
 use Rattle.task_input.specs.Reading.{ended}
-
-same_byte : (b : ℕ) → eqb b b ≡ true
-same_byte b = grind (arith, nat_tests)
-
-equal_byte : (b c : ℕ) → eqb b c ≡ true → b ≡ c
-equal_byte b c same = grind (arith, nat_tests)
-
--- a text begins with its front
-pub behind_front : (front rest : List ℕ) → behind front (front ++ rest) ≡ Some rest
-behind_front [] rest = refl
-behind_front (b ∷ front) rest = rw (same_byte b) (behind_front front rest)
-
-behind_by : (test : Bool) (rest : List ℕ) (more : Option (List ℕ)) → cond test more None ≡ Some rest → (test ≡ true) × (more ≡ Some rest)
-behind_by true rest more is = (refl, is)
-behind_by false rest more is = absurd (cc)
-
--- and only such a text
-pub front_behind : (front text rest : List ℕ) → behind front text ≡ Some rest → text ≡ front ++ rest
-front_behind [] text rest is = cc
-front_behind (b ∷ front) [] rest is = absurd (cc)
-front_behind (b ∷ front) (c ∷ text) rest is =
-    let both = behind_by (eqb b c) rest (behind front text) is in
-    let head : c ≡ b = sym (equal_byte b c both.0) in
-    let tail : text ≡ front ++ rest = front_behind front text rest both.1 in
-    cc
 
 -- what a task has of a line: nothing, or what stands behind its name
 pub data OwnWay (task : ℕ) (line : List ℕ) : List ℕ → Type 0 where
   Not : OwnWay task line []
   Own : (rest : List ℕ) → line ≡ task_text task ++ at_word ++ rest → OwnWay task line (at_word ++ rest)
 
-way_by : (task : ℕ) (line : List ℕ) (found : Option (List ℕ)) → behind (task_text task ++ at_word) line ≡ found → OwnWay task line (own_by found)
+way_by : (task : ℕ) (line : List ℕ) (found : Option (List ℕ)) → stripped (task_text task ++ at_word) line ≡ found → OwnWay task line (own_by found)
 way_by task line None is = Not
-way_by task line (Some rest) is = Own rest (front_behind (task_text task ++ at_word) line rest is)
+way_by task line (Some rest) is = Own rest (stripped_front (task_text task ++ at_word) line rest is)
 
 pub own_way : (task : ℕ) (line : List ℕ) → OwnWay task line (own_line task line)
-own_way task line = way_by task line (behind (task_text task ++ at_word) line) refl
+own_way task line = way_by task line (stripped (task_text task ++ at_word) line) refl
 
 lacks_by : (task : ℕ) (line own : List ℕ) → OwnWay task line own → Lacks 10 line → Lacks 10 own
 lacks_by task line _ Not lacks = tt

@@ -1,10 +1,11 @@
 -- The script of several tasks (docs/TASKS.md, "The script"): each event names its task, as in `task 1 at 5 uart 0x41`.
-use Rattle.std.specs.Prelude.{◌≡◌, ℕ, ◌+◌, ◌<◌, ◌≤◌, ◌⊎◌, ◌==◌, if◌then◌else◌, List, [], ◌∷◌, ◌++◌, codes, length, map, All, Option, Some, None, slice_index_or}
+use Rattle.std.specs.Prelude.{◌≡◌, ℕ, ◌+◌, ◌<◌, ◌≤◌, ◌⊎◌, List, [], ◌∷◌, ◌++◌, codes, length, map, All, Option, Some, None, slice_index_or}
 use Rattle.input_script.specs.declared.fault.ScriptFault.{ScriptFault}
 use Rattle.input_script.specs.declared.fault.ScriptFault.TheVariants.{Form}
 use Rattle.input_script.specs.Grammar.{IsSkipped}
 use Rattle.input_script.specs.Script.{Schedule, Accepts, IsFaulty, nothing}
-use Rattle.text_pieces.specs.Pieces.{task_text}
+use Rattle.line_reader.specs.Stripping.{stripped}
+use Rattle.line_writer.specs.Pieces.{task_text}
 
 -- what an event's line begins with
 abbrev pub at_word : List ℕ
@@ -19,19 +20,13 @@ IsNamed count line = (task : ℕ) × (rest : List ℕ) × (task < count) × (lin
 abbrev pub IsTaskLine : ℕ → List ℕ → Type 0
 IsTaskLine count line = IsSkipped line ⊎ IsNamed count line
 
--- what stands in a text behind its front
-abbrev pub behind : List ℕ → List ℕ → Option (List ℕ)
-behind [] text = Some text
-behind (byte ∷ front) [] = None
-behind (byte ∷ front) (first ∷ text) = if byte == first then behind front text else None
-
 -- a line of a task's own text: what stands behind the task's name; a line that is not the task's is empty
 abbrev pub own_by : Option (List ℕ) → List ℕ
 own_by None = []
 own_by (Some rest) = at_word ++ rest
 
 abbrev pub own_line : ℕ → List ℕ → List ℕ
-own_line task line = own_by (behind (task_text task ++ at_word) line)
+own_line task line = own_by (stripped (task_text task ++ at_word) line)
 
 -- the lines of a task's own text, as many as the whole text has
 abbrev pub own_lines : ℕ → List (List ℕ) → List (List ℕ)

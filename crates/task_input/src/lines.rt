@@ -1,14 +1,14 @@
 //! The lines of a script of several tasks, and the text that each task has of it.
 
 ghost use Rattle.std.specs.Prelude.{◌≡◌, ◌≢◌, ◌<◌, ◌≤◌, ◌↔◌, ◌++◌, ℕ, List, length, All, IsTrue, IfOk, OnOk, MatchOption};
-ghost use Rattle.text_lines.specs.Lines.{lines_of};
-ghost use Rattle.text_pieces.specs.Pieces.{task_text};
+ghost use Rattle.line_reader.specs.Lines.{lines_of};
+ghost use Rattle.line_writer.specs.Pieces.{task_text};
 ghost use Rattle.task_input.specs.Scripts.{at_word, IsNamed, IsTaskLine, IsFormless, own_line, own_lines};
 ghost use Rattle.task_input.specs.Reading.{ended};
 
+use line_reader::first_line;
 use no_memory::NoMemory;
 use std::alloc::Global;
-use text_lines::first_line;
 
 /// How many bytes name a line's task.
 const NAME_LENGTH: usize = 7;
@@ -75,8 +75,9 @@ fn put_line(own: &mut Vec<u8>, line: &[u8]) -> Result<(), NoMemory>
     ensures items { OnOk result (own.new.items ≡ own.old.items ++ ended line.now) }
 {
     let end = if line.is_empty() { "\n" } else { "\r\n" };
-    own.extend_from_slice(line).map_err(|_| NoMemory)?;
-    own.extend_from_slice(end.as_bytes()).map_err(|_| NoMemory)
+    own.extend_from_slice(line)?;
+    own.extend_from_slice(end.as_bytes())?;
+    Ok(())
 }
 
 /// What a line says to a task: the event behind its name, and nothing where the line is not the task's.

@@ -14,10 +14,10 @@ use Rattle.avr_flags.specs.Status.{has_bit, interrupts}
 use Rattle.avr_exec.specs.declared.cpu.Cpu.{Cpu}
 use Rattle.avr_exec.specs.Spaces.{Outcome, Went, Stopped}
 use Rattle.avr_exec.specs.Execution.{exec_of, is_executed}
-use Rattle.mem_guard.specs.declared.part.Part.{Part}
-use Rattle.mem_guard.specs.FlatSpace.{FlatSpace, flat_calls, push_return}
-use Rattle.mem_guard.specs.FlatMachine.{Program, FlatState, Moment, Tried, Stops, Goes, Wakes, Halted, Asleep, Next, Ends, On, tried, tried_form, executed, stepped, slept, slept_by, read_or_executed, foreign_word, space_of, next_size, jumps_to_itself, next_of, next_by, is_taken, interrupted, interrupted_by, lowest}
-use Rattle.mem_guard.proofs.MachineLaws.{form_tried}
+use Rattle.flat_machine.specs.declared.part.Part.{Part}
+use Rattle.flat_machine.specs.FlatSpace.{FlatSpace, flat_calls, push_return}
+use Rattle.flat_machine.specs.FlatMachine.{Program, FlatState, Moment, Tried, Stops, Goes, Wakes, Halted, Asleep, Next, Ends, On, tried, tried_form, executed, stepped, slept, slept_by, read_or_executed, foreign_word, space_of, next_size, jumps_to_itself, next_of, next_by, is_taken, interrupted, interrupted_by, lowest}
+use Rattle.flat_machine.proofs.MachineLaws.{form_tried}
 use Rattle.task_turns.specs.Checkpoints.{checks_by}
 
 -- ---- a try

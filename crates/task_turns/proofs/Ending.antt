@@ -8,7 +8,7 @@ use Rattle.std.proofs.lemmas.List.FromFn.{get_or-range_with_len, length-range_wi
 use Rattle.std.proofs.lemmas.List.Sums.{sum_by-cons}
 use Rattle.std.proofs.lemmas.Option.{get_or_from_slice_get, slice_get-get_or, slice_get_within}
 use Rattle.std.proofs.lemmas.Bool.{cases_eq, cases_lt, not-true}
-use Rattle.mem_guard.specs.FlatMachine.{End}
+use Rattle.flat_machine.specs.FlatMachine.{End}
 use Rattle.task_turns.specs.Turns.{Player, Turns, After, changed_to, changed, others, has_ended, ends_of, with_player, once, continued, go_on, tries, turns, HaveEnded}
 use Rattle.task_turns.proofs.Isolation.{weight, weight_going, weight_ended, IsOnce, once_follows, set_here}
 use Rattle.base_laws.proofs.Searches.{found_first}

@@ -5,8 +5,8 @@ use Rattle.std.proofs.lemmas.List.{append_assoc, append-nil}
 use Rattle.std.proofs.lemmas.Bool.{cases_eq}
 use Rattle.std.proofs.lemmas.Bool.Decides.{nat_tests}
 use Rattle.mote_devices.specs.declared.line.Line.{Line}
-use Rattle.mem_guard.specs.FlatMachine.{Program, is_inside, Moment, End, Spent, Wild, Next, Ends, On, next_of, Run, run, ended, with_line}
-use Rattle.mem_guard.proofs.MachineLaws.{run_wild, run_spent, run_stops, run_goes}
+use Rattle.flat_machine.specs.FlatMachine.{Program, is_inside, Moment, End, Spent, Wild, Next, Ends, On, next_of, Run, run, ended, with_line}
+use Rattle.flat_machine.proofs.MachineLaws.{run_wild, run_spent, run_stops, run_goes}
 use Rattle.task_turns.specs.Turns.{Player, Turns, Told, Shown, Wrote, Stops, is_checkpoint, rests_by, rests, played_by, tried_by, changed_to, changed, with_player, told as told_by, told_line, After, stopped, at_checkpoint, stepped, after_line, once_by, once, continued, go_on, tries, alone, shown_by, own_told, Follows, Ended, Going, Over, IsApartFromOthers}
 
 -- a task at rest, or one that has a step left and stands inside its image

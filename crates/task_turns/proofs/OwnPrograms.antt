@@ -6,10 +6,10 @@ use Rattle.std.proofs.lemmas.Bool.Decides.{nat_tests}
 use Rattle.std.proofs.lemmas.List.FromFn.{get_or-map-range_with_len}
 use Rattle.avr_isa.specs.Image.{word}
 use Rattle.input_script.specs.Script.{Schedule, nothing}
-use Rattle.mem_guard.specs.FlatMachine.{Program, is_own}
-use Rattle.mem_guard.specs.Masked.{IsFramed}
-use Rattle.mem_guard.specs.Masked as masked
-use Rattle.mem_guard.proofs.PartLaws.{masked_run}
+use Rattle.flat_machine.specs.FlatMachine.{Program, is_own}
+use Rattle.flat_machine.specs.Masked.{IsFramed}
+use Rattle.flat_machine.specs.Masked as masked
+use Rattle.flat_machine.proofs.PartLaws.{masked_run}
 use Rattle.task_input.specs.Images.{quarter, blank, IsMisplaced, task_words}
 use Rattle.task_turns.specs.Quarters.{quarter_part}
 use Rattle.task_turns.specs.Turns.{Player, alone, at_reset_in}

@@ -1,7 +1,7 @@
 -- Two small sets of tasks, in turn.
 use Rattle.std.proofs.Common.{◌≡◌, ℕ, true, List, [], ◌∷◌, ◌++◌, refl}
 use Rattle.avr_isa.specs.Instruction.{is_undefined}
-use Rattle.avr_isa.specs.IoTable.{can_read, can_write}
+use Rattle.avr_isa.specs.IoTable.{can_read, can_write, register_at}
 use Rattle.avr_decode.specs.Decoding.{product_form, move_or_product_form, form_0000, form_0001, form_0010, displaced_form, load_form, store_form, plain_form, flag_or_plain_form, one_register_form, register_or_pair_form, io_bit_form, transfer_form, form_1001, io_form, register_bit_form, form_1111, one_word_form, is_long, two_word_form, defined_form, if_defined, the_form}
 use Rattle.avr_flags.specs.Logic.{bitwise_status}
 use Rattle.avr_flags.specs.Status.{with_result_flags}
@@ -16,11 +16,10 @@ use Rattle.mote_devices.specs.declared.line.Port.TheVariants.{PortA}
 use Rattle.mote_devices.specs.Inputs.{unreceived, at_poll}
 use Rattle.mote_devices.specs.Waking.{wake}
 use Rattle.base_laws.specs.Lists.{many}
-use Rattle.mote_devices.specs.Registers.{register_at}
 use Rattle.mote_devices.specs.Accesses.{write, read}
-use Rattle.mem_guard.specs.Classes.{class_of}
-use Rattle.mem_guard.specs.FlatSpace.{load, store, push, pop, push_return, pop_return}
-use Rattle.mem_guard.specs.FlatMachine.{Program, Halted, run, next_of, tried, no_pages}
+use Rattle.flat_machine.specs.Classes.{class_of}
+use Rattle.flat_machine.specs.FlatSpace.{load, store, push, pop, push_return, pop_return}
+use Rattle.flat_machine.specs.FlatMachine.{Program, Halted, run, next_of, tried, no_pages}
 use Rattle.task_turns.specs.Turns.{Player, Wrote, Stops, tries, turns, at_reset_in, from_start}
 
 abbrev program : (quantum first : ℕ) → List ℕ → Program

@@ -1,6 +1,6 @@
 -- A task's part of the image.
 use Rattle.std.specs.Prelude.{ℕ, ◌*◌, true}
-use Rattle.mem_guard.specs.declared.part.Part.{Part}
+use Rattle.flat_machine.specs.declared.part.Part.{Part}
 use Rattle.task_input.specs.Images.{quarter}
 
 -- a task's own words; it may read no others

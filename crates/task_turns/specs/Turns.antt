@@ -4,7 +4,7 @@ use Rattle.std.specs.Prelude.{◌≡◌, ℕ, zero, suc, ◌+◌, ◌-◌, ◌%�
 use Rattle.std.specs.List.{range_with_len, find}
 use Rattle.input_script.specs.declared.input.Event.{Event}
 use Rattle.mote_devices.specs.declared.line.Line.{Line}
-use Rattle.mem_guard.specs.FlatMachine.{Program, FlatState, Moment, End, Spent, Wild, Next, Ends, On, next_of, Run, run, at_reset}
+use Rattle.flat_machine.specs.FlatMachine.{Program, FlatState, Moment, End, Spent, Wild, Next, Ends, On, next_of, Run, run, at_reset}
 
 -- a task: its program, where it stands, how many steps it may still do, and how it ended, once it has
 pub record Player : Type 0 where

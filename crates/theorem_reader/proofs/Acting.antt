@@ -14,7 +14,7 @@ use Rattle.avr_isa.specs.Addresses.{wrapping_sum, wrapping_difference}
 use Rattle.avr_flags.specs.Status.{has_bit, interrupts}
 use Rattle.avr_exec.specs.declared.cpu.Cpu.{Cpu}
 use Rattle.avr_exec.specs.Spaces.{Outcome, Went, Stopped}
-use Rattle.mem_guard.specs.FlatSpace.{FlatSpace, flat_calls}
+use Rattle.flat_machine.specs.FlatSpace.{FlatSpace, flat_calls}
 use Rattle.mote_devices.specs.State.{State as Devices}
 use Rattle.mote_devices.specs.Waking.{wake}
 use Rattle.nat_template.specs.Stubs.{quantum_entry, fault_entry}
@@ -41,7 +41,7 @@ use Rattle.kernel_entry.specs.Rows.{HasStopped, ExecutedBy, ReadBy, PushedBy, Po
 use Rattle.kernel_entry.specs.declared.kernel.Kernel.{Kernel}
 use Rattle.kernel_entry.specs.Conditions.{CanServe, AtBridge, AtQuantum, AtMem, AtPushReturn, AtReturn, AtIndirect, AtSelf, AtFault}
 use Rattle.avr_exec.specs.Execution.{exec_of}
-use Rattle.mem_guard.specs.FlatMachine.{next_size}
+use Rattle.flat_machine.specs.FlatMachine.{next_size}
 use Rattle.heap_frames.specs.Paged.{IsPaged}
 use Rattle.kernel_entry.specs.Seen.{View, space_of}
 use Rattle.theorem_reader.specs.Memory.{HasMemory}
@@ -51,7 +51,7 @@ use Rattle.kernel_entry.specs.Interrupts as interrupts
 use Rattle.kernel_entry.specs.declared.kernel.Taken.{Taken}
 use Rattle.kernel_entry.specs.declared.kernel.Taken.TheVariants as taken
 use Rattle.kernel_entry.proofs.TakingRows.{taking_row}
-use Rattle.heap_frames.specs.Addresses.{is_stack}
+use Rattle.flat_machine.specs.Addresses.{is_stack}
 use Rattle.heap_frames.proofs.MemoryLaws.{stack_from}
 use Rattle.sram_layout.specs.Cells.{vsp_cell}
 use Rattle.sram_layout.proofs.Laws.{byte_other, byte_out_of_word}

@@ -1,5 +1,5 @@
 -- What is answered, in lists and numbers.
-use Rattle.std.proofs.Common.{◌≡◌, ◌≢◌, take, length, ℕ, ◌+◌, ◌*◌, ◌≤◌, true, false, List, Option, Some, None, refl, sym, ap, ◌∙◌, subst, arith, zero-add, inl, inr}
+use Rattle.std.proofs.Common.{◌≡◌, ◌≢◌, take, length, ℕ, ◌+◌, ◌*◌, ◌≤◌, true, false, List, [], Option, Some, None, refl, sym, ap, ◌∙◌, subst, arith, zero-add, inl, inr}
 use Rattle.sram_layout.specs.Bytes.{byte_at, data_word_at}
 use Rattle.std.specs.Prelude.{IfSome}
 use Rattle.flash_words.specs.Memory.{Memory, new_flash}
@@ -11,44 +11,43 @@ use Rattle.branch_bridge.specs.declared.rewriting.Torn.{Torn}
 use Rattle.branch_bridge.specs.Operating.{with_torn}
 use Rattle.branch_bridge.specs.Tried.{IsTorn}
 use Rattle.kernel_entry.specs.Parts.{image_held}
-use Rattle.kernel_entry.specs.Seen.{program}
 use Rattle.kernel_entry.specs.declared.kernel.Stop.TheVariants as stops
-use Rattle.step_laws.specs.declared.moves.End.{End as MachineEnd}
-use Rattle.step_laws.specs.declared.moves.End.TheVariants as ends
+use Rattle.kernel_entry.specs.declared.kernel.End.{End as MachineEnd}
+use Rattle.kernel_entry.specs.declared.kernel.End.TheVariants as ends
 use Rattle.input_script.specs.Script.{Schedule}
-use Rattle.mem_guard.specs.FlatMachine.{Moment, Program, End as FlatEnd}
-use Rattle.mem_guard.specs.FlatMachine as flat_ends
+use Rattle.flat_machine.specs.FlatMachine.{Moment, Program, End as FlatEnd}
+use Rattle.flat_machine.specs.FlatMachine as flat_ends
 use Rattle.step_laws.specs.Numbers.{Numbers}
+use Rattle.step_laws.specs.Walks.{Walk}
 use Rattle.mote_core.specs.declared.mote.Mote.{Mote}
 use Rattle.mote_devices.specs.declared.line.Line.{Line}
-use Rattle.program_steps.specs.Machines.{Machine, state_of, numbers_of, flat_of}
+use Rattle.program_steps.specs.Machines.{Machine, state_of, numbers_of}
 use Rattle.program_steps.specs.Ready.{IsSound, HasFault, mended_words}
-use Rattle.program_steps.specs.Stepping.{AreMadeAt as MadeAt}
-use Rattle.tk_run.specs.WholeRuns.{StandsAt, program_at}
 use Rattle.step_laws.proofs.NumberLaws.{unmoved}
 use Rattle.tk_run.specs.Booted.{started}
-use Rattle.tk_run.specs.Running.{Leads, flat_end}
-use Rattle.tk_words.specs.declared.command.Command.TheVariants.{Run as RunCommand, Generate}
-use Rattle.tk_words.specs.declared.job.Job.TheVariants as jobs
-use Rattle.tk_words.specs.declared.request.Request.{Request}
-use Rattle.tk_words.specs.declared.status.Status.{Status}
+use Rattle.tk_run.specs.Running.{Leads, states_of, flat_end}
+use Rattle.cli_words.specs.declared.command.Command.TheVariants.{Run as RunCommand, Generate}
+use Rattle.cli_words.specs.declared.job.Job.TheVariants as jobs
+use Rattle.cli_words.specs.declared.request.Request.{Request}
+use Rattle.cli_words.specs.declared.status.Status.{Status}
 use Rattle.tkernel_cli.specs.declared.top.Exit.{Exit}
-use Rattle.tk_request.specs.Asking.{IsWarranted}
-use Rattle.tk_request.specs.Reading.{Good}
-use Rattle.tk_words.specs.Stream.{Stream}
-use Rattle.run_jobs.specs.Runs.{KeepsEnd, Runs, RunsToTheEnd, RunsIntoAFault, RunsUntilCut, Follows}
+use Rattle.cli_requests.specs.Asking.{IsWarranted}
+use Rattle.cli_requests.specs.Reading.{Good}
+use Rattle.cli_words.specs.Stream.{Stream}
+use Rattle.cli_jobs.specs.Runs.{KeepsEnd, Runs, RunsToTheEnd, RunsIntoAFault, Follows, AreUnlisted, first_start}
 use Rattle.theorem_reader.specs.Acts.{HasActs, IsBoot, tried_in}
 use Rattle.theorem_reader.specs.Pools.{AreFaithful, AreFaithfulBut}
 use Rattle.theorem_reader.specs.Ends.{end_of, IsKeptEnd}
 use Rattle.theorem_reader.specs.Runs.{Asked, Asks, AsksGenerate, generated_by, options_of, original_of, StandsFrom, Stands, EndsWell, EndsInAFault, IsRun, NoMemory, Ended, Failed, Cut}
-use Rattle.theorem_reader.specs.Telling.{Fails, IsSo}
+use Rattle.theorem_reader.specs.Telling.{Fails}
 use Rattle.theorem_reader.specs.Memory.{HasMemory}
 use Rattle.theorem_reader.proofs.Holding.{has_memory}
 use Rattle.theorem_reader.proofs.Pooling.{faithful_is, but_is}
 use Rattle.theorem_reader.proofs.Booting.{is_boot}
 use Rattle.theorem_reader.proofs.Acting.{acts_of, follow}
-use Rattle.theorem_reader.proofs.Bounding.{natural_of, entries_of, pages_of, ops_of, longest_of, longest_in, no_longer, last_arrives, same_last, arrives_last, last_refuses, made_of, steps_of}
-use Rattle.theorem_reader.proofs.Doing.{Call, Somehow, so_then, retold, told_how, cut_by, told_by}
+use Rattle.theorem_reader.proofs.Stepwise.{paced}
+use Rattle.theorem_reader.proofs.Bounding.{natural_of, entries_of, pages_of, ops_of, longest_of, longest_in, no_longer, last_arrives, same_last, arrives_last, last_refuses}
+use Rattle.theorem_reader.proofs.Doing.{IsSoThen, Call, Somehow, so_then, retold, told_how, cut_by, told_by}
 use Rattle.theorem_reader.proofs.SameTexts.{lines_same, ended_same, failed_same, status_same}
 
 abbrev pub script_of : Asked → Schedule
@@ -63,11 +62,10 @@ abbrev pub start_of : Asked → Memory → (pages : ℕ) → Machine
 start_of asked flash pages = started asked.image flash (script_of asked) asked.quantum asked.slots pages
 
 has_acts : (IsFirst : Mote → Type 0) (asked : Asked) (flash : Memory) (pages : ℕ) (lines : List Line) (m : Machine) → IsFirst (start_of asked flash pages).kernel.mote → flash.ops ≡ 0 → take (length asked.image) flash.words ≡ asked.image
-    → Leads (start_of asked flash pages) lines m → m.longest ≤ 5120 * asked.quantum → HasActs IsFirst pages asked.image asked.quantum m.natural m.entries m.pages m.end m.kernel.mote
-has_acts IsFirst asked flash pages lines m begins untried held path bound =
+    → (path : Leads (start_of asked flash pages) lines m) → Walk (state_of (start_of asked flash pages)) path.moves (state_of m) → m.longest ≤ 5120 * asked.quantum → HasActs IsFirst pages asked.image asked.quantum m.natural m.entries m.pages m.end m.kernel.mote
+has_acts IsFirst asked flash pages lines m begins untried held path walk bound =
     let x = state_of (start_of asked flash pages) in
     let moves = path.moves in
-    let walk = path.goes.walk in
     let counts = numbers_of (start_of asked flash pages) in
     let acts = acts_of x moves (state_of m) walk in
     record {
@@ -96,39 +94,45 @@ runs_alone asked flash pages n m path = ap (λ (k : Numbers). k.others) path.goe
 
 -- where moves lead from such a start
 pub stands_from : (IsFirst : Mote → Type 0) (asked : Asked) (flash : Memory) (pages n : ℕ) (m : Machine) → IsFirst (start_of asked flash pages).kernel.mote → flash.ops ≡ 0 → take (length asked.image) flash.words ≡ asked.image
-    → flat_of m ≡ (original_of asked n).state → program m.kernel ≡ program_at asked.image asked.quantum asked.slots → IsSound m → (path : Leads (start_of asked flash pages) (original_of asked n).lines m) → MadeAt (StandsAt asked.image (script_of asked) asked.quantum asked.slots m.steps) path.moves → m.kernel.quantum ≡ asked.quantum → m.longest ≤ 5120 * m.kernel.quantum → m.steps ≤ asked.steps → m.pages ≤ pages + m.steps + 1
+    → Follows (request_of asked) (start_of asked flash pages) n m → m.steps ≤ asked.steps
     → StandsFrom IsFirst pages asked (original_of asked n) m
 unfolding data_word_at byte_at has_acts
-stands_from IsFirst asked flash pages n m begins untried held same own sound path made quantum longest within most =
-    let x = state_of (start_of asked flash pages) in
-    let acts = has_acts IsFirst asked flash pages (original_of asked n).lines m begins untried held path (subst (λ q. m.longest ≤ 5120 * q) quantum longest) in
+stands_from IsFirst asked flash pages n m begins untried held follows within =
+    let start = start_of asked flash pages in
+    let at = follows.at in
+    let path = at.path in
+    let same = at.state in
+    let sound = follows.sound in
+    let pace = paced asked.image (states_of (original_of asked)) start m.steps path.moves m (record { laid = refl; held = held }) at.by_step in
+    let acts = has_acts IsFirst asked flash pages (original_of asked n).lines m begins untried held path pace.walk (subst (λ q. m.longest ≤ 5120 * q) at.quantum follows.longest) in
     record {
-      registers = ap (λ (s : Moment). s.now.cpu.r) same;
-      status = ap (λ (s : Moment). s.now.cpu.sreg) same;
-      pointer = ap (λ (s : Moment). s.now.cpu.sp) same;
+      state = record {
+        registers = ap (λ (s : Moment). s.now.cpu.r) same;
+        status = ap (λ (s : Moment). s.now.cpu.sreg) same;
+        pointer = ap (λ (s : Moment). s.now.cpu.sp) same;
+        memory = subst (HasMemory m.kernel.mote) (ap (λ (s : Moment). s.now.memory) same) (has_memory m.kernel.mote sound.order.paged);
+        devices = ap (λ (s : Moment). s.now.devices) same;
+      };
       pc = ap (λ (s : Moment). s.now.cpu.pc) same;
-      memory = subst (HasMemory m.kernel.mote) (ap (λ (s : Moment). s.now.memory) same) (has_memory m.kernel.mote sound.order.paged);
-      devices = ap (λ (s : Moment). s.now.devices) same;
       steps = ap (λ (s : Moment). s.now.steps) same;
       crossings = ap (λ (s : Moment). s.now.crossings) same;
       due = ap (λ (s : Moment). s.due) same;
-      words = sym sound.order.faithful.image_length ∙ ap (λ (p : Program). length p.image) own;
-      slots = ap (λ (p : Program). p.page_limit) own;
-      quantum = quantum;
+      words = sym sound.order.faithful.image_length ∙ ap (λ (p : Program). length p.image) at.program;
+      slots = ap (λ (p : Program). p.page_limit) at.program;
+      quantum = at.quantum;
       most_steps = within;
       most_operations = omega (arith, sound.bounded.ops, runs_alone asked flash pages n m path);
-      most_pages = most;
+      most_pages = follows.pages;
       acts = acts;
-      least_natural = omega (arith, ap (λ (k : Numbers). k.steps) path.goes.numbers, steps_of x path.moves (state_of m) path.goes.walk (numbers_of (start_of asked flash pages)), acts.natural_is);
+      by_step = pace.by_step;
       most_natural = sound.bounded.moves.natural;
       most_entries = sound.bounded.moves.entries;
-      made_at = λ front back target ops before after is. made_of (StandsAt asked.image (script_of asked) asked.quantum asked.slots m.steps) x path.moves (state_of m) path.goes.walk made front back target ops before after is;
     }
 
-stands : (asked : Asked) (n : ℕ) (m : Machine) → Follows (request_of asked) n m → m.steps ≤ asked.steps → Stands asked (original_of asked n) m
+stands : (asked : Asked) (n : ℕ) (m : Machine) → Follows (request_of asked) (first_start (request_of asked)) n m → m.steps ≤ asked.steps → Stands asked (original_of asked n) m
 stands asked n m follows within =
     stands_from (IsBoot asked.image asked.failing asked.events asked.quantum asked.slots) asked (new_flash asked.image asked.failing) 0 n m (is_boot asked.image asked.failing asked.events asked.quantum asked.slots) refl (loaded_image asked.image)
-    follows.state follows.program follows.ready.sound follows.path follows.made follows.quantum follows.longest within (omega (arith, follows.pages))
+    follows within
 
 -- the end that is kept
 own_end : (end : MachineEnd) → flat_end end ≡ end_of end
@@ -198,7 +202,7 @@ lacking_of asked m sound held =
     let order = sound.order in
     let l = layout_of (length asked.image) in
     let laid = layout_same asked.image m sound held in
-    let code : IsFaithful l asked.image (mended_words m) = subst (λ i. IsFaithful l i (mended_words m)) held (subst (λ k. IsFaithful k (image_held m.kernel) (mended_words m)) laid order.faithful) in
+    let code : IsFaithful l asked.image (mended_words m.kernel m.torn) = subst (λ i. IsFaithful l i (mended_words m.kernel m.torn)) held (subst (λ k. IsFaithful k (image_held m.kernel) (mended_words m.kernel m.torn)) laid order.faithful) in
     let few = (subst IsRight laid order.right).image_fits in
     but_is asked.image m.kernel.mote.flash.words m.torn few code (torn_by_order m.torn l m (subst (λ k. IfSome m.torn (λ t. IsTorn k m.kernel.mote.flash.words t × HasFault m)) laid order.tried.torn))
 
@@ -208,18 +212,18 @@ whole_of asked m sound held unfailed =
     let l = layout_of (length asked.image) in
     let laid = layout_same asked.image m sound held in
     let untorn = never_torn m m.torn unfailed order.tried.torn in
-    let code : IsFaithful l asked.image (mended_words m) = subst (λ i. IsFaithful l i (mended_words m)) held (subst (λ k. IsFaithful k (image_held m.kernel) (mended_words m)) laid order.faithful) in
+    let code : IsFaithful l asked.image (mended_words m.kernel m.torn) = subst (λ i. IsFaithful l i (mended_words m.kernel m.torn)) held (subst (λ k. IsFaithful k (image_held m.kernel) (mended_words m.kernel m.torn)) laid order.faithful) in
     let few = (subst IsRight laid order.right).image_fits in
     faithful_is asked.image m.kernel.mote.flash.words few (subst (λ t. IsFaithful l asked.image (with_torn m.kernel.mote.flash.words t)) untorn code)
 
 pub ends_well : (asked : Asked) (before now : Stream) (told : Status) (m : Machine)
-    → RunsToTheEnd (request_of asked) before now told m → EndsWell asked m
-ends_well asked before now told m run = record {
+    → AreUnlisted (request_of asked) m → RunsToTheEnd (request_of asked) (first_start (request_of asked)) [] before now told m → EndsWell asked m
+ends_well asked before now told m unlisted run = record {
   stands = stands asked asked.steps m run.follows run.within;
   end = kept_end _ m run.end;
-  unbroken = run.follows.unbroken;
-  none_failed = run.unlisted;
-  faithful = whole_of asked m run.follows.ready.sound (ap (λ (p : Program). p.image) run.follows.program) (λ op. no_fault _ m op run.end);
+  unbroken = run.unbroken;
+  none_failed = unlisted;
+  faithful = whole_of asked m run.follows.sound (ap (λ (p : Program). p.image) run.follows.at.program) (λ op. no_fault _ m op run.end);
 }
 
 pub ends_in_a_fault : (asked : Asked) (before now : Stream) (told : Status) (m : Machine)
@@ -232,31 +236,24 @@ ends_in_a_fault asked before now told m run = record {
   listed = run.listed;
   first = run.first;
   end = run.end;
-  unbroken = run.follows.unbroken;
-  faithful = lacking_of asked m run.follows.ready.sound (ap (λ (p : Program). p.image) run.follows.program);
+  unbroken = run.unbroken;
+  faithful = lacking_of asked m run.follows.sound (ap (λ (p : Program). p.image) run.follows.at.program);
 }
-
--- the machine of a run that the sink cut short
-stands_cut : (asked : Asked) (before now : Stream) (told : Status) (m : Machine)
-    → RunsUntilCut (request_of asked) before now told m → Stands asked (original_of asked m.steps) m
-stands_cut asked before now told m run =
-    stands_from (IsBoot asked.image asked.failing asked.events asked.quantum asked.slots) asked (new_flash asked.image asked.failing) 0 m.steps m (is_boot asked.image asked.failing asked.events asked.quantum asked.slots) refl (loaded_image asked.image)
-    run.state run.program run.sound run.path run.made run.quantum run.sound.bounded.moves.most run.within (omega (arith, run.pages))
 
 ran : (asked : Asked) (words : List (List ℕ)) (text : List ℕ) (exit : Exit) (status faults : ℕ) (taken : List ℕ) (call : Call words text exit status faults taken) (m : Machine) → exit.kept ≡ Some m
     → Runs (request_of asked) call.sink call.sink' exit.status m
     → Somehow call.sink call.sink' (λ sink. IsRun sink asked status taken exit.kept)
-ran asked words text exit status faults taken call m kept (Runs.Ended run) =
+ran asked words text exit status faults taken call m kept (Runs.Ended unlisted run) =
     let r = original_of asked asked.steps in
     so_then call.sink call.sink' _ (λ sink. IsRun sink asked status taken exit.kept) (λ sink told. Ended m kept (record {
       told = retold sink _ _ _ _ status taken (status_same r.end) (ended_same r asked.quantum m) told;
-      run = ends_well asked call.sink call.sink' exit.status m run;
+      run = ends_well asked call.sink call.sink' exit.status m unlisted run;
     })) (told_how words text exit status faults taken call _ _ run.said)
 ran asked words text exit status faults taken call m kept (Runs.Failed run) =
     let r = original_of asked m.steps in
     so_then call.sink call.sink' _ (λ sink. IsRun sink asked status taken exit.kept) (λ sink told. Failed m kept (record {
       op = run.op;
-      told = retold sink 9 9 _ _ status taken refl (failed_same r run.op asked.quantum m (ap (λ (s : Moment). s.now.steps) run.follows.state)) told;
+      told = retold sink 9 9 _ _ status taken refl (failed_same r run.op asked.quantum m (ap (λ (s : Moment). s.now.steps) run.follows.at.state)) told;
       run = ends_in_a_fault asked call.sink call.sink' exit.status m run;
     })) (told_how words text exit status faults taken call _ _ run.said)
 ran asked words text exit status faults taken call m kept (Runs.Cut run) = (
@@ -264,27 +261,27 @@ ran asked words text exit status faults taken call m kept (Runs.Cut run) = (
   run.rose,
   Cut m kept refl (record {
     told = retold Fails 6 6 _ _ status taken refl (lines_same (original_of asked m.steps).lines) (cut_by words text exit status faults taken call _ run.status_is run.put);
-    stands = stands_cut asked call.sink call.sink' exit.status m run;
+    stands = stands asked m.steps m run.follows run.within;
     broken = run.broken;
-    faithful = lacking_of asked m run.sound (ap (λ (p : Program). p.image) run.program);
+    faithful = lacking_of asked m run.follows.sound (ap (λ (p : Program). p.image) run.follows.at.program);
   }),
 )
 
 -- a run that is warranted, whatever asked for it
 pub run_of : (words : List (List ℕ)) (text : List ℕ) (exit : Exit) (status faults : ℕ) (taken : List ℕ) (call : Call words text exit status faults taken) (asked : Asked)
     → IsWarranted words call.source call.source' (jobs.Run (request_of asked))
-    → IsSo faults (λ sink. IsRun sink asked status taken exit.kept)
+    → IsSoThen faults (λ sink. IsRun sink asked status taken exit.kept)
 run_of words text exit status faults taken call asked warranted =
     told_by words text exit status faults taken call _ (λ sink. IsRun sink asked status taken exit.kept) warranted (λ sink told none alone. NoMemory told none)
     (λ done. ran asked words text exit status faults taken call done.0.machine done.0.kept done.0.runs)
 
 pub run_told : (words : List (List ℕ)) (text : List ℕ) (exit : Exit) (status faults : ℕ) (taken : List ℕ) (call : Call words text exit status faults taken) (asked : Asked)
-    → Asks words text asked → IsSo faults (λ sink. IsRun sink asked status taken exit.kept)
+    → Asks words text asked → IsSoThen faults (λ sink. IsRun sink asked status taken exit.kept)
 run_told words text exit status faults taken call asked asks =
     run_of words text exit status faults taken call asked
     (inl (RunCommand (options_of asked), asks.command, (text, call.told, inr (asks.input.short, Good (asked.image, asks.input.position) asks.input.hex (Good (script_of asked) asks.input.script refl)))))
 
 -- .. of a seed
 pub generated_told : (words : List (List ℕ)) (text : List ℕ) (exit : Exit) (status faults : ℕ) (taken : List ℕ) (call : Call words text exit status faults taken) (seed : ℕ)
-    → AsksGenerate words seed → IsSo faults (λ sink. IsRun sink (generated_by seed) status taken exit.kept)
+    → AsksGenerate words seed → IsSoThen faults (λ sink. IsRun sink (generated_by seed) status taken exit.kept)
 generated_told words text exit status faults taken call seed asks = run_of words text exit status faults taken call (generated_by seed) (inl (Generate seed, asks, refl))

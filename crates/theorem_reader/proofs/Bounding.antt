@@ -4,14 +4,13 @@ use Rattle.mote_core.specs.declared.mote.Mote.{Mote}
 use Rattle.branch_bridge.specs.declared.arrival.Refused.{Refused}
 use Rattle.branch_bridge.specs.declared.arrival.ArriveStop.{ArriveStop}
 use Rattle.branch_bridge.specs.declared.arrival.ArriveStop.TheVariants as refusals
-use Rattle.std.specs.Prelude.{IfSome, not}
-use Rattle.step_laws.specs.Moves.{Plain, Serve, Move, Begin, Within, Arrive, Take}
-use Rattle.step_laws.specs.Numbers.{Numbers, one_if, moved, numbered}
-use Rattle.step_laws.specs.States.{State, mote_of, end_by, settled_by, placed, with_store}
+use Rattle.step_laws.specs.Moves.{Plain, Serve, Move, Begin, Within, Arrive}
+use Rattle.step_laws.specs.Numbers.{Numbers, moved, numbered}
+use Rattle.step_laws.specs.States.{State, end_by, settled_by, placed, with_store}
 use Rattle.step_laws.specs.Walks.{Walk}
-use Rattle.program_steps.specs.Stepping.{ends_in_arrive, page_made, AreMadeAt}
-use Rattle.theorem_reader.specs.Acts.{Act, Step, Service, Arrival, Interrupt, steps_in, services_in, made_in, tried_in, interrupts_in, IsRefusal}
-use Rattle.theorem_reader.proofs.Acting.{act_of, acts_of}
+use Rattle.program_steps.specs.Stepping.{ends_in_arrive}
+use Rattle.theorem_reader.specs.Acts.{Act, Step, Service, Arrival, Interrupt, steps_in, services_in, made_in, tried_in, IsRefusal}
+use Rattle.theorem_reader.proofs.Acting.{acts_of}
 
 pub natural_of : (x : State) (moves : List Move) (z : State) (walk : Walk x moves z) (n : Numbers) → (numbered moves n).natural ≡ n.natural + steps_in (acts_of x moves z walk)
 unfolding moved
@@ -111,40 +110,3 @@ last_refuses x (Arrive target made ops ∷ []) z walk is = subst (λ (s : State)
 last_refuses x (move ∷ []) z walk is = absurd (cc)
 last_refuses x (Arrive target made ops ∷ other ∷ moves) z walk is = last_refuses walk.0 (other ∷ moves) z walk.2 is
 last_refuses x (move ∷ other ∷ moves) z walk is = last_refuses walk.0 (other ∷ moves) z walk.2 is
-
--- a page that was made was made at an address of which this holds
-made_there : (At : ℕ → Type 0) (made : Bool) (t ops ops' target : ℕ) (b a before after : Mote) → IfSome (page_made (Arrive t made ops)) At → Arrival t (one_if made) ops b a ≡ Arrival target 1 ops' before after → At target
-made_there At true t ops ops' target b a before after is same = (let e : t ≡ target = cc in subst At e is)
-made_there At false t ops ops' target b a before after is same = absurd (let e : one_if false ≡ 1 = cc in omega (arith, e))
-
-made_first : (At : ℕ → Type 0) (move : Move) (target ops : ℕ) (b a before after : Mote) → IfSome (page_made move) At → act_of move b a ≡ Arrival target 1 ops before after → At target
-made_first At (Begin line) target ops b a before after is same = absurd (cc)
-made_first At (Within (Plain line)) target ops b a before after is same = absurd (cc)
-made_first At (Within (Serve line stops)) target ops b a before after is same = absurd (cc)
-made_first At (Arrive t made o) target ops b a before after is same = made_there At made t o ops target b a before after is same
-made_first At (Take stops) target ops b a before after is same = absurd (cc)
-
-pub made_of : (At : ℕ → Type 0) (x : State) (moves : List Move) (z : State) (walk : Walk x moves z) → AreMadeAt At moves → (front back : List Act) (target ops : ℕ) (before after : Mote)
-    → acts_of x moves z walk ≡ front ++ (Arrival target 1 ops before after ∷ back) → At target
-made_of At x [] z walk made [] back target ops before after is = absurd (cc)
-made_of At x [] z walk made (act ∷ front) back target ops before after is = absurd (cc)
-made_of At x (move ∷ moves) z walk made [] back target ops before after is =
-    let first : act_of move (mote_of x) (mote_of walk.0) ≡ Arrival target 1 ops before after = cc in
-    made_first At move target ops (mote_of x) (mote_of walk.0) before after made.0 first
-made_of At x (move ∷ moves) z walk made (act ∷ front) back target ops before after is =
-    let rest : acts_of walk.0 moves z walk.2 ≡ front ++ (Arrival target 1 ops before after ∷ back) = cc in
-    made_of At walk.0 moves z walk.2 made.1 front back target ops before after rest
-
--- each step was begun by a plain one, or was an interrupt
-one_more : (b : Bool) → one_if b ≤ 1
-one_more true = omega arith
-one_more false = omega arith
-
-pub steps_of : (x : State) (moves : List Move) (z : State) (walk : Walk x moves z) (n : Numbers) → (numbered moves n).steps ≤ n.steps + steps_in (acts_of x moves z walk) + interrupts_in (acts_of x moves z walk)
-unfolding moved
-steps_of x [] z walk n = omega arith
-steps_of x (Begin line ∷ moves) z walk n = omega (arith, steps_of walk.0 moves z walk.2 (moved (Begin line) n))
-steps_of x (Within (Plain line) ∷ moves) z walk n = omega (arith, steps_of walk.0 moves z walk.2 (moved (Within (Plain line)) n))
-steps_of x (Within (Serve line stops) ∷ moves) z walk n = omega (arith, steps_of walk.0 moves z walk.2 (moved (Within (Serve line stops)) n))
-steps_of x (Arrive target made ops ∷ moves) z walk n = omega (arith, steps_of walk.0 moves z walk.2 (moved (Arrive target made ops) n))
-steps_of x (Take stops ∷ moves) z walk n = omega (arith, one_more (not stops), steps_of walk.0 moves z walk.2 (moved (Take stops) n))

@@ -10,14 +10,15 @@ use Rattle.pool_check.specs.declared.checking.Verdict.TheVariants as verdicts
 use Rattle.pool_check.proofs.CheckedLaws.{code_checked}
 use Rattle.program_steps.specs.Machines.{Machine}
 use Rattle.tkernel_cli.specs.declared.top.Exit.{Exit}
-use Rattle.tk_words.specs.Status.{number_of}
-use Rattle.tk_request.specs.CheckCommand.{verdict_status, verdict_text}
+use Rattle.cli_words.specs.Status.{number_of}
+use Rattle.printed_text.specs.Verdicts.{verdict_text}
+use Rattle.cli_requests.specs.CheckCommand.{verdict_status}
 use Rattle.theorem_reader.proofs.Checks.{Answers, Wanting, Verdicts, check_answers}
-use Rattle.tk_request.proofs.ImageLength.{few_words}
+use Rattle.cli_requests.proofs.ImageLength.{few_words}
 use Rattle.theorem_reader.specs.Pools.{pool_from}
 use Rattle.theorem_reader.specs.Checks.{AsksCheck, IsChecked, NoMemory, Faithful, Misshapen, Unlinked, used_of}
-use Rattle.theorem_reader.specs.Telling.{Sink, IsTold, IsSo}
-use Rattle.theorem_reader.proofs.Doing.{Call, Somehow, so_then, so_is, told_how}
+use Rattle.theorem_reader.specs.Telling.{Sink, IsTold}
+use Rattle.theorem_reader.proofs.Doing.{IsSoThen, Call, Somehow, so_then, so_is, told_how}
 use Rattle.theorem_reader.proofs.Pooling.{in_pool, from_pool, pool_begins}
 
 used_one : (b : Bool) (n m : ℕ) → n ≡ m → (if not b then 1 else 0) + n ≡ (if b then 0 else 1) + m
@@ -72,7 +73,7 @@ checked_how words text exit status faults taken call image flash right (Verdicts
     so_then call.sink call.sink' _ (λ sink. IsChecked sink image flash status taken exit.kept) (λ sink told. judged image flash sink verdict status taken exit.kept right is told none) (told_how words text exit status faults taken call _ _ said)
 
 pub check_told : (words : List (List ℕ)) (text : List ℕ) (exit : Exit) (status faults : ℕ) (taken : List ℕ) (call : Call words text exit status faults taken) (image flash : List ℕ)
-    → AsksCheck words text image flash → IsSo faults (λ sink. IsChecked sink image flash status taken exit.kept)
+    → AsksCheck words text image flash → IsSoThen faults (λ sink. IsChecked sink image flash status taken exit.kept)
 check_told words text exit status faults taken call image flash asks =
     so_is words text exit status faults taken call (λ sink. IsChecked sink image flash status taken exit.kept)
     (checked_how words text exit status faults taken call image flash (layout_right (length image) (few_words text image asks.position asks.hex))

@@ -7,19 +7,20 @@ use Rattle.flash_dump.specs.Dumps.{IsDump, IsNoDump}
 use Rattle.pool_check.specs.Verdicts.{IsVerdict}
 use Rattle.pool_check.specs.declared.checking.Verdict.{Verdict}
 use Rattle.flash_dump.proofs.Judgement as dumps
-use Rattle.tk_words.specs.declared.command.Command.TheVariants.{Check}
-use Rattle.tk_words.specs.declared.job.Job.{Job}
+use Rattle.cli_words.specs.declared.command.Command.TheVariants.{Check}
+use Rattle.cli_words.specs.declared.job.Job.{Job}
 use Rattle.tkernel_cli.specs.declared.top.Exit.{Exit}
-use Rattle.tk_request.specs.CheckCommand.{CheckAsks, verdict_line, verdict_status, verdict_text}
-use Rattle.tk_words.specs.Commands.{IsCommand}
-use Rattle.tk_words.specs.Printed.{no_memory}
-use Rattle.tk_request.specs.Reading.{AsksByText, IsUnread, Bad, Good, most_input}
-use Rattle.tk_words.specs.Stream.{Stream}
-use Rattle.tk_request.specs.Asking.{Asks, Tells}
-use Rattle.run_jobs.specs.Runs.{Says}
+use Rattle.cli_requests.specs.CheckCommand.{CheckAsks, verdict_line, verdict_status}
+use Rattle.printed_text.specs.Verdicts.{verdict_text}
+use Rattle.cli_words.specs.Commands.{IsCommand}
+use Rattle.cli_words.specs.Printed.{no_memory}
+use Rattle.cli_requests.specs.Reading.{AsksByText, IsUnread, Bad, Good, most_input}
+use Rattle.cli_words.specs.Stream.{Stream}
+use Rattle.cli_requests.specs.Asking.{Asks, Tells}
+use Rattle.cli_jobs.specs.Runs.{Says}
 use Rattle.tkernel_cli.specs.Answer.{Does, IsAnswer}
-use Rattle.tk_request.proofs.Reasons.{all_taken, taken_of}
-use Rattle.tk_words.proofs.OneCommand.{one_command}
+use Rattle.cli_requests.proofs.Reasons.{all_taken, taken_of}
+use Rattle.cli_words.proofs.OneCommand.{one_command}
 
 -- the line of a verdict on this flash
 record IsLine (image flash : List ℕ) (job : Job) : Type 0 where

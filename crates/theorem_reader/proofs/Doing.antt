@@ -1,18 +1,19 @@
 -- How a call comes to what it tells: by the job that its words and its text ask for.
-use Rattle.std.proofs.Common.{◌≡◌, ℕ, List, [], ◌++◌, Option, Some, None, refl, sym, ap, ◌∙◌, subst, arith, inl, inr}
+use Rattle.std.proofs.Common.{◌≡◌, ◌⊎◌, ◌≤◌, ℕ, List, [], ◌++◌, length, Option, Some, None, refl, sym, ap, ◌∙◌, subst, arith, inl, inr}
 use Rattle.std.specs.Io.KnownBytes.{Appends}
+use Rattle.tk_io.specs.Memory.{SinkState}
 use Rattle.byte_streams.specs.Faults.{Rose}
 use Rattle.byte_streams.specs.Streams.{CutShort}
-use Rattle.tk_words.specs.declared.job.Job.{Job}
-use Rattle.tk_words.specs.declared.status.Status.{Status}
-use Rattle.tk_words.specs.declared.status.Status.TheVariants as statuses
-use Rattle.tk_words.specs.Status.{number_of}
-use Rattle.tk_words.specs.Stream.{Stream}
-use Rattle.tk_request.specs.Asking.{IsWarranted, Tells}
-use Rattle.run_jobs.specs.Runs.{Says}
+use Rattle.cli_words.specs.declared.job.Job.{Job}
+use Rattle.cli_words.specs.declared.status.Status.{Status}
+use Rattle.cli_words.specs.declared.status.Status.TheVariants as statuses
+use Rattle.cli_words.specs.Status.{number_of}
+use Rattle.cli_words.specs.Stream.{Stream}
+use Rattle.cli_requests.specs.Asking.{IsWarranted, Tells}
+use Rattle.cli_jobs.specs.Runs.{Says}
 use Rattle.tkernel_cli.specs.declared.top.Exit.{Exit}
 use Rattle.tkernel_cli.specs.Answer.{Does, IsAnswer, IsExact}
-use Rattle.theorem_reader.specs.Telling.{Sink, Serves, Fails, IsFront, IsTold, IsSo}
+use Rattle.theorem_reader.specs.Telling.{Sink, Serves, Fails, IsFront, IsTold, IsRoomy, IsSo}
 use Rattle.theorem_reader.specs.Texts.{no_memory}
 
 -- The sink. -----------------------------------------------------------------------------------------------
@@ -96,20 +97,34 @@ told_how words text exit status faults taken call own whole said = elim said [
   | inr cut ↦ (Fails, cut.1, cut_by words text exit status faults taken call whole cut.0 cut.2)
 ]
 
+-- this is so of one that served, or of one that failed and counted a fault
+pub data IsSoThen (faults : ℕ) (So : Sink → Type 0) : Type 0 where
+  Served : So Serves → IsSoThen faults So
+  Failed : 1 ≤ faults → So Fails → IsSoThen faults So
+
 -- what is so of its sink
-pub so_is : (words : List (List ℕ)) (text : List ℕ) (exit : Exit) (status faults : ℕ) (taken : List ℕ) (call : Call words text exit status faults taken) (So : Sink → Type 0) → Somehow call.sink call.sink' So → IsSo faults So
-so_is words text exit status faults taken call So (Serves, went, so) = inl so
-so_is words text exit status faults taken call So (Fails, rose, so) = inr (omega (arith, call.sound, call.faults_are, rose), so)
+pub so_is : (words : List (List ℕ)) (text : List ℕ) (exit : Exit) (status faults : ℕ) (taken : List ℕ) (call : Call words text exit status faults taken) (So : Sink → Type 0) → Somehow call.sink call.sink' So → IsSoThen faults So
+so_is words text exit status faults taken call So (Serves, went, so) = Served so
+so_is words text exit status faults taken call So (Fails, rose, so) = Failed (omega (arith, call.sound, call.faults_are, rose)) so
 
 -- Its job. ------------------------------------------------------------------------------------------------
 
 -- what a call tells whose words and text ask for this job
 pub told_by : (words : List (List ℕ)) (text : List ℕ) (exit : Exit) (status faults : ℕ) (taken : List ℕ) (call : Call words text exit status faults taken) (job : Job) (So : Sink → Type 0)
     → IsWarranted words call.source call.source' job → ((sink : Sink) → IsTold sink 8 no_memory status taken → exit.kept ≡ None → exit.tasks ≡ None → So sink) → (Does job call.sink call.sink' exit → Somehow call.sink call.sink' So)
-    → IsSo faults So
+    → IsSoThen faults So
 told_by words text exit status faults taken call job So warranted wanting done =
     so_is words text exit status faults taken call So
     (elim (call.exact job warranted) [
       | inl none ↦ so_then call.sink call.sink' _ So (λ sink told. wanting sink told none.0.1 none.1) (told_how words text exit status faults taken call _ _ none.0.0)
       | inr own ↦ done own
     ])
+
+-- a sink that failed has taken as many bytes as it has room for
+is_filled : (room : ℕ) (out : SinkState) → (out.faults ≡ 0) ⊎ (length out.taken ≡ room) → 1 ≤ out.faults → length out.taken ≡ room
+is_filled room out (inl none) some = absurd (omega (arith, none, some))
+is_filled room out (inr filled) some = filled
+
+pub with_room : (room : ℕ) (out : SinkState) (So : Sink → Type 0) → IsRoomy room out → IsSoThen out.faults So → IsSo room out So
+with_room room out So roomy (Served so) = inl (roomy.most, so)
+with_room room out So roomy (Failed some so) = inr (some, is_filled room out roomy.full some, so)

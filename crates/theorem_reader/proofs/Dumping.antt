@@ -2,21 +2,21 @@
 use Rattle.std.proofs.Common.{◌≡◌, ℕ, Bool, true, false, if◌then◌else◌, List, [], ◌∷◌, ◌++◌, flat_map, refl, ap, inl, inr}
 use Rattle.std.specs.List.{range_with_len}
 use Rattle.flash_words.specs.Pages.{page_of}
-use Rattle.text_lines.specs.Written.{fed}
+use Rattle.line_reader.specs.Written.{fed}
 use Rattle.flash_dump.specs.WrittenDumps.{written, lines_of_page, page_line, is_erased}
 use Rattle.program_steps.specs.Machines.{Machine}
-use Rattle.tk_words.specs.declared.command.Command.TheVariants.{Dump}
-use Rattle.tk_words.specs.declared.job.Job.TheVariants as jobs
-use Rattle.tk_words.specs.declared.status.Status.{Status}
+use Rattle.cli_words.specs.declared.command.Command.TheVariants.{Dump}
+use Rattle.cli_words.specs.declared.job.Job.TheVariants as jobs
+use Rattle.cli_words.specs.declared.status.Status.{Status}
 use Rattle.tkernel_cli.specs.declared.top.Exit.{Exit}
-use Rattle.tk_request.specs.Reading.{Good}
-use Rattle.run_jobs.specs.Runs.{Runs}
-use Rattle.run_jobs.specs.DumpRuns.{HasDumped, silent}
+use Rattle.cli_requests.specs.Reading.{Good}
+use Rattle.cli_jobs.specs.Runs.{Runs}
+use Rattle.cli_jobs.specs.DumpRuns.{HasDumped, silent}
 use Rattle.theorem_reader.specs.Runs.{Asked, options_of}
 use Rattle.theorem_reader.specs.Dumps.{AsksDump, page_text, dump_text, HasEnded, Well, InAFault, IsDumped, NoMemory, Unwritten, Dumped}
-use Rattle.theorem_reader.specs.Telling.{Sink, IsSo}
+use Rattle.theorem_reader.specs.Telling.{Sink}
 use Rattle.theorem_reader.proofs.Answering.{script_of, request_of, ends_well, ends_in_a_fault}
-use Rattle.theorem_reader.proofs.Doing.{Call, Somehow, not_risen, so_then, retold, told_how, told_by}
+use Rattle.theorem_reader.proofs.Doing.{IsSoThen, Call, Somehow, not_risen, so_then, retold, told_how, told_by}
 
 -- one page more
 page_more : (b : Bool) (line : List ℕ) (others : List (List ℕ)) (text : List ℕ) → flat_map fed others ≡ text → flat_map fed ((if b then [] else line ∷ []) ++ others) ≡ (if b then [] else fed line) ++ text
@@ -34,7 +34,7 @@ dump_same flash = pages_same flash (range_with_len 0 512)
 
 pub has_ended : (asked : Asked) (told : Status) (m : Machine)
     → Runs (request_of asked) silent silent told m → HasEnded asked m
-has_ended asked told m (Runs.Ended run) = Well (ends_well asked silent silent told m run)
+has_ended asked told m (Runs.Ended unlisted run) = Well (ends_well asked silent silent told m unlisted run)
 has_ended asked told m (Runs.Failed run) = InAFault run.op (ends_in_a_fault asked silent silent told m run)
 has_ended asked told m (Runs.Cut run) = absurd (not_risen 0 0 refl refl run.rose)
 
@@ -49,7 +49,7 @@ dumped asked words text exit status faults taken call done =
     ]
 
 pub dump_told : (words : List (List ℕ)) (text : List ℕ) (exit : Exit) (status faults : ℕ) (taken : List ℕ) (call : Call words text exit status faults taken) (asked : Asked)
-    → AsksDump words text asked → IsSo faults (λ sink. IsDumped sink asked status taken exit.kept)
+    → AsksDump words text asked → IsSoThen faults (λ sink. IsDumped sink asked status taken exit.kept)
 dump_told words text exit status faults taken call asked asks =
     told_by words text exit status faults taken call (jobs.Dump (request_of asked)) (λ sink. IsDumped sink asked status taken exit.kept)
     (inl (Dump (options_of asked), asks.command, (text, call.told, inr (asks.input.short, Good (asked.image, asks.input.position) asks.input.hex (Good (script_of asked) asks.input.script refl)))))

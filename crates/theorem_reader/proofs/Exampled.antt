@@ -1,5 +1,5 @@
 -- The words and the text of the example ask for it.
-use Rattle.std.proofs.Common.{◌≡◌, ℕ, zero, suc, List, [], ◌∷◌, codes, drop, refl, sym, ap, arith, inl, inr}
+use Rattle.std.proofs.Common.{◌≡◌, ℕ, zero, suc, List, [], ◌∷◌, codes, refl, arith, inl, inr}
 use Rattle.std.specs.Prelude.{All, ◌≤◌, Some, slice_index_or, slice_set}
 use Rattle.std.specs.List.{enumerate_from}
 use Rattle.hex.proofs.OnLiterals.{hex_on_literals}
@@ -7,19 +7,19 @@ use Rattle.hex_image.specs.Lines.{bytes_at}
 use Rattle.hex_image.specs.HexText.{HexText, IsBeforeEnd}
 use Rattle.hex_image.proofs.GrammarLemmas.{AreSound, sound_row}
 use Rattle.input_script.proofs.WorkedLines.{three_lines}
-use Rattle.tk_words.proofs.WorkedWords.{with_options}
+use Rattle.cli_words.proofs.WorkedWords.{chosen, rest, said, values_are, with_options}
 use Rattle.base_laws.specs.Lists.{many}
 use Rattle.input_script.specs.Script.{Accepts, nothing}
 use Rattle.pool_check.proofs.CheckedLaws.{outside}
 use Rattle.task_input.specs.Images.{IsMisplaced, IsApart}
 use Rattle.task_input.specs.Scripts.{Schedules}
-use Rattle.tk_words.specs.declared.command.Command.TheVariants.{Dump, Restart, Tasks, Check, Generate}
-use Rattle.tk_words.specs.Commands.{IsCommand, command_name}
-use Rattle.tk_words.specs.Options.{tasks_rows}
-use Rattle.tk_words.specs.Options as options
+use Rattle.cli_words.specs.declared.command.Command.TheVariants.{Dump, Restart, Tasks, Check, Generate}
+use Rattle.cli_words.specs.Commands.{IsCommand, tasks_numbers}
+use Rattle.cli_words.specs.Options.{AreValues, seed_rows, tasks_rows}
+use Rattle.cli_words.specs.Options as options
 use Rattle.theorem_reader.specs.Checks.{AsksCheck}
 use Rattle.theorem_reader.specs.Dumps.{AsksDump}
-use Rattle.theorem_reader.specs.Examples.{example_of_tasks, erased}
+use Rattle.theorem_reader.specs.Examples.{example_of_tasks, words_of_tasks, erased}
 use Rattle.theorem_reader.specs.Restarts.{AsksRestart}
 use Rattle.theorem_reader.specs.Tasks.{AsksTasks, tasks_options_of}
 use Rattle.theorem_reader.specs.Runs.{Asks, AsksGenerate, IsTextOf, example, options_of}
@@ -32,10 +32,10 @@ text = codes ":060000000FE00BBBFFCF77\n:00000001FF\nat 22 uart 0x41\nfail flash 
 abbrev bytes : List ℕ
 bytes = 0x0F ∷ 0xE0 ∷ 0x0B ∷ 0xBB ∷ 0xFF ∷ 0xCF ∷ []
 
-sound : AreSound (enumerate_from 0 bytes)
+pub sound : AreSound (enumerate_from 0 bytes)
 sound = sound_row 0 bytes (omega arith)
 
-before_end : All IsBeforeEnd (bytes_at 0 bytes ∷ [])
+pub before_end : All IsBeforeEnd (bytes_at 0 bytes ∷ [])
 before_end zero d below = omega arith
 before_end (suc k) d below = absurd (omega (arith, below))
 
@@ -49,18 +49,11 @@ in_text = record { position = 36; hex = hex; script = three_lines; short = omega
 
 -- The options, and what a command that takes them is then. ------------------------------------------------
 
-abbrev rest : List (List ℕ)
-rest = codes "--steps" ∷ codes "100" ∷ codes "--quantum=7" ∷ codes "--swap" ∷ codes "0" ∷ []
-
--- the options, as the crate `tk_words` reads them behind `run`
-behind_run : with_options.rest ≡ rest
-behind_run = let whole : codes "run" ∷ rest ≡ codes "run" ∷ with_options.rest = with_options.first in sym (ap (λ (words : List (List ℕ)). drop 1 words) whole)
-
 dumps : IsCommand (codes "dump" ∷ rest) (Dump (options_of example))
-dumps = record { rest = with_options.rest; first = ap (λ r. codes "dump" ∷ r) (sym behind_run); chosen = with_options.chosen; said = with_options.said; values_are = with_options.values_are }
+dumps = (chosen, said, (options_of example, values_are, refl))
 
 restarts : IsCommand (codes "restart" ∷ rest) (Restart (options_of example))
-restarts = record { rest = with_options.rest; first = ap (λ r. codes "restart" ∷ r) (sym behind_run); chosen = with_options.chosen; said = with_options.said; values_are = with_options.values_are }
+restarts = (chosen, said, (options_of example, values_are, refl))
 
 -- the words of the call, whose first is a command
 pub record AreWords (command : List ℕ) (words : List (List ℕ)) (bytes : List ℕ) : Type 0 where
@@ -93,35 +86,36 @@ abbrev head : {A : Type 0} → (list : List A) → (list ≡ [] → ⊥) → A
 head [] some = absurd (some refl)
 head (x ∷ list) some = x
 
-tasks_command : IsCommand (codes "tasks" ∷ codes "--tasks" ∷ codes "1" ∷ []) (Tasks (tasks_options_of example_of_tasks))
-tasks_command = record {
-  rest = codes "--tasks" ∷ codes "1" ∷ [];
-  first = refl;
-  chosen = slice_set options.nothing 4 (Some 1);
-  said = (
-    record { parameter = (head tasks_rows (λ e. cc)).parameter; value = 1 } ∷ [],
-    ([], record { digits = codes "1"; written = inl refl; number = record { digits = (omega arith, tt); some = omega arith; most = omega arith; value = refl }; has = refl }, refl, (refl, refl)),
-  );
-  values_are = (
-    1,
-    1000000 ∷ 255 ∷ 32 ∷ [],
+tasks_values : AreValues tasks_rows (slice_set options.nothing 4 (Some 1)) (tasks_numbers (tasks_options_of example_of_tasks))
+tasks_values = (
+  1,
+  1000000 ∷ 255 ∷ 32 ∷ [],
+  refl,
+  record { is = refl; least = omega arith; most = omega arith },
+  (
+    1000000,
+    255 ∷ 32 ∷ [],
     refl,
     record { is = refl; least = omega arith; most = omega arith },
     (
-      1000000,
-      255 ∷ 32 ∷ [],
+      255,
+      32 ∷ [],
       refl,
       record { is = refl; least = omega arith; most = omega arith },
-      (
-        255,
-        32 ∷ [],
-        refl,
-        record { is = refl; least = omega arith; most = omega arith },
-        (32, [], refl, record { is = refl; least = omega arith; most = omega arith }, refl),
-      ),
+      (32, [], refl, record { is = refl; least = omega arith; most = omega arith }, refl),
     ),
-  );
-}
+  ),
+)
+
+pub tasks_command : IsCommand (codes "tasks" ∷ codes "--tasks" ∷ codes "1" ∷ []) (Tasks (tasks_options_of example_of_tasks))
+tasks_command = (
+  slice_set options.nothing 4 (Some 1),
+  (
+    record { parameter = (head tasks_rows (λ e. cc)).parameter; value = 1 } ∷ [],
+    ([], record { digits = codes "1"; written = inl refl; number = record { digits = (omega arith, tt); some = omega arith; most = omega arith; value = refl }; has = refl }, refl, (refl, refl)),
+  ),
+  (tasks_options_of example_of_tasks, tasks_values, refl),
+)
 
 far : (a : ℕ) → IsApart 1 a → 3 ≤ a
 far a (inl behind) = omega (arith, behind)
@@ -135,31 +129,37 @@ no_events : (task : ℕ) → Accepts [] (slice_index_or (nothing ∷ []) task no
 no_events zero = no_script
 no_events (suc k) = no_script
 
-schedules : Schedules 1 [] (nothing ∷ [])
+pub schedules : Schedules 1 [] (nothing ∷ [])
 schedules = record { forms = λ k d below. absurd (omega (arith, below)); each_task = refl; read = λ task below. no_events task }
 
-pub asks_tasks : (a b c bytes : List ℕ) → a ≡ codes "tasks" → b ≡ codes "--tasks" → c ≡ codes "1" → bytes ≡ hex_text → AsksTasks (a ∷ b ∷ c ∷ []) bytes example_of_tasks
-asks_tasks a b c bytes first second third same = rw (first, second, third, same)
-    (record { command = tasks_command; position = 36; hex = hex_alone; scripts = schedules; placed = placed; short = omega arith })
+pub asks_tasks : AsksTasks words_of_tasks hex_text example_of_tasks
+asks_tasks = record { command = tasks_command; position = 36; hex = hex_alone; scripts = schedules; placed = placed; short = omega arith }
 
-check_command : IsCommand (codes "check" ∷ []) Check
-check_command = record { rest = []; first = refl; chosen = options.nothing; said = ([], (refl, refl)); values_are = refl }
+pub words_are : (a b c : List ℕ) → a ≡ codes "tasks" → b ≡ codes "--tasks" → c ≡ codes "1" → a ∷ b ∷ c ∷ [] ≡ words_of_tasks
+words_are a b c first second third = rw (first, second, third) refl
+
+pub check_command : IsCommand (codes "check" ∷ []) Check
+check_command = (options.nothing, ([], (refl, refl)), refl)
 
 pub asks_check : AsksCheck (codes "check" ∷ []) hex_text example.image erased
 unfolding many
 asks_check = record { command = check_command; position = 36; hex = hex_alone; dump = record { sound = tt; words_are = refl }; short = omega arith }
 
-generate_command : IsCommand (codes "generate" ∷ codes "7" ∷ []) (Generate 7)
-generate_command = record {
-  rest = codes "7" ∷ [];
-  first = refl;
-  chosen = slice_set options.nothing 0 (Some 7);
-  said = (
-    record { parameter = (head (options.rows_of (command_name (Generate 7))) (λ e. cc)).parameter; value = 7 } ∷ [],
-    ([], record { digits = codes "7"; written = refl; number = record { digits = (omega arith, tt); some = omega arith; most = omega arith; value = refl }; has = refl }, refl, (refl, refl)),
-  );
-  values_are = (7, [], refl, record { is = refl; least = omega arith; most = omega arith }, refl);
-}
+abbrev pub words_of_generate : List (List ℕ)
+words_of_generate = codes "generate" ∷ codes "7" ∷ []
 
-pub asks_generate : (a b : List ℕ) → a ≡ codes "generate" → b ≡ codes "7" → AsksGenerate (a ∷ b ∷ []) 7
-asks_generate a b first second = rw (first, second) generate_command
+generate_command : IsCommand words_of_generate (Generate 7)
+generate_command = (
+  slice_set options.nothing 0 (Some 7),
+  (
+    record { parameter = (head seed_rows (λ e. cc)).parameter; value = 7 } ∷ [],
+    ([], record { digits = codes "7"; written = refl; number = record { digits = (omega arith, tt); some = omega arith; most = omega arith; value = refl }; has = refl }, refl, (refl, refl)),
+  ),
+  (7, (7, [], refl, record { is = refl; least = omega arith; most = omega arith }, refl), refl),
+)
+
+pub asks_generate : AsksGenerate words_of_generate 7
+asks_generate = generate_command
+
+pub words_to_generate : (a b : List ℕ) → a ≡ codes "generate" → b ≡ codes "7" → a ∷ b ∷ [] ≡ words_of_generate
+words_to_generate a b first second = rw (first, second) refl

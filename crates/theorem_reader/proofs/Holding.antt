@@ -5,7 +5,7 @@ use Rattle.sram_layout.specs.Bytes.{byte_at}
 use Rattle.swap_store.specs.Slots.{page_in}
 use Rattle.mote_core.specs.declared.mote.Mote.{Mote}
 use Rattle.std.proofs.lemmas.Bool.{false_from_ne_true}
-use Rattle.heap_frames.specs.Addresses.{is_heap}
+use Rattle.flat_machine.specs.Addresses.{is_heap}
 use Rattle.heap_frames.specs.Frames.{frame_of, holds}
 use Rattle.heap_frames.specs.Memory.{vmem, heap_byte}
 use Rattle.heap_frames.specs.Paged.{IsPaged}

@@ -5,12 +5,14 @@ pub mod Linking
 pub mod Acting
 pub mod Bounding
 pub mod Holding
+pub mod Stepwise
 pub mod SameTexts
 pub mod Doing
 pub mod Answering
 pub mod Plainly
 pub mod Exampled
 pub mod Sourced
+pub mod Refused
 mod Checks
 pub mod Checking
 pub mod Dumping

@@ -5,43 +5,21 @@ use Rattle.std.proofs.lemmas.List.{length_push, length-take}
 use Rattle.std.proofs.lemmas.List.FromFn.{length-range_with_len, length-map-range_with_len}
 use Rattle.hex.specs.Hex.{upper_digits}
 use Rattle.hex.proofs.HexLemmas.{length-encode_with}
-use Rattle.text_lines.specs.Written.{fed}
+use Rattle.line_reader.specs.Written.{fed}
 use Rattle.hex_image.specs.Places.{cells_of, extent, word_of_cells}
 use Rattle.hex_image.proofs.GrammarLemmas.{extent-small}
 use Rattle.hex_image.specs.Written.{bytes_of_words, checksum_of, fields_of, record_bytes, record_line, record_content, data_line, record_count, written}
 use Rattle.hex_image.specs.HexText.{HexText, meanings_of}
-use Rattle.input_script.specs.Script.{IsScript, nothing}
-use Rattle.tk_words.specs.declared.command.Command.TheVariants.{Run as RunCommand}
-use Rattle.tk_words.specs.Commands.{IsCommand}
-use Rattle.tk_words.specs.Options as options
+use Rattle.input_script.specs.Script.{IsScript, nothing as no_events}
+use Rattle.cli_words.specs.declared.command.Command.TheVariants.{Run as RunCommand}
+use Rattle.cli_words.specs.Commands.{IsCommand}
+use Rattle.cli_words.proofs.WorkedWords.{without_options}
 use Rattle.std.specs.Prelude.{Result, Ok, Err, IfOk}
 use Rattle.no_memory.specs.declared.NoMemory.{NoMemory}
-use Rattle.theorem_reader.specs.declared.reader.Told.{Told}
 use Rattle.theorem_reader.specs.Runs.{Asks, options_of, plainly}
 
-pub no_script : IsScript [] nothing
+pub no_script : IsScript [] no_events
 no_script = record { spelled = refl; in_order = record { ordered = λ i j d less below. absurd (omega (arith, below)); in_range = λ k d below. absurd (omega (arith, below)); failing_ordered = λ i j d less below. absurd (omega (arith, below)); failing_in_range = λ k d below. absurd (omega (arith, below)); few = omega arith } }
-
-pub the_word : IsCommand (codes "run" ∷ []) (RunCommand (options_of (plainly [])))
-the_word = record {
-  rest = [];
-  first = refl;
-  chosen = options.nothing;
-  said = ([], (refl, refl));
-  values_are = (
-    1000000,
-    255 ∷ 128 ∷ [],
-    refl,
-    record { is = refl; least = omega arith; most = omega arith },
-    (
-      255,
-      128 ∷ [],
-      refl,
-      record { is = refl; least = omega arith; most = omega arith },
-      (128, [], refl, record { is = refl; least = omega arith; most = omega arith }, refl),
-    ),
-  );
-}
 
 nothing_behind : (text : List ℕ) → drop (length text) text ≡ []
 nothing_behind [] = refl
@@ -49,26 +27,26 @@ nothing_behind (byte ∷ text) = nothing_behind text
 
 pub asks_plainly : (words : List (List ℕ)) (image text : List ℕ) → words ≡ codes "run" ∷ [] → HexText text image (length text) → length text ≤ 2097152 → Asks words text (plainly image)
 asks_plainly words image text is hex short = record {
-  command = subst (λ w. IsCommand w (RunCommand (options_of (plainly image)))) (sym is) the_word;
+  command = subst (λ w. IsCommand w (RunCommand (options_of (plainly image)))) (sym is) without_options;
   input = record {
     position = length text;
     hex = hex;
-    script = subst (λ t. IsScript t nothing) (sym (nothing_behind text)) no_script;
+    script = subst (λ t. IsScript t no_events) (sym (nothing_behind text)) no_script;
     short = short;
   };
 }
 
 -- what is so of one that was asked, whatever it is
-pub told_as : {Q : Type 0} (result : Result Told NoMemory) (Asks : Q → Type 0) (So : Q → Told → Type 0) (one : Q) → Asks one
+pub told_as : {Q T : Type 0} (result : Result T NoMemory) (Asks : Q → Type 0) (So : Q → T → Type 0) (one : Q) → Asks one
     → IfOk result (λ told. (asked : Q) → Asks asked → So asked told) → IfOk result (λ told. So one told)
 told_as (Ok told) Asks So one asks all = all one asks
 told_as (Err none) Asks So one asks all = all
 
 -- and of the same words and text
-pub told_at : (result : Result Told NoMemory) (So : List (List ℕ) → List ℕ → Told → Type 0) (words words' : List (List ℕ)) (text text' : List ℕ) → words ≡ words' → text ≡ text' → IfOk result (So words text) → IfOk result (So words' text')
+pub told_at : {T : Type 0} (result : Result T NoMemory) (So : List (List ℕ) → List ℕ → T → Type 0) (words words' : List (List ℕ)) (text text' : List ℕ) → words ≡ words' → text ≡ text' → IfOk result (So words text) → IfOk result (So words' text')
 told_at result So words words' text text' same same' all = subst (λ w. IfOk result (So w text')) same (subst (λ t. IfOk result (So words t)) same' all)
 
-pub told_pair : {P Q : Type 0} (result : Result Told NoMemory) (Asks : P → Q → Type 0) (So : P → Q → Told → Type 0) (first : P) (second : Q) → Asks first second
+pub told_pair : {P Q T : Type 0} (result : Result T NoMemory) (Asks : P → Q → Type 0) (So : P → Q → T → Type 0) (first : P) (second : Q) → Asks first second
     → IfOk result (λ told. (p : P) (q : Q) → Asks p q → So p q told) → IfOk result (λ told. So first second told)
 told_pair (Ok told) Asks So first second asks all = all first second asks
 told_pair (Err none) Asks So first second asks all = all

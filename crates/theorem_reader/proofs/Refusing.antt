@@ -1,65 +1,27 @@
 -- What is told of words and texts that are refused, and what `asm` writes.
-use Rattle.std.proofs.Common.{◌≡◌, ℕ, ◌<◌, ◌≤◌, List, ◌++◌, codes, length, drop, None, refl, sym, ap, ◌∙◌, subst, inl, inr}
+use Rattle.std.proofs.Common.{◌≡◌, ℕ, ◌<◌, ◌≤◌, List, ◌++◌, codes, length, drop, None, refl, sym, ◌∙◌, subst, inl, inr}
 use Rattle.hex_image.specs.HexText.{HexText, HexBad}
 use Rattle.hex_image.specs.Written.{written}
 use Rattle.input_script.specs.Script.{IsBad}
 use Rattle.hex_image.specs.declared.fault.HexFault.{HexFault}
-use Rattle.hex_image.specs.declared.fault.HexFault.TheVariants as hex_faults
 use Rattle.input_script.specs.declared.fault.ScriptFault.{ScriptFault}
-use Rattle.input_script.specs.declared.fault.ScriptFault.TheVariants as script_faults
 use Rattle.flash_dump.specs.declared.dump_line.DumpFault.{DumpFault}
-use Rattle.flash_dump.specs.declared.dump_line.DumpFault.TheVariants as dump_faults
 use Rattle.avr_asm.specs.declared.fault.AsmFault.{AsmFault}
-use Rattle.avr_asm.specs.declared.fault.AsmFault.TheVariants as asm_faults
-use Rattle.tk_words.specs.declared.command.Command.TheVariants.{Help, Run, Dump, Restart, Tasks, Check, Asm}
-use Rattle.tk_words.specs.declared.job.Job.TheVariants as jobs
-use Rattle.tk_words.specs.declared.status.Status.{Status}
-use Rattle.tk_words.specs.declared.status.Status.TheVariants as statuses
-use Rattle.tk_words.specs.Printed.{bad_line_text, hex_word as hex_told, script_word as script_told}
-use Rattle.tk_words.specs.Status.{number_of}
-use Rattle.tk_words.specs.Stream.{Stream}
-use Rattle.tk_request.specs.Asking.{Tells, IsWarranted}
-use Rattle.tk_request.specs.AsmCommand.{asm_word as asm_told}
-use Rattle.tk_request.specs.CheckCommand.{dump_word as dump_told_of}
-use Rattle.tk_request.specs.Reading.{Bad, Good}
-use Rattle.tk_request.specs.TasksCommand.{bad_image_text, Refused}
-use Rattle.run_jobs.specs.Runs.{Says}
+use Rattle.cli_words.specs.declared.command.Command.TheVariants.{Help, Run, Dump, Restart, Tasks, Check, Asm}
+use Rattle.cli_words.specs.declared.job.Job.TheVariants as jobs
+use Rattle.cli_words.specs.declared.status.Status.{Status}
+use Rattle.cli_words.specs.declared.status.Status.TheVariants as statuses
+use Rattle.printed_text.specs.FaultyLines.{bad_image_text, bad_line_text, hex_word, script_word, dump_word, asm_word}
+use Rattle.cli_words.specs.Status.{number_of}
+use Rattle.cli_words.specs.Stream.{Stream}
+use Rattle.cli_requests.specs.Asking.{Tells, IsWarranted}
+use Rattle.cli_requests.specs.Reading.{Bad, Good}
+use Rattle.cli_requests.specs.TasksCommand.{Refused}
+use Rattle.cli_jobs.specs.Runs.{Says}
 use Rattle.tkernel_cli.specs.declared.top.Exit.{Exit}
-use Rattle.theorem_reader.specs.Refusals.{ReadsScript, Runs, Dumps, Restarts, ReadsHex, Scripted, Several, Checks, ReadsText, Program, Source, hex_word, script_word, dump_word, asm_word, bad_line, IsRefused, Helped, Unknown, TooLong, BadHex, BadScript, BadScripts, BadImage, BadDump, BadSource, IsSaid, NoMemory, Said, AsksAsm, IsAssembled}
-use Rattle.theorem_reader.specs.Telling.{IsSo}
+use Rattle.theorem_reader.specs.Refusals.{ReadsScript, Runs, Dumps, Restarts, ReadsHex, Scripted, Several, Checks, ReadsText, Program, Source, bad_line, IsRefused, Helped, Unknown, TooLong, BadHex, BadScript, BadScripts, BadImage, BadDump, BadSource, IsSaid, NoMemory, Said, AsksAsm, IsAssembled}
 use Rattle.theorem_reader.specs.Texts.{address}
-use Rattle.theorem_reader.proofs.Doing.{Call, Somehow, so_then, told_how, told_by}
-
-hex_same : (fault : HexFault) → hex_told fault ≡ hex_word fault
-hex_same hex_faults.Start = refl
-hex_same hex_faults.Digit = refl
-hex_same hex_faults.Length = refl
-hex_same hex_faults.Checksum = refl
-hex_same hex_faults.Kind = refl
-hex_same hex_faults.Wrap = refl
-hex_same hex_faults.Twice = refl
-hex_same hex_faults.TooLarge = refl
-hex_same hex_faults.NoEnd = refl
-
-script_same : (fault : ScriptFault) → script_told fault ≡ script_word fault
-script_same script_faults.Form = refl
-script_same script_faults.Order = refl
-script_same script_faults.Range = refl
-script_same script_faults.TooMany = refl
-
-dump_word_same : (fault : DumpFault) → dump_told_of fault ≡ dump_word fault
-dump_word_same dump_faults.Form = refl
-dump_word_same dump_faults.Order = refl
-dump_word_same dump_faults.Range = refl
-
-asm_same : (fault : AsmFault) → asm_told fault ≡ asm_word fault
-asm_same asm_faults.Form = refl
-asm_same asm_faults.Mnemonic = refl
-asm_same asm_faults.Range = refl
-asm_same asm_faults.Twice = refl
-asm_same asm_faults.TooLarge = refl
-asm_same asm_faults.Label = refl
-asm_same asm_faults.Reach = refl
+use Rattle.theorem_reader.proofs.Doing.{IsSoThen, Call, Somehow, so_then, told_how, told_by}
 
 -- a line that is warranted
 record Warrants (words : List (List ℕ)) (source source' : Stream) (own : ℕ) (line : List ℕ) : Type 0 where
@@ -70,18 +32,18 @@ record Warrants (words : List (List ℕ)) (source source' : Stream) (own : ℕ) 
   line_is : items ≡ line
 
 bad_hex : (words : List (List ℕ)) (source source' : Stream) (text : List ℕ) (number : ℕ) (fault : HexFault) → Tells source source' text → length text ≤ 2097152 → HexBad text number fault → ReadsHex words
-    → IsWarranted words source source' (jobs.Print statuses.BadInput (record { items = bad_line_text (codes "bad hex line ") number (hex_told fault) }))
-bad_hex words source source' text number fault tells short bad (Scripted (Runs options is)) = inl (Run options, is, (text, tells, inr (short, Bad number (hex_told fault) (fault, bad, refl) refl)))
-bad_hex words source source' text number fault tells short bad (Scripted (Dumps options is)) = inl (Dump options, is, (text, tells, inr (short, Bad number (hex_told fault) (fault, bad, refl) refl)))
-bad_hex words source source' text number fault tells short bad (Scripted (Restarts options is)) = inl (Restart options, is, (text, tells, inr (short, Bad number (hex_told fault) (fault, bad, refl) refl)))
-bad_hex words source source' text number fault tells short bad (Several options is) = inl (Tasks options, is, (text, tells, inr (short, Bad number (hex_told fault) (fault, bad, refl) refl)))
-bad_hex words source source' text number fault tells short bad (Checks is) = inl (Check, is, (text, tells, inr (short, Bad number (hex_told fault) (fault, bad, refl) refl)))
+    → IsWarranted words source source' (jobs.Print statuses.BadInput (record { items = bad_line_text (codes "bad hex line ") number (hex_word fault) }))
+bad_hex words source source' text number fault tells short bad (Scripted (Runs options is)) = inl (Run options, is, (text, tells, inr (short, Bad number (hex_word fault) (fault, bad, refl) refl)))
+bad_hex words source source' text number fault tells short bad (Scripted (Dumps options is)) = inl (Dump options, is, (text, tells, inr (short, Bad number (hex_word fault) (fault, bad, refl) refl)))
+bad_hex words source source' text number fault tells short bad (Scripted (Restarts options is)) = inl (Restart options, is, (text, tells, inr (short, Bad number (hex_word fault) (fault, bad, refl) refl)))
+bad_hex words source source' text number fault tells short bad (Several options is) = inl (Tasks options, is, (text, tells, inr (short, Bad number (hex_word fault) (fault, bad, refl) refl)))
+bad_hex words source source' text number fault tells short bad (Checks is) = inl (Check, is, (text, tells, inr (short, Bad number (hex_word fault) (fault, bad, refl) refl)))
 
 bad_script : (words : List (List ℕ)) (source source' : Stream) (text image : List ℕ) (position number : ℕ) (fault : ScriptFault) → Tells source source' text → length text ≤ 2097152 → HexText text image position → IsBad (drop position text) number fault → ReadsScript words
-    → IsWarranted words source source' (jobs.Print statuses.BadInput (record { items = bad_line_text (codes "bad script line ") number (script_told fault) }))
-bad_script words source source' text image position number fault tells short hex bad (Runs options is) = inl (Run options, is, (text, tells, inr (short, Good (image, position) hex (Bad number (script_told fault) (fault, bad, refl) refl))))
-bad_script words source source' text image position number fault tells short hex bad (Dumps options is) = inl (Dump options, is, (text, tells, inr (short, Good (image, position) hex (Bad number (script_told fault) (fault, bad, refl) refl))))
-bad_script words source source' text image position number fault tells short hex bad (Restarts options is) = inl (Restart options, is, (text, tells, inr (short, Good (image, position) hex (Bad number (script_told fault) (fault, bad, refl) refl))))
+    → IsWarranted words source source' (jobs.Print statuses.BadInput (record { items = bad_line_text (codes "bad script line ") number (script_word fault) }))
+bad_script words source source' text image position number fault tells short hex bad (Runs options is) = inl (Run options, is, (text, tells, inr (short, Good (image, position) hex (Bad number (script_word fault) (fault, bad, refl) refl))))
+bad_script words source source' text image position number fault tells short hex bad (Dumps options is) = inl (Dump options, is, (text, tells, inr (short, Good (image, position) hex (Bad number (script_word fault) (fault, bad, refl) refl))))
+bad_script words source source' text image position number fault tells short hex bad (Restarts options is) = inl (Restart options, is, (text, tells, inr (short, Good (image, position) hex (Bad number (script_word fault) (fault, bad, refl) refl))))
 
 too_long : (words : List (List ℕ)) (source source' : Stream) (text : List ℕ) → Tells source source' text → 2097152 < length text → ReadsText words
     → IsWarranted words source source' (jobs.Print statuses.BadInput (record { items = codes "input too long\n" }))
@@ -93,25 +55,25 @@ too_long words source source' text tells long (Program (Checks is)) = inl (Check
 too_long words source source' text tells long (Source is) = inl (Asm, is, (text, tells, inl (long, refl)))
 
 -- the texts of faulty lines
-hex_line : (number : ℕ) (fault : HexFault) → bad_line_text (codes "bad hex line ") number (hex_told fault) ≡ bad_line (codes "hex") number (hex_word fault)
+hex_line : (number : ℕ) (fault : HexFault) → bad_line_text (codes "bad hex line ") number (hex_word fault) ≡ bad_line (codes "hex") number (hex_word fault)
 unfolding bad_line_text
-hex_line number fault = ap (bad_line (codes "hex") number) (hex_same fault)
+hex_line number fault = refl
 
-script_line : (number : ℕ) (fault : ScriptFault) → bad_line_text (codes "bad script line ") number (script_told fault) ≡ bad_line (codes "script") number (script_word fault)
+script_line : (number : ℕ) (fault : ScriptFault) → bad_line_text (codes "bad script line ") number (script_word fault) ≡ bad_line (codes "script") number (script_word fault)
 unfolding bad_line_text
-script_line number fault = ap (bad_line (codes "script") number) (script_same fault)
+script_line number fault = refl
 
-dump_line : (number : ℕ) (fault : DumpFault) → bad_line_text (codes "bad dump line ") number (dump_told_of fault) ≡ bad_line (codes "dump") number (dump_word fault)
+dump_line : (number : ℕ) (fault : DumpFault) → bad_line_text (codes "bad dump line ") number (dump_word fault) ≡ bad_line (codes "dump") number (dump_word fault)
 unfolding bad_line_text
-dump_line number fault = ap (bad_line (codes "dump") number) (dump_word_same fault)
+dump_line number fault = refl
 
 image_line : (a : ℕ) → bad_image_text a ≡ codes "bad task image " ++ address a ++ codes "\n"
 unfolding bad_image_text
 image_line a = refl
 
-asm_line : (number : ℕ) (fault : AsmFault) → bad_line_text (codes "bad asm line ") number (asm_told fault) ≡ bad_line (codes "asm") number (asm_word fault)
+asm_line : (number : ℕ) (fault : AsmFault) → bad_line_text (codes "bad asm line ") number (asm_word fault) ≡ bad_line (codes "asm") number (asm_word fault)
 unfolding bad_line_text
-asm_line number fault = ap (bad_line (codes "asm") number) (asm_same fault)
+asm_line number fault = refl
 
 warrants : (words : List (List ℕ)) (source source' : Stream) (text : List ℕ) (own : ℕ) (line : List ℕ) → Tells source source' text → IsRefused words text own line → Warrants words source source' own line
 warrants words source source' text own line tells (Helped is own_is line_is) =
@@ -125,13 +87,13 @@ warrants words source source' text own line tells (BadHex reads short number fau
 warrants words source source' text own line tells (BadScript reads short image position hex number fault bad own_is line_is) =
     record { status = statuses.BadInput; items = _; warranted = bad_script words source source' text image position number fault tells short hex bad reads; status_is = sym own_is; line_is = script_line number fault ∙ sym line_is }
 warrants words source source' text own line tells (BadScripts options is short image position hex number fault bad own_is line_is) =
-    record { status = statuses.BadInput; items = _; warranted = inl (Tasks options, is, (text, tells, inr (short, Good (image, position) hex (Bad number (script_told fault) (fault, bad, refl) refl)))); status_is = sym own_is; line_is = script_line number fault ∙ sym line_is }
+    record { status = statuses.BadInput; items = _; warranted = inl (Tasks options, is, (text, tells, inr (short, Good (image, position) hex (Bad number (script_word fault) (fault, bad, refl) refl)))); status_is = sym own_is; line_is = script_line number fault ∙ sym line_is }
 warrants words source source' text own line tells (BadImage options is short image position hex scripts scheduled a first own_is line_is) =
     record { status = statuses.BadInput; items = _; warranted = inl (Tasks options, is, (text, tells, inr (short, Good (image, position) hex (Good scripts scheduled (Refused a first refl))))); status_is = sym own_is; line_is = image_line a ∙ sym line_is }
 warrants words source source' text own line tells (BadDump is short image position hex number fault bad own_is line_is) =
-    record { status = statuses.BadInput; items = _; warranted = inl (Check, is, (text, tells, inr (short, Good (image, position) hex (Bad number (dump_told_of fault) (fault, bad, refl) refl)))); status_is = sym own_is; line_is = dump_line number fault ∙ sym line_is }
+    record { status = statuses.BadInput; items = _; warranted = inl (Check, is, (text, tells, inr (short, Good (image, position) hex (Bad number (dump_word fault) (fault, bad, refl) refl)))); status_is = sym own_is; line_is = dump_line number fault ∙ sym line_is }
 warrants words source source' text own line tells (BadSource is short number fault bad own_is line_is) =
-    record { status = statuses.BadInput; items = _; warranted = inl (Asm, is, (text, tells, inr (short, Bad number (asm_told fault) (fault, bad, refl) refl))); status_is = sym own_is; line_is = asm_line number fault ∙ sym line_is }
+    record { status = statuses.BadInput; items = _; warranted = inl (Asm, is, (text, tells, inr (short, Bad number (asm_word fault) (fault, bad, refl) refl))); status_is = sym own_is; line_is = asm_line number fault ∙ sym line_is }
 
 -- a text that is told, and no machine
 said_how : (words : List (List ℕ)) (text : List ℕ) (exit : Exit) (status faults : ℕ) (taken : List ℕ) (call : Call words text exit status faults taken) (own : Status) (whole : List ℕ) → Says own whole call.sink call.sink' exit.status → exit.kept ≡ None
@@ -140,16 +102,16 @@ said_how words text exit status faults taken call own whole said none =
     so_then call.sink call.sink' _ (λ sink. IsSaid sink (number_of own) whole status taken exit.kept) (λ sink told. Said told none) (told_how words text exit status faults taken call own whole said)
 
 pub refused_told : (words : List (List ℕ)) (text : List ℕ) (exit : Exit) (status faults : ℕ) (taken : List ℕ) (call : Call words text exit status faults taken) (own : ℕ) (line : List ℕ)
-    → IsRefused words text own line → IsSo faults (λ sink. IsSaid sink own line status taken exit.kept)
+    → IsRefused words text own line → IsSoThen faults (λ sink. IsSaid sink own line status taken exit.kept)
 refused_told words text exit status faults taken call own line refused =
     let w = warrants words call.source call.source' text own line call.told refused in
-    let So : ℕ → List ℕ → Type 0 = λ n whole. IsSo faults (λ sink. IsSaid sink n whole status taken exit.kept) in
+    let So : ℕ → List ℕ → Type 0 = λ n whole. IsSoThen faults (λ sink. IsSaid sink n whole status taken exit.kept) in
     subst (λ whole. So own whole) w.line_is (subst (λ n. So n w.items) w.status_is
     (told_by words text exit status faults taken call _ (λ sink. IsSaid sink (number_of w.status) w.items status taken exit.kept) w.warranted (λ sink told none alone. NoMemory told none)
     (λ done. said_how words text exit status faults taken call w.status w.items done.0.0 done.0.1)))
 
 pub asm_told_of : (words : List (List ℕ)) (text : List ℕ) (exit : Exit) (status faults : ℕ) (taken : List ℕ) (call : Call words text exit status faults taken) (image : List ℕ)
-    → AsksAsm words text image → IsSo faults (λ sink. IsAssembled sink image status taken exit.kept)
+    → AsksAsm words text image → IsSoThen faults (λ sink. IsAssembled sink image status taken exit.kept)
 asm_told_of words text exit status faults taken call image asks =
     told_by words text exit status faults taken call _ (λ sink. IsAssembled sink image status taken exit.kept)
     (inl (Asm, asks.command, (text, call.told, inr (asks.short, Good image (asks.faultless, asks.source) refl))))

@@ -18,39 +18,35 @@ use Rattle.nat_page.proofs.HeldLaws.{map_held}
 use Rattle.flash_dump.specs.WrittenDumps.{is_erased}
 use Rattle.pool_check.proofs.MovedLaws.{holds_alone, holds_in_flash}
 use Rattle.nat_page.specs.Faithful.{IsFaithful}
-use Rattle.mem_guard.specs.FlatMachine.{Program}
+use Rattle.flat_machine.specs.FlatMachine.{Program}
 use Rattle.kernel_entry.specs.Parts.{image_held}
-use Rattle.step_laws.specs.declared.moves.End.TheVariants as ends
-use Rattle.kernel_entry.specs.Seen.{program}
-use Rattle.program_steps.specs.Machines.{Machine, flat_of}
-use Rattle.program_steps.specs.Ready.{IsSound}
-use Rattle.program_steps.specs.Stepping.{AreMadeAt as MadeAt}
-use Rattle.tk_run.specs.WholeRuns.{PathFrom, StandsAt, program_at}
+use Rattle.kernel_entry.specs.declared.kernel.End.TheVariants as ends
+use Rattle.program_steps.specs.Machines.{Machine}
 use Rattle.tk_restart.specs.declared.sweeping.Kept.{Kept}
 use Rattle.tk_restart.specs.Keeping.{count_where, is_dropped}
 use Rattle.tk_restart.specs.Keeping as keeping
 use Rattle.tk_restart.specs.Losing.{lost_in, torn_words}
 use Rattle.tk_restart.specs.Restarting.{Restarts}
 use Rattle.tk_restart.proofs.KeepingLaws.{kept_page, kept_lists, lists_before}
-use Rattle.tk_words.specs.declared.command.Command.TheVariants.{Restart}
-use Rattle.tk_words.specs.declared.status.Status.{Status}
+use Rattle.cli_words.specs.declared.command.Command.TheVariants.{Restart}
+use Rattle.cli_words.specs.declared.status.Status.{Status}
 use Rattle.tkernel_cli.specs.declared.top.Exit.{Exit}
-use Rattle.tk_request.specs.Reading.{Good}
-use Rattle.tk_words.specs.Stream.{Stream}
-use Rattle.run_jobs.specs.Runs.{Runs}
-use Rattle.run_jobs.specs.DumpRuns.{silent}
-use Rattle.run_jobs.specs.RestartRuns.{HasRestarted, RunsOver, lost_flash, refused_in, second_start}
-use Rattle.run_jobs.specs.Text.{restart_text}
-use Rattle.tk_request.proofs.ImageLength.{few_words}
+use Rattle.cli_requests.specs.Reading.{Good}
+use Rattle.cli_words.specs.Stream.{Stream}
+use Rattle.cli_jobs.specs.Runs.{Runs, Follows}
+use Rattle.cli_jobs.specs.DumpRuns.{silent}
+use Rattle.cli_jobs.specs.RestartRuns.{HasRestarted, RunsOver, lost_flash, refused_in, second_start}
+use Rattle.printed_text.specs.RestartLines.{restart_text}
+use Rattle.cli_requests.proofs.ImageLength.{few_words}
 use Rattle.tk_restart.proofs.TornWords.{number_at, torn_word, length_torn}
 use Rattle.theorem_reader.specs.Pools.{pool_from}
 use Rattle.theorem_reader.specs.Checks.{used_of}
 use Rattle.theorem_reader.specs.Runs.{Asked, StandsFrom, options_of, original_of}
 use Rattle.theorem_reader.specs.Restarts.{AsksRestart, number_behind, IsLost, Whole, Torn, HasAddress, IsKeeper, dropped_of, IsKept, restart_line, IsLeft, line_of, IsStart, StandsOver, IsRestarted, NoMemory, Restarted, Unbegun, Cut}
-use Rattle.theorem_reader.specs.Telling.{Fails, IsSo}
+use Rattle.theorem_reader.specs.Telling.{Fails}
 use Rattle.theorem_reader.proofs.Pooling.{in_pool, from_pool, pool_begins, blank_word, first_word, address_same, faithful_is}
 use Rattle.theorem_reader.proofs.Answering.{script_of, request_of, stands_from, no_fault, kept_end, layout_same, lacking_of, whole_of}
-use Rattle.theorem_reader.proofs.Doing.{Call, Somehow, not_risen, so_then, retold, cut_by, told_how, told_by}
+use Rattle.theorem_reader.proofs.Doing.{IsSoThen, Call, Somehow, not_risen, so_then, retold, cut_by, told_how, told_by}
 use Rattle.theorem_reader.proofs.Booting.{is_new}
 use Rattle.theorem_reader.proofs.Checking.{used_same, pool_numbers}
 use Rattle.theorem_reader.proofs.Dumping.{has_ended}
@@ -113,14 +109,14 @@ lost_in_fault image m op None is some end pool whole = absurd (some refl)
 lost_in_fault image m op (Some page) is some end pool whole = torn_is image m op page is end pool whole
 
 lost_is : (asked : Asked) (told : Status) (m : Machine) → Runs (request_of asked) silent silent told m → LostFlash asked.image m
-lost_is asked told m (Runs.Ended run) =
+lost_is asked told m (Runs.Ended unlisted run) =
     let same : (lost_flash m).words ≡ m.kernel.mote.flash.words =
     ap (λ p. (lost_in (refused_in m.end) p (renewed m.kernel.mote.flash)).words) run.unrefused ∙ ap (λ (f : Memory). f.words) (lost_none (refused_in m.end) (renewed m.kernel.mote.flash)) in
-    record { is = Whole (λ op. no_fault _ m op run.end) same; size = ap length same ∙ run.follows.ready.sound.order.whole.words }
+    record { is = Whole (λ op. no_fault _ m op run.end) same; size = ap length same ∙ run.follows.sound.order.whole.words }
 lost_is asked told m (Runs.Failed run) =
-    let order = run.follows.ready.sound.order in
-    let held : image_held m.kernel ≡ asked.image = ap (λ (p : Program). p.image) run.follows.program in
-    let pool = subst (λ l. IfSome m.kernel.mote.flash.refused (IsPool l)) (layout_same asked.image m run.follows.ready.sound held) order.tried.pool in
+    let order = run.follows.sound.order in
+    let held : image_held m.kernel ≡ asked.image = ap (λ (p : Program). p.image) run.follows.at.program in
+    let pool = subst (λ l. IfSome m.kernel.mote.flash.refused (IsPool l)) (layout_same asked.image m run.follows.sound held) order.tried.pool in
     lost_in_fault asked.image m run.op m.kernel.mote.flash.refused refl run.refused run.end pool order.whole.words
 lost_is asked told m (Runs.Cut run) = absurd (not_risen 0 0 refl refl run.rose)
 
@@ -230,13 +226,11 @@ over_is asked before now told kept few done = record { new = is_new (renewed don
 
 -- where the second stands
 stands_over : (asked : Asked) (before now : Stream) (told : Status) (kept : Option Machine) (few : length asked.image ≤ 24576) (done : HasRestarted (request_of asked) before now told kept) (n : ℕ) (m : Machine)
-    → flat_of m ≡ (original_of asked n).state → program m.kernel ≡ program_at asked.image asked.quantum asked.slots → IsSound m → (path : PathFrom (second_start (request_of asked) done.left) (original_of asked n).lines m)
-    → MadeAt (StandsAt asked.image (script_of asked) asked.quantum asked.slots m.steps) path.moves → m.kernel.quantum ≡ asked.quantum → m.longest ≤ 5120 * m.kernel.quantum → m.steps ≤ asked.steps → m.pages ≤ (second_start (request_of asked) done.left).pages + m.steps + 1
+    → Follows (request_of asked) (second_start (request_of asked) done.left) n m → m.steps ≤ asked.steps
     → StandsOver asked (left_of asked before now told kept few done) (original_of asked n) m
-stands_over asked before now told kept few done n m state own sound path made quantum longest within most =
+stands_over asked before now told kept few done n m follows within =
     let flash = left_of asked before now told kept few done in
-    let from = stands_from (IsStart asked flash) asked (renewed done.left) (used_pages (layout_of (length asked.image)) done.left.words) n m (over_is asked before now told kept few done) refl done.faithful.held
-    state own sound path made quantum longest within most in
+    let from = stands_from (IsStart asked flash) asked (renewed done.left) (used_pages (layout_of (length asked.image)) done.left.words) n m (over_is asked before now told kept few done) refl done.faithful.held follows within in
     subst (λ k. StandsFrom (IsStart asked flash) k asked (original_of asked n) m) (used_is asked.image done.left.words) from
 
 restarted : (asked : Asked) (words : List (List ℕ)) (text : List ℕ) (exit : Exit) (status faults : ℕ) (taken : List ℕ) (call : Call words text exit status faults taken) → length asked.image ≤ 24576
@@ -267,12 +261,11 @@ restarted asked words text exit status faults taken call few done (RunsOver.Ende
     let whole = ap₂ (λ a b. a ++ b) own (ended_same r asked.quantum m) in
     so_then call.sink call.sink' _ (λ sink. IsRestarted sink asked status taken exit.kept) (λ sink told. Restarted flash m done.kept (record {
       told = retold sink _ _ _ _ status taken (status_same r.end) whole told;
-      stands = stands_over asked call.sink call.sink' exit.status exit.kept few done asked.steps m
-          run.follows.state run.follows.program run.follows.ready.sound run.follows.path run.follows.made run.follows.quantum run.follows.longest run.within run.follows.pages;
+      stands = stands_over asked call.sink call.sink' exit.status exit.kept few done asked.steps m run.follows run.within;
       end = kept_end _ m run.end;
-      unbroken = run.follows.unbroken;
+      unbroken = run.unbroken;
       unrefused = run.unrefused;
-      faithful = whole_of asked m run.follows.ready.sound (ap (λ (p : Program). p.image) run.follows.program) (λ op. no_fault _ m op run.end);
+      faithful = whole_of asked m run.follows.sound (ap (λ (p : Program). p.image) run.follows.at.program) (λ op. no_fault _ m op run.end);
     })) (told_how words text exit status faults taken call _ _ run.said)
 restarted asked words text exit status faults taken call few done (RunsOver.Cut run) =
     let m = done.machine in
@@ -283,15 +276,14 @@ restarted asked words text exit status faults taken call few done (RunsOver.Cut 
       run.rose,
       Cut flash m done.kept refl (record {
         told = retold Fails 6 6 _ _ status taken refl whole (cut_by words text exit status faults taken call _ run.status_is run.put);
-        stands = stands_over asked call.sink call.sink' exit.status exit.kept few done m.steps m
-            run.state run.program run.sound run.path run.made run.quantum run.sound.bounded.moves.most run.within run.pages;
+        stands = stands_over asked call.sink call.sink' exit.status exit.kept few done m.steps m run.follows run.within;
         broken = run.broken;
-        faithful = lacking_of asked m run.sound (ap (λ (p : Program). p.image) run.program);
+        faithful = lacking_of asked m run.follows.sound (ap (λ (p : Program). p.image) run.follows.at.program);
       }),
     )
 
 pub restart_told : (words : List (List ℕ)) (text : List ℕ) (exit : Exit) (status faults : ℕ) (taken : List ℕ) (call : Call words text exit status faults taken) (asked : Asked)
-    → AsksRestart words text asked → IsSo faults (λ sink. IsRestarted sink asked status taken exit.kept)
+    → AsksRestart words text asked → IsSoThen faults (λ sink. IsRestarted sink asked status taken exit.kept)
 restart_told words text exit status faults taken call asked asks =
     told_by words text exit status faults taken call _ (λ sink. IsRestarted sink asked status taken exit.kept)
     (inl (Restart (options_of asked), asks.command, (text, call.told, inr (asks.input.short, Good (asked.image, asks.input.position) asks.input.hex (Good (script_of asked) asks.input.script refl)))))

@@ -8,9 +8,9 @@ use Rattle.std.proofs.lemmas.List.Elements.{All-nil, All-cons, All-append, All-h
 use Rattle.mote_devices.specs.declared.line.Line.{Line}
 use Rattle.input_script.specs.Script.{Schedule}
 use Rattle.avr_isa.specs.Image.{word}
-use Rattle.mem_guard.specs.declared.part.Part.{Part}
-use Rattle.mem_guard.specs.FlatMachine.{End as FlatEnd, Moment, Run, run, at_reset, is_own}
-use Rattle.mem_guard.specs.Masked.{masked, masked_from}
+use Rattle.flat_machine.specs.declared.part.Part.{Part}
+use Rattle.flat_machine.specs.FlatMachine.{End as FlatEnd, Moment, Run, run, at_reset, is_own}
+use Rattle.flat_machine.specs.Masked.{masked, masked_from}
 use Rattle.parked_tasks.specs.declared.task.Task.{Task}
 use Rattle.parked_tasks.specs.declared.task.TaskEnd.{TaskEnd}
 use Rattle.task_turns.specs.Reset.{turns_at_reset, players_at_reset}
@@ -21,21 +21,22 @@ use Rattle.tk_tasks.specs.States.{Tasks, player_of}
 use Rattle.parked_tasks.specs.Ends.{flat_end, flat_end_of}
 use Rattle.task_turns.specs.Turns.{Player, Turns, Told, Shown, Wrote, Stops, After, others, has_ended, ends_of, next_in, changed_to, with_player, once, continued, go_on, tries, shown_by, own_told}
 use Rattle.task_turns.proofs.Isolation.{once_follows}
-use Rattle.tk_words.specs.declared.command.Command.TheVariants.{Tasks as TasksCommand}
-use Rattle.tk_words.specs.declared.status.Status.{Status}
-use Rattle.tk_words.specs.declared.status.Status.TheVariants as status
+use Rattle.cli_words.specs.declared.command.Command.TheVariants.{Tasks as TasksCommand}
+use Rattle.cli_words.specs.declared.status.Status.{Status}
+use Rattle.cli_words.specs.declared.status.Status.TheVariants as status
 use Rattle.tkernel_cli.specs.declared.top.Exit.{Exit}
-use Rattle.tk_request.specs.Reading.{Good}
-use Rattle.run_jobs.specs.Runs.{status_of_end}
-use Rattle.tk_words.specs.Status.{number_of}
-use Rattle.tk_request.specs.TasksCommand.{Placed}
+use Rattle.cli_requests.specs.Reading.{Good}
+use Rattle.cli_jobs.specs.Runs.{status_of_end}
+use Rattle.cli_words.specs.Status.{number_of}
+use Rattle.cli_requests.specs.TasksCommand.{Placed}
 use Rattle.tkernel_cli.specs.TasksRuns.{RunsTasks, RunsTasksToTheEnd, EachIsAlone, run_of_task, all_told, turns_by, start_by, worse, worst, status_of_task}
-use Rattle.run_jobs.specs.Text.{tasks_count_text}
+use Rattle.printed_text.specs.Counts.{tasks_count_text}
 use Rattle.theorem_reader.specs.Tasks.{AskedTasks, AsksTasks, tasks_options_of, image_of, events_of, alone_of, lines_alone, Printed, printed_text, line_shown, printed_by, lines_of_task, last_line, greatest, worst_status, AreSums, AreApart, AreRun, NoMemory, Ended, Cut}
-use Rattle.theorem_reader.specs.Telling.{Fails, IsSo}
+use Rattle.theorem_reader.specs.Telling.{Fails}
 use Rattle.theorem_reader.specs.Texts.{device_line, end_status}
-use Rattle.theorem_reader.proofs.Doing.{Call, Somehow, so_then, retold, cut_by, told_how, told_by}
+use Rattle.theorem_reader.proofs.Doing.{IsSoThen, Call, Somehow, so_then, retold, cut_by, told_how, told_by}
 use Rattle.theorem_reader.proofs.SameTexts.{line_same, stop_same, status_same}
+use Rattle.cli_words.proofs.OneCommand.{one_program}
 use Rattle.parked_tasks.proofs.Waiting.{waiting_length}
 use Rattle.theorem_reader.proofs.TakingTurns.{length_set, path_long, tasks_request_of, have_stints}
 
@@ -301,14 +302,10 @@ are_run asked words text exit status faults taken call t long some none kept (Ru
       }) none kept,
     )
 
-count_least : (count value : ℕ) (numbers others : List ℕ) → count ∷ numbers ≡ value ∷ others → 1 ≤ value → 1 ≤ count
-count_least count value numbers others is least = let same : count ≡ value = cc in omega (arith, same, least)
-
 pub tasks_told : (words : List (List ℕ)) (text : List ℕ) (exit : Exit) (status faults : ℕ) (taken : List ℕ) (call : Call words text exit status faults taken) (asked : AskedTasks)
-    → AsksTasks words text asked → IsSo faults (λ sink. AreRun sink asked status taken exit.kept exit.tasks)
+    → AsksTasks words text asked → IsSoThen faults (λ sink. AreRun sink asked status taken exit.kept exit.tasks)
 tasks_told words text exit status faults taken call asked asks =
-    let values = asks.command.values_are in
-    let some = count_least asked.count values.0 _ values.1 values.2 values.3.least in
+    let some = one_program words (tasks_options_of asked) asks.command in
     told_by words text exit status faults taken call _ (λ sink. AreRun sink asked status taken exit.kept exit.tasks)
     (inl (TasksCommand (tasks_options_of asked), asks.command, (text, call.told, inr (asks.short, Good (asked.image, asks.position) asks.hex (Good asked.scripts asks.scripts (Placed asks.placed refl))))))
     (λ sink told none alone. NoMemory told none alone) (λ done. are_run asked words text exit status faults taken call done.tasks asks.scripts.each_task some done.none done.kept done.runs)

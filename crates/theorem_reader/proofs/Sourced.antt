@@ -11,12 +11,13 @@ use Rattle.avr_asm.specs.Statements.{meaning_of}
 use Rattle.avr_asm.specs.AsmText.{AsmText, fault_of}
 use Rattle.avr_asm.specs.declared.fault.AsmFault.TheVariants as asm_faults
 use Rattle.hex_image.specs.declared.fault.HexFault.TheVariants as hex_faults
-use Rattle.tk_words.specs.declared.command.Command.TheVariants.{Asm, Help}
-use Rattle.tk_words.specs.Commands.{IsCommand}
-use Rattle.tk_words.specs.Options as options
-use Rattle.theorem_reader.specs.Refusals.{AsksAsm, IsRefused, Helped, BadHex, BadSource, Scripted, Runs, bad_line, usage_line}
+use Rattle.cli_words.specs.declared.command.Command.TheVariants.{Asm, Help}
+use Rattle.cli_words.specs.Commands.{IsCommand}
+use Rattle.cli_words.specs.Options.{nothing}
+use Rattle.theorem_reader.specs.Refusals.{AsksAsm, IsRefused, Helped, BadHex, BadSource, Scripted, Runs, bad_line}
+use Rattle.printed_text.specs.PlainLines.{usage_line}
 use Rattle.theorem_reader.specs.Runs.{example}
-use Rattle.theorem_reader.proofs.Plainly.{the_word}
+use Rattle.cli_words.proofs.WorkedWords.{without_options}
 
 abbrev source : List ℕ
 source = codes "ldi r16, 0x0F\nout 0x1B, r16\nagain: rjmp again\n"
@@ -25,10 +26,10 @@ abbrev hex_text : List ℕ
 hex_text = codes ":060000000FE00BBBFFCF77\n:00000001FF\n"
 
 pub asm_word : IsCommand (codes "asm" ∷ []) Asm
-asm_word = record { rest = []; first = refl; chosen = options.nothing; said = ([], (refl, refl)); values_are = refl }
+asm_word = (nothing, ([], (refl, refl)), refl)
 
 help_word : IsCommand (codes "help" ∷ []) Help
-help_word = record { rest = []; first = refl; chosen = options.nothing; said = ([], (refl, refl)); values_are = refl }
+help_word = (nothing, ([], (refl, refl)), refl)
 
 pub asks_help : IsRefused (codes "help" ∷ []) [] 0 usage_line
 asks_help = Helped help_word refl refl
@@ -61,4 +62,4 @@ pub bad_source : IsRefused (codes "asm" ∷ []) hex_text 3 (bad_line (codes "asm
 bad_source = BadSource asm_word (omega arith) 1 asm_faults.Form first_fault refl refl
 
 pub bad_hex : IsRefused (codes "run" ∷ []) source 3 (bad_line (codes "hex") 1 (codes "start"))
-bad_hex = BadHex (Scripted (Runs _ the_word)) (omega arith) 1 hex_faults.Start (record { before = 0; number = refl; passed = λ n less. absurd (omega (arith, less)); at = refl }) refl refl
+bad_hex = BadHex (Scripted (Runs _ without_options)) (omega arith) 1 hex_faults.Start (record { before = 0; number = refl; passed = λ n less. absurd (omega (arith, less)); at = refl }) refl refl

@@ -12,7 +12,7 @@ use Rattle.input_script.specs.Script.{Schedule}
 use Rattle.avr_isa.specs.Image.{word}
 use Rattle.heap_frames.specs.Paged.{IsPaged}
 use Rattle.heap_frames.proofs.SamePagingLaws.{paged_same}
-use Rattle.mem_guard.specs.FlatMachine.{FlatState}
+use Rattle.flat_machine.specs.FlatMachine.{FlatState}
 use Rattle.mote_core.specs.declared.mote.Mote.{Mote}
 use Rattle.kernel_entry.specs.declared.kernel.Kernel.{Kernel}
 use Rattle.kernel_entry.specs.Seen.{state_at}
@@ -34,11 +34,11 @@ use Rattle.parked_tasks.proofs.Waiting.{waiting_length}
 use Rattle.tk_tasks.proofs.Changing.{players_length}
 use Rattle.tk_tasks.proofs.FirstPlayers.{each_first, boot_player}
 use Rattle.tk_tasks.proofs.Stints.{AreLeft, first_motes, left_at_boot, mote_before, mote_behind, is_here, left_behind, sum_play, pages_play, turned_play, last_play, has_back, left_counted}
-use Rattle.tk_words.specs.declared.request.TaskRequest.{TaskRequest}
+use Rattle.cli_words.specs.declared.request.TaskRequest.{TaskRequest}
 use Rattle.tkernel_cli.specs.TasksRuns.{start_by}
 use Rattle.theorem_reader.specs.Acts.{Follow, IsBoot, steps_in, services_in, made_in}
-use Rattle.theorem_reader.specs.Memory.{HasMemory}
-use Rattle.theorem_reader.specs.Stints.{Stint, ComesBack, TakeTurns, changes_from, HasState, HaveStints}
+use Rattle.theorem_reader.specs.Memory.{HasMemory, HasState}
+use Rattle.theorem_reader.specs.Stints.{Stint, ComesBack, TakeTurns, changes_from, HaveStints}
 use Rattle.theorem_reader.specs.Tasks.{AskedTasks, tasks_options_of, words_of, events_of, start_of, alone_of}
 use Rattle.theorem_reader.proofs.Acting.{acts_of, Holds, follow}
 use Rattle.theorem_reader.proofs.Booting.{is_boot}

@@ -4,8 +4,8 @@ use Rattle.std.specs.Option.{option_map}
 use Rattle.std.specs.List.{list_any}
 use Rattle.avr_isa.specs.declared.form.Form.{Form}
 use Rattle.input_script.specs.declared.input.Event.{Event}
-use Rattle.mem_guard.specs.FlatMachine.{at_reset, next_size}
-use Rattle.mem_guard.specs.FlatSpace.{FlatSpace, flat_calls}
+use Rattle.flat_machine.specs.FlatMachine.{at_reset, next_size}
+use Rattle.flat_machine.specs.FlatSpace.{FlatSpace, flat_calls}
 use Rattle.avr_exec.specs.declared.cpu.Cpu.{Cpu}
 use Rattle.avr_decode.specs.Program.{instruction_at}
 use Rattle.avr_decode.specs.Decoding.{the_form, size_by_first_word}
@@ -14,8 +14,8 @@ use Rattle.avr_exec.specs.Execution.{exec_of}
 use Rattle.mote_devices.specs.declared.line.Line.{Line}
 use Rattle.mote_core.specs.declared.mote.Mote.{Mote}
 use Rattle.mote_core.specs.Physical.{physical_calls}
-use Rattle.step_laws.specs.declared.moves.End.{End}
-use Rattle.step_laws.specs.declared.moves.End.TheVariants as ends
+use Rattle.kernel_entry.specs.declared.kernel.End.{End}
+use Rattle.kernel_entry.specs.declared.kernel.End.TheVariants as ends
 use Rattle.theorem_reader.specs.Pools.{pool_from, AreFaithful, AreFaithfulBut, IsPlaceOf}
 use Rattle.theorem_reader.specs.Memory.{HasMemory}
 
@@ -163,12 +163,6 @@ abbrev pub tried_in : List Act → ℕ
 tried_in [] = 0
 tried_in (Arrival target made ops before after ∷ acts) = ops + tried_in acts
 tried_in (_ ∷ acts) = tried_in acts
-
--- how many interrupts were taken
-abbrev pub interrupts_in : List Act → ℕ
-interrupts_in [] = 0
-interrupts_in (Interrupt before after ∷ acts) = suc (interrupts_in acts)
-interrupts_in (_ ∷ acts) = interrupts_in acts
 
 -- the program's end was told by a refused arrival: outside the image, or by an operation on flash
 abbrev pub IsRefusal : Option End → Type 0

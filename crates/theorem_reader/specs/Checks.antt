@@ -3,8 +3,8 @@ use Rattle.std.specs.Prelude.{◌≡◌, ℕ, zero, suc, ◌+◌, ◌-◌, ◌*�
 use Rattle.hex_image.specs.HexText.{HexText}
 use Rattle.flash_dump.specs.Dumps.{IsDump}
 use Rattle.program_steps.specs.Machines.{Machine}
-use Rattle.tk_words.specs.declared.command.Command.TheVariants.{Check}
-use Rattle.tk_words.specs.Commands.{IsCommand}
+use Rattle.cli_words.specs.declared.command.Command.TheVariants.{Check}
+use Rattle.cli_words.specs.Commands.{IsCommand}
 use Rattle.theorem_reader.specs.Pools.{pool_from, is_formed, is_linked, IsInPool, AreFaithful}
 use Rattle.theorem_reader.specs.Telling.{Sink, IsTold}
 use Rattle.theorem_reader.specs.Texts.{no_memory}

@@ -2,7 +2,7 @@
 use Rattle.std.specs.Prelude.{◌≡◌, ℕ, ◌+◌, ◌*◌, ◌/◌, ◌%◌, ◌==◌, if◌then◌else◌, List, [], ◌∷◌, ◌++◌, codes, flat_map, drop, take, Option, Some, None}
 use Rattle.std.specs.List.{list_all, range_with_len}
 use Rattle.program_steps.specs.Machines.{Machine}
-use Rattle.tk_words.specs.declared.command.Command.TheVariants.{Dump}
+use Rattle.cli_words.specs.declared.command.Command.TheVariants.{Dump}
 use Rattle.theorem_reader.specs.Runs.{Asked, AsksAs, EndsWell, EndsInAFault}
 use Rattle.theorem_reader.specs.Telling.{Sink, IsTold}
 use Rattle.theorem_reader.specs.Texts.{hex, no_memory}

@@ -1,10 +1,10 @@
 -- The end that a machine keeps, beside that of the original program.
 use Rattle.std.specs.Prelude.{◌≡◌, Option, Some, None}
-use Rattle.mem_guard.specs.FlatMachine.{End, Spent, Halted, Asleep, Wild, Illegal, SelfProgram, Read, Io, Stack, SwapFull}
+use Rattle.flat_machine.specs.FlatMachine.{End, Spent, Halted, Asleep, Wild, Illegal, SelfProgram, Read, Io, Stack, SwapFull}
 use Rattle.kernel_entry.specs.declared.kernel.Stop.{Stop}
 use Rattle.kernel_entry.specs.declared.kernel.Stop.TheVariants as stops
-use Rattle.step_laws.specs.declared.moves.End.{End as MachineEnd}
-use Rattle.step_laws.specs.declared.moves.End.TheVariants as ends
+use Rattle.kernel_entry.specs.declared.kernel.End.{End as MachineEnd}
+use Rattle.kernel_entry.specs.declared.kernel.End.TheVariants as ends
 
 -- how the program stopped by itself
 abbrev pub end_of_stop : Stop → End

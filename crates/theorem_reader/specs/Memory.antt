@@ -1,5 +1,6 @@
 -- Where the mote keeps the 65,536 bytes that the program sees. Each page of 256 bytes has a number, its address / 256.
 use Rattle.std.specs.Prelude.{◌≡◌, ◌≢◌, ℕ, ◌+◌, ◌-◌, ◌*◌, ◌/◌, ◌%◌, ◌<◌, ◌≤◌, List, [], length, slice_index, slice_index_or}
+use Rattle.flat_machine.specs.FlatMachine.{FlatState}
 use Rattle.mote_core.specs.declared.mote.Mote.{Mote}
 
 -- the byte of SRAM at a data address
@@ -30,3 +31,11 @@ pub record HasMemory (m : Mote) (memory : List ℕ) : Type 0 where
   pub swapped : (a : ℕ) → IsHeap a → ((frame : ℕ) → ¬ Holds m (a / 256) frame) → slot_of m (a / 256) ≢ 0xFF
       → slice_index memory a ≡ slice_index (slice_index_or m.swap (slot_of m (a / 256)) []) (a % 256)
   pub untouched : (a : ℕ) → IsHeap a → slot_of m (a / 256) ≡ 0xFF → slice_index memory a ≡ 0
+
+-- the program stands on its mote where its own machine does
+pub record HasState (s : FlatState) (m : Mote) : Type 0 where
+  pub registers : m.cpu.r ≡ s.cpu.r
+  pub status : m.cpu.sreg ≡ s.cpu.sreg
+  pub pointer : slice_index m.sram 3 + 256 * slice_index m.sram 4 ≡ s.cpu.sp
+  pub memory : HasMemory m s.memory
+  pub devices : m.devices ≡ s.devices

@@ -1,26 +1,24 @@
 -- What is told of words and texts that are refused, and what `asm` writes.
 use Rattle.std.specs.Prelude.{◌≡◌, ℕ, ◌<◌, ◌≤◌, List, ◌++◌, codes, decimal, drop, length, Option, Some, None}
-use Rattle.text_lines.specs.Lines.{lines_of}
+use Rattle.line_reader.specs.Lines.{lines_of}
 use Rattle.hex_image.specs.HexText.{HexText, HexBad}
 use Rattle.hex_image.specs.Written.{written}
 use Rattle.hex_image.specs.declared.fault.HexFault.{HexFault}
-use Rattle.hex_image.specs.declared.fault.HexFault.TheVariants as hex_faults
 use Rattle.input_script.specs.Script.{Schedule, IsBad}
 use Rattle.input_script.specs.declared.fault.ScriptFault.{ScriptFault}
-use Rattle.input_script.specs.declared.fault.ScriptFault.TheVariants as script_faults
 use Rattle.task_input.specs.Images.{IsFirstMisplaced}
 use Rattle.task_input.specs.Scripts.{IsFirst, Schedules}
 use Rattle.flash_dump.specs.Dumps.{IsNoDump}
 use Rattle.flash_dump.specs.declared.dump_line.DumpFault.{DumpFault}
-use Rattle.flash_dump.specs.declared.dump_line.DumpFault.TheVariants as dump_faults
 use Rattle.avr_asm.specs.AsmText.{AsmText, fault_of}
 use Rattle.avr_asm.specs.declared.fault.AsmFault.{AsmFault}
-use Rattle.avr_asm.specs.declared.fault.AsmFault.TheVariants as asm_faults
+use Rattle.printed_text.specs.FaultyLines.{hex_word, script_word, dump_word, asm_word}
+use Rattle.printed_text.specs.PlainLines.{usage_line}
 use Rattle.program_steps.specs.Machines.{Machine}
-use Rattle.tk_words.specs.declared.command.RunOptions.{RunOptions}
-use Rattle.tk_words.specs.declared.command.TaskOptions.{TaskOptions}
-use Rattle.tk_words.specs.declared.command.Command.TheVariants.{Help, Run, Dump, Restart, Tasks, Check, Asm}
-use Rattle.tk_words.specs.Commands.{IsCommand, IsNoCommand}
+use Rattle.cli_words.specs.declared.command.RunOptions.{RunOptions}
+use Rattle.cli_words.specs.declared.command.TaskOptions.{TaskOptions}
+use Rattle.cli_words.specs.declared.command.Command.TheVariants.{Help, Run, Dump, Restart, Tasks, Check, Asm}
+use Rattle.cli_words.specs.Commands.{IsCommand, IsNoCommand}
 use Rattle.theorem_reader.specs.Telling.{Sink, IsTold}
 use Rattle.theorem_reader.specs.Texts.{address, no_memory}
 
@@ -41,48 +39,10 @@ pub data ReadsText (words : List (List ℕ)) : Type 0 where
   Program : ReadsHex words → ReadsText words
   Source : IsCommand words Asm → ReadsText words
 
--- the word of a fault of a HEX text
-abbrev pub hex_word : HexFault → List ℕ
-hex_word hex_faults.Start = codes "start"
-hex_word hex_faults.Digit = codes "digit"
-hex_word hex_faults.Length = codes "length"
-hex_word hex_faults.Checksum = codes "checksum"
-hex_word hex_faults.Kind = codes "kind"
-hex_word hex_faults.Wrap = codes "wrap"
-hex_word hex_faults.Twice = codes "twice"
-hex_word hex_faults.TooLarge = codes "size"
-hex_word hex_faults.NoEnd = codes "end"
-
--- the word of a fault of a script
-abbrev pub script_word : ScriptFault → List ℕ
-script_word script_faults.Form = codes "form"
-script_word script_faults.Order = codes "order"
-script_word script_faults.Range = codes "range"
-script_word script_faults.TooMany = codes "events"
-
--- the word of a fault of a dump
-abbrev pub dump_word : DumpFault → List ℕ
-dump_word dump_faults.Form = codes "form"
-dump_word dump_faults.Order = codes "order"
-dump_word dump_faults.Range = codes "range"
-
--- the word of a fault of a source
-abbrev pub asm_word : AsmFault → List ℕ
-asm_word asm_faults.Form = codes "form"
-asm_word asm_faults.Mnemonic = codes "mnemonic"
-asm_word asm_faults.Range = codes "range"
-asm_word asm_faults.Twice = codes "twice"
-asm_word asm_faults.TooLarge = codes "size"
-asm_word asm_faults.Label = codes "label"
-asm_word asm_faults.Reach = codes "reach"
-
--- a line of a part of the input, with its fault, as `bad hex line 3 digit`
+-- a line of a part of the input, with its fault, as `bad hex line 3 digit`. The word of each fault is in `printed_text/FaultyLines`:
+-- `hex_word`, `script_word`, `dump_word` and `asm_word`; the usage line is in `printed_text/PlainLines`.
 abbrev pub bad_line : (part : List ℕ) (number : ℕ) (word : List ℕ) → List ℕ
 bad_line part number word = codes "bad " ++ part ++ codes " line " ++ decimal number ++ codes " " ++ word ++ codes "\n"
-
--- the usage
-abbrev pub usage_line : List ℕ
-usage_line = codes "usage: tkernel run [--steps N] [--quantum Q] [--swap S]\n"
 
 -- Words, or words and a text, that are answered with this status and this line: `help`, and words that are no command; a text
 -- that is too long; the first faulty line of the HEX text, of the script or the dump behind it, or of a source; and the first

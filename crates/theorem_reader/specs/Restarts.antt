@@ -2,11 +2,11 @@
 use Rattle.std.specs.Prelude.{◌≡◌, ◌≢◌, ◌↔◌, ℕ, zero, suc, ◌+◌, ◌-◌, ◌*◌, ◌/◌, ◌%◌, ◌<◌, ◌==◌, Bool, true, false, if◌then◌else◌, List, [], ◌++◌, codes, decimal, flat_map, drop, take, slice_index, Option, Some, None}
 use Rattle.std.specs.List.{list_all}
 use Rattle.input_script.specs.declared.input.Event.{Event}
-use Rattle.mem_guard.specs.FlatMachine.{Run}
+use Rattle.flat_machine.specs.FlatMachine.{Run}
 use Rattle.mote_core.specs.declared.mote.Mote.{Mote}
-use Rattle.step_laws.specs.declared.moves.End.TheVariants as ends
+use Rattle.kernel_entry.specs.declared.kernel.End.TheVariants as ends
 use Rattle.program_steps.specs.Machines.{Machine}
-use Rattle.tk_words.specs.declared.command.Command.TheVariants.{Restart}
+use Rattle.cli_words.specs.declared.command.Command.TheVariants.{Restart}
 use Rattle.theorem_reader.specs.Acts.{IsNew}
 use Rattle.theorem_reader.specs.Pools.{pool_from, is_formed, IsInPool, AreFaithful, AreFaithfulBut}
 use Rattle.theorem_reader.specs.Checks.{used_of}

@@ -1,22 +1,23 @@
 -- What a run leaves.
-use Rattle.std.specs.Prelude.{◌≡◌, ℕ, ◌+◌, ◌*◌, ◌/◌, ◌<◌, ◌≤◌, List, [], ◌∷◌, ◌++◌, codes, decimal, flat_map, slice_index, length, drop, Bool, true, false, ◌==◌, Option, Some, None}
+use Rattle.std.specs.Prelude.{◌≡◌, ℕ, ◌+◌, ◌*◌, ◌/◌, ◌<◌, ◌≤◌, List, [], ◌∷◌, ◌++◌, codes, decimal, flat_map, length, drop, Bool, true, false, ◌==◌, Option, Some, None}
 use Rattle.std.specs.List.{list_any}
 use Rattle.input_script.specs.declared.input.Event.{Event}
 use Rattle.input_script.specs.declared.input.Input.TheVariants.{Uart}
-use Rattle.mem_guard.specs.FlatMachine.{Spent, Run, whole_part, original}
+use Rattle.flat_machine.specs.FlatMachine.{Spent, Run, whole_part, original}
 use Rattle.mote_core.specs.declared.mote.Mote.{Mote}
-use Rattle.step_laws.specs.declared.moves.End.TheVariants as ends
+use Rattle.kernel_entry.specs.declared.kernel.End.TheVariants as ends
 use Rattle.program_generator.specs.Generated.{generated}
 use Rattle.program_steps.specs.Machines.{Machine}
 use Rattle.hex_image.specs.HexText.{HexText}
 use Rattle.input_script.specs.Script.{IsScript}
-use Rattle.tk_words.specs.declared.command.Command.{Command}
-use Rattle.tk_words.specs.declared.command.Command.TheVariants.{Run as RunCommand, Generate}
-use Rattle.tk_words.specs.declared.command.RunOptions.{RunOptions}
-use Rattle.tk_words.specs.Commands.{IsCommand}
-use Rattle.theorem_reader.specs.Acts.{Act, Arrival, HasActs, IsBoot, interrupts_in}
+use Rattle.cli_words.specs.declared.command.Command.{Command}
+use Rattle.cli_words.specs.declared.command.Command.TheVariants.{Run as RunCommand, Generate}
+use Rattle.cli_words.specs.declared.command.RunOptions.{RunOptions}
+use Rattle.cli_words.specs.Commands.{IsCommand}
+use Rattle.theorem_reader.specs.Acts.{HasActs, IsBoot}
 use Rattle.theorem_reader.specs.Pools.{AreFaithful, AreFaithfulBut}
-use Rattle.theorem_reader.specs.Memory.{HasMemory}
+use Rattle.theorem_reader.specs.Steps.{IsByStep}
+use Rattle.theorem_reader.specs.Memory.{HasState}
 use Rattle.theorem_reader.specs.Ends.{IsKeptEnd}
 use Rattle.theorem_reader.specs.Telling.{Sink, Fails, IsTold}
 use Rattle.theorem_reader.specs.Texts.{device_line, end_words, stop_line, count_line, end_status, no_memory}
@@ -43,23 +44,13 @@ abbrev pub text_of : Run → (how : List ℕ) → (quantum : ℕ) → Machine �
 text_of r how quantum m =
     flat_map device_line r.lines ++ stop_line how r.state.now.steps (r.state.now.crossings / quantum) ++ count_line m
 
--- each page that these acts made was made at an address where the original program stands within so many steps
-abbrev pub AreMadeAt : Asked → (steps : ℕ) → List Act → Type 0
-AreMadeAt asked steps acts = (front back : List Act) (target ops : ℕ) (before after : Mote) → acts ≡ front ++ (Arrival target 1 ops before after ∷ back)
-    → (k : ℕ) × (k ≤ steps) × ((original_of asked k).state.now.cpu.pc ≡ target)
-
 -- The machine stands where the original program stands: registers, SREG, stack pointer, pc, the 65,536 bytes, devices,
 -- the counts of steps and crossings, and whether an interrupt is due. Its image is as long, its slots are as many, and its
--- quantum is the one that were asked for. It came there by acts, from a mote of which this is so and whose pool had so many
--- pages; each step made one page at most, and so did the arrival behind the last. Each step of the original program was made
--- by an act of its own, an instruction in rewritten code or an interrupt, and by at most 40 instructions and two services.
+-- quantum is the one that were asked for. It came there by acts, step by step, from a mote of which this is so and whose
+-- pool had so many pages; each step made one page at most, and so did the arrival behind the last.
 pub record StandsFrom (IsFirst : Mote → Type 0) (began : ℕ) (asked : Asked) (r : Run) (m : Machine) : Type 0 where
-  pub registers : m.kernel.mote.cpu.r ≡ r.state.now.cpu.r
-  pub status : m.kernel.mote.cpu.sreg ≡ r.state.now.cpu.sreg
-  pub pointer : slice_index m.kernel.mote.sram 3 + 256 * slice_index m.kernel.mote.sram 4 ≡ r.state.now.cpu.sp
+  pub state : HasState r.state.now m.kernel.mote
   pub pc : m.at ≡ r.state.now.cpu.pc
-  pub memory : HasMemory m.kernel.mote r.state.now.memory
-  pub devices : m.kernel.mote.devices ≡ r.state.now.devices
   pub steps : m.steps ≡ r.state.now.steps
   pub crossings : m.crossings ≡ r.state.now.crossings
   pub due : m.due ≡ r.state.due
@@ -70,10 +61,9 @@ pub record StandsFrom (IsFirst : Mote → Type 0) (began : ℕ) (asked : Asked) 
   pub most_operations : m.kernel.mote.flash.ops ≤ 1000 * (m.steps + 1)
   pub most_pages : m.pages ≤ began + m.steps + 1
   pub acts : HasActs IsFirst began asked.image asked.quantum m.natural m.entries m.pages m.end m.kernel.mote
-  pub least_natural : m.steps ≤ m.natural + interrupts_in acts.acts
+  pub by_step : IsByStep asked.image (λ k. (original_of asked k).state) acts.first acts.acts m.steps m.kernel.mote
   pub most_natural : m.natural ≤ 40 * (m.steps + 1)
   pub most_entries : m.entries ≤ 2 * (m.steps + 1)
-  pub made_at : AreMadeAt asked m.steps acts.acts
 
 -- .. from boot, where the pool has none
 abbrev pub Stands : Asked → Run → Machine → Type 0

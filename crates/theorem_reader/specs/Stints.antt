@@ -1,9 +1,9 @@
 -- What several programs did on one mote: stint after stint, each of one program, told by the motes before and after it.
-use Rattle.std.specs.Prelude.{◌≡◌, ℕ, ◌+◌, ◌*◌, ◌<◌, ◌≤◌, ◌==◌, if◌then◌else◌, List, [], ◌∷◌, slice_get, slice_index, slice_set, sum_by, Some}
-use Rattle.mem_guard.specs.FlatMachine.{FlatState}
+use Rattle.std.specs.Prelude.{◌≡◌, ℕ, ◌+◌, ◌<◌, ◌≤◌, ◌==◌, if◌then◌else◌, List, [], ◌∷◌, slice_get, slice_set, sum_by, Some}
+use Rattle.flat_machine.specs.FlatMachine.{FlatState}
 use Rattle.mote_core.specs.declared.mote.Mote.{Mote}
 use Rattle.theorem_reader.specs.Acts.{Act, Follow, steps_in, services_in, made_in}
-use Rattle.theorem_reader.specs.Memory.{sram_byte, HasMemory}
+use Rattle.theorem_reader.specs.Memory.{sram_byte, HasState}
 
 -- the number of a program, and its acts while it had the mote
 pub record Stint : Type 0 where
@@ -32,14 +32,6 @@ TakeTurns image left motes (stint ∷ stints) last =
 abbrev pub changes_from : ℕ → List Stint → ℕ
 changes_from task [] = 0
 changes_from task (stint ∷ stints) = (if stint.task == task then 0 else 1) + changes_from stint.task stints
-
--- the program of this number stands on its mote where its own machine does
-pub record HasState (s : FlatState) (m : Mote) : Type 0 where
-  pub registers : m.cpu.r ≡ s.cpu.r
-  pub status : m.cpu.sreg ≡ s.cpu.sreg
-  pub pointer : slice_index m.sram 3 + 256 * slice_index m.sram 4 ≡ s.cpu.sp
-  pub memory : HasMemory m s.memory
-  pub devices : m.devices ≡ s.devices
 
 -- Stints lead all programs, below `count`, from the states of `start` to those of `end`, the first of them on a mote of
 -- which this is so. There were so many steps and services, pages were made and the program was changed so often.

@@ -1,11 +1,11 @@
 -- What a run of several programs leaves, which take turns on one mote: each prints and ends as if it were alone.
 use Rattle.std.specs.Prelude.{◌≡◌, ℕ, ◌+◌, ◌*◌, ◌/◌, ◌<◌, ◌≤◌, max, List, [], ◌∷◌, ◌++◌, codes, decimal, flat_map, map, length, drop, slice_index_or, true, false, ◌==◌, if◌then◌else◌, All, sum_by, Option, Some, None}
 use Rattle.std.specs.List.{range_with_len}
-use Rattle.text_lines.specs.Lines.{lines_of}
+use Rattle.line_reader.specs.Lines.{lines_of}
 use Rattle.hex_image.specs.HexText.{HexText}
 use Rattle.input_script.specs.declared.input.Event.{Event}
 use Rattle.input_script.specs.Script.{Schedule}
-use Rattle.mem_guard.specs.FlatMachine.{FlatState, Run, run, at_reset}
+use Rattle.flat_machine.specs.FlatMachine.{FlatState, Run, run, at_reset}
 use Rattle.program_steps.specs.Machines.{Machine}
 use Rattle.parked_tasks.specs.declared.task.Task.{Task}
 use Rattle.tk_tasks.specs.States.{Tasks}
@@ -13,9 +13,9 @@ use Rattle.task_turns.specs.Turns.{Told, Shown, Wrote, Stops, tries, turns}
 use Rattle.task_turns.specs.Reset.{turns_at_reset}
 use Rattle.task_input.specs.Images.{IsMisplaced}
 use Rattle.task_input.specs.Scripts.{Schedules}
-use Rattle.tk_words.specs.declared.command.Command.TheVariants.{Tasks as TasksCommand}
-use Rattle.tk_words.specs.declared.command.TaskOptions.{TaskOptions}
-use Rattle.tk_words.specs.Commands.{IsCommand}
+use Rattle.cli_words.specs.declared.command.Command.TheVariants.{Tasks as TasksCommand}
+use Rattle.cli_words.specs.declared.command.TaskOptions.{TaskOptions}
+use Rattle.cli_words.specs.Commands.{IsCommand}
 use Rattle.theorem_reader.specs.Acts.{IsBoot}
 use Rattle.theorem_reader.specs.Stints.{HaveStints}
 use Rattle.theorem_reader.specs.Telling.{Sink, Fails, IsTold}

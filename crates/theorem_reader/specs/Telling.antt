@@ -1,5 +1,12 @@
--- How a text is told: by a sink that takes all of it, or by one that fails.
+-- How a text is told: by a sink that takes all of it, or by one that fails, since it has no room for all.
 use Rattle.std.specs.Prelude.{◌≡◌, ◌⊎◌, ℕ, ◌<◌, ◌≤◌, List, length, take}
+use Rattle.tk_io.specs.Memory.{SinkState}
+
+-- the sink takes so many bytes in all, and counted no fault unless it has taken them
+pub record IsRoomy (room : ℕ) (out : SinkState) : Type 0 where
+  pub room_is : out.room ≡ room
+  pub most : length out.taken ≤ room
+  pub full : (out.faults ≡ 0) ⊎ (length out.taken ≡ room)
 
 -- whether the sink took all that it was given
 pub data Sink : Type 0 where
@@ -18,6 +25,7 @@ abbrev pub IsTold : Sink → (own : ℕ) (whole : List ℕ) → (status : ℕ) (
 IsTold Serves own whole status taken = (status ≡ own) × (taken ≡ whole)
 IsTold Fails own whole status taken = (status ≡ 6) × IsFront taken whole
 
--- This is so of a sink that served; or it is so of one that failed, and it counted a fault.
-abbrev pub IsSo : (faults : ℕ) → (Sink → Type 0) → Type 0
-IsSo faults So = So Serves ⊎ ((1 ≤ faults) × So Fails)
+-- With room for so many bytes, this is so of a sink that served, and took no more. Or it is so of one that failed: it counted a
+-- fault, and took just as many. So a sink serves just where it has room for all that is told.
+abbrev pub IsSo : (room : ℕ) (out : SinkState) → (Sink → Type 0) → Type 0
+IsSo room out So = ((length out.taken ≤ room) × So Serves) ⊎ ((1 ≤ out.faults) × (length out.taken ≡ room) × So Fails)

@@ -8,21 +8,22 @@ ghost use Rattle.theorem_reader.specs.Runs.{Asked, Asks, AsksGenerate, generated
 ghost use Rattle.theorem_reader.specs.Tasks.{AreRun, AskedTasks, AsksTasks};
 ghost use Rattle.theorem_reader.specs.Telling.{IsSo};
 
+use crate::room::RoomySink;
 use hex_image::{Image, write};
 use preempt_count::BOUND_PER_Q;
 use std::alloc::Global;
-use tk_io::{MemSink, MemSource, NoMemory};
+use tk_io::{MemSource, NoMemory};
 use tk_run::Machine;
 use tk_tasks::Tasks;
 use tkernel_cli::tkernel;
 
 /// What a call answered.
 #[derive(Drop)]
-pub struct Told {
+pub struct Told<const ROOM: usize> {
     /// The number that the process would end with.
     pub status: u8,
     /// What was put.
-    pub out: MemSink,
+    pub out: RoomySink<ROOM>,
     /// The machine of the run, where one was made.
     pub kept: Option<Machine>,
     /// The tasks of the run, where several programs were booted.
@@ -30,32 +31,32 @@ pub struct Told {
 }
 
 /// Answers these words over this text, into a sink with room for so many bytes.
-pub fn run_text(
+pub fn run_text<const ROOM: usize>(
     alloc: Global,
     words: &[String],
     text: Vec<u8>,
-    room: usize,
-) -> Result<Told, NoMemory>
+) -> Result<Told<ROOM>, NoMemory>
     ensures run { IfOk result (λ told. (asked : Asked) → Asks (map string_bytes words.now) text.items asked
-        → IsSo told.out.faults (λ sink. IsRun sink asked told.status told.out.taken told.kept)) }
+        → IsSo ROOM told.out (λ sink. IsRun sink asked told.status told.out.taken told.kept)) }
     ensures dump { IfOk result (λ told. (asked : Asked) → AsksDump (map string_bytes words.now) text.items asked
-        → IsSo told.out.faults (λ sink. IsDumped sink asked told.status told.out.taken told.kept)) }
+        → IsSo ROOM told.out (λ sink. IsDumped sink asked told.status told.out.taken told.kept)) }
     ensures restart { IfOk result (λ told. (asked : Asked) → AsksRestart (map string_bytes words.now) text.items asked
-        → IsSo told.out.faults (λ sink. IsRestarted sink asked told.status told.out.taken told.kept)) }
+        → IsSo ROOM told.out (λ sink. IsRestarted sink asked told.status told.out.taken told.kept)) }
     ensures tasks { IfOk result (λ told. (asked : AskedTasks) → AsksTasks (map string_bytes words.now) text.items asked
-        → IsSo told.out.faults (λ sink. AreRun sink asked told.status told.out.taken told.kept told.tasks)) }
+        → IsSo ROOM told.out (λ sink. AreRun sink asked told.status told.out.taken told.kept told.tasks)) }
     ensures check { IfOk result (λ told. (image flash : List ℕ) → AsksCheck (map string_bytes words.now) text.items image flash
-        → IsSo told.out.faults (λ sink. IsChecked sink image flash told.status told.out.taken told.kept)) }
+        → IsSo ROOM told.out (λ sink. IsChecked sink image flash told.status told.out.taken told.kept)) }
     ensures asm { IfOk result (λ told. (image : List ℕ) → AsksAsm (map string_bytes words.now) text.items image
-        → IsSo told.out.faults (λ sink. IsAssembled sink image told.status told.out.taken told.kept)) }
+        → IsSo ROOM told.out (λ sink. IsAssembled sink image told.status told.out.taken told.kept)) }
     ensures generate { IfOk result (λ told. (seed : ℕ) → AsksGenerate (map string_bytes words.now) seed
-        → IsSo told.out.faults (λ sink. IsRun sink (generated_by seed) told.status told.out.taken told.kept)) }
+        → IsSo ROOM told.out (λ sink. IsRun sink (generated_by seed) told.status told.out.taken told.kept)) }
     ensures refused { IfOk result (λ told. (own : ℕ) (line : List ℕ) → IsRefused (map string_bytes words.now) text.items own line
-        → IsSo told.out.faults (λ sink. IsSaid sink own line told.status told.out.taken told.kept)) }
+        → IsSo ROOM told.out (λ sink. IsSaid sink own line told.status told.out.taken told.kept)) }
 {
     let mut input = MemSource::new(text);
-    let mut out = MemSink::new(alloc, room)?;
+    let mut out = RoomySink::new(alloc)?;
     let exit = tkernel(alloc, words, &mut input, &mut out);
+    out.keeps_room();
     let status = exit.status.number();
     Ok(Told {
         status,
@@ -66,22 +67,19 @@ pub fn run_text(
 }
 
 /// Runs any image, without inputs, by the word `run`.
-pub fn run_image(alloc: Global, image: &Image, room: usize) -> Result<Told, NoMemory>
-    ensures run { IfOk result (λ told. IsSo told.out.faults (λ sink. IsRun sink (plainly image.now) told.status told.out.taken told.kept)) }
+pub fn run_image<const ROOM: usize>(alloc: Global, image: &Image) -> Result<Told<ROOM>, NoMemory>
+    ensures run { IfOk result (λ told. IsSo ROOM told.out (λ sink. IsRun sink (plainly image.now) told.status told.out.taken told.kept)) }
 {
     let text = write(alloc, image)?;
     let word = word_of(alloc, "run")?;
-    run_text(alloc, &[word], text, room)
+    run_text(alloc, &[word], text)
 }
 
 /// A word of a command line.
 pub(crate) fn word_of(alloc: Global, text: &str) -> Result<String, NoMemory>
     ensures same { IfOk result (λ word. string_bytes word ≡ text.now) }
 {
-    match String::from_str(alloc, text) {
-        Ok(word) => Ok(word),
-        Err(_) => Err(NoMemory),
-    }
+    Ok(String::from_str(alloc, text)?)
 }
 
 /// The most plain steps that a run of this quantum makes between two services.

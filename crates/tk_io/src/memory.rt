@@ -91,14 +91,11 @@ impl MemSink {
     pub fn new(alloc: Global, room: usize) -> Result<MemSink, NoMemory>
         ensures fresh { IfOk result (λ s. s ≡ record { taken = []; room = room; faults = 0 }) }
     {
-        match Vec::with_capacity(alloc, room) {
-            Ok(bytes) => Ok(MemSink {
-                bytes,
-                room,
-                faults: 0,
-            }),
-            Err(_) => Err(NoMemory),
-        }
+        Ok(MemSink {
+            bytes: Vec::with_capacity(alloc, room)?,
+            room,
+            faults: 0,
+        })
     }
 
     /// The bytes that were taken.

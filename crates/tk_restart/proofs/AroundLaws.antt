@@ -20,5 +20,4 @@ pub around_torn : (layout : Layout) (image new : List ℕ) (m m' : Memory) (page
 around_torn layout image new m m' page long inside pool is around =
     let P : Memory → Type 0 = λ f. HaveFormsAround layout image f.words in
     let once = around_set layout image m.words blank page blank_long inside pool around in
-    let size = pages.length-set_page m.words blank page blank_long inside in
-    subst P (sym is) (around_set layout image (set_page m.words page blank) new page long (omega (arith, size, inside)) pool once)
+    subst P (sym is) (around_set layout image (set_page m.words page blank) new page long (omega (arith, pages.length-set_page m.words blank page blank_long inside, inside)) pool once)

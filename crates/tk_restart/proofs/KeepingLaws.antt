@@ -3,7 +3,7 @@ use Rattle.std.proofs.Common.{◌≡◌, ℕ, zero, suc, ◌+◌, ◌-◌, ◌<�
 use Rattle.std.specs.Prelude.{◌⊎◌}
 use Rattle.std.proofs.lemmas.Bool.{cases_lt, cases_order}
 use Rattle.flash_words.specs.Pages.{word_count, page_of}
-use Rattle.flash_words.specs.Layouts.{IsRight}
+use Rattle.flash_words.specs.Layouts.{IsRight, most_image_words}
 use Rattle.flash_words.specs.Memory.{Memory}
 use Rattle.flash_words.specs.declared.layout.Layout.{Layout}
 use Rattle.page_index.specs.Maps.{IsPool, IsFree, address_of, entry_count}
@@ -51,11 +51,11 @@ kept_page layout image old new kept stray page right whole keeps pool is =
     }
 
 -- it lists what it listed
-pub kept_lists : (layout : Layout) (image old new : List ℕ) (kept : ℕ → Bool) (page i t v : ℕ) → length image ≤ 24576 → KeptPage layout image old new kept page → Lists old page i t v → Lists new page i t v
+pub kept_lists : (layout : Layout) (image old new : List ℕ) (kept : ℕ → Bool) (page i t v : ℕ) → length image ≤ most_image_words → KeptPage layout image old new kept page → Lists old page i t v → Lists new page i t v
 kept_lists layout image old new kept page i t v short own lists =
     lists_again Anywhere (λ t v. IsKeptEntry layout old kept t v) image old new page own.first own.last i t v short own.before own.behind lists
 
-pub lists_before : (layout : Layout) (image old new : List ℕ) (kept : ℕ → Bool) (page i t v : ℕ) → length image ≤ 24576 → KeptPage layout image old new kept page → Lists new page i t v → Lists old page i t v
+pub lists_before : (layout : Layout) (image old new : List ℕ) (kept : ℕ → Bool) (page i t v : ℕ) → length image ≤ most_image_words → KeptPage layout image old new kept page → Lists new page i t v → Lists old page i t v
 lists_before layout image old new kept page i t v short own lists =
     lists_again (λ t v. IsKeptEntry layout old kept t v) Anywhere image new old page own.first own.last i t v short own.behind own.before lists
 
@@ -70,7 +70,7 @@ listed_kept layout image old new kept stray page i t v keeps pool lists = elim (
   | inr dropped ↦ absurd (free_lists_nothing new page i t v (keeps.drops page pool dropped) lists)
 ]
 
-entry_after : (layout : Layout) (image old new : List ℕ) (kept : ℕ → Bool) (stray : ℕ → ℕ → Bool) (t v : ℕ) → IsRight layout → length old ≡ word_count → length image ≤ 24576 → Keeps layout image old new kept stray → IsKeptEntry layout old kept t v → IsEntry layout new t v
+entry_after : (layout : Layout) (image old new : List ℕ) (kept : ℕ → Bool) (stray : ℕ → ℕ → Bool) (t v : ℕ) → IsRight layout → length old ≡ word_count → length image ≤ most_image_words → Keeps layout image old new kept stray → IsKeptEntry layout old kept t v → IsEntry layout new t v
 entry_after layout image old new kept stray t v right whole short keeps entry = record {
   page = entry.page;
   index = entry.index;
@@ -78,7 +78,7 @@ entry_after layout image old new kept stray t v right whole short keeps entry = 
   lists = kept_lists layout image old new kept entry.page entry.index t v short (kept_page layout image old new kept stray entry.page right whole keeps entry.pool entry.is_kept) entry.lists;
 }
 
-rewritten_after : (layout : Layout) (image old new : List ℕ) (kept : ℕ → Bool) (stray : ℕ → ℕ → Bool) (page : ℕ) → IsRight layout → length old ≡ word_count → length image ≤ 24576 → Keeps layout image old new kept stray → IsPool layout page → IsFree new page ⊎ IsRewritten layout image new page
+rewritten_after : (layout : Layout) (image old new : List ℕ) (kept : ℕ → Bool) (stray : ℕ → ℕ → Bool) (page : ℕ) → IsRight layout → length old ≡ word_count → length image ≤ most_image_words → Keeps layout image old new kept stray → IsPool layout page → IsFree new page ⊎ IsRewritten layout image new page
 rewritten_after layout image old new kept stray page right whole short keeps pool = elim (kept_or_not (kept page)) [
   | inr dropped ↦ inl (keeps.drops page pool dropped)
   | inl is ↦ (
@@ -91,7 +91,7 @@ rewritten_after layout image old new kept stray page right whole short keeps poo
 ]
 
 -- no address has two entries
-once_after : (layout : Layout) (image old new : List ℕ) (kept : ℕ → Bool) (stray : ℕ → ℕ → Bool) → IsRight layout → length old ≡ word_count → length image ≤ 24576 → Keeps layout image old new kept stray
+once_after : (layout : Layout) (image old new : List ℕ) (kept : ℕ → Bool) (stray : ℕ → ℕ → Bool) → IsRight layout → length old ≡ word_count → length image ≤ most_image_words → Keeps layout image old new kept stray
     → (page page' i i' t v v' : ℕ) → IsPool layout page → IsPool layout page' → Lists new page i t v → Lists new page' i' t v' → (page ≡ page') × (i ≡ i')
 once_after layout image old new kept stray right whole short keeps page page' i i' t v v' pool pool' lists lists' =
     let is = listed_kept layout image old new kept stray page i t v keeps pool lists in
@@ -117,7 +117,7 @@ around_after layout image old new kept stray around keeps page low out =
 
 pub kept_faithful : (layout : Layout) (image old new : List ℕ) (kept : ℕ → Bool) (stray : ℕ → ℕ → Bool) → IsRight layout → length old ≡ word_count → length image ≡ layout.image_words → HaveFormsAround layout image old → Keeps layout image old new kept stray → IsFaithful layout image new
 kept_faithful layout image old new kept stray right whole long around keeps =
-    let short : length image ≤ 24576 = omega (arith, long, right.image_fits) in
+    let short : length image ≤ most_image_words = omega (arith, long, right.image_fits) in
     let around' = around_after layout image old new kept stray around keeps in
     let whole' = keeps.size ∙ whole in
     record {

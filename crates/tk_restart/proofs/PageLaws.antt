@@ -3,7 +3,7 @@ use Rattle.std.proofs.Common.{◌≡◌, ℕ, ◌+◌, ◌*◌, ◌/◌, ◌%◌
 use Rattle.std.proofs.lemmas.Grind.{same_number_lists}
 use Rattle.std.proofs.lemmas.List.{get_or-take}
 use Rattle.flash_words.specs.Pages.{word_count, page_words, word_at, page_of}
-use Rattle.flash_words.specs.Layouts.{IsRight, image_of}
+use Rattle.flash_words.specs.Layouts.{IsRight, image_of, most_image_words}
 use Rattle.flash_words.specs.declared.layout.Layout.{Layout}
 use Rattle.flash_words.proofs.PageLaws as pages
 use Rattle.page_index.specs.Maps.{IsPool, IsMap}
@@ -30,7 +30,7 @@ code_there image words words' page same code = record {
 }
 
 -- a page of code has a map
-pub code_map : (image words : List ℕ) (page : ℕ) → length image ≤ 24576 → IsCodePage image words page → IsMap words page
+pub code_map : (image words : List ℕ) (page : ℕ) → length image ≤ most_image_words → IsCodePage image words page → IsMap words page
 code_map image words page short code = map_held Anywhere image words page code.first code.last short code.holds
 
 -- a word of a page that stays
@@ -44,9 +44,8 @@ word_there words words' a same =
 pub image_there : (layout : Layout) (words words' : List ℕ) → IsRight layout → length words ≡ word_count → length words' ≡ length words → ((page : ℕ) → ¬ IsPool layout page → page_of words' page ≡ page_of words page) → image_of layout words' ≡ image_of layout words
 image_there layout words words' right whole size outside =
     let n = layout.image_words in
-    let cut : length (take n words) ≡ n = omega (arith, length-take n words, whole, right.image_fits) in
     let cut' : length (take n words') ≡ n = omega (arith, length-take n words', size, whole, right.image_fits) in
-    same_number_lists (take n words') (take n words) (cut' ∙ sym cut) (λ k within.
+    same_number_lists (take n words') (take n words) (cut' ∙ sym (omega (arith, length-take n words, whole, right.image_fits))) (λ k within.
     let below : k < n = omega arith in
     get_or-take n words' k 0 below ∙ word_there words words' k (outside (k / page_words) (λ pool. omega (arith, pool.from, right.image_below_pool))) ∙ sym (get_or-take n words k 0 below))
 

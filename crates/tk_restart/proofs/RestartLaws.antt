@@ -3,7 +3,7 @@ use Rattle.std.proofs.Common.{◌≡◌, ℕ, ◌+◌, ◌*◌, ◌≤◌, ◌&&
 use Rattle.std.specs.Prelude.{◌⊎◌, if◌then◌else◌, slice_index}
 use Rattle.std.proofs.lemmas.Bool.{both_ways}
 use Rattle.flash_words.specs.Pages.{page_of}
-use Rattle.flash_words.specs.Layouts.{IsRight, image_of}
+use Rattle.flash_words.specs.Layouts.{IsRight, image_of, most_image_words}
 use Rattle.flash_words.specs.Memory.{Memory}
 use Rattle.flash_words.specs.declared.layout.Layout.{Layout}
 use Rattle.page_index.specs.Maps.{IsPool, IsFree}
@@ -55,7 +55,7 @@ used_free layout image old mid told page sweeps pool = elim (used_or_not (is_use
   | inr unused ↦ inl (sweeps.drops page pool (both_ways (is_used mid.words page) unused))
 ]
 
-strays_are : (layout : Layout) (image : List ℕ) (old mid : Memory) (told : Kept) → length image ≤ 24576 → Sweeps layout image old mid told → AreStray layout old.words (is_used mid.words) (is_stray layout mid.words)
+strays_are : (layout : Layout) (image : List ℕ) (old mid : Memory) (told : Kept) → length image ≤ most_image_words → Sweeps layout image old mid told → AreStray layout old.words (is_used mid.words) (is_stray layout mid.words)
 strays_are layout image old mid told short sweeps t v = (
   λ is.
       let entry = leads_to layout mid.words t v is in
@@ -89,7 +89,7 @@ changed_is layout image old mid told page sweeps pool = elim (used_or_not (is_us
       ap (λ b. are_some (if b then stubs_where stray image mid.words page else [])) unused ∙ sym (ap (λ b. b && are_some (stubs_where stray image old.words page)) unused))
 ]
 
-keeps_all : (layout : Layout) (image : List ℕ) (old mid new : Memory) (told : Kept) → IsRight layout → length old.words ≡ 65536 → length image ≤ 24576 → Sweeps layout image old mid told → Unlinks layout image mid new
+keeps_all : (layout : Layout) (image : List ℕ) (old mid new : Memory) (told : Kept) → IsRight layout → length old.words ≡ 65536 → length image ≤ most_image_words → Sweeps layout image old mid told → Unlinks layout image mid new
     → Keeps layout image old.words new.words (is_used mid.words) (is_stray layout mid.words)
 keeps_all layout image old mid new told right whole short sweeps unlinks =
     let stray = is_stray layout mid.words in
@@ -113,7 +113,7 @@ once true true some is = absurd (cc)
 once false true some is = absurd (cc)
 once blank false some is = refl
 
-pub restarted : (layout : Layout) (image : List ℕ) (old mid new : Memory) (told : Kept) → IsRight layout → length old.words ≡ 65536 → length image ≤ 24576 → Sweeps layout image old mid told → Unlinks layout image mid new → Restarts layout image old new told
+pub restarted : (layout : Layout) (image : List ℕ) (old mid new : Memory) (told : Kept) → IsRight layout → length old.words ≡ 65536 → length image ≤ most_image_words → Sweeps layout image old mid told → Unlinks layout image mid new → Restarts layout image old new told
 restarted layout image old mid new told right whole short sweeps unlinks =
     let kept = is_used mid.words in
     let stray = is_stray layout mid.words in
@@ -127,17 +127,16 @@ restarted layout image old mid new told right whole short sweeps unlinks =
       dropped_is = sweeps.dropped_is;
       ops = unlinks.ops ∙ ap₂ (λ m n. m + 2 * n) sweeps.ops count;
       erases = λ page pool.
-          let gone = is_dropped old.words kept page in
           let some = is_changed image old.words kept stray page in
           unlinks.erases page pool ∙ ap₂ worn (changed page pool) (sweeps.erases page pool)
-          ∙ worn_once gone some (slice_index old.erases page) (λ is. once (is_erased (page_of old.words page)) (kept page) (are_some (stubs_where stray image old.words page)) is);
+          ∙ worn_once (is_dropped old.words kept page) some (slice_index old.erases page) (λ is. once (is_erased (page_of old.words page)) (kept page) (are_some (stubs_where stray image old.words page)) is);
       other_erases = λ page out. unlinks.other_erases page out ∙ sweeps.other_erases page out;
       failing = unlinks.failing ∙ sweeps.failing;
       refused = unlinks.refused ∙ sweeps.refused;
     }
 
 -- the pages that are used are those that are kept
-used_is : (layout : Layout) (image old new : List ℕ) (kept : ℕ → Bool) (stray : ℕ → ℕ → Bool) (page : ℕ) → IsRight layout → length old ≡ 65536 → length image ≤ 24576 → Keeps layout image old new kept stray → IsPool layout page → is_used new page ≡ kept page
+used_is : (layout : Layout) (image old new : List ℕ) (kept : ℕ → Bool) (stray : ℕ → ℕ → Bool) (page : ℕ) → IsRight layout → length old ≡ 65536 → length image ≤ most_image_words → Keeps layout image old new kept stray → IsPool layout page → is_used new page ≡ kept page
 used_is layout image old new kept stray page right whole short keeps pool = elim (used_or_not (kept page)) [
   | inl is ↦ (
       let own = kept_page layout image old new kept stray page right whole keeps pool is in
@@ -145,7 +144,7 @@ used_is layout image old new kept stray page right whole short keeps pool = elim
   | inr dropped ↦ free_unused new page (keeps.drops page pool dropped) ∙ sym dropped
 ]
 
-pub used_after : (layout : Layout) (image : List ℕ) (old new : Memory) (told : Kept) → IsRight layout → length old.words ≡ 65536 → length image ≤ 24576 → Restarts layout image old new told → used_pages layout new.words ≡ told.kept
+pub used_after : (layout : Layout) (image : List ℕ) (old new : Memory) (told : Kept) → IsRight layout → length old.words ≡ 65536 → length image ≤ most_image_words → Restarts layout image old new told → used_pages layout new.words ≡ told.kept
 used_after layout image old new told right whole short restarts =
     count_used new.words layout.pool_first layout.pool_pages
     ∙ count_same (is_used new.words) restarts.kept layout.pool_first layout.pool_pages (λ page from to. used_is layout image old.words new.words restarts.kept restarts.stray page right whole short restarts.keeps (record { from = from; to = to }))

@@ -5,6 +5,7 @@ use Rattle.std.proofs.lemmas.Bool.{cases_lt}
 use Rattle.std.proofs.lemmas.Bool.Decides.{nat_tests}
 use Rattle.flash_words.specs.Pages.{page_words}
 use Rattle.flash_words.specs.declared.layout.Layout.{Layout}
+use Rattle.flash_words.specs.Layouts.{most_image_pages, most_entries}
 use Rattle.page_index.specs.Maps.{IsPool, page_word, original_page, entry_count, address_of}
 use Rattle.page_index.specs.Entries.{Lists, IsEntry}
 use Rattle.page_index.proofs.MapLaws.{map_of_entry}
@@ -35,8 +36,7 @@ item_among words t v zero i below is = absurd (omega arith)
 item_among words t v (suc n) i below is = elim (cases_lt i n) [
   | inl before ↦ or_second (is_item words t v n) (are_item words t v n) (item_among words t v n i before is)
   | inr level ↦
-      let same : n ≡ i = omega arith in
-      or_first (is_item words t v n) (are_item words t v n) (ap (is_item words t v) same ∙ is)
+      or_first (is_item words t v n) (are_item words t v n) (ap (is_item words t v) (omega arith) ∙ is)
 ]
 
 -- one of the first n
@@ -64,10 +64,10 @@ item_whole : (words : List ℕ) (t v i : ℕ) → i < entry_count words (v / pag
 item_whole words t v i listed address place = grind (arith, nat_tests)
 
 led_parts : (layout : Layout) (words : List ℕ) (t v : ℕ) → is_stray layout words t v ≡ false
-    → (layout.pool_first ≤ v / page_words) × (v / page_words - layout.pool_first < layout.pool_pages) × (original_page words (v / page_words) < 192) × (are_item words t v 126 ≡ true)
+    → (layout.pool_first ≤ v / page_words) × (v / page_words - layout.pool_first < layout.pool_pages) × (original_page words (v / page_words) < most_image_pages) × (are_item words t v most_entries ≡ true)
 led_parts layout words t v is = grind (arith, nat_tests)
 
-led_whole : (layout : Layout) (words : List ℕ) (t v : ℕ) → layout.pool_first ≤ v / page_words → v / page_words - layout.pool_first < layout.pool_pages → original_page words (v / page_words) < 192 → are_item words t v 126 ≡ true
+led_whole : (layout : Layout) (words : List ℕ) (t v : ℕ) → layout.pool_first ≤ v / page_words → v / page_words - layout.pool_first < layout.pool_pages → original_page words (v / page_words) < most_image_pages → are_item words t v most_entries ≡ true
     → is_stray layout words t v ≡ false
 led_whole layout words t v from to original is = grind (arith, nat_tests)
 
@@ -75,7 +75,7 @@ led_whole layout words t v from to original is = grind (arith, nat_tests)
 pub leads_to : (layout : Layout) (words : List ℕ) (t v : ℕ) → is_stray layout words t v ≡ false → IsEntry layout words t v
 leads_to layout words t v is =
     let led = led_parts layout words t v is in
-    let found = item_found words t v 126 led.3 in
+    let found = item_found words t v most_entries led.3 in
     let item = item_parts words t v found.index found.is in
     record {
       page = v / page_words;
@@ -101,13 +101,12 @@ leads_not_away layout words t v pages entry =
     let Q : ℕ → Type 0 = λ p. page_word words p (2 + entry.index) % 256 < page_words in
     let Pool : ℕ → Type 0 = λ p. IsPool layout p in
     let there = subst P own lists in
-    let inside' = subst Q own inside in
     let pool = subst Pool own entry.pool in
     led_whole layout words t v pool.from (omega (arith, pool.from, pool.to)) there.used
-    (item_among words t v 126 entry.index there.near (item_whole words t v entry.index there.listed (sym there.address) (omega (arith, there.place, inside'))))
+    (item_among words t v most_entries entry.index there.near (item_whole words t v entry.index there.listed (sym there.address) (omega (arith, there.place, subst Q own inside))))
 
 -- what the search along the entries has found
-pub listed_by : (words : List ℕ) (t v : ℕ) → original_page words (v / page_words) < 192 → are_item words t v 126 ≡ true → true ≡ is_listed words t v
+pub listed_by : (words : List ℕ) (t v : ℕ) → original_page words (v / page_words) < most_image_pages → are_item words t v most_entries ≡ true → true ≡ is_listed words t v
 listed_by words t v original is = grind (arith, nat_tests)
 
 -- two words with the same entries

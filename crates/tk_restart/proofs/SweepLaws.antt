@@ -7,7 +7,7 @@ use Rattle.std.proofs.lemmas.List.{get_or-set_same, get_or-set_other}
 use Rattle.flash_words.specs.Pages.{page_words, page_count, page_of, set_page, blank, raised}
 use Rattle.flash_words.specs.Memory.{Memory, IsWhole}
 use Rattle.flash_words.specs.Operations.{erased_page}
-use Rattle.flash_words.specs.Layouts.{IsRight}
+use Rattle.flash_words.specs.Layouts.{IsRight, most_image_words}
 use Rattle.flash_words.specs.declared.layout.Layout.{Layout}
 use Rattle.flash_words.proofs.PageLaws as pages
 use Rattle.base_laws.proofs.ManyLaws.{length-many}
@@ -131,7 +131,7 @@ blank_kept blank used is = grind (arith, nat_tests)
 gone_is : (blank used : Bool) → blank ≡ false → used ≡ false → (not blank && not used) ≡ true
 gone_is blank used none unused = grind (arith, nat_tests)
 
-stays_page : (layout : Layout) (image : List ℕ) (old now : Memory) (page : ℕ) → length image ≤ 24576 → IsCodePage image now.words page → IsAlone layout now.words page → SweepsPage layout image old now now page true false
+stays_page : (layout : Layout) (image : List ℕ) (old now : Memory) (page : ℕ) → length image ≤ most_image_words → IsCodePage image now.words page → IsAlone layout now.words page → SweepsPage layout image old now now page true false
 stays_page layout image old now page short code alone =
     let used = map_used now.words page (code_map image now.words page short code) in
     record {
@@ -147,7 +147,7 @@ stays_page layout image old now page short code alone =
       refused = refl;
     }
 
-blank_page : (layout : Layout) (image : List ℕ) (old now : Memory) (page : ℕ) → length image ≤ 24576 → page_of now.words page ≡ page_of old.words page → IsFree now.words page → SweepsPage layout image old now now page false false
+blank_page : (layout : Layout) (image : List ℕ) (old now : Memory) (page : ℕ) → length image ≤ most_image_words → page_of now.words page ≡ page_of old.words page → IsFree now.words page → SweepsPage layout image old now now page false false
 blank_page layout image old now page short same free = record {
   size = refl;
   others = λ other apart. refl;
@@ -185,7 +185,7 @@ goes_page layout image old now page low whole same size filled none =
       refused = refl;
     }
 
-pub swept_fate : (layout : Layout) (image : List ℕ) (old now now' : Memory) (k : ℕ) (told told' : Kept) (fate : Fate) → length image ≤ 24576 → IsRight layout → IsWhole now → IsPool layout (layout.pool_first + k)
+pub swept_fate : (layout : Layout) (image : List ℕ) (old now now' : Memory) (k : ℕ) (told told' : Kept) (fate : Fate) → length image ≤ most_image_words → IsRight layout → IsWhole now → IsPool layout (layout.pool_first + k)
     → IsSwept layout image old now k told → IsJudged layout image now.words (layout.pool_first + k) fate → now' ≡ after_fate now (layout.pool_first + k) fate → told' ≡ counted told fate → IsSwept layout image old now' (k + 1) told'
 swept_fate layout image old now now' k told told' Stays short right whole pool swept judged after is =
     let page = layout.pool_first + k in
@@ -218,7 +218,7 @@ swept_none layout image old = record {
 }
 
 -- the pages below are free or have a map
-pub swept_pages : (layout : Layout) (image : List ℕ) (old now : Memory) (k : ℕ) (told : Kept) → length image ≤ 24576 → IsSwept layout image old now k told → ArePagesBelow layout now.words (layout.pool_first + k)
+pub swept_pages : (layout : Layout) (image : List ℕ) (old now : Memory) (k : ℕ) (told : Kept) → length image ≤ most_image_words → IsSwept layout image old now k told → ArePagesBelow layout now.words (layout.pool_first + k)
 swept_pages layout image old now k told short swept page pool below = elim (swept.behind page pool below) [
   | Left code alone same ↦ inr (code_map image now.words page short (code_there image old.words now.words page same code))
   | Freed none free ↦ inl free
@@ -229,7 +229,7 @@ swept_pages layout image old now k told short swept page pool below = elim (swep
 pub free_not_used : (words : List ℕ) (page : ℕ) → IsFree words page → is_used words page ≡ true → ⊥
 free_not_used words page free is = let unused = free_unused words page free in cc
 
-pub swept_all : (layout : Layout) (image : List ℕ) (old now : Memory) (told : Kept) → length image ≤ 24576 → IsSwept layout image old now layout.pool_pages told → Sweeps layout image old now told
+pub swept_all : (layout : Layout) (image : List ℕ) (old now : Memory) (told : Kept) → length image ≤ most_image_words → IsSwept layout image old now layout.pool_pages told → Sweeps layout image old now told
 swept_all layout image old now told short swept =
     let judged : (page : ℕ) → IsPool layout page → SweptPage layout image old.words now.words page = λ page pool. swept.behind page pool pool.to in
     let is_kept : (page : ℕ) → IsCodePage image old.words page → page_of now.words page ≡ page_of old.words page → is_used now.words page ≡ true = λ page code same.

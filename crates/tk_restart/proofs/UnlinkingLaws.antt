@@ -7,7 +7,7 @@ use Rattle.std.proofs.lemmas.List.{get_or-set_same, get_or-set_other}
 use Rattle.flash_words.specs.Pages.{page_words, page_count, word_at, page_of, set_page, blank, raised}
 use Rattle.flash_words.specs.Memory.{Memory, IsWhole}
 use Rattle.flash_words.specs.Operations.{erased_page, programmed_page}
-use Rattle.flash_words.specs.Layouts.{IsRight}
+use Rattle.flash_words.specs.Layouts.{IsRight, most_image_words}
 use Rattle.flash_words.specs.declared.layout.Layout.{Layout}
 use Rattle.flash_words.proofs.PageLaws as pages
 use Rattle.nat_template.specs.declared.piece.Piece.{Piece}
@@ -43,10 +43,8 @@ links_same words words' test test' a (Fixed word ∷ pieces) same tests =
 links_same words words' test test' a (Link t ∷ pieces) same tests =
     let long = size-cons (Link t) pieces in
     let rest = links_same words words' test test' (a + 3) pieces (λ x from to. same x (omega arith) (omega arith)) tests in
-    let first = same a (omega arith) (omega arith) in
-    let second = same (a + 1) (omega arith) (omega arith) in
     let picked : is_picked words' test' a t ≡ is_picked words test a t =
-    ap₂ (λ w w'. w == jump_word && test' t w') first second ∙ ap (λ b. word_at words a == jump_word && b) (tests t (word_at words (a + 1))) in
+    ap₂ (λ w w'. w == jump_word && test' t w') (same a (omega arith) (omega arith)) (same (a + 1) (omega arith) (omega arith)) ∙ ap (λ b. word_at words a == jump_word && b) (tests t (word_at words (a + 1))) in
     ap₂ (λ (b : Bool) (stubs : List ℕ). if b then a ∷ stubs else stubs) picked rest
 
 -- a run as the page tells it
@@ -56,12 +54,10 @@ told_run image words page code = own_run Anywhere image words page code.first co
 pub stubs_same : (image words words' : List ℕ) (test test' : ℕ → ℕ → Bool) (page : ℕ) → page_of words' page ≡ page_of words page → ((t v : ℕ) → test' t v ≡ test t v) → IsCodePage image words page
     → stubs_where test' image words' page ≡ stubs_where test image words page
 stubs_same image words words' test test' page same tests code =
-    let own = told_run image words page code in
-    let fits = own.holds.fits in
+    let fits = (told_run image words page code).holds.fits in
     let words_are = (same_page words words' page same).word in
     let first : address_of words' page 0 ≡ address_of words page 0 = ap₂ (λ original word. page_words * original + word / 256) (sym (words_are 0 (omega arith))) (sym (words_are 2 (omega arith))) in
-    let count : entry_count words' page ≡ entry_count words page = sym (words_are 1 (omega arith)) in
-    let pieces : pieces_in image words' page ≡ pieces_in image words page = ap₂ (λ t n. page_pieces image t (n - 1)) first count in
+    let pieces : pieces_in image words' page ≡ pieces_in image words page = ap₂ (λ t n. page_pieces image t (n - 1)) first (sym (words_are 1 (omega arith))) in
     ap (links_where words' test' (page_words * page)) pieces
     ∙ links_same words words' test test' (page_words * page) (pieces_in image words page) (λ x from to.
     let here : page_words * page + (x - page_words * page) ≡ x = omega arith in
@@ -77,10 +73,9 @@ pub calls_same : (image words words' : List ℕ) (test test' : ℕ → ℕ → B
 calls_same image words words' test test' page long inside same tests code =
     let stubs = stubs_where test image words page in
     let room = stubs_inside image words test page (length words') (omega (arith, long)) (told_run image words page code) in
-    let words_are = (same_page words words' page same).word in
     ap (λ ss. page_of (with_calls words' ss) page) (stubs_same image words words' test test' page same tests code)
     ∙ pages.page_alike (with_calls words' stubs) (with_calls words stubs) page page
-    (λ k below. calls_alike words' words stubs (page_words * page + k) long room (sym (words_are k below)))
+    (λ k below. calls_alike words' words stubs (page_words * page + k) long room (sym (((same_page words words' page same).word) k below)))
     (omega (arith, length-with_calls words' stubs, long)) (omega (arith, length-with_calls words stubs))
 
 -- the page holds its run
@@ -100,7 +95,7 @@ some_strays layout image by words page used = ap (λ b. if b then stubs_where (i
 pub free_calls : (layout : Layout) (image by words : List ℕ) (page : ℕ) → IsFree words page → calls_in layout image by words page ≡ page_of words page
 free_calls layout image by words page free = ap (λ ss. page_of (with_calls words ss) page) (no_strays layout image by words page (free_unused words page free))
 
-code_used : (image words : List ℕ) (page : ℕ) → length image ≤ 24576 → IsCodePage image words page → is_used words page ≡ true
+code_used : (image words : List ℕ) (page : ℕ) → length image ≤ most_image_words → IsCodePage image words page → is_used words page ≡ true
 code_used image words page short code = map_used words page (code_map image words page short code)
 
 -- a page in the words that it then has: it is free or code, and lists what it did
@@ -119,7 +114,7 @@ behind_same image old now page kind same = record {
   back = λ i t v lists. lists_there now old page i t v (sym same) lists;
 }
 
-behind_calls : (layout : Layout) (image old now : List ℕ) (page : ℕ) → length image ≤ 24576 → page_words * page + page_words ≤ length old → IsFree old page ⊎ IsCodePage image old page → page_of now page ≡ calls_in layout image old old page → Behind image old now page
+behind_calls : (layout : Layout) (image old now : List ℕ) (page : ℕ) → length image ≤ most_image_words → page_words * page + page_words ≤ length old → IsFree old page ⊎ IsCodePage image old page → page_of now page ≡ calls_in layout image old old page → Behind image old now page
 behind_calls layout image old now page short inside kind is = elim kind [
   | inl free ↦ behind_same image old now page (inl free) (is ∙ free_calls layout image old old page free)
   | inr code ↦ (
@@ -141,19 +136,19 @@ pub inside_pool : (layout : Layout) (words : List ℕ) (page : ℕ) → IsRight 
 inside_pool layout words page right whole pool = omega (arith, whole, pool.to, right.pool_below_kernel)
 
 -- every page of the pool, at any moment
-pub behind_all : (layout : Layout) (image : List ℕ) (old now : Memory) (k page : ℕ) → length image ≤ 24576 → IsRight layout → length old.words ≡ 65536 → AreCodes layout image old.words → IsUnlinked layout image old now k → IsPool layout page → Behind image old.words now.words page
+pub behind_all : (layout : Layout) (image : List ℕ) (old now : Memory) (k page : ℕ) → length image ≤ most_image_words → IsRight layout → length old.words ≡ 65536 → AreCodes layout image old.words → IsUnlinked layout image old now k → IsPool layout page → Behind image old.words now.words page
 behind_all layout image old now k page short right whole codes unlinked pool = elim (cases_lt page (layout.pool_first + k)) [
   | inl before ↦ behind_calls layout image old.words now.words page short (inside_pool layout old.words page right whole pool) (codes page pool) (unlinked.behind page pool before)
   | inr ahead ↦ behind_same image old.words now.words page (codes page pool) (unlinked.ahead page (omega arith))
 ]
 
-pub pages_of : (layout : Layout) (image words : List ℕ) → length image ≤ 24576 → AreCodes layout image words → ArePages layout words
+pub pages_of : (layout : Layout) (image words : List ℕ) → length image ≤ most_image_words → AreCodes layout image words → ArePages layout words
 pages_of layout image words short codes page pool = elim (codes page pool) [
   | inl free ↦ inl free
   | inr code ↦ inr (code_map image words page short code)
 ]
 
-pub strays_still : (layout : Layout) (image : List ℕ) (old now : Memory) (k t v : ℕ) → length image ≤ 24576 → IsRight layout → length old.words ≡ 65536 → AreCodes layout image old.words → IsUnlinked layout image old now k → is_stray layout now.words t v ≡ is_stray layout old.words t v
+pub strays_still : (layout : Layout) (image : List ℕ) (old now : Memory) (k t v : ℕ) → length image ≤ most_image_words → IsRight layout → length old.words ≡ 65536 → AreCodes layout image old.words → IsUnlinked layout image old now k → is_stray layout now.words t v ≡ is_stray layout old.words t v
 strays_still layout image old now k t v short right whole codes unlinked =
     let at : (page : ℕ) → IsPool layout page → Behind image old.words now.words page = λ page pool. behind_all layout image old now k page short right whole codes unlinked pool in
     stray_alike layout old.words now.words t v (pages_of layout image old.words short codes) (pages_of layout image now.words short (λ page pool. (at page pool).kind))
@@ -209,7 +204,7 @@ unlinked_more layout image old now now' k some pool unlinked one =
     }
 
 -- in words that agree on a page its strays are the same
-strays_same : (layout : Layout) (image old now : List ℕ) (page : ℕ) → length image ≤ 24576 → page_of now page ≡ page_of old page → ((t v : ℕ) → is_stray layout now t v ≡ is_stray layout old t v) → IsFree old page ⊎ IsCodePage image old page
+strays_same : (layout : Layout) (image old now : List ℕ) (page : ℕ) → length image ≤ most_image_words → page_of now page ≡ page_of old page → ((t v : ℕ) → is_stray layout now t v ≡ is_stray layout old t v) → IsFree old page ⊎ IsCodePage image old page
     → strays_in layout image now now page ≡ strays_in layout image old old page
 strays_same layout image old now page short same tests kind = elim kind [
   | inl free ↦ no_strays layout image now now page (free_unused now page (same ∙ free)) ∙ sym (no_strays layout image old old page (free_unused old page free))
@@ -219,7 +214,7 @@ strays_same layout image old now page short same tests kind = elim kind [
       ∙ sym (some_strays layout image old old page (code_used image old page short code)))
 ]
 
-calls_still : (layout : Layout) (image old now : List ℕ) (page : ℕ) → length image ≤ 24576 → length now ≡ length old → page_words * page + page_words ≤ length old → page_of now page ≡ page_of old page → ((t v : ℕ) → is_stray layout now t v ≡ is_stray layout old t v) → IsFree old page ⊎ IsCodePage image old page
+calls_still : (layout : Layout) (image old now : List ℕ) (page : ℕ) → length image ≤ most_image_words → length now ≡ length old → page_words * page + page_words ≤ length old → page_of now page ≡ page_of old page → ((t v : ℕ) → is_stray layout now t v ≡ is_stray layout old t v) → IsFree old page ⊎ IsCodePage image old page
     → calls_in layout image now now page ≡ calls_in layout image old old page
 calls_still layout image old now page short long inside same tests kind = elim kind [
   | inl free ↦ free_calls layout image now now page (same ∙ free) ∙ same ∙ sym (free_calls layout image old old page free)
@@ -262,7 +257,7 @@ one_by layout image old now page true low whole size same here is calls long =
       refused = refl;
     }
 
-pub unlinked_one : (layout : Layout) (image : List ℕ) (old now now' : Memory) (k : ℕ) → length image ≤ 24576 → IsRight layout → length old.words ≡ 65536 → AreCodes layout image old.words → IsWhole now → IsPool layout (layout.pool_first + k)
+pub unlinked_one : (layout : Layout) (image : List ℕ) (old now now' : Memory) (k : ℕ) → length image ≤ most_image_words → IsRight layout → length old.words ≡ 65536 → AreCodes layout image old.words → IsWhole now → IsPool layout (layout.pool_first + k)
     → IsUnlinked layout image old now k → now' ≡ unlinked_page layout image now (layout.pool_first + k) → IsUnlinked layout image old now' (k + 1)
 unlinked_one layout image old now now' k short right whole codes wholly pool unlinked after =
     let page = layout.pool_first + k in
@@ -274,10 +269,9 @@ unlinked_one layout image old now now' k short right whole codes wholly pool unl
     let some = has_strays layout image now.words page in
     let words' = with_calls now.words (strays_in layout image now.words now.words page) in
     let long = pages.length-page_of words' page (omega (arith, length-with_calls now.words (strays_in layout image now.words now.words page), unlinked.size, inside)) in
-    let low : page < page_count = omega (arith, pool.to, right.pool_below_kernel) in
     let P : Memory → Type 0 = λ m. IsUnlinked layout image old m (k + 1) in
     subst P (sym after) (unlinked_more layout image old now (unlinked_page layout image now page) k some pool unlinked
-    (one_by layout image old now page some low wholly unlinked.size same refl (sym (ap are_some stubs)) calls long))
+    (one_by layout image old now page some (omega (arith, pool.to, right.pool_below_kernel)) wholly unlinked.size same refl (sym (ap are_some stubs)) calls long))
 
 pub unlinked_none : (layout : Layout) (image : List ℕ) (old : Memory) → IsUnlinked layout image old old 0
 unlinked_none layout image old = record {

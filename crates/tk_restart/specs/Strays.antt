@@ -3,6 +3,7 @@
 use Rattle.std.specs.Prelude.{ℕ, zero, suc, ◌+◌, ◌-◌, ◌/◌, ◌%◌, ◌==◌, ◌&&◌, ◌||◌, nat_le, nat_lt, not, Bool, false, List}
 use Rattle.flash_words.specs.Pages.{page_words}
 use Rattle.flash_words.specs.declared.layout.Layout.{Layout}
+use Rattle.flash_words.specs.Layouts.{most_image_pages, most_entries}
 use Rattle.page_index.specs.Maps.{page_word, original_page, entry_count, address_of}
 
 -- entry i of the page of a place is of t, and at the place
@@ -16,7 +17,7 @@ are_item words t v zero = false
 are_item words t v (suc n) = is_item words t v n || are_item words t v n
 
 abbrev pub is_listed : List ℕ → (t v : ℕ) → Bool
-is_listed words t v = nat_lt (original_page words (v / page_words)) 192 && are_item words t v 126
+is_listed words t v = nat_lt (original_page words (v / page_words)) most_image_pages && are_item words t v most_entries
 
 -- a link to t that jumps to v leads to no entry of it
 abbrev pub is_stray : Layout → List ℕ → (t v : ℕ) → Bool

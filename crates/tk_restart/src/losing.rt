@@ -6,7 +6,7 @@ ghost use Rattle.pool_check.specs.Links.{HaveFormsAround};
 ghost use Rattle.tk_restart.specs.Losing.{lost_in, torn_words as words_torn};
 
 use crate::tearing::tear;
-use flash_model::{Flash, Layout};
+use flash_model::{Flash, Layout, PAGE_WORDS};
 use program_generator::next;
 
 /// Gives the page of a refused operation the words of a loss of power.
@@ -36,7 +36,7 @@ fn torn_words(op: u64) -> [u16; 128]
 {
     let mut words = [0; 128];
     let mut x = (op % 0x1_0000_0000) as u32;
-    'words: for k in 0..128u16 {
+    'words: for k in 0..PAGE_WORDS {
         x = next(x);
         words[k as usize] = (x >> 16) as u16;
     }

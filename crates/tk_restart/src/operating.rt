@@ -1,7 +1,7 @@
 //! Operations on a flash of which none is to fail.
 
 ghost use Rattle.std.specs.Prelude.{◌≡◌, ◌<◌, ◌^◌, []};
-ghost use Rattle.flash_words.specs.Pages.{page_of, blank};
+ghost use Rattle.flash_words.specs.Pages.{page_of, blank, page_count};
 ghost use Rattle.flash_words.specs.Memory.{IsWhole};
 ghost use Rattle.flash_words.specs.Operations.{erased_page, programmed_page};
 
@@ -9,7 +9,7 @@ use flash_model::Flash;
 
 /// Erases a page.
 pub(crate) fn erase(flash: &mut Flash, page: u16)
-    requires page { page < 512 }
+    requires page { page < page_count }
     requires sound { flash.old.failing ≡ [] }
     requires room { flash.old.ops < 2 ^ 63 }
     ensures after { flash.new ≡ erased_page flash.old page }
@@ -23,7 +23,7 @@ pub(crate) fn erase(flash: &mut Flash, page: u16)
 
 /// Programs a page that is erased.
 pub(crate) fn program(flash: &mut Flash, page: u16, words: &[u16; 128])
-    requires page { page < 512 }
+    requires page { page < page_count }
     requires sound { flash.old.failing ≡ [] }
     requires room { flash.old.ops < 2 ^ 63 }
     requires erased { page_of flash.old.words page ≡ blank }

@@ -1,16 +1,11 @@
 //! Links that lead to no entry.
 
 ghost use Rattle.std.specs.Prelude.{◌≡◌, ◌<◌};
+ghost use Rattle.flash_words.specs.Layouts.{most_entries};
 ghost use Rattle.tk_restart.specs.Strays.{is_stray, is_listed, is_item};
 
-use flash_model::{Flash, Layout, PAGE_WORDS};
+use flash_model::{FIRST_ENTRY, Flash, Layout, MOST_ENTRIES, MOST_IMAGE_PAGES, PAGE_WORDS};
 use nat_page::LinkTest;
-
-/// How many entries a page has room for.
-const MOST_ENTRIES: u16 = 126;
-
-/// Where a map's entries begin.
-const FIRST_ENTRY: u16 = 2;
 
 /// Those links that jump to a place which no page of the pool has an entry of their target at.
 #[derive(Clone, Copy)]
@@ -49,7 +44,7 @@ fn leads_nowhere(flash: &Flash, layout: &Layout, t: u16, place: u16) -> bool
 fn lists(flash: &Flash, t: u16, place: u16) -> bool
     ensures value { result ≡ is_listed flash.now.words t place }
 {
-    if flash.word(place / PAGE_WORDS * PAGE_WORDS) >= 192 {
+    if flash.word(place / PAGE_WORDS * PAGE_WORDS) >= MOST_IMAGE_PAGES {
         return false;
     }
     'entries: for i in 0..MOST_ENTRIES {
@@ -62,7 +57,7 @@ fn lists(flash: &Flash, t: u16, place: u16) -> bool
 
 /// Whether entry `i` of the page of a place is of `t`, and there.
 fn is_entry(flash: &Flash, i: u16, t: u16, place: u16) -> bool
-    requires near { i < 126 }
+    requires near { i < most_entries }
     ensures value { result ≡ is_item flash.now.words t place i }
 {
     let first = place / PAGE_WORDS * PAGE_WORDS;

@@ -10,6 +10,7 @@ use crate::operating::{erase, program};
 use flash_model::{Flash, Layout};
 
 /// Gives a page of the pool these words, by an erase and a program: so a loss of power may leave it, whatever they are.
+/// `layout` serves the contract alone.
 pub fn tear(flash: &mut Flash, layout: &Layout, page: u16, words: &[u16; 128])
     requires right { IsRight layout.now }
     requires page { IsPool layout.now page }

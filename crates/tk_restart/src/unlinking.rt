@@ -27,7 +27,7 @@ pub(crate) fn unlink(flash: &mut Flash, layout: &Layout)
     }
 }
 
-/// The same of one page.
+/// Makes each stub of one page that jumps to no entry call the bridge.
 fn unlink_page(flash: &mut Flash, layout: &Layout, page: u16)
     requires right { IsRight layout.now }
     requires image { length (image_of layout.now flash.old.words) ≡ layout.now.image_words }

@@ -16,7 +16,7 @@ use Rattle.mote_devices.specs.State.{at_reset, State as Devices}
 use Rattle.mote_core.specs.declared.mote.Mote.{Mote}
 use Rattle.mote_core.specs.Step.{IsAtReset, cpu_at_reset}
 use Rattle.swap_store.specs.Slots.{zero_slots}
-use Rattle.mem_guard.specs.FlatMachine.{whole_part, run, original}
+use Rattle.flat_machine.specs.FlatMachine.{whole_part, run, original}
 use Rattle.kernel_entry.specs.Seen.{program as program_of}
 use Rattle.program_steps.specs.Machines.{Machine}
 use Rattle.program_steps.specs.Ready.{IsGoing, IsKept, IsRightPart}

@@ -2,6 +2,5 @@
 mod RunSoFar
 mod Advancing
 mod Gathered
-mod Several
 pub mod Booting
 pub mod WholeRun

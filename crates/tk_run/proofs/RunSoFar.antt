@@ -1,24 +1,22 @@
 -- The run so far, beside the original program.
-use Rattle.std.proofs.Common.{◌≡◌, ℕ, suc, ◌+◌, ◌≤◌, Bool, true, false, List, [], ◌∷◌, ◌++◌, refl, sym, ap, ◌∙◌, arith, subst, append_assoc, add-zero}
+use Rattle.std.proofs.Common.{◌≡◌, ℕ, suc, ◌+◌, Bool, true, false, List, [], ◌∷◌, ◌++◌, inl, inr, refl, sym, ap, ◌∙◌, arith, subst, append_assoc, add-zero}
 use Rattle.std.specs.Prelude.{Option, Some, None}
 use Rattle.std.proofs.lemmas.List.{append-nil}
 use Rattle.std.proofs.lemmas.Grind.{flat_map-append}
 use Rattle.std.specs.Io.KnownBytes.{Appends}
 use Rattle.byte_streams.proofs.KnownBytes.{appends-both, appends-nothing}
 use Rattle.mote_devices.specs.declared.line.Line.{Line}
-use Rattle.mem_guard.specs.FlatMachine.{Program, is_own, is_inside, Moment, End as FlatEnd, Run, run, with_line, ended, next_of}
-use Rattle.mem_guard.specs.FlatMachine as flat_ends
-use Rattle.mem_guard.proofs.MachineLaws.{run_wild, run_spent, run_stops, run_goes}
-use Rattle.step_laws.specs.declared.moves.End.{End}
+use Rattle.flat_machine.specs.FlatMachine.{Program, is_own, is_inside, Moment, End as FlatEnd, Run, run, with_line, ended, next_of}
+use Rattle.flat_machine.specs.FlatMachine as flat_ends
+use Rattle.flat_machine.proofs.MachineLaws.{run_wild, run_spent, run_stops, run_goes}
+use Rattle.kernel_entry.specs.declared.kernel.End.{End}
 use Rattle.step_laws.specs.Moves.{Move, lines_of, line_before}
 use Rattle.kernel_entry.specs.Seen.{program as program_of}
 use Rattle.program_steps.specs.Machines.{Machine, flat_of}
 use Rattle.program_steps.specs.Ready.{IsGoing, IsQuiet}
-use Rattle.kernel_entry.specs.Texts.{line_text}
-use Rattle.program_steps.specs.Stepping.{lines_text}
-use Rattle.program_steps.specs.Stepping.{Goes, Stays, AreMadeAt, ends_in_arrive, HasStepped, HasEntered}
-use Rattle.program_steps.proofs.MadeAt.{made_map, made_both}
-use Rattle.tk_run.specs.Running.{original_from, run_of, Visits}
+use Rattle.printed_text.specs.DeviceLines.{device_line_text, lines_text}
+use Rattle.program_steps.specs.Stepping.{Goes, Stays, IsArrival, AreOfStep, ends_in_arrive, HasStepped, HasEntered}
+use Rattle.tk_run.specs.Running.{original_from, run_of, states_of, StandsAfter, StepsTo, IsByStep}
 use Rattle.program_steps.proofs.Leading.{goes_on, stays_on, stays_self}
 
 -- a run behind lines that were written before
@@ -34,13 +32,13 @@ pub record Ran (old now : Machine) (i : ℕ) (before after : Option (List ℕ)) 
   pub broken : now.broken ≡ old.broken
   pub steps : now.steps ≡ old.steps + i
   pub put : Appends before after (lines_text lines)
-  pub made : AreMadeAt (Visits old i) moves
   pub run : (k : ℕ) → original_from old (k + i) ≡ behind lines (run (program_of old.kernel) (flat_of now) k)
 
 -- between two steps
 pub record IsBetween (old now : Machine) (i : ℕ) (before after : Option (List ℕ)) : Type 0 where
   pub ran : Ran old now i before after
   pub last : ends_in_arrive ran.moves ≡ false
+  pub steps : StepsTo (states_of (original_from old)) old i ran.moves now
   pub ready : IsGoing now
   pub quiet : IsQuiet now
 
@@ -61,21 +59,119 @@ none_ran program s = none_by program s (is_inside program s.now.cpu.pc) refl
 pub nothing : (i : ℕ) → 0 + i ≡ i
 nothing i = omega arith
 
--- where pages were made
-pub made_on : (old : Machine) (i j : ℕ) (moves : List Move) → i ≤ j → AreMadeAt (Visits old i) moves → AreMadeAt (Visits old j) moves
-made_on old i j moves below made = made_map (Visits old i) (Visits old j) moves (λ t visit. (visit.0, omega (arith, visit.1), visit.2)) made
+-- its moves, step by step
+stands_after : (old now : Machine) (i : ℕ) (before after : Option (List ℕ)) → IsBetween old now i before after → StandsAfter (states_of (original_from old)) i now
+stands_after old now i before after between = record {
+  ready = between.ready;
+  stands = sym (ap (states_of (original_from old)) (sym (nothing i)) ∙ ap (λ (r : Run). r.state) (between.ran.run 0) ∙ (none_ran (program_of old.kernel) (flat_of now)).1);
+}
 
-pub made_step : (old : Machine) (i : ℕ) (moves more : List Move) → AreMadeAt (Visits old i) moves → AreMadeAt (λ t. ⊥) more → AreMadeAt (Visits old i) (moves ++ more)
-made_step old i moves more made none = made_both (Visits old i) moves more made (made_map (λ t. ⊥) (Visits old i) more (λ t never. absurd never) none)
+-- behind an arrival, a step is to come
+pub record HasBegun (old now : Machine) (i : ℕ) (moves : List Move) : Type 0 where
+  pub boundary : Machine
+  pub before : List Move
+  pub arrival : List Move
+  pub lines : List Line
+  pub all : moves ≡ before ++ arrival
+  pub steps : StepsTo (states_of (original_from old)) old i before boundary
+  pub stands : StandsAfter (states_of (original_from old)) i boundary
+  pub arrives : IsArrival boundary.at arrival
+  pub goes : Goes boundary now arrival lines
 
-stands_after : (old now : Machine) (i : ℕ) (before after : Option (List ℕ)) → Ran old now i before after → (original_from old i).state.now.cpu.pc ≡ now.at
-stands_after old now i before after ran =
-    ap (λ k. (original_from old k).state.now.cpu.pc) (sym (nothing i)) ∙ ap (λ (r : Run). r.state.now.cpu.pc) (ran.run 0) ∙ ap (λ (s : Moment). s.now.cpu.pc) (none_ran (program_of old.kernel) (flat_of now)).1
+pub begun_between : (old now : Machine) (i : ℕ) (before after : Option (List ℕ)) → (between : IsBetween old now i before after) → HasBegun old now i between.ran.moves
+unfolding lines_of
+begun_between old now i before after between = record {
+  boundary = now;
+  before = between.ran.moves;
+  arrival = [];
+  lines = [];
+  all = sym (append-nil between.ran.moves);
+  steps = between.steps;
+  stands = stands_after old now i before after between;
+  arrives = IsArrival.NoArrival refl;
+  goes = record { walk = refl; told = refl; numbers = refl };
+}
 
-pub made_enter : (old now new : Machine) (i : ℕ) (before after : Option (List ℕ)) (result : Option End) → (ran : Ran old now i before after) → (entered : HasEntered now new result) → AreMadeAt (Visits old i) (ran.moves ++ entered.moves)
-made_enter old now new i before after result ran entered =
-    let here = stands_after old now i before after ran in
-    made_both (Visits old i) ran.moves entered.moves ran.made (made_map (λ t. t ≡ now.at) (Visits old i) entered.moves (λ t is. (i, omega arith, here ∙ sym is)) entered.made)
+pub begun_entered : (old now new : Machine) (i : ℕ) (before after : Option (List ℕ)) (result : Option End) → (between : IsBetween old now i before after) → (entered : HasEntered now new result) → HasBegun old new i (between.ran.moves ++ entered.moves)
+begun_entered old now new i before after result between entered = record {
+  boundary = now;
+  before = between.ran.moves;
+  arrival = entered.moves;
+  lines = [];
+  all = refl;
+  steps = between.steps;
+  stands = stands_after old now i before after between;
+  arrives = entered.arrives;
+  goes = entered.goes;
+}
+
+-- nothing more of it is made
+pub by_step_begun : (old now : Machine) (i : ℕ) (moves : List Move) → HasBegun old now i moves → IsByStep (states_of (original_from old)) old now i moves
+by_step_begun old now i moves begun = record {
+  last = begun.boundary;
+  before = begun.before;
+  behind = begun.arrival;
+  lines = begun.lines;
+  all = begun.all;
+  steps = begun.steps;
+  stands = begun.stands;
+  of_step = record { arrival = begun.arrival; own = []; parts = sym (append-nil begun.arrival); arrives = begun.arrives; makes = inl refl };
+  goes = begun.goes;
+}
+
+-- its moves were made, and lead to the next, or to an end
+behind_all : (moves before arrival own : List Move) → moves ≡ before ++ arrival → moves ++ own ≡ before ++ (arrival ++ own)
+behind_all moves before arrival own all = ap (λ m. m ++ own) all ∙ append_assoc before arrival own
+
+of_step_by : (old now new : Machine) (i : ℕ) (moves : List Move) (line : Option Line) → (begun : HasBegun old now i moves) → (step : HasStepped now new line) → AreOfStep begun.boundary.at (begun.arrival ++ step.moves)
+of_step_by old now new i moves line begun step = record { arrival = begun.arrival; own = step.moves; parts = refl; arrives = begun.arrives; makes = inr step.own }
+
+goes_behind : (old now new : Machine) (i : ℕ) (moves : List Move) (line : Option Line) → (begun : HasBegun old now i moves) → (step : HasStepped now new line) → Goes begun.boundary new (begun.arrival ++ step.moves) (begun.lines ++ line_before line [])
+goes_behind old now new i moves line begun step = goes_on begun.boundary now new begun.arrival step.moves begun.lines (line_before line []) begun.goes step.goes
+
+pub steps_on : (old now new : Machine) (i : ℕ) (moves : List Move) (line : Option Line) → HasBegun old now i moves → (step : HasStepped now new line) → StepsTo (states_of (original_from old)) old (i + 1) (moves ++ step.moves) new
+steps_on old now new i moves line begun step =
+    let next : suc i ≡ i + 1 = omega arith in
+    subst (λ n. StepsTo (states_of (original_from old)) old n (moves ++ step.moves) new) next (
+      begun.boundary,
+      begun.before,
+      begun.arrival,
+      step.moves,
+      begun.lines ++ line_before line [],
+      behind_all moves begun.before begun.arrival step.moves begun.all,
+      begun.steps,
+      begun.stands,
+      begun.arrives,
+      step.own,
+      goes_behind old now new i moves line begun step,
+    )
+
+pub by_step_stopped : (old now new : Machine) (i : ℕ) (moves : List Move) (line : Option Line) → HasBegun old now i moves → (step : HasStepped now new line) → IsByStep (states_of (original_from old)) old new i (moves ++ step.moves)
+by_step_stopped old now new i moves line begun step = record {
+  last = begun.boundary;
+  before = begun.before;
+  behind = begun.arrival ++ step.moves;
+  lines = begun.lines ++ line_before line [];
+  all = behind_all moves begun.before begun.arrival step.moves begun.all;
+  steps = begun.steps;
+  stands = begun.stands;
+  of_step = of_step_by old now new i moves line begun step;
+  goes = goes_behind old now new i moves line begun step;
+}
+
+-- a machine that is marked as broken behind them
+pub by_step_marked : (old new : Machine) (i : ℕ) (moves : List Move) → IsByStep (states_of (original_from old)) old new i moves → IsByStep (states_of (original_from old)) old (record new { broken = true }) i moves
+by_step_marked old new i moves led = record {
+  last = led.last;
+  before = led.before;
+  behind = led.behind;
+  lines = led.lines;
+  all = led.all;
+  steps = led.steps;
+  stands = led.stands;
+  of_step = led.of_step;
+  goes = record { walk = led.goes.walk; told = led.goes.told; numbers = led.goes.numbers };
+}
 
 -- the run so far
 unfoldable pub ran_start : (m : Machine) (known : Option (List ℕ)) → Ran m m 0 known known
@@ -88,29 +184,33 @@ ran_start m known = record {
   broken = refl;
   steps = omega arith;
   put = appends-nothing known;
-  made = tt;
   run = λ k. ap (original_from m) (add-zero k);
 }
 
 pub between_start : (m : Machine) (known : Option (List ℕ)) → IsGoing m → IsQuiet m → IsBetween m m 0 known known
 unfolding ran_start
-between_start m known ready quiet = record { ran = ran_start m known; last = refl; ready = ready; quiet = quiet }
+between_start m known ready quiet = record { ran = ran_start m known; last = refl; steps = (refl, refl); ready = ready; quiet = quiet }
 
-unfoldable pub ran_enter : (old now new : Machine) (i : ℕ) (before after : Option (List ℕ)) (result : Option End) → Ran old now i before after → HasEntered now new result → Ran old new i before after
-ran_enter old now new i before after result ran entered = record {
+-- on by moves that write no line, and of which the original program makes no step
+unfoldable pub ran_still : (old now new : Machine) (i : ℕ) (before after later : Option (List ℕ)) (moves : List Move) → (ran : Ran old now i before after) → Goes now new moves [] → Stays now new → new.broken ≡ now.broken → new.steps ≡ now.steps → flat_of new ≡ flat_of now
+    → Appends before later (lines_text ran.lines) → Ran old new i before later
+ran_still old now new i before after later moves ran goes stays broken steps flat put = record {
   lines = ran.lines;
-  moves = ran.moves ++ entered.moves;
-  goes = subst (λ l. Goes old new (ran.moves ++ entered.moves) l) (append-nil ran.lines) (goes_on old now new ran.moves entered.moves ran.lines [] ran.goes entered.goes);
-  stays = stays_on old now new ran.stays entered.stays;
-  broken = entered.broken ∙ ran.broken;
-  steps = entered.steps ∙ ran.steps;
-  put = ran.put;
-  made = made_enter old now new i before after result ran entered;
-  run = λ k. ran.run k ∙ ap (λ s. behind ran.lines (run (program_of old.kernel) s k)) (sym entered.flat);
+  moves = ran.moves ++ moves;
+  goes = subst (λ l. Goes old new (ran.moves ++ moves) l) (append-nil ran.lines) (goes_on old now new ran.moves moves ran.lines [] ran.goes goes);
+  stays = stays_on old now new ran.stays stays;
+  broken = broken ∙ ran.broken;
+  steps = steps ∙ ran.steps;
+  put = put;
+  run = λ k. ran.run k ∙ ap (λ s. behind ran.lines (run (program_of old.kernel) s k)) (sym flat);
 }
 
+abbrev pub ran_enter : (old now new : Machine) (i : ℕ) (before after : Option (List ℕ)) (result : Option End) → Ran old now i before after → HasEntered now new result → Ran old new i before after
+ran_enter old now new i before after result ran entered =
+    ran_still old now new i before after after entered.moves ran entered.goes entered.stays entered.broken entered.steps entered.flat ran.put
+
 pub lines_text_on : (a b : List Line) → lines_text (a ++ b) ≡ lines_text a ++ lines_text b
-lines_text_on a b = flat_map-append line_text a b
+lines_text_on a b = flat_map-append device_line_text a b
 
 pub tried_same : (old now : Machine) (t : flat_ends.Next) → Stays old now → next_of (program_of now.kernel) (flat_of now) ≡ t → next_of (program_of old.kernel) (flat_of now) ≡ t
 tried_same old now t stays is = ap (λ p. next_of p (flat_of now)) (sym stays.program) ∙ is
@@ -135,7 +235,6 @@ ran_step old now new i line before after later ran inside step steps is put =
       broken = step.broken ∙ ran.broken;
       steps = omega (arith, steps, ran.steps);
       put = subst (Appends before later) (sym (lines_text_on ran.lines (line_before line []))) (appends-both before after later (lines_text ran.lines) (lines_text (line_before line [])) ran.put put);
-      made = made_on old i (i + 1) (ran.moves ++ step.moves) (omega arith) (made_step old i ran.moves step.moves ran.made step.none_made);
       run = λ k.
           let same : k + (i + 1) ≡ suc k + i = omega arith in
           ap (original_from old) same ∙ ran.run (suc k) ∙ ap (behind ran.lines) (on k) ∙ behind_line ran.lines line (run program (flat_of new) k);

@@ -1,5 +1,5 @@
 -- The machine before its first step: at boot, or over a flash whose pool has pages (docs/MACHINE.md, "Boot").
-use Rattle.std.specs.Prelude.{ℕ, false, List, length, Some, None}
+use Rattle.std.specs.Prelude.{ℕ, false, List, length}
 use Rattle.sram_layout.specs.Boot.{at_boot}
 use Rattle.sram_layout.specs.Bytes.{with_byte}
 use Rattle.sram_layout.specs.Cells.{count_cell}
@@ -13,29 +13,11 @@ use Rattle.mote_core.specs.declared.mote.Mote.{Mote}
 use Rattle.mote_core.specs.Step.{cpu_at_reset}
 use Rattle.nat_page.specs.Used.{used_pages}
 use Rattle.swap_store.specs.Slots.{zero_slots}
-use Rattle.program_steps.specs.Machines.{Machine}
+use Rattle.program_steps.specs.Machines.{Machine, unstarted}
 
--- a machine of a mote that owes an arrival at 0, whose program has the whole image, and has counted nothing but these
--- pages, which were there when it began
+-- a machine of a mote that has done nothing yet, whose program has the whole image
 abbrev pub begun : Mote → Layout → (quantum pages : ℕ) → Machine
-begun mote layout quantum pages = record {
-  kernel = record { mote = mote; layout = layout; part = record { first = 0; count = layout.image_words; shut = false }; quantum = quantum };
-  at = 0;
-  owed = Some (record { target = 0; stub = None });
-  end = None;
-  due = false;
-  torn = None;
-  broken = false;
-  steps = 0;
-  crossings = 0;
-  natural = 0;
-  entries = 0;
-  pages = pages;
-  since = 0;
-  longest = 0;
-  began = pages;
-  others = 0;
-}
+begun mote layout quantum pages = unstarted (record { mote = mote; layout = layout; part = record { first = 0; count = layout.image_words; shut = false }; quantum = quantum }) pages 0
 
 -- one of a mote at reset over this flash, with COUNT set to the quantum
 abbrev pub started : (image : List ℕ) (flash : Memory) (script : Schedule) (quantum slots pages : ℕ) → Machine

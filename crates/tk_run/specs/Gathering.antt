@@ -1,8 +1,8 @@
--- A run whose last lines are still gathered. This serves private functions alone.
+-- Serves private functions: a run whose last lines are still gathered.
 use Rattle.std.specs.Prelude.{ℕ, true, List, [], Option, Some, Result, Ok, Err}
 use Rattle.byte_streams.specs.Streams.{IsSent}
 use Rattle.byte_streams.specs.declared.failure.Failed.{Failed}
-use Rattle.step_laws.specs.declared.moves.End.{End}
+use Rattle.kernel_entry.specs.declared.kernel.End.{End}
 use Rattle.program_steps.specs.Machines.{Machine}
 use Rattle.tk_run.specs.Running.{HasAdvanced}
 

@@ -1,19 +1,19 @@
 -- What `advance` says: the moves that it makes, and what they are of the original program
 -- (docs/MACHINE.md, "A run of n steps" and "The original program").
-use Rattle.std.specs.Prelude.{◌≡◌, ◌≢◌, ℕ, ◌+◌, ◌<◌, ◌≤◌, ◌^◌, Bool, true, false, List, [], Option, Some, None, Result, Ok, Err}
+use Rattle.std.specs.Prelude.{◌≡◌, ◌≢◌, ℕ, zero, suc, ◌+◌, ◌<◌, ◌≤◌, ◌^◌, Bool, true, false, List, [], ◌++◌, Option, Some, None, Result, Ok, Err}
 use Rattle.mote_devices.specs.declared.line.Line.{Line}
-use Rattle.mem_guard.specs.FlatMachine.{Moment, End as FlatEnd, Run, run}
-use Rattle.mem_guard.specs.FlatMachine as flat_ends
+use Rattle.flat_machine.specs.FlatMachine.{Moment, End as FlatEnd, Run, run}
+use Rattle.flat_machine.specs.FlatMachine as flat_ends
 use Rattle.byte_streams.specs.declared.failure.Failed.{Failed}
 use Rattle.byte_streams.specs.Streams.{Puts}
-use Rattle.step_laws.specs.declared.moves.End.{End}
-use Rattle.step_laws.specs.declared.moves.End.TheVariants as ends
+use Rattle.kernel_entry.specs.declared.kernel.End.{End}
+use Rattle.kernel_entry.specs.declared.kernel.End.TheVariants as ends
 use Rattle.step_laws.specs.Moves.{Move}
 use Rattle.kernel_entry.specs.Seen.{end_of, program as program_of}
 use Rattle.program_steps.specs.Machines.{Machine, flat_of}
 use Rattle.program_steps.specs.Ready.{IsGoing, IsQuiet, IsInOrder, IsEnded, IsKept, HasBounds}
-use Rattle.program_steps.specs.Stepping.{lines_text}
-use Rattle.program_steps.specs.Stepping.{Goes, Stays, IsFault, AreMadeAt, ends_in_arrive}
+use Rattle.printed_text.specs.DeviceLines.{lines_text}
+use Rattle.program_steps.specs.Stepping.{Goes, Stays, IsFault, IsArrival, AreOwn, AreOfStep, ends_in_arrive}
 
 -- Moves lead from x to y, and write these lines: they begin with the arrival that x owes, y's numbers are
 -- x's with those of the moves added, and y's end is that of the last move. A machine that goes on doesn't
@@ -73,21 +73,46 @@ Answers old new n done lines (Ok (ends.Wild t)) = IsOver old new n lines (ends.W
 Answers old new n done lines (Ok (ends.Stopped stop)) = IsOver old new n lines (ends.Stopped stop)
 Answers old new n done lines (Err e) = IsBroken new
 
--- within so many steps the original program stands at this address
-abbrev pub Visits : Machine → (done t : ℕ) → Type 0
-Visits old done t = (k : ℕ) × (k ≤ done) × ((original_from old k).state.now.cpu.pc ≡ t)
+-- between two steps, where the original program stands after n of them
+pub record StandsAfter (at : ℕ → Moment) (n : ℕ) (m : Machine) : Type 0 where
+  pub ready : IsGoing m
+  pub stands : flat_of m ≡ at n
+
+-- The moves lead from the first machine through n steps, one behind the other. Before each of them the machine stands where
+-- the original program stands then; an arrival that it begins with is at that address.
+abbrev pub StepsTo : (at : ℕ → Moment) → (first : Machine) → (n : ℕ) → List Move → Machine → Type 0
+StepsTo at first zero moves z = (first ≡ z) × (moves ≡ [])
+StepsTo at first (suc n) moves z =
+    (y : Machine) × (before arrival own : List Move) × (lines : List Line) × (moves ≡ before ++ (arrival ++ own)) × StepsTo at first n before y × StandsAfter at n y
+    × IsArrival y.at arrival × AreOwn own × Goes y z (arrival ++ own) lines
+
+-- So the moves of a run are those of its n steps, and behind the last at most those of one that isn't made.
+pub record IsByStep (at : ℕ → Moment) (first z : Machine) (n : ℕ) (moves : List Move) : Type 0 where
+  pub last : Machine
+  pub before : List Move
+  pub behind : List Move
+  pub lines : List Line
+  pub all : moves ≡ before ++ behind
+  pub steps : StepsTo at first n before last
+  pub stands : StandsAfter at n last
+  pub of_step : AreOfStep last.at behind
+  pub goes : Goes last z behind lines
+
+-- a run's states, after each number of steps
+abbrev pub states_of : (ℕ → Run) → ℕ → Moment
+states_of run k = (run k).state
 
 -- What a run of up to n steps leaves of a machine without an end: with the number of steps that were done
 -- as its bound, the original program writes the same lines, and comes to the state that the new machine
 -- stands for.
--- Each page that its moves make is made at an address where the original program stands in them.
+-- Its moves lead there step by step.
 pub record HasRun (old new : Machine) (n : ℕ) (moves : List Move) (lines : List Line) (result : Result End Failed) : Type 0 where
   pub done : ℕ
   pub within : done ≤ n
   pub steps : new.steps ≡ old.steps + done
   pub written : (original_from old done).lines ≡ lines
   pub left : (original_from old done).state ≡ flat_of new
-  pub made : AreMadeAt (Visits old done) moves
+  pub by_step : IsByStep (states_of (original_from old)) old new done moves
   pub answers : Answers old new n done lines result
 
 abbrev pub is_failed : Result End Failed → Bool

@@ -25,5 +25,5 @@ mod lines;
 mod machine;
 mod run;
 
+pub use kernel_entry::{End, Owed};
 pub use machine::{Machine, Options};
-pub use step_laws::{End, Owed};

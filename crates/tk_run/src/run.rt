@@ -11,7 +11,7 @@ use crate::End;
 use crate::lines::gather;
 use byte_streams::{Failed, Sink};
 use kernel_entry::Kernel;
-use line_text::{Gathered, send, send_in_turn, up_to_turn};
+use line_gathering::{Gathered, send, send_in_turn, up_to_turn};
 use page_cursor::Cursor;
 use program_steps::{Progress, at_bound, enter, must_take, steps, take};
 

@@ -7,9 +7,8 @@ use Rattle.sram_layout.specs.Bytes.{byte_count}
 use Rattle.flash_words.specs.Layouts.{layout_of}
 use Rattle.mote_core.specs.declared.mote.Mote.{Mote}
 use Rattle.kernel_entry.specs.Seen.{program as program_of}
-use Rattle.step_laws.specs.declared.moves.Owed.{Owed}
+use Rattle.kernel_entry.specs.declared.kernel.Owed.{Owed}
 use Rattle.program_steps.specs.Machines.{Machine, flat_of}
-use Rattle.program_steps.proofs.Marked.{order_marked}
 use Rattle.program_steps.specs.Ready.{IsSound, IsGoing, IsQuiet}
 use Rattle.parked_tasks.specs.declared.parked.Parked.{Parked}
 use Rattle.parked_tasks.specs.declared.task.Task.{Task}
@@ -205,7 +204,7 @@ has_changed t next last sound runs is =
 
 -- the machine without the arrival that it owes is as sound
 sound_owing : (m : Machine) (owed : Option Owed) → IsSound m → IsSound (record m { owed = owed })
-sound_owing m owed sound = record { order = order_marked m owed m.due m.broken sound.order; bounded = sound.bounded; steps = sound.steps }
+sound_owing m owed sound = record { order = sound.order; bounded = sound.bounded; steps = sound.steps }
 
 free_at : (t u : Tasks) (i : ℕ) (task' : Task) → IsFree t → (kept : IsKept t u i task') → task'.end ≡ None → (i ≢ t.running) ⊎ (t.stub ≡ None)
 free_at t u i task' free kept going = elim (cases_eq i t.running) [

@@ -12,12 +12,12 @@ use Rattle.sram_layout.specs.Bytes.{byte_count, byte_at}
 use Rattle.branch_bridge.specs.declared.rewriting.Torn.{Torn}
 use Rattle.branch_bridge.specs.Arrivals.{KeepsOtherBytes}
 use Rattle.mote_core.specs.declared.mote.Mote.{Mote}
-use Rattle.mem_guard.specs.FlatMachine.{Program}
+use Rattle.flat_machine.specs.FlatMachine.{Program}
 use Rattle.kernel_entry.specs.declared.kernel.Kernel.{Kernel}
 use Rattle.kernel_entry.specs.Parts.{image_held}
 use Rattle.kernel_entry.specs.Seen.{program as program_of}
-use Rattle.step_laws.specs.declared.moves.Owed.{Owed}
-use Rattle.step_laws.specs.declared.moves.End.{End}
+use Rattle.kernel_entry.specs.declared.kernel.Owed.{Owed}
+use Rattle.kernel_entry.specs.declared.kernel.End.{End}
 use Rattle.program_steps.specs.Machines.{Machine, flat_of}
 use Rattle.program_steps.specs.Ready.{most_arrivals, IsSound, IsGoing, IsQuiet}
 use Rattle.program_steps.specs.Stepping.{Stays}
@@ -35,7 +35,7 @@ use Rattle.parked_tasks.specs.Ends.{flat_end_of}
 use Rattle.tk_tasks.specs.Trying.{target_of, stub_in, kept_task, kept_tasks}
 use Rattle.parked_tasks.proofs.Parkings.{both_size, both_in_low, both_in_high, both_between}
 use Rattle.parked_tasks.proofs.Sums.{sum_set, sum_has}
-use Rattle.tk_tasks.proofs.Changing.{here_is, players_same}
+use Rattle.tk_tasks.proofs.Changing.{here_is, players_same, running_size}
 use Rattle.parked_tasks.proofs.TaskLists.{elsewhere_by, length_by}
 use Rattle.program_steps.proofs.Bounds.{most_owed}
 
@@ -146,11 +146,6 @@ pub record IsBefore (t : Tasks) (task : Task) : Type 0 where
 running_alone : (t : Tasks) (task : Task) → IsBefore t task → task.parked ≡ None
 running_alone t task before = (before.sound.each t.running task before.here).running refl
 
-running_size : (t : Tasks) (task : Task) → IsBefore t task → length t.kernel.mote.sram ≡ byte_count
-running_size t task before =
-    let stands = before.sound.each t.running task before.here in
-    subst (λ o. length (mote_for t.kernel.mote o).sram ≡ byte_count) (running_alone t task before) stands.sound.order.paged.sized.sram
-
 failing_for : (m : Mote) (o : Option Parked) → (mote_for m o).flash ≡ m.flash
 failing_for m None = refl
 failing_for m (Some q) = refl
@@ -191,7 +186,7 @@ waited t task m end i u q before come apart there sized =
       image = ap (λ (p : Program). p.image) come.stays.program ∙ held_for t task;
       shut = shut;
       unfailing = λ op. ap (λ l. is_listed l op) (waits_unfailing t task m end before come);
-      own = own_kept t.kernel.mote m.kernel.mote q (running_size t task before) come.left.order.paged.sized.sram sized;
+      own = own_kept t.kernel.mote m.kernel.mote q (running_size t task before.sound before.here (running_alone t task before)) come.left.order.paged.sized.sram sized;
       tables = λ b from to. both_between m.kernel.mote.sram q.low q.high b come.left.order.paged.sized.sram sized.0 sized.1 (omega arith) (omega arith);
       began = come.began;
       sum = omega arith;

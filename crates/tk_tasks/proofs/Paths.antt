@@ -2,7 +2,7 @@
 use Rattle.std.proofs.Common.{◌≡◌, ℕ, zero, suc, ◌+◌, ◌-◌, ◌≤◌, Bool, true, false, cond, List, [], ◌∷◌, ◌++◌, length, arith, ap, ap₂, ◌∙◌, sym, refl, subst, Option, Some, None}
 use Rattle.std.specs.Prelude.{slice_get, is_some, sum_by}
 use Rattle.std.proofs.lemmas.List.{append_assoc, append-nil}
-use Rattle.mem_guard.specs.FlatMachine.{End}
+use Rattle.flat_machine.specs.FlatMachine.{End}
 use Rattle.parked_tasks.specs.declared.task.Task.{Task}
 use Rattle.task_turns.specs.Turns.{Player, Turns, Told, After, once, continued, go_on, tries, turns, alone, own_told, Follows, Ended, Going, Over, HaveEnded}
 use Rattle.tk_tasks.specs.States.{Tasks, player_of, players_from, turns_of}

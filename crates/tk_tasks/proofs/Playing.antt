@@ -1,17 +1,17 @@
 -- Tries of the running task are plays of the tasks.
-use Rattle.std.proofs.Common.{◌≡◌, ℕ, zero, suc, ◌+◌, ◌-◌, ◌*◌, ◌<◌, ◌≤◌, Bool, true, false, cond, List, [], ◌∷◌, ◌++◌, refl, sym, ap, ap₂, ◌∙◌, arith, subst}
+use Rattle.std.proofs.Common.{◌≡◌, ℕ, zero, suc, ◌+◌, ◌-◌, ◌*◌, ◌<◌, ◌≤◌, Bool, true, false, cond, List, [], ◌∷◌, ◌++◌, refl, sym, ap, ap₂, ◌∙◌, arith, subst, inl}
 use Rattle.std.specs.Prelude.{◌≢◌, ◌^◌, ◌==◌, ◌&&◌, is_some, slice_get, slice_set, Option, Some, None}
 use Rattle.std.proofs.lemmas.List.{append-nil}
 use Rattle.std.proofs.lemmas.Bool.Decides.{nat_tests}
 use Rattle.mote_devices.specs.declared.line.Line.{Line}
-use Rattle.mem_guard.specs.declared.part.Part.{Part}
-use Rattle.mem_guard.specs.FlatMachine.{Program, is_own, is_inside, Moment, End as FlatEnd, Spent as FlatSpent, Wild as FlatWild, Next, Ends, On, Run, run, next_of}
-use Rattle.mem_guard.proofs.MachineLaws.{run_wild, run_spent}
+use Rattle.flat_machine.specs.declared.part.Part.{Part}
+use Rattle.flat_machine.specs.FlatMachine.{Program, is_own, is_inside, Moment, End as FlatEnd, Spent as FlatSpent, Wild as FlatWild, Next, Ends, On, Run, run, next_of}
+use Rattle.flat_machine.proofs.MachineLaws.{run_wild, run_spent}
 use Rattle.kernel_entry.specs.declared.kernel.Stop.{Stop}
 use Rattle.kernel_entry.specs.declared.kernel.Stop.TheVariants as stops
 use Rattle.kernel_entry.specs.Seen.{program as program_of, end_of}
-use Rattle.step_laws.specs.declared.moves.Owed.{Owed}
-use Rattle.step_laws.specs.declared.moves.End.TheVariants as ends
+use Rattle.kernel_entry.specs.declared.kernel.Owed.{Owed}
+use Rattle.kernel_entry.specs.declared.kernel.End.TheVariants as ends
 use Rattle.step_laws.specs.Moves.{Move, lines_of, line_before}
 use Rattle.step_laws.specs.Numbers.{Numbers}
 use Rattle.step_laws.specs.States.{Awaited}
@@ -19,9 +19,10 @@ use Rattle.step_laws.specs.StepLaws.{Reaches}
 use Rattle.step_laws.proofs.NumberLaws.{unmoved}
 use Rattle.program_steps.specs.Machines.{Machine, awaited, awaits, state_of, numbers_of, flat_of}
 use Rattle.program_steps.specs.Ready.{IsSound, IsGoing, IsQuiet, IsEnded}
-use Rattle.program_steps.specs.Stepping.{Goes, StepWay, AreMadeAt, ends_in_arrive, links_in}
+use Rattle.program_steps.specs.Stepping.{Goes, StepWay, IsArrival, AreOfStep, ends_in_arrive, links_in}
 use Rattle.program_steps.proofs.Bounds.{bounds_ready}
 use Rattle.program_steps.proofs.Leading.{stays_self}
+use Rattle.program_steps.proofs.OneBehindOther.{GoesOn as StepsOn, goes_on_by as steps_on_by}
 use Rattle.program_steps.proofs.Waiting.{left_going}
 use Rattle.parked_tasks.specs.declared.task.Task.{Task}
 use Rattle.parked_tasks.specs.declared.task.TaskEnd.{TaskEnd}
@@ -69,23 +70,11 @@ rest_if_ends false part at left = refl
 
 stop_ends : (stop : Stop) → machine_end (Some (ended_by stop)) ≡ Some (ends.Stopped stop)
 stop_ends (stops.Read pc a) = refl
-stop_ends (stops.Halted pc) = refl
-stop_ends (stops.Asleep pc) = refl
-stop_ends (stops.Illegal pc) = refl
-stop_ends (stops.SelfProgram pc) = refl
-stop_ends (stops.Io pc a) = refl
-stop_ends (stops.Stack pc a) = refl
-stop_ends (stops.SwapFull pc a) = refl
+stop_ends _ = refl
 
 stop_flat : (stop : Stop) → flat_end (ended_by stop) ≡ end_of stop
 stop_flat (stops.Read pc a) = refl
-stop_flat (stops.Halted pc) = refl
-stop_flat (stops.Asleep pc) = refl
-stop_flat (stops.Illegal pc) = refl
-stop_flat (stops.SelfProgram pc) = refl
-stop_flat (stops.Io pc a) = refl
-stop_flat (stops.Stack pc a) = refl
-stop_flat (stops.SwapFull pc a) = refl
+stop_flat _ = refl
 
 -- ---- what is told
 
@@ -113,7 +102,7 @@ record CanPlay (n : ℕ) (u : Tasks) (task : Task) (m : Machine) (line : Option 
   moves : List Move
   goes : Goes (machine_of u u.running task) m moves (line_before line [])
   last : ends_in_arrive moves ≡ false
-  made : AreMadeAt (λ a. a ≡ task.at) moves
+  of_step : AreOfStep task.at moves
   once_is : once (turns_of n u) (player_of n u u.running task) ≡ record { told = tried_told u.running line end m.steps m.crossings; turns = turned changes (with_player (turns_of n u) (player_by n m end)) }
 
 turned_on : (n : ℕ) (u : Tasks) (task : Task) (m : Machine) (end : Option TaskEnd) (changes : Bool) → IsBefore u task → IsCome u task m end → turns_of n (finished changes (kept_tasks u task m end)) ≡ turned changes (with_player (turns_of n u) (player_by n m end))
@@ -144,7 +133,7 @@ play_on n u task m line end changes can =
       tried = record {
         goes = subst (λ z. Goes (machine_of u u.running task) z can.moves (lines_told (tried_told u.running line end m.steps m.crossings))) (sym same) (subst (Goes (machine_of u u.running task) m can.moves) (sym lines) can.goes);
         last = can.last;
-        made = can.made;
+        of_step = can.of_step;
         tasks = refl;
         running = refl;
         switches = refl;
@@ -192,7 +181,7 @@ can_rest n u task end before going rest =
       moves = [];
       goes = record { walk = refl; told = refl; numbers = refl };
       last = refl;
-      made = tt;
+      of_step = record { arrival = []; own = []; parts = refl; arrives = IsArrival.NoArrival refl; makes = inl refl };
       once_is = once_rests n u task end rest;
     }
 
@@ -236,16 +225,17 @@ once_goes n u task m line going rest program steps is c checked =
     ∙ step_checks t n m line c
     ∙ ap (λ l. record { told = l ++ end_told u.running (rest_if c m.kernel.part m.at (n - m.steps)) m.steps m.crossings; turns = turned c (with_player t (player_by n m (rest_if c m.kernel.part m.at (n - m.steps)))) }) (line_is t line)
 
--- what every try leaves of the machine, but its end
-record Left (u : Tasks) (task : Task) (m : Machine) : Type 0 where
-  whole : m.broken ≡ false
-  began : m.began ≡ 0
-  others : m.others ≡ (machine_of u u.running task).others
-
-left_by : (u : Tasks) (task : Task) (m : Machine) (line : Option Line) → Went (machine_of u u.running task) m line → Left u task m
-left_by u task m line went =
+-- what every try leaves
+come_by : (u : Tasks) (task : Task) (m : Machine) (line : Option Line) (end : Option TaskEnd) → Went (machine_of u u.running task) m line → IsSound m → (end ≡ None → IsGoing m × IsQuiet m) → machine_end end ≡ m.end → IsCome u task m end
+come_by u task m line end went sound going ended =
     let x = machine_of u u.running task in
     record {
+      left = went.left;
+      stays = went.stays;
+      sound = sound;
+      going = λ none. (going none).0;
+      quiet = λ none. (going none).1;
+      ended = ended;
       whole = went.broken;
       began = ap (λ (z : Numbers). z.began) went.goes.numbers ∙ (unmoved went.moves (numbers_of x)).0;
       others = ap (λ (z : Numbers). z.others) went.goes.numbers ∙ (unmoved went.moves (numbers_of x)).1;
@@ -256,27 +246,16 @@ can_go : (n : ℕ) (u : Tasks) (task : Task) (m : Machine) (line : Option Line) 
     → CanPlay n u task m line (rest_if (checks (machine_of u u.running task) m) m.kernel.part m.at (n - m.steps)) (checks (machine_of u u.running task) m)
 can_go n u task m line before going most rest went ready quiet steps is =
     let x = machine_of u u.running task in
-    let left = left_by u task m line went in
     let some = unrested x.kernel.part task.at (n - task.steps) rest in
     let some_left = some.1 in
     record {
       before = before;
       going = going;
-      come = record {
-        left = went.left;
-        stays = went.stays;
-        sound = record { order = ready.order; bounded = bounds_ready m ready; steps = omega arith };
-        going = λ e. ready;
-        quiet = λ e. quiet;
-        ended = rest_if_ends (checks x m) m.kernel.part m.at (n - m.steps) ∙ sym ready.going;
-        whole = left.whole;
-        began = left.began;
-        others = left.others;
-      };
+      come = come_by u task m line _ went (record { order = ready.order; bounded = bounds_ready m ready; steps = omega arith }) (λ e. (ready, quiet)) (rest_if_ends (checks x m) m.kernel.part m.at (n - m.steps) ∙ sym ready.going);
       moves = went.moves;
       goes = went.goes;
       last = went.last;
-      made = went.made;
+      of_step = went.of_step;
       once_is = once_goes n u task m line going rest went.stays.program steps is (checks x m) refl;
     }
 
@@ -298,26 +277,15 @@ can_stop : (n : ℕ) (u : Tasks) (task : Task) (m : Machine) (line : Option Line
     → CanPlay n u task m None (Some (ended_by stop)) true
 can_stop n u task m line stop before going rest went over kept none steps is same =
     let x = machine_of u u.running task in
-    let left = left_by u task m line went in
     let few = (before.sound.each u.running task before.here).sound.steps in
     record {
       before = before;
       going = going;
-      come = record {
-        left = went.left;
-        stays = went.stays;
-        sound = record { order = over.order; bounded = over.bounded; steps = omega arith };
-        going = λ e. absurd (let bad : Some (ended_by stop) ≡ None = e in cc);
-        quiet = λ e. absurd (let bad : Some (ended_by stop) ≡ None = e in cc);
-        ended = stop_ends stop ∙ sym kept;
-        whole = left.whole;
-        began = left.began;
-        others = left.others;
-      };
+      come = come_by u task m line _ went (record { order = over.order; bounded = over.bounded; steps = omega arith }) (λ e. absurd (let bad : Some (ended_by stop) ≡ None = e in cc)) (stop_ends stop ∙ sym kept);
       moves = went.moves;
       goes = subst (λ l. Goes x m went.moves (line_before l [])) none went.goes;
       last = went.last;
-      made = went.made;
+      of_step = went.of_step;
       once_is = once_stops n u task m stop going rest went.stays.program steps is same;
     }
 
@@ -365,17 +333,6 @@ kept_twice u its m z end = ap (λ l. record u { kernel = z.kernel; stub = stub_i
 told_behind : (plays : List Play) (play : Play) → told_of plays ≡ [] → told_of (plays ++ play ∷ []) ≡ play.told
 told_behind plays play none = told_on plays (play ∷ []) ∙ ap (λ l. l ++ (play.told ++ [])) none ∙ append-nil play.told
 
--- what the step behind them says
-record GoneOn (y m : Machine) (line : Option Line) : Type 0 where
-  ready : IsGoing m
-  quiet : IsQuiet m
-  steps : m.steps ≡ y.steps + 1
-  next : next_of (program_of y.kernel) (flat_of y) ≡ On line (flat_of m)
-
-gone_by : (y m : Machine) (line : Option Line) → StepWay y m line → IsGoing m → GoneOn y m line
-gone_by y m line (StepWay.On ready quiet steps is) going = record { ready = ready; quiet = quiet; steps = steps; next = is }
-gone_by y m line (StepWay.Stopped stop over kept none steps is left) going = absurd (let e : Some (ends.Stopped stop) ≡ None = sym kept ∙ going.going in cc)
-
 not_zero : (n : ℕ) → 1 ≤ n → (n == 0) ≡ false
 not_zero n some = grind (arith, nat_tests)
 
@@ -391,7 +348,7 @@ stood_on n t task k y m most stood rest went ready unchecked =
     let Ways : Machine → Type 0 = λ z. rest_at z.kernel.part z.at (n - z.steps) ≡ None × Went z m None × (checks z m ≡ false) in
     let facts : Ways (machine_of u u.running its) = subst Ways (sym stood.machine) (rest, went, unchecked) in
     let x = machine_of u u.running its in
-    let gone = gone_by x m None facts.1.way ready in
+    let gone = steps_on_by x m None facts.1.way ready.going in
     let can = can_go n u its m None stood.before stood.going most facts.0 facts.1 gone.ready gone.quiet gone.steps gone.next in
     let none : rest_if (checks x m) m.kernel.part m.at (n - m.steps) ≡ None = ap (λ c. rest_if c m.kernel.part m.at (n - m.steps)) facts.2 in
     let Can : Option TaskEnd → Bool → Type 0 = λ e c. CanPlay n u its m None e c in
@@ -455,7 +412,7 @@ due_by : (y m : Machine) (line : Option Line) (due : Bool) → m.due ≡ due →
 due_by y m line true is next checked = is
 due_by y m line false is next checked = absurd (let e : ◌≡◌ {A = Bool} true false = sym checked ∙ undue_unchecked (program_of y.kernel) (flat_of y) (flat_of m) line next is in cc)
 
-checkpoint_owes : (y m : Machine) (line : Option Line) → GoneOn y m line → checks y m ≡ true → (stub_in m.owed ≡ None) × (target_of m.owed ≢ None)
+checkpoint_owes : (y m : Machine) (line : Option Line) → StepsOn y m line → checks y m ≡ true → (stub_in m.owed ≡ None) × (target_of m.owed ≢ None)
 checkpoint_owes y m line gone checked =
     let due = due_by y m line m.due refl gone.next checked in
     let owes = owes_by m m.owed refl gone.quiet due in
@@ -529,8 +486,8 @@ can_behind n t task k left y m tried most stood left_is rest went way (IsBehind.
     let u = stood.u in
     let its = stood.its in
     let x = machine_of u u.running its in
-    let gone_y = gone_by y m tried.line way ready in
-    let Ways : Machine → Type 0 = λ z. rest_at z.kernel.part z.at (n - z.steps) ≡ None × Went z m tried.line × GoneOn z m tried.line × (checks z m ≡ checks y m) in
+    let gone_y = steps_on_by y m tried.line way ready.going in
+    let Ways : Machine → Type 0 = λ z. rest_at z.kernel.part z.at (n - z.steps) ≡ None × Went z m tried.line × StepsOn z m tried.line × (checks z m ≡ checks y m) in
     let facts : Ways x = subst Ways (sym stood.machine) (rest, went, gone_y, refl) in
     let gone = facts.2 in
     let can = can_go n u its m tried.line stood.before stood.going most facts.0 facts.1 gone.ready gone.quiet gone.steps gone.next in

@@ -1,18 +1,18 @@
 -- The run of the tasks, from one play to the next.
 use Rattle.std.proofs.Common.{◌≡◌, ℕ, ◌+◌, ◌-◌, ◌*◌, ◌<◌, ◌≤◌, Bool, true, false, List, [], ◌∷◌, ◌++◌, length, refl, sym, ap, ap₂, ◌∙◌, arith, subst, inl, inr}
-use Rattle.std.specs.Prelude.{◌≢◌, ◌^◌, max, is_some, slice_get, slice_set, slice_index_or, sum_by, Option, Some, None, Result, Ok, Err}
+use Rattle.std.specs.Prelude.{◌≢◌, ◌^◌, max, is_some, is_err, slice_get, slice_set, slice_index_or, sum_by, Option, Some, None, Result, Ok, Err}
 use Rattle.std.proofs.lemmas.List.{append-nil}
 use Rattle.flash_words.specs.Memory.{Memory}
 use Rattle.page_cursor.specs.declared.cursor.Cursor.{Cursor}
 use Rattle.page_cursor.specs.Cursors.{IsCursor}
-use Rattle.mem_guard.specs.FlatMachine.{End as FlatEnd}
+use Rattle.flat_machine.specs.FlatMachine.{End as FlatEnd}
 use Rattle.kernel_entry.specs.declared.kernel.Kernel.{Kernel}
-use Rattle.step_laws.specs.declared.moves.Owed.{Owed}
-use Rattle.step_laws.specs.declared.moves.End.{End}
+use Rattle.kernel_entry.specs.declared.kernel.Owed.{Owed}
+use Rattle.kernel_entry.specs.declared.kernel.End.{End}
 use Rattle.byte_streams.specs.declared.failure.Failed.{Failed}
 use Rattle.byte_streams.specs.Streams.{CutShort, IsSent, Puts}
 use Rattle.byte_streams.proofs.KnownBytes.{nothing_sent, appends-nothing}
-use Rattle.line_text.proofs.Gathered.{sent_on, cut_on, all_on, rest_cut}
+use Rattle.line_gathering.proofs.Gathered.{sent_on, cut_on, all_on, rest_cut}
 use Rattle.program_steps.specs.declared.progress.Progress.{Progress}
 use Rattle.program_steps.specs.Machines.{Machine}
 use Rattle.program_steps.specs.Ready.{most_arrivals, IsGoing, IsQuiet}
@@ -29,8 +29,8 @@ use Rattle.tk_tasks.specs.States.{Tasks, arrivals_of, owed_of, stub_of, mote_for
 use Rattle.parked_tasks.specs.Ends.{flat_end_of}
 use Rattle.parked_tasks.specs.Handing.{parked_by}
 use Rattle.tk_tasks.specs.Changes.{given_by, given_to, next_task, changed_tasks}
-use Rattle.tk_tasks.specs.Plays.{Play, IsPlay, TaskPath, told_of, told_text, counted, is_failed, HasRunTasks}
-use Rattle.tk_tasks.specs.Trying.{stub_in, kept_task, kept_tasks, HasPlayed}
+use Rattle.tk_tasks.specs.Plays.{Play, IsPlay, TaskPath, told_of, told_text, counted, HasRunTasks}
+use Rattle.tk_tasks.specs.Trying.{HasTried, stub_in, kept_task, kept_tasks, HasPlayed}
 use Rattle.tk_tasks.specs.Running.{IsUnderWay, IsCut, HaveGathered}
 use Rattle.task_turns.proofs.Isolation.{IsOnce, once_follows, weight, weight_going, weight_ended}
 use Rattle.task_turns.proofs.Ending.{Ready, still}
@@ -38,6 +38,8 @@ use Rattle.step_laws.proofs.Ways.{walks_on}
 use Rattle.tk_tasks.proofs.Paths.{player_here, path_still, path_in_turn, path_ready, told_on, path_runs}
 use Rattle.tk_tasks.proofs.Changing.{running_task}
 use Rattle.tk_tasks.proofs.Keeping.{IsBefore}
+use Rattle.tk_tasks.proofs.Playing.{IsPlayed, played}
+use Rattle.tk_tasks.specs.declared.trying.Tried.{Tried}
 use Rattle.tk_tasks.proofs.Telling.{told_text_on}
 use Rattle.parked_tasks.proofs.TaskLists.{is_at}
 
@@ -115,6 +117,19 @@ begins t k p sound unbroken going same progress =
       quantum = omega arith;
       room = refl;
     }
+
+-- what tries of it came to
+pub record HasCome (n : ℕ) (t : Tasks) (m : Machine) (tried : Tried) : Type 0 where
+  pub task : Task
+  pub here : slice_get t.tasks t.running ≡ Some task
+  pub all : IsPlayed n t task m tried
+
+pub tried_on : (n : ℕ) (t : Tasks) (k : Kernel) (p : Progress) (left : ℕ) (m : Machine) (tried : Tried) → AreSound t → t.broken ≡ false → ((task : Task) → slice_get t.tasks t.running ≡ Some task → task.end ≡ None) → k ≡ t.kernel
+    → ((task : Task) → slice_get t.tasks t.running ≡ Some task → task.end ≡ None → whole t.kernel p ≡ machine_of t t.running task) → n ≤ 10 ^ 12 → left ≡ n - p.steps → HasTried (whole k p) m left tried → HasCome n t m tried
+tried_on n t k p left m tried sound unbroken going same progress most left_is has =
+    let b = begins t k p sound unbroken going same progress in
+    let by : HasTried (machine_of t t.running b.task) m (n - b.task.steps) tried = subst (λ l. HasTried (machine_of t t.running b.task) m l tried) (left_is ∙ ap (λ s. n - s) b.steps) (subst (λ x. HasTried x m left tried) b.machine has) in
+    record { task = b.task; here = b.before.here; all = played n t b.task m tried most b.before b.going by }
 
 -- ---- the change of the task keeps flash, the layout and the quantum
 
@@ -280,7 +295,7 @@ sent_all (Ok done) n old now gathered before after later (way, ended) put =
 sent_all (Err e) n old now gathered before after later (way, ended) put =
     record { plays = way.plays; path = way.path; cut = rest_cut (told_text old.kernel.quantum (told_of way.plays)) gathered before after later way.sent put }
 
-pub has_run : (result : Result (Unit {0}) Failed) (n : ℕ) (old last new : Tasks) (before after : Option (List ℕ)) → HaveGathered n old last [] before after result → new ≡ counted last (is_failed result) → HasRunTasks n old new before after result
+pub has_run : (result : Result (Unit {0}) Failed) (n : ℕ) (old last new : Tasks) (before after : Option (List ℕ)) → HaveGathered n old last [] before after result → new ≡ counted last (is_err result) → HasRunTasks n old new before after result
 has_run (Ok done) n old last new before after (way, ended) counts = record {
   plays = way.plays;
   last = last;
@@ -348,7 +363,7 @@ quantum_some t sound unbroken going =
     omega arith
 
 -- the counts that are written down
-pub counts_as : (t new : Tasks) (failed : Bool) (natural entries : ℕ) (result : Result (Unit {0}) Failed) → failed ≡ is_failed result → natural ≡ sum_by (λ (task : Task). task.natural) t.tasks → entries ≡ sum_by (λ (task : Task). task.entries) t.tasks
-    → record t { broken = failed; natural = natural; entries = entries } ≡ counted t (is_failed result)
+pub counts_as : (t new : Tasks) (failed : Bool) (natural entries : ℕ) (result : Result (Unit {0}) Failed) → failed ≡ is_err result → natural ≡ sum_by (λ (task : Task). task.natural) t.tasks → entries ≡ sum_by (λ (task : Task). task.entries) t.tasks
+    → record t { broken = failed; natural = natural; entries = entries } ≡ counted t (is_err result)
 counts_as t new failed natural entries result is plain served =
-    ap (λ b. record t { broken = b; natural = natural; entries = entries }) is ∙ ap₂ (λ n e. record t { broken = is_failed result; natural = n; entries = e }) plain served
+    ap (λ b. record t { broken = b; natural = natural; entries = entries }) is ∙ ap₂ (λ n e. record t { broken = is_err result; natural = n; entries = e }) plain served

@@ -4,7 +4,7 @@ use Rattle.std.specs.Prelude.{◌≢◌, ◌^◌, Option, Some, None, IfSome, su
 use Rattle.std.proofs.lemmas.List.Sums.{sum_by-cons}
 use Rattle.std.proofs.lemmas.Option.{same_Some}
 use Rattle.flash_words.specs.Memory.{loaded, new_flash, IsWhole}
-use Rattle.flash_words.specs.Layouts.{layout_of}
+use Rattle.flash_words.specs.Layouts.{layout_of, most_image_words}
 use Rattle.flash_words.specs.declared.layout.Layout.{Layout}
 use Rattle.flash_words.proofs.LayoutLaws.{layout_right}
 use Rattle.page_index.specs.Entries.{IsEntry}
@@ -41,7 +41,7 @@ abbrev pub first_kernel : (words : List ℕ) (script : Schedule) (quantum slots 
 first_kernel words script quantum slots i = (first_machine words script quantum slots i 0).kernel
 
 -- a new flash has no links
-parted_at_boot : (words : List ℕ) (part : ℕ → ℕ) → length words ≤ 24576 → IsParted (layout_of (length words)) words (loaded words) part
+parted_at_boot : (words : List ℕ) (part : ℕ → ℕ) → length words ≤ most_image_words → IsParted (layout_of (length words)) words (loaded words) part
 parted_at_boot words part few s t link jump =
     let layout : Layout = layout_of (length words) in
     absurd (held_used (IsEntry layout (loaded words)) words (loaded words) link.page link.first link.last few link.holds (new_flash_free layout words link.page (layout_right (length words) few) (omega arith) link.pool))
@@ -49,13 +49,13 @@ parted_at_boot words part few s t link jump =
 pub going_at_boot : (words : List ℕ) (script : Schedule) (quantum slots i others count : ℕ) → length words ≡ quarter * count → count ≤ 4 → i < count → 1 ≤ quantum → quantum < 256 → slots ≤ 251 → others ≤ 10 ^ 12 → IsWhole (new_flash words [])
     → IsGoing (first_machine words script quantum slots i others)
 going_at_boot words script quantum slots i others count long few below some low room little whole =
-    let fits : length words ≤ 24576 = omega (arith, long, few) in
+    let fits : length words ≤ most_image_words = omega (arith, long, few) in
     let own : IsRightPart (quarter_part i) (length words) = record { whole = λ e. absurd (cc); quarter = λ e. (i, refl, refl, omega arith) } in
     going_begun words (new_flash words []) script (quarter_part i) quantum slots 0 others fits some low room little (begun_new words [] fits whole) own (parted_at_boot words (part_number true) fits)
 
 -- Its program is at reset. --------------------------------------------------------------------------------
 
-player_by : (words : List ℕ) (script : Schedule) (quantum slots i others n : ℕ) → length words ≤ 24576
+player_by : (words : List ℕ) (script : Schedule) (quantum slots i others n : ℕ) → length words ≤ most_image_words
     → ◌≡◌ {A = Player} (record { program = program_of (first_machine words script quantum slots i others).kernel; moment = flat_of (first_machine words script quantum slots i others); left = n - 0; end = None })
     (at_reset_in (record { image = words; part = quarter_part i; page_limit = slots; quantum = quantum }) (quarter * i) script.events n)
 player_by words script quantum slots i others n few =
@@ -156,7 +156,7 @@ sound_at_boot image first others quantum slots can =
 
 -- The tasks in turn are at reset. -------------------------------------------------------------------------
 
-waiting_players : (n : ℕ) (t : Tasks) (words : List ℕ) (first : Schedule) (scripts : List Schedule) (quantum slots task : ℕ) → t.kernel ≡ first_kernel words first quantum slots 0 → t.pages ≡ 0 → length words ≤ 24576
+waiting_players : (n : ℕ) (t : Tasks) (words : List ℕ) (first : Schedule) (scripts : List Schedule) (quantum slots task : ℕ) → t.kernel ≡ first_kernel words first quantum slots 0 → t.pages ≡ 0 → length words ≤ most_image_words
     → players_from n t task (waiting_from task scripts quantum slots) ≡ players_at_reset words task scripts quantum slots n
 waiting_players n t words first [] quantum slots task kernel pages few = refl
 waiting_players n t words first (script ∷ scripts) quantum slots task kernel pages few =
@@ -172,7 +172,7 @@ pub turns_at_boot : (n : ℕ) (image : List ℕ) (first : Schedule) (others : Li
 turns_at_boot n image first others quantum slots can =
     let t = booted image first others quantum slots in
     let words = task_words (length others + 1) image in
-    let few : length words ≤ 24576 = omega (arith, can.long, can.few) in
+    let few : length words ≤ most_image_words = omega (arith, can.long, can.few) in
     let count : length others + 1 ≡ length (first ∷ others) = omega arith in
     ap (λ l. record { players = l; running = 0; switches = 0 })
     (ap₂ (λ p l. p ∷ l) (player_by words first quantum slots 0 (others_of t (at_start 0 None)) n few) (waiting_players n t words first others quantum slots 1 refl refl few))

@@ -3,14 +3,14 @@ use Rattle.std.proofs.Common.{◌≡◌, ℕ, ◌/◌, List, ◌++◌, refl, sym
 use Rattle.std.specs.Prelude.{Option, Some, None}
 use Rattle.std.proofs.lemmas.List.{append-nil}
 use Rattle.std.proofs.lemmas.Grind.{flat_map-append}
-use Rattle.kernel_entry.specs.Texts.{end_text}
+use Rattle.printed_text.specs.Ends.{end_text}
 use Rattle.mote_devices.specs.declared.line.Line.{Line}
-use Rattle.line_text.specs.TaskTexts.{device_told, stop_told}
-use Rattle.line_text.specs.StopLines.{how_text, end_line}
-use Rattle.text_pieces.specs.Pieces.{task_text}
-use Rattle.line_text.proofs.StopLines.{line_of}
+use Rattle.printed_text.specs.TaskTexts.{device_told, stop_told}
+use Rattle.printed_text.specs.StopLines.{how_text, end_line}
+use Rattle.line_writer.specs.Pieces.{task_text}
+use Rattle.printed_text.proofs.StopLines.{line_of}
 use Rattle.parked_tasks.specs.declared.task.TaskEnd.{TaskEnd}
-use Rattle.parked_tasks.specs.declared.task.TaskEnd.TheVariants.{Spent, Stopped, Wild, Read}
+use Rattle.parked_tasks.specs.declared.task.TaskEnd.TheVariants.{Spent}
 use Rattle.task_turns.specs.Turns.{Told}
 use Rattle.parked_tasks.specs.Ends.{flat_end}
 use Rattle.tk_tasks.specs.Plays.{shown_text, told_text}
@@ -19,9 +19,7 @@ use Rattle.tk_tasks.specs.Running.{end_shown, end_shown_of}
 
 shown_as : (end : TaskEnd) → how_text (end_shown end) ≡ end_text (flat_end end)
 shown_as Spent = refl
-shown_as (Stopped stop) = refl
-shown_as (Wild a) = refl
-shown_as (Read pc a) = refl
+shown_as _ = refl
 
 -- a stop line
 end_line_is : (quantum task : ℕ) (end : TaskEnd) (steps crossings : ℕ) → task_text task ++ end_line (end_shown end) steps (crossings / quantum) ≡ told_text quantum (end_told task (Some end) steps crossings)

@@ -1,25 +1,25 @@
 -- A try of the running task, as its machine makes it: an arrival and a step, or an interrupt.
-use Rattle.std.proofs.Common.{◌≡◌, ℕ, zero, suc, ◌+◌, ◌-◌, ◌≤◌, Bool, true, false, cond, List, [], ◌∷◌, ◌++◌, refl, sym, ap, ap₂, ◌∙◌, arith, subst, inl}
+use Rattle.std.proofs.Common.{◌≡◌, ℕ, zero, suc, ◌+◌, ◌-◌, ◌≤◌, Bool, true, false, cond, List, [], ◌∷◌, ◌++◌, refl, sym, ap, ap₂, ◌∙◌, arith, subst, inl, inr}
 use Rattle.std.specs.Prelude.{◌≢◌, ◌==◌, ◌&&◌, Option, Some, None}
 use Rattle.std.proofs.lemmas.Bool.{and_parts}
 use Rattle.mote_devices.specs.declared.line.Line.{Line}
 use Rattle.flash_words.specs.Operations.{is_listed}
-use Rattle.mem_guard.specs.declared.part.Part.{Part}
-use Rattle.mem_guard.specs.FlatMachine.{Moment, Next, On, is_own, is_taken, next_of}
+use Rattle.flat_machine.specs.declared.part.Part.{Part}
+use Rattle.flat_machine.specs.FlatMachine.{Moment, Next, is_own, is_taken, next_of}
 use Rattle.kernel_entry.specs.Seen.{program as program_of}
 use Rattle.avr_flags.specs.Status.{has_bit, interrupts}
 use Rattle.mote_devices.specs.Waking.{is_enabled}
-use Rattle.step_laws.specs.declared.moves.Owed.{Owed}
-use Rattle.step_laws.specs.declared.moves.End.{End}
-use Rattle.step_laws.specs.declared.moves.End.TheVariants as ends
+use Rattle.kernel_entry.specs.declared.kernel.Owed.{Owed}
+use Rattle.kernel_entry.specs.declared.kernel.End.{End}
+use Rattle.kernel_entry.specs.declared.kernel.End.TheVariants as ends
 use Rattle.step_laws.specs.Moves.{Move, line_before}
 use Rattle.program_steps.specs.Machines.{Machine, flat_of}
 use Rattle.program_steps.specs.Ready.{IsGoing}
-use Rattle.program_steps.specs.Stepping.{HasStepped, StepWay, HasEntered, Entering, Stays, ends_in_arrive}
+use Rattle.program_steps.specs.Stepping.{HasStepped, StepWay, HasEntered, IsArrival, Stays, ends_in_arrive}
 use Rattle.program_steps.specs.Interrupts.{is_wanted_at, is_to_be_taken}
 use Rattle.program_steps.specs.Several.{Silently, HasDone}
-use Rattle.program_steps.proofs.MadeAt.{made_map, made_both}
 use Rattle.program_steps.proofs.Leading.{goes_on, last_on, stays_on}
+use Rattle.program_steps.proofs.OneBehindOther.{goes_on_by, let_in}
 use Rattle.program_steps.proofs.Waiting.{left_stepped, entered_own}
 use Rattle.parked_tasks.specs.declared.task.TaskEnd.TheVariants.{Spent, Wild}
 use Rattle.tk_tasks.specs.declared.trying.Tried.{Tried}
@@ -45,10 +45,10 @@ went_entered x m y line entered step = record {
   moves = entered.moves ++ step.moves;
   goes = goes_on x m y entered.moves step.moves [] (line_before line []) entered.goes step.goes;
   last = last_by entered.moves step.moves step.some ∙ step.last;
-  made = made_both (λ a. a ≡ x.at) entered.moves step.moves entered.made (made_map (λ a. ⊥) (λ a. a ≡ x.at) step.moves (λ a never. absurd never) step.none_made);
+  of_step = record { arrival = entered.moves; own = step.moves; parts = refl; arrives = entered.arrives; makes = inr step.own };
   stays = stays_on x m y entered.stays step.stays;
   broken = step.broken ∙ entered.broken;
-  left = left_stepped m y line step;
+  left = left_stepped m y line step.arrivals step.way;
   way = way_behind x m y line entered.stays.program entered.flat entered.steps step.way;
 }
 
@@ -57,39 +57,24 @@ went_stepped x y line step = record {
   moves = step.moves;
   goes = step.goes;
   last = step.last;
-  made = made_map (λ a. ⊥) (λ a. a ≡ x.at) step.moves (λ a never. absurd never) step.none_made;
+  of_step = record { arrival = []; own = step.moves; parts = refl; arrives = IsArrival.NoArrival refl; makes = inr step.own };
   stays = step.stays;
   broken = step.broken;
-  left = left_stepped x y line step;
+  left = left_stepped x y line step.arrivals step.way;
   way = step.way;
 }
 
 -- ---- several steps
 
--- what a step without an interrupt behind it says
-record Quiet (x m : Machine) : Type 0 where
-  next : next_of (program_of x.kernel) (flat_of x) ≡ On None (flat_of m)
-  undue : m.due ≡ false
-
-quiet_by : (x m : Machine) → StepWay x m None → IsGoing m → m.due ≡ false → Quiet x m
-quiet_by x m (StepWay.On ready quiet steps is) going undue = record { next = is; undue = undue }
-quiet_by x m (StepWay.Stopped stop over kept none steps is left) going undue = absurd (let e : Some (ends.Stopped stop) ≡ None = sym kept ∙ going.going in cc)
-
 silently_passes : (n : ℕ) (a m : Machine) → Silently n a m → Passes a.kernel.quantum a.crossings m.crossings × (m.kernel.quantum ≡ a.kernel.quantum)
 silently_passes zero a m same = (inl (ap (λ (z : Machine). z.crossings) (sym same)), ap (λ (z : Machine). z.kernel.quantum) (sym same))
 silently_passes (suc n) a m (y, w, before, step, followed) =
     let so_far = silently_passes n a y before in
-    let quiet = quiet_by y w step.way followed.ready followed.undue in
+    let gone = goes_on_by y w None step.way followed.ready.going in
     let here : Passes y.kernel.quantum a.crossings y.crossings = subst (λ q. Passes q a.crossings y.crossings) (sym so_far.1) so_far.0 in
-    let on : Passes a.kernel.quantum a.crossings w.crossings = subst (λ q. Passes q a.crossings w.crossings) so_far.1 (pass_on (program_of y.kernel) a.crossings (flat_of y) (flat_of w) None here quiet.next quiet.undue) in
+    let on : Passes a.kernel.quantum a.crossings w.crossings = subst (λ q. Passes q a.crossings w.crossings) so_far.1 (pass_on (program_of y.kernel) a.crossings (flat_of y) (flat_of w) None here gone.next followed.undue) in
     let same : w.crossings ≡ m.crossings = sym (ap (λ (z : Moment). z.now.crossings) followed.entered.flat) in
     (subst (Passes a.kernel.quantum a.crossings) same on, followed.entered.stays.quantum ∙ step.stays.quantum ∙ so_far.1)
-
--- an arrival that was made was one into the program's part
-inside_by : (w z : Machine) (result : Option End) → result ≡ None → Entering w z result → is_own w.kernel.part w.at ≡ true
-inside_by w z result none (Entering.In ready placed inside untaken) = inside
-inside_by w z result none (Entering.Out over kept outside) = absurd (cc)
-inside_by w z result none (Entering.Failed op over kept inside fault) = inside
 
 -- plays that write nothing lead to where the last step begins
 pub record Stands (n : ℕ) (x m : Machine) : Type 0 where
@@ -102,10 +87,10 @@ silently_stands zero x a m entered same = record { y = x; quietly = refl; entere
 silently_stands (suc n) x a m entered (y, w, before, step, followed) =
     let so_far = silently_stands n x a y entered before in
     let went = went_entered so_far.y y w None so_far.entered step in
-    let quiet = quiet_by so_far.y w went.way followed.ready followed.undue in
+    let gone = goes_on_by so_far.y w None went.way followed.ready.going in
     record {
       y = w;
-      quietly = (so_far.y, so_far.quietly, went, followed.ready, inside_by w m None refl followed.entered.way, undue_unchecked (program_of so_far.y.kernel) (flat_of so_far.y) (flat_of w) None quiet.next quiet.undue);
+      quietly = (so_far.y, so_far.quietly, went, followed.ready, (let_in w m None followed.entered refl).inside, undue_unchecked (program_of so_far.y.kernel) (flat_of so_far.y) (flat_of w) None gone.next followed.undue);
       entered = followed.entered;
     }
 
@@ -141,14 +126,6 @@ tried_taken x y left tried none step behind =
     HasTried.Steps 0 x none (omega (arith, some.1)) refl (went_stepped x y tried.line step) (behind (left - (0 + 1)))
 
 -- ---- the machine behind an arrival, and behind steps
-
-entered_untaken : (x a : Machine) (result : Option End) → result ≡ None → Entering x a result → is_taken (flat_of a) ≡ false
-entered_untaken x a result none (Entering.In ready free inside untaken) = untaken
-entered_untaken x a result none (Entering.Out over kept outside) = absurd (cc)
-entered_untaken x a result none (Entering.Failed op over kept inside fault) = absurd (cc)
-
-pub enters_untaken : (x a : Machine) (result : Option End) → result ≡ None → HasEntered x a result → is_taken (flat_of a) ≡ false
-enters_untaken x a result none entered = entered_untaken x a result none entered.way
 
 pub unfailing_on : (x y : Machine) → Stays x y → x.kernel.mote.flash.failing ≡ [] → (op : ℕ) → is_listed y.kernel.mote.flash.failing op ≡ false
 unfailing_on x y stays none op = ap (λ l. is_listed l op) (stays.failing ∙ none)
@@ -202,15 +179,12 @@ taken_way x y tried taken (StepWay.Stopped stop over kept none steps is stays) g
 pub taken_on : (x y : Machine) (tried : Tried) → is_to_be_taken x ≡ true → HasStepped x y None → y.end ≡ None → tried.changes ≡ false → tried.end ≡ None → (left : ℕ) → IsBehind x y left tried
 taken_on x y tried wanted step going changes end left = taken_way x y tried (taken_owed x x.owed wanted) step.way going changes end left
 
-over_way : (x y : Machine) (end : End) (tried : Tried) → StepWay x y None → y.end ≡ Some end → tried.changes ≡ true → tried.end ≡ Some (task_end end) → (left : ℕ) → IsBehind x y left tried
-over_way x y end tried (StepWay.On ready quiet steps is) over changes ended left = absurd (let e : Some end ≡ None = sym over ∙ ready.going in cc)
-over_way x y end tried (StepWay.Stopped stop over' kept none steps is stays) over changes ended left =
+pub taken_over : (x y : Machine) (end : End) (tried : Tried) → StepWay x y None → y.end ≡ Some end → tried.changes ≡ true → tried.end ≡ Some (task_end end) → (left : ℕ) → IsBehind x y left tried
+taken_over x y end tried (StepWay.On ready quiet steps is) over changes ended left = absurd (let e : Some end ≡ None = sym over ∙ ready.going in cc)
+taken_over x y end tried (StepWay.Stopped stop over' kept none steps is stays) over changes ended left =
     let same : Some end ≡ Some (ends.Stopped stop) = sym over ∙ kept in
     let its : end ≡ ends.Stopped stop = cc in
     IsBehind.Over stop kept changes (ended ∙ ap (λ e. Some (task_end e)) its)
-
-pub taken_over : (x y : Machine) (end : End) (tried : Tried) → HasStepped x y None → y.end ≡ Some end → tried.changes ≡ true → tried.end ≡ Some (task_end end) → (left : ℕ) → IsBehind x y left tried
-taken_over x y end tried step over changes ended left = over_way x y end tried step.way over changes ended left
 
 pub done_quantum : (a y : Machine) (count : ℕ) (line : Option Line) → IsGoing a → HasDone a y count line → 1 ≤ y.kernel.quantum
 done_quantum a y count line ready done =
@@ -232,11 +206,11 @@ pub record Enters (x a : Machine) : Type 0 where
 pub entered_in : (x a : Machine) (result : Option End) (left : ℕ) → rest_at x.kernel.part x.at left ≡ None → x.kernel.mote.flash.failing ≡ [] → HasEntered x a result → Enters x a
 entered_in x a result left none unfailing entered =
     let own = unrested x.kernel.part x.at left none in
-    let all = entered_own x a result own.0 (unfailing_on x a entered.stays unfailing) entered in
+    let all = entered_own x a result own.0 (unfailing_on x a entered.stays unfailing) entered.way in
     record {
       entered = subst (HasEntered x a) all.0 entered;
       ready = all.1;
       placed = all.2;
-      untaken = enters_untaken x a result all.0 entered;
+      untaken = (let_in x a result entered all.0).untaken;
       left = λ k rest. (unrested x.kernel.part x.at k rest).1;
     }

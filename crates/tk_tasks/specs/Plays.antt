@@ -1,15 +1,16 @@
 -- A run of the tasks on the mote, play by play, beside the tasks in turn (docs/TASKS.md, "A run on the mote").
-use Rattle.std.specs.Prelude.{◌≡◌, ℕ, ◌/◌, Bool, true, false, List, [], ◌∷◌, ◌++◌, length, flat_map, slice_get, slice_set, sum_by, Option, Some, None, Result, Ok, Err}
+use Rattle.std.specs.Prelude.{◌≡◌, ℕ, ◌/◌, Bool, true, false, List, [], ◌∷◌, ◌++◌, length, flat_map, slice_get, slice_set, sum_by, Option, Some, None, Result, Ok, Err, is_err}
 use Rattle.mote_devices.specs.declared.line.Line.{Line}
-use Rattle.mem_guard.specs.FlatMachine.{Run}
-use Rattle.kernel_entry.specs.Texts.{line_text, stop_text}
+use Rattle.flat_machine.specs.FlatMachine.{Run}
+use Rattle.printed_text.specs.DeviceLines.{device_line_text}
+use Rattle.printed_text.specs.Ends.{stop_text}
 use Rattle.byte_streams.specs.declared.failure.Failed.{Failed}
 use Rattle.byte_streams.specs.Streams.{Puts}
 use Rattle.step_laws.specs.Moves.{Move}
 use Rattle.step_laws.specs.Walks.{Walks}
-use Rattle.program_steps.specs.Stepping.{Goes, AreMadeAt, ends_in_arrive}
+use Rattle.program_steps.specs.Stepping.{Goes, AreOfStep, ends_in_arrive}
 use Rattle.parked_tasks.specs.declared.task.Task.{Task}
-use Rattle.text_pieces.specs.Pieces.{task_text}
+use Rattle.line_writer.specs.Pieces.{task_text}
 use Rattle.task_turns.specs.Turns.{Player, Turns, Shown, Wrote, Stops, Told, once, tries, turns, alone, shown_by, own_told, HaveEnded}
 use Rattle.tk_tasks.specs.States.{Tasks, AreSound, machine_of, player_of, turns_of}
 use Rattle.tk_tasks.specs.Changes.{changed_tasks}
@@ -28,12 +29,12 @@ line_shown (Stops end steps crossings) = []
 abbrev pub lines_told : List Told → List Line
 lines_told told = flat_map (λ one. line_shown one.shown) told
 
--- The running task's machine goes by these moves, of which the last is no arrival, and which make a page at most where it
--- stands; a move counts for this task alone. The other tasks have what they had, and all stay sound.
+-- The running task's machine goes by these moves: at most an arrival where it stands, and at most the moves of one step; the
+-- last is no arrival. A move counts for this task alone. The other tasks have what they had, and all stay sound.
 pub record IsTry (t : Tasks) (task : Task) (play : Play) (new : Tasks) (next : Task) : Type 0 where
   pub goes : Goes (machine_of t t.running task) (machine_of new t.running next) play.moves (lines_told play.told)
   pub last : ends_in_arrive play.moves ≡ false
-  pub made : AreMadeAt (λ a. a ≡ task.at) play.moves
+  pub of_step : AreOfStep task.at play.moves
   pub tasks : new.tasks ≡ slice_set t.tasks t.running next
   pub running : new.running ≡ t.running
   pub switches : new.switches ≡ t.switches
@@ -76,7 +77,7 @@ pub record AreInTurn (first : Turns) (plays : List Play) (reached : Turns) : Typ
 
 -- what is told, as it is printed: each line names its task
 abbrev pub shown_text : (quantum : ℕ) → Shown → List ℕ
-shown_text quantum (Wrote line) = line_text line
+shown_text quantum (Wrote line) = device_line_text line
 shown_text quantum (Stops end steps crossings) = stop_text end steps (crossings / quantum)
 
 abbrev pub told_text : (quantum : ℕ) → List Told → List ℕ
@@ -99,10 +100,6 @@ pub record HaveRun (n : ℕ) (old : Tasks) (told : List Told) (new : Tasks) : Ty
 abbrev pub counted : Tasks → (broken : Bool) → Tasks
 counted t broken = record t { broken = broken; natural = sum_by (λ (task : Task). task.natural) t.tasks; entries = sum_by (λ (task : Task). task.entries) t.tasks }
 
-abbrev pub is_failed : Result (Unit {0}) Failed → Bool
-is_failed (Ok done) = false
-is_failed (Err e) = true
-
 abbrev pub IfDone : Result (Unit {0}) Failed → Type 0 → Type 0
 IfDone (Ok done) holds = holds
 IfDone (Err e) holds = Unit {0}
@@ -113,7 +110,7 @@ pub record HasRunTasks (n : ℕ) (old new : Tasks) (before after : Option (List 
   pub plays : List Play
   pub last : Tasks
   pub path : TaskPath n old plays last
-  pub counts : new ≡ counted last (is_failed result)
+  pub counts : new ≡ counted last (is_err result)
   pub in_turn : AreInTurn (turns_of n old) plays (turns_of n last)
   pub put : Puts before after result (told_text old.kernel.quantum (told_of plays))
   pub run : IfDone result (HaveRun n old (told_of plays) last)

@@ -2,8 +2,8 @@
 use Rattle.std.specs.Prelude.{ℕ, List, Option, Some, None, Result, Ok, Err}
 use Rattle.byte_streams.specs.declared.failure.Failed.{Failed}
 use Rattle.byte_streams.specs.Streams.{CutShort, IsSent}
-use Rattle.step_laws.specs.declared.moves.End.{End}
-use Rattle.step_laws.specs.declared.moves.End.TheVariants as ends
+use Rattle.kernel_entry.specs.declared.kernel.End.{End}
+use Rattle.kernel_entry.specs.declared.kernel.End.TheVariants as ends
 use Rattle.kernel_entry.specs.declared.kernel.Stop.TheVariants as stops
 use Rattle.parked_tasks.specs.declared.task.TaskEnd.{TaskEnd}
 use Rattle.parked_tasks.specs.declared.task.TaskEnd.TheVariants.{Spent, Stopped, Wild, Read}

@@ -5,9 +5,9 @@ use Rattle.mote_core.specs.declared.mote.Mote.{Mote}
 use Rattle.kernel_entry.specs.declared.kernel.Kernel.{Kernel}
 use Rattle.kernel_entry.specs.declared.kernel.Stop.TheVariants as stops
 use Rattle.kernel_entry.specs.Seen.{program as program_of}
-use Rattle.step_laws.specs.declared.moves.Owed.{Owed}
-use Rattle.step_laws.specs.declared.moves.End.{End}
-use Rattle.step_laws.specs.declared.moves.End.TheVariants as ends
+use Rattle.kernel_entry.specs.declared.kernel.Owed.{Owed}
+use Rattle.kernel_entry.specs.declared.kernel.End.{End}
+use Rattle.kernel_entry.specs.declared.kernel.End.TheVariants as ends
 use Rattle.program_steps.specs.Machines.{Machine, flat_of}
 use Rattle.program_steps.specs.Ready.{most_arrivals, IsSound, IsGoing, IsQuiet}
 use Rattle.parked_tasks.specs.declared.parked.Parked.{Parked}

@@ -1,17 +1,17 @@
 -- Serves private functions: tries of the running task, one behind the other, as its machine makes them.
 use Rattle.std.specs.Prelude.{◌≡◌, ◌≢◌, ℕ, zero, suc, ◌+◌, ◌-◌, ◌<◌, ◌==◌, Bool, true, false, if◌then◌else◌, List, [], ◌∷◌, ◌++◌, slice_set, Option, Some, None}
 use Rattle.mote_devices.specs.declared.line.Line.{Line}
-use Rattle.mem_guard.specs.declared.part.Part.{Part}
-use Rattle.mem_guard.specs.FlatMachine.{is_own}
+use Rattle.flat_machine.specs.declared.part.Part.{Part}
+use Rattle.flat_machine.specs.FlatMachine.{is_own}
 use Rattle.kernel_entry.specs.declared.kernel.Stop.{Stop}
 use Rattle.kernel_entry.specs.declared.kernel.Stop.TheVariants as stops
-use Rattle.step_laws.specs.declared.moves.End.{End}
-use Rattle.step_laws.specs.declared.moves.End.TheVariants as ends
-use Rattle.step_laws.specs.declared.moves.Owed.{Owed}
+use Rattle.kernel_entry.specs.declared.kernel.End.{End}
+use Rattle.kernel_entry.specs.declared.kernel.End.TheVariants as ends
+use Rattle.kernel_entry.specs.declared.kernel.Owed.{Owed}
 use Rattle.step_laws.specs.Moves.{Move, line_before}
 use Rattle.program_steps.specs.Machines.{Machine}
 use Rattle.program_steps.specs.Ready.{IsGoing}
-use Rattle.program_steps.specs.Stepping.{Goes, Stays, StepWay, HasStepped, AreMadeAt, ends_in_arrive}
+use Rattle.program_steps.specs.Stepping.{Goes, Stays, StepWay, HasStepped, AreOfStep, ends_in_arrive}
 use Rattle.program_steps.specs.Several.{Silently}
 use Rattle.program_steps.specs.Waiting.{IsLeft}
 use Rattle.parked_tasks.specs.declared.task.Task.{Task}
@@ -45,7 +45,7 @@ pub record Went (old new : Machine) (line : Option Line) : Type 0 where
   pub moves : List Move
   pub goes : Goes old new moves (line_before line [])
   pub last : ends_in_arrive moves ≡ false
-  pub made : AreMadeAt (λ a. a ≡ old.at) moves
+  pub of_step : AreOfStep old.at moves
   pub stays : Stays old new
   pub broken : new.broken ≡ old.broken
   pub left : IsLeft new

@@ -9,11 +9,11 @@ ghost use Rattle.tk_tasks.specs.Trying.{HasPlayed, tried_told, kept_task, stub_i
 
 use crate::tasks::Tasks;
 use crate::trying::try_on;
+use kernel_entry::Owed;
 use mote_devices::Line;
 use page_cursor::Cursor;
 use parked_tasks::{Task, TaskEnd, arrivals_of_others};
 use program_steps::Progress;
-use step_laws::Owed;
 
 /// What is told of the task that ran: the line that it wrote, and how it ended, with its steps and crossings; and how many
 /// steps there were.

@@ -2,21 +2,20 @@
 
 ghost use Rattle.std.specs.Prelude.{◌≡◌, ℕ, ◌<◌, ◌≤◌, ◌^◌, false, Some, None, [], slice_get, sum_by};
 ghost use Rattle.byte_streams.specs.Faults.{HasCause};
-ghost use Rattle.line_text.specs.Gathering.{Gathers};
+ghost use Rattle.line_gathering.specs.Gathering.{Gathers};
 ghost use Rattle.parked_tasks.specs.declared.task.Task.{Task as TaskOf};
 ghost use Rattle.tk_tasks.specs.States.{AreSound};
-ghost use Rattle.tk_tasks.specs.Plays.{HasRunTasks, is_failed, told_text};
+ghost use Rattle.tk_tasks.specs.Plays.{HasRunTasks, told_text};
 ghost use Rattle.tk_tasks.specs.Trying.{tried_told};
 ghost use Rattle.tk_tasks.specs.Running.{end_shown_of, HaveGathered};
 
 use crate::play::Shown;
 use crate::tasks::Tasks;
 use byte_streams::{Failed, Sink};
-use kernel_entry::Stop;
-use line_text::{Gathered, TaskLines, add_task, send, send_in_turn, up_to_turn};
+use kernel_entry::{End, Stop};
+use line_gathering::{Gathered, TURN, TaskLines, add_task, send, send_in_turn, up_to_turn};
 use page_cursor::Cursor;
 use parked_tasks::{Counts, TaskEnd, counts_of};
-use step_laws::End;
 
 /// A task's end, as its stop line shows it, if it ended.
 fn end_shown(end: Option<TaskEnd>) -> Option<End>
@@ -62,16 +61,6 @@ fn all_counts(t: &Tasks) -> Counts
     counts_of(&t.tasks)
 }
 
-/// Whether the sink failed.
-fn is_failed(run: &Result<(), Failed>) -> bool
-    ensures value { result ≡ is_failed run.now }
-{
-    match run {
-        Ok(_) => false,
-        Err(_) => true,
-    }
-}
-
 impl Tasks {
     /// Runs the tasks until every one has ended, where each may do n steps, and puts their device lines and stop lines to
     /// `out`, each with its task's name: where 4,096 bytes were gathered, each 65,536 steps, and before it answers.
@@ -91,7 +80,7 @@ impl Tasks {
         let counts = all_counts(self);
         self.natural = counts.natural;
         self.entries = counts.entries;
-        self.broken = is_failed(&result);
+        self.broken = result.is_err();
         result
     }
 }
@@ -136,7 +125,7 @@ fn all_plays<K: Sink>(
     'plays: while t.goes_on() {
         send_in_turn(done, gathered, out)?;
         let shown = t.play(n, up_to_turn(done), &mut cursor);
-        done = (done + shown.count) % 65_536;
+        done = (done + shown.count) % TURN;
         put_shown(&shown, t.kernel.quantum, gathered, out)?;
     }
     Ok(())

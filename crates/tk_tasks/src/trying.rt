@@ -2,8 +2,8 @@
 
 ghost use Rattle.std.specs.Prelude.{◌≡◌, ℕ, ◌+◌, ◌<◌, ◌≤◌, ◌^◌, true, false, [], Some, None};
 ghost use Rattle.page_cursor.specs.Cursors.{IsCursor};
-ghost use Rattle.mem_guard.specs.FlatMachine.{is_taken};
-ghost use Rattle.step_laws.specs.declared.moves.End.{End as Ends};
+ghost use Rattle.flat_machine.specs.FlatMachine.{is_taken};
+ghost use Rattle.kernel_entry.specs.declared.kernel.End.{End as Ends};
 ghost use Rattle.program_steps.specs.Machines.{flat_of};
 ghost use Rattle.program_steps.specs.Ready.{IsGoing, IsQuiet};
 ghost use Rattle.program_steps.specs.Stepping.{HasStepped};
@@ -12,13 +12,12 @@ ghost use Rattle.program_steps.specs.Wholes.{whole};
 ghost use Rattle.tk_tasks.specs.Trying.{rest_at, rest_if, task_end, IsBehind, HasMade, HasTried};
 ghost use Rattle.task_turns.specs.Checkpoints.{checks_by};
 
-use kernel_entry::{Kernel, Stop};
-use mem_guard::Part;
+use flat_machine::Part;
+use kernel_entry::{End, Kernel, Stop};
 use mote_devices::Line;
 use page_cursor::Cursor;
 use parked_tasks::TaskEnd;
 use program_steps::{Progress, enter, must_take, steps, take};
-use step_laws::End;
 
 /// What tries of a task came to: the line that the last wrote, how the task ended, if it did, whether the mote goes to
 /// another task, and how many steps of the program there were.
@@ -53,6 +52,7 @@ fn task_end(end: End) -> TaskEnd
         End::Stopped(Stop::Read(pc, word)) => TaskEnd::Read(pc, word),
         End::Stopped(stop) => TaskEnd::Stopped(stop),
         End::Wild(address) => TaskEnd::Wild(address),
+        // This end can't come: where tasks run, no operation on flash fails.
         End::Flash(_) => TaskEnd::Spent,
     }
 }

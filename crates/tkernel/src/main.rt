@@ -6,7 +6,7 @@ use byte_streams::{StdSink, StdSource};
 use std::env;
 use std::io::{self, ErrorKind};
 use std::process::ExitCode;
-use tkernel_cli::{Exit, Status, tkernel};
+use tkernel_cli::{Status, tkernel};
 
 fn main(rt: HostRuntime) -> ExitCode {
     let words = match words_of(&rt) {
@@ -16,12 +16,7 @@ fn main(rt: HostRuntime) -> ExitCode {
     let mut input = StdSource::new(rt.reader());
     let mut out = StdSink::new(io::writer(&rt));
     let exit = tkernel(rt.alloc(), &words, &mut input, &mut out);
-    ExitCode::from(status_of(exit).number())
-}
-
-/// The status of a call. The machine that it keeps isn't looked at any more.
-fn status_of(exit: Exit) -> Status {
-    exit.status
+    ExitCode::from(exit.status.number())
 }
 
 /// The words after the program's name. Where one of them isn't UTF-8 there is one empty word, which is no

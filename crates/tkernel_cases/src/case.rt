@@ -1,5 +1,5 @@
 //! A case, and how its lines say it.
-use hex_image::{Image, write};
+use hex_image::{Image, MOST_WORDS, write};
 use std::alloc::{AllocError, Global};
 
 /// Words and an input, and what they are to be answered with.
@@ -12,17 +12,16 @@ pub(crate) struct Case {
     /// How many bytes of the input there are: each number from the first to the last. More are all of it.
     pub shortest: usize,
     pub longest: usize,
-    /// The calls of the source that fail.
-    pub fails: Vec<u64>,
+    /// The call of the source that fails. The first is call 1, so none does by 0.
+    pub fails: u64,
     /// How many bytes the sink takes.
     pub room: usize,
-    /// A text of the first answer, and what stands there in its place.
-    pub old: Vec<u8>,
-    pub new: Vec<u8>,
+    /// A text of the first answer, a blank, and what stands there in its place.
+    pub change: Vec<u8>,
     /// The words of a second call, over the input and the first answer behind it. There is none without words.
     pub then: Vec<String>,
-    /// The status; 255, which no call answers with, where its line has no number.
-    pub status: u8,
+    /// The status. Where its line has no number, it is one that no call answers with.
+    pub status: usize,
     pub text: Vec<u8>,
     /// What the first call keeps, where that is compared.
     pub keeps: Vec<u8>,
@@ -40,12 +39,11 @@ impl Case {
             input: Vec::new(alloc),
             shortest: usize::MAX,
             longest: usize::MAX,
-            fails: Vec::new(alloc),
+            fails: 0,
             room: ROOM,
-            old: Vec::new(alloc),
-            new: Vec::new(alloc),
+            change: Vec::new(alloc),
             then: Vec::new(alloc),
-            status: 255,
+            status: usize::MAX,
             text: Vec::new(alloc),
             keeps: Vec::new(alloc),
         }
@@ -53,69 +51,65 @@ impl Case {
 
     /// Takes one of its lines.
     pub(crate) fn take(&mut self, alloc: Global, line: &str) -> Result<(), AllocError> {
-        let (kind, rest) = line.split_once(' ').unwrap_or((line, ""));
+        let (kind, rest) = cut(line);
         match kind {
-            "#" => Ok(()),
             "words:" => Ok(self.words.push(words_of(alloc, rest)?)?),
-            "image:" => put_image(&mut self.input, alloc, rest),
-            "input:" => put_escaped(&mut self.input, rest),
-            "script:" => put_script(&mut self.input, rest),
-            "times:" => put_times(&mut self.input, rest),
             "then:" => {
                 self.then = words_of(alloc, rest)?;
                 Ok(())
             }
-            "keeps:" => put(&mut self.keeps, rest),
-            ">" => put_line(&mut self.text, rest),
-            ">>" => put(&mut self.text, rest),
-            "lengths:" | "fails:" | "room:" | "status:" => self.take_number(kind, rest),
-            "change:" => self.take_change(rest),
-            _ => put(&mut self.name, line),
+            "image:" => put_image(&mut self.input, alloc, rest),
+            "lengths:" | "fails:" | "room:" | "status:" => {
+                self.take_numbers(kind, rest);
+                Ok(())
+            }
+            _ => self.take_text(kind, rest, line),
         }
     }
 
-    /// Takes a line of numbers.
-    fn take_number(&mut self, kind: &str, rest: &str) -> Result<(), AllocError> {
+    /// Takes a line of one number or two.
+    fn take_numbers(&mut self, kind: &str, rest: &str) {
+        let (first, second) = cut(rest);
+        let (first, second) = (number(first), number(second));
         match kind {
             "lengths:" => {
-                let (shortest, longest) = rest.split_once(' ').unwrap_or((rest, rest));
-                self.shortest = shortest.parse().unwrap_or(usize::MAX);
-                self.longest = longest.parse().unwrap_or(usize::MAX);
-                Ok(())
+                self.shortest = first;
+                self.longest = second;
             }
-            "fails:" => Ok(self.fails.push(rest.parse().unwrap_or(0))?),
-            "room:" => {
-                self.room = rest.parse().unwrap_or(ROOM);
-                Ok(())
-            }
-            _ => {
-                self.status = rest.parse().unwrap_or(255);
-                Ok(())
-            }
+            "fails:" => self.fails = first as u64,
+            "room:" => self.room = first,
+            _ => self.status = first,
         }
     }
 
-    /// Takes the line of a change.
-    fn take_change(&mut self, rest: &str) -> Result<(), AllocError> {
-        let (old, new) = rest.split_once(' ').unwrap_or((rest, rest));
-        put(&mut self.old, old)?;
-        put(&mut self.new, new)
+    /// Takes a line of text.
+    fn take_text(&mut self, kind: &str, rest: &str, line: &str) -> Result<(), AllocError> {
+        match kind {
+            "#" => Ok(()),
+            "input:" => put(&mut self.input, rest, false),
+            "script:" => put(&mut self.input, rest, true),
+            "times:" => put_times(&mut self.input, rest),
+            "change:" => put(&mut self.change, rest, false),
+            "keeps:" => put(&mut self.keeps, rest, false),
+            ">" => put(&mut self.text, rest, true),
+            ">>" => put(&mut self.text, rest, false),
+            _ => put(&mut self.name, line, false),
+        }
     }
 }
 
-/// Adds a text.
-fn put(bytes: &mut Vec<u8>, text: &str) -> Result<(), AllocError> {
-    bytes.extend_from_slice(text.as_bytes())
+/// What stands before a text's first blank, and behind it.
+pub(crate) fn cut(text: &str) -> (&str, &str) {
+    text.split_once(' ').unwrap_or((text, ""))
 }
 
-/// Adds a text and a line feed.
-fn put_line(bytes: &mut Vec<u8>, text: &str) -> Result<(), AllocError> {
-    put(bytes, text)?;
-    Ok(bytes.push(b'\n')?)
+/// The number of these digits, or else one that is greater than any.
+fn number(digits: &str) -> usize {
+    digits.parse().unwrap_or(usize::MAX)
 }
 
-/// Adds a text, in which \n and \r are a line feed and a carriage return.
-fn put_escaped(bytes: &mut Vec<u8>, text: &str) -> Result<(), AllocError> {
+/// Adds a text, in which \n and \r are a line feed and a carriage return, and a line feed where it is a line.
+fn put(bytes: &mut Vec<u8>, text: &str, is_line: bool) -> Result<(), AllocError> {
     let mut escapes = false;
     for byte in text.as_bytes() {
         if !escapes && *byte == b'\\' {
@@ -124,6 +118,9 @@ fn put_escaped(bytes: &mut Vec<u8>, text: &str) -> Result<(), AllocError> {
             bytes.push(meant(*byte, escapes))?;
             escapes = false;
         }
+    }
+    if is_line {
+        bytes.push(b'\n')?;
     }
     Ok(())
 }
@@ -137,17 +134,11 @@ fn meant(byte: u8, escaped: bool) -> u8 {
     }
 }
 
-/// Adds such a text and a line feed.
-fn put_script(bytes: &mut Vec<u8>, text: &str) -> Result<(), AllocError> {
-    put_escaped(bytes, text)?;
-    put(bytes, "\n")
-}
-
 /// Adds such a text as often as the number before it says.
 fn put_times(bytes: &mut Vec<u8>, line: &str) -> Result<(), AllocError> {
-    let (count, text) = line.split_once(' ').unwrap_or((line, ""));
+    let (count, text) = cut(line);
     for _ in 0..count.parse::<u32>().unwrap_or(0) {
-        put_escaped(bytes, text)?;
+        put(bytes, text, false)?;
     }
     Ok(())
 }
@@ -170,8 +161,10 @@ fn put_image(bytes: &mut Vec<u8>, alloc: Global, line: &str) -> Result<(), Alloc
     for part in line.split_whitespace() {
         put_words(&mut words, part)?;
     }
-    let words = words.get(..24_576).unwrap_or(&words);
-    let Ok(image) = Image::from_words(alloc, words) else {
+    if words.len() > MOST_WORDS as usize {
+        return Err(AllocError);
+    }
+    let Ok(image) = Image::from_words(alloc, &words) else {
         return Err(AllocError);
     };
     let Ok(text) = write(alloc, &image) else {

@@ -1,12 +1,12 @@
 //! The count of comparisons.
-ghost use Rattle.std.specs.Prelude.{◌≡◌, ◌↔◌, ◌⊎◌, [], true, false};
+ghost use Rattle.std.specs.Prelude.{◌≡◌, ◌↔◌, ◌⊎◌, ◌+◌, ◌-◌, ◌^◌, [], true, min, if◌then◌else◌};
 
 use crate::case::Case;
 
 /// What is compared of an answer.
 #[derive(Drop)]
 pub(crate) struct Answer {
-    pub status: u8,
+    pub status: usize,
     pub text: Vec<u8>,
     /// What the first call kept.
     pub keeps: &'static [u8],
@@ -25,13 +25,13 @@ impl Tally {
         Tally { same: 0, other: 0 }
     }
 
-    /// Compares an answer with what its case wants, counts it, and tells whether they are the same.
+    /// Compares an answer with what its case wants, counts it, and tells whether they are the same. The count of these
+    /// rises by one, up to its type's end, and the other stays.
     pub(crate) fn count(&mut self, case: &Case, answer: &Answer) -> bool
-        ensures status { result ≡ true → answer.now.status ≡ case.now.status }
-        ensures text { result ≡ true → answer.now.text.items ≡ case.now.text.items }
-        ensures keeps { result ≡ true → (case.now.keeps.items ≡ []) ⊎ (case.now.keeps.items ≡ answer.now.keeps.now) }
-        ensures same { result ≡ false → self.new.same ≡ self.old.same }
-        ensures other { result ≡ true → self.new.other ≡ self.old.other }
+        ensures wanted { result ≡ true ↔ (answer.now.status ≡ case.now.status) × (answer.now.text.items ≡ case.now.text.items)
+            × ((case.now.keeps.items ≡ []) ⊎ (case.now.keeps.items ≡ answer.now.keeps.now)) }
+        ensures same { self.new.same ≡ (if result then min (self.old.same + 1) (2 ^ 64 - 1) else self.old.same) }
+        ensures other { self.new.other ≡ (if result then self.old.other else min (self.old.other + 1) (2 ^ 64 - 1)) }
     {
         if is_wanted(case, answer) && is_kept(case, answer) {
             self.same = self.same.saturating_add(1);

@@ -1,5 +1,5 @@
 //! What a case is answered with.
-use crate::case::Case;
+use crate::case::{Case, cut};
 use crate::tally::{Answer, Tally};
 use std::alloc::{AllocError, Global};
 use std::io;
@@ -19,8 +19,7 @@ pub(crate) fn try_case(rt: &HostRuntime, case: &Case, tally: &mut Tally) -> io::
     if is_same {
         return Ok(());
     }
-    let name = String::from_utf8_lossy(rt.alloc(), &case.name)?;
-    println!(rt; "other: {name}")
+    println!(rt; "other: {}", text_of(&case.name))
 }
 
 /// What these words are answered with over this input: by one call, or by two.
@@ -30,30 +29,33 @@ fn answer_of(
     words: &[String],
     input: &[u8],
 ) -> Result<Answer, AllocError> {
-    let first = called(alloc, case, words, input.to_vec(alloc)?)?;
+    let first = called(alloc, case, words, input)?;
     if case.then.is_empty() {
         return Ok(first);
     }
     let mut both = input.to_vec(alloc)?;
-    both.extend_from_slice(&changed(alloc, case, first.text)?)?;
-    let Answer { status, text, .. } = called(alloc, case, &case.then, both)?;
+    put_changed(&mut both, text_of(&first.text), text_of(&case.change))?;
+    let second = called(alloc, case, &case.then, &both)?;
     Ok(Answer {
-        status,
-        text,
+        status: second.status,
+        text: second.text,
         keeps: first.keeps,
     })
 }
 
-/// The text of the first answer with the case's change.
-fn changed(alloc: Global, case: &Case, text: Vec<u8>) -> Result<Vec<u8>, AllocError> {
-    if case.old.is_empty() {
-        return Ok(text);
+/// These bytes as a text; none where they are no text.
+fn text_of(bytes: &[u8]) -> &str {
+    str::from_utf8(bytes).unwrap_or("")
+}
+
+/// Adds a text in which the change is made: where its first word first stands, its second one stands.
+fn put_changed(bytes: &mut Vec<u8>, text: &str, change: &str) -> Result<(), AllocError> {
+    let (old, new) = cut(change);
+    let (before, behind) = text.split_once(old).unwrap_or((text, ""));
+    for part in [before, new, behind] {
+        bytes.extend_from_slice(part.as_bytes())?;
     }
-    let text = String::from_utf8_lossy(alloc, &text)?;
-    let old = String::from_utf8_lossy(alloc, &case.old)?;
-    let new = String::from_utf8_lossy(alloc, &case.new)?;
-    let text = text.replacen(alloc, old.as_str(), new.as_str(), 1)?;
-    text.as_bytes().to_vec(alloc)
+    Ok(())
 }
 
 /// One call over the streams of the case.
@@ -61,15 +63,15 @@ fn called(
     alloc: Global,
     case: &Case,
     words: &[String],
-    input: Vec<u8>,
+    input: &[u8],
 ) -> Result<Answer, AllocError> {
-    let mut source = FlakySource::new(input, case.fails.clone()?);
+    let mut source = FlakySource::new(input.to_vec(alloc)?, [case.fails].to_vec(alloc)?);
     let Ok(mut sink) = MemSink::new(alloc, case.room) else {
         return Err(AllocError);
     };
     let exit = tkernel(alloc, words, &mut source, &mut sink);
     Ok(Answer {
-        status: exit.status.number(),
+        status: usize::from(exit.status.number()),
         text: sink.taken().to_vec(alloc)?,
         keeps: kept(&exit),
     })

@@ -1,17 +1,17 @@
 -- What words and input ask for is what is answered.
 use Rattle.std.proofs.Common.{◌≡◌, ℕ, List, None, subst, inl, inr, ◌⊎◌}
-use Rattle.tk_words.specs.declared.job.Job.{Job}
-use Rattle.tk_words.specs.declared.job.Job.TheVariants as jobs
-use Rattle.tk_words.specs.declared.request.TaskRequest.{TaskRequest}
-use Rattle.tk_request.specs.Asking.{IsAsked}
-use Rattle.tk_words.specs.Commands.{RunsAProgram}
-use Rattle.tk_words.specs.Printed.{no_memory}
-use Rattle.tk_words.specs.Stream.{Stream}
-use Rattle.tk_request.proofs.Judging.{memory_asked}
-use Rattle.tk_request.proofs.Reasons.{Wanting, Same, why}
+use Rattle.cli_words.specs.declared.job.Job.{Job}
+use Rattle.cli_words.specs.declared.job.Job.TheVariants as jobs
+use Rattle.cli_words.specs.declared.request.TaskRequest.{TaskRequest}
+use Rattle.cli_requests.specs.Asking.{IsAsked}
+use Rattle.cli_words.specs.Commands.{RunsAProgram}
+use Rattle.cli_words.specs.Printed.{no_memory}
+use Rattle.cli_words.specs.Stream.{Stream}
+use Rattle.cli_requests.proofs.Judging.{memory_asked}
+use Rattle.cli_requests.proofs.Reasons.{Wanting, Same, why}
 use Rattle.tkernel_cli.specs.declared.top.Exit.{Exit}
 use Rattle.tkernel_cli.specs.Answer.{Does, IsAnswer, IsExact}
-use Rattle.run_jobs.specs.Jobs.{DoesAlone}
+use Rattle.cli_jobs.specs.Jobs.{DoesAlone}
 use Rattle.tkernel_cli.specs.TasksRuns.{HasTasksRun}
 
 -- what is done for one program or for none

@@ -5,8 +5,8 @@ use Rattle.byte_streams.specs.declared.failure.Failed.{Failed}
 use Rattle.byte_streams.specs.Faults.{Rose}
 use Rattle.byte_streams.specs.Streams.{CutShort}
 use Rattle.input_script.specs.Script.{Schedule, nothing}
-use Rattle.mem_guard.specs.FlatMachine.{Run}
-use Rattle.mem_guard.specs.Masked as masked
+use Rattle.flat_machine.specs.FlatMachine.{Run}
+use Rattle.flat_machine.specs.Masked as masked
 use Rattle.parked_tasks.specs.declared.task.Task.{Task}
 use Rattle.task_input.specs.Images.{quarter, IsMisplaced, task_words}
 use Rattle.tk_tasks.specs.Booted.{booted}
@@ -15,18 +15,18 @@ use Rattle.tk_tasks.specs.States.{Tasks, AreSound, player_of, turns_of}
 use Rattle.task_turns.specs.Turns.{Told, Turns, alone, at_reset_in, turns}
 use Rattle.tk_tasks.specs.Plays.{AreInTurn, EndsAsAlone, HasRunTasks, HaveRun, TaskPath, counted, told_of, told_text}
 use Rattle.tk_tasks.proofs.Telling.{told_text_on}
-use Rattle.line_text.proofs.Gathered.{cut_less}
+use Rattle.line_gathering.proofs.Gathered.{cut_less}
 use Rattle.task_turns.proofs.OwnPrograms.{program_at, player_at, own_run}
 use Rattle.tk_tasks.proofs.FirstPlayers.{boot_player, each_first, each_last, first_going}
-use Rattle.tk_words.specs.declared.request.TaskRequest.{TaskRequest}
-use Rattle.tk_words.specs.declared.status.Status.{Status}
-use Rattle.tk_words.specs.declared.status.Status.TheVariants as status
-use Rattle.tk_words.specs.Commands.{AreTasks}
-use Rattle.tk_words.specs.Stream.{Stream}
-use Rattle.run_jobs.specs.Runs.{Says}
+use Rattle.cli_words.specs.declared.request.TaskRequest.{TaskRequest}
+use Rattle.cli_words.specs.declared.status.Status.{Status}
+use Rattle.cli_words.specs.declared.status.Status.TheVariants as status
+use Rattle.cli_words.specs.Commands.{AreTasks}
+use Rattle.cli_words.specs.Stream.{Stream}
+use Rattle.cli_jobs.specs.Runs.{Says}
 use Rattle.tkernel_cli.specs.TasksRuns.{RunsTasks, EachIsAlone, all_told, run_of_task, start_by, start_of, turns_by, worst}
-use Rattle.run_jobs.specs.Text.{tasks_count_text}
-use Rattle.run_jobs.proofs.Putting.{said_on}
+use Rattle.printed_text.specs.Counts.{tasks_count_text}
+use Rattle.cli_jobs.proofs.Putting.{said_on}
 
 -- what stands of the tasks at boot
 pub record Starts (request : TaskRequest) (start : Tasks) : Type 0 where

@@ -1,11 +1,11 @@
 -- What the program answers: to which words and which input, with which status and text.
 use Rattle.std.specs.Prelude.{◌≡◌, ◌⊎◌, ℕ, List, None}
-use Rattle.tk_words.specs.declared.job.Job.{Job}
-use Rattle.tk_words.specs.declared.job.Job.TheVariants as jobs
-use Rattle.tk_request.specs.Asking.{IsAsked, IsWarranted}
-use Rattle.tk_words.specs.Printed.{no_memory}
-use Rattle.tk_words.specs.Stream.{Stream}
-use Rattle.run_jobs.specs.Jobs.{DoesAlone}
+use Rattle.cli_words.specs.declared.job.Job.{Job}
+use Rattle.cli_words.specs.declared.job.Job.TheVariants as jobs
+use Rattle.cli_requests.specs.Asking.{IsAsked, IsWarranted}
+use Rattle.cli_words.specs.Printed.{no_memory}
+use Rattle.cli_words.specs.Stream.{Stream}
+use Rattle.cli_jobs.specs.Jobs.{DoesAlone}
 use Rattle.tkernel_cli.specs.declared.top.Exit.{Exit}
 use Rattle.tkernel_cli.specs.TasksRuns.{HasTasksRun}
 

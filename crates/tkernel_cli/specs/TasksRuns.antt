@@ -4,8 +4,8 @@ use Rattle.std.specs.Prelude.{◌≡◌, ℕ, ◌*◌, ◌<◌, ◌++◌, nat_lt
 use Rattle.byte_streams.specs.Faults.{Rose}
 use Rattle.byte_streams.specs.Streams.{CutShort}
 use Rattle.input_script.specs.Script.{Schedule, nothing}
-use Rattle.mem_guard.specs.FlatMachine.{Program, Run}
-use Rattle.mem_guard.specs.Masked as masked
+use Rattle.flat_machine.specs.FlatMachine.{Program, Run}
+use Rattle.flat_machine.specs.Masked as masked
 use Rattle.parked_tasks.specs.declared.task.Task.{Task}
 use Rattle.parked_tasks.specs.declared.task.TaskEnd.{TaskEnd}
 use Rattle.task_input.specs.Images.{quarter, task_words}
@@ -16,14 +16,14 @@ use Rattle.tk_tasks.specs.States.{Tasks, AreSound, player_of, turns_of}
 use Rattle.parked_tasks.specs.Ends.{flat_end}
 use Rattle.task_turns.specs.Turns.{Turns, Told, alone, at_reset_in, turns, HaveEnded}
 use Rattle.tk_tasks.specs.Plays.{Play, TaskPath, AreInTurn, EndsAsAlone, counted, told_of, told_text}
-use Rattle.tk_words.specs.declared.request.TaskRequest.{TaskRequest}
-use Rattle.tk_words.specs.declared.status.Status.{Status}
-use Rattle.tk_words.specs.declared.status.Status.TheVariants as status
+use Rattle.cli_words.specs.declared.request.TaskRequest.{TaskRequest}
+use Rattle.cli_words.specs.declared.status.Status.{Status}
+use Rattle.cli_words.specs.declared.status.Status.TheVariants as status
 use Rattle.tkernel_cli.specs.declared.top.Exit.{Exit}
-use Rattle.tk_words.specs.Stream.{Stream}
-use Rattle.run_jobs.specs.Runs.{Says, status_of_end}
-use Rattle.tk_words.specs.Status.{number_of}
-use Rattle.run_jobs.specs.Text.{tasks_count_text}
+use Rattle.cli_words.specs.Stream.{Stream}
+use Rattle.cli_jobs.specs.Runs.{Says, status_of_end}
+use Rattle.cli_words.specs.Status.{number_of}
+use Rattle.printed_text.specs.Counts.{tasks_count_text}
 
 -- a task's program: its quarter of the words of all
 abbrev pub program_in : TaskRequest → ℕ → Program

@@ -1,7 +1,7 @@
 //! The command line of tkernel as a library: words and an input in, lines and a status out.
 //!
 //! [`tkernel`] is the whole program but for the process around it. The words and the input ask for a job (crate
-//! `tk_request`), which is done by crate `run_jobs`, or here where it is several tasks. The words are one of eight commands:
+//! `cli_requests`), which is done by crate `cli_jobs`, or here where it is several tasks. The words are one of eight commands:
 //!
 //! - `run` reads and judges a program, runs it, and prints its lines;
 //! - `dump` does so without them, and prints the dump of the flash that the run leaves (crate `pool_check`);
@@ -27,5 +27,5 @@
 mod tasking;
 mod top;
 
-pub use tk_words::{Command, RunOptions, Status, TaskOptions, command_of};
+pub use cli_words::{Command, RunOptions, Status, TaskOptions, command_of};
 pub use top::{Exit, tkernel};

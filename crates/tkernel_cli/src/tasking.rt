@@ -1,21 +1,22 @@
 //! A run of several programs on one mote, and its printed lines.
 ghost use Rattle.std.specs.Prelude.{◌≡◌, ◌⊎◌};
 ghost use Rattle.tkernel_cli.specs.Answer.{Does};
-ghost use Rattle.tk_words.specs.Commands.{AreTasks};
-ghost use Rattle.tk_words.specs.declared.status.Status.TheVariants.{Done};
-ghost use Rattle.tk_words.specs.Printed.{no_memory};
-ghost use Rattle.run_jobs.specs.Runs.{Says};
-ghost use Rattle.tk_words.specs.Stream.{stream};
+ghost use Rattle.cli_words.specs.Commands.{AreTasks};
+ghost use Rattle.cli_words.specs.declared.status.Status.TheVariants.{Done};
+ghost use Rattle.cli_words.specs.Printed.{no_memory};
+ghost use Rattle.cli_jobs.specs.Runs.{Says};
+ghost use Rattle.cli_words.specs.Stream.{stream};
 ghost use Rattle.tkernel_cli.specs.TasksRuns.{HasTasksRun, status_of_task as status_at, worse as worse_of, worst};
-ghost use Rattle.run_jobs.specs.Text.{tasks_count_text};
+ghost use Rattle.printed_text.specs.Counts.{tasks_count_text};
 
 use crate::top::Exit;
 use byte_streams::Sink;
+use cli_jobs::say;
+use cli_words::{Status, TaskRequest};
 use kernel_entry::Stop;
-use run_jobs::{say, task_counts};
+use printed_text::{NO_MEMORY, task_counts};
 use std::alloc::Global;
 use tk_tasks::{Task, TaskEnd, Tasks};
-use tk_words::{NO_MEMORY, Status, TaskRequest};
 
 /// Runs several programs in turn, each to its end, and puts their lines.
 pub(crate) fn run_tasks<K: Sink>(alloc: Global, request: TaskRequest, out: &mut K) -> Exit

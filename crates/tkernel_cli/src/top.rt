@@ -1,16 +1,16 @@
 //! The top call: words and input in, lines and a status out.
 ghost use Rattle.std.specs.Prelude.{map, string_bytes};
 ghost use Rattle.tkernel_cli.specs.Answer.{IsAnswer, IsExact};
-ghost use Rattle.tk_words.specs.Stream.{stream};
+ghost use Rattle.cli_words.specs.Stream.{stream};
 
 use crate::tasking::run_tasks;
 use byte_streams::{Sink, Source};
-use run_jobs::{Outcome, do_job};
+use cli_jobs::{Outcome, do_job};
+use cli_requests::job_of;
+use cli_words::Status;
 use std::alloc::Global;
-use tk_request::job_of;
 use tk_run::Machine;
 use tk_tasks::Tasks;
-use tk_words::Status;
 
 /// How a call ended.
 #[derive(Drop)]

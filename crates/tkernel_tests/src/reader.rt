@@ -5,11 +5,10 @@ use hex_image::Image;
 use std::alloc::Global;
 use std::test::Fail;
 use theorem_reader::{
-    Told, asm_example, bad_hex_example, bad_source_example, check_example, dump_example,
-    generate_example, help_example, long_example, restart_example, run_example, run_image,
-    tasks_example,
+    Told, asm_example, bad_dump_example, bad_hex_example, bad_source_example,
+    bad_task_image_example, bad_task_script_example, check_example, dump_example, generate_example,
+    help_example, long_example, restart_example, run_example, run_image, tasks_example,
 };
-use tk_io::Sink;
 
 /// More bytes than an input may have.
 const LONG: usize = 2_097_153;
@@ -22,7 +21,7 @@ struct Said {
     keeps: &'static str,
 }
 
-fn looked_at(alloc: Global, told: &Told) -> Result<Said, Fail> {
+fn looked_at<const N: usize>(alloc: Global, told: &Told<N>) -> Result<Said, Fail> {
     Ok(Said {
         status: told.status,
         text: told.out.taken().to_vec(alloc)?,
@@ -41,54 +40,66 @@ fn is(said: &Said, status: u8, text: &[u8], keeps: &str) -> bool {
 }
 
 fn run(alloc: Global) -> Result<Said, Fail> {
-    looked_at(alloc, &run_example(alloc, ROOM)?)
+    looked_at(alloc, &run_example::<ROOM>(alloc)?)
 }
 
 fn run_alone(alloc: Global) -> Result<Said, Fail> {
     let image = Image::from_words(alloc, &[0xE00F, 0xBB0B, 0xCFFF])?;
-    looked_at(alloc, &run_image(alloc, &image, ROOM)?)
+    looked_at(alloc, &run_image::<ROOM>(alloc, &image)?)
 }
 
 fn dump(alloc: Global) -> Result<Said, Fail> {
-    looked_at(alloc, &dump_example(alloc, 20_000)?)
+    looked_at(alloc, &dump_example::<20_000>(alloc)?)
 }
 
 fn restart(alloc: Global) -> Result<Said, Fail> {
-    looked_at(alloc, &restart_example(alloc, ROOM)?)
+    looked_at(alloc, &restart_example::<ROOM>(alloc)?)
 }
 
 fn tasks(alloc: Global) -> Result<Said, Fail> {
-    looked_at(alloc, &tasks_example(alloc, ROOM)?)
+    looked_at(alloc, &tasks_example::<ROOM>(alloc)?)
 }
 
 fn check(alloc: Global) -> Result<Said, Fail> {
-    looked_at(alloc, &check_example(alloc, ROOM)?)
+    looked_at(alloc, &check_example::<ROOM>(alloc)?)
 }
 
 fn asm(alloc: Global) -> Result<Said, Fail> {
-    looked_at(alloc, &asm_example(alloc, ROOM)?)
+    looked_at(alloc, &asm_example::<ROOM>(alloc)?)
 }
 
 fn generate(alloc: Global) -> Result<Said, Fail> {
-    looked_at(alloc, &generate_example(alloc, ROOM)?)
+    looked_at(alloc, &generate_example::<ROOM>(alloc)?)
 }
 
 fn help(alloc: Global) -> Result<Said, Fail> {
-    looked_at(alloc, &help_example(alloc, ROOM)?)
+    looked_at(alloc, &help_example::<ROOM>(alloc)?)
 }
 
 fn bad_hex(alloc: Global) -> Result<Said, Fail> {
-    looked_at(alloc, &bad_hex_example(alloc, ROOM)?)
+    looked_at(alloc, &bad_hex_example::<ROOM>(alloc)?)
 }
 
 fn bad_source(alloc: Global) -> Result<Said, Fail> {
-    looked_at(alloc, &bad_source_example(alloc, ROOM)?)
+    looked_at(alloc, &bad_source_example::<ROOM>(alloc)?)
+}
+
+fn bad_task_script(alloc: Global) -> Result<Said, Fail> {
+    looked_at(alloc, &bad_task_script_example::<ROOM>(alloc)?)
+}
+
+fn bad_task_image(alloc: Global) -> Result<Said, Fail> {
+    looked_at(alloc, &bad_task_image_example::<ROOM>(alloc)?)
+}
+
+fn bad_dump(alloc: Global) -> Result<Said, Fail> {
+    looked_at(alloc, &bad_dump_example::<ROOM>(alloc)?)
 }
 
 fn too_long(alloc: Global) -> Result<Said, Fail> {
     let mut text = Vec::new(alloc);
     text.resize(LONG, 0)?;
-    looked_at(alloc, &long_example(alloc, &text, ROOM)?)
+    looked_at(alloc, &long_example::<ROOM>(alloc, &text)?)
 }
 
 /// The example is the first program with a script that changes nothing.
@@ -170,5 +181,18 @@ fn the_reader_answers_what_asks_for_no_run(rt: HostRuntime) -> Result<(), Fail> 
         )
     );
     assert!(rt; is(&too_long(rt.alloc())?, 3, b"input too long\n", "nothing"));
+    Ok(())
+}
+
+/// Whether nothing is kept, and this is told with status 3.
+fn refuses(said: &Said, line: &[u8]) -> bool {
+    is(said, 3, line, "nothing")
+}
+
+#[test]
+fn the_reader_refuses_what_stands_behind_a_program(rt: HostRuntime) -> Result<(), Fail> {
+    assert!(rt; refuses(&bad_task_script(rt.alloc())?, b"bad script line 1 form\n"));
+    assert!(rt; refuses(&bad_task_image(rt.alloc())?, b"bad task image 0x0FFE\n"));
+    assert!(rt; refuses(&bad_dump(rt.alloc())?, b"bad dump line 1 form\n"));
     Ok(())
 }

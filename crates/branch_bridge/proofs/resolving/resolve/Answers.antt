@@ -1,4 +1,4 @@
-use Rattle.std.proofs.Common.{◌≡◌, ◌+◌, ◌*◌, ◌/◌, ◌≤◌, length, arith, refl, sym, ap, ◌∙◌, subst}
+use Rattle.std.proofs.Common.{◌≡◌, ◌/◌, arith, refl, sym, ap, ◌∙◌, subst}
 use Rattle.flash_words.specs.Pages.{page_words}
 use Rattle.flash_words.specs.Layouts.{image_of}
 use Rattle.page_draft.specs.Standing.{jump_word}
@@ -31,8 +31,7 @@ returns c =
     let image = image_of layout old.words in
     let can = c.requires.stub in
     let placed = link_placed layout image old.words s can.target jump_word place c.requires.right c.requires.code.whole can.unresolved.link in
-    let inside : page_words * (s / page_words) + page_words ≤ length old.words = omega (arith, c.requires.code.whole, placed.low) in
-    let same = c.patched-words.ensures.words ∙ sym (page_of_two old.words (s / page_words) s jump_word place inside refl placed.room) in
+    let same = c.patched-words.ensures.words ∙ sym (page_of_two old.words (s / page_words) s jump_word place (omega (arith, c.requires.code.whole, placed.low)) refl placed.room) in
     let performed : perform old (resolving old.words s place) ≡ record { memory = new; stop = stop_of c.rewrite.result } = sym (ap (λ w. perform old (rewriting (s / page_words) w)) same) ∙ c.rewrite.ensures.performed in
     let Told : Performed → Type 0 = λ p. ResolveTold layout image old p in
     let told = subst Told performed (told_resolving layout image old s can.target place c.requires.right c.requires.code can.unresolved can.entry) in

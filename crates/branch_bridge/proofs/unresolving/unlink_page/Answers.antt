@@ -1,9 +1,8 @@
-use Rattle.std.proofs.Common.{◌≡◌, ℕ, ◌+◌, ◌*◌, true, arith, sym, ap, ◌∙◌}
+use Rattle.std.proofs.Common.{◌≡◌, ℕ, true, arith, sym, ap, ◌∙◌}
 use Rattle.std.specs.Prelude.{◌≢◌, ◌==◌, not}
 use Rattle.std.proofs.lemmas.Bool.Decides.{nat_tests}
 use Rattle.flash_words.specs.Pages.{word_at}
 use Rattle.flash_words.specs.Layouts.{image_of}
-use Rattle.page_index.specs.Maps.{original_page}
 use Rattle.nat_page.specs.Used.{is_used}
 use Rattle.nat_page.proofs.WalkLaws.{code_page}
 use Rattle.branch_bridge.proofs.UnresolveLaws.{used_rewritten}
@@ -15,7 +14,5 @@ not_blank w other = grind (arith, nat_tests)
 pub without_links-without-requires-clause-run : goal.without_links-without-requires-clause-run
 without_links-without-requires-clause-run c =
     let words = c.args.flash.now.words in
-    let here : 128 * c.args.page + 0 ≡ 128 * c.args.page = omega arith in
-    let original : original_page words c.args.page ≡ c.word.result = ap (word_at words) here ∙ sym c.word.ensures.value in
-    let used : is_used words c.args.page ≡ true = ap (λ w. not (w == 0xFFFF)) original ∙ not_blank c.word.result c.if-word.false in
+    let used : is_used words c.args.page ≡ true = ap (λ w. not (w == 0xFFFF)) (ap (word_at words) (omega arith) ∙ sym c.word.ensures.value) ∙ not_blank c.word.result c.if-word.false in
     code_page c.args.layout.now (image_of c.args.layout.now words) words c.args.page (used_rewritten c.args.layout.now (image_of c.args.layout.now words) words c.args.page c.requires.code c.requires.pool used)

@@ -1,12 +1,11 @@
-use Rattle.std.proofs.Common.{◌<◌, length, sym, ◌∙◌, arith}
+use Rattle.std.proofs.Common.{sym, ◌∙◌, arith}
 use Rattle.std.proofs.lemmas.Grind.{common_steps}
 use Rattle.hex_image.proofs.LineLemmas.{record_from_bytes, too_long, undecoded}
 use Rattle.hex_image.proofs.line.from_digits.Goals as goal
 
 pub returns-then-count-gt-MOST_BYTES : goal.returns-then-count-gt-MOST_BYTES
 returns-then-count-gt-MOST_BYTES c =
-    let long : 520 < length c.args.digits.now = omega arith in
-    record { answer = too_long c.args.digits.now c.requires long }
+    record { answer = too_long c.args.digits.now c.requires (omega arith) }
 
 pub returns-then-is_err : goal.returns-then-is_err
 returns-then-is_err c =

@@ -1,5 +1,6 @@
 use Rattle.std.proofs.Common.{◌≤◌, ◌+◌, ◌/◌, length, ap, arith, ◌∙◌}
 use Rattle.std.proofs.lemmas.List.FromFn.{length-map-range_with_len}
+use Rattle.hex_image.specs.Image.{most_bytes}
 use Rattle.hex_image.specs.Reading.{word_of_slots}
 use Rattle.hex_image.proofs.LawLemmas.{image_read, slots_few}
 use Rattle.hex_image.proofs.text.read_image.Goals as goal
@@ -10,7 +11,7 @@ words_of-requires c = rw c.as_slice.ensures.value (slots_few _ _ _ c.in_ok-slots
 pub new-requires : goal.new-requires
 new-requires c =
     let slots = c.as_slice.result.now in
-    let few : length slots ≤ 49152 = rw c.as_slice.ensures.value (slots_few _ _ _ c.in_ok-slots.ensures.answer) in
+    let few : length slots ≤ most_bytes = rw c.as_slice.ensures.value (slots_few _ _ _ c.in_ok-slots.ensures.answer) in
     record {
       few = omega (arith, ap length c.in-Ok.ensures.words, length-map-range_with_len (word_of_slots slots) 0 ((length slots + 1) / 2));
       small = c.in-Ok.ensures.small;

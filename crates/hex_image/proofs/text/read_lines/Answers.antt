@@ -37,6 +37,5 @@ lines-preserved c =
 
 pub returns : goal.returns
 returns c =
-    let read = c.lines.invariant.read in
     let empty : c.lines.rest.now ≡ [] = grind (arith, common_steps) in
-    record { answer = read_all _ _ _ _ _ read empty (omega (arith, c.lines.invariant.some)) }
+    record { answer = read_all _ _ _ _ _ c.lines.invariant.read empty (omega (arith, c.lines.invariant.some)) }

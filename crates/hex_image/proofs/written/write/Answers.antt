@@ -4,7 +4,6 @@ use Rattle.hex_image.specs.Written.{written}
 use Rattle.hex_image.proofs.BackLemmas.{image_written}
 use Rattle.hex_image.proofs.written.write.Goals as goal
 
-pub returns-in-Ok-clause-read_back : goal.returns-in-Ok-clause-read_back
-returns-in-Ok-clause-read_back c =
-    let whole = c.in-Ok.ensures.text ∙ ap written c.words.ensures.words in
-    subst (λ z. HexText z c.args.image.now (length z)) (sym whole) (image_written c.args.image.now c.words.ensures.image)
+pub returns-clause-read_back : goal.returns-clause-read_back
+returns-clause-read_back c =
+    subst (λ z. HexText z c.args.image.now (length z)) (sym (c.in_ok-text_of.ensures.text ∙ ap written c.words.ensures.words)) (image_written c.args.image.now c.words.ensures.image)

@@ -1,6 +1,6 @@
 use Rattle.std.proofs.Common.{◌≡◌, ℕ, List, Ok, Err, arith, ap, sym, ◌∙◌, subst, inl, inr}
 use Rattle.input_script.specs.declared.fault.ScriptError.TheVariants.{NoMemory}
-use Rattle.text_lines.specs.Lines.{lines_of}
+use Rattle.line_reader.specs.Lines.{lines_of}
 use Rattle.input_script.proofs.Done.{IsDone, done_take, done_numbered, done_all}
 use Rattle.std.proofs.lemmas.Grind.{common_steps}
 use Rattle.input_script.proofs.Judgement.{one_judgement}
@@ -20,18 +20,16 @@ loop-rest-preserved c =
 
 pub returns-in_err-take_line-clause-accepted : goal.returns-in_err-take_line-clause-accepted
 returns-in_err-take_line-clause-accepted c = λ schedule script.
-    let lines = lines_of c.args.text.now in
     let error = c.in_err-take_line.field-0.0 in
-    let P : List (List ℕ) → Type 0 = λ rest. IsDone lines c.loop-rest.line c.loop-rest.script rest in
+    let P : List (List ℕ) → Type 0 = λ rest. IsDone (lines_of c.args.text.now) c.loop-rest.line c.loop-rest.script rest in
     let done = subst P c.first_line.ensures.lines c.loop-rest.invariant.done in
     let tells = refusal_tells c.args.text.now (lines_of c.first_line.result.1.now) c.first_line.result.0.now c.loop-rest.line c.loop-rest.script error done c.in_err-take_line.ensures.refused in
     inr (err_is c.from_residual.result error c.from_residual.ensures.1 ∙ ap (λ e. Err e) (refused_text c.args.text.now error tells schedule script))
 
 pub returns-in_err-take_line-clause-refused : goal.returns-in_err-take_line-clause-refused
 returns-in_err-take_line-clause-refused c = λ line fault bad.
-    let lines = lines_of c.args.text.now in
     let error = c.in_err-take_line.field-0.0 in
-    let P : List (List ℕ) → Type 0 = λ rest. IsDone lines c.loop-rest.line c.loop-rest.script rest in
+    let P : List (List ℕ) → Type 0 = λ rest. IsDone (lines_of c.args.text.now) c.loop-rest.line c.loop-rest.script rest in
     let done = subst P c.first_line.ensures.lines c.loop-rest.invariant.done in
     let tells = refusal_tells c.args.text.now (lines_of c.first_line.result.1.now) c.first_line.result.0.now c.loop-rest.line c.loop-rest.script error done c.in_err-take_line.ensures.refused in
     let passed = err_is c.from_residual.result error c.from_residual.ensures.1 in

@@ -1,4 +1,4 @@
-use Rattle.std.proofs.Common.{◌≡◌, arith, ap, ◌∙◌}
+use Rattle.std.proofs.Common.{arith, ap, ◌∙◌}
 use Rattle.mote_devices.specs.Places.{bytes_between}
 use Rattle.mote_devices.proofs.PlaceLaws.{bytes_between-none, passed, found}
 use Rattle.mote_devices.proofs.inputs.next_byte.Goals as goal
@@ -18,7 +18,6 @@ loop-place-preserved c = c.loop-place.invariant ∙ passed c.args.events.now c.l
 
 pub returns : goal.returns
 returns c =
-    let end : c.loop-place.place ≡ c.args.to = omega arith in
     record {
-      cases = c.loop-place.invariant ∙ ap (λ place. bytes_between c.args.events.now place c.args.to) end ∙ bytes_between-none c.args.events.now c.args.to;
+      cases = c.loop-place.invariant ∙ ap (λ place. bytes_between c.args.events.now place c.args.to) (omega arith) ∙ bytes_between-none c.args.events.now c.args.to;
     }

@@ -9,10 +9,9 @@ pub run-init : goal.run-init
 unfolding starts
 run-init c =
     let words = c.args.flash.now.words in
-    let image = image_of c.args.layout.now words in
     record {
       last = 0;
-      begun = begun_first c.args.layout.now image words c.args.t (omega arith) c.requires.unknown;
+      begun = begun_first c.args.layout.now (image_of c.args.layout.now words) words c.args.t (omega arith) c.requires.unknown;
       reached = c.read-here.ensures.pc;
       read = c.read-here.ensures.read;
       entries = c.new-draft.ensures.entries;
@@ -22,10 +21,9 @@ run-init c =
 
 pub next_in_run-requires-clause-known : goal.next_in_run-requires-clause-known
 next_in_run-requires-clause-known c =
-    let words = c.args.flash.now.words in
     let drafting = c.run.invariant in
     let paged : c.run.here.pc / 128 ≡ c.args.t / 128 = ap (λ a. a / 128) drafting.reached ∙ drafting.begun.run.paged drafting.last (omega arith) in
-    subst (λ (original : ℕ). AreKnown c.args.layout.now words original c.args.known.now) (sym paged) c.requires.known
+    subst (λ (original : ℕ). AreKnown c.args.layout.now c.args.flash.now.words original c.args.known.now) (sym paged) c.requires.known
 
 pub next_in_run-requires-clause-words : goal.next_in_run-requires-clause-words
 next_in_run-requires-clause-words c =

@@ -1,7 +1,6 @@
 use Rattle.std.proofs.Common.{◌≡◌, ◌+◌, ◌*◌, ◌/◌, ◌%◌, ℕ, subst, sym, ap, arith, ◌∙◌}
 use Rattle.page_index.specs.Entries.{IsEntry}
 use Rattle.nat_page.specs.Making.{HasNoEntry}
-use Rattle.flash_words.specs.Layouts.{image_of}
 use Rattle.nat_page.specs.Drafts.{StopsBehind}
 use Rattle.nat_page.proofs.drafting.next_in_run.Goals as goal
 
@@ -14,18 +13,16 @@ returns-then-known-here c =
     let words = c.args.flash.now.words in
     let layout = c.args.layout.now in
     let pc = c.args.here.now.next in
-    let there : 128 * (c.args.here.now.pc / 128) + pc % 128 ≡ pc = offset_back pc c.args.here.now.pc (omega arith) in
     let found = c.requires.known.found (pc % 128) (omega arith) (cc) in
     let P : ℕ → Type 0 = λ a. IsEntry layout words a found.0 in
     let Q : ℕ → Type 0 = λ a. IsEntry layout words a found.0 in
-    record { next = StopsBehind.Known found.0 (subst Q c.requires.read.next (subst P there found.1)) }
+    record { next = StopsBehind.Known found.0 (subst Q c.requires.read.next (subst P (offset_back pc c.args.here.now.pc (omega arith)) found.1)) }
 
 -- nothing stops the run
 pub returns : goal.returns
 returns c =
     let words = c.args.flash.now.words in
     let layout = c.args.layout.now in
-    let image = image_of layout words in
     let pc = c.args.here.now.next in
     let there : 128 * (c.args.here.now.pc / 128) + pc % 128 ≡ pc = offset_back pc c.args.here.now.pc (omega arith) in
     let E : (a v : ℕ) → Type 0 = λ a v. IsEntry layout words a v in

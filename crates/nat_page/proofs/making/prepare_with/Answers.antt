@@ -22,8 +22,7 @@ pieces-requires-clause-small c =
 
 pub page_with-requires : goal.page_with-requires
 page_with-requires c =
-    let words = c.args.flash.now.words in
-    let image = image_of c.args.layout.now words in
+    let image = image_of c.args.layout.now c.args.flash.now.words in
     let draft = c.draft_of-draft.result in
     let drafted = c.draft_of-draft.ensures.drafted in
     let pieces = c.deref.ensures.0 ∙ c.pieces.ensures.pieces ∙ draft_page image draft.entries.items draft.code.items c.args.t drafted.last drafted.entries drafted.code in

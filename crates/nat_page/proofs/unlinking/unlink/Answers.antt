@@ -11,15 +11,10 @@ overflow_add-at g c =
     let next : IsNext c.args.pieces.now c.pieces.piece-index (Fixed c.in-Fixed.field-0) = next_piece c.args.pieces.now c.pieces.piece-index (Fixed c.in-Fixed.field-0) _ c.pieces-test.true c.in-Fixed.is in
     omega (arith, next.room, c.pieces.invariant.reached, c.requires.fits, c.requires.low)
 
-pub unlink_one-requires-clause-own : goal.unlink_one-requires-clause-own
-unlink_one-requires-clause-own g c =
+pub unlink_one-requires : goal.unlink_one-requires
+unlink_one-requires g c =
     let next : IsNext c.args.pieces.now c.pieces.piece-index (Link c.in-Link.t) = next_piece c.args.pieces.now c.pieces.piece-index (Link c.in-Link.t) _ c.pieces-test.true c.in-Link.is in
-    omega (arith, next.room, c.pieces.invariant.reached, c.requires.fits)
-
-pub unlink_one-requires-clause-room : goal.unlink_one-requires-clause-room
-unlink_one-requires-clause-room g c =
-    let next : IsNext c.args.pieces.now c.pieces.piece-index (Link c.in-Link.t) = next_piece c.args.pieces.now c.pieces.piece-index (Link c.in-Link.t) _ c.pieces-test.true c.in-Link.is in
-    omega (arith, next.room, c.pieces.invariant.reached, c.requires.fits)
+    record { room = omega (arith, next.room, c.pieces.invariant.reached, c.requires.fits) }
 
 pub overflow_add-at-in-Link : goal.overflow_add-at-in-Link
 overflow_add-at-in-Link g c =

@@ -32,41 +32,22 @@ overflow_add-t g c =
 pub remade-requires-clause-some : goal.remade-requires-clause-some
 remade-requires-clause-some g c =
     let words = c.args.flash.now.words in
-    let page = c.args.page in
-    let image = image_of c.args.layout.now words in
-    let own = own_run Anywhere image words page c.requires.run.first c.requires.run.last c.requires.run.holds in
+    let own = own_run Anywhere (image_of c.args.layout.now words) words c.args.page c.requires.run.first c.requires.run.last c.requires.run.holds in
     omega (arith, own.some, c.word-3.ensures.value)
 
 pub remade-requires-clause-few : goal.remade-requires-clause-few
 remade-requires-clause-few g c =
     let words = c.args.flash.now.words in
-    let page = c.args.page in
-    let image = image_of c.args.layout.now words in
-    let own = own_run Anywhere image words page c.requires.run.first c.requires.run.last c.requires.run.holds in
+    let own = own_run Anywhere (image_of c.args.layout.now words) words c.args.page c.requires.run.first c.requires.run.last c.requires.run.holds in
     omega (arith, own.few, c.word-3.ensures.value)
 
-pub returns-in_default-clause-words : goal.returns-in_default-clause-words
-returns-in_default-clause-words g c =
+pub returns-in_default : goal.returns-in_default
+returns-in_default g c =
     let words = c.args.flash.now.words in
     let page = c.args.page in
     let image = image_of c.args.layout.now words in
     let own = own_run Anywhere image words page c.requires.run.first c.requires.run.last c.requires.run.holds in
-    let here : 128 * page ≡ 128 * page + 0 = omega arith in
-    let first : c.word.result ≡ original_page words page = c.word.ensures.value ∙ ap (word_at words) here in
-    let t : 128 * c.word.result + c.word-2.result / 256 ≡ address_of words page 0 = ap₂ (λ a b. 128 * a + b / 256) first c.word-2.ensures.value in
-    let whole = own_page image words page (128 * c.word.result + c.word-2.result / 256) c.word-3.result own t c.word-3.ensures.value in
-    let found = is_found c.remade.result (IsPage image (128 * c.word.result + c.word-2.result / 256) (c.word-3.result - 1)) (λ (pieces : ArrayVec Piece). IsPage image (128 * c.word.result + c.word-2.result / 256) (c.word-3.result - 1) × (pieces.items ≡ page_pieces image (128 * c.word.result + c.word-2.result / 256) (c.word-3.result - 1))) whole c.remade.ensures.page c.in_default.not-Some in
-    absurd found
-
-pub returns-in_default-clause-any : goal.returns-in_default-clause-any
-returns-in_default-clause-any g c =
-    let words = c.args.flash.now.words in
-    let page = c.args.page in
-    let image = image_of c.args.layout.now words in
-    let own = own_run Anywhere image words page c.requires.run.first c.requires.run.last c.requires.run.holds in
-    let here : 128 * page ≡ 128 * page + 0 = omega arith in
-    let first : c.word.result ≡ original_page words page = c.word.ensures.value ∙ ap (word_at words) here in
-    let t : 128 * c.word.result + c.word-2.result / 256 ≡ address_of words page 0 = ap₂ (λ a b. 128 * a + b / 256) first c.word-2.ensures.value in
+    let t : 128 * c.word.result + c.word-2.result / 256 ≡ address_of words page 0 = ap₂ (λ a b. 128 * a + b / 256) (c.word.ensures.value ∙ ap (word_at words) (omega arith)) c.word-2.ensures.value in
     let whole = own_page image words page (128 * c.word.result + c.word-2.result / 256) c.word-3.result own t c.word-3.ensures.value in
     let found = is_found c.remade.result (IsPage image (128 * c.word.result + c.word-2.result / 256) (c.word-3.result - 1)) (λ (pieces : ArrayVec Piece). IsPage image (128 * c.word.result + c.word-2.result / 256) (c.word-3.result - 1) × (pieces.items ≡ page_pieces image (128 * c.word.result + c.word-2.result / 256) (c.word-3.result - 1))) whole c.remade.ensures.page c.in_default.not-Some in
     absurd found

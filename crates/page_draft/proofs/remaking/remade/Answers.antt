@@ -51,8 +51,7 @@ returns-in_err-last g c =
 
 pub overflow_add-count-3 : goal.overflow_add-count-3
 overflow_add-count-3 g c =
-    let range = closing_at-range (g.I.ImageWords.words c.args.image.now) c.in_ok-last.last.pc in
-    omega (arith, range.1, c.in_ok-last.ensures.taken.read.closing_size, c.in_ok-last.ensures.taken.room)
+    omega (arith, (closing_at-range (g.I.ImageWords.words c.args.image.now) c.in_ok-last.last.pc).1, c.in_ok-last.ensures.taken.read.closing_size, c.in_ok-last.ensures.taken.room)
 
 pub returns-then-count-draft-gt-PAGE_WORDS : goal.returns-then-count-draft-gt-PAGE_WORDS
 returns-then-count-draft-gt-PAGE_WORDS g c =
@@ -83,9 +82,8 @@ pieces-requires-clause-small g c =
     let P : ℕ → Type 0 = λ (n : ℕ). IsWalked image t c.args.count n c.walk.pc c.walk.draft in
     let walked : IsWalked image t c.args.count last c.walk.pc c.walk.draft = subst P (omega (arith, c.walk-test.false, c.walk.auto._taken-end, c.requires.some)) c.walk.invariant in
     let all : IsWhole image t last c.take-2.new.draft c.in_ok-last.last = whole image t c.args.count last c.walk.pc c.walk.draft c.take-2.new.draft c.in_ok-last.last walked c.in_ok-last.ensures.taken in
-    let entries = ap (λ (e : ArrayVec ℕ). e.items) c.close.ensures.entries ∙ all.entries in
     let Small : List ℕ → Type 0 = λ xs. All (λ entry. entry < 65536 - 128) xs in
-    subst Small (sym entries) (small_starts image t last (omega (arith, all.sized, c.if-count-draft-gt-PAGE_WORDS.false)))
+    subst Small (sym (ap (λ (e : ArrayVec ℕ). e.items) c.close.ensures.entries ∙ all.entries)) (small_starts image t last (omega (arith, all.sized, c.if-count-draft-gt-PAGE_WORDS.false)))
 
 pub returns : goal.returns
 returns g c =

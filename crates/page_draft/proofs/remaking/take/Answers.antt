@@ -4,5 +4,4 @@ use Rattle.page_draft.proofs.remaking.take.Goals as goal
 
 pub overflow_add-count-3 : goal.overflow_add-count-3
 overflow_add-count-3 g c =
-    let range = template_at-range (g.I.ImageWords.words c.args.image.now) c.read-here.result.pc in
-    omega (arith, range.1, c.read-here.ensures.read.code_size, c.requires.room)
+    omega (arith, (template_at-range (g.I.ImageWords.words c.args.image.now) c.read-here.result.pc).1, c.read-here.ensures.read.code_size, c.requires.room)

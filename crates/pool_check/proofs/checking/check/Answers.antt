@@ -8,8 +8,7 @@ pub returns-then-not-page_form-clause-faithful : goal.returns-then-not-page_form
 returns-then-not-page_form-clause-faithful c = λ code.
     let P : List ℕ → Type 0 = λ own. HasForm c.args.layout.now c.args.image.now c.loop-page.page own in
     let form = subst P (sym c.page_words.ensures.words) (code_forms c.args.layout.now c.args.image.now c.args.flash.now.words c.loop-page.page c.requires.right code (omega arith)) in
-    let yes' = c.page_form.ensures.value.1 form in
-    absurd (is_so_not yes' c.if-not-page_form.true)
+    absurd (is_so_not (c.page_form.ensures.value.1 form) c.if-not-page_form.true)
 
 pub returns-in-Some-clause-faithful : goal.returns-in-Some-clause-faithful
 returns-in-Some-clause-faithful c = λ code.

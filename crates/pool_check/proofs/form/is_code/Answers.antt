@@ -5,23 +5,23 @@ use Rattle.page_draft.specs.CodePages.{Anywhere}
 use Rattle.pool_check.specs.Forms.{first_told, last_told}
 use Rattle.pool_check.proofs.FormLaws.{told, page_told, stands_told, rest_told, is_code}
 use Rattle.pool_check.proofs.LinkTests.{is_so_not}
-use Rattle.pool_check.proofs.form.is_code.Goals.{then-words-ge192-via-then-words-ge192, then-words-ge192-via-else-words-ge192+then-count-lt1, then-words-ge192-via-else-words-ge192+else-count-lt1+then-count-ge126}
+use Rattle.pool_check.proofs.form.is_code.Goals.{then-words-ge-MOST_IMAGE_PAGES-via-then-words-ge-MOST_IMAGE_PAGES, then-words-ge-MOST_IMAGE_PAGES-via-else-words-ge-MOST_IMAGE_PAGES+then-count-lt1, then-words-ge-MOST_IMAGE_PAGES-via-else-words-ge-MOST_IMAGE_PAGES+else-count-lt1+then-count-ge-MOST_ENTRIES}
 use Rattle.pool_check.proofs.form.is_code.Goals as goal
 
 not_both : {n m : ℕ} → n < m → m ≤ n → ⊥
 not_both below from = omega arith
 
-pub returns-then-words-ge192 : goal.returns-then-words-ge192
-returns-then-words-ge192 c =
+pub returns-then-words-ge-MOST_IMAGE_PAGES : goal.returns-then-words-ge-MOST_IMAGE_PAGES
+returns-then-words-ge-MOST_IMAGE_PAGES c =
     record {
       value = (
         λ no. absurd (is_so_not no refl),
         λ code.
             let is = told c.args.image.now c.args.words.now c.requires.short code in
-            elim c.then-words-ge192.branch [
-              | then-words-ge192-via-then-words-ge192 w ↦ absurd (not_both is.original w.if-words-ge192.true)
-              | then-words-ge192-via-else-words-ge192+then-count-lt1 w ↦ absurd (not_both w.if-count-lt1.true is.some)
-              | then-words-ge192-via-else-words-ge192+else-count-lt1+then-count-ge126 w ↦ absurd (not_both is.few w.if-count-ge126.true)
+            elim c.then-words-ge-MOST_IMAGE_PAGES.branch [
+              | then-words-ge-MOST_IMAGE_PAGES-via-then-words-ge-MOST_IMAGE_PAGES w ↦ absurd (not_both is.original w.if-words-ge-MOST_IMAGE_PAGES.true)
+              | then-words-ge-MOST_IMAGE_PAGES-via-else-words-ge-MOST_IMAGE_PAGES+then-count-lt1 w ↦ absurd (not_both w.if-count-lt1.true is.some)
+              | then-words-ge-MOST_IMAGE_PAGES-via-else-words-ge-MOST_IMAGE_PAGES+else-count-lt1+then-count-ge-MOST_ENTRIES w ↦ absurd (not_both is.few w.if-count-ge-MOST_ENTRIES.true)
             ],
       );
     }
@@ -36,8 +36,7 @@ returns-then-not-stands c =
       value = (
         λ no. absurd (is_so_not no refl),
         λ code.
-            let is = c.deref.ensures.0 ∙ c.in-Some.ensures.page.1 in
-            absurd (is_so_not (c.stands.ensures.value.1 (stands_told c.args.image.now c.args.words.now c.deref.result.now is code)) c.if-not-stands.true),
+            absurd (is_so_not (c.stands.ensures.value.1 (stands_told c.args.image.now c.args.words.now c.deref.result.now (c.deref.ensures.0 ∙ c.in-Some.ensures.page.1) code)) c.if-not-stands.true),
       );
     }
 
@@ -45,9 +44,8 @@ pub returns-else-not-stands : goal.returns-else-not-stands
 returns-else-not-stands c =
     let words = c.args.words.now in
     let is = c.deref-in-Some.ensures.0 ∙ c.in-Some.ensures.page.1 in
-    let same = c.deref.ensures.0 ∙ sym c.deref-in-Some.ensures.0 in
     let P : List Piece → Type 0 = λ row. Stands Anywhere words 0 row in
-    let stands = subst P same (c.stands.ensures.value.0 c.if-not-stands.false) in
+    let stands = subst P (c.deref.ensures.0 ∙ sym c.deref-in-Some.ensures.0) (c.stands.ensures.value.0 c.if-not-stands.false) in
     record {
       value = (
         λ yes. is_code c.args.image.now words (first_told words) (last_told words) c.deref-in-Some.result.now c.in-Some.ensures.page.0 is stands (λ k behind below. c.are_blank_from.ensures.value.0 yes k (omega (arith, c.size.ensures.value)) below),

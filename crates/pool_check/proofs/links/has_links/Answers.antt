@@ -1,4 +1,4 @@
-use Rattle.std.proofs.Common.{◌≤◌, length, arith, inl, inr, ◌∙◌}
+use Rattle.std.proofs.Common.{arith, inl, inr, ◌∙◌}
 use Rattle.flash_words.specs.Pages.{page_of}
 use Rattle.page_draft.specs.CodePages.{IsCodePage}
 use Rattle.pool_check.proofs.LinkTests.{free_links, links_by, links_back, is_so_not}
@@ -12,7 +12,6 @@ pub returns : goal.returns
 returns c =
     let words = c.args.flash.now.words in
     let page = c.args.page in
-    let short : length c.args.image.now ≤ 24576 = omega (arith, c.requires.length, c.requires.right.image_fits) in
     let code : IsCodePage c.args.image.now (page_of words page) 0 = elim (c.requires.form.pool c.requires.page) [
       | inl free ↦ absurd (is_so_not (c.is_free.ensures.value.1 free) c.if-is_free.false)
       | inr code ↦ code

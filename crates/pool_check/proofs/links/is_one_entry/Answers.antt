@@ -21,7 +21,6 @@ pub loop-page-preserved : goal.loop-page-preserved
 loop-page-preserved c =
     let words = c.args.flash.now.words in
     let t = c.args.t in
-    let place = c.args.place in
     let pool : IsPool c.args.layout.now c.loop-page.page = record { from = c.loop-page.auto.page; to = c.loop-page-test.true } in
     elim c.match-place_in.branch [
       | in-Some+else-other-place w ↦ (
@@ -33,8 +32,7 @@ loop-page-preserved c =
               | inl before ↦ ((c.loop-page.invariant.only p i v pool' before lists).0, w.found-is)
               | inr same ↦ (
                   let Q : ℕ → Type 0 = λ q. Lists words q i t v in
-                  let there = subst Q (omega arith) lists in
-                  (some_same v w.in-Some.other (sym (c.place_in.ensures.only i v there) ∙ w.in-Some.is) ∙ w.if-other-place.false, w.found-is))
+                  (some_same v w.in-Some.other (sym (c.place_in.ensures.only i v (subst Q (omega arith) lists)) ∙ w.in-Some.is) ∙ w.if-other-place.false, w.found-is))
             ];
           })
       | in_default w ↦ record {

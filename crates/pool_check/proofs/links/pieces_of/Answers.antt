@@ -12,13 +12,11 @@ first_of-requires c =
 
 pub remade-requires-clause-some : goal.remade-requires-clause-some
 remade-requires-clause-some c =
-    let is = told c.args.image.now (page_of c.args.flash.now.words c.args.page) c.requires.short c.requires.code in
-    omega (arith, is.some, ap (λ words. word_at words 1) c.page_words-words.ensures.words)
+    omega (arith, (told c.args.image.now (page_of c.args.flash.now.words c.args.page) c.requires.short c.requires.code).some, ap (λ words. word_at words 1) c.page_words-words.ensures.words)
 
 pub remade-requires-clause-few : goal.remade-requires-clause-few
 remade-requires-clause-few c =
-    let is = told c.args.image.now (page_of c.args.flash.now.words c.args.page) c.requires.short c.requires.code in
-    omega (arith, is.few, ap (λ words. word_at words 1) c.page_words-words.ensures.words)
+    omega (arith, (told c.args.image.now (page_of c.args.flash.now.words c.args.page) c.requires.short c.requires.code).few, ap (λ words. word_at words 1) c.page_words-words.ensures.words)
 
 pub unreachable-requires : goal.unreachable-requires
 unreachable-requires c =

@@ -18,7 +18,7 @@ returns-clause-stepped c = λ begins line y makes.
     let m = whole c.args.k.now c.args.p.now in
     let made = c.plain_step_into.ensures.step in
     let both = plain_state (state_of m) y c.plain_step_into.new.self made.shown begins line made.step makes in
-    record { state = both.0; numbers = plain_numbers (numbers_of m) line c.args.p.now.before c.args.p.now.longest _ refl refl (ap (λ (f : Memory). f.ops) made.step.flash); written = made.line ∙ ap (λ l. option_or l c.args.p.now.line) both.1; at = refl; broken = refl; crossings = refl; due = λ free. refl }
+    record { state = both.0; numbers = plain_numbers (numbers_of m) line c.args.p.now.before c.args.p.now.longest _ refl refl (ap (λ (f : Memory). f.ops) made.step.flash); written = made.line ∙ ap (λ l. option_or l c.args.p.now.line) both.1; rest = record { at = refl; broken = refl; crossings = refl; due = λ free. refl } }
 
 pub returns-clause-free : goal.returns-clause-free
 returns-clause-free c = (free_of (whole c.args.k.now c.args.p.now) c.requires.can.makes.free, c.requires.can.makes.going)

@@ -16,16 +16,16 @@ pub all_moves-requires-clause-mapped : goal.all_moves-requires-clause-mapped
 all_moves-requires-clause-mapped c = mapped_going (whole c.args.k.now c.args.p.now) c.requires.ready
 
 pub all_moves-requires-clause-law : goal.all_moves-requires-clause-law
-all_moves-requires-clause-law c = law_of (whole c.args.k.now c.args.p.now) c.requires.ready c.is_timely.ensures.timely c.requires.steps c.requires.placed
+all_moves-requires-clause-law c = law_of (whole c.args.k.now c.args.p.now) c.requires.ready c.keeps_timely.ensures.timely c.requires.steps c.requires.placed
 
 pub all_moves-requires-clause-small : goal.all_moves-requires-clause-small
 all_moves-requires-clause-small c = small_ready (whole c.args.k.now c.args.p.now) c.requires.ready c.requires.steps
 
 pub settle-requires : goal.settle-requires
-settle-requires c = record { few = few_after (whole c.args.k.now c.args.p.now) (whole c.all_moves.new.k c.all_moves.new.p) c.all_moves.new.p.line c.requires.ready c.is_timely.ensures.timely c.requires.placed c.requires.steps c.all_moves.ensures.taken }
+settle-requires c = record { few = few_after (whole c.args.k.now c.args.p.now) (whole c.all_moves.new.k c.all_moves.new.p) c.all_moves.new.p.line c.requires.ready c.keeps_timely.ensures.timely c.requires.placed c.requires.steps c.all_moves.ensures.taken }
 
 pub settle-requires-in-None : goal.settle-requires-in-None
-settle-requires-in-None c = record { few = few_after (whole c.args.k.now c.args.p.now) (whole c.all_moves.new.k c.all_moves.new.p) c.all_moves.new.p.line c.requires.ready c.is_timely.ensures.timely c.requires.placed c.requires.steps c.all_moves.ensures.taken }
+settle-requires-in-None c = record { few = few_after (whole c.args.k.now c.args.p.now) (whole c.all_moves.new.k c.all_moves.new.p) c.all_moves.new.p.line c.requires.ready c.keeps_timely.ensures.timely c.requires.placed c.requires.steps c.all_moves.ensures.taken }
 
 pub returns-in-Some : goal.returns-in-Some
 returns-in-Some c =
@@ -35,10 +35,10 @@ returns-in-Some c =
     let p = c.all_moves.new.p in
     let q = c.settle.new.p in
     let is = c.settle.ensures.settled in
-    let quiet = quiet_after old (whole k p) p.line c.requires.ready c.is_timely.ensures.timely c.requires.placed c.requires.steps c.requires.undue told.taken in
+    let quiet = quiet_after old (whole k p) p.line c.requires.ready c.keeps_timely.ensures.timely c.requires.placed c.requires.steps c.requires.undue told.taken in
     let mapped = mapped_after old (whole k p) c.requires.ready told.layout told.flash in
     let at : HasReached (whole k p) (Some c.in-Some.t) = subst (HasReached (whole k p)) c.in-Some.is told.reached in
-    let gone = gone_by old (whole k p) (whole k q) p.line c.requires.ready c.is_timely.ensures.timely (undue_untaken old c.requires.undue) c.requires.steps c.requires.placed told.torn told.taken told.layout told.flash in
+    let gone = gone_by old (whole k p) (whole k q) p.line c.requires.ready c.keeps_timely.ensures.timely (undue_untaken old c.requires.undue) c.requires.steps c.requires.placed told.torn told.taken told.layout told.flash in
     record {
       stepped = stepped_as old k p q (Some c.in-Some.t) gone mapped quiet at is;
       reached = λ reached. subst (λ (x : Progress). (x.owed ≡ None) × (x.end ≡ None) × (x.due ≡ false)) (sym is) (reached_free k p (Some c.in-Some.t) quiet at refl);
@@ -54,10 +54,10 @@ returns-in-None c =
     let p = c.all_moves.new.p in
     let q = c.settle-in-None.new.p in
     let is = c.settle-in-None.ensures.settled in
-    let quiet = quiet_after old (whole k p) p.line c.requires.ready c.is_timely.ensures.timely c.requires.placed c.requires.steps c.requires.undue told.taken in
+    let quiet = quiet_after old (whole k p) p.line c.requires.ready c.keeps_timely.ensures.timely c.requires.placed c.requires.steps c.requires.undue told.taken in
     let mapped = mapped_after old (whole k p) c.requires.ready told.layout told.flash in
     let at : HasReached (whole k p) None = subst (HasReached (whole k p)) c.in-None.is told.reached in
-    let gone = gone_by old (whole k p) (whole k q) p.line c.requires.ready c.is_timely.ensures.timely (undue_untaken old c.requires.undue) c.requires.steps c.requires.placed told.torn told.taken told.layout told.flash in
+    let gone = gone_by old (whole k p) (whole k q) p.line c.requires.ready c.keeps_timely.ensures.timely (undue_untaken old c.requires.undue) c.requires.steps c.requires.placed told.torn told.taken told.layout told.flash in
     record {
       stepped = stepped_as old k p q None gone mapped quiet at is;
       reached = λ reached. absurd (cc);

@@ -1,8 +1,9 @@
 use Rattle.std.proofs.Common.{◌≡◌, ◌+◌, ◌-◌, arith, refl, sym, ap, ◌∙◌, subst}
+use Rattle.std.specs.Prelude.{None}
 use Rattle.program_steps.specs.declared.progress.Progress.{Progress}
 use Rattle.program_steps.specs.Wholes.{whole}
 use Rattle.program_steps.specs.Several.{Silently}
-use Rattle.program_steps.proofs.OneBehindOther.{going_on, gone_on, steps_on, counted_on, entered_in, silently_on}
+use Rattle.program_steps.proofs.OneBehindOther.{goes_on_by, steps_on, counted_on, let_in, silently_on}
 use Rattle.program_steps.proofs.step.undue_steps.Goals as goal
 
 pub overflow_add-end : goal.overflow_add-end
@@ -34,14 +35,14 @@ follows-requires c =
     let told = c.step-goes_on.ensures in
     let now = whole c.steps.k c.steps.p in
     let w = whole c.step-goes_on.new.k c.step-goes_on.new.p in
-    record { going = λ going. gone_on now w c.step-goes_on.new.p.line told.stepped going; ended = told.ended; reached = told.reached; cursor = told.cursor }
+    record { going = λ going. (let on = goes_on_by now w c.step-goes_on.new.p.line told.stepped.way going in (on.ready, on.quiet)); ended = told.ended; reached = told.reached; cursor = told.cursor }
 
 pub steps_since-requires : goal.steps_since-requires
 steps_since-requires c =
     let at = c.steps.invariant in
     let same = c.follows.ensures.none c.if-not-follows.true in
     let steps = ap (λ (p : Progress). p.steps) same.1 in
-    let range = steps_on (whole c.steps.k c.steps.p) (whole c.step-goes_on.new.k c.step-goes_on.new.p) c.step-goes_on.new.p.line c.step-goes_on.ensures.stepped in
+    let range = steps_on (whole c.steps.k c.steps.p) (whole c.step-goes_on.new.k c.step-goes_on.new.p) c.step-goes_on.new.p.line c.step-goes_on.ensures.stepped.way in
     record { begun = omega (arith, at.begun, range.0, steps); few = omega (arith, range.1, at.most, c.requires.few, steps) }
 
 pub returns-then-not-follows : goal.returns-then-not-follows
@@ -56,7 +57,7 @@ returns-then-not-follows c =
     let since = c.steps_since in
     let still = ap (λ (p : Progress). p.steps) same.1 in
     let all : begin + since.result ≡ now.steps + 1 =
-    counted_on now w line begin since.result told.stepped (λ going. since.ensures.going (ap (λ (p : Progress). p.end) same.1 ∙ going) ∙ still) (λ ended. since.ensures.ended (λ none. ended (sym (ap (λ (p : Progress). p.end) same.1) ∙ none)) ∙ ap (λ n. n + 1) still) in
+    counted_on now w line begin since.result told.stepped.way (λ going. since.ensures.going (ap (λ (p : Progress). p.end) same.1 ∙ going) ∙ still) (λ ended. since.ensures.ended (λ none. ended (sym (ap (λ (p : Progress). p.end) same.1) ∙ none)) ∙ ap (λ n. n + 1) still) in
     record {
       done = rw same.0 (rw same.1 (record { earlier = now.steps - begin; last = now; counted = omega (arith, all, at.begun); silently = at.silently; step = told.stepped }));
       ended = rw same.1 told.ended;
@@ -67,8 +68,8 @@ returns-then-not-follows c =
 pub steps-smaller : goal.steps-smaller
 steps-smaller c =
     let followed = c.follows.ensures.followed c.if-not-follows.false in
-    let on = going_on (whole c.steps.k c.steps.p) (whole c.step-goes_on.new.k c.step-goes_on.new.p) c.step-goes_on.new.p.line c.step-goes_on.ensures.stepped followed.ready.going in
-    omega (arith, on.1, followed.entered.steps, c.steps.invariant.most)
+    let on = goes_on_by (whole c.steps.k c.steps.p) (whole c.step-goes_on.new.k c.step-goes_on.new.p) c.step-goes_on.new.p.line c.step-goes_on.ensures.stepped.way followed.ready.going in
+    omega (arith, on.steps, followed.entered.steps, c.steps.invariant.most)
 
 pub steps-preserved : goal.steps-preserved
 steps-preserved c =
@@ -82,19 +83,19 @@ steps-preserved c =
     let follows = c.if-not-follows.false in
     let followed = c.follows.ensures.followed follows in
     let silent = c.follows.ensures.silent follows in
-    let on = going_on now w line told.stepped followed.ready.going in
+    let on = goes_on_by now w line told.stepped.way followed.ready.going in
     let steps = followed.entered.steps in
-    let into = entered_in w new followed.entered in
+    let into = let_in w new None followed.entered refl in
     let begin = c.args.p.now.steps in
-    let one : now.steps - begin + 1 ≡ new.steps - begin = omega (arith, on.1, steps, at.begun) in
+    let one : now.steps - begin + 1 ≡ new.steps - begin = omega (arith, on.steps, steps, at.begun) in
     record {
       silently = subst (λ n. Silently n old new) one (silently_on (now.steps - begin) old now w new line at.silently told.stepped silent.0 followed);
-      ready = into.0;
-      placed = into.1;
+      ready = into.ready;
+      placed = into.placed;
       undue = followed.still;
-      going = into.0.going;
+      going = into.ready.going;
       silent = silent.1;
-      begun = omega (arith, on.1, steps, at.begun);
+      begun = omega (arith, on.steps, steps, at.begun);
       most = omega (arith, steps, c.follows.ensures.fewer follows);
       cursor = c.follows.ensures.cursor;
     }

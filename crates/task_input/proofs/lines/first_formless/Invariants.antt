@@ -1,5 +1,5 @@
 use Rattle.std.proofs.Common.{◌≤◌, ◌+◌, length}
-use Rattle.text_lines.specs.Lines.{lines_of}
+use Rattle.line_reader.specs.Lines.{lines_of}
 use Rattle.task_input.proofs.FirstLines.{HaveForms}
 use Rattle.task_input.proofs.lines.first_formless.Given as goal
 

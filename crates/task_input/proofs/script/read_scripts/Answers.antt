@@ -1,6 +1,6 @@
 use Rattle.std.proofs.Common.{◌≡◌, ◌+◌, ◌∷◌, ◌++◌, [], List, Some, Option, Err, arith, ap, ap₂, ◌∙◌, sym, refl, subst, inl}
 use Rattle.std.proofs.lemmas.Grind.{common_steps}
-use Rattle.text_lines.specs.Lines.{lines_of}
+use Rattle.line_reader.specs.Lines.{lines_of}
 use Rattle.input_script.specs.declared.fault.ScriptError.TheVariants.{Bad}
 use Rattle.input_script.specs.Script.{Schedule}
 use Rattle.task_input.specs.declared.script.BadLine.{BadLine}

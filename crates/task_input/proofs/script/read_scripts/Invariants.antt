@@ -1,4 +1,4 @@
-use Rattle.text_lines.specs.Lines.{lines_of}
+use Rattle.line_reader.specs.Lines.{lines_of}
 use Rattle.task_input.specs.Reading.{IsFar}
 use Rattle.task_input.proofs.script.read_scripts.Given as goal
 

@@ -6,13 +6,13 @@ use Rattle.theorem_reader.proofs.Plainly.{told_at}
 use Rattle.theorem_reader.proofs.example.answer_alone.Goals as goal
 
 pub returns : goal.returns
-returns c =
+returns g c =
     let words = ap (λ (w : List ℕ). w ∷ []) c.in_ok-word.ensures.same in
     record {
-      check = told_at c.run_text.result (λ words text told. (image flash : List ℕ) → AsksCheck words text image flash → IsSo told.out.faults (λ sink. IsChecked sink image flash told.status told.out.taken told.kept))
+      check = told_at c.run_text.result (λ words text told. (image flash : List ℕ) → AsksCheck words text image flash → IsSo g.row.ROOM told.out (λ sink. IsChecked sink image flash told.status told.out.taken told.kept))
           _ _ _ _ words c.in_ok-bytes.ensures.same c.run_text.ensures.check;
-      asm = told_at c.run_text.result (λ words text told. (image : List ℕ) → AsksAsm words text image → IsSo told.out.faults (λ sink. IsAssembled sink image told.status told.out.taken told.kept))
+      asm = told_at c.run_text.result (λ words text told. (image : List ℕ) → AsksAsm words text image → IsSo g.row.ROOM told.out (λ sink. IsAssembled sink image told.status told.out.taken told.kept))
           _ _ _ _ words c.in_ok-bytes.ensures.same c.run_text.ensures.asm;
-      refused = told_at c.run_text.result (λ words text told. (own : ℕ) (line : List ℕ) → IsRefused words text own line → IsSo told.out.faults (λ sink. IsSaid sink own line told.status told.out.taken told.kept))
+      refused = told_at c.run_text.result (λ words text told. (own : ℕ) (line : List ℕ) → IsRefused words text own line → IsSo g.row.ROOM told.out (λ sink. IsSaid sink own line told.status told.out.taken told.kept))
           _ _ _ _ words c.in_ok-bytes.ensures.same c.run_text.ensures.refused;
     }

@@ -4,6 +4,7 @@ use Rattle.page_index.specs.Maps.{IsMap}
 use Rattle.page_draft.specs.CodePages.{IsCodePage}
 use Rattle.tk_restart.proofs.PageLaws.{code_alone, code_in_flash, code_map}
 use Rattle.tk_restart.proofs.judging.judge.Goals as goal
+use Rattle.flash_words.specs.Layouts.{most_image_words}
 
 is_so_not : {b : Bool} → b ≡ true → b ≡ false → ⊥
 is_so_not is_so not_so = cc
@@ -23,7 +24,7 @@ pub is_alone-requires-clause-pages : goal.is_alone-requires-clause-pages
 is_alone-requires-clause-pages c = λ page pool to.
     let words = c.args.flash.now.words in
     let image = c.args.image.now in
-    let short : length image ≤ 24576 = omega (arith, c.requires.length, c.requires.right.image_fits) in
+    let short : length image ≤ most_image_words = omega (arith, c.requires.length, c.requires.right.image_fits) in
     let P : List ℕ → Type 0 = λ p. IsCodePage image p 0 in
     let Q : ℕ → Type 0 = λ p. IsMap words p in
     let code = code_in_flash image words c.args.page (subst P c.page_words-words.ensures.words (c.is_code.ensures.value.0 c.if-not-is_code.false)) in

@@ -1,5 +1,5 @@
-use Rattle.std.proofs.Common.{◌≡◌, ℕ, ◌+◌, ◌≤◌, List, length, arith, sym, ap, ◌∙◌, subst}
-use Rattle.flash_words.specs.Layouts.{image_of}
+use Rattle.std.proofs.Common.{ℕ, ◌+◌, ◌≤◌, List, length, arith, sym, ap, ◌∙◌, subst}
+use Rattle.flash_words.specs.Layouts.{image_of, most_image_words}
 use Rattle.page_index.specs.Maps.{IsPool, IsFree}
 use Rattle.page_draft.specs.CodePages.{IsCodePage}
 use Rattle.std.specs.Prelude.{◌⊎◌}
@@ -20,10 +20,9 @@ unlink_page-requires-clause-code c =
     let page = layout.pool_first + c.pages.k in
     let pool : IsPool layout page = record { from = omega arith; to = omega (arith, c.pages-test.true) } in
     let image = image_of layout old.words in
-    let short : length image ≤ 24576 = omega (arith, c.requires.image, c.requires.right.image_fits) in
     let same = image_there layout old.words now.words c.requires.right c.requires.whole c.pages.invariant.size c.pages.invariant.outside in
     let P : List ℕ → Type 0 = λ held. IsFree now.words page ⊎ IsCodePage held now.words page in
-    subst P (sym same) (behind_all layout image old now c.pages.k page short c.requires.right c.requires.whole c.requires.codes c.pages.invariant pool).kind
+    subst P (sym same) (behind_all layout image old now c.pages.k page (omega (arith, c.requires.image, c.requires.right.image_fits)) c.requires.right c.requires.whole c.requires.codes c.pages.invariant pool).kind
 
 pub unlink_page-requires-clause-room : goal.unlink_page-requires-clause-room
 unlink_page-requires-clause-room c =
@@ -39,7 +38,7 @@ pages-preserved c =
     let page = layout.pool_first + c.pages.k in
     let pool : IsPool layout page = record { from = omega arith; to = omega (arith, c.pages-test.true) } in
     let image = image_of layout old.words in
-    let short : length image ≤ 24576 = omega (arith, c.requires.image, c.requires.right.image_fits) in
+    let short : length image ≤ most_image_words = omega (arith, c.requires.image, c.requires.right.image_fits) in
     let same = image_there layout old.words now.words c.requires.right c.requires.whole c.pages.invariant.size c.pages.invariant.outside in
     unlinked_one layout image old now c.unlink_page.new.flash c.pages.k short c.requires.right c.requires.whole c.requires.codes c.unlink_page.ensures.whole pool c.pages.invariant
     (c.unlink_page.ensures.after ∙ ap (λ held. unlinked_page layout held now page) same)
@@ -48,5 +47,4 @@ pub returns : goal.returns
 returns c =
     let layout = c.args.layout.now in
     let P : ℕ → Type 0 = λ k. IsUnlinked layout (image_of layout c.args.flash.now.words) c.args.flash.now c.pages.flash k in
-    let at_end : c.pages.k ≡ layout.pool_pages = omega (arith, c.pages.auto.k-end, c.pages-test.false) in
-    record { unlinks = unlinked_all layout (image_of layout c.args.flash.now.words) c.args.flash.now c.pages.flash (subst P at_end c.pages.invariant) }
+    record { unlinks = unlinked_all layout (image_of layout c.args.flash.now.words) c.args.flash.now c.pages.flash (subst P (omega (arith, c.pages.auto.k-end, c.pages-test.false)) c.pages.invariant) }

@@ -1,4 +1,4 @@
-use Rattle.std.proofs.Common.{◌≡◌, ◌+◌, ◌*◌, arith, ap, ◌∙◌, inl, inr}
+use Rattle.std.proofs.Common.{arith, ap, ◌∙◌, inl, inr}
 use Rattle.flash_words.specs.Pages.{page_of, blank, word_at}
 use Rattle.flash_words.proofs.PageLaws.{page_same}
 use Rattle.page_index.proofs.MapLaws.{free_word}
@@ -9,8 +9,7 @@ pub without_links-without-requires-clause-run : goal.without_links-without-requi
 without_links-without-requires-clause-run c = elim c.requires.code [
   | inl free ↦ (
       let words = c.args.flash.now.words in
-      let here : 128 * c.args.page ≡ 128 * c.args.page + 0 = omega arith in
-      absurd (c.if-word.false (c.word.ensures.value ∙ ap (word_at words) here ∙ free_word words c.args.page 0 (omega arith) free)))
+      absurd (c.if-word.false (c.word.ensures.value ∙ ap (word_at words) (omega arith) ∙ free_word words c.args.page 0 (omega arith) free)))
   | inr code ↦ code
 ]
 

@@ -4,15 +4,14 @@ use Rattle.program_steps.proofs.Told.{cursor_same}
 use Rattle.std.proofs.Common.{sym, ◌∙◌, ◌≡◌, ◌+◌, ◌++◌, [], refl, subst, arith}
 use Rattle.std.proofs.lemmas.Result.{err_from_is_err_and}
 use Rattle.std.specs.Prelude.{Some, None}
-use Rattle.program_steps.specs.Stepping.{lines_text}
+use Rattle.printed_text.specs.DeviceLines.{lines_text}
 use Rattle.step_laws.specs.Moves.{line_before}
 use Rattle.program_steps.specs.Wholes.{whole}
-use Rattle.line_text.proofs.Gathered.{sent_on, cut_on}
+use Rattle.line_gathering.proofs.Gathered.{sent_on, cut_on}
 use Rattle.tk_run.proofs.RunSoFar.{IsBetween, unshut_on}
 use Rattle.program_steps.proofs.Owning.{open_admits}
 use Rattle.tk_run.proofs.Advancing.{can_step, advanced_enter, is_in, advanced_stop, advanced_bound, advanced_cut, advanced_failed}
-use Rattle.tk_run.proofs.Gathered.{take_in, take_on, under_way, turn_on, turn_cut}
-use Rattle.tk_run.proofs.Several.{last_in, last_below, steps_on}
+use Rattle.tk_run.proofs.Gathered.{take_in, take_on, under_way, turn_on, turn_cut, last_in, last_below, steps_on}
 use Rattle.tk_run.proofs.run.all_steps.Goals as goal
 
 pub steps-init : goal.steps-init
@@ -38,7 +37,7 @@ returns-in-Some-enter-clause-gathered g c =
     let way = turn_on old (whole c.steps.k c.steps.p) c.steps.done c.steps.gathered.items c.send_in_turn.new.gathered.items _ _ _ c.steps.invariant.way c.in_ok-send_in_turn.ensures.text in
     record {
       text = way.text;
-      advanced = advanced_enter old (whole c.steps.k c.steps.p) (whole c.enter.new.k c.enter.new.p) c.steps.done c.args.n (Some []) (Some way.text) c.enter.result c.in-Some-enter.end c.requires.going c.requires.whole c.steps-test.true way.between c.enter.ensures.entered c.in-Some-enter.is;
+      advanced = advanced_enter old (whole c.steps.k c.steps.p) (whole c.enter.new.k c.enter.new.p) c.steps.done c.args.n (Some []) (Some way.text) c.enter.result c.in-Some-enter.end c.requires.going c.requires.whole c.steps-test.true way.between c.enter.ensures.entered c.enter.ensures.entered.way c.in-Some-enter.is;
       sent = way.sent;
     }
 
@@ -77,7 +76,7 @@ returns-in-Some-clause-gathered g c =
     record {
       text = way.text;
       advanced = advanced_stop old now (whole c.take.new.k c.take.new.p) c.steps.done c.args.n None c.in-Some.end (Some []) (Some way.text) (Some way.text) c.requires.going c.requires.whole c.steps-test.true
-          (take_in old now c.steps.done (Some []) (Some way.text) way.between (sym c.must_take.ensures.value ∙ c.if-must_take.true)) c.take.ensures.stepped (appends-nothing (Some way.text)) (sym c.take.ensures.end ∙ c.in-Some.is);
+          (take_in old now c.steps.done (Some []) (Some way.text) way.between (sym c.must_take.ensures.value ∙ c.if-must_take.true)) c.take.ensures.stepped c.take.ensures.stepped.way (appends-nothing (Some way.text)) (sym c.take.ensures.end ∙ c.in-Some.is);
       sent = way.sent;
     }
 
@@ -94,7 +93,7 @@ returns-in_err-gather-clause-gathered g c =
     let below = last_below mid new c.steps.done c.steps-done.result c.args.n line done (omega (arith, c.steps-done.ensures.most, c.min.ensures, c.steps.invariant.within)) in
     let failed = err_from_is_err_and c.from_residual-in_err-gather.result c.from_residual-in_err-gather.ensures.1 in
     rw failed.1 (advanced_failed old done.last new (c.steps.done + done.earlier) c.args.n line failed.0 way.text _ _ c.requires.going c.requires.whole below last
-    done.step c.in_err-gather.ensures.line (cut_on way.text c.send_in_turn.new.gathered.items (lines_text (line_before line [])) _ _ _ way.sent c.in_err-gather.ensures.text))
+    done.step done.step.way c.in_err-gather.ensures.line (cut_on way.text c.send_in_turn.new.gathered.items (lines_text (line_before line [])) _ _ _ way.sent c.in_err-gather.ensures.text))
 
 pub returns-in-Some-end-clause-gathered : goal.returns-in-Some-end-clause-gathered
 returns-in-Some-end-clause-gathered g c =
@@ -110,7 +109,7 @@ returns-in-Some-end-clause-gathered g c =
     let text = lines_text (line_before line []) in
     record {
       text = way.text ++ text;
-      advanced = advanced_stop old done.last new (c.steps.done + done.earlier) c.args.n line c.in-Some-end.end (Some []) (Some way.text) (Some (way.text ++ text)) c.requires.going c.requires.whole below last done.step refl c.in-Some-end.is;
+      advanced = advanced_stop old done.last new (c.steps.done + done.earlier) c.args.n line c.in-Some-end.end (Some []) (Some way.text) (Some (way.text ++ text)) c.requires.going c.requires.whole below last done.step done.step.way refl c.in-Some-end.is;
       sent = sent_on way.text c.send_in_turn.new.gathered.items text c.gather.new.gathered.items _ _ _ way.sent c.in_ok-gather.ensures.text;
     }
 

@@ -1,5 +1,5 @@
 use Rattle.std.proofs.lemmas.Result.{err_from_is_err_and}
-use Rattle.line_text.proofs.Gathered.{all_on, rest_cut}
+use Rattle.line_gathering.proofs.Gathered.{all_on, rest_cut}
 use Rattle.program_steps.specs.Wholes.{whole}
 use Rattle.tk_run.proofs.Advancing.{advanced_whole, advanced_unput}
 use Rattle.tk_run.proofs.run.put_steps.Goals as goal

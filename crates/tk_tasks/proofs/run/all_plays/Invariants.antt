@@ -1,4 +1,5 @@
 use Rattle.std.proofs.Common.{◌≡◌, ◌≤◌, ◌<◌, false}
+use Rattle.line_gathering.specs.Gathering.{turn_steps}
 use Rattle.page_cursor.specs.Cursors.{IsCursor}
 use Rattle.tk_tasks.specs.States.{AreSound, turns_of}
 use Rattle.tk_tasks.specs.Running.{IsUnderWay}
@@ -13,7 +14,7 @@ invariant-plays g l = record {
   whole : l.t.broken ≡ false;
   quantum : l.t.kernel.quantum ≡ l.fn.t.kernel.quantum;
   cursor : IsCursor l.t.kernel.layout l.t.kernel.mote.flash.words l.cursor;
-  turn : l.done < 65536;
+  turn : l.done < turn_steps;
   faults : g.K.Sink.faults l.fn.out ≤ g.K.Sink.faults l.out;
 }
 

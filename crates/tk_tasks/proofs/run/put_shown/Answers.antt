@@ -1,6 +1,6 @@
 use Rattle.std.proofs.Common.{ap₂, ◌∙◌, ◌++◌, ◌/◌, subst}
-use Rattle.line_text.specs.Gathering.{Gathers}
-use Rattle.line_text.specs.TaskTexts.{device_told, stop_told}
+use Rattle.line_gathering.specs.Gathering.{Gathers}
+use Rattle.printed_text.specs.TaskTexts.{device_told, stop_told}
 use Rattle.tk_tasks.proofs.Telling.{told_as}
 use Rattle.tk_tasks.proofs.run.put_shown.Goals as goal
 

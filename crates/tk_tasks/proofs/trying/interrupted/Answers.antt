@@ -9,4 +9,4 @@ returns-in-None-clause-behind c = λ left. taken_on (whole c.args.k.now c.args.p
 
 pub returns-in-Some-clause-behind : goal.returns-in-Some-clause-behind
 returns-in-Some-clause-behind c =
-    λ left. taken_over (whole c.args.k.now c.args.p.now) (whole c.take.new.k c.take.new.p) c.in-Some.end _ c.take.ensures.stepped (sym c.take.ensures.end ∙ c.in-Some.is) refl (ap (λ e. Some e) c.task_end.ensures.value) left
+    λ left. taken_over (whole c.args.k.now c.args.p.now) (whole c.take.new.k c.take.new.p) c.in-Some.end _ c.take.ensures.stepped.way (sym c.take.ensures.end ∙ c.in-Some.is) refl (ap (λ e. Some e) c.task_end.ensures.value) left

@@ -1,6 +1,6 @@
 use Rattle.std.proofs.Common.{inl, refl, subst}
 use Rattle.tk_tasks.specs.Plays.{HasRunTasks}
-use Rattle.tk_words.specs.Stream.{Stream}
+use Rattle.cli_words.specs.Stream.{Stream}
 use Rattle.tkernel_cli.proofs.TasksEnds.{can_run, starts_at_boot, tasks_ended, tasks_cut, rose_of}
 use Rattle.tkernel_cli.proofs.tasking.run_tasks.Goals.{in-Ok-run, in-Err-run}
 use Rattle.tkernel_cli.proofs.tasking.run_tasks.Goals as goal

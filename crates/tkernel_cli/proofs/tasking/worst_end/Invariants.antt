@@ -1,5 +1,5 @@
 use Rattle.std.proofs.Common.{◌≡◌, length}
-use Rattle.tk_words.specs.declared.status.Status.TheVariants.{Done}
+use Rattle.cli_words.specs.declared.status.Status.TheVariants.{Done}
 use Rattle.tkernel_cli.specs.TasksRuns.{worst}
 use Rattle.tkernel_cli.proofs.tasking.worst_end.Given as goal
 

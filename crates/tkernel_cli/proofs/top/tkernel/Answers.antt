@@ -1,6 +1,6 @@
 use Rattle.std.proofs.Common.{◌⊎◌, refl, subst}
-use Rattle.tk_words.specs.Printed.{no_memory}
-use Rattle.tk_words.specs.Stream.{stream}
+use Rattle.cli_words.specs.Printed.{no_memory}
+use Rattle.cli_words.specs.Stream.{stream}
 use Rattle.tkernel_cli.specs.Answer.{Does}
 use Rattle.tkernel_cli.specs.TasksRuns.{HasTasksRun}
 use Rattle.tkernel_cli.proofs.Exactly.{answer_alone, answer_is_exact, answer_tasks}

@@ -11,10 +11,9 @@ invariant_of-self c =
     let i = c.self.inside in
     let before : Schedule = record { events = i.events.items; failing = i.failing.items } in
     let statement = At c.in-Ok-At.number c.in-Ok-At.input in
-    let said = rw c.in-Ok-At.field-0-is at c.in-Ok-At.ensures.cases in
     let P : Schedule → Type 0 = λ s. IsNext s statement in
     let Q : List Event → Type 0 = λ events. IsSchedule (record { events = events; failing = i.failing.items }) in
-    either_way Q _ _ _ _ c.push.ensures.items (schedule_next before statement c.self.invariant (subst P (sym c.self.view_is) said.1)) c.self.invariant
+    either_way Q _ _ _ _ c.push.ensures.items (schedule_next before statement c.self.invariant (subst P (sym c.self.view_is) (rw c.in-Ok-At.field-0-is at c.in-Ok-At.ensures.cases).1)) c.self.invariant
 
 pub invariant_of-self-in-Ok-FailFlash : goal.invariant_of-self-in-Ok-FailFlash
 invariant_of-self-in-Ok-FailFlash c =

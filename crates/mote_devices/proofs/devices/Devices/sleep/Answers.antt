@@ -18,8 +18,7 @@ none n is = grind (arith, nat_tests)
 pub returns-then-enabled-ne0 : goal.returns-then-enabled-ne0
 returns-then-enabled-ne0 c =
     let s = c.args.self.now in
-    let on : is_enabled s ≡ true = ap (λ n. not (n == 0)) (sym c.enabled.ensures.value) ∙ some c.enabled.result c.if-enabled-ne0.true in
-    record { woken = sym (ap (woken_by s) (wake_now s on)); wake = is_wake s }
+    record { woken = sym (ap (woken_by s) (wake_now s (ap (λ n. not (n == 0)) (sym c.enabled.ensures.value) ∙ some c.enabled.result c.if-enabled-ne0.true))); wake = is_wake s }
 
 pub returns-in-None : goal.returns-in-None
 returns-in-None c =

@@ -1,5 +1,5 @@
-use Rattle.std.proofs.Common.{◌≡◌, ◌<◌, ◌≤◌, ℕ, List, false, length, arith, ap, sym, ◌∙◌, get_or}
-use Rattle.std.specs.Prelude.{nat_le, nat_lt}
+use Rattle.std.proofs.Common.{◌≡◌, ◌<◌, ℕ, List, false, length, arith, ap, sym, ◌∙◌, get_or}
+use Rattle.std.specs.Prelude.{nat_le}
 use Rattle.std.proofs.lemmas.Bool.Decides.{nat_tests}
 use Rattle.std.proofs.lemmas.List.{get_or_default}
 use Rattle.input_script.specs.declared.input.Event.{Event}
@@ -18,9 +18,6 @@ settled n now pins converter pending script taken serial is schedule next =
 above : (at n : ℕ) → nat_le at n ≡ false → n < at
 above at n test = grind (arith, nat_tests)
 
-past : (taken size : ℕ) → nat_lt taken size ≡ false → size ≤ taken
-past taken size test = grind (arith, nat_tests)
-
 next_above : (n at : ℕ) (events script : List Event) (taken : ℕ) (e d : Event) → events ≡ script → n < at → at ≡ (get_or events taken e).at → taken < length script → n < (get_or script taken d).at
 next_above n at events script taken e d same above is inside =
     let there : (get_or events taken e).at ≡ (get_or script taken d).at = ap (λ l. (get_or l taken e).at) same ∙ ap (λ (event : Event). event.at) (get_or_default script taken e d inside) in
@@ -36,5 +33,4 @@ returns-then-self-events-clause-none c = λ test.
 pub returns-else-self-events-clause-none : goal.returns-else-self-events-clause-none
 returns-else-self-events-clause-none c = λ test.
     let i = c.self.inside in
-    let end = past i.taken (length c.events-events.result.now) test in
     settled c.args.poll c.args.self.now i.pins i.converter i.pending i.script i.taken i.serial c.self.view_is c.events-events.ensures.schedule (λ d inside. absurd (omega (arith, ap (length {A = Event}) c.events-events.ensures.value)))

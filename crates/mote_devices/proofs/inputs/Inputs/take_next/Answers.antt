@@ -19,16 +19,16 @@ next_within now pins converter pending script taken serial is some =
     let coming : length (drop taken script) ≡ length now.coming = ap (λ (r : Received). length r.coming) is in
     omega (arith, length-drop taken script)
 
-pub returns-then-port-lt4 : goal.returns-then-port-lt4
-returns-then-port-lt4 c =
+pub returns-then-port-lt-PORTS : goal.returns-then-port-lt-PORTS
+returns-then-port-lt-PORTS c =
     let i = c.self.inside in
     let within = next_within c.args.self.now i.pins i.converter i.pending i.script.events i.taken i.serial c.self.view_is c.requires.some in
     record {
       value = pin_taken i.pins i.converter i.pending i.script.events i.taken i.serial _ c.in-Pin.port c.in-Pin.value c.self.invariant.queued within (rw c.events.ensures.value at c.in-Pin.is) ∙ ap with_first c.self.view_is;
     }
 
-pub returns-else-port-lt4 : goal.returns-else-port-lt4
-returns-else-port-lt4 c =
+pub returns-else-port-lt-PORTS : goal.returns-else-port-lt-PORTS
+returns-else-port-lt-PORTS c =
     let i = c.self.inside in
     let within = next_within c.args.self.now i.pins i.converter i.pending i.script.events i.taken i.serial c.self.view_is c.requires.some in
     let past : length i.pins ≤ c.in-Pin.port = omega arith in

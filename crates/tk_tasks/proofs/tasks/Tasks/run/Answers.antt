@@ -7,13 +7,13 @@ pub returns-clause-run : goal.returns-clause-run
 returns-clause-run g c =
     let t = c.put_plays-result.new.t in
     let s = c.self.inside in
-    let written : Tasks → Tasks = λ u. record u { broken = c.is_failed-self-inside.result; natural = c.all_counts-counts.result.natural; entries = c.all_counts-counts.result.entries } in
+    let written : Tasks → Tasks = λ u. record u { broken = c.is_err-self-inside.result; natural = c.all_counts-counts.result.natural; entries = c.all_counts-counts.result.entries } in
     let seen : written (record { kernel = s.kernel; running = s.running; stub = s.stub; tasks = s.tasks.items; broken = s.broken; natural = s.natural; entries = s.entries; pages = s.pages; switches = s.switches }) ≡ written t = ap written c.self.view_is in
     has_run c.put_plays-result.result c.args.n c.args.self.now t (written (record { kernel = s.kernel; running = s.running; stub = s.stub; tasks = s.tasks.items; broken = s.broken; natural = s.natural; entries = s.entries; pages = s.pages; switches = s.switches })) (g.K.Sink.taken c.args.out.now) (g.K.Sink.taken c.put_plays-result.new.out) c.put_plays-result.ensures.gathered
-    (seen ∙ counts_as t t c.is_failed-self-inside.result c.all_counts-counts.result.natural c.all_counts-counts.result.entries c.put_plays-result.result c.is_failed-self-inside.ensures.value c.all_counts-counts.ensures.natural c.all_counts-counts.ensures.entries)
+    (seen ∙ counts_as t t c.is_err-self-inside.result c.all_counts-counts.result.natural c.all_counts-counts.result.entries c.put_plays-result.result c.is_err-self-inside.ensures.value c.all_counts-counts.ensures.natural c.all_counts-counts.ensures.entries)
 
 pub returns-clause-sound : goal.returns-clause-sound
 returns-clause-sound g c =
-    let written : Tasks → Tasks = λ u. record u { broken = c.is_failed-self-inside.result; natural = c.all_counts-counts.result.natural; entries = c.all_counts-counts.result.entries } in
+    let written : Tasks → Tasks = λ u. record u { broken = c.is_err-self-inside.result; natural = c.all_counts-counts.result.natural; entries = c.all_counts-counts.result.entries } in
     subst AreSound (sym (ap written c.self.view_is))
-    (sound_counts c.put_plays-result.new.t c.is_failed-self-inside.result c.all_counts-counts.result.natural c.all_counts-counts.result.entries c.put_plays-result.ensures.whole c.put_plays-result.ensures.sound)
+    (sound_counts c.put_plays-result.new.t c.is_err-self-inside.result c.all_counts-counts.result.natural c.all_counts-counts.result.entries c.put_plays-result.ensures.whole c.put_plays-result.ensures.sound)

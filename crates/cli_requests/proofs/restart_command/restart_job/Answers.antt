@@ -1,0 +1,6 @@
+use Rattle.cli_requests.specs.RestartCommand.{RestartAsks}
+use Rattle.cli_requests.proofs.Judging.{judged_text}
+use Rattle.cli_requests.proofs.restart_command.restart_job.Goals as goal
+
+pub returns-in-Ok-clause-asks : goal.returns-in-Ok-clause-asks
+returns-in-Ok-clause-asks g c = judged_text (RestartAsks c.args.options) _ _ _ _ _ c.deref.ensures.value c.in-Ok.ensures.read c.text_job.ensures.asks

@@ -1,0 +1,40 @@
+//! The command `dump`.
+ghost use Rattle.std.specs.Prelude.{◌≡◌, ◌⊎◌, ◌≤◌, length};
+ghost use Rattle.cli_words.specs.Commands.{AreOptions, IsPossibleJob};
+ghost use Rattle.cli_words.specs.Printed.{no_memory};
+ghost use Rattle.cli_words.specs.Stream.{stream};
+ghost use Rattle.cli_requests.specs.DumpCommand.{DumpAsks};
+ghost use Rattle.cli_requests.specs.Reading.{AsksByText, most_input};
+
+use crate::reading::read_input;
+use crate::run_command::request_in;
+use byte_streams::Source;
+use cli_words::{Job, RunOptions};
+use std::alloc::Global;
+
+/// Reads the input of `dump`, which is that of `run`, and judges it.
+pub(crate) fn dump_job<S: Source>(alloc: Global, options: RunOptions, input: &mut S) -> Job
+    requires possible { AreOptions options }
+    ensures asks { AsksByText (DumpAsks options)
+        (stream S.left S.faults input.old) (stream S.left S.faults input.new)
+        result }
+    ensures possible { IsPossibleJob result }
+{
+    match read_input(alloc, input) {
+        Ok(text) => text_job(alloc, options, &text),
+        Err(job) => job,
+    }
+}
+
+/// What a text asks for, which is a HEX text and a script behind it.
+fn text_job(alloc: Global, options: RunOptions, text: &[u8]) -> Job
+    requires possible { AreOptions options }
+    requires short { length text.now ≤ most_input }
+    ensures asks { DumpAsks options text.now result ⊎ (result ≡ no_memory) }
+    ensures possible { IsPossibleJob result }
+{
+    match request_in(alloc, options, text) {
+        Ok(request) => Job::Dump(request),
+        Err(job) => job,
+    }
+}

@@ -1,0 +1,99 @@
+-- The words of a command line, this project's own grammar (docs/FORMATS.md): a command, and behind it its
+-- numbers in any order, each at most once. A number with a name stands in the word behind the name, or
+-- behind `=` in the same one.
+use Rattle.std.specs.Prelude.{◌≡◌, ℕ, ◌≤◌, ◌⊎◌, ◌==◌, if◌then◌else◌, List, [], ◌∷◌, ◌++◌, codes, slice_get, slice_set, slice_index_or, Option, Some, None, IsSome}
+use Rattle.std.specs.Option.{option_or}
+use Rattle.input_script.specs.Grammar.{IsNumber}
+use Rattle.cli_words.specs.declared.table.Signature.{Signature}
+use Rattle.cli_words.specs.declared.table.Signature.TheVariants as signatures
+use Rattle.cli_words.specs.declared.table.Parameter.{Parameter}
+use Rattle.cli_words.specs.declared.table.Parameter.TheVariants.{Seed, Count, Steps, Quantum, Swap}
+use Rattle.cli_words.specs.declared.table.Row.{Row}
+use Rattle.cli_words.specs.declared.options.Choice.{Choice}
+
+-- the name of a parameter, where it has one
+abbrev pub name_of : Parameter → Option (List ℕ)
+name_of Seed = None
+name_of Count = Some (codes "--tasks")
+name_of Steps = Some (codes "--steps")
+name_of Quantum = Some (codes "--quantum")
+name_of Swap = Some (codes "--swap")
+
+-- the number of a parameter, by which they are told apart
+abbrev pub place_of : Parameter → ℕ
+place_of Seed = 0
+place_of Steps = 1
+place_of Quantum = 2
+place_of Swap = 3
+place_of Count = 4
+
+-- What a command takes: each parameter with its least and its greatest value, and the one that it has
+-- where the words give none. This is what a command takes that runs a program, with as many swap slots at most, and
+-- with these where the words give none
+abbrev pub rows_of_run : (most_swap default_swap : ℕ) → List Row
+rows_of_run most_swap default_swap =
+    record { parameter = Steps; least = 0; most = 1000000000; default = Some 1000000 }
+    ∷ record { parameter = Quantum; least = 1; most = 255; default = Some 255 }
+    ∷ record { parameter = Swap; least = 0; most = most_swap; default = Some default_swap }
+    ∷ []
+
+abbrev pub run_rows : List Row
+run_rows = rows_of_run 251 128
+
+-- this one that runs several, which share the swap
+abbrev pub tasks_rows : List Row
+tasks_rows = record { parameter = Count; least = 1; most = 4; default = None } ∷ rows_of_run 62 32
+
+-- this one that runs a test program
+abbrev pub seed_rows : List Row
+seed_rows = record { parameter = Seed; least = 0; most = 4294967295; default = None } ∷ []
+
+-- and this each command, by its signature
+abbrev pub rows_of : Signature → List Row
+rows_of (signatures.Plain own) = []
+rows_of (signatures.Run aim) = run_rows
+rows_of signatures.Tasks = tasks_rows
+rows_of signatures.Generate = seed_rows
+
+-- the row of a parameter
+abbrev pub row_in : List Row → Parameter → Option Row
+row_in [] parameter = None
+row_in (row ∷ rows) parameter = if place_of row.parameter == place_of parameter then Some row else row_in rows parameter
+
+-- the first words write these digits, with the name that they have, and the rest stands behind them
+abbrev pub IsWritten : Option (List ℕ) → (digits : List ℕ) → (words rest : List (List ℕ)) → Type 0
+IsWritten None digits words rest = words ≡ digits ∷ rest
+IsWritten (Some name) digits words rest = (words ≡ name ∷ digits ∷ rest) ⊎ (words ≡ (name ++ (codes "=" ++ digits)) ∷ rest)
+
+-- the first words choose a value of one of these parameters
+pub record BeginsWith (rows : List Row) (choice : Choice) (words rest : List (List ℕ)) : Type 0 where
+  pub digits : List ℕ
+  pub written : IsWritten (name_of choice.parameter) digits words rest
+  pub number : IsNumber digits choice.value
+  pub has : IsSome (row_in rows choice.parameter)
+
+-- words that make these choices, one after another, each of a parameter that had no value
+abbrev pub MakeChoices : List Row → List Choice → (words : List (List ℕ)) → (before after : List (Option ℕ)) → Type 0
+MakeChoices rows [] words before after = (words ≡ []) × (before ≡ after)
+MakeChoices rows (choice ∷ choices) words before after =
+    (rest : List (List ℕ)) × BeginsWith rows choice words rest × (slice_get before (place_of choice.parameter) ≡ Some None)
+    × MakeChoices rows choices rest (slice_set before (place_of choice.parameter) (Some choice.value)) after
+
+abbrev pub Choose : List Row → (words : List (List ℕ)) → (before after : List (Option ℕ)) → Type 0
+Choose rows words before after = (choices : List Choice) × MakeChoices rows choices words before after
+
+-- no parameter has a value yet
+abbrev pub nothing : List (Option ℕ)
+nothing = None ∷ None ∷ None ∷ None ∷ None ∷ []
+
+-- the value of a parameter: the chosen one, or else the default
+pub record IsValue (chosen : List (Option ℕ)) (row : Row) (value : ℕ) : Type 0 where
+  pub is : option_or (slice_index_or chosen (place_of row.parameter) None) row.default ≡ Some value
+  pub least : row.least ≤ value
+  pub most : value ≤ row.most
+
+-- the values of all parameters, in the order of the rows
+abbrev pub AreValues : List Row → (chosen : List (Option ℕ)) → List ℕ → Type 0
+AreValues [] chosen values = values ≡ []
+AreValues (row ∷ rows) chosen values =
+    (value : ℕ) × (others : List ℕ) × (values ≡ value ∷ others) × IsValue chosen row value × AreValues rows chosen others

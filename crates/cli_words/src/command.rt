@@ -1,0 +1,121 @@
+//! What a command line asks for.
+ghost use Rattle.std.specs.Prelude.{ℕ, List, map, string_bytes, MatchOption, IfSome};
+ghost use Rattle.cli_words.specs.declared.command.Command.{Command};
+ghost use Rattle.cli_words.specs.Commands.{AreOptions, AreTaskOptions, IsCommand, IsNoCommand, IsPossible, IsPossibleOf, Makes, run_numbers, tasks_numbers};
+ghost use Rattle.cli_words.specs.Options.{AreValues, run_rows, tasks_rows};
+
+use crate::options::{Chosen, chosen_in};
+use crate::table::{Aim, Parameter, Signature};
+
+/// What a command line asks for.
+#[derive(Clone, Copy)]
+pub enum Command {
+    /// The usage line.
+    Help,
+    /// A run of the program that the input tells.
+    Run(RunOptions),
+    /// The dump of the flash that such a run leaves.
+    Dump(RunOptions),
+    /// A run, a loss of power, and a second run over what is kept of its flash.
+    Restart(RunOptions),
+    /// A run of several programs on one mote, in turn, which the input tells.
+    Tasks(TaskOptions),
+    /// Whether a flash holds the program and faithful rewritten code of it, both of which the input tells.
+    Check,
+    /// A run of the test program of this seed.
+    Generate(u32),
+    /// The HEX text of the source that the input tells.
+    Asm,
+}
+
+/// How a program is run.
+#[derive(Clone, Copy)]
+pub struct RunOptions {
+    /// The bound of steps, 0 to 1,000,000,000.
+    pub steps: u64,
+    /// Crossings of a quantum, 1 to 255.
+    pub quantum: u8,
+    /// Slots of the swap area, 0 to 251.
+    pub swap: u8,
+}
+
+/// How a program is run where the words don't say it.
+pub const DEFAULT_OPTIONS: RunOptions = RunOptions {
+    steps: 1_000_000,
+    quantum: 255,
+    swap: 128,
+};
+
+/// How several programs are run.
+#[derive(Clone, Copy)]
+pub struct TaskOptions {
+    /// How many there are, 1 to 4.
+    pub count: u8,
+    /// The bound of steps of each, 0 to 1,000,000,000.
+    pub steps: u64,
+    /// Crossings of a quantum, 1 to 255.
+    pub quantum: u8,
+    /// Slots of the swap area of each, 0 to 62.
+    pub swap: u8,
+}
+
+/// The command that the words of a command line are; None where they are none.
+pub fn command_of(words: &[String]) -> Option<Command>
+    ensures cases { MatchOption result (IsNoCommand (map string_bytes words.now)) (IsCommand (map string_bytes words.now)) }
+    ensures possible { IfSome result IsPossible }
+{
+    let [word, rest @ ..] = words else {
+        return None;
+    };
+    let signature = Signature::of(word.as_str())?;
+    let chosen = chosen_in(signature, rest)?;
+    command_with(signature, chosen)
+}
+
+/// The command of this signature with these numbers.
+fn command_with(signature: Signature, chosen: Chosen) -> Option<Command>
+    requires possible { IsPossibleOf signature }
+    ensures cases { MatchOption result
+        ((command : Command) → ¬ Makes signature chosen.values command)
+        (Makes signature chosen.values) }
+    ensures possible { IfSome result IsPossible }
+{
+    Some(match signature {
+        Signature::Plain(command) => command,
+        Signature::Run(aim) => aim.command(run_options(chosen)?),
+        Signature::Tasks => Command::Tasks(task_options(chosen)?),
+        Signature::Generate => {
+            let seed = chosen.value(Signature::Generate, Parameter::Seed)?;
+            Command::Generate(seed as u32)
+        }
+    })
+}
+
+/// The options of a run, from the numbers of a command that takes those of `run`.
+fn run_options(chosen: Chosen) -> Option<RunOptions>
+    ensures cases { MatchOption result
+        ((values : List ℕ) → ¬ AreValues run_rows chosen.values values)
+        (λ options. AreValues run_rows chosen.values (run_numbers options)) }
+    ensures possible { IfSome result AreOptions }
+{
+    Some(RunOptions {
+        steps: chosen.value(Signature::Run(Aim::Run), Parameter::Steps)?,
+        quantum: chosen.value(Signature::Run(Aim::Run), Parameter::Quantum)? as u8,
+        swap: chosen.value(Signature::Run(Aim::Run), Parameter::Swap)? as u8,
+    })
+}
+
+/// The options of a run of several programs.
+fn task_options(chosen: Chosen) -> Option<TaskOptions>
+    ensures cases { MatchOption result
+        ((values : List ℕ) → ¬ AreValues tasks_rows chosen.values values)
+        (λ options. AreValues tasks_rows chosen.values (tasks_numbers options)) }
+    ensures possible { IfSome result AreTaskOptions }
+{
+    Some(TaskOptions {
+        count: chosen.value(Signature::Tasks, Parameter::Count)? as u8,
+        steps: chosen.value(Signature::Tasks, Parameter::Steps)?,
+        quantum: chosen.value(Signature::Tasks, Parameter::Quantum)? as u8,
+        swap: chosen.value(Signature::Tasks, Parameter::Swap)? as u8,
+    })
+}

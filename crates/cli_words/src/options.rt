@@ -1,0 +1,156 @@
+//! The numbers that the words behind a command give.
+ghost use Rattle.std.specs.Prelude.{◌≡◌, ◌≢◌, ℕ, ◌<◌, ◌≤◌, List, length, map, string_bytes, MatchOption, IfSome, IsSomeAnd, Option, Some, None, option_map, slice_get, slice_set};
+ghost use Rattle.input_script.specs.Grammar.{IsNumber};
+ghost use Rattle.line_reader.specs.Stripping.{stripped};
+ghost use Rattle.cli_words.specs.declared.options.Choice.{Choice};
+ghost use Rattle.cli_words.specs.Options.{BeginsWith, Choose, IsValue, nothing, place_of, row_in, rows_of};
+ghost use Rattle.cli_words.specs.OptionReading.{named_in, number_in, value_at};
+
+use crate::table::{PARAMETERS, Parameter, Signature};
+
+/// A parameter with a number for it.
+#[derive(Clone, Copy)]
+struct Choice {
+    parameter: Parameter,
+    value: u64,
+}
+
+/// The numbers that were chosen so far, each at its parameter's place.
+#[derive(Clone, Copy)]
+pub(crate) struct Chosen {
+    values: [Option<u64>; PARAMETERS],
+}
+
+/// The parameter whose name a word begins with, and the text behind the name.
+fn named_parameter(word: &str) -> Option<(Parameter, &str)>
+    ensures named { option_map (λ found. (found.0, found.1.now)) result ≡ named_in word.now }
+{
+    if let Some(behind) = behind_name(word, "--steps") {
+        Some((Parameter::Steps, behind))
+    } else if let Some(behind) = behind_name(word, "--quantum") {
+        Some((Parameter::Quantum, behind))
+    } else if let Some(behind) = behind_name(word, "--swap") {
+        Some((Parameter::Swap, behind))
+    } else if let Some(behind) = behind_name(word, "--tasks") {
+        Some((Parameter::Count, behind))
+    } else {
+        None
+    }
+}
+
+/// The text behind a name, in a word that begins with it.
+fn behind_name<'a>(word: &'a str, name: &str) -> Option<&'a str>
+    ensures behind { option_map (λ text. text.now) result ≡ stripped name.now word.now }
+{
+    word.strip_prefix(name)
+}
+
+/// The parameter, the digits and the later words that words begin with. A word that begins with no name is
+/// a number without one.
+fn first_number(words: &[String]) -> Option<(Parameter, &str, &[String])>
+    ensures number { option_map (λ found. (found.0, found.1.now, map string_bytes found.2.now)) result
+        ≡ number_in (map string_bytes words.now) }
+    ensures shorter { IfSome result (λ found. length found.2.now < length words.now) }
+{
+    let [word, later @ ..] = words else {
+        return None;
+    };
+    match named_parameter(word.as_str()) {
+        Some((parameter, behind)) => value_behind(parameter, behind, later),
+        None => Some((Parameter::Seed, word.as_str(), later)),
+    }
+}
+
+/// The digits behind a parameter's name: behind `=`, or else the next word.
+fn value_behind<'a>(
+    parameter: Parameter,
+    behind: &'a str,
+    later: &'a [String],
+) -> Option<(Parameter, &'a str, &'a [String])>
+    ensures value { option_map (λ found. (found.0, found.1.now, map string_bytes found.2.now)) result
+        ≡ value_at parameter behind.now (map string_bytes later.now) }
+    ensures shorter { IfSome result (λ found. length found.2.now ≤ length later.now) }
+{
+    if behind.is_empty() {
+        let [digits, rest @ ..] = later else {
+            return None;
+        };
+        return Some((parameter, digits.as_str(), rest));
+    }
+    let digits = behind.strip_prefix("=")?;
+    Some((parameter, digits, later))
+}
+
+/// The number that 1 to 10 decimal digits write, and nothing else does.
+fn number(text: &str) -> Option<u64>
+    ensures cases { MatchOption result ((n : ℕ) → ¬ IsNumber text.now n) (IsNumber text.now) }
+{
+    if text.len() > 10 || text.starts_with('+') {
+        return None;
+    }
+    text.parse::<u64>().ok()
+}
+
+/// The choice that the first words make, of a parameter that the command has, and the words behind it.
+fn first_choice(signature: Signature, words: &[String]) -> Option<(Choice, &[String])>
+    ensures cases { MatchOption result
+        ((choice : Choice) (rest : List (List ℕ)) → ¬ BeginsWith (rows_of signature) choice (map string_bytes words.now) rest)
+        (λ found. BeginsWith (rows_of signature) found.0 (map string_bytes words.now) (map string_bytes found.1.now)) }
+    ensures shorter { IfSome result (λ found. length found.1.now < length words.now) }
+{
+    let (parameter, digits, rest) = first_number(words)?;
+    let value = number(digits)?;
+    signature.row(parameter)?;
+    Some((Choice { parameter, value }, rest))
+}
+
+/// The numbers that all these words choose for a command.
+pub(crate) fn chosen_in(signature: Signature, words: &[String]) -> Option<Chosen>
+    ensures cases { MatchOption result
+        ((after : List (Option ℕ)) → ¬ Choose (rows_of signature) (map string_bytes words.now) nothing after)
+        (λ chosen. Choose (rows_of signature) (map string_bytes words.now) nothing chosen.values) }
+{
+    let mut chosen = Chosen {
+        values: [None; PARAMETERS],
+    };
+    let mut rest = words;
+    while !rest.is_empty() {
+        let (choice, behind) = first_choice(signature, rest)?;
+        chosen = chosen.with(choice)?;
+        rest = behind;
+    }
+    Some(chosen)
+}
+
+impl Chosen {
+    /// With one more choice, unless its parameter has a value.
+    fn with(self, choice: Choice) -> Option<Chosen>
+        ensures cases { MatchOption result
+            (slice_get self.values (place_of choice.parameter) ≢ Some None)
+            (λ chosen. (slice_get self.values (place_of choice.parameter) ≡ Some None)
+            × (chosen.values ≡ slice_set self.values (place_of choice.parameter) (Some choice.value))) }
+    {
+        let place = choice.parameter.place();
+        let mut values = self.values;
+        if values[place].is_some() {
+            return None;
+        }
+        values[place] = Some(choice.value);
+        Some(Chosen { values })
+    }
+
+    /// The value of a command's parameter: the chosen one, or else the default, and in its range.
+    pub fn value(self, signature: Signature, parameter: Parameter) -> Option<u64>
+        ensures cases { MatchOption result
+            ((value : ℕ) → ¬ IsSomeAnd (row_in (rows_of signature) parameter) (λ row. IsValue self.values row value))
+            (λ value. IsSomeAnd (row_in (rows_of signature) parameter) (λ row. IsValue self.values row value)) }
+    {
+        let row = signature.row(parameter)?;
+        let value = self.values[row.parameter.place()].or(row.default)?;
+        if row.least <= value && value <= row.most {
+            Some(value)
+        } else {
+            None
+        }
+    }
+}

@@ -1,0 +1,2 @@
+-- What follows of gathered texts.
+pub mod Gathered

@@ -1,0 +1,2 @@
+-- How lines are gathered.
+pub mod Gathering

@@ -1,0 +1,5 @@
+pub mod CutLaws
+pub mod TextLaws
+pub mod StripLaws
+mod DigitLaws
+pub mod WorkedTexts

@@ -1,0 +1,23 @@
+//! A text cut into lines, for the readers of line-based texts.
+//!
+//! ```rust
+//! let (line, rest) = first_line(b"at 5 uart 0x41\r\n# inputs");
+//! assert_eq!(rt; line, b"at 5 uart 0x41");
+//! assert_eq!(rt; rest, b"# inputs");
+//! ```
+//!
+//! A line ends with a line feed, and one carriage return before it is dropped too; the text's end ends a
+//! last line. [`first_line`] gives a text's first line, so that a reader goes on over the rest while it
+//! isn't empty, and knows by the length of the rest where it is; [`split_once`] cuts a line further, and
+//! [`value_of`] reads a number's digits.
+//!
+//! `specs/Lines.antt` says which lines a text has, and `specs/Stripping.antt` what stands in a line or a word behind its
+//! front, for the readers of words. Laws for the layers above: what a text's first line leaves (`proofs/CutLaws.antt`), that
+//! the lines of a text make up the text (`proofs/TextLaws.antt`), and which texts have a front (`proofs/StripLaws.antt`).
+#![tactic(auto)]
+
+mod cut;
+mod digits;
+
+pub use cut::{first_line, split_once};
+pub use digits::value_of;

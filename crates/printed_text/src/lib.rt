@@ -1,0 +1,34 @@
+//! All lines that the program prints.
+//!
+//! ```rust
+//! let line = device_line(Line { port: Port::PortA, value: 0x0F });
+//! assert_eq!(rt; line.as_slice(), b"PORTA 0x0F\n".as_slice());
+//!
+//! let line = bad_hex_line(3, HexFault::Digit);
+//! assert_eq!(rt; line.as_slice(), b"bad hex line 3 digit\n".as_slice());
+//! ```
+//!
+//! What a line says is defined in `specs/`, in a file for each kind: `DeviceLines`, `Ends` and `StopLines` (how the original
+//! program's run ends, and the machine's), `TaskTexts`, `Counts`, `RestartLines`, `Verdicts`, `FaultyLines` and `PlainLines`.
+//! Lines are made of the pieces of crate `line_writer`, whose `specs/Pieces` has the name of a task too, which is read in
+//! scripts as it is printed. When a line is printed is told by the crates above, and so is the dump of a flash and the HEX
+//! text of a source, which are read as well.
+#![tactic(auto)]
+
+mod device;
+mod fault;
+mod last;
+mod plain;
+mod restart;
+mod stop;
+mod task;
+mod verdict;
+
+pub use device::device_line;
+pub use fault::{bad_asm_line, bad_dump_line, bad_hex_line, bad_image_line, bad_script_line};
+pub use last::{counts, task_counts};
+pub use plain::{NO_MEMORY, no_memory_line, read_fault_line, too_long_line, usage_line};
+pub use restart::restart_line;
+pub use stop::stop_line;
+pub use task::{task_line, task_stop};
+pub use verdict::verdict_text;

@@ -1,4 +1,0 @@
-pub mod CutLaws
-pub mod TextLaws
-mod DigitLaws
-pub mod WorkedTexts

@@ -1,4 +1,0 @@
--- The lines of a text.
-pub mod Lines
-pub mod Cutting
-pub mod Written

@@ -1,0 +1,206 @@
+-- The acts of a run, step by step, of its moves.
+use Rattle.std.proofs.Common.{◌≡◌, ℕ, zero, suc, ◌+◌, ◌≤◌, Bool, true, List, [], ◌∷◌, ◌++◌, map, length, refl, sym, ap, ◌∙◌, subst, arith, inl, inr}
+use Rattle.std.specs.Prelude.{Option, Some, None}
+use Rattle.std.proofs.lemmas.Bool.{and_parts}
+use Rattle.sram_layout.specs.Bytes.{byte_at, data_word_at}
+use Rattle.flash_words.specs.Layouts.{layout_of, image_of, IsRight}
+use Rattle.flash_words.proofs.LayoutLaws.{layout_right}
+use Rattle.flat_machine.specs.FlatMachine.{Moment}
+use Rattle.mote_devices.specs.declared.line.Line.{Line}
+use Rattle.page_index.specs.Entries.{IsEntry}
+use Rattle.nat_page.specs.Faithful.{IsFaithful}
+use Rattle.nat_page.proofs.FaithfulLaws.{faithful_mapped}
+use Rattle.branch_bridge.specs.declared.arrival.Refused.{Refused as BridgeRefused}
+use Rattle.branch_bridge.specs.Operating.{with_torn}
+use Rattle.kernel_entry.specs.Parts.{image_held}
+use Rattle.kernel_entry.specs.declared.kernel.Owed.{Owed}
+use Rattle.step_laws.specs.Moves.{Inner, Plain, Serve, Move, Begin, Within, Arrive, Take, count_plain, count_serve}
+use Rattle.step_laws.specs.Numbers.{one_if}
+use Rattle.step_laws.specs.States.{State, Awaited, mote_of, end_by, settled_by, placed, with_store}
+use Rattle.step_laws.specs.StepLaws.{Reaches}
+use Rattle.step_laws.specs.Walks.{Walk, MakesArrive, MakesTake}
+use Rattle.program_steps.specs.Machines.{Machine, state_of, awaited, awaits}
+use Rattle.program_steps.specs.Ready.{IsGoing}
+use Rattle.program_steps.specs.Stepping.{links_in}
+use Rattle.program_steps.specs.Stepping as stepping
+use Rattle.tk_run.specs.Running.{StandsAfter, StepsTo}
+use Rattle.tk_run.specs.Running as running
+use Rattle.theorem_reader.specs.Acts.{Act, Arrival, steps_in, services_in}
+use Rattle.theorem_reader.specs.Memory.{HasMemory, HasState}
+use Rattle.theorem_reader.specs.Pools.{IsPlaceOf}
+use Rattle.theorem_reader.specs.Steps.{AreOwn, AreOfStep, Interrupted, There, Arriving, GoByStep, AreUnmade, Nothing, Refused, Stopped, IsByStep}
+use Rattle.theorem_reader.proofs.Acting.{act_of, acts_of, Holds, follow}
+use Rattle.theorem_reader.proofs.Holding.{has_memory}
+use Rattle.theorem_reader.proofs.Pooling.{place_is}
+
+-- Walks. --------------------------------------------------------------------------------------------------
+
+-- moves that are the same have the same acts
+acts_as : (x z : State) (Are : List Act → Type 0) (moves moves' : List Move) → moves ≡ moves' → ((walk : Walk x moves' z) → Are (acts_of x moves' z walk)) → (walk : Walk x moves z) → Are (acts_of x moves z walk)
+acts_as x z Are moves moves' same all = subst (λ ms. (walk : Walk x ms z) → Are (acts_of x ms z walk)) (sym same) all
+
+-- walks that follow one another
+acts_join : (x y z : State) (ms ns : List Move) (first : Walk x ms y) (second : Walk y ns z) → (walk : Walk x (ms ++ ns) z) × (acts_of x (ms ++ ns) z walk ≡ acts_of x ms y first ++ acts_of y ns z second)
+acts_join x y z [] ns first second = subst (λ (s : State). (walk : Walk s ns z) × (acts_of s ns z walk ≡ acts_of y ns z second)) (sym first) (second, refl)
+acts_join x y z (m ∷ ms) ns first second =
+    let later = acts_join first.0 y z ms ns first.2 second in
+    ((first.0, first.1, later.0), ap (λ acts. act_of m (mote_of x) (mote_of first.0) ∷ acts) later.1)
+
+-- The acts of one step. -----------------------------------------------------------------------------------
+
+record Counted (rest : List Inner) (acts : List Act) : Type 0 where
+  steps : steps_in acts ≡ count_plain rest
+  services : services_in acts ≡ count_serve rest
+  alone : length acts ≡ steps_in acts + services_in acts
+
+counted : (x z : State) (rest : List Inner) (walk : Walk x (map Within rest) z) → Counted rest (acts_of x (map Within rest) z walk)
+counted x z [] walk = record { steps = refl; services = refl; alone = refl }
+counted x z (Plain line ∷ rest) walk =
+    let later = counted walk.0 z rest walk.2 in
+    record { steps = ap suc later.steps; services = later.services; alone = omega (arith, later.alone) }
+counted x z (Serve line stops ∷ rest) walk =
+    let later = counted walk.0 z rest walk.2 in
+    record { steps = later.steps; services = ap suc later.services; alone = omega (arith, later.alone) }
+
+own_acts : (x z : State) (line : Option Line) (rest : List Inner) → count_plain rest ≤ 39 → count_serve rest ≤ 2 → (walk : Walk x (Begin line ∷ map Within rest) z) → AreOwn (acts_of x (Begin line ∷ map Within rest) z walk)
+own_acts x z line rest few serves walk =
+    let later = counted walk.0 z rest walk.2 in
+    record { alone = omega (arith, later.alone); some = omega arith; steps = omega (arith, later.steps, few); services = omega (arith, later.services, serves) }
+
+-- an interrupt that is taken is due
+due_of : (owed : Option Owed) (due : Bool) (w : Awaited) → awaited owed due ≡ Some w → w.due ≡ due
+due_of None due w is = absurd (cc)
+due_of (Some owed) due w is = let e : record { target = owed.target; stub = owed.stub; due = due } ≡ w = cc in ap (λ (v : Awaited). v.due) (sym e)
+
+take_due : (y : Machine) (z : State) (stops : Bool) → MakesTake (state_of y) stops z → y.due ≡ true
+take_due y z stops makes = sym (due_of y.owed y.due makes.owed makes.owes) ∙ (and_parts _ _ makes.taken_now).0
+
+-- and none is taken behind an arrival
+none_owed : (s : State) (refused : Option BridgeRefused) (w : Awaited) → (settled_by s refused).owed ≡ Some w → (settled_by s refused).end ≡ None → ⊥
+none_owed s None w owes going = absurd (let e : None ≡ Some w = owes in cc)
+none_owed s (Some refused) w owes going = absurd (let e : Some (end_by refused.why) ≡ None = going in cc)
+
+none_taken : (x y z : State) (target ops : ℕ) (made stops : Bool) → MakesArrive x target made ops y → MakesTake y stops z → ⊥
+none_taken x y z target ops made stops arrives makes =
+    none_owed (placed (with_store x arrives.store) arrives.arrival.place) arrives.arrival.refused makes.owed
+    (sym (ap (λ (s : State). s.owed) arrives.after) ∙ makes.owes) (sym (ap (λ (s : State). s.end) arrives.after) ∙ makes.going)
+
+-- where control stands, if no arrival is owed
+place_by : (image : List ℕ) (y : Machine) (t : ℕ) (due : Bool) → Holds image (state_of y) → IsGoing y → (state_of y).owed ≡ None → Reaches (links_in y) t due (state_of y) → IsPlaceOf image y.kernel.mote.flash.words t y.kernel.mote.cpu.pc
+place_by image y t due holds ready free (Reaches.Placed undue none enters) =
+    let l = layout_of (length image) in
+    let words = y.kernel.mote.flash.words in
+    let whole : IsFaithful y.kernel.layout (image_held y.kernel) words = subst (λ torn. IsFaithful y.kernel.layout (image_held y.kernel) (with_torn words torn)) ready.untorn ready.order.faithful in
+    let code : IsFaithful l image words = subst (λ i. IsFaithful l i words) holds.held (subst (λ k. IsFaithful k (image_of k words) words) holds.laid whole) in
+    let few = (subst IsRight holds.laid ready.order.right).image_fits in
+    place_is image words t y.kernel.mote.cpu.pc (faithful_mapped l image words (layout_right (length image) few) code) (subst (λ k. IsEntry k words t y.kernel.mote.cpu.pc) holds.laid enters.0)
+place_by image y t due holds ready free (Reaches.Owing stub alone owes leads) = absurd (let e : Some (record { target = t; stub = stub; due = due }) ≡ None = sym owes ∙ free in cc)
+
+-- where it stands in the original program
+at_is : (at : ℕ → Moment) (n : ℕ) (y : Machine) → StandsAfter at n y → y.at ≡ (at n).now.cpu.pc
+at_is at n y stands = ap (λ (s : Moment). s.now.cpu.pc) stands.stands
+
+own_here : (image : List ℕ) (at : ℕ → Moment) (n : ℕ) (y : Machine) (z : State) (own : List Move) → Holds image (state_of y) → StandsAfter at n y → stepping.AreOwn own
+    → (walk : Walk (state_of y) own z) → AreOfStep image (at n) (mote_of (state_of y)) (acts_of (state_of y) own z walk)
+own_here image at n y z own holds stands (stepping.Taking stops is) =
+    acts_as (state_of y) z (AreOfStep image (at n) (mote_of (state_of y))) own (Take stops ∷ []) is
+    (λ walk. Interrupted (mote_of walk.0) refl (sym (ap (λ (s : Moment). s.due) stands.stands) ∙ take_due y walk.0 stops walk.1))
+own_here image at n y z own holds stands (stepping.Making line rest is few serves) =
+    acts_as (state_of y) z (AreOfStep image (at n) (mote_of (state_of y))) own (Begin line ∷ map Within rest) is
+    (λ walk. There (subst (λ t. IsPlaceOf image y.kernel.mote.flash.words t y.kernel.mote.cpu.pc) (at_is at n y stands) (place_by image y y.at (awaits y) holds stands.ready walk.1.free stands.ready.stands)) (own_acts (state_of y) z line rest few serves walk))
+
+own_behind : (x y z : State) (target ops : ℕ) (made : Bool) (own : List Move) → MakesArrive x target made ops y → stepping.AreOwn own → (walk : Walk y own z) → AreOwn (acts_of y own z walk)
+own_behind x y z target ops made own arrives (stepping.Taking stops is) = acts_as y z AreOwn own (Take stops ∷ []) is (λ walk. absurd (none_taken x y walk.0 target ops made stops arrives walk.1))
+own_behind x y z target ops made own arrives (stepping.Making line rest is few serves) = acts_as y z AreOwn own (Begin line ∷ map Within rest) is (own_acts y z line rest few serves)
+
+step_acts : (image : List ℕ) (at : ℕ → Moment) (n : ℕ) (y : Machine) (z : State) (arrival own : List Move) → Holds image (state_of y) → StandsAfter at n y → stepping.IsArrival y.at arrival → stepping.AreOwn own
+    → (walk : Walk (state_of y) (arrival ++ own) z) → AreOfStep image (at n) (mote_of (state_of y)) (acts_of (state_of y) (arrival ++ own) z walk)
+step_acts image at n y z arrival own holds stands (stepping.NoArrival none) makes =
+    acts_as (state_of y) z (AreOfStep image (at n) (mote_of (state_of y))) (arrival ++ own) own (ap (λ ms. ms ++ own) none) (own_here image at n y z own holds stands makes)
+step_acts image at n y z arrival own holds stands (stepping.OneArrival made ops one) makes =
+    acts_as (state_of y) z (AreOfStep image (at n) (mote_of (state_of y))) (arrival ++ own) (Arrive y.at made ops ∷ own) (ap (λ ms. ms ++ own) one)
+    (λ walk. Arriving (one_if made) ops (mote_of walk.0) (acts_of walk.0 own z walk.2)
+    (ap (λ t. Arrival t (one_if made) ops (mote_of (state_of y)) (mote_of walk.0) ∷ acts_of walk.0 own z walk.2) (at_is at n y stands)) (own_behind (state_of y) walk.0 z y.at ops made own walk.1 makes walk.2))
+
+-- .. and of one that isn't made
+unmade_alone : (image : List ℕ) (at : ℕ → Moment) (n : ℕ) (y : Machine) (z : State) (arrival own : List Move) → StandsAfter at n y → own ≡ [] → stepping.IsArrival y.at arrival
+    → (walk : Walk (state_of y) (arrival ++ own) z) → AreUnmade image (at n) (mote_of (state_of y)) (acts_of (state_of y) (arrival ++ own) z walk)
+unmade_alone image at n y z arrival own stands nothing (stepping.NoArrival none) =
+    let same : arrival ++ own ≡ [] = ap (λ ms. ms ++ own) none ∙ nothing in
+    acts_as (state_of y) z (AreUnmade image (at n) (mote_of (state_of y))) (arrival ++ own) [] same (λ walk. Nothing refl)
+unmade_alone image at n y z arrival own stands nothing (stepping.OneArrival made ops one) =
+    let same : arrival ++ own ≡ Arrive y.at made ops ∷ [] = ap (λ ms. ms ++ own) one ∙ ap (λ ms. Arrive y.at made ops ∷ ms) nothing in
+    acts_as (state_of y) z (AreUnmade image (at n) (mote_of (state_of y))) (arrival ++ own) (Arrive y.at made ops ∷ []) same
+    (λ walk. Refused (one_if made) ops (mote_of walk.0) (ap (λ t. Arrival t (one_if made) ops (mote_of (state_of y)) (mote_of walk.0) ∷ []) (at_is at n y stands)))
+
+unmade_acts : (image : List ℕ) (at : ℕ → Moment) (n : ℕ) (y : Machine) (z : State) (rest : List Move) → Holds image (state_of y) → StandsAfter at n y → stepping.AreOfStep y.at rest
+    → (walk : Walk (state_of y) rest z) → AreUnmade image (at n) (mote_of (state_of y)) (acts_of (state_of y) rest z walk)
+unmade_acts image at n y z rest holds stands of_step =
+    acts_as (state_of y) z (AreUnmade image (at n) (mote_of (state_of y))) rest (of_step.arrival ++ of_step.own) of_step.parts (λ walk. elim of_step.makes [
+      | inl nothing ↦ unmade_alone image at n y z of_step.arrival of_step.own stands nothing of_step.arrives walk
+      | inr makes ↦ Stopped (step_acts image at n y z of_step.arrival of_step.own holds stands of_step.arrives makes walk)
+    ])
+
+-- A run. --------------------------------------------------------------------------------------------------
+
+state_held : (at : ℕ → Moment) (n : ℕ) (y : Machine) → StandsAfter at n y → HasState (at n).now (mote_of (state_of y))
+unfolding data_word_at byte_at
+state_held at n y stands =
+    let same = stands.stands in
+    record {
+      registers = ap (λ (s : Moment). s.now.cpu.r) same;
+      status = ap (λ (s : Moment). s.now.cpu.sreg) same;
+      pointer = ap (λ (s : Moment). s.now.cpu.sp) same;
+      memory = subst (HasMemory y.kernel.mote) (ap (λ (s : Moment). s.now.memory) same) (has_memory y.kernel.mote stands.ready.order.paged);
+      devices = ap (λ (s : Moment). s.now.devices) same;
+    }
+
+record Led (image : List ℕ) (at : ℕ → Moment) (start : Machine) (n : ℕ) (moves : List Move) (z : Machine) : Type 0 where
+  walk : Walk (state_of start) moves (state_of z)
+  go : GoByStep image at (mote_of (state_of start)) n (acts_of (state_of start) moves (state_of z) walk) (mote_of (state_of z))
+  holds : Holds image (state_of z)
+
+led : (image : List ℕ) (at : ℕ → Moment) (start : Machine) (n : ℕ) (moves : List Move) (z : Machine) → Holds image (state_of start) → StepsTo at start n moves z → Led image at start n moves z
+led image at start zero moves z holds (same, none) =
+    subst (λ ms. Led image at start 0 ms z) (sym none) (subst (λ (m : Machine). Led image at start 0 [] m) same (record { walk = refl; go = (refl, refl); holds = holds }))
+led image at start (suc n) moves z holds (y, before, arrival, own, lines, all, steps, stands, arrives, makes, goes) =
+    let earlier = led image at start n before y holds steps in
+    let joined = acts_join (state_of start) (state_of y) (state_of z) before (arrival ++ own) earlier.walk goes.walk in
+    let next = follow image (state_of y) (arrival ++ own) (state_of z) goes.walk earlier.holds in
+    subst (λ ms. Led image at start (suc n) ms z) (sym all) (record {
+      walk = joined.0;
+      go = (
+        mote_of (state_of y),
+        acts_of (state_of start) before (state_of y) earlier.walk,
+        acts_of (state_of y) (arrival ++ own) (state_of z) goes.walk,
+        joined.1,
+        earlier.go,
+        state_held at n y stands,
+        step_acts image at n y (state_of z) arrival own earlier.holds stands arrives makes goes.walk,
+        next.follow,
+      );
+      holds = next.holds;
+    })
+
+-- the moves of a run as acts, step by step
+pub record Paced (image : List ℕ) (at : ℕ → Moment) (start : Machine) (n : ℕ) (moves : List Move) (z : Machine) : Type 0 where
+  pub walk : Walk (state_of start) moves (state_of z)
+  pub by_step : IsByStep image at (mote_of (state_of start)) (acts_of (state_of start) moves (state_of z) walk) n (mote_of (state_of z))
+
+pub paced : (image : List ℕ) (at : ℕ → Moment) (start : Machine) (n : ℕ) (moves : List Move) (z : Machine) → Holds image (state_of start) → running.IsByStep at start z n moves → Paced image at start n moves z
+paced image at start n moves z holds is =
+    let earlier = led image at start n is.before is.last holds is.steps in
+    let joined = acts_join (state_of start) (state_of is.last) (state_of z) is.before is.behind earlier.walk is.goes.walk in
+    subst (λ ms. Paced image at start n ms z) (sym is.all) (record {
+      walk = joined.0;
+      by_step = record {
+        last = mote_of (state_of is.last);
+        earlier = acts_of (state_of start) is.before (state_of is.last) earlier.walk;
+        rest = acts_of (state_of is.last) is.behind (state_of z) is.goes.walk;
+        all = joined.1;
+        steps = earlier.go;
+        state = state_held at n is.last is.stands;
+        unmade = unmade_acts image at n is.last (state_of z) is.behind earlier.holds is.stands is.of_step is.goes.walk;
+        follow = (follow image (state_of is.last) is.behind (state_of z) is.goes.walk earlier.holds).follow;
+      };
+    })

@@ -1,6 +1,0 @@
-use Rattle.tk_request.specs.RestartCommand.{RestartAsks}
-use Rattle.tk_request.proofs.Judging.{judged_text}
-use Rattle.tk_request.proofs.restart_command.restart_job.Goals as goal
-
-pub returns-in-Ok-clause-asks : goal.returns-in-Ok-clause-asks
-returns-in-Ok-clause-asks g c = judged_text (RestartAsks c.args.options) _ _ _ _ _ c.deref.ensures.value c.in-Ok.ensures.read c.text_job.ensures.asks
