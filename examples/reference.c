@@ -3,11 +3,15 @@
 // that has no part in common with tkernel, neither code nor authors of the instructions.
 //
 //     cc -O2 -o reference reference.c -lsimavr -lelf
-//     ./reference STEPS QUANTUM HEX-FILE [SCRIPT-FILE]
+//     ./reference [--watch FOLDER] STEPS QUANTUM HEX-FILE [SCRIPT-FILE]
+//
+// Into the files lines, state, memory and profile of FOLDER it writes what the views of tkwatch are to show before the stop
+// line: of `state` all but how many slots there are, and the operations on flash.
 //
 // It knows the ends halted, asleep, spent, wild, io and stack, and no bound of pages stored to.
 // It makes no pages, so lines of failing flash in the script say nothing to it.
 
+#include <limits.h>
 #include <simavr/sim_avr.h>
 #include <simavr/sim_core.h>
 #include <simavr/sim_hex.h>
@@ -25,15 +29,33 @@ struct event {
 };
 
 static struct event events[EVENTS];
-static int event_count, next_event;
-static unsigned long polls;
+static int event_count;
+static uint8_t received[EVENTS];
 
-static uint8_t received[EVENTS], pins[4];
-static int received_count, received_taken;
-static unsigned converted;
-static unsigned pending; // bit k: an int k that came and was not taken
+// What came of the script, and was read.
+struct inputs {
+    unsigned long polls;
+    int next_event, received_count, received_taken;
+    unsigned converted;
+    unsigned pending; // bit k: an int k that came and was not taken
+    uint8_t pins[4];
+};
+static struct inputs in;
+
+// What an instruction that stops the program may have changed of the core and its registers.
+struct core {
+    struct inputs in;
+    avr_flashaddr_t pc;
+    uint8_t data[0x100], sreg[8];
+};
 
 static int refused = -1; // the device register that the last step would have touched and may not
+
+// What is watched.
+static FILE *told_lines;              // each line behind its step, where this is asked for
+static unsigned long steps;           // that were done
+static unsigned long begun[0x10000];  // how many steps began at each word address
+static bool stored[0x100];            // the pages of 256 bytes that were stored to
 
 // A device register: whether it is read by a poll, read or written at all, and the name of its lines.
 static const struct device {
@@ -63,37 +85,42 @@ static const struct device *device_at(unsigned address) {
 }
 
 static void take_events(void) {
-    for (; next_event < event_count && events[next_event].poll <= polls; next_event++) {
-        const struct event *event = &events[next_event];
+    for (; in.next_event < event_count && events[in.next_event].poll <= in.polls; in.next_event++) {
+        const struct event *event = &events[in.next_event];
         if (strcmp(event->kind, "uart") == 0) {
-            received[received_count++] = event->value;
+            received[in.received_count++] = event->value;
         } else if (strcmp(event->kind, "adc") == 0) {
-            converted = event->value;
+            in.converted = event->value;
         } else if (strcmp(event->kind, "int") == 0) {
-            pending |= 1u << event->value;
+            in.pending |= 1u << event->value;
         } else {
-            pins[event->kind[3] - 'a'] = event->value;
+            in.pins[event->kind[3] - 'a'] = event->value;
         }
     }
 }
 
 static void poll(void) {
-    polls++;
+    in.polls++;
     take_events();
 }
 
 static unsigned enabled(const avr_t *avr) {
-    return pending & avr->data[EIMSK_ADDRESS];
+    return in.pending & avr->data[EIMSK_ADDRESS];
 }
 
-// Whether the part goes on behind a SLEEP: the count of polls rises to the next event that wakes it.
+// Whether the part goes on behind a SLEEP: the count of polls rises to the next event that wakes it. If not, nothing changes.
 static bool wakes(const avr_t *avr) {
-    while (!enabled(avr) && next_event < event_count) {
-        unsigned long at = events[next_event].poll;
-        polls = at > polls ? at : polls;
+    struct inputs before = in;
+    while (!enabled(avr) && in.next_event < event_count) {
+        unsigned long at = events[in.next_event].poll;
+        in.polls = at > in.polls ? at : in.polls;
         take_events();
     }
-    return avr->sreg[S_I] && enabled(avr);
+    if (avr->sreg[S_I] && enabled(avr)) {
+        return true;
+    }
+    in = before;
+    return false;
 }
 
 static uint8_t on_read(avr_t *avr, avr_io_addr_t address, void *unused) {
@@ -106,16 +133,16 @@ static uint8_t on_read(avr_t *avr, avr_io_addr_t address, void *unused) {
         poll();
     }
     switch (address) {
-    case 0x24: return converted & 0xFF;
-    case 0x25: return converted >> 8;
+    case 0x24: return in.converted & 0xFF;
+    case 0x25: return in.converted >> 8;
     case 0x26: return (avr->data[address] & ~0x40) | 0x10;
-    case 0x2B: return received_taken < received_count ? 0xA0 : 0x20;
-    case 0x2C: return received_taken < received_count ? received[received_taken++] : 0;
-    case 0x30: return pins[3];
-    case 0x33: return pins[2];
-    case 0x36: return pins[1];
-    case 0x39: return pins[0];
-    case 0x52: return polls & 0xFF;
+    case 0x2B: return in.received_taken < in.received_count ? 0xA0 : 0x20;
+    case 0x2C: return in.received_taken < in.received_count ? received[in.received_taken++] : 0;
+    case 0x30: return in.pins[3];
+    case 0x33: return in.pins[2];
+    case 0x36: return in.pins[1];
+    case 0x39: return in.pins[0];
+    case 0x52: return in.polls & 0xFF;
     default: return avr->data[address];
     }
 }
@@ -128,6 +155,9 @@ static void on_write(avr_t *avr, avr_io_addr_t address, uint8_t value, void *unu
     }
     if (device->line != NULL) {
         printf("%s 0x%02X\n", device->line, value);
+        if (told_lines != NULL) {
+            fprintf(told_lines, "step %lu %s 0x%02X\n", steps + 1, device->line, value);
+        }
     }
     avr->data[address] = value;
 }
@@ -175,12 +205,69 @@ static void interrupt(avr_t *avr) {
     push(avr, pc & 0xFF);
     push(avr, pc >> 8);
     avr->sreg[S_I] = 0;
-    pending &= ~(1u << number);
+    in.pending &= ~(1u << number);
     avr->pc = 4 * (number + 1);
 }
 
+static struct core core_of(const avr_t *avr) {
+    struct core core = {.in = in, .pc = avr->pc};
+    memcpy(core.data, avr->data, sizeof core.data);
+    memcpy(core.sreg, avr->sreg, sizeof core.sreg);
+    return core;
+}
+
+static void put_back(avr_t *avr, const struct core *core) {
+    in = core->in;
+    avr->pc = core->pc;
+    memcpy(avr->data, core->data, sizeof core->data);
+    memcpy(avr->sreg, core->sreg, sizeof core->sreg);
+}
+
+static unsigned pair(const avr_t *avr, unsigned low) {
+    return avr->data[low] | avr->data[low + 1] << 8;
+}
+
+// The data address that this instruction stores to, or 0: by the encodings of ST, STD and STS. A PUSH or a call stores to
+// the stack window.
+static unsigned store_address(const avr_t *avr, unsigned pc) {
+    unsigned word = word_at(avr, pc), offset = (word & 7) | (word >> 7 & 0x18) | (word >> 8 & 0x20);
+    if ((word & 0xD208) == 0x8200 || (word & 0xD208) == 0x8208) {
+        return (pair(avr, word & 8 ? 28 : 30) + offset) & 0xFFFF;
+    }
+    if ((word & 0xFE00) != 0x9200) {
+        return 0;
+    }
+    switch (word & 15) {
+    case 0x0: return word_at(avr, pc + 1);
+    case 0x1: return pair(avr, 30);
+    case 0x2: return (pair(avr, 30) - 1) & 0xFFFF;
+    case 0x9: return pair(avr, 28);
+    case 0xA: return (pair(avr, 28) - 1) & 0xFFFF;
+    case 0xC:
+    case 0xD: return pair(avr, 26);
+    case 0xE: return (pair(avr, 26) - 1) & 0xFFFF;
+    default: return 0;
+    }
+}
+
+static bool is_heap(unsigned address) {
+    return address >= 0x100 && (address < WINDOW_FIRST || address > WINDOW_LAST);
+}
+
+// Executes the instruction at this address. Where it may not be, nothing changes.
+static void execute(avr_t *avr, unsigned pc) {
+    struct core before = core_of(avr);
+    unsigned to = store_address(avr, pc);
+    avr->pc = word_at(avr, pc) == SLEEP ? avr->pc + 2 : avr_run_one(avr);
+    if (refused >= 0) {
+        put_back(avr, &before);
+    } else if (is_heap(to)) {
+        stored[to / 0x100] = true;
+    }
+}
+
 static void run(avr_t *avr, unsigned image_words, unsigned long bound, unsigned long quantum) {
-    unsigned long steps = 0, crossings = 0;
+    unsigned long crossings = 0;
     bool due = false; // a checkpoint, or the end of a sleep, was the last step
     for (;;) {
         unsigned pc = avr->pc / 2, word = word_at(avr, pc), next;
@@ -193,6 +280,7 @@ static void run(avr_t *avr, unsigned image_words, unsigned long bound, unsigned 
         } else if (interrupts && outside < 0) {
             interrupt(avr);
             due = false;
+            begun[pc]++;
             steps++;
             continue;
         } else if (!interrupts && word == SLEEP && !wakes(avr)) {
@@ -202,10 +290,11 @@ static void run(avr_t *avr, unsigned image_words, unsigned long bound, unsigned 
         } else if (outside >= 0) {
             printf("fault stack 0x%04X address 0x%04X", pc, outside);
         } else {
-            avr->pc = word == SLEEP ? avr->pc + 2 : avr_run_one(avr);
+            execute(avr, pc);
             next = avr->pc / 2;
             if (refused < 0) {
                 bool crosses = next <= pc || next / 128 != pc / 128;
+                begun[pc]++;
                 steps++;
                 crossings += crosses;
                 due = word == SLEEP || (crosses && crossings % quantum == 0);
@@ -216,6 +305,59 @@ static void run(avr_t *avr, unsigned image_words, unsigned long bound, unsigned 
         printf(" steps %lu checkpoints %lu\n", steps, crossings / quantum);
         return;
     }
+}
+
+static FILE *file_in(const char *folder, const char *name) {
+    char path[PATH_MAX];
+    snprintf(path, sizeof path, "%s/%s", folder, name);
+    FILE *file = fopen(path, "w");
+    if (file == NULL) {
+        exit(1);
+    }
+    return file;
+}
+
+static void tell_state(const avr_t *avr, FILE *out) {
+    unsigned sreg = 0, pages = 0;
+    for (unsigned i = 0; i < 8; i++) {
+        sreg |= avr->sreg[i] << i;
+    }
+    for (unsigned i = 0; i < 0x100; i++) {
+        pages += stored[i];
+    }
+    fprintf(out, "pc 0x%04X\nsp 0x%04X\nsreg 0x%02X\n", avr->pc / 2, stack_pointer(avr), sreg);
+    for (unsigned i = 0; i < 32; i++) {
+        fprintf(out, "r%u 0x%02X\n", i, avr->data[i]);
+    }
+    fprintf(out, "polls %lu\nevents %d of %d\nslots %u\n", in.polls, in.next_event, event_count, pages);
+    fprintf(out, "enabled 0x%02X\nrequested 0x%02X\n", avr->data[EIMSK_ADDRESS], in.pending);
+}
+
+static void tell_memory(const avr_t *avr, FILE *out) {
+    static const uint8_t empty[16];
+    for (unsigned row = 0x100; row < 0x10000; row += 16) {
+        if (memcmp(avr->data + row, empty, 16) != 0) {
+            fprintf(out, "0x%04X", row);
+            for (unsigned i = 0; i < 16; i++) {
+                fprintf(out, " 0x%02X", avr->data[row + i]);
+            }
+            fprintf(out, "\n");
+        }
+    }
+}
+
+static void tell_profile(FILE *out) {
+    for (unsigned i = 0; i < 0x10000; i++) {
+        if (begun[i] > 0) {
+            fprintf(out, "0x%04X %lu\n", i, begun[i]);
+        }
+    }
+}
+
+static void tell_what_is_left(const avr_t *avr, const char *folder) {
+    tell_state(avr, file_in(folder, "state"));
+    tell_memory(avr, file_in(folder, "memory"));
+    tell_profile(file_in(folder, "profile"));
 }
 
 static avr_t *mote(void) {
@@ -245,6 +387,12 @@ static void read_script(const char *name) {
 }
 
 int main(int count, char **words) {
+    const char *folder = count > 2 && strcmp(words[1], "--watch") == 0 ? words[2] : NULL;
+    if (folder != NULL) {
+        told_lines = file_in(folder, "lines");
+        words += 2;
+        count -= 2;
+    }
     ihex_chunk_p chunks;
     avr_t *avr = mote();
     unsigned bytes = 0;
@@ -261,4 +409,7 @@ int main(int count, char **words) {
         read_script(words[4]);
     }
     run(avr, (bytes + 1) / 2, strtoul(words[1], NULL, 10), strtoul(words[2], NULL, 10));
+    if (folder != NULL) {
+        tell_what_is_left(avr, folder);
+    }
 }

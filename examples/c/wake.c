@@ -2,7 +2,7 @@
 // presses it sleeps with interrupts off, which nothing ends.
 //
 // Output: 1, 2 and 3 as digits, and asleep. No poll is made: a SLEEP that an interrupt ends brings the count of
-// polls to the number of the event that ends it, and a checkpoint follows it whatever the quantum, so the handler
+// polls to the number of the event that ends it, and an interrupt is due then whatever the quantum, so the handler
 // runs before the instruction behind SLEEP. INT5 comes too and isn't enabled, so it wakes nothing.
 
 #include <avr/interrupt.h>

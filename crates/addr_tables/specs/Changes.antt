@@ -81,7 +81,7 @@ pub record Forgets (page : ℕ) (old new : List ℕ) : Type 0 where
   pub stays : (k b : ℕ) → k < 160 → b < 4 → ¬ IsIn page (entry_at old (entry_cell k)) → byte_at new (entry_cell k + b) ≡ byte_at old (entry_cell k + b)
   pub rest : KeepsRest old new
 
--- the same as a function: a byte of an entry with a place in the page is 0. Entries stand at multiples of 4.
+-- That as a function: a byte of an entry with a place in the page is 0. Entries stand at multiples of 4.
 abbrev pub forgotten_byte : List ℕ → ℕ → ℕ → ℕ
 forgotten_byte sram page a = if is_within place_tables a && is_in page (entry_at sram (4 * (a / 4))) then 0 else byte_at sram a
 

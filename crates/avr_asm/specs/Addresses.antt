@@ -71,7 +71,7 @@ fault_behind place (Ok line) =
 abbrev pub fault_at : Place → List ℕ → Option AsmFault
 fault_at place line = fault_behind place (line_of line)
 
--- the same for each line
+-- what is wrong with each line, behind those before it
 abbrev pub faults_from : Place → List (List ℕ) → List (Option AsmFault)
 faults_from place [] = []
 faults_from place (line ∷ lines) = fault_at place line ∷ faults_from (after place line) lines

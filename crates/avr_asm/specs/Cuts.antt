@@ -6,12 +6,12 @@ use Rattle.std.specs.List.{list_all}
 abbrev pub is_blank : ℕ → Bool
 is_blank b = (b == 32) || (b == 9)
 
--- the text before a byte's first place; all of it where the byte doesn't stand in it
+-- the text before a byte's first position; all of it where the byte doesn't stand in it
 abbrev pub before : ℕ → List ℕ → List ℕ
 before byte [] = []
 before byte (b ∷ text) = if b == byte then [] else b ∷ before byte text
 
--- the text behind a byte's first place; none where the byte doesn't stand in it
+-- the text behind a byte's first position; none where the byte doesn't stand in it
 abbrev pub behind : ℕ → List ℕ → List ℕ
 behind byte [] = []
 behind byte (b ∷ text) = if b == byte then text else behind byte text
@@ -40,6 +40,6 @@ abbrev pub behind_word : List ℕ → List ℕ
 behind_word [] = []
 behind_word (b ∷ text) = if is_blank b then b ∷ text else behind_word text
 
--- a text's place in a list of names
-abbrev pub place_of : List (List ℕ) → List ℕ → Option ℕ
-place_of names text = position (λ name. bytes_eq name text) names
+-- the index of a text in a list of names
+abbrev pub index_of : List (List ℕ) → List ℕ → Option ℕ
+index_of names text = position (λ name. bytes_eq name text) names

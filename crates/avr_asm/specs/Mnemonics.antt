@@ -2,14 +2,14 @@
 -- wrong in both: `proofs/WorkedRows.antt` holds each row against words from outside.
 use Rattle.std.specs.Prelude.{ℕ, List, Option, slice_index_or, map}
 use Rattle.std.specs.Option.{option_map, option_or}
-use Rattle.avr_asm.specs.Cuts.{place_of}
+use Rattle.avr_asm.specs.Cuts.{index_of}
 use Rattle.avr_asm.specs.declared.mnemonic.Operation.{Operation}
 use Rattle.avr_asm.specs.declared.mnemonic.Operation.TheVariants.{Data}
 use Rattle.avr_asm.specs.declared.table.TheConstants as constants
 
--- what stands at a name's place
+-- what stands at a name's index
 unfoldable pub found_in : List (List ℕ) → List Operation → List ℕ → Option Operation
-found_in names operations name = option_map (λ place. slice_index_or operations place Data) (place_of names name)
+found_in names operations name = option_map (λ index. slice_index_or operations index Data) (index_of names name)
 
 -- what the mnemonic with this name stands for; no name stands in two parts of the table
 unfoldable pub operation_of : List ℕ → Option Operation

@@ -5,7 +5,7 @@ use Rattle.std.specs.List.{list_all, starts_with, onto_first}
 use Rattle.avr_isa.specs.declared.operation.Base.{Base}
 use Rattle.avr_isa.specs.declared.operation.Base.TheVariants as bases
 use Rattle.avr_isa.specs.declared.operation.Ptr.TheVariants as pointers
-use Rattle.avr_asm.specs.Cuts.{place_of, trimmed}
+use Rattle.avr_asm.specs.Cuts.{index_of, trimmed}
 use Rattle.avr_asm.specs.Numbers.{number_of}
 use Rattle.avr_asm.specs.declared.operand.Pointer.{Pointer}
 use Rattle.avr_asm.specs.declared.operand.Pointer.TheVariants.{At}
@@ -18,11 +18,11 @@ use Rattle.arrayvec.specs.ArrayVec.{ArrayVec}
 
 -- the number of the register that a text names
 unfoldable pub register_of : List ℕ → Option ℕ
-register_of text = place_of (map (λ name. name.now) REGISTERS) text
+register_of text = index_of (map (λ name. name.now) REGISTERS) text
 
 -- the pointer that a text writes
 unfoldable pub pointer_of : List ℕ → Option Pointer
-pointer_of text = option_map (λ place. slice_index_or POINTERS place (At pointers.X)) (place_of (map (λ name. name.now) SPELLINGS) text)
+pointer_of text = option_map (λ index. slice_index_or POINTERS index (At pointers.X)) (index_of (map (λ name. name.now) SPELLINGS) text)
 
 -- the displacement that a number writes behind this front
 abbrev pub displaced_of : Base → List ℕ → List ℕ → Option (Base × ℕ)

@@ -55,7 +55,7 @@ abbrev pub fault_of_line : List Label → ℕ → Result Line AsmFault → Optio
 fault_of_line labels pc (Err fault) = Some fault
 fault_of_line labels pc (Ok line) = fault_of_statement labels pc line.statement
 
--- the same for each line
+-- what is wrong with the target of each line, where the first of them stands there
 abbrev pub target_faults : List Label → Place → List (List ℕ) → List (Option AsmFault)
 target_faults labels place [] = []
 target_faults labels place (line ∷ lines) = fault_of_line labels place.at (line_of line) ∷ target_faults labels (after place line) lines

@@ -5,7 +5,7 @@ ghost use Rattle.avr_asm.specs.Operands.{displaced_of, offset_of, operand_of, op
 
 use crate::name::{Name, name_in};
 use crate::number::number_in;
-use crate::text::{place_in, trimmed};
+use crate::text::{index_in, trimmed};
 use avr_isa::{Base, Ptr};
 use line_reader::split_once;
 
@@ -67,8 +67,8 @@ pub(crate) const POINTERS: [Pointer; 9] = [
 pub(crate) fn register_in(text: &[u8]) -> Option<u8>
     ensures value { result ≡ register_of text.now }
 {
-    match place_in(&REGISTERS, text) {
-        Some(place) => Some(place as u8),
+    match index_in(&REGISTERS, text) {
+        Some(index) => Some(index as u8),
         None => None,
     }
 }
@@ -78,8 +78,8 @@ pub(crate) fn register_in(text: &[u8]) -> Option<u8>
 pub(crate) fn pointer_in(text: &[u8]) -> Option<Pointer>
     ensures value { result ≡ pointer_of text.now }
 {
-    match place_in(&SPELLINGS, text) {
-        Some(place) => Some(POINTERS[place]),
+    match index_in(&SPELLINGS, text) {
+        Some(index) => Some(POINTERS[index]),
         None => None,
     }
 }

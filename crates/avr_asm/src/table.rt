@@ -7,7 +7,7 @@ use crate::mnemonic::{
     Bare, BitOp, Jump, NumberAndRegister, OneRegister, Operation, RegisterAndNumber, TwoNumbers,
     TwoRegisters,
 };
-use crate::text::place_in;
+use crate::text::index_in;
 use avr_isa::{ImmOp, OneOp, ProductOp, TwoOp, WordOp};
 
 /// Mnemonics without operands; `lpm` and `elpm` may have some.
@@ -170,14 +170,14 @@ pub(crate) fn operation_in(name: &[u8]) -> Option<Operation>
     found(&TARGETS_NAMES, &TARGETS, name)
 }
 
-/// What stands at the place of this name.
+/// What stands at the index of this name.
 #[tactic(auto, unfolding(crate::specs::Mnemonics::found_in))]
 fn found(names: &[&str], operations: &[Operation], name: &[u8]) -> Option<Operation>
     requires whole { length names.now ≡ length operations.now }
     ensures value { result ≡ found_in (map (λ name. name.now) names.now) operations.now name.now }
 {
-    match place_in(names, name) {
-        Some(place) => Some(operations[place]),
+    match index_in(names, name) {
+        Some(index) => Some(operations[index]),
         None => None,
     }
 }

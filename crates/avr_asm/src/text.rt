@@ -1,7 +1,7 @@
 //! Parts of a line.
 
 ghost use Rattle.std.specs.Prelude.{◌≡◌, ◌<◌, ◌≤◌, length, map, IfSome};
-ghost use Rattle.avr_asm.specs.Cuts.{is_blank as is_blank_test, before, skip_front, skip_end, trimmed as trimmed_of, place_of, front_word as front_word_of, behind_word};
+ghost use Rattle.avr_asm.specs.Cuts.{is_blank as is_blank_test, before, skip_front, skip_end, trimmed as trimmed_of, index_of, front_word as front_word_of, behind_word};
 
 use line_reader::split_once;
 
@@ -12,7 +12,7 @@ fn is_blank(byte: u8) -> bool
     byte == b' ' || byte == b'\t'
 }
 
-/// The text before a byte's first place; all of it where the byte doesn't stand in it.
+/// The text before a byte's first position; all of it where the byte doesn't stand in it.
 pub(crate) fn up_to(text: &[u8], byte: u8) -> &[u8]
     ensures value { result.now ≡ before byte text.now }
 {
@@ -57,10 +57,10 @@ fn without_end(text: &[u8]) -> &[u8]
     rest
 }
 
-/// A text's place in a list of names.
-pub(crate) fn place_in(names: &[&str], text: &[u8]) -> Option<usize>
-    ensures value { result ≡ place_of (map (λ name. name.now) names.now) text.now }
-    ensures bound { IfSome result (λ place. place < length names.now) }
+/// The index of a text in a list of names.
+pub(crate) fn index_in(names: &[&str], text: &[u8]) -> Option<usize>
+    ensures value { result ≡ index_of (map (λ name. name.now) names.now) text.now }
+    ensures bound { IfSome result (λ index. index < length names.now) }
 {
     for (i, name) in names.iter().enumerate() {
         if name.as_bytes() == text {

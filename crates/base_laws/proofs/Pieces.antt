@@ -1,4 +1,4 @@
--- A list with n of its items from place i on replaced by others.
+-- A list with n of its items from index i on replaced by others.
 use Rattle.std.proofs.Common.{◌≡◌, ℕ, ◌+◌, ◌-◌, ◌<◌, ◌≤◌, List, ◌++◌, length, get_or, take, drop, arith, rules, sym, ap, ap₂, ◌∙◌}
 use Rattle.std.proofs.lemmas.List.{places, take-append-le, take-take, length-append, append_assoc, drop_at, take_at, length-take-le, length-take, length-drop, get_or-take, get_or-drop}
 use Rattle.std.proofs.lemmas.Grind.{same_number_lists}
@@ -15,12 +15,12 @@ replaced_below i n k m new fits inside below = grind (arith, places)
 pub replaced_above : (i n k : ℕ) (m new : List ℕ) → length new ≡ n → i + n ≤ length m → i + n ≤ k → get_or (take i m ++ new ++ drop (i + n) m) k 0 ≡ get_or m k 0
 replaced_above i n k m new fits inside above = grind (arith, places)
 
--- the items themselves, from the place where they were put
+-- the items themselves, from the index where they were put
 pub part_replaced : (i n : ℕ) (m new : List ℕ) → length new ≡ n → i + n ≤ length m → take n (drop i (take i m ++ new ++ drop (i + n) m)) ≡ new
 part_replaced i n m new fits inside =
     rw (append_assoc (take i m) new (drop (i + n) m), drop_at (take i m) (new ++ drop (i + n) m) i (length-take-le i m (omega arith))) (take_at new (drop (i + n) m) n fits)
 
--- two lists that agree on n items from place i on have the same part there
+-- two lists that agree on n items from index i on have the same part there
 pub same_part : (i n : ℕ) (m m' : List ℕ) → length m ≡ length m' → ((k : ℕ) → i ≤ k → k < i + n → get_or m k 0 ≡ get_or m' k 0) → take n (drop i m) ≡ take n (drop i m')
 same_part i n m m' lengths agree =
     same_number_lists _ _ (simp (length-take, length-drop, lengths)) (λ k within.

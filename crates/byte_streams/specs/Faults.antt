@@ -16,7 +16,7 @@ pub record HasCause {T E : Type 0} (before now : ℕ) (result : Result T E) : Ty
   pub later : before ≤ now
   pub failed : OnErr result (Rose before now)
 
--- The same of `read_all`: the answer `Fault` comes only where the count rose.
+-- `read_all` answers `Fault` only where the count rose.
 pub record HasReadCause {T : Type 0} (before now : ℕ) (result : Result T ReadAll) : Type 0 where
   pub later : before ≤ now
   pub fault : IsErrOf result Fault → Rose before now

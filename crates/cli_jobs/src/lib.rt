@@ -21,3 +21,4 @@ mod restarting;
 mod running;
 
 pub use job::{Outcome, do_job, say};
+pub use running::{run_silently, status_of};

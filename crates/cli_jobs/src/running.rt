@@ -52,7 +52,7 @@ pub(crate) fn run_request<K: Sink>(alloc: Global, request: Request, out: &mut K)
 }
 
 /// Runs a program to its end; its lines go nowhere.
-pub(crate) fn run_silently(
+pub fn run_silently(
     alloc: Global,
     image: &Image,
     script: Script,
@@ -92,7 +92,7 @@ pub(crate) fn tell_end<K: Sink>(machine: &Machine, end: End, out: &mut K) -> Sta
 }
 
 /// The status of an end.
-fn status_of(end: End) -> Status
+pub fn status_of(end: End) -> Status
     ensures status { result ≡ status_of_stop end }
 {
     match end {

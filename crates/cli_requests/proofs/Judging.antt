@@ -26,7 +26,8 @@ unread_run before now job runs (IsUnread.ReadFault is rose taken) = subst RunsAP
 unread_run before now job runs (IsUnread.TooLong is taken) = subst RunsAProgram is runs
 unread_run before now job runs (IsUnread.NoMemory is taken) = subst RunsAProgram is runs
 
-text_wants : (Rule : List ℕ → Job → Type 0) (before now : Stream) (job : Job) → RunsAProgram job → AsksByText Rule before now job → AsksByText Rule before now no_memory
+-- a text that asks for a program's run may want memory for it
+pub text_wants : (Rule : List ℕ → Job → Type 0) (before now : Stream) (job : Job) → RunsAProgram job → AsksByText Rule before now job → AsksByText Rule before now no_memory
 text_wants Rule before now job runs (inl unread) = absurd (unread_run before now job runs unread)
 text_wants Rule before now job runs (inr judged) = inl (IsUnread.NoMemory refl (took before now judged.0 judged.1))
 

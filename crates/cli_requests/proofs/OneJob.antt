@@ -10,7 +10,7 @@ use Rattle.line_reader.specs.Lines.{lines_of}
 use Rattle.task_input.specs.Scripts.{IsFirst, Schedules}
 use Rattle.task_input.proofs.FirstFaults.{first_one, schedules_apart, schedules_one}
 use Rattle.cli_words.specs.declared.command.Command.{Command}
-use Rattle.cli_words.specs.declared.command.Command.TheVariants.{Help, Run, Dump, Restart, Tasks, Check, Generate, Asm}
+use Rattle.cli_words.specs.declared.command.Command.TheVariants.{Run, Dump, Restart, Tasks, Check, Asm}
 use Rattle.cli_words.specs.declared.command.RunOptions.{RunOptions}
 use Rattle.cli_words.specs.declared.command.TaskOptions.{TaskOptions}
 use Rattle.cli_words.specs.declared.job.Job.{Job}
@@ -168,14 +168,13 @@ IsOneRule (ByText Rule) = (text : List ℕ) → IsOne (Rule text)
 IsOneRule _ = Unit {0}
 
 pub one_rule : (command : Command) → IsOneRule (wanted command)
-one_rule Help = tt
 one_rule (Run options) = one_run options
 one_rule (Dump options) = one_dump options
 one_rule (Restart options) = one_restart options
 one_rule (Tasks options) = one_tasks options
 one_rule Check = one_check
-one_rule (Generate seed) = tt
 one_rule Asm = one_source
+one_rule _ = tt
 
 -- two readings of a text are one
 request_is : (a b : Request) → jobs.Run a ≡ jobs.Run b → a ≡ b

@@ -33,3 +33,4 @@ pub use cli_words::{
     Command, Job, Output, Request, RunOptions, Scripts, Status, TaskOptions, TaskRequest,
     command_of,
 };
+pub use run_command::run_job;

@@ -17,7 +17,7 @@ use input_script::ScriptError;
 use std::alloc::Global;
 
 /// Reads the input of `run`, and judges it.
-pub(crate) fn run_job<S: Source>(alloc: Global, options: RunOptions, input: &mut S) -> Job
+pub fn run_job<S: Source>(alloc: Global, options: RunOptions, input: &mut S) -> Job
     requires possible { IsPossible (Run options) }
     ensures asks { AsksByText (RunAsks options)
         (stream S.left S.faults input.old) (stream S.left S.faults input.new)

@@ -1,7 +1,7 @@
 -- The first words of a list choose a number in one way only.
 use Rattle.std.proofs.Common.{◌≡◌, ℕ, ◌≤◌, Bool, true, false, List, [], ◌∷◌, ◌++◌, append-nil, arith, sym, ap, ap₂, refl, ◌∙◌, inl, inr, subst, eqb}
 use borrow.Author.Tests.{ne_eqb, eqb-true}
-use Rattle.std.specs.Prelude.{codes, Option, Some, None, IfSome, IsSome, MatchOption, option_map, if◌then◌else◌}
+use Rattle.std.specs.Prelude.{Option, Some, None, IfSome, IsSome, MatchOption, option_map, if◌then◌else◌}
 use Rattle.std.specs.Option.{option_map_or, option_or}
 use Rattle.std.specs.Char.{digit_value}
 use Rattle.std.specs.Str.Parse.{digits_value}
@@ -12,10 +12,10 @@ use Rattle.line_reader.specs.Stripping.{stripped}
 use Rattle.line_reader.proofs.StripLaws.{front_stripped, stripped_front}
 use Rattle.cli_words.specs.declared.table.Row.{Row}
 use Rattle.cli_words.specs.declared.table.Parameter.{Parameter}
-use Rattle.cli_words.specs.declared.table.Parameter.TheVariants.{Seed, Count, Steps, Quantum, Swap}
+use Rattle.cli_words.specs.declared.table.Parameter.TheVariants.{Seed, Count}
 use Rattle.cli_words.specs.declared.options.Choice.{Choice}
-use Rattle.cli_words.specs.Options.{BeginsWith, IsWritten, name_of, row_in}
-use Rattle.cli_words.specs.OptionReading.{Found, behind, named_in, number_in, value_at}
+use Rattle.cli_words.specs.Options.{BeginsWith, IsWritten, name_of, parameters, row_in}
+use Rattle.cli_words.specs.OptionReading.{Found, behind, first_named, number_in, value_at}
 
 -- what was found is the same part by part
 parts : (p q : Parameter) (ds es : List ℕ) (r s : List (List ℕ)) → ◌≡◌ {A = Option Found} (Some (p, ds, r)) (Some (q, es, s)) → (p ≡ q) × (ds ≡ es) × (r ≡ s)
@@ -24,7 +24,7 @@ parts p q ds es r s same =
     (ap (λ found. found.0) inner, ap (λ found. found.1) inner, ap (λ found. found.2) inner)
 
 -- digits begin with no name
-unnamed : (digits : List ℕ) (value : ℕ) → IsNumber digits value → named_in digits ≡ None
+unnamed : (digits : List ℕ) (value : ℕ) → IsNumber digits value → first_named parameters digits ≡ None
 unnamed [] value number = absurd (let some : 1 ≤ 0 = number.some in omega arith)
 unnamed (c ∷ digits) value number =
     let apart : eqb 45 c ≡ false = ne_eqb 45 c (λ same. omega (arith, ap digit_value (sym same), number.digits.0)) in
@@ -35,12 +35,8 @@ pub is_read : (parameter : Parameter) (digits : List ℕ) (value : ℕ) (words r
 is_read Seed digits value words rest number is = ap number_in is ∙ ap (λ named. option_map_or (λ (n : Parameter × List ℕ). value_at n.0 n.1 rest) named (Some (Seed, digits, rest))) (unnamed digits value number)
 is_read Count digits value words rest number (inl is) = ap number_in is
 is_read Count digits value words rest number (inr is) = ap number_in is
-is_read Steps digits value words rest number (inl is) = ap number_in is
-is_read Steps digits value words rest number (inr is) = ap number_in is
-is_read Quantum digits value words rest number (inl is) = ap number_in is
-is_read Quantum digits value words rest number (inr is) = ap number_in is
-is_read Swap digits value words rest number (inl is) = ap number_in is
-is_read Swap digits value words rest number (inr is) = ap number_in is
+is_read _ digits value words rest number (inl is) = ap number_in is
+is_read _ digits value words rest number (inr is) = ap number_in is
 
 -- and words that are read so write them
 stripped_is : (front text : List ℕ) → IfSome (stripped front text) (λ behind. text ≡ front ++ behind)
@@ -62,20 +58,20 @@ stripped_by front text (Some x) strips =
 abbrev IsNamed : List ℕ → Option (Parameter × List ℕ) → Type 0
 IsNamed word found = IfSome found (λ f. (name : List ℕ) × (name_of f.0 ≡ Some name) × (word ≡ name ++ f.1))
 
-behind_named : (parameter : Parameter) (name word : List ℕ) (found : Option (List ℕ)) → name_of parameter ≡ Some name → IfSome found (λ text. word ≡ name ++ text) → IsNamed word (option_map (λ text. (parameter, text)) found)
-behind_named parameter name word None has is = tt
-behind_named parameter name word (Some text) has is = (name, has, is)
+behind_named : (parameter : Parameter) (word : List ℕ) (name : Option (List ℕ)) → name_of parameter ≡ name → IsNamed word (option_map (λ text. (parameter, text)) (behind name word))
+behind_named parameter word None has = tt
+behind_named parameter word (Some name) has = named (stripped name word) (stripped_is name word) where
+  named : (found : Option (List ℕ)) → IfSome found (λ text. word ≡ name ++ text) → IsNamed word (option_map (λ text. (parameter, text)) found)
+  named None is = tt
+  named (Some text) is = (name, has, is)
 
 either_named : (word : List ℕ) (found others : Option (Parameter × List ℕ)) → IsNamed word found → IsNamed word others → IsNamed word (option_or found others)
 either_named word None others is are = are
 either_named word (Some found) others is are = is
 
-named_is : (word : List ℕ) → IsNamed word (named_in word)
-named_is word =
-    either_named word _ _ (behind_named Steps (codes "--steps") word _ refl (stripped_is (codes "--steps") word))
-    (either_named word _ _ (behind_named Quantum (codes "--quantum") word _ refl (stripped_is (codes "--quantum") word))
-    (either_named word _ _ (behind_named Swap (codes "--swap") word _ refl (stripped_is (codes "--swap") word))
-    (behind_named Count (codes "--tasks") word _ refl (stripped_is (codes "--tasks") word))))
+named_is : (among : List Parameter) (word : List ℕ) → IsNamed word (first_named among word)
+named_is [] word = tt
+named_is (parameter ∷ others) word = either_named word _ _ (behind_named parameter word (name_of parameter) refl) (named_is others word)
 
 value_written : (found parameter : Parameter) (name word behind digits : List ℕ) (later rest : List (List ℕ)) → name_of found ≡ Some name → word ≡ name ++ behind → value_at found behind later ≡ Some (parameter, digits, rest) → IsWritten (name_of parameter) digits (word ∷ later) rest
 value_written found parameter name word [] digits [] rest has is read = absurd (cc)
@@ -94,7 +90,7 @@ value_written found parameter name word (c ∷ behind) digits later rest has is 
 
 pub is_written : (words : List (List ℕ)) (parameter : Parameter) (digits : List ℕ) (rest : List (List ℕ)) → number_in words ≡ Some (parameter, digits, rest) → IsWritten (name_of parameter) digits words rest
 is_written [] parameter digits rest read = absurd (cc)
-is_written (word ∷ later) parameter digits rest read = behind_name (named_in word) (named_is word) read where
+is_written (word ∷ later) parameter digits rest read = behind_name (first_named parameters word) (named_is parameters word) read where
   behind_name : (found : Option (Parameter × List ℕ)) → IsNamed word found → ◌≡◌ {A = Option Found} (option_map_or (λ (n : Parameter × List ℕ). value_at n.0 n.1 later) found (Some (Seed, word, later))) (Some (parameter, digits, rest)) → IsWritten (name_of parameter) digits (word ∷ later) rest
   behind_name None is read =
       let same = parts Seed parameter word digits later rest read in

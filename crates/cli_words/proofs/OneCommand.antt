@@ -1,6 +1,7 @@
 -- The words of a command line ask for one thing.
-use Rattle.std.proofs.Common.{◌≡◌, ◌≤◌, ℕ, Bool, true, false, List, [], ◌∷◌, sym, ap, ap₂, ◌∙◌, subst, arith}
-use Rattle.std.specs.Prelude.{MatchOption, Option, Some, None, IfSome, bytes_eq, if◌then◌else◌}
+use Rattle.std.proofs.Common.{◌≡◌, ◌≤◌, ℕ, Bool, true, false, List, [], ◌∷◌, codes, refl, sym, ap, ap₂, ◌∙◌, subst, arith}
+use Rattle.std.specs.List.{list_all}
+use Rattle.std.specs.Prelude.{◌&&◌, MatchOption, Option, Some, None, IfSome, bytes_eq, if◌then◌else◌}
 use Rattle.cli_words.specs.declared.command.Command.{Command}
 use Rattle.cli_words.specs.declared.command.Command.TheVariants as values
 use Rattle.cli_words.specs.declared.command.RunOptions.{RunOptions}
@@ -82,25 +83,27 @@ command_told words rest word signature chosen (Some command) cut is said makes =
 
 -- A command for several programs has one at least. ---------------------------------------------------------
 
--- the signature has the numbers of such a command, or is of another
-abbrev IsApart : Signature → Type 0
-IsApart (Plain own) = (options : TaskOptions) → own ≡ values.Tasks options → ⊥
-IsApart _ = Unit {0}
+-- no signature is such a command itself
+abbrev is_apart : Signature → Bool
+is_apart (Plain (values.Tasks options)) = false
+is_apart _ = true
 
-abbrev AreApart : List (List ℕ × Signature) → Type 0
-AreApart [] = Unit {0}
-AreApart (row ∷ rows) = IsApart row.1 × AreApart rows
+abbrev IsApart : Signature → Type 0
+IsApart signature = is_apart signature ≡ true
 
 apart_by : (test : Bool) (signature : Signature) (others : Option Signature) → IsApart signature → IfSome others IsApart → IfSome (if test then Some signature else others) IsApart
 apart_by true signature others own rest = own
 apart_by false signature others own rest = rest
 
-apart_in : (rows : List (List ℕ × Signature)) (word : List ℕ) → AreApart rows → IfSome (signature_in rows word) IsApart
-apart_in [] word apart = tt
-apart_in (row ∷ rows) word apart = apart_by (bytes_eq word row.0) row.1 (signature_in rows word) apart.0 (apart_in rows word apart.1)
+both : (a b : Bool) → (a && b) ≡ true → (a ≡ true) × (b ≡ true)
+both true b is = (refl, is)
+both false b is = absurd (cc)
 
-all_apart : AreApart commands
-all_apart = (λ options e. absurd (cc), (tt, (tt, (tt, (tt, (λ options e. absurd (cc), (tt, (λ options e. absurd (cc), tt))))))))
+apart_in : (rows : List (List ℕ × Signature)) (word : List ℕ) → list_all (λ row. is_apart row.1) rows ≡ true → IfSome (signature_in rows word) IsApart
+apart_in [] word apart = tt
+apart_in (row ∷ rows) word apart =
+    let parts = both (is_apart row.1) (list_all (λ other. is_apart other.1) rows) apart in
+    apart_by (bytes_eq word row.0) row.1 (signature_in rows word) parts.0 (apart_in rows word parts.1)
 
 count_least : (count value : ℕ) (numbers others : List ℕ) → count ∷ numbers ≡ value ∷ others → 1 ≤ value → 1 ≤ count
 count_least count value numbers others is least = let same : count ≡ value = cc in omega (arith, same, least)
@@ -108,15 +111,14 @@ count_least count value numbers others is least = let same : count ≡ value = c
 values_least : (chosen : List (Option ℕ)) (options : TaskOptions) → AreValues tasks_rows chosen (tasks_numbers options) → 1 ≤ options.count
 values_least chosen options are = count_least options.count are.0 _ are.1 are.2 are.3.least
 
-no_run : (aim : Aim) (options : TaskOptions) (other : RunOptions) → values.Tasks options ≡ command_for aim other → ⊥
-no_run aims.Run options other is = absurd (cc)
-no_run aims.Dump options other is = absurd (cc)
-no_run aims.Restart options other is = absurd (cc)
+no_tasks_run : (aim : Aim) (options : TaskOptions) (other : RunOptions) → values.Tasks options ≡ command_for aim other → ⊥
+no_tasks_run aims.Run options other is = absurd (cc)
+no_tasks_run _ options other is = absurd (cc)
 
 least_behind : (signature : Option Signature) (rest : List (List ℕ)) (options : TaskOptions) → IfSome signature IsApart → StandsBehind signature rest (values.Tasks options) → 1 ≤ options.count
 least_behind None rest options apart is = absurd is
-least_behind (Some (Plain own)) rest options apart is = absurd (apart options (sym is.2))
-least_behind (Some (Run aim)) rest options apart is = absurd (no_run aim options is.2.0 is.2.2)
+least_behind (Some (Plain own)) rest options apart is = absurd (let tasks : is_apart (Plain (values.Tasks options)) ≡ true = subst (λ c. is_apart (Plain c) ≡ true) (sym is.2) apart in cc)
+least_behind (Some (Run aim)) rest options apart is = absurd (no_tasks_run aim options is.2.0 is.2.2)
 least_behind (Some Tasks) rest options apart is =
     let same : is.2.0 ≡ options = (let e : values.Tasks options ≡ values.Tasks is.2.0 = is.2.2 in cc) in
     subst (λ (o : TaskOptions). 1 ≤ o.count) same (values_least is.0 is.2.0 is.2.1)
@@ -124,4 +126,17 @@ least_behind (Some Generate) rest options apart is = absurd (let e : values.Task
 
 pub one_program : (words : List (List ℕ)) (options : TaskOptions) → IsCommand words (values.Tasks options) → 1 ≤ options.count
 one_program [] options is = absurd is
-one_program (word ∷ rest) options is = least_behind (signature_in commands word) rest options (apart_in commands word all_apart) is
+one_program (word ∷ rest) options is = least_behind (signature_in commands word) rest options (apart_in commands word refl) is
+
+-- words behind `run`, which choose its options or none
+pub no_run : (rest : List (List ℕ)) → ((after : List (Option ℕ)) → ¬ Choose run_rows rest nothing after) → (options : RunOptions) → ¬ IsCommand (codes "run" ∷ rest) (values.Run options)
+no_run rest none options asked = none asked.0 asked.1
+
+pub run_told : (rest : List (List ℕ)) (chosen : List (Option ℕ)) (found : Option RunOptions) → Choose run_rows rest nothing chosen
+    → MatchOption found ((values : List ℕ) → ¬ AreValues run_rows chosen values) (λ options. AreValues run_rows chosen (run_numbers options))
+    → MatchOption found ((options : RunOptions) → ¬ IsCommand (codes "run" ∷ rest) (values.Run options)) (λ options. IsCommand (codes "run" ∷ rest) (values.Run options))
+run_told rest chosen None said none = λ options asked.
+    let same = one_chosen run_rows asked.1.0 rest nothing asked.0 chosen asked.1.1 said in
+    let made = asked.2 in
+    none (run_numbers made.0) (subst (λ c. AreValues run_rows c (run_numbers made.0)) same made.1)
+run_told rest chosen (Some options) said values_are = (chosen, said, (options, values_are, refl))

@@ -1,7 +1,7 @@
 -- The words of a command line, this project's own grammar (docs/FORMATS.md): a command, and behind it its
 -- numbers in any order, each at most once. A number with a name stands in the word behind the name, or
 -- behind `=` in the same one.
-use Rattle.std.specs.Prelude.{◌≡◌, ℕ, ◌≤◌, ◌⊎◌, ◌==◌, if◌then◌else◌, List, [], ◌∷◌, ◌++◌, codes, slice_get, slice_set, slice_index_or, Option, Some, None, IsSome}
+use Rattle.std.specs.Prelude.{◌≡◌, ℕ, ◌≤◌, ◌⊎◌, ◌==◌, if◌then◌else◌, List, [], ◌∷◌, ◌++◌, codes, slice_get, slice_set, slice_index_or, map, Option, Some, None, IsSome}
 use Rattle.std.specs.Option.{option_or}
 use Rattle.input_script.specs.Grammar.{IsNumber}
 use Rattle.cli_words.specs.declared.table.Signature.{Signature}
@@ -19,7 +19,10 @@ name_of Steps = Some (codes "--steps")
 name_of Quantum = Some (codes "--quantum")
 name_of Swap = Some (codes "--swap")
 
--- the number of a parameter, by which they are told apart
+-- all parameters, and the place of each, by which they are told apart
+abbrev pub parameters : List Parameter
+parameters = Seed ∷ Steps ∷ Quantum ∷ Swap ∷ Count ∷ []
+
 abbrev pub place_of : Parameter → ℕ
 place_of Seed = 0
 place_of Steps = 1
@@ -28,21 +31,22 @@ place_of Swap = 3
 place_of Count = 4
 
 -- What a command takes: each parameter with its least and its greatest value, and the one that it has
--- where the words give none. This is what a command takes that runs a program, with as many swap slots at most, and
+-- where the words give none. This is what both `run` and `tasks` take, with as many swap slots at most, and
 -- with these where the words give none
-abbrev pub rows_of_run : (most_swap default_swap : ℕ) → List Row
-rows_of_run most_swap default_swap =
+abbrev pub shared_rows : (most_swap default_swap : ℕ) → List Row
+shared_rows most_swap default_swap =
     record { parameter = Steps; least = 0; most = 1000000000; default = Some 1000000 }
     ∷ record { parameter = Quantum; least = 1; most = 255; default = Some 255 }
     ∷ record { parameter = Swap; least = 0; most = most_swap; default = Some default_swap }
     ∷ []
 
+-- this a command that runs a program
 abbrev pub run_rows : List Row
-run_rows = rows_of_run 251 128
+run_rows = shared_rows 251 128
 
 -- this one that runs several, which share the swap
 abbrev pub tasks_rows : List Row
-tasks_rows = record { parameter = Count; least = 1; most = 4; default = None } ∷ rows_of_run 62 32
+tasks_rows = record { parameter = Count; least = 1; most = 4; default = None } ∷ shared_rows 62 32
 
 -- this one that runs a test program
 abbrev pub seed_rows : List Row
@@ -84,7 +88,7 @@ Choose rows words before after = (choices : List Choice) × MakeChoices rows cho
 
 -- no parameter has a value yet
 abbrev pub nothing : List (Option ℕ)
-nothing = None ∷ None ∷ None ∷ None ∷ None ∷ []
+nothing = map (λ parameter. None) parameters
 
 -- the value of a parameter: the chosen one, or else the default
 pub record IsValue (chosen : List (Option ℕ)) (row : Row) (value : ℕ) : Type 0 where

@@ -1,6 +1,8 @@
 //! What a command line asks for.
-ghost use Rattle.std.specs.Prelude.{ℕ, List, map, string_bytes, MatchOption, IfSome};
+ghost use Rattle.std.specs.Prelude.{ℕ, List, ◌∷◌, codes, map, string_bytes, MatchOption, IfSome};
 ghost use Rattle.cli_words.specs.declared.command.Command.{Command};
+ghost use Rattle.cli_words.specs.declared.command.Command.TheVariants.{Run};
+ghost use Rattle.cli_words.specs.declared.command.RunOptions.{RunOptions};
 ghost use Rattle.cli_words.specs.Commands.{AreOptions, AreTaskOptions, IsCommand, IsNoCommand, IsPossible, IsPossibleOf, Makes, run_numbers, tasks_numbers};
 ghost use Rattle.cli_words.specs.Options.{AreValues, run_rows, tasks_rows};
 
@@ -70,6 +72,17 @@ pub fn command_of(words: &[String]) -> Option<Command>
     let signature = Signature::of(word.as_str())?;
     let chosen = chosen_in(signature, rest)?;
     command_with(signature, chosen)
+}
+
+/// The options of a run that these words choose, as they do behind `run`; None where they don't.
+pub fn run_options_of(words: &[String]) -> Option<RunOptions>
+    ensures cases { MatchOption result
+        ((options : RunOptions) → ¬ IsCommand (codes "run" ∷ map string_bytes words.now) (Run options))
+        (λ options. IsCommand (codes "run" ∷ map string_bytes words.now) (Run options)) }
+    ensures possible { IfSome result AreOptions }
+{
+    let chosen = chosen_in(Signature::Run(Aim::Run), words)?;
+    run_options(chosen)
 }
 
 /// The command of this signature with these numbers.

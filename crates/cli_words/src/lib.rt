@@ -25,7 +25,7 @@ mod request;
 mod status;
 mod table;
 
-pub use command::{Command, DEFAULT_OPTIONS, RunOptions, TaskOptions, command_of};
+pub use command::{Command, DEFAULT_OPTIONS, RunOptions, TaskOptions, command_of, run_options_of};
 pub use job::Job;
 pub use output::Output;
 pub use printed::{bad_hex, bad_script, no_memory, read_fault, too_long, usage};

@@ -1,12 +1,11 @@
 //! The numbers that the words behind a command give.
 ghost use Rattle.std.specs.Prelude.{◌≡◌, ◌≢◌, ℕ, ◌<◌, ◌≤◌, List, length, map, string_bytes, MatchOption, IfSome, IsSomeAnd, Option, Some, None, option_map, slice_get, slice_set};
 ghost use Rattle.input_script.specs.Grammar.{IsNumber};
-ghost use Rattle.line_reader.specs.Stripping.{stripped};
 ghost use Rattle.cli_words.specs.declared.options.Choice.{Choice};
-ghost use Rattle.cli_words.specs.Options.{BeginsWith, Choose, IsValue, nothing, place_of, row_in, rows_of};
-ghost use Rattle.cli_words.specs.OptionReading.{named_in, number_in, value_at};
+ghost use Rattle.cli_words.specs.Options.{BeginsWith, Choose, IsValue, name_of, nothing, parameters, place_of, row_in, rows_of};
+ghost use Rattle.cli_words.specs.OptionReading.{behind, first_named, number_in, value_at};
 
-use crate::table::{PARAMETERS, Parameter, Signature};
+use crate::table::{PARAMETER_COUNT, PARAMETERS, Parameter, Signature};
 
 /// A parameter with a number for it.
 #[derive(Clone, Copy)]
@@ -18,31 +17,29 @@ struct Choice {
 /// The numbers that were chosen so far, each at its parameter's place.
 #[derive(Clone, Copy)]
 pub(crate) struct Chosen {
-    values: [Option<u64>; PARAMETERS],
+    values: [Option<u64>; PARAMETER_COUNT],
 }
 
 /// The parameter whose name a word begins with, and the text behind the name.
 fn named_parameter(word: &str) -> Option<(Parameter, &str)>
-    ensures named { option_map (λ found. (found.0, found.1.now)) result ≡ named_in word.now }
+    ensures named { option_map (λ found. (found.0, found.1.now)) result ≡ first_named parameters word.now }
 {
-    if let Some(behind) = behind_name(word, "--steps") {
-        Some((Parameter::Steps, behind))
-    } else if let Some(behind) = behind_name(word, "--quantum") {
-        Some((Parameter::Quantum, behind))
-    } else if let Some(behind) = behind_name(word, "--swap") {
-        Some((Parameter::Swap, behind))
-    } else if let Some(behind) = behind_name(word, "--tasks") {
-        Some((Parameter::Count, behind))
-    } else {
-        None
+    let all = PARAMETERS;
+    let mut rest = all.as_slice();
+    while let [parameter, others @ ..] = rest {
+        if let Some(behind) = behind_name(*parameter, word) {
+            return Some((*parameter, behind));
+        }
+        rest = others;
     }
+    None
 }
 
-/// The text behind a name, in a word that begins with it.
-fn behind_name<'a>(word: &'a str, name: &str) -> Option<&'a str>
-    ensures behind { option_map (λ text. text.now) result ≡ stripped name.now word.now }
+/// The text behind a parameter's name, in a word that begins with it.
+fn behind_name(parameter: Parameter, word: &str) -> Option<&str>
+    ensures behind { option_map (λ text. text.now) result ≡ behind (name_of parameter) word.now }
 {
-    word.strip_prefix(name)
+    word.strip_prefix(parameter.name()?)
 }
 
 /// The parameter, the digits and the later words that words begin with. A word that begins with no name is
@@ -111,7 +108,7 @@ pub(crate) fn chosen_in(signature: Signature, words: &[String]) -> Option<Chosen
         (λ chosen. Choose (rows_of signature) (map string_bytes words.now) nothing chosen.values) }
 {
     let mut chosen = Chosen {
-        values: [None; PARAMETERS],
+        values: [None; PARAMETER_COUNT],
     };
     let mut rest = words;
     while !rest.is_empty() {

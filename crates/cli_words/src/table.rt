@@ -1,7 +1,7 @@
 //! The commands and the numbers that each of them takes, as a table.
-ghost use Rattle.std.specs.Prelude.{◌≡◌, ◌<◌, IfSome};
+ghost use Rattle.std.specs.Prelude.{◌≡◌, ◌<◌, IfSome, option_map};
 ghost use Rattle.cli_words.specs.Commands.{AreOptions, IsPossible, IsPossibleOf, command_for, commands, signature_in};
-ghost use Rattle.cli_words.specs.Options.{place_of, row_in, rows_of, rows_of_run};
+ghost use Rattle.cli_words.specs.Options.{name_of, place_of, row_in, rows_of, shared_rows};
 
 use crate::command::{Command, RunOptions};
 
@@ -45,7 +45,16 @@ pub(crate) enum Parameter {
 }
 
 /// How many parameters there are.
-pub(crate) const PARAMETERS: usize = 5;
+pub(crate) const PARAMETER_COUNT: usize = 5;
+
+/// All parameters.
+pub(crate) const PARAMETERS: [Parameter; PARAMETER_COUNT] = [
+    Parameter::Seed,
+    Parameter::Steps,
+    Parameter::Quantum,
+    Parameter::Swap,
+    Parameter::Count,
+];
 
 /// What a command takes for a parameter.
 #[derive(Clone, Copy)]
@@ -81,9 +90,9 @@ impl Signature {
         ensures row { result ≡ row_in (rows_of self) parameter }
     {
         match (self, parameter) {
-            (Signature::Run(_), _) => run_row(parameter, 251, 128),
+            (Signature::Run(_), _) => shared_row(parameter, 251, 128),
             (Signature::Tasks, Parameter::Count) => Some(Row::new(parameter, 1, 4, None)),
-            (Signature::Tasks, _) => run_row(parameter, 62, 32),
+            (Signature::Tasks, _) => shared_row(parameter, 62, 32),
             (Signature::Generate, Parameter::Seed) => {
                 Some(Row::new(parameter, 0, 4_294_967_295, None))
             }
@@ -107,15 +116,15 @@ impl Aim {
     }
 }
 
-/// The row of a parameter of a run, which may have so many swap slots, and has these by default.
-fn run_row(parameter: Parameter, most_swap: u64, default_swap: u64) -> Option<Row>
-    ensures row { result ≡ row_in (rows_of_run most_swap default_swap) parameter }
+/// The row of a parameter that `run` and `tasks` have, with so many swap slots at most, and with these by default.
+fn shared_row(parameter: Parameter, most_swap: u64, default_swap: u64) -> Option<Row>
+    ensures row { result ≡ row_in (shared_rows most_swap default_swap) parameter }
 {
     match parameter {
         Parameter::Steps => Some(Row::new(parameter, 0, 1_000_000_000, Some(1_000_000))),
         Parameter::Quantum => Some(Row::new(parameter, 1, 255, Some(255))),
         Parameter::Swap => Some(Row::new(parameter, 0, most_swap, Some(default_swap))),
-        Parameter::Seed | Parameter::Count => None,
+        _ => None,
     }
 }
 
@@ -133,10 +142,23 @@ impl Row {
 }
 
 impl Parameter {
+    /// The name that stands in front of its value, where it has one.
+    pub fn name(self) -> Option<&'static str>
+        ensures name { option_map (λ name. name.now) result ≡ name_of self }
+    {
+        match self {
+            Parameter::Seed => None,
+            Parameter::Steps => Some("--steps"),
+            Parameter::Quantum => Some("--quantum"),
+            Parameter::Swap => Some("--swap"),
+            Parameter::Count => Some("--tasks"),
+        }
+    }
+
     /// Where its value is kept.
     pub fn place(self) -> usize
         ensures place { result ≡ place_of self }
-        ensures inside { result < PARAMETERS }
+        ensures inside { result < PARAMETER_COUNT }
     {
         match self {
             Parameter::Seed => 0,

@@ -13,7 +13,7 @@ use Rattle.hex.proofs.HexLemmas.{length-encode_with}
 use Rattle.flash_words.specs.Pages.{word_count, page_words, page_count, word_at, page_of, set_page}
 use Rattle.flash_words.specs.Memory.{AreWords}
 use Rattle.flash_words.proofs.PageLaws.{page_word, length-page_of, length-set_page, word_in_page, word_out_of_page}
-use Rattle.base_laws.proofs.ManyLaws.{length-many, get_or-many}
+use Rattle.base_laws.proofs.ManyLaws.{length-many, get_or-many, length-two_each}
 use Rattle.line_reader.specs.Lines.{lines_of}
 use Rattle.line_reader.specs.Cutting.{Lacks}
 use Rattle.line_reader.specs.Written.{IsPlain}
@@ -104,17 +104,13 @@ number_read page low =
 number_digits_all : (page : ℕ) → page < 1000 → AllDigits 10 (three_digits page)
 number_digits_all page low = (omega (arith, decimal_digit (page / 100) (omega arith)), (omega (arith, decimal_digit (page / 10 % 10) (omega arith)), (omega (arith, decimal_digit (page % 10) (omega arith)), tt)))
 
-length-bytes : (words : List ℕ) → length (bytes_of_words words) ≡ 2 * length words
-length-bytes [] = refl
-length-bytes (word ∷ words) = omega (arith, length-bytes words)
-
 word_small : (words : List ℕ) (k : ℕ) → AreWords words → get_or words k 0 < 65536
 word_small words k fit = fit k
 
 line_has_page : (page : ℕ) (words : List ℕ) → page < 512 → length words ≡ 128 → AreWords words → HasPage (page_line page words)
 line_has_page page words low long fit =
     let text = encode_upper (bytes_of_words words) in
-    let size : length text ≡ 512 = length-encode_with upper_digits (bytes_of_words words) ∙ omega (arith, length-bytes words) in
+    let size : length text ≡ 512 = length-encode_with upper_digits (bytes_of_words words) ∙ omega (arith, length-two_each (λ word. word / 256) (λ word. word % 256) words) in
     record {
       size = omega (arith, size);
       front = refl;

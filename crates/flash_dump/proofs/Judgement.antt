@@ -29,7 +29,7 @@ one_fault_of_line least line faults.Range faults.Form first second = absurd (sec
 one_fault_of_line least line faults.Range faults.Order first second = absurd (omega (arith, first.1, second.1))
 one_fault_of_line least line faults.Range faults.Range first second = refl
 
--- the same of lines
+-- lines have one first fault, in one line
 one_fault_of_lines : (least number : ℕ) (lines : List (List ℕ)) (n m : ℕ) (a b : DumpFault) → IsFirstFault least number lines n a → IsFirstFault least number lines m b → (n ≡ m) × (a ≡ b)
 one_fault_of_lines least number [] n m a b first second = absurd first
 one_fault_of_lines least number (line ∷ lines) n m a b (inl here) (inl there) = (here.0 ∙ sym there.0, one_fault_of_line least line a b here.1 there.1)

@@ -14,12 +14,9 @@ word_of_image n a words below fits = get_or-take n words a 0xFFFF below ∙ get_
 pub word_behind_image : (n a : ℕ) (words : List ℕ) → n ≤ a → word (take n words) a ≡ 0xFFFF
 word_behind_image n a words behind = get_or_past (take n words) a 0xFFFF (omega (arith, length-take n words))
 
-below : (n m : ℕ) → n ≡ m → m < 65536 → n < 65536
-below n m same fits = omega arith
-
 -- the first n words, with 0xFFFF behind them, have 16 bits
 pub front_fits : (words : List ℕ) (n a : ℕ) → AreWords words → word (take n words) a < 65536
 front_fits words n a fit = elim (cases_lt a (length (take n words))) [
-  | inl inside ↦ below _ _ (get_or_default (take n words) a 0xFFFF 0 inside ∙ get_or-take n words a 0 (omega (arith, length-take n words))) (fit a)
-  | inr behind ↦ below _ 0xFFFF (get_or_past (take n words) a 0xFFFF behind) (omega arith)
+  | inl inside ↦ omega (arith, get_or_default (take n words) a 0xFFFF 0 inside, get_or-take n words a 0 (omega (arith, length-take n words)), fit a)
+  | inr behind ↦ omega (arith, get_or_past (take n words) a 0xFFFF behind)
 ]

@@ -19,13 +19,13 @@ use Rattle.hex_image.specs.Written.{bytes_of_words, data_line, record_content, r
 use Rattle.hex_image.proofs.ReadingLemmas.{cells_of-push}
 use Rattle.hex_image.proofs.GrammarLemmas.{AreSound, sound_row}
 use Rattle.hex_image.proofs.WrittenLemmas.{IsWritable, record_line-meaning, record_line-plain}
+use Rattle.base_laws.proofs.ManyLaws.{length-two_each}
 use Rattle.base_laws.proofs.Ranges.{range_with_len-push}
 
 -- ---- bytes and words
 
 length-bytes_of_words : (words : List ℕ) → length (bytes_of_words words) ≡ 2 * length words
-length-bytes_of_words [] = refl
-length-bytes_of_words (word ∷ words) = omega (arith, length-bytes_of_words words)
+length-bytes_of_words words = length-two_each (λ word. word % 256) (λ word. word / 256) words
 
 bytes_of_words-fit : (words : List ℕ) → All (λ word. word < 2 ^ 16) words → IsBytes (bytes_of_words words)
 bytes_of_words-fit [] small i = omega arith

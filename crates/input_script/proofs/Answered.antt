@@ -1,7 +1,6 @@
 -- What each answer of `read` says of the text.
-use Rattle.std.specs.Prelude.{◌==◌, IsErrAnd}
-use Rattle.std.proofs.Common.{true, arith, ◌≡◌, ℕ, ◌+◌, ◌⊎◌, List, [], ◌∷◌, length, Result, Ok, Err, ap, ap₂, sym, refl, subst, inl, inr}
-use Rattle.std.proofs.lemmas.Bool.Decides.{nat_tests}
+use Rattle.std.specs.Prelude.{IsErrAnd}
+use Rattle.std.proofs.Common.{◌≡◌, ℕ, ◌+◌, ◌⊎◌, List, ◌∷◌, Result, Ok, Err, ap, ap₂, sym, refl, subst, inl, inr}
 use Rattle.input_script.specs.declared.fault.ScriptFault.{ScriptFault}
 use Rattle.input_script.specs.declared.fault.ScriptError.{ScriptError}
 use Rattle.input_script.specs.declared.fault.ScriptError.TheVariants.{Bad, NoMemory}
@@ -43,11 +42,3 @@ refused_as text (Bad at other) tells line fault bad =
 pub err_is : {T : Type 0} (result : Result T ScriptError) (error : ScriptError) → IsErrAnd result (λ e. e ≡ error) → result ≡ Err error
 err_is (Ok x) error passed = absurd passed
 err_is (Err e) error passed = ap (λ x. Err x) passed
-
-zero_from : (n : ℕ) → true ≡ (n == 0) → n ≡ 0
-zero_from n test = grind (arith, nat_tests)
-
--- a text without a byte has no line
-pub no_lines : (text : List ℕ) → true ≡ (length text == 0) → lines_of text ≡ []
-no_lines [] empty = refl
-no_lines (b ∷ text) empty = let none : length (b ∷ text) ≡ 0 = zero_from (length (b ∷ text)) empty in absurd (omega arith)

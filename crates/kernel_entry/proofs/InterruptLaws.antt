@@ -1,5 +1,5 @@
 -- An interrupt that is taken is the original program's.
-use Rattle.std.specs.Prelude.{◌≤◌, ◌<◌}
+use Rattle.std.specs.Prelude.{◌<◌}
 use Rattle.std.proofs.Common.{arith, ◌≡◌, ℕ, ◌+◌, Bool, true, false, cond, refl, sym, ap, ap₂, subst, ◌∙◌}
 use Rattle.std.specs.Prelude.{◌≢◌, ◌==◌, not, None, Result, Ok, Err, ◌&&◌}
 use Rattle.std.proofs.lemmas.Bool.Decides.{nat_tests}
@@ -12,7 +12,8 @@ use Rattle.avr_exec.specs.declared.stop.BusStop.{BusStop}
 use Rattle.flat_machine.specs.Addresses.{is_stack}
 use Rattle.heap_frames.specs.Paged.{IsPaged}
 use Rattle.sram_layout.specs.Bytes.{byte_at, with_word}
-use Rattle.sram_layout.specs.Cells.{vsp_cell}
+use Rattle.sram_layout.specs.Cells.{count_cell, vsp_cell}
+use Rattle.sram_layout.specs.Regions.{KeepsRegion, place_cells}
 use Rattle.sram_layout.proofs.Laws.{byte_out_of_word, word_low}
 use Rattle.heap_frames.proofs.SamePagingLaws.{paged_same}
 use Rattle.kernel_entry.proofs.LeftLaws.{same_stored}
@@ -126,8 +127,8 @@ pub record KeepsTaken (k new : Kernel) : Type 0 where
   pub top : new.mote.cpu.sp ≡ k.mote.cpu.sp
   pub polls : new.mote.devices.polls ≡ k.mote.devices.polls
   pub paged : IsPaged new.mote.sram new.mote.swap
-  pub count : byte_at new.mote.sram 0x0100 ≡ byte_at k.mote.sram 0x0100
-  pub tables : (b : ℕ) → 0x0142 ≤ b → b < 0x0400 → byte_at new.mote.sram b ≡ byte_at k.mote.sram b
+  pub count : byte_at new.mote.sram count_cell ≡ byte_at k.mote.sram count_cell
+  pub tables : KeepsRegion place_cells k.mote.sram new.mote.sram
   pub pointer : byte_at new.mote.sram vsp_cell < 256
 
 abbrev pub KeepsIf : Kernel → Taken × Kernel → Type 0
@@ -146,7 +147,7 @@ keeps_as k n target (Went done g) left same = record {
   top = refl;
   polls = ap (λ (d : Devices). d.polls) same;
   paged = paged_same g.sram (with_word g.sram vsp_cell (wrapping_difference (virtual_sp k) 2)) g.swap (same_stored g.sram (wrapping_difference (virtual_sp k) 2)) left.0.paged;
-  count = byte_out_of_word g.sram vsp_cell 0x0100 (wrapping_difference (virtual_sp k) 2) (omega arith) (omega arith) (λ e. omega arith) (λ e. omega arith) ∙ left.0.cells 0x0100 (omega arith) (omega arith);
+  count = byte_out_of_word g.sram vsp_cell count_cell (wrapping_difference (virtual_sp k) 2) (omega arith) (omega arith) (λ e. omega arith) (λ e. omega arith) ∙ left.0.cells count_cell (omega arith) (omega arith);
   tables = λ b low high. byte_out_of_word g.sram vsp_cell b (wrapping_difference (virtual_sp k) 2) (omega arith) (omega arith) (λ e. omega arith) (λ e. omega arith) ∙ left.0.tables b (omega arith) high;
   pointer = let size = left.0.paged.sized.sram in omega (arith, word_low g.sram vsp_cell (wrapping_difference (virtual_sp k) 2) (omega arith) (omega arith));
 }

@@ -124,7 +124,7 @@ line_after_push : (s next : FlatSpace) (sp ret : ℕ) (done : Unit {0}) → push
 unfolding push_return
 line_after_push s next sp ret done is = line_pushed (is_stack sp) (is_stack (wrapping_difference sp 1)) s next sp (wrapping_difference sp 1) (ret % 256) (ret / 256) done is
 
--- the same of a call and a jump through Z
+-- the core behind a call, or a call through Z, whose return address was pushed
 abbrev pub after_push : Kernel → ℕ → Outcome FlatSpace (Unit {0}) → Outcome FlatSpace Cpu
 after_push k to (Went done space) = Went (record (core_of k (descriptor k)) { sp = wrapping_difference (virtual_sp k) 2; pc = to }) space
 after_push k to (Stopped stop) = Stopped stop

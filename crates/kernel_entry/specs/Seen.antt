@@ -33,7 +33,7 @@ view_of k = record {
   pages = pages k.mote.sram;
 }
 
--- the same of a core and a flat memory
+-- what a program sees of a core and a flat memory
 abbrev pub view_by : Cpu → FlatSpace → View
 view_by core space = record {
   registers = core.r;

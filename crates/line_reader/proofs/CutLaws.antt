@@ -1,4 +1,4 @@
--- A text cut at the first place of a byte.
+-- A text cut at the first position of a byte.
 use Rattle.std.proofs.Common.{◌≡◌, ℕ, zero, suc, ◌+◌, ◌<◌, ◌≤◌, Bool, true, false, eqb, List, [], ◌∷◌, ◌++◌, length, get_or, take, drop, arith, ap, ap₂, ◌∙◌, sym, refl, Some, None, inl, inr}
 use Rattle.std.specs.Prelude.{◌≢◌, position}
 use Rattle.std.specs.List.{position_or_len}
@@ -15,7 +15,7 @@ unlike b byte differs same = grind (arith, nat_tests)
 like : (b byte : ℕ) → eqb b byte ≡ true → b ≡ byte
 like b byte equals = grind (arith, nat_tests)
 
--- the front of a text lacks a byte that stands at none of its places
+-- the front of a text lacks a byte that stands at none of its positions
 lacks_front : (byte : ℕ) (text : List ℕ) (i : ℕ) → ((k : ℕ) → k < i → eqb (get_or text k 0) byte ≡ false) → Lacks byte (take i text)
 lacks_front byte [] zero none = tt
 lacks_front byte [] (suc i) none = tt
@@ -36,7 +36,7 @@ lacks_unplaced byte text nowhere =
     ] in
     lacks_all byte text (λ k below. fails_before_first p text k 0 (omega arith))
 
--- a byte at its first place
+-- a byte at its first position
 pub lacks_placed : (byte : ℕ) (text : List ℕ) (i : ℕ) → position (λ b. eqb b byte) text ≡ Some i → Lacks byte (take i text)
 lacks_placed byte text i here =
     let facts = position-Some (λ b. eqb b byte) text i 0 here in
@@ -47,7 +47,7 @@ cut_placed byte text i here =
     let facts = position-Some (λ b. eqb b byte) text i 0 here in
     sym (take-append-drop i text) ∙ ap (λ rest. take i text ++ rest) (drop_more text i 0 facts.0 ∙ ap (λ b. b ∷ drop (i + 1) text) (like (get_or text i 0) byte facts.1))
 
--- a text has one first place of a byte
+-- a text has one first position of a byte
 pub one_cut : (byte : ℕ) (xs ys r s : List ℕ) → Lacks byte xs → Lacks byte ys → xs ++ byte ∷ r ≡ ys ++ byte ∷ s → (xs ≡ ys) × (r ≡ s)
 one_cut byte [] [] r s left right same = (refl, cc)
 one_cut byte [] (y ∷ ys) r s left right same = absurd (right.0 cc)

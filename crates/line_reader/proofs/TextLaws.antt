@@ -113,3 +113,11 @@ lines_of-fed lines plain = ap (map line_of) (pieces_of-fed lines plain) ∙ line
 pub concat-fed : (lines : List (List ℕ)) → concat (map fed lines) ≡ flat_map fed lines
 concat-fed [] = refl
 concat-fed (line ∷ lines) = ap (λ z. fed line ++ z) (concat-fed lines)
+
+zero_from : (n : ℕ) → true ≡ (n == 0) → n ≡ 0
+zero_from n test = grind (arith, nat_tests)
+
+-- a text without a byte has no line
+pub no_lines : (text : List ℕ) → true ≡ (length text == 0) → lines_of text ≡ []
+no_lines [] empty = refl
+no_lines (b ∷ text) empty = let none : length (b ∷ text) ≡ 0 = zero_from (length (b ∷ text)) empty in absurd (omega arith)

@@ -17,16 +17,16 @@ pub fn first_line(text: &[u8]) -> (&[u8], &[u8])
     }
 }
 
-/// The text before a byte's first place, and the text behind it.
+/// The text before the first position of a byte, and the text behind it.
 pub fn split_once(text: &[u8], byte: u8) -> Option<(&[u8], &[u8])>
     ensures cases { MatchOption result (Lacks byte text.now) (λ parts. Lacks byte parts.0.now × (text.now ≡ parts.0.now ++ byte ∷ parts.1.now)) }
 {
-    let place = place_of(text, byte)?;
-    Some((&text[..place], &text[place + 1..]))
+    let position = position_of(text, byte)?;
+    Some((&text[..position], &text[position + 1..]))
 }
 
-/// A byte's first place in a text.
-fn place_of(text: &[u8], byte: u8) -> Option<usize>
+/// A byte's first position in a text.
+fn position_of(text: &[u8], byte: u8) -> Option<usize>
     ensures value { result ≡ position (λ b. b == byte) text.now }
 {
     text.iter().position(|b| *b == byte)

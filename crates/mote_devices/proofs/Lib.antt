@@ -1,5 +1,5 @@
 -- Lemmas on the devices' inputs, and laws for the layers above.
-mod PlaceLaws
+mod QueueLaws
 mod PollLaws
 mod WorkedValues
 pub mod WakeLaws

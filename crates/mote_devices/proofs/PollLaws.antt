@@ -8,7 +8,7 @@ use Rattle.input_script.specs.declared.input.Input.{Input}
 use Rattle.input_script.specs.declared.input.Input.TheVariants.{Pin, Uart, Adc, Int}
 use Rattle.input_script.specs.declared.input.Event.{Event}
 use Rattle.mote_devices.specs.Inputs.{Received, after_input, is_due, at_poll}
-use Rattle.mote_devices.specs.Places.{first_is_due, first_taken, with_first}
+use Rattle.mote_devices.specs.Queue.{first_is_due, first_taken, with_first}
 
 abbrev with_coming : Received → List Event → Received
 with_coming r events = record r { coming = events }

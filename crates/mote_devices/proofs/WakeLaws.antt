@@ -12,7 +12,7 @@ use Rattle.input_script.specs.declared.input.Event.{Event}
 use Rattle.mote_devices.specs.Inputs.{Received, after_input, is_due, at_poll}
 use Rattle.mote_devices.specs.State.{State, stored, mask_address}
 use Rattle.mote_devices.specs.Waking.{is_enabled, brought_to, wake_by, wake, calls, first_call, Rising}
-use Rattle.mote_devices.specs.Places.{first_is_due, first_taken, with_first}
+use Rattle.mote_devices.specs.Queue.{first_is_due, first_taken, with_first}
 use Rattle.std.proofs.lemmas.List.Elements.{filter-append}
 use Rattle.std.proofs.lemmas.List.{get_or-drop, length-drop}
 use Rattle.std.specs.Prelude.{All}

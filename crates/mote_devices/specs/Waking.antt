@@ -34,7 +34,7 @@ wake_by (event ∷ events) s = let next = brought_to event.at s in if is_enabled
 unfoldable pub wake : State → Option State
 wake s = if is_enabled s then Some s else wake_by s.received.coming s
 
--- The same said of states alone. Where an interrupt is enabled, the devices wake as they are. Otherwise never where no
+-- What `wake` does, said without its loop. Where an interrupt is enabled, the devices wake as they are. Otherwise never where no
 -- event is left, and else as they do once all has come that is due at the first event's number.
 pub record IsWake (s : State) : Type 0 where
   pub now : is_enabled s ≡ true → wake s ≡ Some s

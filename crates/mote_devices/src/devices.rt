@@ -43,9 +43,9 @@ impl Model for Devices {
 }
 
 impl Devices {
-    ghost use Rattle.std.specs.Prelude.{◌≡◌, ◌<◌, ◌^◌, false, OnErr, IfErr};
+    ghost use Rattle.std.specs.Prelude.{◌≡◌, ◌<◌, ◌^◌, false, length, OnErr, IfErr};
     ghost use Rattle.mote_devices.specs.Inputs.{is_empty};
-    ghost use Rattle.mote_devices.specs.State.{State, at_reset, stored, with_stored, polled, rampz_address, register_count};
+    ghost use Rattle.mote_devices.specs.State.{State, at_reset, stored, with_stored, polled, rampz_address, mask_address, register_count};
     ghost use Rattle.std.specs.Int.{bit_at};
     ghost use Rattle.mote_devices.specs.Waking.{enabled as enabled_of, with_taken, woken, IsWake, Timely};
     ghost use Rattle.mote_devices.specs.Accesses.{is_core_register, Gave, device_answer, read as read_of, read_from, write as write_of, modify as modify_of, value_of, after_value, line_written, after_write, serial_status as serial_status_of};
@@ -90,6 +90,27 @@ impl Devices {
         ensures value { result ≡ enabled_of self.now }
     {
         self.inputs.pending() & self.registers[EIMSK as usize]
+    }
+
+    /// The external interrupts that are pending, enabled or not, INTk in bit k. This is no poll.
+    pub fn pending(&self) -> u8
+        ensures value { result ≡ self.now.received.pending }
+    {
+        self.inputs.pending()
+    }
+
+    /// The register EIMSK, whose bit k enables INTk. This is no poll.
+    pub fn mask(&self) -> u8
+        ensures value { result ≡ stored self.now mask_address }
+    {
+        self.registers[EIMSK as usize]
+    }
+
+    /// How many events of the script are to come.
+    pub fn coming(&self) -> usize
+        ensures value { result ≡ length self.now.received.coming }
+    {
+        self.inputs.coming()
     }
 
     /// Takes an interrupt that is pending and enabled: it is no longer pending.

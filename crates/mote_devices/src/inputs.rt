@@ -1,7 +1,7 @@
 //! The inputs of a script, as the devices receive them.
 
 ghost use Rattle.std.specs.Prelude.{◌≡◌, ◌<◌, ◌≤◌, ◌^◌, [], length, drop, MatchOption};
-ghost use Rattle.mote_devices.specs.Places.{bytes_between, IsNextByte};
+ghost use Rattle.mote_devices.specs.Queue.{bytes_between, IsNextByte};
 ghost use Rattle.mote_devices.specs.Waking.{without, calls as calls_of, first_call as first_call_of, Rising};
 
 use input_script::{Event, Input, Script};
@@ -10,8 +10,8 @@ use std::marker::Model;
 /// How many ports have pins.
 const PORTS: u8 = 4;
 
-/// What the devices have received. The serial port's queue is kept as places in the script: the bytes of
-/// the events taken, from place `serial` on.
+/// What the devices have received. The serial port's queue is kept as indices into the script: the bytes of
+/// the events taken, from index `serial` on.
 #[derive(Drop)]
 pub(crate) struct Inputs {
     pins: [u8; PORTS as usize],
@@ -21,14 +21,14 @@ pub(crate) struct Inputs {
     script: Script,
     /// How many events have taken effect.
     taken: usize,
-    /// The events before this place are no longer in the serial port's queue.
+    /// The events before this index are no longer in the serial port's queue.
     serial: usize,
 }
 
 impl Model for Inputs {
     ghost use Rattle.std.specs.Prelude.{drop};
     ghost use Rattle.mote_devices.specs.Inputs.{Received};
-    ghost use Rattle.mote_devices.specs.Places.{bytes_between, IsKept};
+    ghost use Rattle.mote_devices.specs.Queue.{bytes_between, IsKept};
 
     ghost Value = { Received };
 
@@ -41,7 +41,7 @@ impl Inputs {
     ghost use Rattle.std.specs.Prelude.{◌≡◌, ◌<◌, ◌≤◌, All, length, false, not, drop, slice_index};
     ghost use Rattle.input_script.specs.declared.input.Event.{Event};
     ghost use Rattle.mote_devices.specs.Inputs.{unreceived, at_poll, first_byte, is_empty};
-    ghost use Rattle.mote_devices.specs.Places.{first_is_due, with_first};
+    ghost use Rattle.mote_devices.specs.Queue.{first_is_due, with_first};
 
     /// Nothing was received, and all events are to come.
     pub(crate) fn new(script: Script) -> Inputs
@@ -123,6 +123,13 @@ impl Inputs {
         self.pending
     }
 
+    /// How many events are to come.
+    pub(crate) fn coming(&self) -> usize
+        ensures value { result ≡ length self.now.coming }
+    {
+        self.script.events().len() - self.taken
+    }
+
     /// INTk is no longer pending.
     pub(crate) fn clear(&mut self, k: u8)
         requires number { k < 8 }
@@ -153,7 +160,7 @@ impl Inputs {
     {
         match next_byte(self.script.events(), self.serial, self.taken) {
             Some(waiting) => {
-                self.serial = waiting.place;
+                self.serial = waiting.index;
                 true
             }
             None => {
@@ -170,7 +177,7 @@ impl Inputs {
     {
         match next_byte(self.script.events(), self.serial, self.taken) {
             Some(waiting) => {
-                self.serial = waiting.place + 1;
+                self.serial = waiting.index + 1;
                 waiting.byte
             }
             None => {
@@ -189,14 +196,14 @@ fn bit(k: u8) -> u8
     1 << k
 }
 
-/// The number of the first event from place `from` on that brings an interrupt of `mask`.
+/// The number of the first event from index `from` on that brings an interrupt of `mask`.
 fn first_call(events: &[Event], from: usize, mask: u8) -> Option<u64>
     requires within { from ≤ length events.now }
     ensures first { result ≡ first_call_of mask (drop from events.now) }
 {
-    for place in from..events.len() {
-        if calls(events[place].input, mask) {
-            return Some(u64::from(events[place].at));
+    for index in from..events.len() {
+        if calls(events[index].input, mask) {
+            return Some(u64::from(events[index].at));
         }
     }
     None
@@ -215,20 +222,20 @@ fn calls(input: Input, mask: u8) -> bool
 /// A byte of the serial port's queue.
 #[derive(Clone, Copy)]
 pub(crate) struct Waiting {
-    /// The place of the event that brought it.
-    place: usize,
+    /// The index of the event that brought it.
+    index: usize,
     byte: u8,
 }
 
-/// The first serial byte among the events from place `from` to before `to`.
+/// The first serial byte among the events from index `from` to before `to`.
 fn next_byte(events: &[Event], from: usize, to: usize) -> Option<Waiting>
     requires order { from ≤ to }
     requires within { to ≤ length events.now }
     ensures cases { MatchOption result (bytes_between events.now from to ≡ []) (IsNextByte events.now from to) }
 {
-    for place in from..to {
-        if let Input::Uart(byte) = events[place].input {
-            return Some(Waiting { place, byte });
+    for index in from..to {
+        if let Input::Uart(byte) = events[index].input {
+            return Some(Waiting { index, byte });
         }
     }
     None

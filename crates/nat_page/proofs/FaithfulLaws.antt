@@ -35,7 +35,7 @@ new_flash_faithful layout image right long =
       once = (new_flash_mapped layout image right (omega arith)).once;
     }
 
--- the same said of its words
+-- and so are the words of that flash over the image that they hold
 pub new_flash_held : (layout : Layout) (image words : List ℕ) → IsRight layout → length image ≡ layout.image_words → words ≡ loaded image → IsFaithful layout (image_of layout words) words
 new_flash_held layout image words right long new =
     let P : List ℕ → List ℕ → Type 0 = λ held all. IsFaithful layout held all in

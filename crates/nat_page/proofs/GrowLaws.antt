@@ -12,7 +12,7 @@ use Rattle.page_draft.specs.declared.draft.Draft.{Draft}
 use Rattle.page_draft.specs.Standing.{size}
 use Rattle.page_draft.specs.Runs.{template_at, closing_at, ends_at, address, templates}
 use Rattle.page_draft.specs.CodePages.{code}
-use Rattle.nat_page.specs.Making.{HasNoEntry, Stops}
+use Rattle.nat_page.specs.Making.{HasNoEntry, PageStops}
 use Rattle.page_draft.specs.Drafts.{Adds, code_of, closing_of}
 use Rattle.nat_page.specs.Drafts.{size_with, StopsBehind, GoesOn, IsBegun, IsDrafting, IsDrafted}
 use Rattle.page_draft.proofs.RunLaws.{template_at-range, closing_at-range, size-templates, size-code, page_size-is}
@@ -71,16 +71,16 @@ begun_more layout image words t last next begun on =
     }
 
 -- why the run stops, once its page is chosen
-pub stops_of : (layout : Layout) (image words : List ℕ) (page t last : ℕ) → IsFree words page → address image t last / page_words ≡ t / page_words → StopsBehind layout image words (address image t last) (last + 3 + size (templates image t (suc last))) → Stops layout image words page t last
-stops_of layout image words page t last free paged (StopsBehind.Ends ends) = Stops.Ends ends
-stops_of layout image words page t last free paged (StopsBehind.Leaves leaves) = Stops.Leaves (λ same. leaves (same ∙ sym paged))
-stops_of layout image words page t last free paged (StopsBehind.Outside outside) = Stops.Outside outside
+pub stops_of : (layout : Layout) (image words : List ℕ) (page t last : ℕ) → IsFree words page → address image t last / page_words ≡ t / page_words → StopsBehind layout image words (address image t last) (last + 3 + size (templates image t (suc last))) → PageStops layout image words page t last
+stops_of layout image words page t last free paged (StopsBehind.Ends ends) = PageStops.Ends ends
+stops_of layout image words page t last free paged (StopsBehind.Leaves leaves) = PageStops.Leaves (λ same. leaves (same ∙ sym paged))
+stops_of layout image words page t last free paged (StopsBehind.Outside outside) = PageStops.Outside outside
 stops_of layout image words page t last free paged (StopsBehind.Known v entry) =
-    Stops.Known entry.page entry.index v entry.pool (λ same.
+    PageStops.Known entry.page entry.index v entry.pool (λ same.
     let P : ℕ → Type 0 = λ p. IsFree words p in
     free_lists_nothing words entry.page entry.index _ v (subst P (sym same) free) entry.lists) entry.lists
 stops_of layout image words page t last free paged (StopsBehind.Full full) =
-    Stops.Full (omega (arith, size-templates image t (suc last), page_size-is image t (suc last)))
+    PageStops.Full (omega (arith, size-templates image t (suc last), page_size-is image t (suc last)))
 
 -- how many words a draft has with the instruction behind it
 pub record Counts (image : List ℕ) (t last : ℕ) (draft : Draft) (here : Instruction) : Type 0 where

@@ -5,18 +5,18 @@ use Rattle.flash_words.specs.Pages.{page_words}
 use Rattle.flash_words.specs.declared.layout.Layout.{Layout}
 use Rattle.page_draft.specs.Runs.{address, IsRun}
 use Rattle.page_draft.specs.CodePages.{page_size, place_in_page, made_words}
-use Rattle.nat_page.specs.Making.{HasNoEntry, Stops, IsPrepared}
+use Rattle.nat_page.specs.Making.{HasNoEntry, PageStops, IsPrepared}
 use Rattle.page_draft.proofs.RunLaws.{page_size-rises}
 
 -- a run that goes on behind an instruction doesn't stop there
-goes_on : (layout : Layout) (image words : List ℕ) (page t last further : ℕ) → IsRun image t further → ((i : ℕ) → i ≤ further → HasNoEntry layout words (address image t i)) → page_size image t further ≤ page_words → last < further → Stops layout image words page t last → ⊥
-goes_on layout image words page t last further run unknown fits below (Stops.Ends ends) =
+goes_on : (layout : Layout) (image words : List ℕ) (page t last further : ℕ) → IsRun image t further → ((i : ℕ) → i ≤ further → HasNoEntry layout words (address image t i)) → page_size image t further ≤ page_words → last < further → PageStops layout image words page t last → ⊥
+goes_on layout image words page t last further run unknown fits below (PageStops.Ends ends) =
     let on = run.goes_on last below in cc
-goes_on layout image words page t last further run unknown fits below (Stops.Leaves leaves) = leaves (run.paged (suc last) (omega arith))
-goes_on layout image words page t last further run unknown fits below (Stops.Outside outside) = omega (arith, run.inside (suc last) (omega arith))
-goes_on layout image words page t last further run unknown fits below (Stops.Known other i v pool apart lists) =
+goes_on layout image words page t last further run unknown fits below (PageStops.Leaves leaves) = leaves (run.paged (suc last) (omega arith))
+goes_on layout image words page t last further run unknown fits below (PageStops.Outside outside) = omega (arith, run.inside (suc last) (omega arith))
+goes_on layout image words page t last further run unknown fits below (PageStops.Known other i v pool apart lists) =
     unknown (suc last) (omega arith) v (record { page = other; index = i; pool = pool; lists = lists })
-goes_on layout image words page t last further run unknown fits below (Stops.Full full) =
+goes_on layout image words page t last further run unknown fits below (PageStops.Full full) =
     omega (arith, page_size-rises image t (suc last) further run (omega arith))
 
 one_last : (layout : Layout) (image old : List ℕ) (page t : ℕ) (words words' : List ℕ) (place place' : ℕ) → (one : IsPrepared layout image old page t words place) → (other : IsPrepared layout image old page t words' place') → one.last ≡ other.last

@@ -16,7 +16,8 @@ use Rattle.nat_page.specs.Making.{HasNoEntry}
 abbrev pub size_with : List ℕ → (others pc : ℕ) → ℕ
 size_with image others pc = others + 1 + size (template_at image pc) + size (closing_at image pc)
 
--- why a run stops behind the instruction at the pc
+-- why a run stops behind the instruction at the pc, whichever page it is for: at the last instruction of a free page
+-- these are the causes of `PageStops`
 pub data StopsBehind (layout : Layout) (image words : List ℕ) (pc others : ℕ) : Type 0 where
   Ends : ends_at image pc ≡ true → StopsBehind layout image words pc others
   Leaves : next_of image pc / page_words ≢ pc / page_words → StopsBehind layout image words pc others

@@ -28,12 +28,12 @@ HasNoFree layout words = (page : ℕ) → IsPool layout page → ¬ IsFree words
 -- the next address is in another original page, or outside the image; another page of the pool has its
 -- entry; or the page with the next instruction, and with the closing that it would then need, has more
 -- words than a page.
-pub data Stops (layout : Layout) (image words : List ℕ) (page t last : ℕ) : Type 0 where
-  Ends : ends_at image (address image t last) ≡ true → Stops layout image words page t last
-  Leaves : address image t (suc last) / page_words ≢ t / page_words → Stops layout image words page t last
-  Outside : length image ≤ address image t (suc last) → Stops layout image words page t last
-  Known : (other i v : ℕ) → IsPool layout other → other ≢ page → Lists words other i (address image t (suc last)) v → Stops layout image words page t last
-  Full : page_words < page_size image t (suc last) → Stops layout image words page t last
+pub data PageStops (layout : Layout) (image words : List ℕ) (page t last : ℕ) : Type 0 where
+  Ends : ends_at image (address image t last) ≡ true → PageStops layout image words page t last
+  Leaves : address image t (suc last) / page_words ≢ t / page_words → PageStops layout image words page t last
+  Outside : length image ≤ address image t (suc last) → PageStops layout image words page t last
+  Known : (other i v : ℕ) → IsPool layout other → other ≢ page → Lists words other i (address image t (suc last)) v → PageStops layout image words page t last
+  Full : page_words < page_size image t (suc last) → PageStops layout image words page t last
 
 -- These are the words of the page of the run from t, made in this page, and t's place in it. The run goes on as far
 -- as it may: no address of it has an entry yet, its page has room for it, and behind its last instruction it stops.
@@ -43,7 +43,7 @@ pub record IsPrepared (layout : Layout) (image old : List ℕ) (page t : ℕ) (w
   pub run : IsRun image t last
   pub unknown : (i : ℕ) → i ≤ last → HasNoEntry layout old (address image t i)
   pub fits : page_size image t last ≤ page_words
-  pub stops : Stops layout image old page t last
+  pub stops : PageStops layout image old page t last
   pub is : words ≡ made_words image t last
   pub placed : place ≡ page_words * page + place_in_page image t (suc last) 0
 

@@ -80,14 +80,12 @@ impl Parked {
         // What was parked of a mote is what comes back.
         ensures back { (was : Mote) → length was.sram ≡ byte_count → self.old ≡ parked_of was → IsBack was mote.new }
     {
-        let mut low = [0; LOW_BYTES];
-        mote.sram.part(LOW, &mut low);
-        let mut high = [0; HIGH_BYTES];
-        mote.sram.part(HIGH, &mut high);
-        mote.sram.set_part(LOW, &self.low);
-        mote.sram.set_part(HIGH, &self.high);
-        self.low = low;
-        self.high = high;
+        let low = self.low;
+        let high = self.high;
+        mote.sram.part(LOW, &mut self.low);
+        mote.sram.part(HIGH, &mut self.high);
+        mote.sram.set_part(LOW, &low);
+        mote.sram.set_part(HIGH, &high);
         swap(&mut self.cpu, &mut mote.cpu);
         swap(&mut self.swap, &mut mote.swap);
         swap(&mut self.devices, &mut mote.devices);

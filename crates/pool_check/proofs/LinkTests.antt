@@ -88,7 +88,7 @@ links_back layout image words page pieces code is links =
     let R : List Piece → Type 0 = λ r. EachLink (IsRightLink layout words) (page_words * page) r in
     subst R (sym is) (each_link_more own (IsRightLink layout words) (page_words * page) (page_pieces image t last) (λ s to link. links.lead t last s to holds link) (all_links (page_pieces image t last) (page_words * page)))
 
--- the same of the piece that a loop has
+-- the links behind the piece that a loop is at have what those from it on have
 pub each_on : (links : ℕ → ℕ → Type 0) (a i : ℕ) (pieces : List Piece) (d : Piece) → i < length pieces → EachLink links a (drop i pieces) → EachLink links (a + width (get_or pieces i d)) (drop (i + 1) pieces)
 each_on links a i pieces d below all = (each_at links a i (get_or pieces i d) pieces below (get_or_default pieces i (get_or pieces i d) d below) all).1
 

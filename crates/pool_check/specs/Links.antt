@@ -30,7 +30,7 @@ IsHere links a (Link t) = links a t
 abbrev pub ArePages : Layout → List ℕ → Type 0
 ArePages layout words = (page : ℕ) → IsPool layout page → IsFree words page ⊎ IsMap words page
 
--- the same of the pages up to one
+-- each page of the pool up to this one is
 abbrev pub ArePagesTo : Layout → List ℕ → ℕ → Type 0
 ArePagesTo layout words top = (page : ℕ) → IsPool layout page → page ≤ top → IsFree words page ⊎ IsMap words page
 
@@ -53,7 +53,7 @@ pub record HasLinks (layout : Layout) (image words : List ℕ) (page : ℕ) : Ty
 abbrev pub HaveForms : Layout → (image words : List ℕ) → Type 0
 HaveForms layout image words = (page : ℕ) → page < page_count → HasForm layout image page (page_of words page)
 
--- the same of each page outside the pool
+-- each page outside the pool has its form
 abbrev pub HaveFormsAround : Layout → (image words : List ℕ) → Type 0
 HaveFormsAround layout image words = (page : ℕ) → page < page_count → ¬ IsPool layout page → HasForm layout image page (page_of words page)
 

@@ -56,7 +56,7 @@ place_inside m ready placed =
 pub owed_at : (m : Machine) (owed : Owed) → IsGoing m → m.owed ≡ Some owed → owed.target ≡ m.at
 owed_at m owed ready owes = (owing m _ ready (awaits_some m owed owes)).0
 
--- the same of the arrival as its moves see it
+-- and so is what is awaited, as the moves see the arrival
 pub awaited_at : (m : Machine) (w : Awaited) → IsGoing m → (state_of m).owed ≡ Some w → w.target ≡ m.at
 awaited_at m w ready owes = (owing m w ready owes).0
 

@@ -27,7 +27,7 @@ free_of m is = free_by m.owed m.due is
 pub owes_of : (m : Machine) → m.owed ≢ None → (state_of m).owed ≢ None
 owes_of m owes = λ free. owes (free_of m free)
 
--- the same with nothing due where nothing is owed
+-- where nothing is owed, what is awaited is nothing, whether due or not
 twice_by : (o : Option Owed) (due : Bool) → awaited o (is_some o && due) ≡ awaited o due
 twice_by None due = refl
 twice_by (Some owed) due = refl

@@ -6,7 +6,7 @@ use Rattle.base_laws.specs.Lists.{many}
 use Rattle.base_laws.proofs.ManyLaws.{length-many}
 use Rattle.sram_layout.specs.Boot.{at_boot}
 use Rattle.sram_layout.specs.Bytes.{byte_at, with_byte}
-use Rattle.sram_layout.specs.Cells.{count_cell, vsp_cell}
+use Rattle.sram_layout.specs.Cells.{count_cell, ring_cell, vsp_cell}
 use Rattle.sram_layout.proofs.Laws.{byte_same, byte_other, word_out_of_byte, length-with_byte}
 use Rattle.sram_layout.proofs.BootLaws.{length-at_boot, boot_zero}
 use Rattle.flash_words.specs.Memory.{loaded, new_flash, Memory, IsWhole}
@@ -79,7 +79,7 @@ pointer_begun : (quantum : ℕ) → byte_at (begun_bytes quantum) vsp_cell ≡ 0
 pointer_begun quantum = byte_other at_boot count_cell vsp_cell quantum (omega arith) (omega arith) (λ e. omega arith) ∙ boot_zero vsp_cell (omega arith) (omega arith) (inl (omega arith))
 
 ring_begun : (quantum : ℕ) → ring_of (begun_bytes quantum) ≡ 0
-ring_begun quantum = word_out_of_byte at_boot count_cell 0x0142 quantum (omega arith) (omega arith) (λ e. omega arith) (λ e. omega arith) ∙ boot_word 0x0142 (omega arith) (omega arith)
+ring_begun quantum = word_out_of_byte at_boot count_cell ring_cell quantum (omega arith) (omega arith) (λ e. omega arith) (λ e. omega arith) ∙ boot_word ring_cell (omega arith) (omega arith)
 
 -- the program sees nothing of COUNT
 same_begun : (flash : Memory) (script : Schedule) (quantum slots : ℕ) → SameProgram (record (begun_mote flash script quantum slots) { sram = at_boot }) (begun_mote flash script quantum slots)

@@ -160,7 +160,7 @@ and_inside : (d b c : Bool) → d && (b && c) ≡ false → b ≡ true → d && 
 and_inside d true c is inside = is
 and_inside d false c is inside = absurd (cc)
 
-awaited_due : (o : Option Owed) (d : Bool) (w : Awaited) → awaited o d ≡ Some w → w.due ≡ d
+pub awaited_due : (o : Option Owed) (d : Bool) (w : Awaited) → awaited o d ≡ Some w → w.due ≡ d
 awaited_due None d w is = absurd (cc)
 awaited_due (Some owed) d w is = sym (ap (λ (v : Awaited). v.due) (some_same _ _ is))
 

@@ -9,7 +9,9 @@ use Rattle.std.proofs.lemmas.Bool.Decides.{nat_tests}
 use Rattle.avr_isa.specs.Crossing.{is_crossing}
 use Rattle.flash_words.specs.Memory.{Memory}
 use Rattle.flash_words.specs.declared.layout.Layout.{Layout}
-use Rattle.sram_layout.specs.Bytes.{byte_at, data_word_at}
+use Rattle.sram_layout.specs.Bytes.{data_word_at}
+use Rattle.sram_layout.specs.Cells.{ring_cell}
+use Rattle.sram_layout.specs.Regions.{KeepsRegion, place_cells}
 use Rattle.page_index.specs.Maps.{IsPool}
 use Rattle.branch_bridge.specs.declared.rewriting.Torn.{Torn}
 use Rattle.branch_bridge.specs.Arrivals.{ring_of}
@@ -34,9 +36,9 @@ use Rattle.program_steps.specs.Ready.{count_in, IsByFlash, HasFault, AreTried, I
 use Rattle.program_steps.specs.Loop.{LawOf, Taken}
 use Rattle.program_steps.proofs.Bounds.{arrivals_first}
 
-pub ring_kept : (m n : List ℕ) → ((b : ℕ) → 0x0142 ≤ b → b < 0x0400 → byte_at n b ≡ byte_at m b) → ring_of n ≡ ring_of m
+pub ring_kept : (m n : List ℕ) → KeepsRegion place_cells m n → ring_of n ≡ ring_of m
 unfolding data_word_at
-ring_kept m n same = ap₂ (λ low high. low + 256 * high) (same 0x0142 (omega arith) (omega arith)) (same 0x0143 (omega arith) (omega arith))
+ring_kept m n same = ap₂ (λ low high. low + 256 * high) (same ring_cell (omega arith) (omega arith)) (same (ring_cell + 1) (omega arith) (omega arith))
 
 -- where no operation was refused, none was outside the pool
 pub no_refusal : (refused : Option ℕ) (layout : Layout) → (refused ≢ None → ⊥) → IfSome refused (IsPool layout)

@@ -25,7 +25,7 @@ use Rattle.step_laws.specs.StepLaws.{Keeps, Reaches}
 use Rattle.program_steps.specs.Machines.{Machine, awaited, state_of, numbers_of}
 use Rattle.program_steps.specs.Ready.{count_in, IsGoing, HasBounds}
 use Rattle.program_steps.specs.Stepping.{HasStepped, StepWay, AreOwn}
-use Rattle.program_steps.specs.Interrupts.{IsUntaken, is_wanted_at, is_to_be_taken}
+use Rattle.program_steps.specs.Interrupts.{IsUntaken, is_wanted_at, is_taken_now}
 use Rattle.program_steps.proofs.Bounds.{bounded_counted, most_owed}
 use Rattle.program_steps.proofs.Arrived.{owed_at}
 use Rattle.program_steps.proofs.ReadyLaws.{order_on}
@@ -39,19 +39,19 @@ record Wanted (m : Machine) (owed : Owed) : Type 0 where
   on : has_bit m.kernel.mote.cpu.sreg interrupts ≡ true
   some : is_enabled m.kernel.mote.devices ≡ true
 
-wanted_of : (m : Machine) (owed : Owed) → m.owed ≡ Some owed → is_to_be_taken m ≡ true → Wanted m owed
+wanted_of : (m : Machine) (owed : Owed) → m.owed ≡ Some owed → is_taken_now m ≡ true → Wanted m owed
 wanted_of m owed owes is =
     let one = and_parts m.due (is_wanted_at m.kernel m.owed) is in
     let two = and_parts (is_own m.kernel.part owed.target) (has_bit m.kernel.mote.cpu.sreg interrupts && is_enabled m.kernel.mote.devices) (sym (ap (is_wanted_at m.kernel) owes) ∙ one.1) in
     let three = and_parts (has_bit m.kernel.mote.cpu.sreg interrupts) (is_enabled m.kernel.mote.devices) two.1 in
     record { due = one.0; inside = two.0; on = three.0; some = three.1 }
 
-pub none_wanted : (m : Machine) → m.owed ≡ None → is_to_be_taken m ≡ true → ⊥
+pub none_wanted : (m : Machine) → m.owed ≡ None → is_taken_now m ≡ true → ⊥
 none_wanted m free is =
     let one = and_parts m.due (is_wanted_at m.kernel m.owed) is in
     absurd (let e : false ≡ true = sym (ap (is_wanted_at m.kernel) free) ∙ one.1 in cc)
 
-pub none_taken : (m : Machine) (owed : Owed) → m.owed ≡ Some owed → is_to_be_taken m ≡ true → is_wanted m.kernel ≡ false → ⊥
+pub none_taken : (m : Machine) (owed : Owed) → m.owed ≡ Some owed → is_taken_now m ≡ true → is_wanted m.kernel ≡ false → ⊥
 none_taken m owed owes is none =
     let w = wanted_of m owed owes is in
     absurd (let e : true ≡ false = sym (ap₂ (λ b c. b && c) w.on w.some) ∙ none in cc)
@@ -131,7 +131,7 @@ numbers_stopped : (m : Machine) → ◌≡◌ {A = _} (numbers_of m) (moved (Tak
 unfolding moved
 numbers_stopped m = let same : m.steps ≡ m.steps + 0 = omega arith in ap (λ s. record (numbers_of m) { steps = s }) same
 
-pub taken_vector : (m : Machine) (owed : Owed) (v : ℕ) (k : Kernel) → IsGoing m → m.owed ≡ Some owed → m.steps < 2 ^ 50 → is_to_be_taken m ≡ true → (answers.Vector v, k) ≡ taken m.kernel owed.target → HasStepped m (vectored m v k) None
+pub taken_vector : (m : Machine) (owed : Owed) (v : ℕ) (k : Kernel) → IsGoing m → m.owed ≡ Some owed → m.steps < 2 ^ 50 → is_taken_now m ≡ true → (answers.Vector v, k) ≡ taken m.kernel owed.target → HasStepped m (vectored m v k) None
 unfolding lines_of
 taken_vector m owed v k ready owes few wanted is =
     let w = wanted_of m owed owes wanted in
@@ -155,7 +155,7 @@ taken_vector m owed v k ready owes few wanted is =
           (ap₂ (λ a d. next_of (program m.kernel) (record { now = state_at m.kernel a m.steps m.crossings; due = d })) (sym at) w.due ∙ on);
     }
 
-pub taken_stopped : (m : Machine) (owed : Owed) (stop : Stop) (k : Kernel) → IsGoing m → m.owed ≡ Some owed → m.steps < 2 ^ 50 → is_to_be_taken m ≡ true → (answers.Stopped stop, k) ≡ taken m.kernel owed.target → HasStepped m (record m { kernel = k; end = Some (ends.Stopped stop) }) None
+pub taken_stopped : (m : Machine) (owed : Owed) (stop : Stop) (k : Kernel) → IsGoing m → m.owed ≡ Some owed → m.steps < 2 ^ 50 → is_taken_now m ≡ true → (answers.Stopped stop, k) ≡ taken m.kernel owed.target → HasStepped m (record m { kernel = k; end = Some (ends.Stopped stop) }) None
 unfolding lines_of
 taken_stopped m owed stop k ready owes few wanted is =
     let w = wanted_of m owed owes wanted in
@@ -193,13 +193,13 @@ untaken_as k (Some owed) d w is none =
     let same = some_same _ _ is in
     ap (λ (v : Awaited). v.due && (is_own k.part v.target && (has_bit k.mote.cpu.sreg interrupts && is_enabled k.mote.devices))) (sym same) ∙ none
 
-pub untaken_of : (m : Machine) → is_to_be_taken m ≡ false → IsUntaken m
+pub untaken_of : (m : Machine) → is_taken_now m ≡ false → IsUntaken m
 untaken_of m none w owes = untaken_as m.kernel m.owed m.due w owes none
 
 -- where one is, the arrival is inside the program's part
-wanted_inside : (m : Machine) (o : Option Owed) → m.owed ≡ o → IsGoing m → is_to_be_taken m ≡ true → is_own m.kernel.part m.at ≡ true
+wanted_inside : (m : Machine) (o : Option Owed) → m.owed ≡ o → IsGoing m → is_taken_now m ≡ true → is_own m.kernel.part m.at ≡ true
 wanted_inside m None free ready wanted = absurd (none_wanted m free wanted)
 wanted_inside m (Some owed) owes ready wanted = ap (is_own m.kernel.part) (sym (owed_at m owed ready owes)) ∙ (wanted_of m owed owes wanted).inside
 
-pub taken_inside : (m : Machine) → IsGoing m → is_to_be_taken m ≡ true → is_own m.kernel.part m.at ≡ true
+pub taken_inside : (m : Machine) → IsGoing m → is_taken_now m ≡ true → is_own m.kernel.part m.at ≡ true
 taken_inside m ready wanted = wanted_inside m m.owed refl ready wanted

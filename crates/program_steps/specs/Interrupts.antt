@@ -1,22 +1,21 @@
 -- Serves private functions and the contracts of `enter`, `must_take` and `take`: when an interrupt is taken instead of the arrival
 -- that is owed (docs/MACHINE.md, "A run of n steps").
 use Rattle.std.specs.Prelude.{◌≡◌, ◌&&◌, Bool, false, Option, Some, None}
-use Rattle.avr_flags.specs.Status.{has_bit, interrupts}
-use Rattle.mote_devices.specs.Waking.{is_enabled}
 use Rattle.kernel_entry.specs.declared.kernel.Kernel.{Kernel}
 use Rattle.flat_machine.specs.FlatMachine.{is_own}
 use Rattle.kernel_entry.specs.declared.kernel.Owed.{Owed}
+use Rattle.kernel_entry.specs.Interrupts.{is_wanted}
 use Rattle.step_laws.specs.States.{Awaited, is_taken_at}
 use Rattle.program_steps.specs.Machines.{Machine, state_of}
 
--- the arrival that is owed is inside the program's part, interrupts are on, and one is enabled
+-- An interrupt is wanted at the arrival that is owed: that is inside the program's part, and one is wanted at all.
 abbrev pub is_wanted_at : Kernel → Option Owed → Bool
 is_wanted_at k None = false
-is_wanted_at k (Some owed) = is_own k.part owed.target && (has_bit k.mote.cpu.sreg interrupts && is_enabled k.mote.devices)
+is_wanted_at k (Some owed) = is_own k.part owed.target && is_wanted k
 
--- an interrupt is due as well, and so is taken instead of that arrival
-abbrev pub is_to_be_taken : Machine → Bool
-is_to_be_taken m = m.due && is_wanted_at m.kernel m.owed
+-- One is taken now, instead of that arrival: it is wanted there, and due.
+abbrev pub is_taken_now : Machine → Bool
+is_taken_now m = m.due && is_wanted_at m.kernel m.owed
 
 -- whatever arrival is owed, no interrupt is taken instead of it
 abbrev pub IsUntaken : Machine → Type 0

@@ -52,7 +52,7 @@ pub record Moved (old new : Machine) (before after : Option Line) (inner : Inner
 abbrev pub HasPlain : Machine → Machine → (before after : Option Line) → Type 0
 HasPlain old new before after = (begins : Bool) → (line : Option Line) → (next : State) → MakesPlain (state_of old) begins line next → Moved old new before after (Plain line) next
 
--- the same of a service
+-- a service can be done, and what it leaves
 pub record CanServeNow (x : State) : Type 0 where
   pub line : Option Line
   pub stops : Bool

@@ -3,7 +3,7 @@
 ghost use Rattle.std.specs.Prelude.{◌≡◌, ◌<◌, ◌^◌, true, None};
 ghost use Rattle.program_steps.specs.Ready.{IsGoing};
 ghost use Rattle.program_steps.specs.Stepping.{HasStepped};
-ghost use Rattle.program_steps.specs.Interrupts.{is_wanted_at, is_to_be_taken};
+ghost use Rattle.program_steps.specs.Interrupts.{is_wanted_at as is_wanted_at_test, is_taken_now};
 ghost use Rattle.program_steps.specs.Wholes.{whole};
 
 use crate::progress::Progress;
@@ -14,15 +14,18 @@ use kernel_entry::{End, Kernel, Owed, Taken, has_interrupts, interrupt};
 #[inline(always)]
 pub fn must_take(k: &Kernel, p: &Progress) -> bool
     requires ready { IsGoing (whole k.now p.now) }
-    ensures value { result ≡ is_to_be_taken (whole k.now p.now) }
+    ensures value { result ≡ is_taken_now (whole k.now p.now) }
 {
-    if p.due { is_wanted(k, p.owed) } else { false }
+    if p.due {
+        is_wanted_at(k, p.owed)
+    } else {
+        false
+    }
 }
 
-/// Whether an interrupt that is due is to be taken so: an arrival is owed, inside the program's part, interrupts are on, and one
-/// is enabled.
-fn is_wanted(k: &Kernel, owed: Option<Owed>) -> bool
-    ensures value { result ≡ is_wanted_at k.now owed }
+/// Whether one is wanted at the arrival that is owed: that is inside the program's part, interrupts are on, and one is enabled.
+fn is_wanted_at(k: &Kernel, owed: Option<Owed>) -> bool
+    ensures value { result ≡ is_wanted_at_test k.now owed }
 {
     match owed {
         None => false,
@@ -35,7 +38,7 @@ fn is_wanted(k: &Kernel, owed: Option<Owed>) -> bool
 /// Takes it: a step of the program. Where the program's stack has no room for it, the program has ended.
 pub fn take(k: &mut Kernel, p: &mut Progress) -> Option<End>
     requires ready { IsGoing (whole k.old p.old) }
-    requires wanted { is_to_be_taken (whole k.old p.old) ≡ true }
+    requires wanted { is_taken_now (whole k.old p.old) ≡ true }
     requires steps { p.old.steps < 2 ^ 50 }
     ensures stepped { HasStepped (whole k.old p.old) (whole k.new p.new) None }
     ensures end { result ≡ p.new.end }

@@ -11,6 +11,7 @@ use Rattle.avr_exec.specs.Execution.{is_executed}
 use Rattle.avr_exec.specs.Spaces.{Outcome, Went as WentOn, Stopped as StoppedOn}
 use Rattle.sram_layout.specs.Bytes.{byte_at, with_word}
 use Rattle.sram_layout.specs.Cells.{vsp_cell, count_cell}
+use Rattle.sram_layout.specs.Regions.{KeepsRegion, place_cells}
 use Rattle.sram_layout.proofs.Laws.{byte_out_of_word, length-with_word, word_low}
 use Rattle.heap_frames.specs.Paged.{IsPaged}
 use Rattle.heap_frames.proofs.SamePagingLaws.{same_paging_word, paged_same}
@@ -71,7 +72,7 @@ pub record IsAsked (x : State) (a : ℕ) (ram : List ℕ) (back entry : ℕ) : T
   pub sees : (pc s c : ℕ) → state_at (rested (asked x ram back entry)) pc s c ≡ state_at x.kernel pc s c
   pub count : byte_at (pushed ram back) count_cell ≡ byte_at (mote_of x).sram count_cell
   pub pointer : byte_at (pushed ram back) vsp_cell < 256
-  pub tables : (b : ℕ) → 0x0142 ≤ b → b < 0x0400 → byte_at (pushed ram back) b ≡ byte_at (mote_of x).sram b
+  pub tables : KeepsRegion place_cells (mote_of x).sram (pushed ram back)
   pub shape : shape_behind (asked x ram back entry) ≡ shape_at (image_held x.kernel) a
   pub can : CanExecute (asked x ram back entry)
 

@@ -16,24 +16,14 @@ use Rattle.mote_devices.specs.Accesses.{Gave, read, write, modify, value_of, aft
 use Rattle.mote_devices.proofs.AccessLaws.{can_read_below, can_write_below, read_allowed, write_allowed, modify_allowed, Afterwards, polls_after_read, polls_after_write, polls_after_modify}
 use Rattle.mote_core.specs.Physical.{Physical, is_sram, with_sram, load as physical_load, store as physical_store, modify as physical_modify, from_device as physical_from, to_device as physical_to}
 use Rattle.mote_core.specs.Conditions.{is_device_ask}
-use Rattle.flat_machine.specs.declared.address.AddrClass.{AddrClass}
-use Rattle.flat_machine.specs.declared.address.AddrClass.TheVariants.{Register, Cpu as Core, Io, Stack, Heap}
 use Rattle.flat_machine.specs.Classes.{class_of}
+use Rattle.flat_machine.proofs.ClassLaws.{chosen, low_stack, low_heap}
 use Rattle.mem_guard.specs.Guarded.{Guarded, load as guarded_load, store as guarded_store, modify as guarded_modify, load_in, store_in, from_device, to_device}
 use Rattle.step_laws.specs.Physically.{physical_of, AnswersAlike}
 
--- below data address 256 there is no SRAM, no stack and no heap
+-- below data address 256 there is no SRAM
 no_sram : (a : ℕ) → a < 256 → is_sram a ≡ false
 no_sram a low = grind (arith, nat_tests)
-
-no_stack : (a : ℕ) → a < 256 → is_stack a ≡ false
-no_stack a low = grind (arith, nat_tests)
-
-no_heap : (a : ℕ) → a < 256 → is_heap a ≡ false
-no_heap a low = grind (arith, nat_tests)
-
-abbrev chosen : Bool → Bool → Bool → Bool → AddrClass
-chosen register core stack heap = cond register Register (cond core Core (cond stack Stack (cond heap Heap Io)))
 
 load_by : (register core stack heap : Bool) (g : Guarded) (a : ℕ) → stack ≡ false → heap ≡ false → load_in (chosen register core stack heap) g a ≡ from_device g a (read g.devices a)
 load_by true core stack heap g a s h = refl
@@ -51,11 +41,11 @@ store_by false false false false g a v s h = refl
 
 load_low : (g : Guarded) (a : ℕ) → a < 256 → guarded_load g a ≡ from_device g a (read g.devices a)
 unfolding guarded_load class_of
-load_low g a low = load_by (nat_lt a 0x20) (nat_le 0x5D a && nat_le a 0x5F) (is_stack a) (is_heap a) g a (no_stack a low) (no_heap a low)
+load_low g a low = load_by (nat_lt a 0x20) (nat_le 0x5D a && nat_le a 0x5F) (is_stack a) (is_heap a) g a (low_stack a low) (low_heap a low)
 
 store_low : (g : Guarded) (a v : ℕ) → a < 256 → guarded_store g a v ≡ to_device g a (write g.devices a v)
 unfolding guarded_store class_of
-store_low g a v low = store_by (nat_lt a 0x20) (nat_le 0x5D a && nat_le a 0x5F) (is_stack a) (is_heap a) g a v (no_stack a low) (no_heap a low)
+store_low g a v low = store_by (nat_lt a 0x20) (nat_le 0x5D a && nat_le a 0x5F) (is_stack a) (is_heap a) g a v (low_stack a low) (low_heap a low)
 
 physical_load_low : (s : Physical) (a : ℕ) → a < 256 → physical_load s a ≡ physical_from s a (read s.devices a)
 unfolding physical_load

@@ -143,11 +143,3 @@ written_more task lines own more line rest written is = record {
 pub written_all : (task : ℕ) (text own : List ℕ) → IsWritten task (lines_of text) own [] → lines_of own ≡ own_lines task (lines_of text)
 written_all task text own written =
     ap lines_of (written.own_is ∙ ap (λ l. text_of (own_lines task l)) (sym (written.cut ∙ append-nil written.front))) ∙ own_text_lines task text
-
-zero_from : (n : ℕ) → true ≡ (n == 0) → n ≡ 0
-zero_from n test = grind (arith, nat_tests)
-
--- a text without a byte has no line
-pub no_lines : (text : List ℕ) → true ≡ (length text == 0) → lines_of text ≡ []
-no_lines [] empty = refl
-no_lines (b ∷ text) empty = let none : length (b ∷ text) ≡ 0 = zero_from (length (b ∷ text)) empty in absurd (omega arith)

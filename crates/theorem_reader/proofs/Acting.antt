@@ -1,6 +1,6 @@
 -- The acts of a walk, and what each of them is.
 use Rattle.std.proofs.Common.{◌≡◌, ◌≢◌, ℕ, ◌+◌, ◌/◌, ◌≤◌, Bool, true, false, ◌%◌, ◌-◌, slice_index, cond, List, [], ◌∷◌, length, Option, Some, None, refl, sym, ap, ◌∙◌, subst, arith, ◌⊎◌, ◌<◌, inl, inr, slice_set}
-use Rattle.sram_layout.specs.Bytes.{byte_at, with_byte, data_word_at}
+use Rattle.sram_layout.specs.Bytes.{byte_at, with_byte, data_word_at, with_word}
 use Rattle.flash_words.specs.declared.layout.Layout.{Layout}
 use Rattle.flash_words.specs.Layouts.{layout_of, image_of, IsRight}
 use Rattle.mote_devices.specs.declared.line.Line.{Line}
@@ -14,10 +14,12 @@ use Rattle.avr_isa.specs.Addresses.{wrapping_sum, wrapping_difference}
 use Rattle.avr_flags.specs.Status.{has_bit, interrupts}
 use Rattle.avr_exec.specs.declared.cpu.Cpu.{Cpu}
 use Rattle.avr_exec.specs.Spaces.{Outcome, Went, Stopped}
-use Rattle.flat_machine.specs.FlatSpace.{FlatSpace, flat_calls}
+use Rattle.flat_machine.specs.FlatSpace.{FlatSpace}
 use Rattle.mote_devices.specs.State.{State as Devices}
 use Rattle.mote_devices.specs.Waking.{wake}
-use Rattle.nat_template.specs.Stubs.{quantum_entry, fault_entry}
+use Rattle.nat_template.specs.declared.shapes.TemplateShape.TheVariants.{SelfJump}
+use Rattle.nat_template.specs.Stubs.{quantum_entry, mem_entry, push_return_entry, return_entry, indirect_entry, self_entry, fault_entry}
+use Rattle.preempt_count.proofs.CountLaws.{byte_crossed}
 use Rattle.flash_words.specs.Memory.{Memory}
 use Rattle.page_index.specs.Entries.{IsEntry}
 use Rattle.nat_page.specs.Faithful.{IsFaithful}
@@ -29,21 +31,25 @@ use Rattle.flash_words.proofs.LayoutLaws.{layout_right}
 use Rattle.nat_page.proofs.FaithfulLaws.{faithful_mapped}
 use Rattle.branch_bridge.specs.declared.through.Arrival.{Arrival as BridgeArrival}
 use Rattle.branch_bridge.specs.Operating.{with_torn}
-use Rattle.branch_bridge.specs.Tried.{Tried, is_listed}
-use Rattle.branch_bridge.specs.Arrivals.{Store, ArrivesFrom, CameThrough, KeptThrough, torn_by, stopped_by}
+use Rattle.branch_bridge.specs.declared.rewriting.Torn.{Torn}
+use Rattle.branch_bridge.specs.Tried.{Tried, IsTorn, IsRefusal, torn_at, is_listed}
+use Rattle.branch_bridge.specs.Arrivals.{Store, ArrivesFrom, CameThrough, KeptThrough, torn_by, stopped_by, ring_of}
+use Rattle.branch_bridge.proofs.ArrivalLaws.{from_torn}
 use Rattle.branch_bridge.specs.Arrivals as bridge
 use Rattle.program_steps.proofs.Arriving.{Answered, answered}
 use Rattle.kernel_entry.specs.declared.kernel.Served.{Served}
 use Rattle.kernel_entry.specs.declared.kernel.Stop.{Stop}
-use Rattle.kernel_entry.specs.declared.kernel.Stop.TheVariants.{Asleep}
-use Rattle.kernel_entry.specs.Services.{served, slept_by, is_sleep, faulted}
+use Rattle.kernel_entry.specs.declared.kernel.Stop.TheVariants.{Asleep, Halted, Read}
+use Rattle.kernel_entry.specs.Services.{served, slept, slept_by, is_sleep, faulted, fault_of, foreign_read, read_by, accessed, executed, execution, execution_by, if_instruction, resumed_by, resumed, gone_by, gone}
 use Rattle.kernel_entry.specs.Rows.{HasStopped, ExecutedBy, ReadBy, PushedBy, PoppedBy, CalledBy, GoneThrough, LoopsOrHalts}
 use Rattle.kernel_entry.specs.declared.kernel.Kernel.{Kernel}
 use Rattle.kernel_entry.specs.Conditions.{CanServe, AtBridge, AtQuantum, AtMem, AtPushReturn, AtReturn, AtIndirect, AtSelf, AtFault}
-use Rattle.avr_exec.specs.Execution.{exec_of}
-use Rattle.flat_machine.specs.FlatMachine.{next_size}
+use Rattle.avr_exec.specs.declared.ask.Ask.{Ask}
+use Rattle.avr_exec.specs.Asks.{ask_of}
+use Rattle.avr_exec.specs.Likeness.{Leaves as LeavesSpace}
+use Rattle.mem_guard.specs.Guarded.{Guarded}
 use Rattle.heap_frames.specs.Paged.{IsPaged}
-use Rattle.kernel_entry.specs.Seen.{View, space_of}
+use Rattle.kernel_entry.specs.Seen.{View, view_of, view_by, space_of}
 use Rattle.theorem_reader.specs.Memory.{HasMemory}
 use Rattle.theorem_reader.proofs.Holding.{has_memory}
 use Rattle.kernel_entry.specs.Parts.{virtual_sp, core_of, image_held, return_address, descriptor, instruction, rested}
@@ -56,17 +62,21 @@ use Rattle.heap_frames.proofs.MemoryLaws.{stack_from}
 use Rattle.sram_layout.specs.Cells.{vsp_cell}
 use Rattle.sram_layout.proofs.Laws.{byte_other, byte_out_of_word}
 use Rattle.kernel_entry.specs.Left.{Leaves, LeavesHeap}
-use Rattle.kernel_entry.proofs.ServedLaws.{served_leaves, served_leaves_heap, at_entry, bridge_row, mem_row, push_row, return_row, indirect_row, self_entry_row, slept_is, faulted_is}
+use Rattle.kernel_entry.proofs.LeftLaws.{Kept, kept}
+use Rattle.kernel_entry.proofs.RowLaws.{flatly, ResumedBy, resumes_row, WentBy, goes_row}
+use Rattle.kernel_entry.proofs.ServedLaws.{served_leaves, served_leaves_heap, at_entry, along, serving, looped_as, bridge_row, mem_row, push_row, return_row, indirect_row, self_entry_row, slept_is, faulted_is}
 use Rattle.step_laws.proofs.ServiceMoves.{kernel_served}
 use Rattle.step_laws.specs.Moves.{Plain, Serve, Move, Begin, Within, Arrive, Take}
 use Rattle.step_laws.specs.Numbers.{one_if}
 use Rattle.step_laws.specs.States.{State, mote_of, after_taking, store_of, with_store, placed, settled_by, arrived}
 use Rattle.step_laws.specs.Walks.{Walk, MakesPlain, MakesServe, MakesArrive, MakesTake}
 use Rattle.program_steps.proofs.Arrived.{after_arrived, pc_in}
-use Rattle.theorem_reader.specs.Acts.{Act, Step, Service, Arrival, Interrupt, IsStep, called_from, Executes, Ends, Done, IsService, Relinks, Arrives, In, Outside, Refused as RefusedThere, IsArrival, IsInterrupt, Follow}
-use Rattle.theorem_reader.specs.Pools.{pool_from, IsPlaceOf}
+use Rattle.theorem_reader.specs.Acts.{Act, Step, Service, Arrival, Interrupt, IsStep, called_from, Executes, Ends, Done, Sleeps, Stays, Wakes, IsService, Relinks, IsNext, Arrives, In, Outside, Refused as RefusedThere, IsArrival, IsInterrupt, Follow}
+use Rattle.theorem_reader.specs.Pools.{pool_from, IsInPool, IsPlaceOf, KeepsCode}
 use Rattle.theorem_reader.proofs.Linking.{relinks_by}
-use Rattle.theorem_reader.proofs.Pooling.{Begins, pool_begins, faithful_is, but_is, place_is, place_low}
+use Rattle.theorem_reader.proofs.NextPage.{next_is}
+use Rattle.theorem_reader.proofs.OtherPages.{Stays as StaysThere, others_stay, torn_stays, stays_keep}
+use Rattle.theorem_reader.proofs.Pooling.{Begins, pool_begins, in_pool, faithful_is, but_is, place_is, place_low}
 
 -- a move as an act between these motes
 abbrev pub act_of : Move → Mote → Mote → Act
@@ -105,6 +115,32 @@ at_an_entry k (AtReturn at shape can count) = (omega (arith, at), omega (arith, 
 at_an_entry k (AtIndirect at shape can count) = (omega (arith, at), omega (arith, at))
 at_an_entry k (AtSelf at shape can count) = (omega (arith, at), omega (arith, at))
 at_an_entry k (AtFault at shape can) = (omega (arith, at), omega (arith, at))
+
+-- FAULT: a SLEEP ends, or the program does
+slept_sleeps : (k : Kernel) (o : Option Devices) → wake k.mote.devices ≡ o → Sleeps k.mote (slept_by k o).1.mote
+unfolding byte_at
+slept_sleeps k None is = Stays refl
+slept_sleeps k (Some devices) is = Wakes devices is (λ a low. byte_crossed k.quantum (descriptor k) (wrapping_sum (descriptor k) 1) a k.mote.sram (omega (arith, low)) (λ e. omega (arith, e, low))) refl
+
+slept_by_status : (k : Kernel) (b : Bool) → has_bit k.mote.cpu.sreg interrupts ≡ b → Sleeps k.mote (slept k).1.mote
+slept_by_status k true on = along (λ result new. Sleeps k.mote new.mote) (slept k) (slept_by k (wake k.mote.devices)) (slept_is k true on) (slept_sleeps k (wake k.mote.devices) refl)
+slept_by_status k false off = along (λ result new. Sleeps k.mote new.mote) (slept k) (Served.Stopped (Asleep (descriptor k)), rested k) (slept_is k false off) (Stays refl)
+
+faulted_sleeps : (k : Kernel) (b : Bool) → is_sleep (instruction k) ≡ b → Sleeps k.mote (faulted k).1.mote
+faulted_sleeps k true is = along (λ result new. Sleeps k.mote new.mote) (faulted k) (slept k) (faulted_is k true is) (slept_by_status k _ refl)
+faulted_sleeps k false is = along (λ result new. Sleeps k.mote new.mote) (faulted k) (Served.Stopped (fault_of (descriptor k) (instruction k)), rested k) (faulted_is k false is) (Stays refl)
+
+sleeps_at : (k : Kernel) → k.mote.cpu.pc ≡ 0xF00E → Sleeps k.mote (served k).1.mote
+sleeps_at k at = along (λ result new. Sleeps k.mote new.mote) (served k) (faulted k) (at_entry k fault_entry at) (faulted_sleeps k _ refl)
+
+sleeping_core : (before after : Mote) → Sleeps before after → (after.cpu.pc ≡ before.cpu.pc) × (after.cpu.r ≡ before.cpu.r)
+sleeping_core before after (Stays is) = (ap (λ (m : Mote). m.cpu.pc) is, ap (λ (m : Mote). m.cpu.r) is)
+sleeping_core before after (Wakes devices wakes bytes is) = (ap (λ (m : Mote). m.cpu.pc) is, ap (λ (m : Mote). m.cpu.r) is)
+
+sleeping_cells : (before after : Mote) → Sleeps before after → (a : ℕ) → 0x0105 ≤ a → byte_at after.sram a ≡ byte_at before.sram a
+unfolding byte_at
+sleeping_cells before after (Stays is) a low = ap (λ (m : Mote). slice_index m.sram (a - 0x0100)) is
+sleeping_cells before after (Wakes devices wakes bytes is) a low = bytes a (omega (arith, low))
 
 -- where the pc is behind a service
 abbrev PcAfter : Kernel → Kernel → Type 0
@@ -146,15 +182,6 @@ looped_pc : (k new : Kernel) (result : Served) (b : Bool) → has_bit k.mote.cpu
 looped_pc k new result true on row = (row.on on).pc
 looped_pc k new result false off row = stopped_pc k new result _ (row.off off)
 
-slept_pc : (k : Kernel) (b : Bool) (devices : Option Devices) → (cond b (slept_by k devices) (Served.Stopped (Asleep (descriptor k)), rested k)).1.mote.cpu.pc ≡ k.mote.cpu.pc
-slept_pc k true (Some devices) = refl
-slept_pc k true None = refl
-slept_pc k false devices = refl
-
-faulted_pc : (k : Kernel) (b : Bool) → is_sleep (instruction k) ≡ b → (faulted k).1.mote.cpu.pc ≡ k.mote.cpu.pc
-faulted_pc k true is = ap (λ (p : Served × Kernel). p.1.mote.cpu.pc) (faulted_is k true is ∙ slept_is k _ refl) ∙ slept_pc k _ (wake k.mote.devices)
-faulted_pc k false is = ap (λ (p : Served × Kernel). p.1.mote.cpu.pc) (faulted_is k false is)
-
 served_pc : (k : Kernel) → CanServe k → PcAfter k (served k).1
 served_pc k (AtBridge at) = inl (ap (λ (n : Kernel). n.mote.cpu.pc) (bridge_row k at).stays)
 served_pc k (AtQuantum at) = inl (ap (λ (p : Served × Kernel). p.1.mote.cpu.pc) (at_entry k quantum_entry at))
@@ -163,7 +190,7 @@ served_pc k (AtPushReturn at shape can) = let row = push_row k (AtPushReturn at 
 served_pc k (AtReturn at shape can count) = let row = return_row k (AtReturn at shape can count) at in inl (popped_pc k _ _ row.form _ row.does)
 served_pc k (AtIndirect at shape can count) = let row = indirect_row k (AtIndirect at shape can count) at in inl (through_pc k _ _ row.form row.does)
 served_pc k (AtSelf at shape can count) = inl (looped_pc k _ _ _ refl (self_entry_row k (AtSelf at shape can count) at))
-served_pc k (AtFault at shape can) = inl (ap (λ (p : Served × Kernel). p.1.mote.cpu.pc) (at_entry k fault_entry at) ∙ faulted_pc k _ refl)
+served_pc k (AtFault at shape can) = inl (sleeping_core k.mote (served k).1.mote (sleeps_at k at)).0
 
 -- the registers behind the services from PUSHRET on
 stopped_r : (k new : Kernel) (result : Served) (stop : Stop) → HasStopped k result new stop → new.mote.cpu.r ≡ k.mote.cpu.r
@@ -189,15 +216,6 @@ looped_r : (k new : Kernel) (result : Served) (b : Bool) → has_bit k.mote.cpu.
 looped_r k new result true on row = ap (λ (v : View). v.registers) (row.on on).view
 looped_r k new result false off row = stopped_r k new result _ (row.off off)
 
-slept_r : (k : Kernel) (b : Bool) (devices : Option Devices) → (cond b (slept_by k devices) (Served.Stopped (Asleep (descriptor k)), rested k)).1.mote.cpu.r ≡ k.mote.cpu.r
-slept_r k true (Some devices) = refl
-slept_r k true None = refl
-slept_r k false devices = refl
-
-faulted_r : (k : Kernel) (b : Bool) → is_sleep (instruction k) ≡ b → (faulted k).1.mote.cpu.r ≡ k.mote.cpu.r
-faulted_r k true is = ap (λ (p : Served × Kernel). p.1.mote.cpu.r) (faulted_is k true is ∙ slept_is k _ refl) ∙ slept_r k _ (wake k.mote.devices)
-faulted_r k false is = ap (λ (p : Served × Kernel). p.1.mote.cpu.r) (faulted_is k false is)
-
 served_r : (k : Kernel) → CanServe k → 0xF006 ≤ k.mote.cpu.pc → (served k).1.mote.cpu.r ≡ k.mote.cpu.r
 served_r k (AtBridge at) low = absurd (omega (arith, at, low))
 served_r k (AtQuantum at) low = absurd (omega (arith, at, low))
@@ -206,7 +224,7 @@ served_r k (AtPushReturn at shape can) low = let row = push_row k (AtPushReturn 
 served_r k (AtReturn at shape can count) low = let row = return_row k (AtReturn at shape can count) at in popped_r k _ _ row.form _ row.does
 served_r k (AtIndirect at shape can count) low = let row = indirect_row k (AtIndirect at shape can count) at in through_r k _ _ row.form row.does
 served_r k (AtSelf at shape can count) low = looped_r k _ _ _ refl (self_entry_row k (AtSelf at shape can count) at)
-served_r k (AtFault at shape can) low = ap (λ (p : Served × Kernel). p.1.mote.cpu.r) (at_entry k fault_entry at) ∙ faulted_r k _ refl
+served_r k (AtFault at shape can) low = (sleeping_core k.mote (served k).1.mote (sleeps_at k at)).1
 
 -- QUANTUM, as it changes the mote
 quantum_is : (k : Kernel) → k.mote.cpu.pc ≡ 0xF002 → (count : ℕ) × ((served k).1.mote ≡ record k.mote {
@@ -216,39 +234,123 @@ quantum_is : (k : Kernel) → k.mote.cpu.pc ≡ 0xF002 → (count : ℕ) × ((se
 unfolding byte_at with_byte
 quantum_is k at = (k.quantum, ap (λ (p : Served × Kernel). p.1.mote) (at_entry k quantum_entry at))
 
--- MEM, over the memory that the program sees
-paged_at : (k : Kernel) → CanServe k → k.mote.cpu.pc ≡ 0xF004 → IsPaged k.mote.sram k.mote.swap
-paged_at k (AtBridge at) is = absurd (omega (arith, at, is))
-paged_at k (AtQuantum at) is = absurd (omega (arith, at, is))
-paged_at k (AtMem at shape can) is = can.paged
-paged_at k (AtPushReturn at shape can) is = absurd (omega (arith, at, is))
-paged_at k (AtReturn at shape can count) is = absurd (omega (arith, at, is))
-paged_at k (AtIndirect at shape can count) is = absurd (omega (arith, at, is))
-paged_at k (AtSelf at shape can count) is = absurd (omega (arith, at, is))
-paged_at k (AtFault at shape can) is = absurd (omega (arith, at, is))
+-- An instruction of the program is executed, over the memory that the program sees. The kernel's cells stay.
+record Ran (k new : Kernel) : Type 0 where
+  executes : Executes (image_held k) k.mote new.mote
+  cells : (a : ℕ) → 0x0105 ≤ a → a ≤ 0x011F → byte_at new.mote.sram a ≡ byte_at k.mote.sram a
 
-executes_by : (k new : Kernel) (result : Served) (form : Form) (outcome : Outcome FlatSpace Cpu) → IsPaged k.mote.sram k.mote.swap → IsPaged new.mote.sram new.mote.swap → instruction k ≡ Some form
-    → exec_of flat_calls form (core_of k (descriptor k)) (space_of k) (next_size (image_held k) (descriptor k)) ≡ outcome → ExecutedBy k result new form outcome → Executes (image_held k) k.mote new.mote
+done_by : (k new : Kernel) (form : Form) (core : Cpu) (space : FlatSpace) → IsPaged k.mote.sram k.mote.swap → IsPaged new.mote.sram new.mote.swap → instruction k ≡ Some form → flatly k form ≡ Went core space → view_of new ≡ view_by core space
+    → Executes (image_held k) k.mote new.mote
 unfolding byte_at data_word_at
-executes_by k new result form (Went core space) paged paged' is executed does =
-    let view = does.resumes.view in
+done_by k new form core space paged paged' is executed view =
     Done form core (space_of k) space is (has_memory k.mote paged) refl refl executed (ap (λ (v : View). v.registers) view) (ap (λ (v : View). v.status) view) (ap (λ (v : View). v.stack_pointer) view)
     (subst (HasMemory new.mote) (ap (λ (v : View). v.memory) view) (has_memory new.mote paged')) (ap (λ (v : View). v.devices) view)
-executes_by k new result form (Stopped stop) paged paged' is executed does = Ends (ap (λ (n : Kernel). n.mote) does.stays)
 
-reads_by : (k new : Kernel) (result : Served) (form : Form) (foreign : Option ℕ) → IsPaged k.mote.sram k.mote.swap → IsPaged new.mote.sram new.mote.swap → instruction k ≡ Some form → ReadBy k result new form foreign → Executes (image_held k) k.mote new.mote
-reads_by k new result form (Some a) paged paged' is does = Ends (ap (λ (n : Kernel). n.mote) does.stays)
-reads_by k new result form None paged paged' is does = executes_by k new result form _ paged paged' is refl does
+resumes_by : (k new : Kernel) (result : Served) (form : Form) (ask : Ask) (outcome : Outcome FlatSpace Cpu) → IsPaged k.mote.sram k.mote.swap → IsPaged new.mote.sram new.mote.swap → instruction k ≡ Some form → flatly k form ≡ outcome
+    → ResumedBy k result new ask outcome → Executes (image_held k) k.mote new.mote
+resumes_by k new result form ask (Went core space) paged paged' is executed does = done_by k new form core space paged paged' is executed does.0.view
+resumes_by k new result form ask (Stopped stop) paged paged' is executed does = Ends (ap (λ (n : Kernel). n.mote) does.stays)
 
-executes_at : (k : Kernel) (can : CanServe k) → k.mote.cpu.pc ≡ 0xF004 → Executes (image_held k) k.mote (served k).1.mote
-executes_at k can at =
-    let row = mem_row k can at in
-    let paged = paged_at k can at in
-    reads_by k (served k).1 (served k).0 row.form _ paged ((served_leaves k can).paged paged) row.is row.does
+goes_by : (k new : Kernel) (result : Served) (form : Form) (outcome : Outcome FlatSpace Cpu) → IsPaged k.mote.sram k.mote.swap → IsPaged new.mote.sram new.mote.swap → instruction k ≡ Some form → flatly k form ≡ outcome
+    → WentBy k result new outcome → Executes (image_held k) k.mote new.mote
+goes_by k new result form (Went core space) paged paged' is executed does = done_by k new form core space paged paged' is executed does.view
+goes_by k new result form (Stopped stop) paged paged' is executed does = Ends (ap (λ (n : Kernel). n.mote) does.stays)
+
+resumed_cells : (k : Kernel) (ask : Ask) (o : Outcome Guarded Cpu) (a : ℕ) → 0x0105 ≤ a → a ≤ 0x011F → LeavesSpace (Kept k ask) o → byte_at (resumed_by k (execution_by k o).0 (execution_by k o).1).1.mote.sram a ≡ byte_at k.mote.sram a
+resumed_cells k ask (Went core memory) a low high left =
+    byte_out_of_word memory.sram vsp_cell a core.sp (omega arith) (omega (arith, low)) (λ e. omega (arith, e, low)) (λ e. omega (arith, e, low)) ∙ left.0.cells a (omega (arith, low)) (omega (arith, high))
+resumed_cells k ask (Stopped stop) a low high left = refl
+
+gone_cells : (k : Kernel) (ask : Ask) (o : Outcome Guarded Cpu) (a : ℕ) → 0x0105 ≤ a → a ≤ 0x011F → LeavesSpace (Kept k ask) o → byte_at (gone_by k (execution_by k o).0 (execution_by k o).1).1.mote.sram a ≡ byte_at k.mote.sram a
+gone_cells k ask (Went core memory) a low high left =
+    byte_crossed k.quantum (descriptor k) core.pc a (with_word memory.sram vsp_cell core.sp) (omega (arith, low)) (λ e. omega (arith, e, low)) ∙ resumed_cells k ask (Went core memory) a low high left
+gone_cells k ask (Stopped stop) a low high left = refl
+
+resumes_is : (k : Kernel) (can : CanServe k) (form : Form) → IsPaged k.mote.sram k.mote.swap → instruction k ≡ Some form → served k ≡ resumed k → Ran k (served k).1
+unfolding resumed
+resumes_is k can form paged is at =
+    let ask = ask_of form (core_of k (descriptor k)) in
+    let e = resumed_by k (execution k form).0 (execution k form).1 in
+    let there : served k ≡ e = at ∙ ap (λ i. if_instruction k i (λ f. resumed_by k (execution k f).0 (execution k f).1)) is in
+    along (λ result new. IsPaged new.mote.sram new.mote.swap → Ran k new) (served k) e there
+    (λ paged'. record {
+      executes = resumes_by k e.1 e.0 form ask (flatly k form) paged paged' is refl (resumes_row k form paged);
+      cells = λ a low high. resumed_cells k ask (executed k form) a low high (kept k form paged);
+    }) ((served_leaves k can).paged paged)
+
+goes_is : (k : Kernel) (can : CanServe k) (form : Form) → IsPaged k.mote.sram k.mote.swap → instruction k ≡ Some form → served k ≡ gone k → Ran k (served k).1
+unfolding gone
+goes_is k can form paged is at =
+    let ask = ask_of form (core_of k (descriptor k)) in
+    let e = gone_by k (execution k form).0 (execution k form).1 in
+    let there : served k ≡ e = at ∙ ap (λ i. if_instruction k i (λ f. gone_by k (execution k f).0 (execution k f).1)) is in
+    along (λ result new. IsPaged new.mote.sram new.mote.swap → Ran k new) (served k) e there
+    (λ paged'. record {
+      executes = goes_by k e.1 e.0 form (flatly k form) paged paged' is refl (goes_row k form paged);
+      cells = λ a low high. gone_cells k ask (executed k form) a low high (kept k form paged);
+    }) ((served_leaves k can).paged paged)
+
+-- .. or the program ends
+rests : (k : Kernel) (result : Served) → served k ≡ (result, rested k) → Ran k (served k).1
+rests k result is = along (λ answer new. Ran k new) (served k) (result, rested k) is (record { executes = Ends refl; cells = λ a low high. refl })
+
+reads_at : (k : Kernel) (can : CanServe k) (form : Form) → IsPaged k.mote.sram k.mote.swap → instruction k ≡ Some form → k.mote.cpu.pc ≡ 0xF004 → (foreign : Option ℕ) → foreign_read k ≡ foreign → Ran k (served k).1
+unfolding accessed
+reads_at k can form paged is at None own = resumes_is k can form paged is (at_entry k mem_entry at ∙ ap (read_by k) own)
+reads_at k can form paged is at (Some a) foreign = rests k (Served.Stopped (Read (descriptor k) a)) (at_entry k mem_entry at ∙ ap (read_by k) foreign)
+
+loops_at : (k : Kernel) (can : CanServe k) (form : Form) → IsPaged k.mote.sram k.mote.swap → instruction k ≡ Some form → k.mote.cpu.pc ≡ 0xF00C → (b : Bool) → has_bit k.mote.cpu.sreg interrupts ≡ b → Ran k (served k).1
+loops_at k can form paged is at true on = goes_is k can form paged is (at_entry k self_entry at ∙ looped_as k true on)
+loops_at k can form paged is at false off = rests k (Served.Stopped (Halted (descriptor k))) (at_entry k self_entry at ∙ looped_as k false off)
+
+runs_at : (k : Kernel) → CanServe k → 0xF004 ≤ k.mote.cpu.pc → k.mote.cpu.pc ≤ 0xF00D → Ran k (served k).1
+runs_at k (AtBridge at) low high = absurd (omega (arith, at, low))
+runs_at k (AtQuantum at) low high = absurd (omega (arith, at, low))
+runs_at k (AtMem at shape can) low high =
+    let row = mem_row k (AtMem at shape can) at in
+    reads_at k (AtMem at shape can) row.form can.paged row.is at (foreign_read k) refl
+runs_at k (AtPushReturn at shape can) low high =
+    let row = push_row k (AtPushReturn at shape can) at in
+    resumes_is k (AtPushReturn at shape can) row.form can.paged row.is (at_entry k push_return_entry at)
+runs_at k (AtReturn at shape can count) low high =
+    let row = return_row k (AtReturn at shape can count) at in
+    goes_is k (AtReturn at shape can count) row.form can.paged row.is (at_entry k return_entry at)
+runs_at k (AtIndirect at shape can count) low high =
+    let row = indirect_row k (AtIndirect at shape can count) at in
+    goes_is k (AtIndirect at shape can count) row.form can.paged row.is (at_entry k indirect_entry at)
+runs_at k (AtSelf at shape can count) low high =
+    let called = (serving k SelfJump shape (λ e. cc) can).called in
+    loops_at k (AtSelf at shape can count) called.form can.paged called.is at (has_bit k.mote.cpu.sreg interrupts) refl
+runs_at k (AtFault at shape can) low high = absurd (omega (arith, at, high))
+
+-- the kernel's cells stay at each entry
+cells_at : (k : Kernel) → CanServe k → (a : ℕ) → 0x0105 ≤ a → a ≤ 0x011F → byte_at (served k).1.mote.sram a ≡ byte_at k.mote.sram a
+unfolding byte_at with_byte
+cells_at k (AtBridge at) a low high = ap (λ (n : Kernel). slice_index n.mote.sram (a - 0x0100)) (bridge_row k at).stays
+cells_at k (AtQuantum at) a low high =
+    ap (λ (p : Served × Kernel). byte_at p.1.mote.sram a) (at_entry k quantum_entry at) ∙ byte_other k.mote.sram 0x0100 a k.quantum (omega arith) (omega (arith, low)) (λ e. omega (arith, e, low))
+cells_at k (AtMem at shape can) a low high = (runs_at k (AtMem at shape can) (omega (arith, at)) (omega (arith, at))).cells a low high
+cells_at k (AtPushReturn at shape can) a low high = (runs_at k (AtPushReturn at shape can) (omega (arith, at)) (omega (arith, at))).cells a low high
+cells_at k (AtReturn at shape can count) a low high = (runs_at k (AtReturn at shape can count) (omega (arith, at)) (omega (arith, at))).cells a low high
+cells_at k (AtIndirect at shape can count) a low high = (runs_at k (AtIndirect at shape can count) (omega (arith, at)) (omega (arith, at))).cells a low high
+cells_at k (AtSelf at shape can count) a low high = (runs_at k (AtSelf at shape can count) (omega (arith, at)) (omega (arith, at))).cells a low high
+cells_at k (AtFault at shape can) a low high = sleeping_cells k.mote (served k).1.mote (sleeps_at k at) a low
+
+last_entry : (k : Kernel) → CanServe k → 0xF00E ≤ k.mote.cpu.pc → k.mote.cpu.pc ≡ 0xF00E
+last_entry k (AtBridge at) low = absurd (omega (arith, at, low))
+last_entry k (AtQuantum at) low = absurd (omega (arith, at, low))
+last_entry k (AtMem at shape can) low = absurd (omega (arith, at, low))
+last_entry k (AtPushReturn at shape can) low = absurd (omega (arith, at, low))
+last_entry k (AtReturn at shape can count) low = absurd (omega (arith, at, low))
+last_entry k (AtIndirect at shape can count) low = absurd (omega (arith, at, low))
+last_entry k (AtSelf at shape can count) low = absurd (omega (arith, at, low))
+last_entry k (AtFault at shape can) low = at
 
 record ServedAs (k new : Kernel) : Type 0 where
   registers : 0xF006 ≤ k.mote.cpu.pc → new.mote.cpu.r ≡ k.mote.cpu.r
-  memory : k.mote.cpu.pc ≡ 0xF004 → Executes (image_held k) k.mote new.mote
+  executes : 0xF004 ≤ k.mote.cpu.pc → k.mote.cpu.pc ≤ 0xF00D → Executes (image_held k) k.mote new.mote
+  sleeps : 0xF00E ≤ k.mote.cpu.pc → Sleeps k.mote new.mote
+  cells : (a : ℕ) → 0x0105 ≤ a → a ≤ 0x011F → byte_at new.mote.sram a ≡ byte_at k.mote.sram a
   pc : PcAfter k new
   bridge : k.mote.cpu.pc ≡ 0xF000 → new.mote ≡ record k.mote { cpu = record k.mote.cpu { sp = 0x011F } }
   quantum : k.mote.cpu.pc ≡ 0xF002 → (count : ℕ) × (new.mote ≡ record k.mote {
@@ -257,7 +359,15 @@ record ServedAs (k new : Kernel) : Type 0 where
   })
 
 served_as : (k : Kernel) → CanServe k → ServedAs k (served k).1
-served_as k can = record { registers = served_r k can; memory = executes_at k can; pc = served_pc k can; bridge = λ at. ap (λ (n : Kernel). n.mote) (bridge_row k at).stays; quantum = quantum_is k }
+served_as k can = record {
+  registers = served_r k can;
+  executes = λ low high. (runs_at k can low high).executes;
+  sleeps = λ low. sleeps_at k (last_entry k can low);
+  cells = cells_at k can;
+  pc = served_pc k can;
+  bridge = λ at. ap (λ (n : Kernel). n.mote) (bridge_row k at).stays;
+  quantum = quantum_is k;
+}
 
 pub service_is : (image : List ℕ) (x y : State) (line : Option Line) (stops : Bool) → image_held x.kernel ≡ image → MakesServe x line stops y → IsService image (mote_of x) (mote_of y)
 unfolding byte_at
@@ -274,7 +384,9 @@ service_is image x y line stops held makes =
       bridge = told.bridge;
       quantum = told.quantum;
       registers = told.registers;
-      memory = λ is. subst (λ i. Executes i (mote_of x) (mote_of y)) held (told.memory is);
+      executes = λ low high. subst (λ i. Executes i (mote_of x) (mote_of y)) held (told.executes low high);
+      sleeps = told.sleeps;
+      cells = told.cells;
       flash = leaves.flash;
       tables = λ a low high. leaves.tables a low (omega arith);
       swap = λ other. (heap other).swap;
@@ -333,32 +445,70 @@ unmade_by : (made : Bool) → one_if made ≡ 0 → made ≡ false
 unmade_by true zero = absurd (omega (arith, zero))
 unmade_by false zero = refl
 
+made_by : (made : Bool) → one_if made ≡ 1 → made ≡ true
+made_by true one = refl
+made_by false one = absurd (omega (arith, one))
+
+-- pages that an arrival doesn't make
+record OthersKeep (image before after : List ℕ) (arrival : BridgeArrival) : Type 0 where
+  again : ℕ
+  other : ℕ
+  here : IfSome arrival.place (λ v. again ≡ v / 128)
+  unrefused : arrival.refused ≡ None → (page : ℕ) → IsInPool image page → page ≢ again → KeepsCode before after page
+  kept : (page : ℕ) → IsInPool image page → page ≢ again → page ≢ other → KeepsCode before after page
+
+lacks_by : (layout : Layout) (old new : Memory) (stop : Option ResolveStop) → IfSome stop (IsRefusal layout old new) → IfSome (torn_at stop) (IsTorn layout new.words)
+lacks_by layout old new None refusal = tt
+lacks_by layout old new (Some stop) refusal = refusal.torn
+
+others_keep : (image : List ℕ) (old new : Store) (t : ℕ) (stub : Option ℕ) (arrival : BridgeArrival) → IsRight (layout_of (length image)) → image_of (layout_of (length image)) old.flash.words ≡ image → IsFaithful (layout_of (length image)) image old.flash.words
+    → ring_of old.sram < (layout_of (length image)).pool_pages → CameThrough (layout_of (length image)) old.flash.words stub t → ArrivesFrom (layout_of (length image)) old new t stub arrival → KeptThrough (layout_of (length image)) old new t arrival
+    → OthersKeep image old.flash.words new.flash.words arrival
+others_keep image old new t stub arrival right held sound ring came from kept =
+    let l = layout_of (length image) in
+    let before = old.flash.words in
+    let after = new.flash.words in
+    let stay = others_stay l old new t stub arrival right (subst (λ i. IsFaithful l i before) (sym held) sound) ring came from in
+    let lacks = subst (λ (o : Option Torn). IfSome o (IsTorn l after)) (sym (from_torn l old new t stub arrival from)) (lacks_by l old.flash new.flash (stopped_by arrival.refused) kept.tried.refused) in
+    let torn = torn_stays l (image_of l before) before after (torn_by arrival.refused) stay.0 right (kept.tried.size ∙ sound.whole) lacks stay.2 in
+    record {
+      again = stay.0;
+      other = torn.0;
+      here = stay.1;
+      unrefused = λ none page inside away. stays_keep l image before after page sound (in_pool image page inside)
+          (subst (λ i. StaysThere i before after page) held (subst (λ r. StaysThere (image_of l before) before (with_torn after (torn_by r)) page) none (stay.2 page (in_pool image page inside) away)));
+      kept = λ page inside away apart. stays_keep l image before after page sound (in_pool image page inside) (subst (λ i. StaysThere i before after page) held (torn.1 page (in_pool image page inside) away apart));
+    }
+
 -- how it ended
 arrives_by : (image : List ℕ) (x y : State) (target : ℕ) (stub : Option ℕ) (store : Store) (arrival : BridgeArrival) → length image ≤ 24576 → image_of (layout_of (length image)) (mote_of x).flash.words ≡ image
     → y ≡ arrived x store arrival → store ≡ store_of y → ArrivesFrom (layout_of (length image)) (store_of x) (store_of y) target stub arrival → KeptThrough (layout_of (length image)) (store_of x) (store_of y) target arrival
     → Answered (layout_of (length image)) (store_of x) (store_of y) target arrival → (made : Bool) → arrival.made ≡ made → IsRight (layout_of (length image)) → IsFaithful (layout_of (length image)) image (mote_of x).flash.words
-    → CameThrough (layout_of (length image)) (mote_of x).flash.words stub target → Arrives image target (one_if made) (mote_of x) (mote_of y)
-arrives_by image x y target stub store arrival few held after same from kept (Answered.Wild is outside) made is_made right sound came =
+    → CameThrough (layout_of (length image)) (mote_of x).flash.words stub target → OthersKeep image (mote_of x).flash.words (mote_of y).flash.words arrival → ring_of (mote_of x).sram < (layout_of (length image)).pool_pages → Arrives image target (one_if made) (mote_of x) (mote_of y)
+arrives_by image x y target stub store arrival few held after same from kept (Answered.Wild is outside) made is_made right sound came others ring =
     let nothing = beyond_is (layout_of (length image)) (store_of x) (store_of y) target stub arrival outside from in
     Outside outside (ap (λ (s : Store). s.flash) nothing.0)
     (ap (λ (s : State). (mote_of s).cpu.pc) after ∙ pc_unplaced (with_store x store) arrival.place arrival.refused nothing.1)
-arrives_by image x y target stub store arrival few held after same from kept (Answered.In place there none inside) made is_made right sound came =
+arrives_by image x y target stub store arrival few held after same from kept (Answered.In place there none inside) made is_made right sound came others ring =
     let l = layout_of (length image) in
     let words = (mote_of y).flash.words in
     let code : IsFaithful l image words = subst (λ r. IsFaithful l image (with_torn words (torn_by r))) none (subst (λ i. IsFaithful l i (with_torn words (torn_by arrival.refused))) held kept.code) in
     let entry : IsEntry l words target place =
     subst (λ p. IfSome p (λ v. IsEntry l words target v)) there (subst (λ r. IfSome arrival.place (λ v. IsEntry l (with_torn words (torn_by r)) target v)) none kept.entered) in
     let pc : (mote_of y).cpu.pc ≡ place = ap (λ (s : State). (mote_of s).cpu.pc) after ∙ pc_in (with_store x store) arrival.place arrival.refused place there in
+    let again : others.again ≡ place / 128 = subst (λ p. IfSome p (λ v. others.again ≡ v / 128)) there others.here in
     In inside (faithful_is image words few code) (subst (IsPlaceOf image words target) (sym pc) (place_is image words target place (faithful_mapped l image words (layout_right (length image) few) code) entry))
+    (λ page pool away. others.unrefused none page pool (λ is. away (is ∙ again ∙ ap (λ v. v / 128) (sym pc))))
     (λ zero. subst (Relinks (mote_of x).flash.words words) (sym pc) (relinks_by l (store_of x) (store_of y) target stub arrival place right (subst (λ i. IsFaithful l i (mote_of x).flash.words) (sym held) sound) came from (is_made ∙ unmade_by made zero) none there))
-arrives_by image x y target stub store arrival few held after same from kept (Answered.Failed stop is inside) made is_made right sound came =
+    (λ one. subst (λ v. IsNext image (mote_of x) (v / 128)) (sym pc) (next_is image (mote_of x) (store_of y) target stub arrival place right held sound ring from (is_made ∙ made_by made one) there))
+arrives_by image x y target stub store arrival few held after same from kept (Answered.Failed stop is inside) made is_made right sound came others ring =
     let l = layout_of (length image) in
     let words = (mote_of y).flash.words in
     let tried : Tried l (mote_of x).flash (mote_of y).flash (Some stop) = subst (λ r. Tried l (mote_of x).flash (mote_of y).flash (stopped_by r)) is kept.tried in
     let refusal = tried.refused in
     let code : IsFaithful l image (with_torn words stop.torn) = subst (λ r. IsFaithful l image (with_torn words (torn_by r))) is (subst (λ i. IsFaithful l i (with_torn words (torn_by arrival.refused))) held kept.code) in
     RefusedThere inside (omega (arith, refusal.later, refusal.last)) (ap (is_listed (mote_of x).flash) (sym refusal.last) ∙ refusal.listed)
-    (but_is image words stop.torn few code refusal.torn)
+    (but_is image words stop.torn few code refusal.torn) others.again others.other others.kept
     (place_either image x y target store arrival stop few after is code (subst (λ r. IfSome arrival.place (λ v. IsEntry l (with_torn words (torn_by r)) target v)) is kept.entered))
 
 record Arriving (image : List ℕ) (target made ops : ℕ) (x y : State) : Type 0 where
@@ -376,6 +526,7 @@ arrival_is image x y target made ops holds makes =
     let few = right.image_fits in
     let from = subst (λ (s : Store). ArrivesFrom l (store_of x) s target makes.owed.stub makes.arrival) (sym after.store_is) (subst (λ k. ArrivesFrom k (store_of x) makes.store target makes.owed.stub makes.arrival) holds.laid makes.arrives) in
     let kept = subst (λ (s : Store). KeptThrough l (store_of x) s target makes.arrival) (sym after.store_is) (subst (λ k. KeptThrough k (store_of x) makes.store target makes.arrival) holds.laid makes.kept) in
+    let ring = subst (λ (k : Layout). ring_of (mote_of x).sram < k.pool_pages) holds.laid makes.can.ring in
     let sound = subst (λ i. IsFaithful l i (mote_of x).flash.words) holds.held (subst (λ k. IsFaithful k (image_of k (mote_of x).flash.words) (mote_of x).flash.words) holds.laid makes.can.faithful) in
     record {
       act = record {
@@ -392,7 +543,8 @@ arrival_is image x y target made ops holds makes =
         high = λ a low. kept.rest.rest a (omega (arith, low)) (inr low);
         below = λ a low. kept.tried.outside a (λ pool. omega (arith, pool.from, begins.first, low));
         above = λ a high. kept.tried.outside a (λ pool. omega (arith, pool.to, begins.end, high));
-        arrives = arrives_by image x y target makes.owed.stub makes.store makes.arrival few holds.held makes.after (sym after.store_is) from kept (answered l (store_of x) (store_of y) target makes.owed.stub makes.arrival from) made makes.makes right sound came;
+        arrives = arrives_by image x y target makes.owed.stub makes.store makes.arrival few holds.held makes.after (sym after.store_is) from kept (answered l (store_of x) (store_of y) target makes.owed.stub makes.arrival from) made makes.makes right sound came
+            (others_keep image (store_of x) (store_of y) target makes.owed.stub makes.arrival right holds.held sound ring came from kept) ring;
       };
       holds = record { laid = after.layout ∙ holds.laid; held = kept.image ∙ holds.held };
     }

@@ -2,6 +2,8 @@
 pub mod Pooling
 pub mod Booting
 pub mod Linking
+pub mod OtherPages
+pub mod NextPage
 pub mod Acting
 pub mod Bounding
 pub mod Holding
@@ -21,3 +23,4 @@ pub mod TakingTurns
 pub mod Sharing
 pub mod Refusing
 pub mod WorkedActs
+pub mod Longer

@@ -1,10 +1,11 @@
 -- The word `run` alone asks for a plain run of the image that a text was written for.
-use Rattle.std.proofs.Common.{◌≡◌, ℕ, ◌+◌, ◌*◌, ◌/◌, ◌≤◌, List, [], ◌∷◌, length, length-append, map, flat_map, take, drop, codes, refl, sym, ap, subst, arith}
+use Rattle.std.proofs.Common.{◌≡◌, ℕ, ◌+◌, ◌*◌, ◌%◌, ◌/◌, ◌≤◌, List, [], ◌∷◌, length, length-append, map, flat_map, take, drop, codes, refl, sym, ap, subst, arith}
 use Rattle.std.specs.List.{range_with_len}
 use Rattle.std.proofs.lemmas.List.{length_push, length-take}
 use Rattle.std.proofs.lemmas.List.FromFn.{length-range_with_len, length-map-range_with_len}
 use Rattle.hex.specs.Hex.{upper_digits}
 use Rattle.hex.proofs.HexLemmas.{length-encode_with}
+use Rattle.base_laws.proofs.ManyLaws.{length-two_each}
 use Rattle.line_reader.specs.Written.{fed}
 use Rattle.hex_image.specs.Places.{cells_of, extent, word_of_cells}
 use Rattle.hex_image.proofs.GrammarLemmas.{extent-small}
@@ -52,20 +53,18 @@ told_pair (Ok told) Asks So first second asks all = all first second asks
 told_pair (Err none) Asks So first second asks all = all
 
 -- The text of an image is short: 44 bytes a line at most, of eight words.
-double : (words : List ℕ) → length (bytes_of_words words) ≡ 2 * length words
-double [] = refl
-double (word ∷ words) = omega (arith, double words)
-
 line_short : (words : List ℕ) (number : ℕ) → length (fed (data_line words number)) ≤ 44
 line_short words number =
     let content = record_content words number in
     let bytes = record_bytes 0 (16 * number) content in
+    let eight = take 8 (drop (8 * number) words) in
+    let double : length (bytes_of_words eight) ≡ 2 * length eight = length-two_each (λ word. word % 256) (λ word. word / 256) eight in
     omega (
       arith,
       length_push (data_line words number) 10,
       length-encode_with upper_digits bytes,
       length_push (fields_of 0 (16 * number) content) (checksum_of (fields_of 0 (16 * number) content)),
-      double (take 8 (drop (8 * number) words)),
+      double,
       length-take 8 (drop (8 * number) words),
     )
 

@@ -13,14 +13,14 @@ use Rattle.nat_page.proofs.FaithfulLaws.{faithful_mapped}
 use Rattle.branch_bridge.specs.declared.arrival.Refused.{Refused as BridgeRefused}
 use Rattle.branch_bridge.specs.Operating.{with_torn}
 use Rattle.kernel_entry.specs.Parts.{image_held}
-use Rattle.kernel_entry.specs.declared.kernel.Owed.{Owed}
 use Rattle.step_laws.specs.Moves.{Inner, Plain, Serve, Move, Begin, Within, Arrive, Take, count_plain, count_serve}
 use Rattle.step_laws.specs.Numbers.{one_if}
 use Rattle.step_laws.specs.States.{State, Awaited, mote_of, end_by, settled_by, placed, with_store}
 use Rattle.step_laws.specs.StepLaws.{Reaches}
 use Rattle.step_laws.specs.Walks.{Walk, MakesArrive, MakesTake}
-use Rattle.program_steps.specs.Machines.{Machine, state_of, awaited, awaits}
+use Rattle.program_steps.specs.Machines.{Machine, state_of, awaits}
 use Rattle.program_steps.specs.Ready.{IsGoing}
+use Rattle.program_steps.proofs.Entered.{awaited_due}
 use Rattle.program_steps.specs.Stepping.{links_in}
 use Rattle.program_steps.specs.Stepping as stepping
 use Rattle.tk_run.specs.Running.{StandsAfter, StepsTo}
@@ -68,12 +68,8 @@ own_acts x z line rest few serves walk =
     record { alone = omega (arith, later.alone); some = omega arith; steps = omega (arith, later.steps, few); services = omega (arith, later.services, serves) }
 
 -- an interrupt that is taken is due
-due_of : (owed : Option Owed) (due : Bool) (w : Awaited) → awaited owed due ≡ Some w → w.due ≡ due
-due_of None due w is = absurd (cc)
-due_of (Some owed) due w is = let e : record { target = owed.target; stub = owed.stub; due = due } ≡ w = cc in ap (λ (v : Awaited). v.due) (sym e)
-
 take_due : (y : Machine) (z : State) (stops : Bool) → MakesTake (state_of y) stops z → y.due ≡ true
-take_due y z stops makes = sym (due_of y.owed y.due makes.owed makes.owes) ∙ (and_parts _ _ makes.taken_now).0
+take_due y z stops makes = sym (awaited_due y.owed y.due makes.owed makes.owes) ∙ (and_parts _ _ makes.taken_now).0
 
 -- and none is taken behind an arrival
 none_owed : (s : State) (refused : Option BridgeRefused) (w : Awaited) → (settled_by s refused).owed ≡ Some w → (settled_by s refused).end ≡ None → ⊥

@@ -6,10 +6,10 @@ use Rattle.theorem_reader.specs.Acts.{Act, Step, Service, Arrival, Interrupt, Ar
 use Rattle.theorem_reader.proofs.Pooling.{place_low}
 
 low_behind : (image : List ℕ) (target made : ℕ) (before after : Mote) → Arrives image target made before after → before.cpu.pc < 0xF000 → after.cpu.pc < 0xF000
-low_behind image target made before after (In inside faithful place linked) low = (place_low image after.flash.words target after.cpu.pc place).1
+low_behind image target made before after (In inside faithful place others linked next) low = (place_low image after.flash.words target after.cpu.pc place).1
 low_behind image target made before after (Outside outside flash pc) low = omega (arith, pc, low)
-low_behind image target made before after (Refused inside later listed faithful (inl pc)) low = omega (arith, pc, low)
-low_behind image target made before after (Refused inside later listed faithful (inr pool)) low = pool.1
+low_behind image target made before after (Refused inside later listed faithful again other others (inl pc)) low = omega (arith, pc, low)
+low_behind image target made before after (Refused inside later listed faithful again other others (inr pool)) low = pool.1
 
 pub no_service_alone : (image : List ℕ) (first : Mote) (acts : List Act) (last : Mote) → Follow image first acts last → first.cpu.pc < 0xF000 → steps_in acts ≡ 0 → services_in acts ≡ 0
 no_service_alone image first [] last follow low none = refl

@@ -1,5 +1,5 @@
 -- What a machine did, one act after another, told by the mote before and after each.
-use Rattle.std.specs.Prelude.{◌≡◌, ◌≢◌, ℕ, suc, ◌+◌, ◌-◌, ◌*◌, ◌%◌, ◌≤◌, ◌⊎◌, List, [], ◌∷◌, ◌++◌, slice_index, slice_set, length, replicate, ◌<◌, ◌==◌, true, Option, Some, None}
+use Rattle.std.specs.Prelude.{◌≡◌, ◌≢◌, ℕ, suc, ◌+◌, ◌-◌, ◌*◌, ◌/◌, ◌%◌, ◌≤◌, ◌⊎◌, List, [], ◌∷◌, ◌++◌, slice_index, slice_set, length, replicate, ◌<◌, ◌==◌, true, Option, Some, None}
 use Rattle.std.specs.Option.{option_map}
 use Rattle.std.specs.List.{list_any}
 use Rattle.avr_isa.specs.declared.form.Form.{Form}
@@ -12,11 +12,13 @@ use Rattle.avr_decode.specs.Decoding.{the_form, size_by_first_word}
 use Rattle.avr_exec.specs.Spaces.{Went}
 use Rattle.avr_exec.specs.Execution.{exec_of}
 use Rattle.mote_devices.specs.declared.line.Line.{Line}
+use Rattle.mote_devices.specs.State.{State}
+use Rattle.mote_devices.specs.Waking.{wake}
 use Rattle.mote_core.specs.declared.mote.Mote.{Mote}
 use Rattle.mote_core.specs.Physical.{physical_calls}
 use Rattle.kernel_entry.specs.declared.kernel.End.{End}
 use Rattle.kernel_entry.specs.declared.kernel.End.TheVariants as ends
-use Rattle.theorem_reader.specs.Pools.{pool_from, AreFaithful, AreFaithfulBut, IsPlaceOf}
+use Rattle.theorem_reader.specs.Pools.{pool_from, IsInPool, AreFaithful, IsErased, AreFaithfulBut, IsPlaceOf, KeepsCode}
 use Rattle.theorem_reader.specs.Memory.{HasMemory}
 
 -- one AVR instruction of the mote in rewritten code; a service of the kernel, which rewritten code called; the arrival
@@ -65,12 +67,19 @@ pub data Executes (image : List ℕ) (before after : Mote) : Type 0 where
       → exec_of flat_calls form (record { r = before.cpu.r; sreg = before.cpu.sreg; sp = program_pointer before; pc = program_address before }) old (next_size image (program_address before)) ≡ Went core new
       → after.cpu.r ≡ core.r → after.cpu.sreg ≡ core.sreg → program_pointer after ≡ core.sp → HasMemory after new.memory → after.devices ≡ new.devices → Executes image before after
 
--- The pc is at one of the kernel's eight entries, 0xF000 to 0xF00F. All of flash stays, and the bytes of SRAM at 0x0142 to
--- 0x03FF. At each entry but 0xF004, which reaches the program's memory, so does the swap area, and 0x0120 to 0x0CFF. The
--- kernel's stack, 0x011E and 0x011F, is empty again. The pc stays, and the kernel has control; or, at 0xF004 and 0xF006,
--- rewritten code goes on: behind the call of the kernel, whose address that stack had, and the one word behind that. At
--- 0xF000 nothing else changes; at 0xF002 but r24 and SREG, from 0x0101 and 0x0102, and the byte at 0x0100; at 0xF004 an
--- instruction of the program is executed; from 0xF006 on the registers stay.
+-- A SLEEP of the program ends: the devices are as inputs leave them, with an enabled interrupt requested (`wake`), and but
+-- for the byte at 0x0100 nothing else changes. Or the program ends there, and nothing changes.
+pub data Sleeps (before after : Mote) : Type 0 where
+  Stays : after ≡ record before { cpu = record before.cpu { sp = 0x011F } } → Sleeps before after
+  Wakes : (devices : State) → wake before.devices ≡ Some devices → ((a : ℕ) → 0x0101 ≤ a → slice_index after.sram (a - 0x0100) ≡ slice_index before.sram (a - 0x0100))
+      → after ≡ record before { cpu = record before.cpu { sp = 0x011F }; sram = after.sram; devices = devices } → Sleeps before after
+
+-- The pc is at one of the kernel's eight entries, 0xF000 to 0xF00F. All of flash stays, and the bytes of SRAM at 0x0105 to
+-- 0x011F and at 0x0142 to 0x03FF. At each entry but 0xF004, which reaches the program's memory, so does the swap area, and
+-- 0x0120 to 0x0CFF. The kernel's stack, 0x011E and 0x011F, is empty again. The pc stays, and the kernel has control; or, at
+-- 0xF004 and 0xF006, rewritten code goes on: behind the call of the kernel, whose address that stack had, and the one word
+-- behind that. At 0xF000 nothing else changes; at 0xF002 but r24 and SREG, from 0x0101 and 0x0102, and the byte at 0x0100;
+-- from 0xF004 to 0xF00D an instruction of the program is executed; at 0xF00E it sleeps. From 0xF006 on the registers stay.
 pub record IsService (image : List ℕ) (before after : Mote) : Type 0 where
   pub low : 0xF000 ≤ before.cpu.pc
   pub high : before.cpu.pc ≤ 0xF00F
@@ -81,9 +90,11 @@ pub record IsService (image : List ℕ) (before after : Mote) : Type 0 where
     cpu = record before.cpu { r = slice_set before.cpu.r 24 (slice_index before.sram 1); sreg = slice_index before.sram 2; sp = 0x011F };
     sram = slice_set before.sram 0 count;
   })
-  pub memory : before.cpu.pc ≡ 0xF004 → Executes image before after
+  pub executes : 0xF004 ≤ before.cpu.pc → before.cpu.pc ≤ 0xF00D → Executes image before after
+  pub sleeps : 0xF00E ≤ before.cpu.pc → Sleeps before after
   pub registers : 0xF006 ≤ before.cpu.pc → after.cpu.r ≡ before.cpu.r
   pub flash : after.flash ≡ before.flash
+  pub cells : (a : ℕ) → 0x0105 ≤ a → a ≤ 0x011F → slice_index after.sram (a - 0x0100) ≡ slice_index before.sram (a - 0x0100)
   pub tables : (a : ℕ) → 0x0142 ≤ a → a ≤ 0x03FF → slice_index after.sram (a - 0x0100) ≡ slice_index before.sram (a - 0x0100)
   pub swap : before.cpu.pc ≢ 0xF004 → after.swap ≡ before.swap
   pub heap : (a : ℕ) → before.cpu.pc ≢ 0xF004 → 0x0120 ≤ a → a ≤ 0x0CFF → slice_index after.sram (a - 0x0100) ≡ slice_index before.sram (a - 0x0100)
@@ -95,15 +106,25 @@ pub data Relinks (before after : List ℕ) (place : ℕ) : Type 0 where
   Linked : (s : ℕ) → slice_index before s ≡ 0x940E → slice_index before (s + 1) ≡ 0xF000
       → after ≡ slice_set (slice_set before s 0x940C) (s + 1) place → Relinks before after place
 
--- How an arrival ends. Control goes on where the code of its target begins; or the target is outside the image, and it is
--- refused; or an operation on flash was refused, the last of those that were tried, and listed to fail; the pc stays then, or
--- is in the pool.
+-- The page that is made: the lowest of the pool that is erased; or, where none is, the one whose number within the pool stands
+-- at 0x0142 and 0x0143: they are recycled in turn.
+pub data IsNext (image : List ℕ) (before : Mote) (page : ℕ) : Type 0 where
+  Lowest : IsErased before.flash.words page → ((lower : ℕ) → IsInPool image lower → lower < page → ¬ IsErased before.flash.words lower) → IsNext image before page
+  InTurn : ((other : ℕ) → IsInPool image other → ¬ IsErased before.flash.words other)
+      → 128 * page ≡ pool_from image + 128 * (slice_index before.sram 0x42 + 256 * slice_index before.sram 0x43) → IsNext image before page
+
+-- How an arrival ends. Control goes on where the code of its target begins; each page of the pool but the one of that place
+-- keeps its code, and if a page was made it is that one. Or the target is outside the image, and it is refused; or an operation
+-- on flash was refused, the last of those that were tried, and listed to fail: each page but two keeps its code; the pc stays
+-- then, or is in the pool.
 pub data Arrives (image : List ℕ) (target made : ℕ) (before after : Mote) : Type 0 where
   In : target < length image → AreFaithful image after.flash.words → IsPlaceOf image after.flash.words target after.cpu.pc
-      → (made ≡ 0 → Relinks before.flash.words after.flash.words after.cpu.pc) → Arrives image target made before after
+      → ((page : ℕ) → IsInPool image page → page ≢ after.cpu.pc / 128 → KeepsCode before.flash.words after.flash.words page)
+      → (made ≡ 0 → Relinks before.flash.words after.flash.words after.cpu.pc) → (made ≡ 1 → IsNext image before (after.cpu.pc / 128)) → Arrives image target made before after
   Outside : length image ≤ target → after.flash ≡ before.flash → after.cpu.pc ≡ before.cpu.pc → Arrives image target made before after
   Refused : target < length image → before.flash.ops < after.flash.ops → list_any (λ n. n == after.flash.ops) before.flash.failing ≡ true
-      → AreFaithfulBut image after.flash.words → (after.cpu.pc ≡ before.cpu.pc) ⊎ ((pool_from image ≤ after.cpu.pc) × (after.cpu.pc < 0xF000)) → Arrives image target made before after
+      → AreFaithfulBut image after.flash.words → (again other : ℕ) → ((page : ℕ) → IsInPool image page → page ≢ again → page ≢ other → KeepsCode before.flash.words after.flash.words page)
+      → (after.cpu.pc ≡ before.cpu.pc) ⊎ ((pool_from image ≤ after.cpu.pc) × (after.cpu.pc < 0xF000)) → Arrives image target made before after
 
 -- Before it flash is faithful. Registers, SREG, stack pointer, devices and swap stay; of SRAM all but 0x0142 to 0x03FF, the
 -- tables of places; of flash all words outside the pool. Flash counts the operations.

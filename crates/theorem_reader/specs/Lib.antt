@@ -7,6 +7,7 @@ pub mod Memory
 pub mod Ends
 pub mod Steps
 pub mod Runs
+pub mod MoreSteps
 pub mod Checks
 pub mod Dumps
 pub mod Restarts

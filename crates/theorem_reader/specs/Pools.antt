@@ -1,6 +1,6 @@
 -- Flash, and what stands in it of a program: the image's words below the pool, in the pool erased pages and rewritten code,
 -- RET in the kernel's pages. Which form a page has, and which links, the crate `pool_check` defines (`Forms` and `Links`).
-use Rattle.std.specs.Prelude.{◌≡◌, ℕ, ◌+◌, ◌*◌, ◌/◌, ◌%◌, ◌<◌, ◌≤◌, nat_le, if◌then◌else◌, List, ◌++◌, take, drop, length, slice_index}
+use Rattle.std.specs.Prelude.{◌≡◌, ℕ, ◌+◌, ◌*◌, ◌/◌, ◌%◌, ◌<◌, ◌≤◌, ◌⊎◌, nat_le, if◌then◌else◌, List, ◌++◌, take, drop, length, slice_index}
 use Rattle.flash_words.specs.Layouts.{layout_of}
 use Rattle.pool_check.specs.Forms.{HasForm}
 use Rattle.pool_check.specs.Links.{HasLinks}
@@ -35,10 +35,14 @@ pub record AreFaithful (image flash : List ℕ) : Type 0 where
 abbrev pub with_page : (flash : List ℕ) → (page : ℕ) → (words : List ℕ) → List ℕ
 with_page flash page words = take (128 * page) flash ++ words ++ drop (128 * page + 128) flash
 
+-- the page is erased
+abbrev pub IsErased : (flash : List ℕ) → (page : ℕ) → Type 0
+IsErased flash page = (k : ℕ) → k < 128 → slice_index flash (128 * page + k) ≡ 0xFFFF
+
 -- Flash is faithful; or one page of the pool, which is erased, lacks 128 words, and with them flash would be faithful.
 pub data AreFaithfulBut (image flash : List ℕ) : Type 0 where
   Whole : AreFaithful image flash → AreFaithfulBut image flash
-  Lacking : (page : ℕ) → (words : List ℕ) → IsInPool image page → ((k : ℕ) → k < 128 → slice_index flash (128 * page + k) ≡ 0xFFFF) → length words ≡ 128
+  Lacking : (page : ℕ) → (words : List ℕ) → IsInPool image page → IsErased flash page → length words ≡ 128
       → AreFaithful image (with_page flash page words) → AreFaithfulBut image flash
 
 -- The code of the original address t begins at the place v. A page of the pool that isn't erased has the number of an
@@ -54,3 +58,16 @@ pub record IsPlaceOf (image flash : List ℕ) (t v : ℕ) : Type 0 where
   pub address : t ≡ 128 * slice_index flash (128 * page) + slice_index flash (128 * page + 2 + index) / 256
   pub place : v ≡ 128 * page + slice_index flash (128 * page + 2 + index) % 256
   pub fits : slice_index flash (128 * page + 2 + index) % 256 < 128
+
+-- Two words of an exit stub: a call of the kernel at 0xF000, or a jump.
+abbrev pub IsExit : (flash : List ℕ) → (s : ℕ) → Type 0
+IsExit flash s = ((slice_index flash s ≡ 0x940E) × (slice_index flash (s + 1) ≡ 0xF000)) ⊎ (slice_index flash s ≡ 0x940C)
+
+-- A word stays; or it is one of an exit stub's two, before and after.
+pub data KeepsWord (before after : List ℕ) (a : ℕ) : Type 0 where
+  Kept : slice_index after a ≡ slice_index before a → KeepsWord before after a
+  Exits : (s : ℕ) → (a ≡ s) ⊎ (a ≡ s + 1) → IsExit before s → IsExit after s → KeepsWord before after a
+
+-- .. for each word of a page: of its code nothing changes but which exit stubs call the kernel, and where the others jump
+abbrev pub KeepsCode : (before after : List ℕ) → (page : ℕ) → Type 0
+KeepsCode before after page = (k : ℕ) → k < 128 → KeepsWord before after (128 * page + k)

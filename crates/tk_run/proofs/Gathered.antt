@@ -12,7 +12,7 @@ use Rattle.program_steps.specs.Ready.{IsGoing, IsQuiet}
 use Rattle.printed_text.specs.DeviceLines.{lines_text}
 use Rattle.program_steps.specs.Stepping.{HasStepped}
 use Rattle.program_steps.specs.Several.{Silently, HasDone}
-use Rattle.program_steps.specs.Interrupts.{is_to_be_taken}
+use Rattle.program_steps.specs.Interrupts.{is_taken_now}
 use Rattle.program_steps.proofs.TakingLaws.{taken_inside}
 use Rattle.tk_run.proofs.RunSoFar.{IsBetween, between_start, begun_between}
 use Rattle.tk_run.proofs.Advancing.{IsIn, is_in, between_on}
@@ -51,10 +51,10 @@ step_on old now new i line text gathered left before after later now' step going
 }
 
 -- behind an interrupt that is taken, which writes no line
-pub take_in : (old now : Machine) (i : ℕ) (before after : Option (List ℕ)) → IsBetween old now i before after → is_to_be_taken now ≡ true → IsIn old now i before after
+pub take_in : (old now : Machine) (i : ℕ) (before after : Option (List ℕ)) → IsBetween old now i before after → is_taken_now now ≡ true → IsIn old now i before after
 take_in old now i before after between wanted = record { ran = between.ran; begun = begun_between old now i before after between; inside = taken_inside now between.ready wanted }
 
-pub take_on : (old now new : Machine) (i : ℕ) (gathered : List ℕ) (before after : Option (List ℕ)) → IsUnderWay old now i gathered before after → is_to_be_taken now ≡ true → HasStepped now new None → new.end ≡ None → IsUnderWay old new (i + 1) gathered before after
+pub take_on : (old now new : Machine) (i : ℕ) (gathered : List ℕ) (before after : Option (List ℕ)) → IsUnderWay old now i gathered before after → is_taken_now now ≡ true → HasStepped now new None → new.end ≡ None → IsUnderWay old new (i + 1) gathered before after
 take_on old now new i gathered before after way wanted step going =
     step_on old now new i None way.text gathered gathered before after after (take_in old now i (Some []) (Some way.text) way.between wanted) step going way.sent
     (subst (λ z. IsSent z gathered after after) (sym (append-nil gathered)) (nothing_sent gathered after))

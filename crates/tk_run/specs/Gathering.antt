@@ -22,7 +22,7 @@ abbrev pub HasGathered : (old new : Machine) → ℕ → List ℕ → (before af
 HasGathered old new n gathered before after (Ok end) = HasText old new n gathered before after end
 HasGathered old new n gathered before after (Err e) = IsCut old new n before after e
 
--- the same with all text put
+-- a run of up to n steps, all of whose text is put
 abbrev pub HasPut : (old new : Machine) → ℕ → (before after : Option (List ℕ)) → Result End Failed → Type 0
 HasPut old new n before after (Ok end) = HasAdvanced old new n before after (Ok end)
 HasPut old new n before after (Err e) = IsCut old new n before after e

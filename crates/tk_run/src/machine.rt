@@ -7,6 +7,7 @@ ghost use Rattle.flash_words.specs.Layouts.{layout_of};
 ghost use Rattle.nat_page.specs.Faithful.{IsFaithful};
 ghost use Rattle.swap_store.specs.Slots.{zero_slots};
 ghost use Rattle.program_steps.specs.Ready.{IsKept};
+ghost use Rattle.program_steps.specs.Wholes.{whole};
 ghost use Rattle.tk_run.specs.Booted.{begun as begun_by, booted, started_over};
 
 use crate::run::run_on;
@@ -76,9 +77,11 @@ impl Model for Machine {
 
     ghost Value = { MachineValue };
 
-    ghost view = { λ m. record { kernel = m.kernel; at = m.at; owed = m.owed; end = m.end; due = m.due; torn = m.torn; broken = m.broken; steps = m.steps; crossings = m.crossings; natural = m.natural; entries = m.entries; pages = m.pages; since = m.since; longest = m.longest; began = m.began; others = 0 } };
+    ghost use Rattle.tk_run.specs.Held.{value_of};
 
-    ghost invariant = { λ m. IsKept (record { kernel = m.kernel; at = m.at; owed = m.owed; end = m.end; due = m.due; torn = m.torn; broken = m.broken; steps = m.steps; crossings = m.crossings; natural = m.natural; entries = m.entries; pages = m.pages; since = m.since; longest = m.longest; began = m.began; others = 0 }) };
+    ghost view = { value_of };
+
+    ghost invariant = { λ m. IsKept (value_of m) };
 }
 
 impl Machine {
@@ -157,18 +160,11 @@ impl Machine {
         }
     }
 
-    /// Does up to n further steps, and puts their device lines to `out`: where 4,096 bytes were gathered,
-    /// each 65,536 steps, and before it answers.
-    ///
-    /// An end is kept: a later call answers it again, writes nothing and changes nothing. Where lines
-    /// could not be put the machine is broken, and may not be run on.
-    pub fn advance<K: Sink>(&mut self, n: u64, out: &mut K) -> Result<End, Failed>
-        requires running { self.old.broken ≡ false }
-        requires steps { self.old.steps + n ≤ 10 ^ 12 }
-        ensures advanced { HasAdvanced self.old self.new n (K.taken out.old) (K.taken out.new) result }
-        ensures cause { HasCause (K.faults out.old) (K.faults out.new) result }
+    /// All of it but the kernel, as the steps of crate `program_steps` take it.
+    pub fn progress(&self) -> Progress
+        ensures whole { whole self.now.kernel result ≡ self.now }
     {
-        let mut p = Progress {
+        Progress {
             at: self.at,
             owed: self.owed,
             end: self.end,
@@ -185,7 +181,21 @@ impl Machine {
             began: self.began,
             others: 0,
             line: None,
-        };
+        }
+    }
+
+    /// Does up to n further steps, and puts their device lines to `out`: where 4,096 bytes were gathered,
+    /// each 65,536 steps, and before it answers.
+    ///
+    /// An end is kept: a later call answers it again, writes nothing and changes nothing. Where lines
+    /// could not be put the machine is broken, and may not be run on.
+    pub fn advance<K: Sink>(&mut self, n: u64, out: &mut K) -> Result<End, Failed>
+        requires running { self.old.broken ≡ false }
+        requires steps { self.old.steps + n ≤ 10 ^ 12 }
+        ensures advanced { HasAdvanced self.old self.new n (K.taken out.old) (K.taken out.new) result }
+        ensures cause { HasCause (K.faults out.old) (K.faults out.new) result }
+    {
+        let mut p = self.progress();
         let result = run_on(&mut self.kernel, &mut p, n, out);
         self.at = p.at;
         self.owed = p.owed;

@@ -25,7 +25,7 @@ use Rattle.parked_tasks.specs.declared.task.Task.{Task}
 use Rattle.task_input.specs.Images.{quarter, task_words}
 use Rattle.task_turns.specs.Quarters.{quarter_part}
 use Rattle.parked_tasks.specs.Parking.{IsSized, taken_up}
-use Rattle.task_turns.specs.Turns.{Player, Turns, at_reset_in, from_start}
+use Rattle.task_turns.specs.Turns.{Player, at_reset_in, from_start}
 use Rattle.tk_tasks.specs.States.{Tasks, arrivals_of, others_of, machine_of, IsTask, AreSound, players_from, turns_of}
 use Rattle.tk_tasks.specs.Booted.{IsUnstarted, booted}
 use Rattle.parked_tasks.specs.AtBoot.{mote_at_boot, at_start, parked_at_boot, waiting_from}
@@ -164,9 +164,6 @@ waiting_players n t words first (script ∷ scripts) quantum slots task kernel p
     ap₂ (λ p l. p ∷ l) (ap (λ (m : Machine). record { program = program_of m.kernel; moment = flat_of m; left = n - 0; end = None }) (first_is t words first script quantum slots task kernel pages) ∙ player_by words script quantum slots task (others_of t (at_start task parked)) n few)
     (waiting_players n t words first scripts quantum slots (task + 1) kernel pages few)
 
-abbrev turns_from : (words : List ℕ) (scripts : List Schedule) (quantum slots n : ℕ) → Turns
-turns_from words scripts quantum slots n = from_start (players_at_reset words 0 scripts quantum slots n)
-
 pub turns_at_boot : (n : ℕ) (image : List ℕ) (first : Schedule) (others : List Schedule) (quantum slots : ℕ) → CanStart (task_words (length others + 1) image) (length others + 1) quantum slots
     → turns_of n (booted image first others quantum slots) ≡ turns_at_reset image (first ∷ others) quantum slots n
 turns_at_boot n image first others quantum slots can =
@@ -176,7 +173,7 @@ turns_at_boot n image first others quantum slots can =
     let count : length others + 1 ≡ length (first ∷ others) = omega arith in
     ap (λ l. record { players = l; running = 0; switches = 0 })
     (ap₂ (λ p l. p ∷ l) (player_by words first quantum slots 0 (others_of t (at_start 0 None)) n few) (waiting_players n t words first others quantum slots 1 refl refl few))
-    ∙ ap (λ c. turns_from (task_words c image) (first ∷ others) quantum slots n) count
+    ∙ ap (λ c. from_start (players_at_reset (task_words c image) 0 (first ∷ others) quantum slots n)) count
 
 -- at boot no task was run
 pub unstarted_at_boot : (image : List ℕ) (first : Schedule) (others : List Schedule) (quantum slots : ℕ) → IsUnstarted (booted image first others quantum slots)

@@ -16,7 +16,7 @@ use Rattle.step_laws.specs.Moves.{Move, line_before}
 use Rattle.program_steps.specs.Machines.{Machine, flat_of}
 use Rattle.program_steps.specs.Ready.{IsGoing}
 use Rattle.program_steps.specs.Stepping.{HasStepped, StepWay, HasEntered, IsArrival, Stays, ends_in_arrive}
-use Rattle.program_steps.specs.Interrupts.{is_wanted_at, is_to_be_taken}
+use Rattle.program_steps.specs.Interrupts.{is_wanted_at, is_taken_now}
 use Rattle.program_steps.specs.Several.{Silently, HasDone}
 use Rattle.program_steps.proofs.Leading.{goes_on, last_on, stays_on}
 use Rattle.program_steps.proofs.OneBehindOther.{goes_on_by, let_in}
@@ -176,7 +176,7 @@ taken_way x y tried taken (StepWay.On ready quiet steps is) going changes end le
     IsBehind.On ready (changes ∙ sym none) (end ∙ ap (λ c. rest_if c y.kernel.part y.at left) (sym none))
 taken_way x y tried taken (StepWay.Stopped stop over kept none steps is stays) going changes end left = absurd (let e : Some (ends.Stopped stop) ≡ None = sym kept ∙ going in cc)
 
-pub taken_on : (x y : Machine) (tried : Tried) → is_to_be_taken x ≡ true → HasStepped x y None → y.end ≡ None → tried.changes ≡ false → tried.end ≡ None → (left : ℕ) → IsBehind x y left tried
+pub taken_on : (x y : Machine) (tried : Tried) → is_taken_now x ≡ true → HasStepped x y None → y.end ≡ None → tried.changes ≡ false → tried.end ≡ None → (left : ℕ) → IsBehind x y left tried
 taken_on x y tried wanted step going changes end left = taken_way x y tried (taken_owed x x.owed wanted) step.way going changes end left
 
 pub taken_over : (x y : Machine) (end : End) (tried : Tried) → StepWay x y None → y.end ≡ Some end → tried.changes ≡ true → tried.end ≡ Some (task_end end) → (left : ℕ) → IsBehind x y left tried

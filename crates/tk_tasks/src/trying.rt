@@ -7,7 +7,7 @@ ghost use Rattle.kernel_entry.specs.declared.kernel.End.{End as Ends};
 ghost use Rattle.program_steps.specs.Machines.{flat_of};
 ghost use Rattle.program_steps.specs.Ready.{IsGoing, IsQuiet};
 ghost use Rattle.program_steps.specs.Stepping.{HasStepped};
-ghost use Rattle.program_steps.specs.Interrupts.{is_to_be_taken};
+ghost use Rattle.program_steps.specs.Interrupts.{is_taken_now};
 ghost use Rattle.program_steps.specs.Wholes.{whole};
 ghost use Rattle.tk_tasks.specs.Trying.{rest_at, rest_if, task_end, IsBehind, HasMade, HasTried};
 ghost use Rattle.task_turns.specs.Checkpoints.{checks_by};
@@ -95,7 +95,7 @@ pub(crate) fn try_on(
 /// An interrupt that the running task takes: a step that is no checkpoint, or its end.
 fn interrupted(k: &mut Kernel, p: &mut Progress) -> Tried
     requires ready { IsGoing (whole k.old p.old) }
-    requires wanted { is_to_be_taken (whole k.old p.old) ≡ true }
+    requires wanted { is_taken_now (whole k.old p.old) ≡ true }
     requires steps { p.old.steps < 2 ^ 50 }
     ensures stepped { HasStepped (whole k.old p.old) (whole k.new p.new) result.line }
     ensures behind { (left : ℕ) → IsBehind (whole k.old p.old) (whole k.new p.new) left result }

@@ -1,10 +1,11 @@
+use Rattle.line_reader.proofs.TextLaws.{no_lines}
 use Rattle.std.proofs.Common.{◌≡◌, ℕ, List, Ok, Err, arith, ap, sym, ◌∙◌, subst, inl, inr}
 use Rattle.input_script.specs.declared.fault.ScriptError.TheVariants.{NoMemory}
 use Rattle.line_reader.specs.Lines.{lines_of}
 use Rattle.input_script.proofs.Done.{IsDone, done_take, done_numbered, done_all}
 use Rattle.std.proofs.lemmas.Grind.{common_steps}
 use Rattle.input_script.proofs.Judgement.{one_judgement}
-use Rattle.input_script.proofs.Answered.{refusal_tells, refused_text, refused_as, wanted_for, err_is, no_lines}
+use Rattle.input_script.proofs.Answered.{refusal_tells, refused_text, refused_as, wanted_for, err_is}
 use Rattle.input_script.proofs.script.read.Goals as goal
 
 pub loop-rest-preserved : goal.loop-rest-preserved

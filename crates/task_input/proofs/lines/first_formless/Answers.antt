@@ -1,6 +1,6 @@
 use Rattle.std.proofs.Common.{rules, ℕ, List, arith, subst}
 use Rattle.line_reader.specs.Lines.{lines_of}
-use Rattle.task_input.proofs.OwnTexts.{no_lines}
+use Rattle.line_reader.proofs.TextLaws.{no_lines}
 use Rattle.task_input.proofs.FirstLines.{HaveForms, forms_more, forms_all, formless_behind, none_formless}
 use Rattle.task_input.proofs.lines.first_formless.Goals as goal
 

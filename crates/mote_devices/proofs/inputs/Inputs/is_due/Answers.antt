@@ -5,7 +5,7 @@ use Rattle.std.proofs.lemmas.List.{get_or_default}
 use Rattle.input_script.specs.declared.input.Event.{Event}
 use Rattle.input_script.specs.Script.{Schedule, IsSchedule}
 use Rattle.mote_devices.specs.Inputs.{Received, at_poll}
-use Rattle.mote_devices.proofs.PlaceLaws.{received_at}
+use Rattle.mote_devices.proofs.QueueLaws.{received_at}
 use Rattle.mote_devices.proofs.PollLaws.{at_poll-none, none_due}
 use Rattle.mote_devices.proofs.inputs.Inputs.is_due.Goals as goal
 

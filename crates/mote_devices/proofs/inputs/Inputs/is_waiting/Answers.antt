@@ -1,5 +1,5 @@
 use Rattle.std.proofs.Common.{ap, sym, ◌∙◌, drop}
-use Rattle.mote_devices.proofs.PlaceLaws.{bytes_between-none}
+use Rattle.mote_devices.proofs.QueueLaws.{bytes_between-none}
 use Rattle.mote_devices.proofs.inputs.Inputs.is_waiting.Goals as goal
 
 pub returns-in-None-clause-same : goal.returns-in-None-clause-same

@@ -1,6 +1,6 @@
 use Rattle.std.proofs.Common.{ap, sym, ◌∙◌, drop}
 use Rattle.mote_devices.specs.Inputs.{Received}
-use Rattle.mote_devices.proofs.PlaceLaws.{bytes_between-none}
+use Rattle.mote_devices.proofs.QueueLaws.{bytes_between-none}
 use Rattle.mote_devices.proofs.inputs.Inputs.take_byte.Goals as goal
 
 -- no byte waits, so that none is taken

@@ -3,8 +3,8 @@ use Rattle.std.specs.Prelude.{bit_or, nat_lt, ◌^◌}
 use Rattle.std.proofs.Common.{sym, cond, true, false, ◌<◌, ◌≤◌, ◌≡◌, List, length, drop, arith, ap, ◌∙◌, length-drop, ℕ}
 use Rattle.input_script.specs.declared.input.Event.{Event}
 use Rattle.mote_devices.specs.Inputs.{Received}
-use Rattle.mote_devices.specs.Places.{with_first}
-use Rattle.mote_devices.proofs.PlaceLaws.{received_at, pin_taken, other_pin_taken, uart_taken, adc_taken, int_taken}
+use Rattle.mote_devices.specs.Queue.{with_first}
+use Rattle.mote_devices.proofs.QueueLaws.{received_at, pin_taken, other_pin_taken, uart_taken, adc_taken, int_taken}
 use Rattle.mote_devices.proofs.inputs.Inputs.take_next.Goals as goal
 
 below : (k : ℕ) → k < 8 → nat_lt k 8 ≡ true

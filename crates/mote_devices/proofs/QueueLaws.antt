@@ -1,4 +1,4 @@
--- The bytes between two places of the script's events.
+-- The bytes between two indices of the script's events.
 use Rattle.std.proofs.Common.{◌≡◌, ℕ, suc, ◌+◌, ◌-◌, ◌<◌, ◌≤◌, List, [], ◌∷◌, ◌++◌, length, get_or, take, drop, arith, refl, sym, ap, ap₂, ◌∙◌, add-one}
 use Rattle.std.specs.List.{flat_map, slice_range}
 use Rattle.std.proofs.Math.Seq.{take-suc, drop-cons}
@@ -9,7 +9,7 @@ use Rattle.input_script.specs.declared.input.Input.{Input}
 use Rattle.input_script.specs.declared.input.Input.TheVariants.{Pin, Uart, Adc, Int}
 use Rattle.input_script.specs.declared.input.Event.{Event}
 use Rattle.mote_devices.specs.Inputs.{Received, after_input}
-use Rattle.mote_devices.specs.Places.{serial_byte, bytes_between, with_first, first_taken}
+use Rattle.mote_devices.specs.Queue.{serial_byte, bytes_between, with_first, first_taken}
 
 abbrev brought : Event → List ℕ
 brought event = serial_byte event.input

@@ -1,4 +1,4 @@
--- Serves private functions: how the serial port's queue is kept, as places in the list of the script's events.
+-- Serves private functions: how the serial port's queue is kept, as indices into the list of the script's events.
 use Rattle.std.specs.Prelude.{◌≡◌, ℕ, ◌+◌, ◌<◌, ◌≤◌, Bool, false, List, [], ◌∷◌, length}
 use Rattle.std.specs.List.{flat_map, slice_range}
 use Rattle.input_script.specs.declared.input.Input.{Input}
@@ -12,11 +12,11 @@ abbrev pub serial_byte : Input → List ℕ
 serial_byte (Uart byte) = byte ∷ []
 serial_byte _ = []
 
--- the bytes of the events from place `from` to before `to`
+-- the bytes of the events from index `from` to before `to`
 unfoldable pub bytes_between : List Event → ℕ → ℕ → List ℕ
 bytes_between events from to = flat_map (λ (event : Event). serial_byte event.input) (slice_range events from to)
 
--- the places are in order and within the script; each port has its pins
+-- the indices are in order and within the script; each port has its pins
 pub record IsKept (pins : List ℕ) (script : List Event) (taken serial : ℕ) : Type 0 where
   pub queued : serial ≤ taken
   pub within : taken ≤ length script
@@ -24,10 +24,10 @@ pub record IsKept (pins : List ℕ) (script : List Event) (taken serial : ℕ) :
 
 -- the first of these bytes: the event that brought it, and the byte
 pub record IsNextByte (events : List Event) (from to : ℕ) (waiting : Waiting) : Type 0 where
-  pub above : from ≤ waiting.place
-  pub below : waiting.place < to
-  pub skipped : bytes_between events from to ≡ bytes_between events waiting.place to
-  pub first : bytes_between events waiting.place to ≡ waiting.byte ∷ bytes_between events (waiting.place + 1) to
+  pub above : from ≤ waiting.index
+  pub below : waiting.index < to
+  pub skipped : bytes_between events from to ≡ bytes_between events waiting.index to
+  pub first : bytes_between events waiting.index to ≡ waiting.byte ∷ bytes_between events (waiting.index + 1) to
 
 -- the next event has a number of at most n
 abbrev pub first_is_due : ℕ → List Event → Bool

@@ -1,0 +1,360 @@
+-- Pages of the pool that an arrival doesn't make: each that is free stays free, and each that holds a run holds it still. So
+-- of their words only those of exit stubs change.
+use Rattle.std.proofs.Common.{◌≡◌, ◌≢◌, ℕ, zero, suc, ◌+◌, ◌-◌, ◌*◌, ◌/◌, ◌<◌, ◌≤◌, Bool, true, false, List, [], ◌∷◌, length, Option, Some, None, Ok, Err, arith, refl, sym, ap, ◌∙◌, inl, inr, subst}
+use Rattle.std.specs.Prelude.{◌==◌, ◌||◌, not, if◌then◌else◌, IfSome, Result}
+use Rattle.std.proofs.lemmas.Bool.{cases_eq, cases_lt}
+use Rattle.flash_words.specs.Pages.{page_words, word_count, word_at, page_of, set_page}
+use Rattle.flash_words.specs.Layouts.{IsRight, image_of}
+use Rattle.flash_words.specs.declared.layout.Layout.{Layout}
+use Rattle.flash_words.specs.Memory.{Memory}
+use Rattle.flash_words.specs.Operations.{erased_page}
+use Rattle.nat_template.specs.declared.piece.Piece.{Piece}
+use Rattle.nat_template.specs.declared.piece.Piece.TheVariants.{Fixed, Link}
+use Rattle.page_index.specs.Maps.{IsPool, IsFree, address_of, entry_count}
+use Rattle.page_index.specs.Entries.{IsEntry}
+use Rattle.page_index.proofs.MapLaws.{free_word}
+use Rattle.page_index.proofs.ChangeLaws.{SamePage, same_back, free_alike, page_left}
+use Rattle.flash_words.proofs.PageLaws.{length-set_page}
+use Rattle.page_index.proofs.EntryLaws.{page_of_place}
+use Rattle.page_draft.specs.Standing.{IsLink, jump_word, Stands, size}
+use Rattle.page_draft.specs.CodePages.{page_pieces, page_size, HoldsRun, Anywhere}
+use Rattle.page_draft.proofs.PieceLaws.{size-cons}
+use Rattle.nat_page.specs.Faithful.{IsFaithful, IsRewritten}
+use Rattle.nat_page.specs.Links.{IsLinkIn, with_two_words}
+use Rattle.nat_page.specs.Making.{MakesPage}
+use Rattle.nat_page.specs.Parts.{IsLinkFrom}
+use Rattle.nat_page.specs.Used.{is_used}
+use Rattle.nat_page.specs.Unlinking.{leads_into, with_calls, stubs_into, are_some}
+use Rattle.nat_page.proofs.StayLaws.{held_used, same_run, holds_alike, holds_more}
+use Rattle.nat_page.proofs.KeptLaws.{KeepsRun}
+use Rattle.nat_page.proofs.LinkLaws.{link_room}
+use Rattle.nat_page.proofs.MadeLaws.{makes_other, makes_faithful, makes_first}
+use Rattle.nat_page.proofs.FaithfulLaws.{faithful_mapped}
+use Rattle.nat_page.proofs.RelinkLaws.{holds_relinked, link_placed}
+use Rattle.nat_page.proofs.TwoWords.{length-with_two_words, word_beside_two}
+use Rattle.nat_page.proofs.UnlinkLaws.{page_of_two, unlinked_page, unlinks}
+use Rattle.nat_page.proofs.WalkLaws.{own_run}
+use Rattle.branch_bridge.specs.declared.arrival.Refused.{Refused}
+use Rattle.branch_bridge.specs.declared.arrival.Moved.{Moved}
+use Rattle.branch_bridge.specs.declared.through.Arrival.{Arrival}
+use Rattle.branch_bridge.specs.declared.rewriting.ResolveStop.{ResolveStop}
+use Rattle.branch_bridge.specs.Operating.{Performed, perform, rewriting, unless_stopped, then_on, mended, with_torn}
+use Rattle.branch_bridge.specs.Resolving.{resolving}
+use Rattle.branch_bridge.specs.Unresolving.{has_stubs_into, unlinking, unresolved}
+use Rattle.branch_bridge.specs.Arrivals.{Store, ring_of, Makes, Made, NotMade, Recycles, NotUnlinked, NotErased, Erased, Arrives, Beyond, Found, Free, Full, torn_in, turned, ArrivesFrom, Stopped, Went, Resolved, CameThrough, torn_by}
+use Rattle.addr_tables.specs.Changes.{forgotten}
+use Rattle.branch_bridge.proofs.PerformLaws.{mended_by}
+use Rattle.branch_bridge.proofs.ThroughLaws.{is_to_resolve, mended_is}
+use Rattle.branch_bridge.proofs.UnresolveLaws.{used_rewritten}
+use Rattle.branch_bridge.proofs.UpToLaws.{UpTo, up_to_none, up_to_next}
+use Rattle.branch_bridge.proofs.RecycleLaws.{IsAlone, other_left, victim_free, erased_faithful, erased_image}
+use Rattle.branch_bridge.proofs.MakeLaws.{prepared_makes, by_program, done_words}
+use Rattle.branch_bridge.proofs.PartLaws.{arrives_parted}
+use Rattle.branch_bridge.specs.declared.rewriting.Torn.{Torn}
+use Rattle.branch_bridge.specs.Tried.{IsTorn}
+use Rattle.theorem_reader.specs.Pools.{IsExit, KeepsWord, Kept, Exits, KeepsCode}
+
+-- a page, in words before and in other ones
+pub record Stays (image before words : List ℕ) (page : ℕ) : Type 0 where
+  pub free : IsFree before page → IsFree words page
+  pub runs : (b n : ℕ) → HoldsRun Anywhere image before page b n → HoldsRun Anywhere image words page b n
+
+-- the page has the same words
+same_stays : (layout : Layout) (image before words words' : List ℕ) (page : ℕ) → IsRight layout → IsPool layout page → length words ≡ word_count → length words' ≡ word_count → SamePage words words' page → Stays image before words page → Stays image before words' page
+same_stays layout image before words words' page right pool whole whole' same is = record {
+  free = λ free. free_alike words words' page same (omega (arith, whole, pool.to, right.pool_below_kernel)) (omega (arith, whole', pool.to, right.pool_below_kernel)) (is.free free);
+  runs = λ b n holds. holds_alike Anywhere Anywhere image words words' page b n (λ a v leads. leads) same (is.runs b n holds);
+}
+
+-- it holds a run in both
+run_stays : (leads : ℕ → ℕ → Type 0) (image before words words' : List ℕ) (page first last : ℕ) → length image ≤ 24576 → HoldsRun leads image words page first last → HoldsRun Anywhere image words' page first last → Stays image before words page → Stays image before words' page
+run_stays leads image before words words' page first last short old new is = record {
+  free = λ free. absurd (held_used leads image words page first last short old (is.free free));
+  runs = λ b n holds.
+      let run = same_run leads Anywhere image words page first last b n old (is.runs b n holds) in
+      subst (HoldsRun Anywhere image words' page b) run.1 (subst (λ (t : ℕ). HoldsRun Anywhere image words' page t last) run.0 new);
+}
+
+-- a page loses its stubs into the victim
+unlinked_stays : (layout : Layout) (image before words : List ℕ) (victim from page : ℕ) → IsRight layout → IsFaithful layout image words → IsPool layout from → IsPool layout page → IsRewritten layout image words from
+    → Stays image before words page → Stays image before (with_calls words (stubs_into image words victim from)) page
+unlinked_stays layout image before words victim from page right code pool pool' run is =
+    let own = own_run (IsEntry layout words) image words from run.first run.last run.holds in
+    let first = address_of words from 0 in
+    let last = entry_count words from - 1 in
+    let words' = with_calls words (stubs_into image words victim from) in
+    let low : from < 480 = omega (arith, pool.to, right.pool_below_kernel) in
+    let short : length image ≤ 24576 = omega (arith, code.image_length, right.image_fits) in
+    let keeps : KeepsRun layout image words words' from first last = unlinks layout image words (leads_into victim) from first last short code.whole low own.holds in
+    elim (cases_eq page from) [
+      | inl here ↦ (
+          let P : ℕ → Type 0 = λ p. Stays image before words p → Stays image before words' p in
+          subst P (sym here) (run_stays (IsEntry layout words) image before words words' from first last short keeps.old (holds_more (IsEntry layout words) Anywhere image words' from first last (λ a v leads. tt) keeps.new)) is)
+      | inr away ↦ same_stays layout image before words words' page right pool' keeps.whole keeps.whole' (keeps.others page away) is
+    ]
+
+stubs_used : (itself used some : Bool) → (if itself || not used then false else some) ≡ true → used ≡ true
+stubs_used true used some is = absurd (cc)
+stubs_used false false some is = absurd (cc)
+stubs_used false true some is = refl
+
+one_stays : (layout : Layout) (image before : List ℕ) (now : Memory) (victim from page : ℕ) → IsRight layout → IsFaithful layout image now.words → IsPool layout from → IsPool layout page → Stays image before now.words page
+    → (let told = perform now (unlinking image now.words victim from) in Stays image before (mended told.memory.words told.stop) page)
+one_stays layout image before now victim from page right code pool pool' is =
+    let words = now.words in
+    let new = page_of (with_calls words (stubs_into image words victim from)) from in
+    let more = rewriting from new in
+    let Told : Bool → Type 0 = λ b. has_stubs_into image words victim from ≡ b → (let told = perform now (if b then more else []) in Stays image before (mended told.memory.words told.stop) page) in
+    (elim (has_stubs_into image words victim from) as Told [
+      | true ↦ λ some. (
+          let run = used_rewritten layout image words from code pool (stubs_used (from == victim) (is_used words from) (are_some (stubs_into image words victim from)) some) in
+          let own = own_run (IsEntry layout words) image words from run.first run.last run.holds in
+          let inside : page_words * from + page_words ≤ length words = omega (arith, code.whole, pool.to, right.pool_below_kernel) in
+          let there = unlinked_page (IsEntry layout words) image words (leads_into victim) from (address_of words from 0) (entry_count words from - 1) inside own.holds in
+          mended_by (λ w. Stays image before w page) now from new inside is (subst (λ w. Stays image before w page) (sym there) (unlinked_stays layout image before words victim from page right code pool pool' run is)))
+      | false ↦ λ none. is
+    ]) refl
+
+-- all pages, one after another
+abbrev Told : Layout → (old : Memory) → (victim page k : ℕ) → Performed → Type 0
+Told layout old victim page k p = (p.stop ≡ None → UpTo layout old p.memory victim k) × Stays (image_of layout old.words) old.words (mended p.memory.words p.stop) page
+
+told_next : (layout : Layout) (old : Memory) (victim page k : ℕ) (p : Performed) → IsRight layout → IsPool layout page → suc k ≤ layout.pool_pages → Told layout old victim page k p
+    → Told layout old victim page (suc k) (then_on p (λ m. perform m (unlinking (image_of layout old.words) m.words victim (layout.pool_first + k))))
+told_next layout old victim page k p right pool' below told =
+    let image = image_of layout old.words in
+    let from = layout.pool_first + k in
+    let next : Memory → Performed = λ m. perform m (unlinking image m.words victim from) in
+    let Next : Option ResolveStop → Type 0 = λ o. p.stop ≡ o → Told layout old victim page (suc k) (unless_stopped o p.memory next) in
+    (elim p.stop as Next [
+      | None ↦ λ none. (
+          let now = p.memory in
+          let up = told.0 none in
+          let pool : IsPool layout from = record { from = omega arith; to = omega arith } in
+          let q = next now in
+          let here : Stays image old.words now.words page = subst (λ o. Stays image old.words (mended now.words o) page) none told.1 in (
+            λ done. up_to_next layout old now q.memory victim k right up (omega arith)
+                (ap (λ i. perform now (unlinking i now.words victim from)) up.same_image ∙ ap (λ stop. record { memory = q.memory; stop = stop }) done),
+            one_stays layout image old.words now victim from page right up.code pool pool' here,
+          ))
+      | Some stop ↦ λ some. (λ none. absurd (let never : Some stop ≡ None = none in cc), subst (λ o. Stays image old.words (mended p.memory.words o) page) some told.1)
+    ]) refl
+
+told_all : (layout : Layout) (old : Memory) (victim page k : ℕ) → IsRight layout → IsFaithful layout (image_of layout old.words) old.words → IsPool layout page → k ≤ layout.pool_pages
+    → Told layout old victim page k (unresolved (image_of layout old.words) victim layout.pool_first k old)
+told_all layout old victim page zero right code pool below = (λ none. up_to_none layout old victim code, record { free = λ free. free; runs = λ b n holds. holds })
+told_all layout old victim page (suc k) right code pool below =
+    told_next layout old victim page k (unresolved (image_of layout old.words) victim layout.pool_first k old) right pool below (told_all layout old victim page k right code pool (omega arith))
+
+-- What an arrival at an address leaves of flash: all pages but one, which is the one where control goes on; where nothing was
+-- refused flash is as long as before.
+pub record OthersStay (layout : Layout) (old : Memory) (words : List ℕ) (place : Option ℕ) : Type 0 where
+  pub again : ℕ
+  pub here : IfSome place (λ v. again ≡ v / page_words)
+  pub whole : IfSome place (λ v. length words ≡ word_count)
+  pub others : (page : ℕ) → IsPool layout page → page ≢ again → Stays (image_of layout old.words) old.words words page
+
+abbrev pub place_in : Result Moved Refused → Option ℕ
+place_in (Ok moved) = Some moved.place
+place_in (Err refused) = None
+
+-- what a page that is made leaves, where another one stays up to there
+pub record MakesStay (layout : Layout) (image before : List ℕ) (words : List ℕ) (page : ℕ) (place : Option ℕ) : Type 0 where
+  pub here : IfSome place (λ v. page ≡ v / page_words)
+  pub whole : IfSome place (λ v. length words ≡ word_count)
+  pub others : (other : ℕ) → IsPool layout other → other ≢ page → Stays image before words other
+
+pub made_stays : (layout : Layout) (old new : Store) (image before : List ℕ) (page t : ℕ) (again : Bool) (result : Result Moved Refused) → IsRight layout → image_of layout old.flash.words ≡ image → IsFaithful layout image old.flash.words → IsPool layout page → IsFree old.flash.words page
+    → Makes layout old new page t again result → ((other : ℕ) → IsPool layout other → other ≢ page → Stays image before old.flash.words other) → MakesStay layout image before (with_torn new.flash.words (torn_in result)) page (place_in result)
+made_stays layout old new image before page t again result right held code pool free (Made words place prepared performed noted_there answer) stay =
+    let own = subst (λ i. IsFaithful layout i old.flash.words) (sym held) code in
+    let after = done_words old.flash new.flash page again words performed in
+    let makes : MakesPage layout (image_of layout old.flash.words) old.flash.words new.flash.words page t place = subst (λ w. MakesPage layout (image_of layout old.flash.words) old.flash.words w page t place) (sym after) (prepared_makes layout (image_of layout old.flash.words) old.flash.words page t place words prepared) in
+    let faithful = makes_faithful layout (image_of layout old.flash.words) old.flash.words new.flash.words page t place right own pool free makes in
+    let entry : IsEntry layout new.flash.words t place = record { page = page; index = 0; pool = pool; lists = makes_first layout (image_of layout old.flash.words) old.flash.words new.flash.words page t place right own pool makes } in
+    let P : Result Moved Refused → Type 0 = λ r. MakesStay layout image before (with_torn new.flash.words (torn_in r)) page (place_in r) in
+    subst P (sym answer) (record {
+      here = page_of_place layout new.flash.words t place (faithful_mapped layout (image_of layout old.flash.words) new.flash.words right faithful) entry;
+      whole = faithful.whole;
+      others = λ other pool' away. same_stays layout image before old.flash.words new.flash.words other right pool' code.whole faithful.whole (makes_other layout (image_of layout old.flash.words) old.flash.words new.flash.words page t place other right own pool makes away) (stay other pool' away);
+    })
+made_stays layout old new image before page t again result right held code pool free (NotMade words place prepared stop performed same answer) stay =
+    let own = subst (λ i. IsFaithful layout i old.flash.words) (sym held) code in
+    let new_words = set_page old.flash.words page words in
+    let makes = prepared_makes layout (image_of layout old.flash.words) old.flash.words page t place words prepared in
+    let faithful = makes_faithful layout (image_of layout old.flash.words) old.flash.words new_words page t place right own pool free makes in
+    let P : Result Moved Refused → Type 0 = λ r. MakesStay layout image before (with_torn new.flash.words (torn_in r)) page (place_in r) in
+    subst P (sym answer) (record {
+      here = tt;
+      whole = tt;
+      others = λ other pool' away. by_program (λ w. Stays image before w other) old.flash new.flash page again words stop (stay other pool' away)
+          (same_stays layout image before old.flash.words new_words other right pool' code.whole faithful.whole (makes_other layout (image_of layout old.flash.words) old.flash.words new_words page t place other right own pool makes away) (stay other pool' away)) performed;
+    })
+
+pub recycled_stays : (layout : Layout) (old new : Store) (victim t : ℕ) (result : Result Moved Refused) → IsRight layout → IsFaithful layout (image_of layout old.flash.words) old.flash.words → IsPool layout victim
+    → Recycles layout old new victim t result → MakesStay layout (image_of layout old.flash.words) old.flash.words (with_torn new.flash.words (torn_in result)) victim (place_in result)
+recycled_stays layout old new victim t result right code pool (NotUnlinked stop performed same answer) =
+    let image = image_of layout old.flash.words in
+    let P : Result Moved Refused → Type 0 = λ r. MakesStay layout image old.flash.words (with_torn new.flash.words (torn_in r)) victim (place_in r) in
+    subst P (sym answer) (record {
+      here = tt;
+      whole = tt;
+      others = λ other pool' away. (let Q : Performed → Type 0 = λ p. Stays image old.flash.words (mended p.memory.words p.stop) other in subst Q performed (told_all layout old.flash victim other layout.pool_pages right code pool' (omega arith)).1);
+    })
+recycled_stays layout old new victim t result right code pool (NotErased unlinked performed listed left same answer) =
+    let image = image_of layout old.flash.words in
+    let P : Result Moved Refused → Type 0 = λ r. MakesStay layout image old.flash.words (with_torn new.flash.words (torn_in r)) victim (place_in r) in
+    subst P (sym answer) (record {
+      here = tt;
+      whole = tt;
+      others = λ other pool' away. (
+          let Q : Performed → Type 0 = λ p. Stays image old.flash.words (mended p.memory.words p.stop) other in
+          subst (λ w. Stays image old.flash.words w other) (sym (ap (λ (m : Memory). m.words) left)) (subst Q performed (told_all layout old.flash victim other layout.pool_pages right code pool' (omega arith)).1));
+    })
+recycled_stays layout old new victim t result right code pool (Erased unlinked performed free makes) =
+    let image = image_of layout old.flash.words in
+    let Up : Performed → Type 0 = λ p. p.stop ≡ None → UpTo layout old.flash p.memory victim layout.pool_pages in
+    let up = (subst Up performed (told_all layout old.flash victim victim layout.pool_pages right code pool (omega arith)).0) refl in
+    let alone : IsAlone layout image unlinked.words victim = record { pool = pool; apart = λ page pool' away. up.apart page pool' (omega (arith, pool'.to)) away } in
+    let erased = erased_page unlinked victim in
+    let held : IsFaithful layout image erased.words = erased_faithful layout image unlinked.words victim right up.code alone in
+    let image_there : image_of layout erased.words ≡ image = erased_image layout image unlinked.words victim right up.code pool ∙ up.same_image in
+    let mid : Store = record { flash = erased; sram = turned layout (forgotten old.sram victim) } in
+    made_stays layout mid new image old.flash.words victim t true result right image_there held pool (victim_free layout image unlinked.words victim right up.code pool) makes (λ other pool' away. (
+    let Q : Performed → Type 0 = λ p. Stays image old.flash.words (mended p.memory.words p.stop) other in
+    let here = subst Q performed (told_all layout old.flash victim other layout.pool_pages right code pool' (omega arith)).1 in
+    same_stays layout image old.flash.words unlinked.words erased.words other right pool' up.code.whole held.whole (other_left layout image unlinked.words victim other right up.code pool away) here))
+
+as_others : (layout : Layout) (old : Memory) (words : List ℕ) (page : ℕ) (place : Option ℕ) → MakesStay layout (image_of layout old.words) old.words words page place → OthersStay layout old words place
+as_others layout old words page place is = record { again = page; here = is.here; whole = is.whole; others = is.others }
+
+arrives_others : (layout : Layout) (old new : Store) (t : ℕ) (result : Result Moved Refused) → IsRight layout → IsFaithful layout (image_of layout old.flash.words) old.flash.words → ring_of old.sram < layout.pool_pages
+    → Arrives layout old new t result → OthersStay layout old.flash (with_torn new.flash.words (torn_in result)) (place_in result)
+arrives_others layout old new t result right code ring (Beyond out same answer) =
+    let P : Result Moved Refused → Type 0 = λ r. OthersStay layout old.flash (with_torn new.flash.words (torn_in r)) (place_in r) in
+    let words : old.flash.words ≡ new.flash.words = sym (ap (λ (s : Store). s.flash.words) same) in
+    subst P (sym answer) (record { again = 0; here = tt; whole = tt; others = λ page pool away. subst (λ w. Stays (image_of layout old.flash.words) old.flash.words w page) words (record { free = λ free. free; runs = λ b n holds. holds }) })
+arrives_others layout old new t result right code ring (Found place inside finds same answer) =
+    let P : Result Moved Refused → Type 0 = λ r. OthersStay layout old.flash (with_torn new.flash.words (torn_in r)) (place_in r) in
+    let words : old.flash.words ≡ new.flash.words = sym (ap (λ (m : Memory). m.words) same) in
+    subst P (sym answer) (record {
+      again = place / page_words;
+      here = refl;
+      whole = ap length (sym words) ∙ code.whole;
+      others = λ page pool away. subst (λ w. Stays (image_of layout old.flash.words) old.flash.words w page) words (record { free = λ free. free; runs = λ b n holds. holds });
+    })
+arrives_others layout old new t result right code ring (Free page inside finds lowest makes) =
+    as_others layout old.flash (with_torn new.flash.words (torn_in result)) page (place_in result)
+    (made_stays layout old new (image_of layout old.flash.words) old.flash.words page t false result right refl code lowest.pool lowest.free makes (λ other pool away. record { free = λ free. free; runs = λ b n holds. holds }))
+arrives_others layout old new t result right code ring (Full inside finds none recycles) =
+    let victim = layout.pool_first + ring_of old.sram in
+    as_others layout old.flash (with_torn new.flash.words (torn_in result)) victim (place_in result)
+    (recycled_stays layout old new victim t result right code (record { from = omega arith; to = omega arith }) recycles)
+
+-- a stub is resolved
+relinked_stays : (layout : Layout) (image before words : List ℕ) (s t place page : ℕ) → IsRight layout → length image ≤ 24576 → length words ≡ word_count → IsLinkIn layout image words s t → IsPool layout page
+    → Stays image before words page → Stays image before (with_two_words words s jump_word place) page
+relinked_stays layout image before words s t place page right short whole link pool is =
+    let words' = with_two_words words s jump_word place in
+    let whole' : length words' ≡ word_count = length-with_two_words words s jump_word place ∙ whole in
+    let room = link_room image link.page link.first link.last s t link.holds.fits link.link in
+    let inside : page_words * link.page + page_words ≤ length words = omega (arith, whole, link.pool.to, right.pool_below_kernel) in
+    let here = holds_more (IsEntry layout words) Anywhere image words link.page link.first link.last (λ a v leads. tt) link.holds in
+    elim (cases_eq page link.page) [
+      | inl own ↦ (
+          let P : ℕ → Type 0 = λ p. Stays image before words p → Stays image before words' p in
+          subst P (sym own) (run_stays Anywhere image before words words' link.page link.first link.last short here (holds_relinked Anywhere image words link.page link.first link.last s t jump_word place inside link.link (inr (refl, tt)) here)) is)
+      | inr away ↦ same_stays layout image before words words' page right pool whole whole' (record { word = λ k below. sym (word_beside_two words s (page_words * page + k) jump_word place (λ at. away (omega arith)) (λ at. away (omega arith))) }) is
+    ]
+
+resolved_stays : (layout : Layout) (image before : List ℕ) (old : Memory) (s t place page : ℕ) → IsRight layout → length image ≤ 24576 → length old.words ≡ word_count → IsLinkIn layout image old.words s t → IsPool layout page
+    → Stays image before old.words page → (let told = perform old (resolving old.words s place) in Stays image before (mended told.memory.words told.stop) page)
+resolved_stays layout image before old s t place page right short whole link pool is =
+    let words = old.words in
+    let from = s / page_words in
+    let placed = link_placed layout image words s t jump_word place right whole link in
+    let there : set_page words from (page_of (with_two_words words s jump_word place) from) ≡ with_two_words words s jump_word place =
+    ap (set_page words from) (page_of_two words from s jump_word place (omega (arith, whole, placed.low)) refl placed.room) ∙ placed.is in
+    mended_by (λ w. Stays image before w page) old from (page_of (with_two_words words s jump_word place) from) (omega (arith, whole, placed.low)) is
+    (subst (λ w. Stays image before w page) (sym there) (relinked_stays layout image before words s t place page right short whole link pool is))
+
+-- an arrival, through a stub or through none
+pub others_stay : (layout : Layout) (old new : Store) (t : ℕ) (stub : Option ℕ) (arrival : Arrival) → IsRight layout → IsFaithful layout (image_of layout old.flash.words) old.flash.words → ring_of old.sram < layout.pool_pages
+    → CameThrough layout old.flash.words stub t → ArrivesFrom layout old new t stub arrival
+    → (again : ℕ) × IfSome arrival.place (λ v. again ≡ v / page_words) × ((page : ℕ) → IsPool layout page → page ≢ again → Stays (image_of layout old.flash.words) old.flash.words (with_torn new.flash.words (torn_by arrival.refused)) page)
+others_stay layout old new t stub arrival right code ring came (Stopped refused arrives is) =
+    let left = arrives_others layout old new t (Err refused) right code ring arrives in
+    let P : Arrival → Type 0 = λ a. (again : ℕ) × IfSome a.place (λ v. again ≡ v / page_words) × ((page : ℕ) → IsPool layout page → page ≢ again → Stays (image_of layout old.flash.words) old.flash.words (with_torn new.flash.words (torn_by a.refused)) page) in
+    subst P (sym is) (left.again, tt, left.others)
+others_stay layout old new t stub arrival right code ring came (Went moved arrives nothing is) =
+    let left = arrives_others layout old new t (Ok moved) right code ring arrives in
+    let P : Arrival → Type 0 = λ a. (again : ℕ) × IfSome a.place (λ v. again ≡ v / page_words) × ((page : ℕ) → IsPool layout page → page ≢ again → Stays (image_of layout old.flash.words) old.flash.words (with_torn new.flash.words (torn_by a.refused)) page) in
+    subst P (sym is) (left.again, left.here, left.others)
+others_stay layout old new t stub arrival right code ring came (Resolved mid moved s arrives some stop done same is) =
+    let image = image_of layout old.flash.words in
+    let left = arrives_others layout old mid t (Ok moved) right code ring arrives in
+    let to = is_to_resolve moved.recycled stub s some in
+    let link : IsLinkIn layout image old.flash.words s t = (subst (λ x. CameThrough layout old.flash.words x t) to.same came).link in
+    let from : IsLinkFrom layout image old.flash.words (λ a. 0) 0 s t = record { link = link; own = refl } in
+    let there = ((arrives_parted layout old mid (λ a. 0) t (Ok moved) right code ring arrives (λ b a l jump. refl)).1 0 s t to.apart from).link in
+    let short : length image ≤ 24576 = omega (arith, code.image_length, right.image_fits) in
+    let P : Arrival → Type 0 = λ a. (again : ℕ) × IfSome a.place (λ v. again ≡ v / page_words) × ((page : ℕ) → IsPool layout page → page ≢ again → Stays image old.flash.words (with_torn new.flash.words (torn_by a.refused)) page) in
+    let Q : ℕ → Performed → Type 0 = λ page p. Stays image old.flash.words (mended p.memory.words p.stop) page in
+    subst P (sym is) (
+      left.again,
+      left.here,
+      λ page pool away.
+          subst (λ w. Stays image old.flash.words w page) (sym (mended_is new.flash.words stop))
+          (subst (Q page) done (resolved_stays layout image old.flash.words mid.flash s t moved.place page right short left.whole there pool (left.others page pool away))),
+    )
+
+-- .. and words that lack those of a torn page
+pub torn_stays : (layout : Layout) (image before words : List ℕ) (torn : Option Torn) (again : ℕ) → IsRight layout → length words ≡ word_count → IfSome torn (IsTorn layout words)
+    → ((page : ℕ) → IsPool layout page → page ≢ again → Stays image before (with_torn words torn) page) → (other : ℕ) × ((page : ℕ) → IsPool layout page → page ≢ again → page ≢ other → Stays image before words page)
+torn_stays layout image before words None again right whole lacks stay = (again, λ page pool away apart. stay page pool away)
+torn_stays layout image before words (Some torn) again right whole lacks stay =
+    let inside : page_words * torn.page + page_words ≤ length words = omega (arith, whole, lacks.pool.to, right.pool_below_kernel) in (
+      torn.page,
+      λ page pool away apart. same_stays layout image before (set_page words torn.page torn.words) words page right pool (length-set_page words torn.words torn.page lacks.size inside ∙ whole) whole
+          (same_back words (set_page words torn.page torn.words) page (page_left words torn.words torn.page page lacks.size inside apart)) (stay page pool away),
+    )
+
+-- Word by word. -------------------------------------------------------------------------------------
+
+exit_of : (words : List ℕ) (a t : ℕ) → IsLink Anywhere (word_at words a) (word_at words (a + 1)) t → IsExit words a
+exit_of words a t (inl call) = inl call
+exit_of words a t (inr jump) = inr jump.0
+
+pieces_keep : (words words' : List ℕ) (a : ℕ) (pieces : List Piece) → Stands Anywhere words a pieces → Stands Anywhere words' a pieces → (b : ℕ) → a ≤ b → b < a + size pieces → KeepsWord words words' b
+pieces_keep words words' a [] old new b from to = absurd (omega (arith, from, to))
+pieces_keep words words' a (Fixed word ∷ pieces) old new b from to = elim (cases_eq b a) [
+  | inl same ↦ subst (KeepsWord words words') (sym same) (Kept (new.0 ∙ sym old.0))
+  | inr apart ↦ pieces_keep words words' (a + 1) pieces old.1 new.1 b (omega (arith, from)) (omega (arith, to, size-cons (Fixed word) pieces))
+]
+pieces_keep words words' a (Link t ∷ pieces) old new b from to =
+    let exit = exit_of words a t old.0.0 in
+    let exit' = exit_of words' a t new.0.0 in
+    elim (cases_eq b a) [
+      | inl same ↦ Exits a (inl same) exit exit'
+      | inr apart ↦ elim (cases_eq b (a + 1)) [
+        | inl same ↦ Exits a (inr same) exit exit'
+        | inr apart' ↦ elim (cases_eq b (a + 2)) [
+          | inl same ↦ subst (KeepsWord words words') (sym same) (Kept (new.0.1 ∙ sym old.0.1))
+          | inr apart'' ↦ pieces_keep words words' (a + 3) pieces old.1 new.1 b (omega (arith, from)) (omega (arith, to, size-cons (Link t) pieces))
+        ]
+      ]
+    ]
+
+run_keeps : (image words words' : List ℕ) (page first last : ℕ) → HoldsRun Anywhere image words page first last → HoldsRun Anywhere image words' page first last → KeepsCode words words' page
+run_keeps image words words' page first last old new k below = elim (cases_lt k (page_size image first last)) [
+  | inl front ↦ pieces_keep words words' (page_words * page) (page_pieces image first last) old.stands new.stands (128 * page + k) (omega arith) (omega (arith, front))
+  | inr behind ↦ Kept (new.rest k behind below ∙ sym (old.rest k behind below))
+]
+
+pub stays_keep : (layout : Layout) (image before words : List ℕ) (page : ℕ) → IsFaithful layout image before → IsPool layout page → Stays image before words page → KeepsCode before words page
+stays_keep layout image before words page code pool stays = elim (code.pages page pool) [
+  | inl free ↦ λ k below. Kept (free_word words page k below (stays.free free) ∙ sym (free_word before page k below free))
+  | inr run ↦ (
+      let holds = holds_more (IsEntry layout before) Anywhere image before page run.first run.last (λ a v leads. tt) run.holds in
+      run_keeps image before words page run.first run.last holds (stays.runs run.first run.last holds))
+]

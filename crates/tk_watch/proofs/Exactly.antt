@@ -1,0 +1,124 @@
+-- What words and input ask for is what is answered.
+use Rattle.std.proofs.Common.{◌≡◌, ℕ, ◌-◌, ◌<◌, ◌≤◌, List, [], ◌∷◌, length, map, take, drop, String, Global, string_bytes, codes, refl, sym, ap, ◌∙◌, subst, inl, inr, ◌⊎◌, arith}
+use Rattle.std.specs.Prelude.{Some, slice_index_or}
+use Rattle.arrayvec.specs.ArrayVec.{ArrayVec}
+use Rattle.cli_words.specs.declared.command.Command.TheVariants.{Run}
+use Rattle.cli_words.specs.declared.command.RunOptions.{RunOptions}
+use Rattle.cli_words.specs.declared.job.Job.{Job}
+use Rattle.cli_words.specs.declared.job.Job.TheVariants as jobs
+use Rattle.cli_words.specs.declared.request.Request.{Request}
+use Rattle.cli_words.specs.declared.status.Status.{Status}
+use Rattle.cli_words.specs.declared.status.Status.TheVariants.{Done, NoMemory, Usage}
+use Rattle.cli_words.specs.Commands.{IsCommand}
+use Rattle.cli_words.specs.Printed.{no_memory}
+use Rattle.cli_words.specs.Stream.{Stream}
+use Rattle.cli_words.proofs.FirstWord.{first_bytes}
+use Rattle.cli_requests.specs.Asking.{Asks, Warrants, wanted}
+use Rattle.cli_requests.specs.Reading.{AsksByText, IsJudged, IsUnread}
+use Rattle.cli_requests.specs.RunCommand.{RunAsks}
+use Rattle.cli_requests.proofs.Judging.{text_wants}
+use Rattle.cli_requests.proofs.Reasons.{Wanting, Same, why}
+use Rattle.cli_jobs.specs.Runs.{Says}
+use Rattle.tk_watch.specs.declared.view.View.{View}
+use Rattle.tk_watch.specs.declared.view.View.TheVariants.{Lines}
+use Rattle.tk_watch.specs.Answer.{Does, IsAnswer, IsExact}
+use Rattle.tk_watch.specs.Views.{Shows}
+use Rattle.tk_watch.specs.Words.{AskForHelp, AskToWatch, IsAsked, IsWarranted, usage, usage_text}
+
+-- `run` asks for a run or for a line
+abbrev IsRunOrLine : Job → Type 0
+IsRunOrLine (jobs.Run request) = Unit {0}
+IsRunOrLine (jobs.Print own line) = Unit {0}
+IsRunOrLine _ = ⊥
+
+run_or_line : (options : RunOptions) (before now : Stream) (job : Job) → AsksByText (RunAsks options) before now job → IsRunOrLine job
+run_or_line options before now job (inl (IsUnread.ReadFault is rose taken)) = subst IsRunOrLine (sym is) tt
+run_or_line options before now job (inl (IsUnread.TooLong is taken)) = subst IsRunOrLine (sym is) tt
+run_or_line options before now job (inl (IsUnread.NoMemory is taken)) = subst IsRunOrLine (sym is) tt
+run_or_line options before now job (inr (text, gave, IsJudged.Bad line word bad is)) = subst IsRunOrLine (sym is) tt
+run_or_line options before now job (inr (text, gave, IsJudged.Good hex good (IsJudged.Bad line word bad is))) = subst IsRunOrLine (sym is) tt
+run_or_line options before now job (inr (text, gave, IsJudged.Good hex good (IsJudged.Good schedule right is))) = subst IsRunOrLine (sym is) tt
+
+-- .. and for nothing else
+other_job : (job : Job) → IsRunOrLine job → ((request : Request) → job ≡ jobs.Run request → ⊥) → ((own : Status) (line : ArrayVec ℕ) → job ≡ jobs.Print own line → ⊥) → ⊥
+other_job (jobs.Run request) is no_run no_line = no_run request refl
+other_job (jobs.Print own line) is no_run no_line = no_line own line refl
+other_job (jobs.Dump request) is no_run no_line = is
+other_job (jobs.Restart request again) is no_run no_line = is
+other_job (jobs.Tasks request) is no_run no_line = is
+other_job (jobs.Write text) is no_run no_line = is
+
+pub no_other_job : {A : Type 0} (options : RunOptions) (before now : Stream) (job : Job) → AsksByText (RunAsks options) before now job → ((request : Request) → job ≡ jobs.Run request → ⊥) → ((own : Status) (line : ArrayVec ℕ) → job ≡ jobs.Print own line → ⊥) → A
+no_other_job options before now job asks no_run no_line = absurd (other_job job (run_or_line options before now job asks) no_run no_line)
+
+-- words whose later ones are no options
+pub no_options : (words rest : List (List ℕ)) (word : List ℕ) → words ≡ word ∷ rest → ((options : RunOptions) → ¬ IsCommand (codes "run" ∷ rest) (Run options)) → (view : View) (options : RunOptions) → ¬ AskToWatch words view options
+no_options words rest word cut none view options watch = none options (subst (λ w. AskToWatch w view options) cut watch).1
+
+-- one word
+pub one_word : (words : List (String Global)) (first : String Global) (text : List ℕ) → 1 ≤ length words → length words < 2 → first ≡ slice_index_or words 0 first → text ≡ string_bytes first → map string_bytes words ≡ text ∷ []
+one_word words first text some one is same =
+    let none : length words - 1 ≡ 0 = omega (arith, some, one) in
+    first_bytes words first text some is same ∙ ap (λ n. text ∷ map string_bytes (take n (drop 1 words))) none
+
+-- the answers
+pub answer_shown : (words : List (List ℕ)) (source source' sink sink' : Stream) (view : View) (options : RunOptions) (job : Job) (request : Request) (told : Status) → AskToWatch words view options → AsksByText (RunAsks options) source source' job → job ≡ jobs.Run request
+    → Shows view request sink sink' told ⊎ Says NoMemory (codes "no memory\n") sink sink' told → IsAnswer words source source' sink sink' told
+answer_shown words source source' sink sink' view options job request told watch asks is (inl shows) =
+    record { view = view; job = jobs.Run request; asked = inl (options, watch, subst (AsksByText (RunAsks options) source source') is asks); done = shows }
+answer_shown words source source' sink sink' view options job request told watch asks is (inr none) =
+    record { view = view; job = no_memory; asked = inl (options, watch, text_wants (RunAsks options) source source' (jobs.Run request) tt (subst (AsksByText (RunAsks options) source source') is asks)); done = none }
+
+pub answer_line : (words : List (List ℕ)) (source source' sink sink' : Stream) (view : View) (options : RunOptions) (job : Job) (own : Status) (line : ArrayVec ℕ) (put : List ℕ) (told : Status) → AskToWatch words view options → AsksByText (RunAsks options) source source' job → job ≡ jobs.Print own line
+    → put ≡ line.items → Says own put sink sink' told → IsAnswer words source source' sink sink' told
+answer_line words source source' sink sink' view options job own line put told watch asks is same said =
+    record { view = view; job = jobs.Print own line; asked = inl (options, watch, subst (AsksByText (RunAsks options) source source') is asks); done = subst (λ text. Says own text sink sink' told) same said }
+
+-- no view is asked for
+pub answer_usage : (words : List (List ℕ)) (source sink sink' : Stream) (own : Status) (told : Status) → ((view : View) (options : RunOptions) → ¬ AskToWatch words view options) → (AskForHelp words × (own ≡ Done)) ⊎ ((¬ AskForHelp words) × (own ≡ Usage))
+    → Says own usage_text sink sink' told → IsAnswer words source source sink sink' told
+answer_usage words source sink sink' own told unwatched (inl help) said =
+    record { view = Lines; job = usage own; asked = inr (inl (help.0, ap usage help.1, refl)); done = said }
+answer_usage words source sink sink' own told unwatched (inr none) said =
+    record { view = Lines; job = usage own; asked = inr (inr (record { unwatched = unwatched; helpless = none.0 }, ap usage none.1, refl)); done = said }
+
+-- a view is told by its word
+same_view : (words : List (List ℕ)) (a b : View) (options options' : RunOptions) → AskToWatch words a options → AskToWatch words b options' → a ≡ b
+same_view [] a b options options' first second = absurd first
+same_view (word ∷ rest) a b options options' first second = let e : Some a ≡ Some b = sym first.0 ∙ second.0 in cc
+
+no_help : (words : List (List ℕ)) (view : View) (options : RunOptions) → AskForHelp words → ¬ AskToWatch words view options
+no_help words view options help watch = let asked = subst (λ w. AskToWatch w view options) help watch in absurd (let e = asked.0 in cc)
+
+exact_watch : (words : List (List ℕ)) (source source' sink sink' : Stream) (view : View) (options options' : RunOptions) (job whole : Job) (told : Status) → AskToWatch words view options → Asks (Run options) source source' job
+    → AskToWatch words view options' → Warrants (wanted (Run options')) source source' whole → Does view job sink sink' told → Does view no_memory sink sink' told ⊎ Does view whole sink sink' told
+exact_watch [] source source' sink sink' view options options' job whole told watch asks watch' warrants done = absurd watch
+exact_watch (word ∷ rest) source source' sink sink' view options options' job whole told watch asks watch' warrants done =
+    elim (why (codes "run" ∷ rest) source source' job whole (inl (Run options, watch.1, asks)) (inl (Run options', watch'.1, warrants))) [
+      | Wanting is ↦ inl (subst (λ j. Does view j sink sink' told) is done)
+      | Same is ↦ inr (subst (λ j. Does view j sink sink' told) is done)
+    ]
+
+-- the usage line, whatever the view
+usage_done : (own : Status) (a b : View) (job whole : Job) (sink sink' : Stream) (told : Status) → job ≡ usage own → whole ≡ usage own → Does a job sink sink' told → Does b whole sink sink' told
+usage_done own a b job whole sink sink' told is same done =
+    let said : Says own usage_text sink sink' told = subst (λ j. Does a j sink sink' told) is done in
+    subst (λ j. Does b j sink sink' told) (sym same) said
+
+exactly : (words : List (List ℕ)) (source source' sink sink' : Stream) (a b : View) (job whole : Job) (told : Status) → IsAsked words source source' a job → IsWarranted words source source' b whole → Does a job sink sink' told
+    → Does b no_memory sink sink' told ⊎ Does b whole sink sink' told
+exactly words source source' sink sink' a b job whole told (inl asked) (inl other) done =
+    let same = same_view words a b asked.0 other.0 asked.1 other.1 in
+    exact_watch words source source' sink sink' b asked.0 other.0 job whole told (subst (λ v. AskToWatch words v asked.0) same asked.1) asked.2 other.1 other.2 (subst (λ v. Does v job sink sink' told) same done)
+exactly words source source' sink sink' a b job whole told (inl asked) (inr (inl help)) done = absurd (no_help words a asked.0 help.0 asked.1)
+exactly words source source' sink sink' a b job whole told (inl asked) (inr (inr nothing)) done = absurd (nothing.0.unwatched a asked.0 asked.1)
+exactly words source source' sink sink' a b job whole told (inr (inl help)) (inl other) done = absurd (no_help words b other.0 help.0 other.1)
+exactly words source source' sink sink' a b job whole told (inr (inl help)) (inr (inl other)) done = inr (usage_done _ a b job whole sink sink' told help.1 other.1 done)
+exactly words source source' sink sink' a b job whole told (inr (inl help)) (inr (inr nothing)) done = absurd (nothing.0.helpless help.0)
+exactly words source source' sink sink' a b job whole told (inr (inr nothing)) (inl other) done = absurd (nothing.0.unwatched b other.0 other.1)
+exactly words source source' sink sink' a b job whole told (inr (inr nothing)) (inr (inl help)) done = absurd (nothing.0.helpless help.0)
+exactly words source source' sink sink' a b job whole told (inr (inr nothing)) (inr (inr other)) done = inr (usage_done _ a b job whole sink sink' told nothing.1 other.1 done)
+
+-- what is asked for is what is warranted, but for want of memory
+pub answer_is_exact : (words : List (List ℕ)) (source source' sink sink' : Stream) (told : Status) → IsAnswer words source source' sink sink' told → IsExact words source source' sink sink' told
+answer_is_exact words source source' sink sink' told answer view whole warranted = exactly words source source' sink sink' answer.view view answer.job whole told answer.asked warranted answer.done
