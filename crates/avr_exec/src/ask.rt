@@ -36,7 +36,7 @@ pub enum Ask {
 }
 
 /// The low register of a pointer's pair.
-pub(crate) fn low_register(pointer: &Ptr) -> u8
+pub fn low_register(pointer: &Ptr) -> u8
     ensures value { result ≡ low_register_of pointer.now }
     ensures range { result ≤ 30 }
 {
@@ -78,7 +78,7 @@ pub fn displaced(cpu: &Cpu, base: &Base, displacement: &Six) -> u16
 }
 
 /// The data address of a pointer.
-pub(crate) fn target(cpu: &Cpu, pointer: &Ptr) -> u16
+pub fn target(cpu: &Cpu, pointer: &Ptr) -> u16
     ensures { result ≡ target_of cpu.now pointer.now }
 {
     pointed(pointer, cpu.pair(low_register(pointer)))

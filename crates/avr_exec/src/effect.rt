@@ -20,7 +20,7 @@ const TRANSFER: u8 = 6;
 
 /// Gives a pointer that changes its new value.
 #[tactic(auto, unfolding(crate::specs::Effects::with_pointer))]
-pub(crate) fn move_pointer(cpu: &mut Cpu, pointer: &Ptr, value: u16)
+pub fn move_pointer(cpu: &mut Cpu, pointer: &Ptr, value: u16)
     ensures after { cpu.new ≡ with_pointer cpu.old pointer.now value }
     ensures pc { cpu.new.pc ≡ cpu.old.pc }
 {
@@ -36,7 +36,7 @@ pub(crate) fn move_pointer(cpu: &mut Cpu, pointer: &Ptr, value: u16)
 }
 
 /// Raises Z where a load from the program asks for it.
-pub(crate) fn raise_z(cpu: &mut Cpu, increment: bool, z: u16)
+pub fn raise_z(cpu: &mut Cpu, increment: bool, z: u16)
     ensures after { cpu.new ≡ with_z_raised_if cpu.old increment z }
     ensures pc { cpu.new.pc ≡ cpu.old.pc }
 {

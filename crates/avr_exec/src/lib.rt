@@ -17,7 +17,8 @@
 //! two executions are compared: over two spaces, and at two places of the program.
 //!
 //! The steps that `exec` is made of which touch the registers alone are public: a result kept in a register
-//! ([`keep_byte`], [`keep_word`], [`compare`]), and the pc moved ([`advance`], [`go`], [`branch`], [`skip`], [`call`]).
+//! ([`keep_byte`], [`keep_word`], [`compare`]), the pc moved ([`advance`], [`go`], [`branch`], [`skip`], [`call`]), and a pointer
+//! ([`target`], [`low_register`], [`move_pointer`], [`raise_z`]).
 #![tactic(auto)]
 
 mod answer;
@@ -34,10 +35,10 @@ mod transfer;
 
 pub use answer::Answer;
 pub use arithmetic::{compare, keep_byte, keep_word, swapped};
-pub use ask::{Ask, asks, displaced};
+pub use ask::{Ask, asks, displaced, low_register, target};
 pub use bits::has_bit;
 pub use bus::Bus;
 pub use cpu::Cpu;
-pub use effect::{advance, branch, call, go, skip};
+pub use effect::{advance, branch, call, go, move_pointer, raise_z, skip};
 pub use execution::{exec, exec_at};
 pub use stop::BusStop;

@@ -1,5 +1,5 @@
 -- The page that RING names, erased: what the next page is made in.
-use Rattle.std.proofs.Common.{◌≡◌, ℕ, ◌+◌, ◌*◌, ◌/◌, ◌%◌, ◌<◌, ◌≤◌, ◌⊎◌, List, length, Some, Result, Ok, Err, arith, refl, sym, ap, ◌∙◌, subst}
+use Rattle.std.proofs.Common.{◌≡◌, ℕ, ◌+◌, ◌*◌, ◌/◌, ◌%◌, ◌<◌, ◌≤◌, ◌⊎◌, Bool, List, length, Some, Result, Ok, Err, arith, refl, sym, ap, ◌∙◌, subst}
 use Rattle.std.specs.Prelude.{◌≢◌, IfOk}
 use Rattle.flash_words.specs.Pages.{page_words, set_page, blank}
 use Rattle.flash_words.specs.Memory.{Memory}
@@ -9,8 +9,10 @@ use Rattle.flash_words.specs.declared.layout.Layout.{Layout}
 use Rattle.sram_layout.specs.Bytes.{byte_count}
 use Rattle.sram_layout.specs.Cells.{ring_cell}
 use Rattle.sram_layout.proofs.Laws.{byte_out_of_word}
-use Rattle.page_index.specs.Maps.{IsPool, IsFree}
-use Rattle.page_index.specs.Entries.{IsEntry}
+use Rattle.page_index.specs.Maps.{IsPool, IsFree, original_page}
+use Rattle.page_index.specs.Entries.{IsEntry, IsMapped, AreKnown}
+use Rattle.page_index.proofs.MapLaws.{map_of_entry}
+use Rattle.page_index.proofs.EntryLaws.{page_of_place}
 use Rattle.nat_page.specs.Faithful.{IsFaithful}
 use Rattle.nat_page.specs.Making.{HasNoEntry}
 use Rattle.addr_tables.specs.Tables.{IsTables}
@@ -30,6 +32,7 @@ pub record IsEmptied (layout : Layout) (old unlinked erased : Memory) (victim t 
   pub code : IsFaithful layout (image_of layout erased.words) erased.words
   pub same_image : image_of layout erased.words ≡ image_of layout old.words
   pub free : IsFree erased.words victim
+  pub before : (a v : ℕ) → IsEntry layout erased.words a v → IsEntry layout old.words a v
   pub unknown : HasNoEntry layout erased.words t
   pub stays : StaysOutside layout unlinked.words erased.words victim
   pub stubs : (s to : ℕ) → s / page_words ≢ victim → IsUnresolved layout (image_of layout old.words) unlinked.words s to → IsUnresolved layout (image_of layout erased.words) erased.words s to
@@ -43,14 +46,36 @@ emptied layout old unlinked erased victim t right code same pool apart back unkn
     let alone : IsAlone layout image unlinked.words victim = record { pool = pool; apart = apart } in
     let image_there : image_of layout erased.words ≡ image = sym (ap (image_of layout) there) ∙ erased_image layout image unlinked.words victim right code pool ∙ same in
     let held : IsFaithful layout image erased.words = subst (IsFaithful layout image) there (erased_faithful layout image unlinked.words victim right code alone) in
+    let before : (a v : ℕ) → IsEntry layout erased.words a v → IsEntry layout old.words a v = λ a v entry.
+    back a v (entry_before layout image unlinked.words victim a v right code pool (subst (λ w. IsEntry layout w a v) (sym there) entry)) in
     record {
       code = subst (λ i. IsFaithful layout i erased.words) (sym image_there) held;
       same_image = image_there;
       free = subst (λ w. IsFree w victim) there (victim_free layout image unlinked.words victim right code pool);
-      unknown = λ v entry. unknown v (back t v (entry_before layout image unlinked.words victim t v right code pool (subst (λ w. IsEntry layout w t v) (sym there) entry)));
+      before = before;
+      unknown = λ v entry. unknown v (before t v entry);
       stubs = λ s to away stub. subst (λ i. IsUnresolved layout i erased.words s to) (sym image_there) (subst (λ w. IsUnresolved layout image w s to) there (erased_unresolved layout image unlinked.words victim s to right code alone away stub));
       stays = λ a v entry away. subst (λ w. IsEntry layout w a v) there (entry_left layout image unlinked.words victim a v right code pool entry away);
     }
+
+-- a page that has an entry of an original page is of that one
+original_of : (layout : Layout) (words : List ℕ) (original k v victim : ℕ) → IsMapped layout words → k < page_words → IsEntry layout words (page_words * original + k) v → v / page_words ≡ victim → original_page words victim ≡ original
+original_of layout words original k v victim mapped below entry is =
+    let own = page_of_place layout words (page_words * original + k) v mapped entry in
+    let map = map_of_entry words entry.page entry.index (page_words * original + k) v (mapped.pages entry.page entry.pool) entry.lists in
+    let here : original_page words entry.page ≡ original = omega (arith, entry.lists.address, map.offset entry.index entry.lists.listed) in
+    ap (original_page words) (sym (own ∙ is)) ∙ here
+
+-- what was known of another original page's addresses
+pub known_left : (layout : Layout) (old unlinked erased : Memory) (victim t original : ℕ) (known : List Bool) → IsMapped layout unlinked.words → IsEmptied layout old unlinked erased victim t → ((a v : ℕ) → IsEntry layout old.words a v → IsEntry layout unlinked.words a v) → AreKnown layout old.words original known → original_page unlinked.words victim ≢ original → AreKnown layout erased.words original known
+known_left layout old unlinked erased victim t original known mapped is on are apart = record {
+  size = are.size;
+  found = λ k below has.
+      let was = are.found k below has in
+      let entry = on (page_words * original + k) was.0 was.1 in
+      (was.0, is.stays (page_words * original + k) was.0 entry (λ own. apart (original_of layout unlinked.words original k was.0 victim mapped below entry own)));
+  only = λ k v below entry. are.only k v below (is.before (page_words * original + k) v entry);
+}
 
 turned_stays : (layout : Layout) (sram words : List ℕ) → IsTables layout sram words → IsTables layout (turned layout sram) words
 turned_stays layout sram words tables =

@@ -1,10 +1,10 @@
 //! One arrival.
 
-ghost use Rattle.std.specs.Prelude.{◌≡◌, ◌+◌, ◌/◌, ◌<◌, ◌≤◌, ◌^◌, ◌↔◌, ◌||◌, min, IsErrOf, length, None as Nothing};
+ghost use Rattle.std.specs.Prelude.{◌≡◌, ◌≢◌, ◌+◌, ◌/◌, ◌<◌, ◌≤◌, ◌^◌, ◌↔◌, ◌||◌, min, IsErrOf, length, None as Nothing};
 ghost use Rattle.sram_layout.specs.Bytes.{byte_count};
 ghost use Rattle.flash_words.specs.Layouts.{IsRight, image_of};
 ghost use Rattle.page_index.specs.Maps.{IsPool, IsFree};
-ghost use Rattle.page_index.specs.Entries.{AreKnown};
+ghost use Rattle.page_index.specs.Entries.{AreKnown, IsMapped};
 ghost use Rattle.nat_page.specs.Faithful.{IsFaithful};
 ghost use Rattle.nat_page.specs.Making.{HasNoEntry, HasNoFree};
 ghost use Rattle.branch_bridge.specs.Operating.{Program, lacking as lacking_of, with_torn};
@@ -118,14 +118,21 @@ pub fn arrive_with_hints(
     };
     match survey.free {
         Some(page) => make_page(sram, flash, layout, &survey.known, page, t, false),
-        None => recycle(sram, flash, layout, t),
+        None => recycle(sram, flash, layout, &survey.known, t),
     }
 }
 
-/// Recycles the page that RING names for the page of `t`.
-fn recycle(sram: &mut Sram, flash: &mut Flash, layout: &Layout, t: u16) -> Result<Moved, Refused>
+/// Recycles the page that RING names for the page of `t`. `known` tells which addresses of `t`'s original page have entries.
+fn recycle(
+    sram: &mut Sram,
+    flash: &mut Flash,
+    layout: &Layout,
+    known: &[bool; 128],
+    t: u16,
+) -> Result<Moved, Refused>
     requires right { IsRight layout.now }
     requires code { IsFaithful layout.now (image_of layout.now flash.old.words) flash.old.words }
+    requires known { AreKnown layout.now flash.old.words (t / 128) known.now }
     requires inside { t < layout.now.image_words }
     requires unknown { HasNoEntry layout.now flash.old.words t }
     requires full { HasNoFree layout.now flash.old.words }
@@ -147,6 +154,7 @@ fn recycle(sram: &mut Sram, flash: &mut Flash, layout: &Layout, t: u16) -> Resul
         }
     }
     forget_page(sram, victim);
+    let original = flash.word(PAGE_WORDS * victim);
     match flash.erase(victim) {
         Ok(()) => {}
         Err(stop) => {
@@ -157,8 +165,28 @@ fn recycle(sram: &mut Sram, flash: &mut Flash, layout: &Layout, t: u16) -> Resul
         }
     }
     turn(sram, layout);
-    let known = known_offsets(flash, layout, t / PAGE_WORDS);
+    let known = known_after(flash, layout, known, original, t);
     make_page(sram, flash, layout, &known, victim, t, true)
+}
+
+/// Which addresses of `t`'s original page have entries, where a page of this original page was erased after `known` was told.
+fn known_after(
+    flash: &Flash,
+    layout: &Layout,
+    known: &[bool; 128],
+    original: u16,
+    t: u16,
+) -> [bool; 128]
+    requires right { IsRight layout.now }
+    requires mapped { IsMapped layout.now flash.now.words }
+    requires known { original ≢ t / 128 → AreKnown layout.now flash.now.words (t / 128) known.now }
+    ensures known { AreKnown layout.now flash.now.words (t / 128) result }
+{
+    if original == t / PAGE_WORDS {
+        known_offsets(flash, layout, original)
+    } else {
+        *known
+    }
 }
 
 /// Makes the page of `t` in this page, which is free, and notes its place. `known` tells which addresses of `t`'s

@@ -20,6 +20,7 @@ use printed_text::NO_MEMORY;
 use std::alloc::Global;
 
 /// Runs a request to its end without a line, and puts the dump of its flash.
+#[inline(never)]
 pub(crate) fn dump_request<K: Sink>(alloc: Global, request: Request, out: &mut K) -> Outcome
     requires possible { AreOptions request.options }
     ensures done { HasDumped request (stream K.taken K.faults out.old) (stream K.taken K.faults out.new) result.status result.kept

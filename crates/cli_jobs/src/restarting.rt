@@ -28,6 +28,7 @@ use tk_run::{End, Machine};
 
 /// Runs a request without a line, loses power at the operation that is refused, if one is, restarts, and runs it again
 /// over what is kept.
+#[inline(never)]
 pub(crate) fn restart_request<K: Sink>(
     alloc: Global,
     request: Request,

@@ -20,7 +20,9 @@ use printed_text::{counts, stop_line};
 use std::alloc::Global;
 use tk_run::{End, Machine, Options};
 
-/// Runs a request to its end, and puts its lines.
+/// Runs a request to its end, and puts its lines. Not inlined, nor are its like: else the frame of the call that chooses the job
+/// holds what all of them hold.
+#[inline(never)]
 pub(crate) fn run_request<K: Sink>(alloc: Global, request: Request, out: &mut K) -> Outcome
     requires quantum { 1 ≤ request.options.quantum }
     requires swap { request.options.swap ≤ 251 }
@@ -52,6 +54,7 @@ pub(crate) fn run_request<K: Sink>(alloc: Global, request: Request, out: &mut K)
 }
 
 /// Runs a program to its end; its lines go nowhere.
+#[inline(never)]
 pub fn run_silently(
     alloc: Global,
     image: &Image,

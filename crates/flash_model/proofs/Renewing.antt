@@ -1,7 +1,7 @@
 -- What is decoded follows the words: an address that is decoded again or forgotten, and what a page leaves that changed.
-use Rattle.std.proofs.Common.{◌≡◌, ℕ, ◌+◌, ◌-◌, ◌*◌, ◌%◌, ◌<◌, ◌≤◌, ◌⊎◌, List, length, arith, ◌∙◌, sym, ap₂, subst, inl, inr}
-use Rattle.std.specs.Prelude.{◌≢◌, slice_set, slice_index_or}
-use Rattle.std.proofs.lemmas.List.{length-set, get_or-set_same, get_or-set_other}
+use Rattle.std.proofs.Common.{◌≡◌, ℕ, ◌+◌, ◌-◌, ◌*◌, ◌%◌, ◌<◌, ◌≤◌, ◌⊎◌, List, ◌++◌, length, get_or, take, drop, arith, rules, ◌∙◌, sym, ap, ap₂, subst, inl, inr}
+use Rattle.std.specs.Prelude.{◌≢◌, replicate, slice_set, slice_index_or}
+use Rattle.std.proofs.lemmas.List.{places, length-set, get_or-set_same, get_or-set_other, length-replicate, get_or-replicate, take-replicate}
 use Rattle.std.proofs.lemmas.Bool.{cases_lt, cases_eq}
 use Rattle.avr_ops.specs.declared.micro_op.MicroOp.{MicroOp}
 use Rattle.avr_ops.specs.declared.micro_op.MicroOp.TheVariants.{Undecoded}
@@ -95,28 +95,51 @@ micro_op_set words old a op few stands h = record {
 pub no_micro_op : (words : List ℕ) (micro_ops : List MicroOp) → length micro_ops ≡ word_count → ((a : ℕ) (op : MicroOp) → a < word_count → slice_index_or micro_ops a op ≡ Undecoded) → AreMicroOps words micro_ops
 no_micro_op words micro_ops sized none = record { sized = sized; each = λ a within op. subst (StandsAt words a) (sym (none a op within)) (stands_for_any _ _) }
 
--- the next address of a range
-pub forgotten_step : (words : List ℕ) (old new : List MicroOp) (a to : ℕ) → a < word_count → new ≡ slice_set old a Undecoded → AreMicroOpsOutside words old a to → AreMicroOpsOutside words new (a + 1) to
-forgotten_step words old new a to few is h = subst (λ micro_ops. AreMicroOpsOutside words micro_ops (a + 1) to) (sym is) (record {
-  sized = length-set old a Undecoded ∙ h.sized;
-  each = λ b within out. elim (cases_eq b a) [
-    | inl same ↦ subst (HasMicroOp words (slice_set old a Undecoded)) (sym same) (micro_op_here words old a Undecoded (omega (arith, h.sized)) (stands_for_any _ _))
-    | inr apart ↦ micro_op_else words old a b Undecoded apart (h.each b within (elim out [
-      | inl below ↦ inl (omega arith)
-      | inr above ↦ inr above
-    ]))
-  ];
-})
+-- a list with n of its items from place i on replaced by others
+put_in : (i n k : ℕ) (m new : List MicroOp) (d : MicroOp) → length new ≡ n → i + n ≤ length m → i ≤ k → k < i + n → get_or (take i m ++ new ++ drop (i + n) m) k d ≡ get_or new (k - i) d
+put_in i n k m new d fits inside from to = grind (arith, places)
 
--- a range that is done
-pub forgotten_all : (words : List ℕ) (micro_ops : List MicroOp) (from to : ℕ) → to ≤ from → AreMicroOpsOutside words micro_ops from to → AreMicroOps words micro_ops
-forgotten_all words micro_ops from to done h = record {
-  sized = h.sized;
-  each = λ a within. h.each a within (elim (cases_lt a from) [
-    | inl below ↦ inl below
-    | inr above ↦ inr (omega arith)
-  ]);
-}
+put_below : (i n k : ℕ) (m new : List MicroOp) (d : MicroOp) → length new ≡ n → i + n ≤ length m → k < i → get_or (take i m ++ new ++ drop (i + n) m) k d ≡ get_or m k d
+put_below i n k m new d fits inside below = grind (arith, places)
+
+put_above : (i n k : ℕ) (m new : List MicroOp) (d : MicroOp) → length new ≡ n → i + n ≤ length m → i + n ≤ k → get_or (take i m ++ new ++ drop (i + n) m) k d ≡ get_or m k d
+put_above i n k m new d fits inside above = grind (arith, places)
+
+length-put : (i n : ℕ) (m new : List MicroOp) → length new ≡ n → i + n ≤ length m → length (take i m ++ new ++ drop (i + n) m) ≡ length m
+length-put i n m new fits inside = search (rules, places)
+
+-- a range that is forgotten
+forgotten_part : (words : List ℕ) (old : List MicroOp) (from n : ℕ) → from + n ≤ word_count → AreMicroOpsOutside words old from (from + n) → AreMicroOps words (take from old ++ replicate n Undecoded ++ drop (from + n) old)
+forgotten_part words old from n end h =
+    let none = replicate n Undecoded in
+    let fits : length none ≡ n = length-replicate n Undecoded in
+    let inside : from + n ≤ length old = omega (arith, h.sized) in
+    let Stands : ℕ → MicroOp → Type 0 = λ a op. StandsAt words a op in
+    record {
+      sized = length-put from n old none fits inside ∙ h.sized;
+      each = λ a within op. elim (cases_lt a from) [
+        | inl below ↦ subst (Stands a) (sym (put_below from n a old none op fits inside below)) (h.each a within (inl below) op)
+        | inr start ↦ elim (cases_lt a (from + n)) [
+          | inl before ↦ subst (Stands a) (sym (put_in from n a old none op fits inside start before ∙ get_or-replicate n (a - from) Undecoded op (omega arith))) (stands_for_any _ _)
+          | inr above ↦ subst (Stands a) (sym (put_above from n a old none op fits inside above)) (h.each a within (inr above) op)
+        ]
+      ];
+    }
+
+-- a range in whose place as many of none are put
+pub none_put : (items none : List MicroOp) (from to : ℕ) → from ≤ to → to ≤ from + page_words → none ≡ take (to - from) (replicate page_words Undecoded) → take from items ++ none ++ drop (from + length none) items ≡ take from items ++ replicate (to - from) Undecoded ++ drop to items
+none_put items none from to order few is =
+    let same : none ≡ replicate (to - from) Undecoded = is ∙ take-replicate (to - from) page_words Undecoded (omega arith) in
+    let count : length none ≡ to - from = ap length same ∙ length-replicate (to - from) Undecoded in
+    let behind : from + length none ≡ to = omega arith in
+    ap₂ (λ n k. take from items ++ n ++ drop k items) same behind
+
+pub forgotten_range : (words : List ℕ) (old new : List MicroOp) (from to : ℕ) → from ≤ to → to ≤ word_count → new ≡ take from old ++ replicate (to - from) Undecoded ++ drop to old → AreMicroOpsOutside words old from to → AreMicroOps words new
+forgotten_range words old new from to order end is h =
+    let there : from + (to - from) ≡ to = omega arith in
+    let all = subst (λ (b : ℕ). AreMicroOpsOutside words old from b) (sym there) h in
+    let parts : take from old ++ replicate (to - from) Undecoded ++ drop (from + (to - from)) old ≡ new = ap (λ b. take from old ++ replicate (to - from) Undecoded ++ drop b old) there ∙ sym is in
+    subst (AreMicroOps words) parts (forgotten_part words old from (to - from) (omega arith) all)
 
 -- a word address outside of a range whose first word isn't the one behind it
 not_behind : (a before from to : ℕ) → a < word_count → from < word_count → before ≡ (from + 65536 - 1) % 65536 → a ≢ before → IsOutside a from to → to ≤ word_count → IsOutside (behind a) from to

@@ -1,11 +1,11 @@
 //! What is decoded of the words of flash, and what of it is made anew when words change.
 
-ghost use Rattle.std.specs.Prelude.{◌≡◌, ◌≤◌, ◌<◌, List, ℕ, length, IfOk, IfSome, slice_set, slice_index_or};
+ghost use Rattle.std.specs.Prelude.{◌≡◌, ◌≤◌, ◌<◌, ◌+◌, ◌-◌, ◌++◌, List, ℕ, length, take, drop, replicate, IfOk, IfSome, slice_set, slice_index_or};
 ghost use Rattle.avr_ops.specs.declared.micro_op.MicroOp.{MicroOp};
 ghost use Rattle.avr_ops.specs.declared.micro_op.MicroOp.TheVariants.{Undecoded};
-ghost use Rattle.flash_words.specs.Pages.{word_count};
+ghost use Rattle.flash_words.specs.Pages.{word_count, page_words};
 ghost use Rattle.flash_model.specs.Code.{decoded_at};
-ghost use Rattle.flash_model.specs.DecodeCache.{StandsAt, IsCache, IsCacheBeside, AreDecoded, AreDecodedOutside, AreDecodedBeside, AreMicroOps, AreMicroOpsOutside};
+ghost use Rattle.flash_model.specs.DecodeCache.{StandsAt, IsCache, IsCacheBeside, AreDecoded, AreDecodedOutside, AreDecodedBeside, AreMicroOps};
 
 use crate::decoded::Decoded;
 use crate::decoded_pairs::DecodedPairs;
@@ -77,25 +77,13 @@ impl DecodeCache {
         requires from { from < word_count }
         requires order { from ≤ to }
         requires end { to ≤ word_count }
+        requires few { to ≤ from + page_words }
         requires beside { IsCacheBeside cells.now.words self.old from to }
         ensures cache { IsCache cells.now.words self.new }
     {
         forget(&mut self.micro_ops, (from as u16).wrapping_sub(1));
-        self.forget_range(from, to);
+        forget_range(&mut self.micro_ops, from, to);
         self.renew_decoded(cells, from, to);
-    }
-
-    /// Forgets the micro-operations at the word addresses from one on up to another.
-    fn forget_range(&mut self, from: usize, to: usize)
-        requires order { from ≤ to }
-        requires end { to ≤ word_count }
-        requires sized { length self.old.micro_ops.items ≡ word_count }
-        ensures decoded { self.new.decoded ≡ self.old.decoded }
-        ensures micro_ops { (words : List ℕ) → AreMicroOpsOutside words self.old.micro_ops.items from to → AreMicroOps words self.new.micro_ops.items }
-    {
-        'range: for a in from..to {
-            forget(&mut self.micro_ops, a as u16);
-        }
     }
 
     /// Decodes at the first word addresses again, where they read a word of this range.
@@ -149,6 +137,26 @@ fn forget(micro_ops: &mut Vec<MicroOp>, a: u16)
     ensures micro_ops { micro_ops.new.items ≡ slice_set micro_ops.old.items a Undecoded }
 {
     micro_ops[a as usize] = MicroOp::Undecoded;
+}
+
+/// Forgets the micro-operations at the word addresses from one on up to another, by one copy.
+fn forget_range(micro_ops: &mut Vec<MicroOp>, from: usize, to: usize)
+    requires order { from ≤ to }
+    requires end { to ≤ word_count }
+    requires few { to ≤ from + page_words }
+    requires sized { length micro_ops.old.items ≡ word_count }
+    ensures micro_ops { micro_ops.new.items ≡ take from micro_ops.old.items ++ replicate (to - from) Undecoded ++ drop to micro_ops.old.items }
+{
+    let none = [MicroOp::Undecoded; PAGE_WORDS];
+    put_micro_ops(micro_ops, from, &none[..to - from]);
+}
+
+/// Puts these micro-operations at the word addresses from one on.
+fn put_micro_ops(micro_ops: &mut Vec<MicroOp>, from: usize, new: &[MicroOp])
+    requires inside { from + length new.now ≤ length micro_ops.old.items }
+    ensures put { micro_ops.new.items ≡ take from micro_ops.old.items ++ new.now ++ drop (from + length new.now) micro_ops.old.items }
+{
+    micro_ops[from..from + new.len()].copy_from_slice(new);
 }
 
 /// What two words of 0 are decoded to, so many times.

@@ -12,6 +12,7 @@ pub mod MemoryLaws
 mod SeatLaws
 pub mod LoadLaws
 pub mod StoreLaws
+mod HitLaws
 pub mod SamePagingLaws
 pub mod BootLaws
 pub mod CountLaws

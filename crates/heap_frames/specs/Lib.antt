@@ -4,3 +4,4 @@ pub mod Paged
 pub mod Paging
 pub mod Changes
 pub mod SamePaging
+pub mod InFrame

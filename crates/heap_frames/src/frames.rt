@@ -29,18 +29,23 @@ pub(crate) fn frame_address(frame: u8) -> u16
     FRAMES + 256 * u16::from(frame)
 }
 
-/// Whether an occupied frame holds the page.
+/// Whether an occupied frame holds the page. Most hold another, so the page is asked first.
+#[inline(always)]
 fn is_in(sram: &Sram, page: u8, frame: u8) -> bool
     requires { frame < 8 }
     ensures value { result ≡ holds sram.now page frame }
 {
     let (held, state) = sram.frame(frame);
-    state != EMPTY && held == page
+    if held != page {
+        return false;
+    }
+    state != EMPTY
 }
 
 /// The frame that holds the page.
 #[tactic(auto, unfolding(crate::specs::Frames::frame_of))]
-fn frame_with(sram: &Sram, page: u8) -> Option<u8>
+#[inline(always)]
+pub(crate) fn frame_with(sram: &Sram, page: u8) -> Option<u8>
     ensures value { result ≡ frame_of sram.now page }
     ensures frame_in { IfSome result (λ frame. frame < 8) }
 {

@@ -1,9 +1,10 @@
 //! One byte of the heap.
 
-ghost use Rattle.std.specs.Prelude.{◌≡◌, ◌/◌, ◌%◌, ◌<◌, ◌↔◌, true, IfErr, IsErr, OnOk, OnErr};
+ghost use Rattle.std.specs.Prelude.{◌≡◌, ℕ, ◌/◌, ◌%◌, ◌<◌, ◌↔◌, true, false, List, Some, IfSome, IfErr, IsErr, OnOk, OnErr};
 ghost use Rattle.flat_machine.specs.Addresses.{is_heap};
 ghost use Rattle.heap_frames.specs.Paged.{IsPaged};
 ghost use Rattle.heap_frames.specs.Paging.{store_of, heap_load, heap_store, stored_or_full, with_byte_in_frame};
+ghost use Rattle.heap_frames.specs.InFrame.{stored_in_frame};
 ghost use Rattle.heap_frames.specs.Changes.{Loaded, Stored, IsFull};
 
 use crate::frames::{self, DIRTY};
@@ -59,6 +60,33 @@ pub fn store(sram: &mut Sram, swap: &mut Swap, a: u16, v: u8) -> Result<(), Swap
         Ok(())
     } else {
         Err(SwapFull { address: a })
+    }
+}
+
+/// The byte at a heap address, where a frame holds its page: no page moves, so the heap stays. None elsewhere.
+#[inline(always)]
+pub fn load_in_frame(sram: &Sram, a: u16) -> Option<u8>
+    ensures hit { IfSome result (λ byte. (w : List (List ℕ)) → IsPaged sram.now w → heap_load (store_of sram.now w) a ≡ (byte, store_of sram.now w)) }
+{
+    match frames::frame_with(sram, (a / 256) as u8) {
+        Some(frame) => Some(sram.byte(frames::frame_address(frame) + a % 256)),
+        None => None,
+    }
+}
+
+/// Stores a byte at a heap address, where a frame holds its page: no page moves. Tells whether one does; else nothing is done.
+#[inline(always)]
+pub fn store_in_frame(sram: &mut Sram, a: u16, v: u8) -> bool
+    ensures hit { result ≡ true → (w : List (List ℕ)) → IsPaged sram.old w → heap_store (store_of sram.old w) a v ≡ Some (store_of (stored_in_frame sram.old a v) w) }
+    ensures after { result ≡ true → sram.new ≡ stored_in_frame sram.old a v }
+    ensures none { result ≡ false → sram.new ≡ sram.old }
+{
+    match frames::frame_with(sram, (a / 256) as u8) {
+        Some(frame) => {
+            put_byte(sram, frame, a, v);
+            true
+        }
+        None => false,
     }
 }
 

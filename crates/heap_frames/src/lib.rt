@@ -17,4 +17,4 @@
 mod frames;
 mod heap;
 
-pub use heap::{SwapFull, load, store};
+pub use heap::{SwapFull, load, load_in_frame, store, store_in_frame};

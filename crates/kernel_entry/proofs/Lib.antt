@@ -1,5 +1,6 @@
 -- Laws of the services.
 mod Executing
+mod AtOnce
 mod Answering
 mod Running
 pub mod LeftLaws

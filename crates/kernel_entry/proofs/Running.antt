@@ -49,6 +49,20 @@ way k (CanServe.AtFault is shape can) run = absurd (let no = runs_at k fault_ent
 pub run_called : (k : Kernel) → CanServe k → is_run k ≡ true → IsCalled k
 run_called k can run = called k can (way k can run).1
 
+-- from MEM to RETURN an instruction is executed, if it may read what it reads
+pub at_memory : (k : Kernel) → CanServe k → mem_entry ≤ k.mote.cpu.pc → k.mote.cpu.pc ≤ return_entry → executes k.mote.cpu.pc ≡ true × (foreign_read k ≡ None → is_run k ≡ true)
+at_memory k (CanServe.AtBridge is) from up = absurd (omega (arith, is))
+at_memory k (CanServe.AtQuantum is) from up = absurd (omega (arith, is))
+at_memory k (CanServe.AtMem is shape can) from up = (ap executes is, λ none. ap (λ e. is_run_at e k) is ∙ ap is_none none)
+at_memory k (CanServe.AtPushReturn is shape can) from up = (ap executes is, λ none. ap (λ e. is_run_at e k) is)
+at_memory k (CanServe.AtReturn is shape can count) from up = (ap executes is, λ none. ap (λ e. is_run_at e k) is)
+at_memory k (CanServe.AtIndirect is shape can count) from up = absurd (omega (arith, is))
+at_memory k (CanServe.AtSelf is shape can count) from up = absurd (omega (arith, is))
+at_memory k (CanServe.AtFault is shape can) from up = absurd (omega (arith, is))
+
+pub known_there : (k : Kernel) → IsCalled k → is_some (instruction k) ≡ true
+known_there k called = ap is_some called.is
+
 -- by what the execution tells
 resumes_by : (k next : Kernel) (form : Form) (told : Result Ran BusStop) (ran : Ran) → Way k → k.mote.cpu.pc < return_entry → instruction k ≡ Some form
     → ◌≡◌ {A = Result Ran BusStop × Kernel} (told, next) (execution k form) → told ≡ Ok ran → resumed_by k (Ok ran) next ≡ served k

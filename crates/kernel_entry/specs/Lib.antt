@@ -6,3 +6,4 @@ pub mod Conditions
 pub mod Seen
 pub mod Left
 pub mod Rows
+pub mod AtOnce

@@ -15,7 +15,8 @@
 //! ```
 //!
 //! [`serve_told`] says besides whether an interrupt may be taken next; [`interrupt`] then takes one, if any.
-//! [`Owed`] and [`End`] say where a run stands between two services, and how it ends.
+//! [`resume_at_once`] and [`return_at_once`] serve what reaches bytes at hand, by a shorter way. [`Owed`] and [`End`] say
+//! where a run stands between two services, and how it ends.
 //!
 //! docs/LOADER.md has the entries and what each service does. `specs/Services` is that as one function of
 //! the whole kernel, `specs/Rows` the same entry by entry, over what the program sees (`specs/Seen`), and
@@ -24,11 +25,13 @@
 //! as laws of the one function.
 #![tactic(auto)]
 
+mod at_once;
 mod execution;
 mod interrupts;
 mod kernel;
 mod services;
 
+pub use at_once::{resume_at_once, return_at_once};
 pub use interrupts::interrupt;
 pub use kernel::{End, Kernel, Owed, Served, Stop, Taken};
 pub use services::{has_interrupts, serve, serve_told};

@@ -66,9 +66,8 @@ pub fn serve_told(k: &mut Kernel) -> (Served, bool)
     serve_at(k, at)
 }
 
-/// Serves a call whose descriptor is `at`. Most services execute an instruction of the program, so what they do stands in one
-/// place, and is inlined.
-#[inline(always)]
+/// Serves a call whose descriptor is `at`. It isn't inlined, so that a service at once keeps no registers for it.
+#[inline(never)]
 fn serve_at(k: &mut Kernel, at: u16) -> (Served, bool)
     requires can { CanServe k.old }
     requires at { at ≡ descriptor_of k.old }
@@ -85,7 +84,7 @@ fn serve_at(k: &mut Kernel, at: u16) -> (Served, bool)
 /// Whether the service executes an instruction of the program: not where LPM or ELPM would read a word that the program
 /// may not read, nor where the program halts.
 #[tactic(auto, unfolding(crate::specs::Services::is_run))]
-fn executes(k: &Kernel, at: u16) -> bool
+pub(crate) fn executes(k: &Kernel, at: u16) -> bool
     requires can { CanServe k.now }
     requires at { at ≡ descriptor_of k.now }
     ensures value { result ≡ is_run k.now }
@@ -288,7 +287,7 @@ fn sleep(k: &mut Kernel, at: u16) -> Served
 
 /// The flash address behind the call, where the descriptor is: the call left it with its high byte at the
 /// lower address.
-fn behind_call(k: &Kernel) -> u16
+pub(crate) fn behind_call(k: &Kernel) -> u16
     ensures value { result ≡ return_address k.now }
     ensures size { length k.now.mote.sram ≡ byte_count }
 {
@@ -308,7 +307,7 @@ pub(crate) fn descriptor(k: &Kernel) -> u16
 }
 
 /// The program's instruction at the descriptor's address.
-fn called_instruction(k: &Kernel, at: u16) -> Instr
+pub(crate) fn called_instruction(k: &Kernel, at: u16) -> Instr
     requires at { at ≡ descriptor_of k.now }
     requires called { IsCalled k.now }
     ensures value { instruction k.now ≡ Some result }

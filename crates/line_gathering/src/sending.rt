@@ -41,6 +41,7 @@ pub fn up_to_turn(done: u64) -> u64
 /// What was gathered goes out where it is this step's turn.
 pub fn send_in_turn<K: Sink>(step: u64, gathered: &mut Gathered, out: &mut K) -> Result<(), Failed>
     ensures text { Gathers gathered.old.items gathered.new.items (K.taken out.old) (K.taken out.new) result [] }
+    ensures turn { step % turn_steps ≡ 0 → OnOk result (gathered.new.items ≡ []) }
     ensures cause { HasCause (K.faults out.old) (K.faults out.new) result }
 {
     if step % TURN == 0 {

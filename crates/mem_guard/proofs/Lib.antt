@@ -6,3 +6,4 @@ pub mod LineLaws
 pub mod FlatCalls
 pub mod GuardedStep
 pub mod AtReset
+mod AtHandLaws

@@ -3,3 +3,4 @@ pub mod Guarded
 pub mod Readiness
 pub mod Bus
 pub mod Left
+pub mod AtHand

@@ -1,7 +1,7 @@
 //! The program's own words and instructions, read from flash.
 
-ghost use Rattle.std.specs.Prelude.{◌≡◌, ◌+◌, ◌%◌, ◌<◌, ◌≤◌, ◌↔◌, IsTrue, true, Some as Just, is_some};
-ghost use Rattle.avr_isa.specs.Image.{word};
+ghost use Rattle.std.specs.Prelude.{◌≡◌, ◌+◌, ◌%◌, ◌<◌, ◌≤◌, ◌↔◌, IsTrue, true, Some as Just, is_some, IfSome};
+ghost use Rattle.avr_isa.specs.Image.{word, byte};
 ghost use Rattle.avr_decode.specs.Program.{instruction_at};
 ghost use Rattle.flash_words.specs.Layouts.{image_of};
 ghost use Rattle.flat_machine.specs.FlatMachine.{next_size};
@@ -23,12 +23,36 @@ pub fn known_instruction(flash: &Flash, layout: &Layout, at: u16) -> Instr
     requires known { is_some (instruction_at (image_of layout.now flash.now.words) at) ≡ true }
     ensures value { instruction_at (image_of layout.now flash.now.words) at ≡ Just result }
 {
+    match kept_instruction(flash, layout, at) {
+        Some(instr) => *instr,
+        None => instruction_in_image(flash, layout, at).unwrap(),
+    }
+}
+
+/// The program's instruction at a word address where it has one, if flash has it decoded.
+#[inline(always)]
+pub fn kept_instruction<'a>(flash: &'a Flash, layout: &Layout, at: u16) -> Option<&'a Instr>
+    requires known { is_some (instruction_at (image_of layout.now flash.now.words) at) ≡ true }
+    ensures value { IfSome result (λ instr. instruction_at (image_of layout.now flash.now.words) at ≡ Just instr.now) }
+{
     if has_both_words(layout, at) {
         if let Some(decoded) = flash.decoded(at) {
-            return decoded.instr;
+            return Some(&decoded.instr);
         }
     }
-    instruction_in_image(flash, layout, at).unwrap()
+    None
+}
+
+/// The program's byte at a byte address.
+pub fn byte_in_image(flash: &Flash, layout: &Layout, a: u32) -> u8
+    ensures value { result ≡ byte (image_of layout.now flash.now.words) a }
+{
+    let word = word_in_image(flash, layout, a / 2);
+    if a % 2 == 0 {
+        (word & 0xFF) as u8
+    } else {
+        (word >> 8) as u8
+    }
 }
 
 /// How many words a skip at a word address passes, where its condition holds: the size of the instruction

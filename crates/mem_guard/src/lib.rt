@@ -9,7 +9,8 @@
 //! exec(&instr, &mut cpu, &mut bus, next_size)?; // a stop says why, and changes nothing
 //! ```
 //!
-//! [`instruction_in_image`], [`known_instruction`] and [`next_size_in_image`] read the program itself from flash.
+//! [`instruction_in_image`], [`known_instruction`], [`kept_instruction`], [`next_size_in_image`] and [`byte_in_image`] read the
+//! program itself from flash; [`load_at_hand`] and [`store_at_hand`] reach bytes that are in SRAM.
 //!
 //! `specs/Guarded` is what a `VirtualBus` stands for, with the flat memory that it means (`flat_of`). Each call
 //! of the bus is the flat memory's call (`flat`); `specs/Left` says what it leaves of the mote's parts (`kept`, `heap`).
@@ -19,10 +20,15 @@
 //! program's step).
 #![tactic(auto)]
 
+mod at_hand;
 mod image;
 mod parts;
 mod virtual_bus;
 
+pub use at_hand::{load_at_hand, store_at_hand};
 pub use flat_machine::{AddrClass, class};
-pub use image::{instruction_in_image, known_instruction, next_size_in_image};
+pub use image::{
+    byte_in_image, instruction_in_image, kept_instruction, known_instruction, next_size_in_image,
+};
+pub use parts::is_stack;
 pub use virtual_bus::VirtualBus;

@@ -148,7 +148,7 @@ impl VirtualBus<'_> {
 }
 
 /// Whether a data address is in the stack window.
-fn is_stack(a: u16) -> bool
+pub fn is_stack(a: u16) -> bool
     ensures value { result ≡ is_stack_test a }
 {
     0x0D00 <= a && a <= 0x10FF

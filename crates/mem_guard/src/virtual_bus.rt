@@ -1,7 +1,8 @@
 //! The program's memory over the mote's own parts, as a bus.
 
+use crate::image::byte_in_image;
 use avr_exec::{Bus, BusStop};
-use flash_model::{Flash, Layout, word_in_image};
+use flash_model::{Flash, Layout};
 use mote_devices::{Devices, Line};
 use sram_layout::Sram;
 use swap_store::Swap;
@@ -142,11 +143,6 @@ impl Bus for VirtualBus<'_> {
     }
 
     fn flash_byte(&self, a: u32) -> u8 {
-        let word = word_in_image(self.flash, self.layout, a / 2);
-        if a % 2 == 0 {
-            (word & 0xFF) as u8
-        } else {
-            (word >> 8) as u8
-        }
+        byte_in_image(self.flash, self.layout, a)
     }
 }

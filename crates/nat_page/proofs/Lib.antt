@@ -17,3 +17,4 @@ pub mod UnlinkLaws
 mod PatchLaws
 pub mod WalkLaws
 mod CountLaws
+mod DecodedLaws

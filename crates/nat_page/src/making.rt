@@ -13,7 +13,6 @@ ghost use Rattle.nat_page.specs.Making.{HasNoEntry, IsPrepared, NaturalisesIn};
 
 use crate::drafting::draft_of;
 use flash_model::{Flash, Layout, PAGE_WORDS};
-use page_draft::page_with;
 use page_index::known_offsets;
 
 /// Why no page was made.
@@ -107,7 +106,7 @@ pub fn prepare_with(
 {
     let draft = draft_of(flash, layout, known, t);
     Prepared {
-        words: page_with(&draft.pieces(t)),
+        words: draft.words(t),
         place: PAGE_WORDS * page + 2 + draft.entries.len() as u16,
     }
 }

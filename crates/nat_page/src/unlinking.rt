@@ -118,8 +118,6 @@ pub fn page_words(flash: &Flash, page: u16) -> [u16; 128]
     ensures whole { IsWhole flash.now }
 {
     let mut words = [0; 128];
-    'words: for k in 0..PAGE_WORDS {
-        words[k as usize] = flash.word(PAGE_WORDS * page + k);
-    }
+    words.copy_from_slice(flash.page(page));
     words
 }

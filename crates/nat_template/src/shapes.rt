@@ -34,6 +34,7 @@ pub enum TemplateShape {
 }
 
 /// The shape of the instruction at the pc, if there is one.
+#[inline(always)]
 pub fn shape(pc: u16, instr: Option<&Instr>) -> TemplateShape
     ensures shape { result ≡ shape_of pc (option_map (λ borrowed. borrowed.now) instr.entry) }
 {
@@ -43,6 +44,7 @@ pub fn shape(pc: u16, instr: Option<&Instr>) -> TemplateShape
     }
 }
 
+#[inline(always)]
 #[tactic(auto, unfolding(crate::specs::Shapes::shape_of_form))]
 fn shape_of_instruction(pc: u16, form: &Form) -> TemplateShape
     ensures shape { result ≡ shape_of_form pc form.now }

@@ -11,7 +11,9 @@ use Rattle.page_cursor.specs.declared.stretch.Stretch.{Stretch}
 use Rattle.page_cursor.specs.declared.cursor.Reached.{Reached}
 use Rattle.page_index.proofs.MapLaws.{lists_entry, map_of_entry}
 use Rattle.page_index.specs.Entries.{Lists, IsEntry, IsListed, IsMapped}
-use Rattle.page_cursor.specs.Cursors.{IsStretch, IsReached, AreReached}
+use Rattle.flash_words.specs.Layouts.{IsRight}
+use Rattle.page_cursor.specs.declared.cursor.Cursor.{Cursor}
+use Rattle.page_cursor.specs.Cursors.{IsStretch, IsReached, AreReached, IsCursor, IsPassed}
 use Rattle.page_index.proofs.EntryLaws.{page_of_place}
 
 -- an entry behind the place is one of those that are not before it
@@ -73,9 +75,10 @@ pub all_behind : (words : List ℕ) (page index place : ℕ) → IsMap words pag
 all_behind words page index place map below after i from listed = omega (arith, at_or_behind words page index i map from listed)
 
 -- a stretch whose next entry is this one
-pub next_listed : (layout : Layout) (words : List ℕ) (page place behind next : ℕ) → IsMapped layout words → IsPool layout page → IsMap words page → place / page_words ≡ page → behind < entry_count words page
+pub next_listed : (layout : Layout) (words : List ℕ) (page place behind next : ℕ) → IsRight layout → IsMapped layout words → IsPool layout page → IsMap words page → place / page_words ≡ page → behind < entry_count words page
     → ((i : ℕ) → i < behind → place_of words page i ≤ place) → next ≡ place_of words page behind → IsStretch layout words (record { place = place; next = next; listed = page_words * page + (2 + behind) })
-next_listed layout words page place behind next mapped pool map inside below earlier is = record {
+next_listed layout words page place behind next right mapped pool map inside below earlier is = record {
+  low = omega (arith, is, pool.to, right.pool_below_kernel, map.inside behind below);
   quiet = λ t v entry after. omega (arith, is, quiet_to_next layout words page place behind t v mapped map inside below earlier entry after);
   listed = λ some. (
     address_of words page behind,
@@ -172,3 +175,10 @@ none_kept layout words slot r inside =
       | inr other ↦
           rw (get_or-set_other zeros 0 slot 1 0 other) (rw (get_or-replicate {A = ℕ} 1024 slot 0 0 inside) (record { entry = λ own. absurd (other (omega (arith, own))); stretch = λ own. absurd (other (omega (arith, own))) }))
     ]
+
+-- no entry begins at a place that is passed, and it is none of the kernel's words
+pub none_passed : (layout : Layout) (words : List ℕ) (c : Cursor) (place : ℕ) → IsCursor layout words c → IsPassed c place → (t : ℕ) → ¬ IsEntry layout words t place
+none_passed layout words c place cursor passed t entry = omega (arith, cursor.stretch.quiet t place entry passed.behind, passed.before)
+
+pub passed_low : (layout : Layout) (words : List ℕ) (c : Cursor) (place : ℕ) → IsCursor layout words c → IsPassed c place → place < 0xF000
+passed_low layout words c place cursor passed = omega (arith, cursor.stretch.low, passed.before)

@@ -1,2 +1,2 @@
 -- Laws of a cursor.
-mod CursorLaws
+pub mod CursorLaws

@@ -7,8 +7,9 @@ use Rattle.page_cursor.specs.declared.stretch.Stretch.{Stretch}
 use Rattle.page_cursor.specs.declared.cursor.Reached.{Reached}
 use Rattle.page_cursor.specs.declared.cursor.Cursor.{Cursor}
 
--- no entry begins between the stretch's place and the next one
+-- no entry begins between the stretch's place and the next one, and none of the kernel's words is there
 pub record IsStretch (layout : Layout) (words : List ℕ) (s : Stretch) : Type 0 where
+  pub low : s.next ≤ 0xF000
   pub quiet : (t v : ℕ) → IsEntry layout words t v → s.place < v → s.next ≤ v
   pub listed : s.listed ≢ 0 → (t : ℕ) × IsListed layout words s.listed t s.next
 
@@ -25,6 +26,11 @@ AreReached layout words kept reached = (slot : ℕ) → (d : Reached) → slot <
 pub record IsCursor (layout : Layout) (words : List ℕ) (c : Cursor) : Type 0 where
   pub stretch : IsStretch layout words c.now.stretch
   pub reached : AreReached layout words c.kept c.reached
+
+-- the place is one of those that the cursor's stretch passes
+pub record IsPassed (c : Cursor) (place : ℕ) : Type 0 where
+  pub behind : c.now.stretch.place < place
+  pub before : place < c.now.stretch.next
 
 -- right for every flash
 abbrev pub IsStretchAnywhere : Stretch → Type 0

@@ -1,9 +1,9 @@
 //! The search for a place, for control that mostly goes on within one page, or comes again.
 
-ghost use Rattle.std.specs.Prelude.{◌≡◌, ℕ, ◌%◌, IfSome};
+ghost use Rattle.std.specs.Prelude.{◌≡◌, ℕ, ◌%◌, true, IfSome};
 ghost use Rattle.flash_words.specs.Layouts.{IsRight};
 ghost use Rattle.page_index.specs.Entries.{IsEntry, IsMapped};
-ghost use Rattle.page_cursor.specs.Cursors.{IsStretch, IsCursor, IsCursorAnywhere};
+ghost use Rattle.page_cursor.specs.Cursors.{IsStretch, IsCursor, IsCursorAnywhere, IsPassed};
 
 use crate::stretch::Stretch;
 use flash_model::{Flash, KERNEL_FIRST, Layout};
@@ -68,6 +68,14 @@ impl Cursor {
         self.kept[0] = 1;
     }
 
+    /// Whether the place is one of those that the last search has found to be none where an entry begins.
+    #[inline(always)]
+    pub fn passes(&self, place: u16) -> bool
+        ensures passed { result ≡ true → IsPassed self.entry.now place }
+    {
+        self.now.stretch.place < place && place < self.now.stretch.next
+    }
+
     /// The original address whose code begins at this place, a word address of flash; None where that
     /// is no entry's place.
     #[inline(always)]
@@ -79,9 +87,22 @@ impl Cursor {
         ensures only { (t : ℕ) → IsEntry layout.now flash.now.words t place → result ≡ Some t }
         ensures cursor { IsCursor layout.now flash.now.words self.new }
     {
-        if self.now.stretch.place < place && place < self.now.stretch.next {
+        if self.passes(place) {
             return None;
         }
+        self.reached(flash, layout, place)
+    }
+
+    /// [`Cursor::origin`], for a place that most likely isn't passed.
+    #[inline(always)]
+    pub fn reached(&mut self, flash: &Flash, layout: &Layout, place: u16) -> Option<u16>
+        requires right { IsRight layout.now }
+        requires mapped { IsMapped layout.now flash.now.words }
+        requires cursor { IsCursor layout.now flash.now.words self.old }
+        ensures found { IfSome result (λ t. IsEntry layout.now flash.now.words t place) }
+        ensures only { (t : ℕ) → IsEntry layout.now flash.now.words t place → result ≡ Some t }
+        ensures cursor { IsCursor layout.now flash.now.words self.new }
+    {
         let at = slot(place);
         if self.kept[at] == place {
             self.now = self.reached[at];

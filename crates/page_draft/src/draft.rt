@@ -4,10 +4,13 @@ ghost use Rattle.std.specs.Prelude.{◌≡◌, ◌+◌, ◌-◌, ◌<◌, ◌≤
 ghost use Rattle.arrayvec.specs.ArrayVec.{array_vec_len};
 ghost use Rattle.flash_words.specs.Layouts.{most_entries};
 ghost use Rattle.nat_template.specs.declared.piece.Piece.TheVariants.{Fixed};
+ghost use Rattle.nat_template.specs.Stubs.{words_of};
 ghost use Rattle.page_draft.specs.Standing.{size as size_of};
+ghost use Rattle.page_draft.specs.CodePages.{filled};
 ghost use Rattle.page_draft.specs.Drafts.{Adds, code_of, closing_of, draft_pieces};
 
 use crate::instruction::Instruction;
+use crate::pieces::{filled_up, push_words};
 use arrayvec::ArrayVec;
 use flash_words::PAGE_WORDS;
 use nat_template::{Piece, TemplateShape};
@@ -42,6 +45,7 @@ impl Draft {
     }
 
     /// Adds the instruction.
+    #[inline(always)]
     pub fn add(&mut self, here: &Instruction)
         requires entries { array_vec_len self.old.entries < most_entries }
         requires sized { self.old.size ≡ size_of self.old.code.items }
@@ -82,6 +86,23 @@ impl Draft {
         pieces.try_extend_from_slice(&self.code).unwrap();
         pieces
     }
+
+    /// The 128 words of the page, for the run from `t`. No link is resolved.
+    #[tactic(auto, using(crate::proofs::DraftLaws::draft_words))]
+    pub fn words(&self, t: u16) -> [u16; 128]
+        requires sized { self.now.size ≡ size_of self.now.code.items }
+        requires fits { 2 + array_vec_len self.now.entries + self.now.size ≤ 128 }
+        requires small { All (λ entry. entry < 65536 - 128) self.now.entries.items }
+        ensures words { result ≡ filled (words_of (draft_pieces t self.now.entries.items self.now.code.items)) }
+    {
+        let count = self.entries.len() as u16;
+        let mut words = ArrayVec::new();
+        words.push(t / PAGE_WORDS);
+        words.push(count);
+        push_map_words(&mut words, &self.entries, 2 + count);
+        push_words(&mut words, &self.code);
+        filled_up(&words)
+    }
 }
 
 /// Adds the template of the instruction, which is mostly its own word.
@@ -92,8 +113,17 @@ fn add_code(code: &mut ArrayVec<Piece, 128>, here: &Instruction)
 {
     match here.shape {
         TemplateShape::Native => code.push(Piece::Fixed(here.first)),
-        _ => code.try_extend_from_slice(&here.code()).unwrap(),
+        _ => add_template(code, here),
     }
+}
+
+/// Adds any template. It stands apart, so that what is its own word needs no room for one.
+#[inline(never)]
+fn add_template(code: &mut ArrayVec<Piece, 128>, here: &Instruction)
+    requires room { array_vec_len code.old + size_of (code_of here.now) ≤ 128 }
+    ensures code { code.new.items ≡ code.old.items ++ code_of here.now }
+{
+    code.try_extend_from_slice(&here.code()).unwrap();
 }
 
 /// Adds the map's words: in front of each template stand this many more words.
@@ -104,5 +134,16 @@ fn push_map(pieces: &mut ArrayVec<Piece, 128>, entries: &[u16], more: u16)
 {
     for entry in entries {
         pieces.push(Piece::Fixed(*entry + more));
+    }
+}
+
+/// Adds the map's words as they stand in flash.
+fn push_map_words(words: &mut ArrayVec<u16, 128>, entries: &[u16], more: u16)
+    requires room { array_vec_len words.old + length entries.now ≤ 128 }
+    requires small { All (λ entry. entry + more < 65536) entries.now }
+    ensures words { words.new.items ≡ words.old.items ++ map (λ entry. entry + more) entries.now }
+{
+    for entry in entries {
+        words.push(*entry + more);
     }
 }

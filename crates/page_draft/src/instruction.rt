@@ -1,16 +1,17 @@
 //! An instruction of the image, and what stands in a page in its place.
 
-ghost use Rattle.std.specs.Prelude.{◌≡◌, ◌<◌, ◌≤◌, [], length, if◌then◌else◌};
+ghost use Rattle.std.specs.Prelude.{◌≡◌, ℕ, ◌<◌, ◌≤◌, [], length, if◌then◌else◌};
 ghost use Rattle.std.specs.Option.{option_map};
 ghost use Rattle.flash_words.specs.Layouts.{most_image_words};
-ghost use Rattle.nat_template.specs.Stubs.{stub as stub_of};
+ghost use Rattle.nat_template.specs.Stubs.{stub as stub_of, words_of};
+ghost use Rattle.nat_template.specs.Templates.{template_by};
 ghost use Rattle.page_draft.specs.Runs.{is_closed as is_closed_test, is_jump_through_z as is_jump_through_z_test, never_returns as never_returns_test};
 ghost use Rattle.page_draft.specs.Standing.{size};
 ghost use Rattle.page_draft.specs.Drafts.{IsRead, code_of, closing_of};
 
 use crate::words::ImageWords;
 use arrayvec::ArrayVec;
-use avr_decode::{decode, size_by_first_word};
+use avr_decode::size_by_first_word;
 use avr_isa::{Form, Instr};
 use nat_template::{Piece, TemplateShape, pieces_by, shape, size_by, stub, stub_size};
 
@@ -73,7 +74,7 @@ pub fn read<I: ImageWords>(image: &I, pc: u16) -> Instruction
 {
     let first = image.word(pc);
     let second = image.word(pc + 1);
-    let instr = decode(first, second);
+    let instr = image.instruction(pc);
     let shape = shape(pc, instr.as_ref());
     let next = pc + size_by_first_word(first);
     let next_size = size_by_first_word(second);
@@ -82,11 +83,24 @@ pub fn read<I: ImageWords>(image: &I, pc: u16) -> Instruction
         next,
         ends: never_returns(shape, instr.as_ref()),
         first,
-        code_size: size_by(shape, pc, instr.as_ref(), next_size),
+        code_size: code_size(shape, pc, instr.as_ref(), next_size),
         closing_size: closing_size(shape, pc, next),
         instr,
         shape,
         next_size,
+    }
+}
+
+/// How many words the template has: mostly one, the instruction's own.
+#[inline(always)]
+#[tactic(auto, unfolding(nat_template::specs::Templates::template_by))]
+fn code_size(shape: TemplateShape, pc: u16, instr: Option<&Instr>, next_size: u16) -> u16
+    ensures size { (first : ℕ) → result ≡ length (words_of (template_by shape pc first (option_map (λ borrowed. borrowed.now) instr.entry) next_size)) }
+    ensures bounds { (1 ≤ result) × (result ≤ 39) }
+{
+    match shape {
+        TemplateShape::Native => 1,
+        _ => size_by(shape, pc, instr, next_size),
     }
 }
 

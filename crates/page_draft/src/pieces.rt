@@ -1,6 +1,7 @@
 //! Pieces in a row.
 
-ghost use Rattle.std.specs.Prelude.{◌≡◌, ◌≤◌, length};
+ghost use Rattle.std.specs.Prelude.{◌≡◌, ◌+◌, ◌≤◌, ◌++◌, length};
+ghost use Rattle.arrayvec.specs.ArrayVec.{array_vec_len};
 ghost use Rattle.nat_template.specs.Stubs.{words_of};
 ghost use Rattle.page_draft.specs.Standing.{size as size_of, width as width_of};
 ghost use Rattle.page_draft.specs.CodePages.{filled};
@@ -34,12 +35,11 @@ pub fn width(piece: Piece) -> u16
     }
 }
 
-/// The 128 words of a page with these pieces, whose links aren't resolved.
-pub fn page_with(pieces: &[Piece]) -> [u16; 128]
-    requires fits { size_of pieces.now ≤ 128 }
-    ensures words { result ≡ filled (words_of pieces.now) }
+/// Adds the words of pieces, whose links aren't resolved.
+pub(crate) fn push_words(words: &mut ArrayVec<u16, 128>, pieces: &[Piece])
+    requires room { array_vec_len words.old + size_of pieces.now ≤ 128 }
+    ensures words { words.new.items ≡ words.old.items ++ words_of pieces.now }
 {
-    let mut words: ArrayVec<u16, 128> = ArrayVec::new();
     for piece in pieces {
         match *piece {
             Piece::Fixed(word) => words.push(word),
@@ -50,12 +50,11 @@ pub fn page_with(pieces: &[Piece]) -> [u16; 128]
             }
         }
     }
-    filled_up(&words)
 }
 
 /// The words, and erased words to the page's end.
 #[tactic(auto, using(crate::proofs::DraftLaws::erased_rest))]
-fn filled_up(words: &ArrayVec<u16, 128>) -> [u16; 128]
+pub(crate) fn filled_up(words: &ArrayVec<u16, 128>) -> [u16; 128]
     ensures words { result ≡ filled words.now.items }
 {
     let mut page = [0xFFFF; 128];

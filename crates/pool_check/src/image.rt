@@ -1,5 +1,7 @@
 //! An image as its words.
 
+use avr_decode::decode;
+use avr_isa::Instr;
 use page_draft::ImageWords;
 
 /// The image with these words.
@@ -23,5 +25,9 @@ impl ImageWords for GivenImage<'_> {
             Some(word) => *word,
             None => 0xFFFF,
         }
+    }
+
+    fn instruction(&self, a: u16) -> Option<Instr> {
+        decode(self.word(a), self.word(a + 1))
     }
 }

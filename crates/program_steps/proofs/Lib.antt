@@ -3,6 +3,7 @@ mod Awaiting
 pub mod Bounds
 pub mod Told
 pub mod Taking
+pub mod Underway
 pub mod Settling
 pub mod ReadyLaws
 pub mod Owning

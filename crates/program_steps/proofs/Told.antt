@@ -17,7 +17,7 @@ use Rattle.branch_bridge.specs.declared.rewriting.Torn.{Torn}
 use Rattle.kernel_entry.specs.declared.kernel.End.{End}
 use Rattle.kernel_entry.specs.declared.kernel.Owed.{Owed}
 use Rattle.program_steps.specs.declared.progress.Progress.{Progress}
-use Rattle.program_steps.specs.Wholes.{whole}
+use Rattle.program_steps.specs.Wholes.{whole, entered}
 use Rattle.step_laws.specs.Moves.{Inner, Plain as PlainMove, Serve, Within}
 use Rattle.step_laws.specs.Numbers.{Numbers, moved, one_if}
 use Rattle.page_index.specs.Entries.{IsEntry, IsMapped}
@@ -29,7 +29,7 @@ use Rattle.flash_words.specs.Layouts.{IsRight}
 use Rattle.flash_words.specs.declared.layout.Layout.{Layout}
 use Rattle.program_steps.specs.Machines.{Machine}
 use Rattle.program_steps.specs.Machines.{state_of, numbers_of}
-use Rattle.program_steps.specs.Loop.{IsHalted, is_small, IsOver, CanPlain, CanServeNow, HasServed, CanMove, HasMoved, moves_made}
+use Rattle.program_steps.specs.Loop.{IsHalted, is_small, IsOver, CanPlain, HasPlain, CanServeNow, HasServed, CanMove, HasMoved, moves_made}
 use Rattle.step_laws.specs.States.{Awaited, State, mote_of, with_mote, after_service, line_served, is_stop}
 use Rattle.step_laws.specs.Walks.{MakesPlain, MakesServe, MakesOf, WalkWithin}
 use Rattle.step_laws.proofs.MoveLaws.{entry_high, pool_low}
@@ -98,6 +98,19 @@ has_served k new p answer told due owed end steps longest line is same reach fla
       rest = record { at = refl; broken = refl; crossings = refl; due = undue };
     }
 
+-- .. of what stands behind the entry
+abbrev ServedBehind : (k new : Kernel) (q : Progress) (answer : Served) (told due : Bool) (owed : Option Owed) (end : Option End) (steps : ℕ) (line : Option Line) → Progress → Type 0
+ServedBehind k new q answer told due owed end steps line p =
+    (answer, new) ≡ served k → told ≡ is_due k → new.mote.flash ≡ k.mote.flash
+    → state_of (whole new (record p { owed = owed; due = due; end = end })) ≡ after_service told (answer, new) → steps ≡ p.steps - one_if (is_stop answer) → line ≡ option_or (line_served answer) p.line → (owed ≡ None → due ≡ p.due)
+    → HasServed (whole k q) (whole new (record p { owed = owed; due = due; end = end; steps = steps; line = line })) q.line line
+
+pub served_behind : (k new : Kernel) (q p : Progress) (answer : Served) (told due : Bool) (owed : Option Owed) (end : Option End) (steps : ℕ) (line : Option Line) → p ≡ entered q
+    → ServedBehind k new q answer told due owed end steps line p
+served_behind k new q p answer told due owed end steps line is =
+    subst (ServedBehind k new q answer told due owed end steps line) (sym is)
+    (λ same due_is flash state counted written undue. has_served k new q answer told due owed end steps (max q.longest q.since) line same due_is refl flash state counted written undue)
+
 pub not_over : (x : State) → x.owed ≡ None → x.end ≡ None → ((t : ℕ) → ¬ IsEntry x.kernel.layout (mote_of x).flash.words t (mote_of x).cpu.pc) → ¬ IsOver x
 not_over x free going none (IsOver.Owes owes) = owes free
 not_over x free going none (IsOver.Ended ended) = ended going
@@ -121,6 +134,11 @@ can_serve x right can high = serve_by x can.next can.begins can.inner right can.
 pub moved_serve : (old new : Machine) (before after : Option Line) → IsRight old.kernel.layout → HasServed old new before after → 0xF000 ≤ old.kernel.mote.cpu.pc → HasMoved old new before after
 moved_serve old new before after right told high b (Serve line stops) next makes = told line stops next makes
 moved_serve old new before after right told high b (PlainMove line) next makes = absurd (let e = pool_low old.kernel.layout old.kernel.mote.cpu.pc right makes.pool in omega arith)
+
+-- .. and a plain one below the kernel
+pub moved_plain : (old new : Machine) (before after : Option Line) → HasPlain old new before after → old.kernel.mote.cpu.pc < 0xF000 → HasMoved old new before after
+moved_plain old new before after told low b (PlainMove line) next makes = told b line next makes
+moved_plain old new before after told low b (Serve line stops) next makes = absurd (let e = entry_high old.kernel makes.can in omega arith)
 
 -- an entry's place is in the pool
 low_by : (layout : Layout) (words : List ℕ) (t a : ℕ) → IsRight layout → (entry : IsEntry layout words t a) → IsFree words entry.page ⊎ IsMap words entry.page → a < 0xF000

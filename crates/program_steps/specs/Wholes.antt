@@ -8,3 +8,7 @@ use Rattle.program_steps.specs.Machines.{Machine}
 -- may be behind `since`. The line isn't part of the machine.
 abbrev pub whole : Kernel → Progress → Machine
 whole k p = record { kernel = k; at = p.at; owed = p.owed; end = p.end; due = p.due; torn = p.torn; broken = p.broken; steps = p.steps; crossings = p.crossings; natural = p.before + p.since; entries = p.entries; pages = p.pages; since = p.since; longest = max p.longest p.since; began = p.began; others = p.others }
+
+-- a service begins: the plain steps up to it are counted
+abbrev pub entered : Progress → Progress
+entered p = record p { before = p.before + p.since; entries = p.entries + 1; since = 0; longest = max p.longest p.since }

@@ -174,11 +174,12 @@ fn forget_if(changed: bool, cursor: &mut Cursor)
 }
 
 /// The answer where all steps of a program that has the whole image are done: an arrival outside it is refused at once.
-pub fn at_bound(k: &mut Kernel, p: &mut Progress) -> End
+pub fn at_bound(k: &mut Kernel, p: &mut Progress, cursor: &mut Cursor) -> End
     requires ready { IsGoing (whole k.old p.old) }
     requires steps { p.old.steps ≤ 10 ^ 12 }
     requires quiet { IsQuiet (whole k.old p.old) }
     requires unshut { k.old.part.shut ≡ false }
+    requires cursor { IsCursor k.old.layout k.old.mote.flash.words cursor.old }
     ensures bound { HasBound (whole k.old p.old) (whole k.new p.new) result }
 {
     let owed = match p.owed {
@@ -188,7 +189,7 @@ pub fn at_bound(k: &mut Kernel, p: &mut Progress) -> End
     if owed.target < k.layout.image_words {
         return End::Spent;
     }
-    match enter(k, p, &mut Cursor::new()) {
+    match enter(k, p, cursor) {
         None => End::Spent,
         Some(end) => end,
     }

@@ -1,39 +1,80 @@
-//! One move inside a step: a plain step of the mote, or a service of the kernel.
+//! Moves inside a step: plain steps of the mote, or a service of the kernel.
 
-ghost use Rattle.std.specs.Prelude.{◌≡◌, ◌^◌, max, true, false, None, IfSome, IfNone};
+ghost use Rattle.std.specs.Prelude.{◌≡◌, ◌+◌, ◌<◌, ◌^◌, max, true, false, None, IfSome, IfNone};
 ghost use Rattle.std.specs.Option.{option_or};
 ghost use Rattle.flash_words.specs.Layouts.{IsRight};
-ghost use Rattle.program_steps.specs.Machines.{state_of, numbers_of};
-ghost use Rattle.program_steps.specs.Loop.{CanPlain, HasPlain, CanServeNow, HasServed, CanMove, HasMoved, Halts, is_small};
-ghost use Rattle.program_steps.specs.Wholes.{whole};
+ghost use Rattle.page_cursor.specs.Cursors.{IsCursor};
+ghost use Rattle.program_steps.specs.Machines.{Machine, state_of, numbers_of};
+ghost use Rattle.program_steps.specs.Loop.{CanPlain, HasPlain, CanServeNow, HasServed, IsUnderway, IsFurther, HasLed, Halts, is_small, moves_made};
+ghost use Rattle.program_steps.specs.Wholes.{whole, entered};
 
 use crate::progress::Progress;
 use flash_model::KERNEL_FIRST;
-use kernel_entry::{End, Kernel, Owed, Served, serve_told};
+use kernel_entry::{End, Kernel, Owed, Served, resume_at_once, return_at_once, serve_told};
 use mote_devices::Line;
+use page_cursor::Cursor;
 
-/// A plain step where the pc, which is `pc`, is in the pool, else a service. Tells the new pc; None where an arrival is owed
-/// now, or the program has stopped.
+/// Where moves have led, with the pc.
+#[derive(Clone, Copy)]
+pub(crate) enum Led {
+    /// To a place that the cursor passes.
+    Inside(u16),
+    /// To any other, where an entry may begin.
+    Onward(u16),
+}
+
+/// Plain steps where the pc, which is `pc`, is in the pool, up to where an entry may begin; else a service. Tells where they
+/// led; None where an arrival is owed now, or the program has stopped.
 #[inline(always)]
-pub fn one_move(k: &mut Kernel, p: &mut Progress, pc: u16) -> Option<u16>
+pub(crate) fn some_moves(k: &mut Kernel, p: &mut Progress, cursor: &Cursor, pc: u16) -> Option<Led>
     requires at { pc ≡ k.old.mote.cpu.pc }
     requires untorn { p.old.torn ≡ None }
     requires right { IsRight k.old.layout }
-    requires can { CanMove (state_of (whole k.old p.old)) }
-    requires small { is_small (numbers_of (whole k.old p.old)) (2 ^ 62) }
-    ensures moved { HasMoved (whole k.old p.old) (whole k.new p.new) p.old.line p.new.line }
-    ensures on { IfSome result (λ pc. (pc ≡ k.new.mote.cpu.pc) × Halts (whole k.new p.new) false) }
+    requires underway { (begun : Machine) × IsUnderway begun (whole k.old p.old) p.old.line }
+    requires cursor { IsCursor k.old.layout k.old.mote.flash.words cursor.now }
+    ensures further { (begun : Machine) → IsUnderway begun (whole k.old p.old) p.old.line → IsFurther begun (whole k.new p.new) p.new.line }
+    ensures more { moves_made (whole k.old p.old) < moves_made (whole k.new p.new) }
+    ensures on { IfSome result (HasLed (whole k.new p.new) cursor.entry.now) }
     ensures over { IfNone result (Halts (whole k.new p.new) true) }
     ensures flash { k.new.mote.flash ≡ k.old.mote.flash }
     ensures layout { k.new.layout ≡ k.old.layout }
     ensures torn { p.new.torn ≡ p.old.torn }
 {
     if pc < KERNEL_FIRST {
-        Some(plain(k, p, pc))
-    } else if service(k, p) {
-        None
+        return Some(Led::Onward(plain_steps(k, p, cursor, pc)));
+    }
+    if service(k, p) {
+        return None;
+    }
+    let pc = k.mote.cpu.pc;
+    if cursor.passes(pc) {
+        Some(Led::Inside(pc))
     } else {
-        Some(k.mote.cpu.pc)
+        Some(Led::Onward(pc))
+    }
+}
+
+/// Plain steps from the instruction at the pc on, up to where an entry may begin. Tells the new pc.
+#[inline(always)]
+fn plain_steps(k: &mut Kernel, p: &mut Progress, cursor: &Cursor, pc: u16) -> u16
+    requires at { pc ≡ k.old.mote.cpu.pc }
+    requires low { pc < 0xF000 }
+    requires underway { (begun : Machine) × IsUnderway begun (whole k.old p.old) p.old.line }
+    requires cursor { IsCursor k.old.layout k.old.mote.flash.words cursor.now }
+    ensures further { (begun : Machine) → IsUnderway begun (whole k.old p.old) p.old.line → IsFurther begun (whole k.new p.new) p.new.line }
+    ensures more { moves_made (whole k.old p.old) < moves_made (whole k.new p.new) }
+    ensures pc { result ≡ k.new.mote.cpu.pc }
+    ensures free { Halts (whole k.new p.new) false }
+    ensures flash { k.new.mote.flash ≡ k.old.mote.flash }
+    ensures layout { k.new.layout ≡ k.old.layout }
+    ensures torn { p.new.torn ≡ p.old.torn }
+{
+    let mut pc = pc;
+    'steps: loop {
+        pc = plain(k, p, pc);
+        if !cursor.passes(pc) {
+            return pc;
+        }
     }
 }
 
@@ -54,7 +95,7 @@ fn plain(k: &mut Kernel, p: &mut Progress, pc: u16) -> u16
     k.mote.plain_step_into(pc, &mut p.line)
 }
 
-/// One service of the kernel. Tells whether an arrival is owed now, or the program has stopped.
+/// One service of the kernel, at once where it can be. Tells whether an arrival is owed now, or the program has stopped.
 #[inline(never)]
 fn service(k: &mut Kernel, p: &mut Progress) -> bool
     requires untorn { p.old.torn ≡ None }
@@ -66,10 +107,47 @@ fn service(k: &mut Kernel, p: &mut Progress) -> bool
     ensures layout { k.new.layout ≡ k.old.layout }
     ensures torn { p.new.torn ≡ p.old.torn }
 {
+    enter(p);
+    if resume_at_once(k) {
+        return false;
+    }
+    match return_at_once(k) {
+        Some(gone) => {
+            p.owed = Some(Owed {
+                target: gone.0,
+                stub: None,
+            });
+            p.due = gone.1;
+            true
+        }
+        None => serve_in_full(k, p),
+    }
+}
+
+/// Counts an entry of the kernel, and the plain steps up to it.
+#[inline(always)]
+fn enter(p: &mut Progress)
+    requires entries { p.old.entries < 2 ^ 62 }
+    requires natural { p.old.before + p.old.since < 2 ^ 62 }
+    ensures entered { p.new ≡ entered p.old }
+{
     p.entries += 1;
     raise(&mut p.longest, p.since);
     p.before += p.since;
     p.since = 0;
+}
+
+/// The service in full, behind the entry. It stands apart, so that a service at once keeps no registers for it.
+#[inline(never)]
+fn serve_in_full(k: &mut Kernel, p: &mut Progress) -> bool
+    requires untorn { p.old.torn ≡ None }
+    requires can { CanServeNow (state_of (whole k.old p.old)) }
+    ensures served { (q : Progress) → p.old ≡ entered q → HasServed (whole k.old q) (whole k.new p.new) q.line p.new.line }
+    ensures over { Halts (whole k.new p.new) result }
+    ensures flash { k.new.mote.flash ≡ k.old.mote.flash }
+    ensures layout { k.new.layout ≡ k.old.layout }
+    ensures torn { p.new.torn ≡ p.old.torn }
+{
     let told = serve_told(k);
     match told.0 {
         Served::Resume(line) => {

@@ -16,7 +16,7 @@ ghost use Rattle.program_steps.specs.Several.{HasFollowed, HasDone};
 ghost use Rattle.program_steps.specs.Wholes.{whole};
 
 use crate::arrival::{arrive_between_steps, is_followed};
-use crate::moves::one_move;
+use crate::moves::{Led, some_moves};
 use crate::progress::Progress;
 use kernel_entry::Kernel;
 use mote_devices::Devices;
@@ -160,7 +160,13 @@ fn all_moves(k: &mut Kernel, p: &mut Progress, cursor: &mut Cursor) -> Option<u1
     p.steps += 1;
     let mut pc = k.mote.cpu.pc;
     'moves: loop {
-        pc = one_move(k, p, pc)?;
+        match some_moves(k, p, cursor, pc)? {
+            Led::Inside(place) => {
+                pc = place;
+                continue 'moves;
+            }
+            Led::Onward(place) => pc = place,
+        }
         if let Some(t) = look(k, cursor, pc) {
             return Some(t);
         }
@@ -178,7 +184,7 @@ fn look(k: &Kernel, cursor: &mut Cursor, pc: u16) -> Option<u16>
     ensures none { IfNone result ((t : ℕ) → ¬ IsEntry k.now.layout k.now.mote.flash.words t k.now.mote.cpu.pc) }
     ensures cursor { IsCursor k.now.layout k.now.mote.flash.words cursor.new }
 {
-    cursor.origin(&k.mote.flash, &k.layout, pc)
+    cursor.reached(&k.mote.flash, &k.layout, pc)
 }
 
 /// The numbers of the events to come fit 32 bits, as the devices' type keeps it; a read of their count tells so to the

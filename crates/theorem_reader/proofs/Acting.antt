@@ -412,7 +412,7 @@ beyond_by layout old new t result outside (bridge.Found place inside found same 
 beyond_by layout old new t result outside (bridge.Free page inside missed lowest makes) = absurd (omega (arith, outside, inside))
 beyond_by layout old new t result outside (bridge.Full inside missed full recycles) = absurd (omega (arith, outside, inside))
 
-beyond_is : (layout : Layout) (old new : Store) (t : ℕ) (stub : Option ℕ) (arrival : BridgeArrival) → layout.image_words ≤ t → ArrivesFrom layout old new t stub arrival → (new ≡ old) × (arrival.place ≡ None)
+pub beyond_is : (layout : Layout) (old new : Store) (t : ℕ) (stub : Option ℕ) (arrival : BridgeArrival) → layout.image_words ≤ t → ArrivesFrom layout old new t stub arrival → (new ≡ old) × (arrival.place ≡ None)
 beyond_is layout old new t stub arrival outside (bridge.Stopped refused arrives is) = ((beyond_by layout old new t _ outside arrives).0, ap (λ (a : BridgeArrival). a.place) is)
 beyond_is layout old new t stub arrival outside (bridge.Went moved arrives none is) = absurd ((beyond_by layout old new t _ outside arrives).1 moved refl)
 beyond_is layout old new t stub arrival outside (bridge.Resolved mid moved s arrives some stop done same is) = absurd ((beyond_by layout old mid t _ outside arrives).1 moved refl)

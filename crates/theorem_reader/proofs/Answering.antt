@@ -18,6 +18,8 @@ use Rattle.input_script.specs.Script.{Schedule}
 use Rattle.flat_machine.specs.FlatMachine.{Moment, Program, End as FlatEnd}
 use Rattle.flat_machine.specs.FlatMachine as flat_ends
 use Rattle.step_laws.specs.Numbers.{Numbers}
+use Rattle.step_laws.specs.States.{mote_of}
+use Rattle.nat_page.specs.Used.{used_pages}
 use Rattle.step_laws.specs.Walks.{Walk}
 use Rattle.mote_core.specs.declared.mote.Mote.{Mote}
 use Rattle.mote_devices.specs.declared.line.Line.{Line}
@@ -35,16 +37,18 @@ use Rattle.cli_requests.specs.Asking.{IsWarranted}
 use Rattle.cli_requests.specs.Reading.{Good}
 use Rattle.cli_words.specs.Stream.{Stream}
 use Rattle.cli_jobs.specs.Runs.{KeepsEnd, Runs, RunsToTheEnd, RunsIntoAFault, Follows, AreUnlisted, first_start}
-use Rattle.theorem_reader.specs.Acts.{HasActs, IsBoot, tried_in}
+use Rattle.theorem_reader.specs.Acts.{HasActs, IsBoot, tried_in, made_in}
 use Rattle.theorem_reader.specs.Pools.{AreFaithful, AreFaithfulBut}
 use Rattle.theorem_reader.specs.Ends.{end_of, IsKeptEnd}
 use Rattle.theorem_reader.specs.Runs.{Asked, Asks, AsksGenerate, generated_by, options_of, original_of, StandsFrom, Stands, EndsWell, EndsInAFault, IsRun, NoMemory, Ended, Failed, Cut}
+use Rattle.theorem_reader.specs.Wear.{pool_size, IsSpared}
+use Rattle.theorem_reader.proofs.Sparing.{walk_spares, new_unused, spared_from_boot}
 use Rattle.theorem_reader.specs.Telling.{Fails}
 use Rattle.theorem_reader.specs.Memory.{HasMemory}
 use Rattle.theorem_reader.proofs.Holding.{has_memory}
 use Rattle.theorem_reader.proofs.Pooling.{faithful_is, but_is}
 use Rattle.theorem_reader.proofs.Booting.{is_boot}
-use Rattle.theorem_reader.proofs.Acting.{acts_of, follow}
+use Rattle.theorem_reader.proofs.Acting.{acts_of, Holds, follow}
 use Rattle.theorem_reader.proofs.Stepwise.{paced}
 use Rattle.theorem_reader.proofs.Bounding.{natural_of, entries_of, pages_of, ops_of, longest_of, longest_in, no_longer, last_arrives, same_last, arrives_last, last_refuses}
 use Rattle.theorem_reader.proofs.Doing.{IsSoThen, Call, Somehow, so_then, retold, told_how, cut_by, told_by}
@@ -216,6 +220,20 @@ whole_of asked m sound held unfailed =
     let few = (subst IsRight laid order.right).image_fits in
     faithful_is asked.image m.kernel.mote.flash.words few (subst (λ t. IsFaithful l asked.image (with_torn m.kernel.mote.flash.words t)) untorn code)
 
+-- how often pages were erased
+spared : (asked : Asked) (n : ℕ) (m : Machine) → Follows (request_of asked) (first_start (request_of asked)) n m → AreUnlisted (request_of asked) m → m.pages ≤ pool_size asked.image → IsSpared m.kernel.mote.flash
+spared asked n m follows unlisted fits =
+    let start = start_of asked (new_flash asked.image asked.failing) 0 in
+    let path = follows.at.path in
+    let held : image_held m.kernel ≡ asked.image = ap (λ (p : Program). p.image) follows.at.program in
+    let right = subst IsRight (layout_same asked.image m follows.sound held) follows.sound.order.right in
+    let laid : Holds asked.image (state_of start) = record { laid = refl; held = loaded_image asked.image } in
+    let pace = paced asked.image (states_of (original_of asked)) start m.steps path.moves m laid follows.at.by_step in
+    let made : m.pages ≡ 0 + made_in (acts_of (state_of start) path.moves (state_of m) pace.walk) = ap (λ (k : Numbers). k.pages) path.goes.numbers ∙ pages_of (state_of start) path.moves (state_of m) pace.walk (numbers_of start) in
+    let unused : used_pages (layout_of (length asked.image)) (mote_of (state_of start)).flash.words ≡ 0 = new_unused asked.image asked.failing right in
+    spared_from_boot asked.image asked.failing m.kernel.mote.flash
+    (walk_spares asked.image (state_of start) path.moves (state_of m) pace.walk laid (omega (arith, made, fits, unused), unlisted))
+
 pub ends_well : (asked : Asked) (before now : Stream) (told : Status) (m : Machine)
     → AreUnlisted (request_of asked) m → RunsToTheEnd (request_of asked) (first_start (request_of asked)) [] before now told m → EndsWell asked m
 ends_well asked before now told m unlisted run = record {
@@ -223,6 +241,7 @@ ends_well asked before now told m unlisted run = record {
   end = kept_end _ m run.end;
   unbroken = run.unbroken;
   none_failed = unlisted;
+  wear = spared asked asked.steps m run.follows unlisted;
   faithful = whole_of asked m run.follows.sound (ap (λ (p : Program). p.image) run.follows.at.program) (λ op. no_fault _ m op run.end);
 }
 

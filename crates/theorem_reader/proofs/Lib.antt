@@ -10,6 +10,8 @@ pub mod Holding
 pub mod Stepwise
 pub mod SameTexts
 pub mod Doing
+pub mod Wearing
+pub mod Sparing
 pub mod Answering
 pub mod Plainly
 pub mod Exampled

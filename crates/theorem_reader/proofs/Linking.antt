@@ -21,7 +21,7 @@ use Rattle.program_steps.proofs.Arriving.{same_found}
 use Rattle.theorem_reader.specs.Acts.{Relinks, Same, Linked}
 
 -- nothing was refused
-not_stopped : (stop : Option ResolveStop) → option_map refused_by stop ≡ None → stop ≡ None
+pub not_stopped : (stop : Option ResolveStop) → option_map refused_by stop ≡ None → stop ≡ None
 not_stopped None is = refl
 not_stopped (Some stop) is = absurd (cc)
 

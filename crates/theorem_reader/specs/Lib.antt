@@ -5,6 +5,7 @@ pub mod Telling
 pub mod Texts
 pub mod Memory
 pub mod Ends
+pub mod Wear
 pub mod Steps
 pub mod Runs
 pub mod MoreSteps

@@ -19,6 +19,7 @@ use Rattle.theorem_reader.specs.Pools.{AreFaithful, AreFaithfulBut}
 use Rattle.theorem_reader.specs.Steps.{IsByStep}
 use Rattle.theorem_reader.specs.Memory.{HasState}
 use Rattle.theorem_reader.specs.Ends.{IsKeptEnd}
+use Rattle.theorem_reader.specs.Wear.{pool_size, IsSpared}
 use Rattle.theorem_reader.specs.Telling.{Sink, Fails, IsTold}
 use Rattle.theorem_reader.specs.Texts.{device_line, end_words, stop_line, count_line, end_status, no_memory}
 
@@ -74,12 +75,14 @@ abbrev pub is_to_fail : Asked → ℕ → Bool
 is_to_fail asked op = list_any (λ n. n == op) asked.failing
 
 -- The run came to the original's end, which the machine keeps, or through all its steps. No device line was lost; no operation
--- that was tried is to fail; flash is faithful.
+-- that was tried is to fail; flash is faithful. Where the pool held all pages that were made, each page was erased at most once for
+-- each JMP in it, however many steps there were.
 pub record EndsWell (asked : Asked) (m : Machine) : Type 0 where
   pub stands : Stands asked (original_of asked asked.steps) m
   pub end : IsKeptEnd (original_of asked asked.steps).end m.end
   pub unbroken : m.broken ≡ false
   pub none_failed : (op : ℕ) → 1 ≤ op → op ≤ m.kernel.mote.flash.ops → is_to_fail asked op ≡ false
+  pub wear : m.pages ≤ pool_size asked.image → IsSpared m.kernel.mote.flash
   pub faithful : AreFaithful asked.image m.kernel.mote.flash.words
 
 -- With steps left an operation on flash was refused: the first that was tried and is to fail. None was tried behind it. Flash is

@@ -98,5 +98,5 @@ fn all_steps<K: Sink>(
             return Ok(end);
         }
     }
-    Ok(at_bound(k, p))
+    Ok(at_bound(k, p, &mut cursor))
 }

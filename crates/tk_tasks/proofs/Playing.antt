@@ -1,5 +1,5 @@
 -- Tries of the running task are plays of the tasks.
-use Rattle.std.proofs.Common.{◌≡◌, ℕ, zero, suc, ◌+◌, ◌-◌, ◌*◌, ◌<◌, ◌≤◌, Bool, true, false, cond, List, [], ◌∷◌, ◌++◌, refl, sym, ap, ap₂, ◌∙◌, arith, subst, inl}
+use Rattle.std.proofs.Common.{length, ◌≡◌, ℕ, zero, suc, ◌+◌, ◌-◌, ◌*◌, ◌<◌, ◌≤◌, Bool, true, false, cond, List, [], ◌∷◌, ◌++◌, refl, sym, ap, ap₂, ◌∙◌, arith, subst, inl}
 use Rattle.std.specs.Prelude.{◌≢◌, ◌^◌, ◌==◌, ◌&&◌, is_some, slice_get, slice_set, Option, Some, None}
 use Rattle.std.proofs.lemmas.List.{append-nil}
 use Rattle.std.proofs.lemmas.Bool.Decides.{nat_tests}
@@ -301,6 +301,7 @@ record Stood (n : ℕ) (t : Tasks) (task : Task) (k : ℕ) (m : Machine) : Type 
   plays : List Play
   path : TaskPath n t plays u
   told : told_of plays ≡ []
+  long : length plays ≡ k
   running : u.running ≡ t.running
   quantum : u.kernel.quantum ≡ t.kernel.quantum
   steps : m.steps ≡ task.steps + k
@@ -316,6 +317,7 @@ stood_here n t task before going = record {
   plays = [];
   path = refl;
   told = refl;
+  long = refl;
   running = refl;
   quantum = refl;
   steps = omega arith;
@@ -332,6 +334,10 @@ kept_twice u its m z end = ap (λ l. record u { kernel = z.kernel; stub = stub_i
 
 told_behind : (plays : List Play) (play : Play) → told_of plays ≡ [] → told_of (plays ++ play ∷ []) ≡ play.told
 told_behind plays play none = told_on plays (play ∷ []) ∙ ap (λ l. l ++ (play.told ++ [])) none ∙ append-nil play.told
+
+length_behind : (plays : List Play) (play : Play) → length (plays ++ play ∷ []) ≡ length plays + 1
+length_behind [] play = refl
+length_behind (p ∷ plays) play = omega (arith, length_behind plays play)
 
 not_zero : (n : ℕ) → 1 ≤ n → (n == 0) ≡ false
 not_zero n some = grind (arith, nat_tests)
@@ -366,6 +372,7 @@ stood_on n t task k y m most stood rest went ready unchecked =
       plays = stood.plays ++ play ∷ [];
       path = walks_on (IsPlay n) t u v stood.plays (play ∷ []) stood.path (v, one, refl);
       told = told_behind stood.plays play stood.told;
+      long = omega (arith, length_behind stood.plays play, stood.long);
       running = stood.running;
       quantum = can'.come.stays.quantum ∙ stood.quantum;
       steps = (
@@ -432,7 +439,7 @@ pub record IsPlayed (n : ℕ) (t : Tasks) (task : Task) (m : Machine) (tried : T
   pub free : tried.changes ≡ true → IsFree (kept_tasks t task m tried.end)
   pub quantum : m.kernel.quantum ≡ t.kernel.quantum
   pub natural : m.natural ≤ 40 * (10 ^ 12 + 1)
-  pub played : HasPlayed n t (finished tried.changes (kept_tasks t task m tried.end)) (tried_told t.running tried.line tried.end m.steps m.crossings)
+  pub played : HasPlayed n t (finished tried.changes (kept_tasks t task m tried.end)) (tried_told t.running tried.line tried.end m.steps m.crossings) tried.count
 
 nothing_less : (plays : List Play) (play : Play) → plays ++ play ∷ [] ≢ []
 nothing_less [] play none = cc
@@ -444,9 +451,9 @@ few_plain m sound =
     let steps = sound.steps in
     omega arith
 
-played_by_last : (n : ℕ) (t : Tasks) (task : Task) (k : ℕ) (y m : Machine) (tried : Tried) → (stood : Stood n t task k y) → CanPlay n stood.u stood.its m tried.line tried.end tried.changes
+played_by_last : (n : ℕ) (t : Tasks) (task : Task) (k : ℕ) (y m : Machine) (tried : Tried) → tried.count ≡ k + 1 → (stood : Stood n t task k y) → CanPlay n stood.u stood.its m tried.line tried.end tried.changes
     → (tried.changes ≡ true → tried.end ≡ None → (stub_in m.owed ≡ None) × (target_of m.owed ≢ None)) → IsPlayed n t task m tried
-played_by_last n t task k y m tried stood can free =
+played_by_last n t task k y m tried counted stood can free =
     let u = stood.u in
     let its = stood.its in
     let v = kept_tasks u its m tried.end in
@@ -459,8 +466,9 @@ played_by_last n t task k y m tried stood can free =
       quantum = can.come.stays.quantum ∙ stood.quantum;
       natural = few_plain m can.come.sound;
       free = λ changes. subst IsFree same (free_kept u its m tried.end stood.before.here (free changes));
-      played = subst (λ z. HasPlayed n t (finished tried.changes z) (tried_told t.running tried.line tried.end m.steps m.crossings)) same (record {
+      played = subst (λ z. HasPlayed n t (finished tried.changes z) (tried_told t.running tried.line tried.end m.steps m.crossings) tried.count) same (record {
         plays = stood.plays ++ play ∷ [];
+        counted = omega (arith, length_behind stood.plays play, stood.long, counted);
         path = walks_on (IsPlay n) t u new stood.plays (play ∷ []) stood.path (new, one, refl);
         told = told_behind stood.plays play stood.told ∙ ap (λ r. tried_told r tried.line tried.end m.steps m.crossings) stood.running;
         some = nothing_less stood.plays play;
@@ -471,13 +479,13 @@ no_changes : (tried : Tried) (end : TaskEnd) → tried.end ≡ Some end → trie
 no_changes tried end is changes none = (let e : Some end ≡ None = sym is ∙ none in absurd (cc))
 
 rests_played : (n : ℕ) (t : Tasks) (task : Task) (m : Machine) (tried : Tried) (end : TaskEnd) → IsBefore t task → task.end ≡ None → rest_at (machine_of t t.running task).kernel.part task.at (n - task.steps) ≡ Some end
-    → m ≡ machine_of t t.running task → tried ≡ record { line = None; end = Some end; changes = true; count = 0 } → IsPlayed n t task m tried
+    → m ≡ machine_of t t.running task → tried ≡ record { line = None; end = Some end; changes = true; count = 1 } → IsPlayed n t task m tried
 unfolding stood_here
 rests_played n t task m tried end before going rest same is =
     let x = machine_of t t.running task in
-    let all : IsPlayed n t task x (record { line = None; end = Some end; changes = true; count = 0 }) =
-    played_by_last n t task 0 x x (record { line = None; end = Some end; changes = true; count = 0 }) (stood_here n t task before going) (can_rest n t task end before going rest) (λ changes none. absurd (let e : Some end ≡ None = none in cc)) in
-    subst (IsPlayed n t task m) (sym is) (subst (λ z. IsPlayed n t task z (record { line = None; end = Some end; changes = true; count = 0 })) (sym same) all)
+    let all : IsPlayed n t task x (record { line = None; end = Some end; changes = true; count = 1 }) =
+    played_by_last n t task 0 x x (record { line = None; end = Some end; changes = true; count = 1 }) refl (stood_here n t task before going) (can_rest n t task end before going rest) (λ changes none. absurd (let e : Some end ≡ None = none in cc)) in
+    subst (IsPlayed n t task m) (sym is) (subst (λ z. IsPlayed n t task z (record { line = None; end = Some end; changes = true; count = 1 })) (sym same) all)
 
 -- the machine where the last play begins is that of its tasks
 can_behind : (n : ℕ) (t : Tasks) (task : Task) (k left : ℕ) (y m : Machine) (tried : Tried) → n ≤ 10 ^ 12 → (stood : Stood n t task k y) → left ≡ n - (y.steps + 1) → rest_at y.kernel.part y.at (n - y.steps) ≡ None → Went y m tried.line → StepWay y m tried.line → IsBehind y m left tried
@@ -513,9 +521,9 @@ can_behind n t task k left y m tried most stood left_is rest went (StepWay.Stopp
 
 pub played : (n : ℕ) (t : Tasks) (task : Task) (m : Machine) (tried : Tried) → n ≤ 10 ^ 12 → IsBefore t task → task.end ≡ None → HasTried (machine_of t t.running task) m (n - task.steps) tried → IsPlayed n t task m tried
 played n t task m tried most before going (HasTried.Rests end rest same is) = rests_played n t task m tried end before going rest same is
-played n t task m tried most before going (HasTried.Steps earlier last none few quietly went behind) =
+played n t task m tried most before going (HasTried.Steps earlier last none few counted quietly went behind) =
     let stood = quietly_stood n t task earlier last most before going none few quietly in
     let steps = stood.0.steps in
     let left_is : n - task.steps - (earlier + 1) ≡ n - (last.steps + 1) = omega arith in
     let can = can_behind n t task earlier (n - task.steps - (earlier + 1)) last m tried most stood.0 left_is stood.1 went went.way behind in
-    played_by_last n t task earlier last m tried stood.0 can.0 can.1
+    played_by_last n t task earlier last m tried counted stood.0 can.0 can.1

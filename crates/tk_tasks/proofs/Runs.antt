@@ -190,9 +190,9 @@ sent_in_turn text gathered mid before after later first second = subst (λ z. Is
 text_on : (quantum : ℕ) (plays more : List Play) (told : List Told) → told_of more ≡ told → told_text quantum (told_of (plays ++ more)) ≡ told_text quantum (told_of plays) ++ told_text quantum told
 text_on quantum plays more told is = ap (told_text quantum) (told_on plays more) ∙ told_text_on quantum (told_of plays) (told_of more) ∙ ap (λ l. told_text quantum (told_of plays) ++ told_text quantum l) is
 
-pub way_on : (n : ℕ) (old now new : Tasks) (gathered mid left : List ℕ) (before after later last : Option (List ℕ)) (told : List Told) (quantum : ℕ) → IsUnderWay n old now gathered before after → IsSent (gathered ++ []) mid after later → HasPlayed n now new told → quantum ≡ old.kernel.quantum
+pub way_on : (n : ℕ) (old now new : Tasks) (gathered mid left : List ℕ) (before after later last : Option (List ℕ)) (told : List Told) (count quantum : ℕ) → IsUnderWay n old now gathered before after → IsSent (gathered ++ []) mid after later → HasPlayed n now new told count → quantum ≡ old.kernel.quantum
     → IsSent (mid ++ told_text quantum told) left later last → IsUnderWay n old new left before last
-way_on n old now new gathered mid left before after later last told quantum way turn played same sent =
+way_on n old now new gathered mid left before after later last told count quantum way turn played same sent =
     let q = old.kernel.quantum in
     let text = told_text q (told_of way.plays) in
     let more = subst (λ k. IsSent (mid ++ told_text k told) left later last) same sent in
@@ -202,9 +202,9 @@ way_on n old now new gathered mid left before after later last told quantum way 
       sent = subst (λ z. IsSent z left before last) (sym (text_on q way.plays played.plays told played.told)) (sent_on text mid (told_text q told) left before later last (sent_in_turn text gathered mid before after later way.sent turn) more);
     }
 
-pub way_cut : (n : ℕ) (old now new : Tasks) (gathered mid : List ℕ) (before after later last : Option (List ℕ)) (told : List Told) (quantum : ℕ) → IsUnderWay n old now gathered before after → IsSent (gathered ++ []) mid after later → HasPlayed n now new told → quantum ≡ old.kernel.quantum
+pub way_cut : (n : ℕ) (old now new : Tasks) (gathered mid : List ℕ) (before after later last : Option (List ℕ)) (told : List Told) (count quantum : ℕ) → IsUnderWay n old now gathered before after → IsSent (gathered ++ []) mid after later → HasPlayed n now new told count → quantum ≡ old.kernel.quantum
     → CutShort later last (mid ++ told_text quantum told) → IsCut n old new before last
-way_cut n old now new gathered mid before after later last told quantum way turn played same cut =
+way_cut n old now new gathered mid before after later last told count quantum way turn played same cut =
     let q = old.kernel.quantum in
     let text = told_text q (told_of way.plays) in
     let more = subst (λ k. CutShort later last (mid ++ told_text k told)) same cut in
@@ -220,8 +220,8 @@ some_length : (plays : List Play) → plays ≢ [] → 1 ≤ length plays
 some_length [] some = absurd (some refl)
 some_length (play ∷ plays) some = omega arith
 
-pub still_less : (n : ℕ) (now new : Tasks) (told : List Told) → HasPlayed n now new told → still (turns_of n new).players < still (turns_of n now).players
-still_less n now new told played = omega (arith, path_still n now played.plays new played.path, some_length played.plays played.some)
+pub still_less : (n : ℕ) (now new : Tasks) (told : List Told) (count : ℕ) → HasPlayed n now new told count → still (turns_of n new).players < still (turns_of n now).players
+still_less n now new told count played = omega (arith, path_still n now played.plays new played.path, some_length played.plays played.some)
 
 switches_to : (t : Turns) (found : Option ℕ) → (changed_to t found).switches ≤ t.switches + 1
 switches_to t None = omega arith

@@ -108,7 +108,7 @@ behind_same x m y left tried entered (IsBehind.Over stop kept changes end) = IsB
 pub tried_steps : (x a y : Machine) (left : ℕ) (tried : Tried) → rest_at x.kernel.part x.at left ≡ None → HasEntered x a None → HasMade a y left tried → HasTried x y left tried
 tried_steps x a y left tried none entered made =
     let stands = silently_stands made.earlier x a made.last entered made.silently in
-    HasTried.Steps made.earlier stands.y none made.few stands.quietly (went_entered stands.y made.last y tried.line stands.entered made.step)
+    HasTried.Steps made.earlier stands.y none made.few made.counted stands.quietly (went_entered stands.y made.last y tried.line stands.entered made.step)
     (behind_same stands.y made.last y (left - (made.earlier + 1)) tried stands.entered made.behind)
 
 -- a task that does not rest has a step left, and is in its part
@@ -120,10 +120,10 @@ rests_not true at (suc n) none = (refl, omega arith)
 pub unrested : (part : Part) (at left : ℕ) → rest_at part at left ≡ None → (is_own part at ≡ true) × (1 ≤ left)
 unrested part at left none = rests_not (is_own part at) at left none
 
-pub tried_taken : (x y : Machine) (left : ℕ) (tried : Tried) → rest_at x.kernel.part x.at left ≡ None → HasStepped x y tried.line → ((left : ℕ) → IsBehind x y left tried) → HasTried x y left tried
-tried_taken x y left tried none step behind =
+pub tried_taken : (x y : Machine) (left : ℕ) (tried : Tried) → rest_at x.kernel.part x.at left ≡ None → tried.count ≡ 1 → HasStepped x y tried.line → ((left : ℕ) → IsBehind x y left tried) → HasTried x y left tried
+tried_taken x y left tried none one step behind =
     let some = unrested x.kernel.part x.at left none in
-    HasTried.Steps 0 x none (omega (arith, some.1)) refl (went_stepped x y tried.line step) (behind (left - (0 + 1)))
+    HasTried.Steps 0 x none (omega (arith, some.1)) one refl (went_stepped x y tried.line step) (behind (left - (0 + 1)))
 
 -- ---- the machine behind an arrival, and behind steps
 
@@ -144,10 +144,10 @@ behind_by a last y n left tried before quantum on over (StepWay.Stopped stop end
     let told = over (ends.Stopped stop) kept in
     IsBehind.Over stop kept told.0 told.1
 
-pub made_done : (a y : Machine) (left count : ℕ) (line : Option Line) (tried : Tried) → HasDone a y count line → count ≤ left → tried.line ≡ line
+pub made_done : (a y : Machine) (left count : ℕ) (line : Option Line) (tried : Tried) → HasDone a y count line → count ≤ left → tried.count ≡ count → tried.line ≡ line
     → (y.end ≡ None → (tried.changes ≡ checks_by y.kernel.quantum a.crossings y.crossings) × (tried.end ≡ rest_if (checks_by y.kernel.quantum a.crossings y.crossings) y.kernel.part y.at (left - count)))
     → ((end : End) → y.end ≡ Some end → (tried.changes ≡ true) × (tried.end ≡ Some (task_end end))) → HasMade a y left tried
-made_done a y left count line tried done within lines on over =
+made_done a y left count line tried done within told lines on over =
     let step : HasStepped done.last y tried.line = subst (HasStepped done.last y) (sym lines) done.step in
     let passed = silently_passes done.earlier a done.last done.silently in
     let quantum : y.kernel.quantum ≡ a.kernel.quantum = step.stays.quantum ∙ passed.1 in
@@ -156,6 +156,7 @@ made_done a y left count line tried done within lines on over =
       earlier = done.earlier;
       last = done.last;
       few = omega (arith, done.counted, within);
+      counted = told ∙ done.counted;
       silently = done.silently;
       step = step;
       behind = subst (λ k. IsBehind done.last y k tried) left_is (behind_by a done.last y done.earlier (left - count) tried done.silently quantum on over step.way);

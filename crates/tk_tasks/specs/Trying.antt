@@ -1,5 +1,5 @@
 -- Serves private functions: tries of the running task, one behind the other, as its machine makes them.
-use Rattle.std.specs.Prelude.{◌≡◌, ◌≢◌, ℕ, zero, suc, ◌+◌, ◌-◌, ◌<◌, ◌==◌, Bool, true, false, if◌then◌else◌, List, [], ◌∷◌, ◌++◌, slice_set, Option, Some, None}
+use Rattle.std.specs.Prelude.{◌≡◌, ◌≢◌, ℕ, zero, suc, ◌+◌, ◌-◌, ◌<◌, ◌==◌, Bool, true, false, if◌then◌else◌, List, [], ◌∷◌, ◌++◌, length, slice_set, Option, Some, None}
 use Rattle.mote_devices.specs.declared.line.Line.{Line}
 use Rattle.flat_machine.specs.declared.part.Part.{Part}
 use Rattle.flat_machine.specs.FlatMachine.{is_own}
@@ -72,14 +72,15 @@ pub record HasMade (old new : Machine) (left : ℕ) (tried : Tried) : Type 0 whe
   pub earlier : ℕ
   pub last : Machine
   pub few : earlier < left
+  pub counted : tried.count ≡ earlier + 1
   pub silently : Silently earlier old last
   pub step : HasStepped last new tried.line
   pub behind : IsBehind last new (left - (earlier + 1)) tried
 
 -- tries of a task that may do so many steps: it makes none, and ends; or it makes some
 pub data HasTried (old new : Machine) (left : ℕ) (tried : Tried) : Type 0 where
-  Rests : (end : TaskEnd) → rest_at old.kernel.part old.at left ≡ Some end → new ≡ old → tried ≡ record { line = None; end = Some end; changes = true; count = 0 } → HasTried old new left tried
-  Steps : (earlier : ℕ) → (last : Machine) → rest_at old.kernel.part old.at left ≡ None → earlier < left → Quietly earlier old last → Went last new tried.line
+  Rests : (end : TaskEnd) → rest_at old.kernel.part old.at left ≡ Some end → new ≡ old → tried ≡ record { line = None; end = Some end; changes = true; count = 1 } → HasTried old new left tried
+  Steps : (earlier : ℕ) → (last : Machine) → rest_at old.kernel.part old.at left ≡ None → earlier < left → tried.count ≡ earlier + 1 → Quietly earlier old last → Went last new tried.line
       → IsBehind last new (left - (earlier + 1)) tried → HasTried old new left tried
 
 -- the task as its machine leaves it
@@ -127,9 +128,10 @@ end_told task (Some end) steps crossings = record { task = task; shown = Stops (
 abbrev pub tried_told : ℕ → Option Line → Option TaskEnd → (steps crossings : ℕ) → List Told
 tried_told task line end steps crossings = line_told task line ++ end_told task end steps crossings
 
--- some plays lead from the tasks to others, and tell this
-pub record HasPlayed (n : ℕ) (old new : Tasks) (tells : List Told) : Type 0 where
+-- so many plays lead from the tasks to others, and tell this
+pub record HasPlayed (n : ℕ) (old new : Tasks) (tells : List Told) (count : ℕ) : Type 0 where
   pub plays : List Play
+  pub counted : length plays ≡ count
   pub path : TaskPath n old plays new
   pub told : told_of plays ≡ tells
   pub some : plays ≢ []

@@ -16,7 +16,7 @@ use parked_tasks::{Task, TaskEnd, arrivals_of_others};
 use program_steps::Progress;
 
 /// What is told of the task that ran: the line that it wrote, and how it ended, with its steps and crossings; and how many
-/// steps there were.
+/// tries there were.
 #[derive(Clone, Copy)]
 pub(crate) struct Shown {
     pub task: u8,
@@ -113,7 +113,7 @@ impl Tasks {
         requires cursor { IsCursor self.old.kernel.layout self.old.kernel.mote.flash.words cursor.old }
         ensures sound { AreSound self.new }
         ensures whole { self.new.broken ≡ false }
-        ensures played { HasPlayed n self.old self.new (tried_told result.task result.line result.end result.steps result.crossings) }
+        ensures played { HasPlayed n self.old self.new (tried_told result.task result.line result.end result.steps result.crossings) result.count }
         ensures task { result.task < 4 }
         ensures quantum { self.new.kernel.quantum ≡ self.old.kernel.quantum }
         ensures most { result.count ≤ most }

@@ -20,7 +20,7 @@ use parked_tasks::TaskEnd;
 use program_steps::{Progress, enter, must_take, steps, take};
 
 /// What tries of a task came to: the line that the last wrote, how the task ended, if it did, whether the mote goes to
-/// another task, and how many steps of the program there were.
+/// another task, and how many there were: each is a step of the program, or ends the task.
 #[derive(Clone, Copy)]
 pub(crate) struct Tried {
     pub line: Option<Line>,
@@ -82,7 +82,7 @@ pub(crate) fn try_on(
             line: None,
             end: Some(end),
             changes: true,
-            count: 0,
+            count: 1,
         };
     }
     if must_take(k, p) {
@@ -99,7 +99,7 @@ fn interrupted(k: &mut Kernel, p: &mut Progress) -> Tried
     requires steps { p.old.steps < 2 ^ 50 }
     ensures stepped { HasStepped (whole k.old p.old) (whole k.new p.new) result.line }
     ensures behind { (left : ℕ) → IsBehind (whole k.old p.old) (whole k.new p.new) left result }
-    ensures one { result.count ≤ 1 }
+    ensures one { result.count ≡ 1 }
     ensures flash { k.new.mote.flash ≡ k.old.mote.flash }
     ensures layout { k.new.layout ≡ k.old.layout }
 {
@@ -114,7 +114,7 @@ fn interrupted(k: &mut Kernel, p: &mut Progress) -> Tried
             line: None,
             end: Some(task_end(end)),
             changes: true,
-            count: 0,
+            count: 1,
         },
     }
 }

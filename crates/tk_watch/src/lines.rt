@@ -48,7 +48,7 @@ pub(crate) fn watched_steps<K: Sink>(
         done += count;
         gather(done, p.line, gathered, out)?;
     }
-    Ok(at_bound(k, p))
+    Ok(at_bound(k, p, &mut cursor))
 }
 
 /// Adds the line of a step, if it has one.

@@ -55,7 +55,7 @@ pub(crate) fn counted_steps(k: &mut Kernel, p: &mut Progress, n: u64, counts: &m
         }
         done += one;
     }
-    at_bound(k, p)
+    at_bound(k, p, &mut cursor)
 }
 
 /// One turn of at most one step. Where the program goes on behind it, it is counted at the address at which it began.

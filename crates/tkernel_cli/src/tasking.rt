@@ -18,7 +18,8 @@ use printed_text::{NO_MEMORY, task_counts};
 use std::alloc::Global;
 use tk_tasks::{Task, TaskEnd, Tasks};
 
-/// Runs several programs in turn, each to its end, and puts their lines.
+/// Runs several programs in turn, each to its end, and puts their lines. Not inlined, as the jobs of crate `cli_jobs` aren't.
+#[inline(never)]
 pub(crate) fn run_tasks<K: Sink>(alloc: Global, request: TaskRequest, out: &mut K) -> Exit
     requires possible { AreTasks request }
     ensures done { HasTasksRun request (stream K.taken K.faults out.old) (stream K.taken K.faults out.new) result

@@ -1,6 +1,5 @@
 use Rattle.std.proofs.Common.{◌≡◌, ◌+◌, ◌*◌, suc, length, ap, arith, ◌∙◌}
 use Rattle.nat_template.specs.Stubs.{words_of}
-use Rattle.page_draft.specs.Standing.{size}
 use Rattle.page_draft.specs.CodePages.{filled}
 use Rattle.nat_page.specs.Making.{IsPrepared}
 use Rattle.flash_words.specs.Layouts.{image_of}
@@ -10,23 +9,15 @@ use Rattle.page_draft.proofs.PageWords.{draft_page}
 use Rattle.nat_page.proofs.OnePage.{one_page}
 use Rattle.nat_page.proofs.making.prepare_with.Goals as goal
 
-pub pieces-requires-clause-fits : goal.pieces-requires-clause-fits
-pieces-requires-clause-fits c =
+pub words-requires-clause-fits : goal.words-requires-clause-fits
+words-requires-clause-fits c =
     let words = c.args.flash.now.words in
     draft_room c.args.layout.now (image_of c.args.layout.now words) words c.args.t c.draft_of-draft.result c.draft_of-draft.ensures.drafted
 
-pub pieces-requires-clause-small : goal.pieces-requires-clause-small
-pieces-requires-clause-small c =
+pub words-requires-clause-small : goal.words-requires-clause-small
+words-requires-clause-small c =
     let words = c.args.flash.now.words in
     draft_small c.args.layout.now (image_of c.args.layout.now words) words c.args.t c.draft_of-draft.result c.draft_of-draft.ensures.drafted
-
-pub page_with-requires : goal.page_with-requires
-page_with-requires c =
-    let image = image_of c.args.layout.now c.args.flash.now.words in
-    let draft = c.draft_of-draft.result in
-    let drafted = c.draft_of-draft.ensures.drafted in
-    let pieces = c.deref.ensures.0 ∙ c.pieces.ensures.pieces ∙ draft_page image draft.entries.items draft.code.items c.args.t drafted.last drafted.entries drafted.code in
-    record { fits = omega (arith, ap size pieces, drafted.begun.fits) }
 
 pub returns : goal.returns
 returns c =
@@ -37,17 +28,17 @@ returns c =
     let last = drafted.last in
     let page = c.args.page in
     let count : length draft.entries.items ≡ suc last = ap length drafted.entries ∙ length-starts image c.args.t (suc last) in
-    let pieces = c.deref.ensures.0 ∙ c.pieces.ensures.pieces ∙ draft_page image draft.entries.items draft.code.items c.args.t last drafted.entries drafted.code in
-    let prepared : IsPrepared c.args.layout.now image words page c.args.t c.page_with.result (128 * page + 2 + c.len.result) = record {
+    let pieces = draft_page image draft.entries.items draft.code.items c.args.t last drafted.entries drafted.code in
+    let prepared : IsPrepared c.args.layout.now image words page c.args.t c.words.result (128 * page + 2 + c.len.result) = record {
       last = last;
       run = drafted.begun.run;
       unknown = drafted.begun.unknown;
       fits = drafted.begun.fits;
       stops = stops_of c.args.layout.now image words page c.args.t last c.requires.free (drafted.begun.run.paged last (omega arith)) drafted.stops;
-      is = c.page_with.ensures.words ∙ ap (λ ps. filled (words_of ps)) pieces;
+      is = c.words.ensures.words ∙ ap (λ ps. filled (words_of ps)) pieces;
       placed = omega arith;
     } in
     record {
       prepared = prepared;
-      only = λ words' place prepared'. one_page c.args.layout.now image words page c.args.t words' c.page_with.result place (128 * page + 2 + c.len.result) prepared' prepared;
+      only = λ words' place prepared'. one_page c.args.layout.now image words page c.args.t words' c.words.result place (128 * page + 2 + c.len.result) prepared' prepared;
     }

@@ -18,9 +18,6 @@ returns-in-None-enter c = absurd (bound_none (whole c.args.k.now c.args.p.now) (
 pub returns-in-Some-enter : goal.returns-in-Some-enter
 returns-in-Some-enter c = record { bound = bound_wild (whole c.args.k.now c.args.p.now) (whole c.enter.new.k c.enter.new.p) c.in-Some.owed c.enter.result c.in-Some-enter.end c.requires.ready c.in-Some.is c.if-owed-k.false c.enter.ensures.entered c.in-Some-enter.is }
 
-pub enter-requires-clause-cursor : goal.enter-requires-clause-cursor
-enter-requires-clause-cursor c = c.new.ensures.right c.args.k.now.layout c.args.k.now.mote.flash.words
-
 pub enter-requires-clause-admitted : goal.enter-requires-clause-admitted
 enter-requires-clause-admitted c = open_admits c.args.k.now.part c.args.p.now.at c.requires.unshut
 

@@ -1,8 +1,7 @@
-use Rattle.std.proofs.Common.{◌≡◌, ◌+◌, ◌-◌, ◌^◌}
+use Rattle.std.proofs.Common.{◌≡◌, ◌+◌, ◌-◌}
 use Rattle.page_cursor.specs.Cursors.{IsCursor}
 use Rattle.program_steps.specs.Wholes.{whole}
-use Rattle.program_steps.specs.Machines.{numbers_of}
-use Rattle.program_steps.specs.Loop.{is_small, moves_made, IsMidway}
+use Rattle.program_steps.specs.Loop.{moves_made, IsUnderway}
 use Rattle.program_steps.proofs.step.all_moves.Given as goal
 
 -- the moves that are left, whichever the law gives
@@ -13,8 +12,7 @@ invariant-moves l = record {
   layout : l.k.layout ≡ l.fn.k.layout;
   torn : l.p.torn ≡ l.fn.p.torn;
   cursor : IsCursor l.k.layout l.k.mote.flash.words l.cursor;
-  small : is_small (numbers_of (whole l.k l.p)) (2 ^ 60 + moves_made (whole l.k l.p));
-  midway : IsMidway (whole l.fn.k l.fn.p) (whole l.k l.p) l.p.line;
+  underway : IsUnderway (whole l.fn.k l.fn.p) (whole l.k l.p) l.p.line;
 }
 
 -- no step takes more than 65 moves

@@ -30,7 +30,7 @@ put_shown-requires-clause-quantum g c =
     omega (arith, some, c.play-shown.ensures.quantum, ap (λ (u : Tasks). u.kernel.quantum) c.t.view_is)
 
 pub plays-smaller : goal.plays-smaller
-plays-smaller g c = still_less c.args.n c.plays.t c.play-shown.new.self _ c.play-shown.ensures.played
+plays-smaller g c = still_less c.args.n c.plays.t c.play-shown.new.self _ _ c.play-shown.ensures.played
 
 pub plays-preserved : goal.plays-preserved
 plays-preserved g c =
@@ -40,7 +40,7 @@ plays-preserved g c =
     let quantum = c.play-shown.ensures.quantum ∙ c.plays.invariant.quantum in
     record {
       way = way_on c.args.n c.args.t.now c.plays.t new c.plays.gathered.items c.send_in_turn.new.gathered.items c.put_shown.new.gathered.items (g.K.Sink.taken c.args.out.now) (g.K.Sink.taken c.plays.out) (g.K.Sink.taken c.send_in_turn.new.out) (g.K.Sink.taken c.put_shown.new.out)
-          told c.t.inside.kernel.quantum c.plays.invariant.way c.in_ok-send_in_turn.ensures.text c.play-shown.ensures.played (ap (λ (u : Tasks). u.kernel.quantum) c.t.view_is ∙ quantum) c.in_ok-put_shown.ensures.text;
+          told r.count c.t.inside.kernel.quantum c.plays.invariant.way c.in_ok-send_in_turn.ensures.text c.play-shown.ensures.played (ap (λ (u : Tasks). u.kernel.quantum) c.t.view_is ∙ quantum) c.in_ok-put_shown.ensures.text;
       sound = c.play-shown.ensures.sound;
       whole = c.play-shown.ensures.whole;
       quantum = quantum;
@@ -57,7 +57,7 @@ returns-in_err-put_shown-clause-gathered g c =
     let quantum = c.play-shown.ensures.quantum ∙ c.plays.invariant.quantum in
     let failed = err_from_is_err_and c.from_residual-in_err-put_shown.result c.from_residual-in_err-put_shown.ensures.1 in
     rw failed.1 (way_cut c.args.n c.args.t.now c.plays.t new c.plays.gathered.items c.send_in_turn.new.gathered.items (g.K.Sink.taken c.args.out.now) (g.K.Sink.taken c.plays.out) (g.K.Sink.taken c.send_in_turn.new.out) (g.K.Sink.taken c.put_shown.new.out)
-    told c.t.inside.kernel.quantum c.plays.invariant.way c.in_ok-send_in_turn.ensures.text c.play-shown.ensures.played (ap (λ (u : Tasks). u.kernel.quantum) c.t.view_is ∙ quantum) c.in_err-put_shown.ensures.text)
+    told r.count c.t.inside.kernel.quantum c.plays.invariant.way c.in_ok-send_in_turn.ensures.text c.play-shown.ensures.played (ap (λ (u : Tasks). u.kernel.quantum) c.t.view_is ∙ quantum) c.in_err-put_shown.ensures.text)
 
 pub returns-clause-gathered : goal.returns-clause-gathered
 returns-clause-gathered g c = (

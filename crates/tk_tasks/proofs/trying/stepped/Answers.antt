@@ -11,4 +11,4 @@ behind-requires c = record {
 pub returns-clause-made : goal.returns-clause-made
 returns-clause-made c =
     made_done (whole c.args.k.now c.args.p.now) (whole c.steps-count.new.k c.steps-count.new.p) c.args.left c.steps-count.result c.steps-count.new.p.line c.behind.result c.steps-count.ensures.done
-    (omega (arith, c.steps-count.ensures.most, c.min.ensures)) c.behind.ensures.line c.behind.ensures.on c.behind.ensures.over
+    (omega (arith, c.steps-count.ensures.most, c.min.ensures)) c.behind.ensures.count c.behind.ensures.line c.behind.ensures.on c.behind.ensures.over

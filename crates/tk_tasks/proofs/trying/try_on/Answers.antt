@@ -9,7 +9,7 @@ returns-in-Some-clause-tried c = HasTried.Rests c.in-Some.end (sym c.rest_at.ens
 
 pub returns-then-must_take-clause-tried : goal.returns-then-must_take-clause-tried
 returns-then-must_take-clause-tried c =
-    tried_taken (whole c.args.k.now c.args.p.now) (whole c.interrupted.new.k c.interrupted.new.p) c.args.left c.interrupted.result (sym c.rest_at.ensures.value ∙ c.in_default.is) c.interrupted.ensures.stepped c.interrupted.ensures.behind
+    tried_taken (whole c.args.k.now c.args.p.now) (whole c.interrupted.new.k c.interrupted.new.p) c.args.left c.interrupted.result (sym c.rest_at.ensures.value ∙ c.in_default.is) c.interrupted.ensures.one c.interrupted.ensures.stepped c.interrupted.ensures.behind
 
 pub stepped-requires-clause-ready : goal.stepped-requires-clause-ready
 stepped-requires-clause-ready c =

@@ -53,9 +53,9 @@ returns-then-tried-clause-played c =
     c.self.view_is refl c.stub_in-self-inside.ensures.value c.from.ensures c.index_mut.ensures.value on.here (c.keep.ensures.kept c.args.self.now) refl in
     let runs : s.running ≡ t.running = ap (λ (u : Tasks). u.running) c.self.view_is in
     let p = c.try_on-tried.new.p in
-    let done = subst (λ f. HasPlayed c.args.n t (finished f (kept_tasks t on.task (whole c.try_on-tried.new.k p) r.end)) (tried_told t.running r.line r.end p.steps p.crossings)) c.if-tried.true on.all.played in
-    subst (λ k. HasPlayed c.args.n t c.change.new.self (tried_told k r.line r.end p.steps p.crossings)) (sym runs)
-    (subst (λ z. HasPlayed c.args.n t z (tried_told t.running r.line r.end p.steps p.crossings)) (sym (c.change.ensures.changed ∙ ap changed_tasks is)) done)
+    let done = subst (λ f. HasPlayed c.args.n t (finished f (kept_tasks t on.task (whole c.try_on-tried.new.k p) r.end)) (tried_told t.running r.line r.end p.steps p.crossings) r.count) c.if-tried.true on.all.played in
+    subst (λ k. HasPlayed c.args.n t c.change.new.self (tried_told k r.line r.end p.steps p.crossings) r.count) (sym runs)
+    (subst (λ z. HasPlayed c.args.n t z (tried_told t.running r.line r.end p.steps p.crossings) r.count) (sym (c.change.ensures.changed ∙ ap changed_tasks is)) done)
 
 pub returns-then-tried-clause-quantum : goal.returns-then-tried-clause-quantum
 returns-then-tried-clause-quantum c =
@@ -97,9 +97,9 @@ returns-else-tried-clause-played c =
     let runs : s.running ≡ t.running = ap (λ (u : Tasks). u.running) c.self.view_is in
     let p = c.try_on-tried.new.p in
     let kept = kept_tasks t on.task (whole c.try_on-tried.new.k p) r.end in
-    let done = subst (λ f. HasPlayed c.args.n t (finished f kept) (tried_told t.running r.line r.end p.steps p.crossings)) c.if-tried.false on.all.played in
-    subst (λ z. HasPlayed c.args.n t z (tried_told s.running r.line r.end p.steps p.crossings)) (sym is)
-    (subst (λ k. HasPlayed c.args.n t kept (tried_told k r.line r.end p.steps p.crossings)) (sym runs) done)
+    let done = subst (λ f. HasPlayed c.args.n t (finished f kept) (tried_told t.running r.line r.end p.steps p.crossings) r.count) c.if-tried.false on.all.played in
+    subst (λ z. HasPlayed c.args.n t z (tried_told s.running r.line r.end p.steps p.crossings) r.count) (sym is)
+    (subst (λ k. HasPlayed c.args.n t kept (tried_told k r.line r.end p.steps p.crossings) r.count) (sym runs) done)
 
 pub returns-else-tried-clause-quantum : goal.returns-else-tried-clause-quantum
 returns-else-tried-clause-quantum c =

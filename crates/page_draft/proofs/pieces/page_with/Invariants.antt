@@ -1,6 +1,0 @@
-use Rattle.std.proofs.Common.{◌≡◌, take}
-use Rattle.nat_template.specs.Stubs.{words_of}
-use Rattle.page_draft.proofs.pieces.page_with.Given as goal
-
-abbrev pub invariant-loop-piece : goal.invariant-loop-piece
-invariant-loop-piece l = l.words.items ≡ words_of (take l.piece-index l.pieces)
