@@ -1,6 +1,6 @@
 -- The page that RING names, erased: what the next page is made in.
-use Rattle.std.proofs.Common.{◌≡◌, ℕ, ◌+◌, ◌*◌, ◌/◌, ◌%◌, ◌<◌, ◌≤◌, ◌⊎◌, Bool, List, length, Some, Result, Ok, Err, arith, refl, sym, ap, ◌∙◌, subst}
-use Rattle.std.specs.Prelude.{◌≢◌, IfOk}
+use Rattle.std.proofs.Common.{◌≡◌, ℕ, ◌+◌, ◌*◌, ◌/◌, ◌%◌, ◌<◌, ◌≤◌, ◌⊎◌, Bool, true, false, List, length, Some, Result, Ok, Err, arith, refl, sym, ap, ◌∙◌, subst, inl, inr}
+use Rattle.std.specs.Prelude.{◌≢◌, IfOk, slice_index_or}
 use Rattle.flash_words.specs.Pages.{page_words, set_page, blank}
 use Rattle.flash_words.specs.Memory.{Memory}
 use Rattle.flash_words.specs.Operations.{erased_page}
@@ -9,11 +9,12 @@ use Rattle.flash_words.specs.declared.layout.Layout.{Layout}
 use Rattle.sram_layout.specs.Bytes.{byte_count}
 use Rattle.sram_layout.specs.Cells.{ring_cell}
 use Rattle.sram_layout.proofs.Laws.{byte_out_of_word}
-use Rattle.page_index.specs.Maps.{IsPool, IsFree, original_page}
-use Rattle.page_index.specs.Entries.{IsEntry, IsMapped, AreKnown}
-use Rattle.page_index.proofs.MapLaws.{map_of_entry}
-use Rattle.page_index.proofs.EntryLaws.{page_of_place}
+use Rattle.page_index.specs.Maps.{IsPool, IsFree}
+use Rattle.page_index.specs.Entries.{Lists, IsEntry, IsMapped, AreKnown}
+use Rattle.page_index.proofs.MapLaws.{free_lists_nothing}
+use Rattle.page_index.proofs.EntryLaws.{one_place, page_of_place}
 use Rattle.nat_page.specs.Faithful.{IsFaithful}
+use Rattle.nat_page.proofs.FaithfulLaws.{faithful_mapped}
 use Rattle.nat_page.specs.Making.{HasNoEntry}
 use Rattle.addr_tables.specs.Tables.{IsTables}
 use Rattle.addr_tables.specs.Changes.{StaysOutside}
@@ -58,23 +59,39 @@ emptied layout old unlinked erased victim t right code same pool apart back unkn
       stays = λ a v entry away. subst (λ w. IsEntry layout w a v) there (entry_left layout image unlinked.words victim a v right code pool entry away);
     }
 
--- a page that has an entry of an original page is of that one
-original_of : (layout : Layout) (words : List ℕ) (original k v victim : ℕ) → IsMapped layout words → k < page_words → IsEntry layout words (page_words * original + k) v → v / page_words ≡ victim → original_page words victim ≡ original
-original_of layout words original k v victim mapped below entry is =
-    let own = page_of_place layout words (page_words * original + k) v mapped entry in
-    let map = map_of_entry words entry.page entry.index (page_words * original + k) v (mapped.pages entry.page entry.pool) entry.lists in
-    let here : original_page words entry.page ≡ original = omega (arith, entry.lists.address, map.offset entry.index entry.lists.listed) in
-    ap (original_page words) (sym (own ∙ is)) ∙ here
-
--- what was known of another original page's addresses
-pub known_left : (layout : Layout) (old unlinked erased : Memory) (victim t original : ℕ) (known : List Bool) → IsMapped layout unlinked.words → IsEmptied layout old unlinked erased victim t → ((a v : ℕ) → IsEntry layout old.words a v → IsEntry layout unlinked.words a v) → AreKnown layout old.words original known → original_page unlinked.words victim ≢ original → AreKnown layout erased.words original known
-known_left layout old unlinked erased victim t original known mapped is on are apart = record {
-  size = are.size;
+-- what was known of an original page's addresses, once it forgot those of the page that is erased
+pub known_left : (layout : Layout) (old unlinked erased : Memory) (victim t original : ℕ) (known left : List Bool) → IsRight layout → IsMapped layout unlinked.words → IsPool layout victim → IsEmptied layout old unlinked erased victim t
+    → ((a v : ℕ) → IsEntry layout old.words a v → IsEntry layout unlinked.words a v) → AreKnown layout old.words original known → length left ≡ length known
+    → ((k : ℕ) → slice_index_or left k false ≡ true → slice_index_or known k false ≡ true)
+    → ((k i v : ℕ) → k < page_words → Lists unlinked.words victim i (page_words * original + k) v → slice_index_or left k false ≡ false)
+    → ((k : ℕ) → k < page_words → slice_index_or known k false ≡ true → (slice_index_or left k false ≡ true) ⊎ ((i : ℕ) × (v : ℕ) × Lists unlinked.words victim i (page_words * original + k) v))
+    → AreKnown layout erased.words original left
+known_left layout old unlinked erased victim t original known left right mapped pool is on are size only unmarked kept = record {
+  size = size ∙ are.size;
   found = λ k below has.
-      let was = are.found k below has in
-      let entry = on (page_words * original + k) was.0 was.1 in
-      (was.0, is.stays (page_words * original + k) was.0 entry (λ own. apart (original_of layout unlinked.words original k was.0 victim mapped below entry own)));
-  only = λ k v below entry. are.only k v below (is.before (page_words * original + k) v entry);
+      let a = page_words * original + k in
+      let was = are.found k below (only k has) in
+      let entry = on a was.0 was.1 in (
+        was.0,
+        is.stays a was.0 entry (λ own.
+            let P : ℕ → Type 0 = λ p. Lists unlinked.words p entry.index a was.0 in
+            let none = unmarked k entry.index was.0 below (subst P (page_of_place layout unlinked.words a was.0 mapped entry ∙ own) entry.lists) in
+            let never : false ≡ true = sym none ∙ has in
+            absurd (cc)),
+      );
+  only = λ k v below entry.
+      let a = page_words * original + k in
+      let was = is.before a v entry in
+      elim (kept k below (are.only k v below was)) [
+        | inl still ↦ still
+        | inr listed ↦ (
+            let there : IsEntry layout unlinked.words a listed.1 = record { page = victim; index = listed.0; pool = pool; lists = listed.2 } in
+            let same : listed.1 ≡ v = one_place layout unlinked.words a listed.1 v mapped there (on a v was) in
+            let emptied_map = faithful_mapped layout (image_of layout erased.words) erased.words right is.code in
+            let own : entry.page ≡ victim = page_of_place layout erased.words a v emptied_map entry ∙ ap (λ p. p / page_words) (sym same) ∙ sym (page_of_place layout unlinked.words a listed.1 mapped there) in
+            let P : ℕ → Type 0 = λ p. IsFree erased.words p in
+            absurd (free_lists_nothing erased.words entry.page entry.index a v (subst P (sym own) is.free) entry.lists))
+      ];
 }
 
 turned_stays : (layout : Layout) (sram words : List ℕ) → IsTables layout sram words → IsTables layout (turned layout sram) words

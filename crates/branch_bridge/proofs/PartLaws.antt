@@ -65,7 +65,7 @@ unlinked_parted layout image before words part victim page right code pool run i
       links = λ q s t from. link_kept layout image words words' part page first last q s t keeps (is.links q s t from);
     }
 
-stubs_used : (itself used some : Bool) → (if itself || not used then false else some) ≡ true → used ≡ true
+pub stubs_used : (itself used some : Bool) → (if itself || not used then false else some) ≡ true → used ≡ true
 stubs_used true used some is = absurd (cc)
 stubs_used false false some is = absurd (cc)
 stubs_used false true some is = refl

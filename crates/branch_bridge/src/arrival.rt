@@ -1,10 +1,10 @@
 //! One arrival.
 
-ghost use Rattle.std.specs.Prelude.{◌≡◌, ◌≢◌, ◌+◌, ◌/◌, ◌<◌, ◌≤◌, ◌^◌, ◌↔◌, ◌||◌, min, IsErrOf, length, None as Nothing};
+ghost use Rattle.std.specs.Prelude.{◌≡◌, ◌+◌, ◌/◌, ◌<◌, ◌≤◌, ◌^◌, ◌↔◌, ◌||◌, min, IsErrOf, length, None as Nothing};
 ghost use Rattle.sram_layout.specs.Bytes.{byte_count};
 ghost use Rattle.flash_words.specs.Layouts.{IsRight, image_of};
 ghost use Rattle.page_index.specs.Maps.{IsPool, IsFree};
-ghost use Rattle.page_index.specs.Entries.{AreKnown, IsMapped};
+ghost use Rattle.page_index.specs.Entries.{AreKnown};
 ghost use Rattle.nat_page.specs.Faithful.{IsFaithful};
 ghost use Rattle.nat_page.specs.Making.{HasNoEntry, HasNoFree};
 ghost use Rattle.branch_bridge.specs.Operating.{Program, lacking as lacking_of, with_torn};
@@ -18,7 +18,7 @@ use crate::unresolving::unresolve;
 use addr_tables::{find_with_hints, forget_page, note};
 use flash_model::{Flash, Layout, PAGE_WORDS};
 use nat_page::prepare_with;
-use page_index::{Places, known_offsets};
+use page_index::{Places, unmark_offsets};
 use sram_layout::Sram;
 
 /// Why control can't go on at an original address.
@@ -106,7 +106,7 @@ pub fn arrive_with_hints(
             torn: None,
         });
     }
-    let survey = match find_with_hints(sram, flash, layout, places, t) {
+    let mut survey = match find_with_hints(sram, flash, layout, places, t) {
         Ok(place) => {
             return Ok(Moved {
                 place,
@@ -118,21 +118,22 @@ pub fn arrive_with_hints(
     };
     match survey.free {
         Some(page) => make_page(sram, flash, layout, &survey.known, page, t, false),
-        None => recycle(sram, flash, layout, &survey.known, t),
+        None => recycle(sram, flash, layout, &mut survey.known, t),
     }
 }
 
-/// Recycles the page that RING names for the page of `t`. `known` tells which addresses of `t`'s original page have entries.
+/// Recycles the page that RING names for the page of `t`. `known` tells which addresses of `t`'s original page have entries; it
+/// forgets those of the recycled page.
 fn recycle(
     sram: &mut Sram,
     flash: &mut Flash,
     layout: &Layout,
-    known: &[bool; 128],
+    known: &mut [bool; 128],
     t: u16,
 ) -> Result<Moved, Refused>
     requires right { IsRight layout.now }
     requires code { IsFaithful layout.now (image_of layout.now flash.old.words) flash.old.words }
-    requires known { AreKnown layout.now flash.old.words (t / 128) known.now }
+    requires known { AreKnown layout.now flash.old.words (t / 128) known.old }
     requires inside { t < layout.now.image_words }
     requires unknown { HasNoEntry layout.now flash.old.words t }
     requires full { HasNoFree layout.now flash.old.words }
@@ -154,7 +155,7 @@ fn recycle(
         }
     }
     forget_page(sram, victim);
-    let original = flash.word(PAGE_WORDS * victim);
+    unmark_offsets(flash, victim, t / PAGE_WORDS, known);
     match flash.erase(victim) {
         Ok(()) => {}
         Err(stop) => {
@@ -165,28 +166,7 @@ fn recycle(
         }
     }
     turn(sram, layout);
-    let known = known_after(flash, layout, known, original, t);
-    make_page(sram, flash, layout, &known, victim, t, true)
-}
-
-/// Which addresses of `t`'s original page have entries, where a page of this original page was erased after `known` was told.
-fn known_after(
-    flash: &Flash,
-    layout: &Layout,
-    known: &[bool; 128],
-    original: u16,
-    t: u16,
-) -> [bool; 128]
-    requires right { IsRight layout.now }
-    requires mapped { IsMapped layout.now flash.now.words }
-    requires known { original ≢ t / 128 → AreKnown layout.now flash.now.words (t / 128) known.now }
-    ensures known { AreKnown layout.now flash.now.words (t / 128) result }
-{
-    if original == t / PAGE_WORDS {
-        known_offsets(flash, layout, original)
-    } else {
-        *known
-    }
+    make_page(sram, flash, layout, known, victim, t, true)
 }
 
 /// Makes the page of `t` in this page, which is free, and notes its place. `known` tells which addresses of `t`'s

@@ -3,7 +3,7 @@ use Rattle.std.proofs.Common.{◌≡◌, ℕ, ◌+◌, ◌<◌, ◌≤◌, List,
 use Rattle.std.proofs.lemmas.List.{take-append-drop, take_at, drop-drop, drop_all}
 use Rattle.std.proofs.Math.Seq.{take-append-add}
 use Rattle.std.specs.Io.KnownBytes.{Appends, Consumes, Keeps}
-use Rattle.byte_streams.specs.Streams.{CutShort, IsSent}
+use Rattle.byte_streams.specs.Streams.{CutShort, IsSent, Input, Gives}
 
 pub appends-nothing : (known : Option (List ℕ)) → Appends known known []
 appends-nothing None = tt
@@ -44,7 +44,7 @@ part_sent bytes rest old mid new before some kept =
     let size : length bytes ≡ length before.sent + length rest = ap length before.parts ∙ length-append before.sent rest in
     (length before.sent, omega arith, subst (λ z. Appends old new z) (sym front) (appends-kept old mid new before.sent before.appended kept))
 
-pub consumes-both : (old mid new : Option (List ℕ)) (xs ys : List ℕ) → Consumes old mid xs → Consumes mid new ys → Consumes old new (xs ++ ys)
+consumes-both : (old mid new : Option (List ℕ)) (xs ys : List ℕ) → Consumes old mid xs → Consumes mid new ys → Consumes old new (xs ++ ys)
 consumes-both None mid new xs ys first second = tt
 consumes-both (Some a) None new xs ys first second = absurd first
 consumes-both (Some a) (Some b) None xs ys first second = absurd second
@@ -60,3 +60,23 @@ pub read_at_end : (items left : List ℕ) (at count room : ℕ) → drop at item
 read_at_end items left at count room is counted none some =
     let empty : length left ≤ count = omega arith in
     sym (drop-drop count at items) ∙ ap (λ z. drop count z) is ∙ drop_all count left empty
+
+consumes-kept : (old mid new : Option (List ℕ)) (xs : List ℕ) → Consumes old mid xs → Keeps mid new → Consumes old new xs
+consumes-kept None mid new xs first kept = tt
+consumes-kept (Some a) None new xs first kept = absurd first
+consumes-kept (Some a) (Some b) None xs first kept = absurd kept
+consumes-kept (Some a) (Some b) (Some c) xs first kept = first ∙ ap (λ z. xs ++ z) (sym kept)
+
+-- a source that gives more, or no more, or fails
+pub gives_both : (old mid new : Input) (xs ys : List ℕ) → Gives old mid xs → Gives mid new ys → Gives old new (xs ++ ys)
+gives_both old mid new xs ys first second = record {
+  left = consumes-both old.left mid.left new.left xs ys first.left second.left;
+  given = appends-both old.given mid.given new.given xs ys first.given second.given;
+}
+
+pub gives_no_more : (old mid new : Input) (xs : List ℕ) → Gives old mid xs → Gives mid new [] → Gives old new xs
+gives_no_more old mid new xs first second = subst (λ z. Gives old new z) (append-nil xs) (gives_both old mid new xs [] first second)
+
+pub gives_kept : (old mid new : Input) (xs : List ℕ) → Gives old mid xs → Keeps mid.left new.left → Keeps mid.given new.given → Gives old new xs
+gives_kept old mid new xs first left given =
+    record { left = consumes-kept old.left mid.left new.left xs first.left left; given = appends-kept old.given mid.given new.given xs first.given given }

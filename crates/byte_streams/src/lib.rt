@@ -13,6 +13,7 @@
 mod edge;
 mod failure;
 mod null;
+mod passed;
 mod sink;
 mod source;
 mod standard;

@@ -1,9 +1,9 @@
 //! Where bytes come from.
 ghost use Rattle.std.specs.Prelude.{List, ℕ, Option, None};
 ghost use Rattle.std.specs.Io.{ReadsAtMost};
-ghost use Rattle.std.specs.Io.KnownBytes.{ReadConsumes};
+ghost use Rattle.std.specs.Io.KnownBytes.{ReadConsumes, WriteAppends};
 ghost use Rattle.byte_streams.specs.Faults.{HasCause, HasReadCause};
-ghost use Rattle.byte_streams.specs.Streams.{ReadsAll};
+ghost use Rattle.byte_streams.specs.Streams.{ReadsAll, input_of};
 
 use crate::{Failed, ReadAll};
 use std::alloc::Global;
@@ -13,6 +13,9 @@ pub trait Source {
     /// The bytes that are left, where the source tells them.
     ghost left: { Self → Option (List ℕ) } = { λ _. None };
 
+    /// The bytes that were given so far, where the source keeps them for clauses.
+    ghost given: { Self → Option (List ℕ) } = { λ _. None };
+
     /// How often the source has failed. The count never falls, and stands still at 2^64 - 1.
     ghost faults: { Self → ℕ };
 
@@ -21,6 +24,7 @@ pub trait Source {
     fn read(&mut self, buf: &mut [u8]) -> Result<usize, Failed>
         ensures bound { ReadsAtMost result buf.new }
         ensures bytes { ReadConsumes (left self.old) (left self.new) result buf.new }
+        ensures gives { WriteAppends (given self.old) (given self.new) result buf.new }
         ensures cause { HasCause (faults self.old) (faults self.new) result };
 }
 
@@ -30,7 +34,7 @@ const PIECE: usize = 4096;
 /// Reads to the end, and gives all the bytes. At most `limit + 1` bytes are taken: with one more than
 /// `limit` the answer is `TooLong`. Each turn takes a byte or is the last.
 pub fn read_all<S: Source>(alloc: Global, s: &mut S, limit: usize) -> Result<Vec<u8>, ReadAll>
-    ensures bytes { ReadsAll limit (S.left s.old) (S.left s.new) result }
+    ensures bytes { ReadsAll limit (input_of S.left S.given S.faults s.old) (input_of S.left S.given S.faults s.new) result }
     ensures cause { HasReadCause (S.faults s.old) (S.faults s.new) result }
 {
     let mut bytes = Vec::new(alloc);

@@ -49,14 +49,16 @@ pub(crate) fn restart_request<K: Sink>(
         Ok(swap) => swap,
         Err(_) => return tell_no_memory(out),
     };
-    let first = match run_silently(alloc, &image, script, options) {
+    let mut first = match run_silently(alloc, &image, script, options) {
         Ok(machine) => machine,
         Err(_) => return tell_no_memory(out),
     };
     let layout = first.kernel.layout;
+    let cursor = first.take_cursor();
     let mut flash = lost_flash(first, &layout);
     let told = restart(&mut flash, image.words(), &layout);
     let mut machine = Machine::over(flash, &image, again, swap, options.quantum);
+    machine.keep_cursor(cursor);
     let status = run_again(&mut machine, told, options.steps, out);
     Outcome {
         status,

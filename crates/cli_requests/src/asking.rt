@@ -1,7 +1,7 @@
 //! The job that words and an input ask for.
 ghost use Rattle.std.specs.Prelude.{map, string_bytes};
 ghost use Rattle.cli_words.specs.Commands.{IsPossibleJob};
-ghost use Rattle.cli_words.specs.Stream.{stream};
+ghost use Rattle.byte_streams.specs.Streams.{input_of};
 ghost use Rattle.cli_requests.specs.Asking.{IsAsked};
 
 use crate::asm_command::asm_job;
@@ -18,7 +18,7 @@ use std::alloc::Global;
 /// What the words ask for, and the input where they have it read.
 pub fn job_of<S: Source>(alloc: Global, words: &[String], input: &mut S) -> Job
     ensures asked { IsAsked (map string_bytes words.now)
-        (stream S.left S.faults input.old) (stream S.left S.faults input.new)
+        (input_of S.left S.given S.faults input.old) (input_of S.left S.given S.faults input.new)
         result }
     ensures possible { IsPossibleJob result }
 {

@@ -2,7 +2,7 @@
 ghost use Rattle.std.specs.Prelude.{◌≡◌, ◌⊎◌, ◌≤◌, length};
 ghost use Rattle.cli_words.specs.Commands.{IsPossibleJob};
 ghost use Rattle.cli_words.specs.Printed.{no_memory};
-ghost use Rattle.cli_words.specs.Stream.{stream};
+ghost use Rattle.byte_streams.specs.Streams.{input_of};
 ghost use Rattle.cli_requests.specs.AsmCommand.{AsmAsks};
 ghost use Rattle.cli_requests.specs.Reading.{AsksByText, most_input};
 
@@ -16,7 +16,7 @@ use std::alloc::Global;
 /// Reads the source, and assembles it.
 pub(crate) fn asm_job<S: Source>(alloc: Global, input: &mut S) -> Job
     ensures asks { AsksByText AsmAsks
-        (stream S.left S.faults input.old) (stream S.left S.faults input.new)
+        (input_of S.left S.given S.faults input.old) (input_of S.left S.given S.faults input.new)
         result }
     ensures possible { IsPossibleJob result }
 {

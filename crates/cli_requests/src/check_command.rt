@@ -4,7 +4,7 @@ ghost use Rattle.flash_words.specs.Layouts.{layout_of};
 ghost use Rattle.pool_check.specs.Verdicts.{IsVerdict};
 ghost use Rattle.cli_words.specs.Commands.{IsPossibleJob};
 ghost use Rattle.cli_words.specs.Printed.{no_memory};
-ghost use Rattle.cli_words.specs.Stream.{stream};
+ghost use Rattle.byte_streams.specs.Streams.{input_of};
 ghost use Rattle.cli_requests.specs.CheckCommand.{CheckAsks};
 ghost use Rattle.cli_requests.specs.Reading.{AsksByText, most_input};
 
@@ -21,7 +21,7 @@ use std::alloc::Global;
 /// Reads an image and a dump, and checks the dump's flash.
 pub(crate) fn check_job<S: Source>(alloc: Global, input: &mut S) -> Job
     ensures asks { AsksByText CheckAsks
-        (stream S.left S.faults input.old) (stream S.left S.faults input.new)
+        (input_of S.left S.given S.faults input.old) (input_of S.left S.given S.faults input.new)
         result }
     ensures possible { IsPossibleJob result }
 {

@@ -2,7 +2,7 @@
 ghost use Rattle.std.specs.Prelude.{◌≡◌, ◌⊎◌, ◌≤◌, length};
 ghost use Rattle.cli_words.specs.Commands.{AreOptions, IsPossibleJob};
 ghost use Rattle.cli_words.specs.Printed.{no_memory};
-ghost use Rattle.cli_words.specs.Stream.{stream};
+ghost use Rattle.byte_streams.specs.Streams.{input_of};
 ghost use Rattle.cli_requests.specs.Reading.{AsksByText, most_input};
 ghost use Rattle.cli_requests.specs.RestartCommand.{RestartAsks};
 
@@ -16,7 +16,7 @@ use std::alloc::Global;
 pub(crate) fn restart_job<S: Source>(alloc: Global, options: RunOptions, input: &mut S) -> Job
     requires possible { AreOptions options }
     ensures asks { AsksByText (RestartAsks options)
-        (stream S.left S.faults input.old) (stream S.left S.faults input.new)
+        (input_of S.left S.given S.faults input.old) (input_of S.left S.given S.faults input.new)
         result }
     ensures possible { IsPossibleJob result }
 {

@@ -5,7 +5,7 @@ ghost use Rattle.cli_words.specs.declared.job.Job.{Job};
 ghost use Rattle.cli_words.specs.declared.request.Request.{Request};
 ghost use Rattle.cli_words.specs.Commands.{AreOptions, IsPossible, IsPossibleJob};
 ghost use Rattle.cli_words.specs.Printed.{no_memory};
-ghost use Rattle.cli_words.specs.Stream.{stream};
+ghost use Rattle.byte_streams.specs.Streams.{input_of};
 ghost use Rattle.cli_requests.specs.Reading.{AsksByText, most_input};
 ghost use Rattle.cli_requests.specs.RunCommand.{RequestThen, RunAsks};
 
@@ -20,7 +20,7 @@ use std::alloc::Global;
 pub fn run_job<S: Source>(alloc: Global, options: RunOptions, input: &mut S) -> Job
     requires possible { IsPossible (Run options) }
     ensures asks { AsksByText (RunAsks options)
-        (stream S.left S.faults input.old) (stream S.left S.faults input.new)
+        (input_of S.left S.given S.faults input.old) (input_of S.left S.given S.faults input.new)
         result }
     ensures possible { IsPossibleJob result }
 {

@@ -2,7 +2,7 @@
 ghost use Rattle.std.specs.Prelude.{◌≡◌, ◌⊎◌, ◌≤◌, length};
 ghost use Rattle.cli_words.specs.Commands.{AreTaskOptions, IsPossibleJob};
 ghost use Rattle.cli_words.specs.Printed.{no_memory};
-ghost use Rattle.cli_words.specs.Stream.{stream};
+ghost use Rattle.byte_streams.specs.Streams.{input_of};
 ghost use Rattle.cli_requests.specs.Reading.{AsksByText, most_input};
 ghost use Rattle.cli_requests.specs.TasksCommand.{TasksAsks};
 
@@ -19,7 +19,7 @@ use task_input::{misplaced_word, read_scripts};
 pub(crate) fn tasks_job<S: Source>(alloc: Global, options: TaskOptions, input: &mut S) -> Job
     requires possible { AreTaskOptions options }
     ensures asks { AsksByText (TasksAsks options)
-        (stream S.left S.faults input.old) (stream S.left S.faults input.new)
+        (input_of S.left S.given S.faults input.old) (input_of S.left S.given S.faults input.new)
         result }
     ensures possible { IsPossibleJob result }
 {

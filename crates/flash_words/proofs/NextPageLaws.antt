@@ -22,6 +22,10 @@ not_set : (set : PageSet) (page n k : ℕ) → n ≡ slice_index set.bits (page 
 not_set set page n k word place none =
     ap (λ b. b == 1) (ap (λ w. bit_at w (page % 64)) (sym word) ∙ ap (bit_at n) (sym place) ∙ none)
 
+-- no bit of a page's word is set
+pub no_page : (set : PageSet) (page : ℕ) → slice_index set.bits (page / 64 % 8) ≡ 0 → has_page set page ≡ false
+no_page set page none = ap (λ w. bit_at w (page % 64) == 1) none ∙ ap (λ b. b == 1) (bit_at-zero (page % 64))
+
 -- the pages of one word from a page on, as far as their bits aren't set
 none_before : (set : PageSet) (page n d : ℕ) → n ≡ slice_index set.bits (page / 64 % 8) → page % 64 + d ≤ 64 → ((i : ℕ) → i < d → bit_at (n / 2 ^ (page % 64)) i ≡ 0)
     → (lower : ℕ) → page ≤ lower → lower < page + d → has_page set lower ≡ false

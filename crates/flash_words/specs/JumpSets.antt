@@ -15,6 +15,10 @@ IsBlankFrom page n = (k : ℕ) → n ≤ k → k < page_words → slice_index pa
 abbrev pub HasJumps : List ℕ → PageSet → Type 0
 HasJumps page set = (k : ℕ) → k + 1 < page_words → slice_index page k ≡ jump_word → has_page set (slice_index page (k + 1) / page_words) ≡ true
 
+-- .. where it stands from one word on up to another
+abbrev pub HasJumpsBetween : (from to : ℕ) → List ℕ → PageSet → Type 0
+HasJumpsBetween from to page set = (k : ℕ) → from ≤ k → k < to → k + 1 < page_words → slice_index page k ≡ jump_word → has_page set (slice_index page (k + 1) / page_words) ≡ true
+
 -- a page's set has those of its words
 abbrev pub HasSet : List ℕ → List PageSet → ℕ → Type 0
 HasSet words sets page = (s : PageSet) → HasJumps (page_of words page) (slice_index_or sets page s)

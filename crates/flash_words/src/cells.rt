@@ -11,7 +11,7 @@ ghost use Rattle.flash_words.specs.Heads.{head};
 
 use crate::failing::{FlashStop, next_listed};
 use crate::layout::{BLANK, PAGES};
-use crate::paged_words::{PAGE_WORDS, PagedWords};
+use crate::paged_words::{BLOCK_WORDS, PAGE_WORDS, PagedWords};
 use std::alloc::{AllocError, Global};
 use std::marker::Model;
 
@@ -266,16 +266,29 @@ fn clear_bits(page: &mut [u16], words: &[u16; 128])
     }
 }
 
-/// How many words of a page there are up to the last that isn't 0xFFFF.
+/// How many words of a page there are up to the end of the last block that has one that isn't 0xFFFF.
 fn used_words(words: &[u16; 128]) -> usize
     ensures size { result ≤ page_words }
     ensures rest { IsBlankFrom words.now result }
 {
-    'words: for left in 0..PAGE_WORDS {
-        let count = PAGE_WORDS - left;
-        if words[count - 1] != BLANK {
+    let mut count = PAGE_WORDS;
+    'behind: while count > 0 {
+        if is_used(words, count - BLOCK_WORDS) {
             return count;
         }
+        count -= BLOCK_WORDS;
     }
     0
+}
+
+/// Whether one of the words of a block isn't 0xFFFF. They are compared without a branch between them.
+fn is_used(words: &[u16; 128], first: usize) -> bool
+    requires inside { first + 16 ≤ page_words }
+    ensures blank { result ≡ false → (k : ℕ) → first ≤ k → k < first + 16 → slice_index words.now k ≡ 0xFFFF }
+{
+    let mut any = false;
+    'words: for i in 0..BLOCK_WORDS {
+        any = any | (words[first + i] != BLANK);
+    }
+    any
 }

@@ -1,14 +1,14 @@
 //! Into which pages the jumps of each page lead, and from which pages jumps lead into each.
 
-ghost use Rattle.std.specs.Prelude.{◌≡◌, ◌≢◌, ℕ, ◌%◌, ◌≤◌, ◌<◌, true, length, List, IfOk, IfSome, IfNone};
+ghost use Rattle.std.specs.Prelude.{◌≡◌, ◌≢◌, ℕ, ◌+◌, ◌%◌, ◌≤◌, ◌<◌, true, false, length, List, IfOk, IfSome, IfNone, slice_index};
 ghost use Rattle.flash_words.specs.Pages.{word_count, page_count, page_words, page_of};
-ghost use Rattle.flash_words.specs.Jumps.{HasNoJumpInto};
-ghost use Rattle.flash_words.specs.JumpSets.{IsBlankFrom, HasJumps, IsSource, AreJumps, AreJumpsBeside};
+ghost use Rattle.flash_words.specs.Jumps.{jump_word, HasNoJumpInto};
+ghost use Rattle.flash_words.specs.JumpSets.{IsBlankFrom, HasJumps, HasJumpsBetween, IsSource, AreJumps, AreJumpsBeside};
 ghost use Rattle.flash_words.specs.PageSets.{has_page};
 
 use crate::layout::PAGES;
 use crate::page_set::{self, NO_PAGE, PageSet};
-use crate::paged_words::{PAGE_WORDS, words_of};
+use crate::paged_words::{BLOCK_WORDS, PAGE_WORDS, words_of};
 use std::alloc::{AllocError, Global};
 
 /// JMP, the first of its two words.
@@ -74,6 +74,9 @@ fn remove_source_of_each(sources: &mut Vec<PageSet>, page: u16, set: &PageSet)
     ensures size { length sources.new.items ≡ page_count }
     ensures others { (target other : ℕ) → other % page_count ≢ page % page_count → IsSource sources.old.items target other → IsSource sources.new.items target other }
 {
+    if set.is_empty() {
+        return;
+    }
     let mut from = 0;
     'targets: while let Some(target) = set.next(from, PAGES as u16) {
         remove_source(sources, target, page);
@@ -88,6 +91,9 @@ fn add_source_of_each(sources: &mut Vec<PageSet>, page: u16, set: &PageSet)
     ensures here { (target : ℕ) → target < page_count → has_page set.now target ≡ true → IsSource sources.new.items target page }
     ensures others { (target other : ℕ) → IsSource sources.old.items target other → IsSource sources.new.items target other }
 {
+    if set.is_empty() {
+        return;
+    }
     let mut from = 0;
     'targets: while let Some(target) = set.next(from, PAGES as u16) {
         add_source(sources, target, page);
@@ -124,10 +130,40 @@ fn jumps_of(words: &[u16], count: usize) -> PageSet
     ensures jumps { HasJumps words.now result }
 {
     let mut pages = NO_PAGE;
-    'words: for k in 1..PAGE_WORDS.min(count + 1) {
+    let mut first = 0;
+    'ahead: while first < count {
+        add_jumps(&mut pages, words, first);
+        first += BLOCK_WORDS;
+    }
+    pages
+}
+
+/// Whether one of the words of a block is JMP's. They are compared without a branch between them.
+fn has_jump(words: &[u16], first: usize) -> bool
+    requires size { length words.now ≡ page_words }
+    requires inside { first + 16 ≤ page_words }
+    ensures none { result ≡ false → (k : ℕ) → first ≤ k → k < first + 16 → slice_index words.now k ≢ jump_word }
+{
+    let mut any = false;
+    'words: for i in 0..BLOCK_WORDS {
+        any = any | (words[first + i] == JMP);
+    }
+    any
+}
+
+/// Adds the pages that the jumps of a block lead into. Most blocks have none.
+fn add_jumps(pages: &mut PageSet, words: &[u16], first: usize)
+    requires size { length words.now ≡ page_words }
+    requires inside { first + 16 ≤ page_words }
+    ensures jumps { HasJumpsBetween first (first + 16) words.now pages.new }
+    ensures others { (page : ℕ) → has_page pages.old page ≡ true → has_page pages.new page ≡ true }
+{
+    if !has_jump(words, first) {
+        return;
+    }
+    'words: for k in first + 1..PAGE_WORDS.min(first + BLOCK_WORDS + 1) {
         if words[k - 1] == JMP {
             pages.add(words[k] / PAGE_WORDS as u16);
         }
     }
-    pages
 }

@@ -33,6 +33,18 @@ impl PageSet {
         self.bits[word_of(page)] &= !(1 << (page % 64));
     }
 
+    /// Whether no page is in the set.
+    pub(crate) fn is_empty(&self) -> bool
+        ensures none { result ≡ true → (page : ℕ) → has_page self.now page ≡ false }
+    {
+        'words: for i in 0..8 {
+            if self.bits[i] != 0 {
+                return false;
+            }
+        }
+        true
+    }
+
     /// The lowest page of the set from one on and below another; None where none is.
     pub(crate) fn next(&self, from: u16, to: u16) -> Option<u16>
         requires end { to ≤ page_count }

@@ -17,6 +17,9 @@ use std::marker::Model;
 /// The words of a page.
 pub(crate) const PAGE_WORDS: usize = layout::PAGE_WORDS as usize;
 
+/// The words of a block, of which a page has eight. The words of one are compared together.
+pub(crate) const BLOCK_WORDS: usize = 16;
+
 /// RET, the word in each place of the kernel's pages.
 pub const RET: u16 = 0x9508;
 

@@ -40,7 +40,3 @@ store_hit m w a v i paged found =
     let page = a / 256 in
     then_first (has_slot m page) _ _ (slot_of_held m w page i paged found)
     ∙ ap (λ o. Some (store_of (with_byte_in_frame (seated_by m w page o).sram (frame_for m page) page (a % 256) v) (seated_by m w page o).swap)) found
-
-pub frame_found : (m : List ℕ) (page i : ℕ) → frame_of m page ≡ Some i → frame_for m page ≡ i
-unfolding frame_for
-frame_found m page i found = ap (λ o. unwrap_or o (victim m)) found

@@ -128,7 +128,7 @@ is_from : (h : Store) (page : ℕ) → frame_of h.sram page ≡ None → seated 
 unfolding seated from_slot
 is_from h page missed = rw missed
 
-frame_there : (m : List ℕ) (page i : ℕ) → frame_of m page ≡ Some i → frame_for m page ≡ i
+pub frame_there : (m : List ℕ) (page i : ℕ) → frame_of m page ≡ Some i → frame_for m page ≡ i
 unfolding frame_for
 frame_there m page i found = rw found
 

@@ -25,6 +25,7 @@ use crate::services::{behind_call, descriptor};
 use avr_exec::{displaced, low_register, move_pointer, raise_z, target};
 use avr_isa::{Base, Form, IoAddr, Ptr, Reg, Six};
 use flash_model::word_in_image;
+use flash_words::RET;
 use mem_guard::{byte_in_image, is_stack, kept_instruction, load_at_hand, store_at_hand};
 use nat_template::entries::{MEM, RETURN};
 use preempt_count::cross;
@@ -34,9 +35,6 @@ use sram_layout::KERNEL_STACK_TOP;
 const SPL: u8 = 0x3D;
 
 const SPH: u8 = 0x3E;
-
-/// The word of RET (AVR Instruction Set Manual, "RET").
-const RET_WORD: u16 = 0x9508;
 
 /// Serves MEM and PUSHRET at once, where it can: then the program goes on behind the descriptor, where the pc is now, and no
 /// line was shown. Tells whether it does; else nothing is done.
@@ -122,7 +120,7 @@ fn is_plain_return(k: &Kernel, at: u16) -> bool
     requires at { at ≡ descriptor_of k.now }
     ensures is { result ≡ true → instruction k.now ≡ Some Ret }
 {
-    word_in_image(&k.mote.flash, &k.layout, u32::from(at)) == RET_WORD
+    word_in_image(&k.mote.flash, &k.layout, u32::from(at)) == RET
 }
 
 /// Executes the program's instruction at the address that the descriptor names, where flash has it decoded and its bytes are at

@@ -84,7 +84,7 @@ fn serve_at(k: &mut Kernel, at: u16) -> (Served, bool)
 /// Whether the service executes an instruction of the program: not where LPM or ELPM would read a word that the program
 /// may not read, nor where the program halts.
 #[tactic(auto, unfolding(crate::specs::Services::is_run))]
-pub(crate) fn executes(k: &Kernel, at: u16) -> bool
+fn executes(k: &Kernel, at: u16) -> bool
     requires can { CanServe k.now }
     requires at { at ≡ descriptor_of k.now }
     ensures value { result ≡ is_run k.now }
@@ -307,7 +307,7 @@ pub(crate) fn descriptor(k: &Kernel) -> u16
 }
 
 /// The program's instruction at the descriptor's address.
-pub(crate) fn called_instruction(k: &Kernel, at: u16) -> Instr
+fn called_instruction(k: &Kernel, at: u16) -> Instr
     requires at { at ≡ descriptor_of k.now }
     requires called { IsCalled k.now }
     ensures value { instruction k.now ≡ Some result }

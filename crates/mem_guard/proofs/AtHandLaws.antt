@@ -5,6 +5,7 @@ use Rattle.avr_exec.specs.Registers.{is_own}
 use Rattle.avr_exec.specs.Spaces.{Went}
 use Rattle.sram_layout.specs.Bytes.{byte_at, with_byte}
 use Rattle.flat_machine.specs.Addresses.{is_stack, is_heap}
+use Rattle.flat_machine.proofs.ClassLaws.{class_stack}
 use Rattle.flat_machine.specs.declared.address.AddrClass.{AddrClass}
 use Rattle.flat_machine.specs.declared.address.AddrClass.TheVariants.{Register, Cpu, Stack, Heap, Io}
 use Rattle.flat_machine.specs.Classes.{class_of}
@@ -28,13 +29,6 @@ apart_by true cpu stack heap is = absurd (let no : false ≡ true = is in cc)
 apart_by false true stack heap is = absurd (let no : false ≡ true = is in cc)
 apart_by false false stack heap is = refl
 
-stack_by : (register cpu stack heap : Bool) → pick register cpu stack heap ≡ Stack → stack ≡ true
-stack_by true cpu stack heap is = absurd (cc)
-stack_by false true stack heap is = absurd (cc)
-stack_by false false true heap is = refl
-stack_by false false false true is = absurd (cc)
-stack_by false false false false is = absurd (cc)
-
 heap_by : (register cpu stack heap : Bool) → pick register cpu stack heap ≡ Heap → stack ≡ false
 heap_by true cpu stack heap is = absurd (cc)
 heap_by false true stack heap is = absurd (cc)
@@ -44,10 +38,6 @@ heap_by false false false heap is = refl
 outside_of : (a : ℕ) (c : AddrClass) → class_of a ≡ c → kept c ≡ true → is_own a ≡ false
 unfolding class_of
 outside_of a c is keeps = apart_by (nat_lt a 0x20) (nat_le 0x5D a && nat_le a 0x5F) (is_stack a) (is_heap a) (ap kept is ∙ keeps)
-
-in_stack : (a : ℕ) → class_of a ≡ Stack → is_stack a ≡ true
-unfolding class_of
-in_stack a is = stack_by (nat_lt a 0x20) (nat_le 0x5D a && nat_le a 0x5F) (is_stack a) (is_heap a) is
 
 in_heap : (a : ℕ) → class_of a ≡ Heap → is_stack a ≡ false
 unfolding class_of
@@ -78,7 +68,7 @@ unfolding store stored_at_hand
 stores_stack m a v is = record {
   outside = outside_of a Stack is refl;
   stores = λ g same paged. ap (λ c. store_in c g a v) is ∙ ap (λ n. Went tt (record g { sram = with_byte n a v })) same
-      ∙ ap (λ b. Went tt (record g { sram = if b then with_byte m a v else stored_in_frame m a v })) (sym (in_stack a is));
+      ∙ ap (λ b. Went tt (record g { sram = if b then with_byte m a v else stored_in_frame m a v })) (sym (class_stack a is));
 }
 
 pub stores_heap : (m : List ℕ) (a v : ℕ) → class_of a ≡ Heap → ((w : List (List ℕ)) → IsPaged m w → heap_store (store_of m w) a v ≡ Some (store_of (stored_in_frame m a v) w)) → StoresAtHand m a v
@@ -93,7 +83,7 @@ stores_heap m a v is hit = record {
 -- SRAM after a store, by the class
 pub stack_after : (m : List ℕ) (a v : ℕ) → class_of a ≡ Stack → with_byte m a v ≡ stored_at_hand m a v
 unfolding stored_at_hand
-stack_after m a v is = ap (λ b. if b then with_byte m a v else stored_in_frame m a v) (sym (in_stack a is))
+stack_after m a v is = ap (λ b. if b then with_byte m a v else stored_in_frame m a v) (sym (class_stack a is))
 
 pub heap_after : (m : List ℕ) (a v : ℕ) → class_of a ≡ Heap → stored_in_frame m a v ≡ stored_at_hand m a v
 unfolding stored_at_hand

@@ -18,3 +18,4 @@ mod PatchLaws
 pub mod WalkLaws
 mod CountLaws
 mod DecodedLaws
+mod OwnLaws

@@ -11,8 +11,9 @@ ghost use Rattle.nat_page.specs.Links.{IsUnresolved};
 ghost use Rattle.nat_page.specs.Used.{used_pages};
 ghost use Rattle.nat_page.specs.Making.{HasNoEntry, IsPrepared, NaturalisesIn};
 
-use crate::drafting::draft_of;
+use crate::drafting::draft_run;
 use flash_model::{Flash, Layout, PAGE_WORDS};
+use page_draft::Draft;
 use page_index::known_offsets;
 
 /// Why no page was made.
@@ -104,7 +105,8 @@ pub fn prepare_with(
     ensures only { (words : List ℕ) → (place : ℕ) → IsPrepared layout.now (image_of layout.now flash.now.words) flash.now.words page t words place
         → (words ≡ result.words) × (place ≡ result.place) }
 {
-    let draft = draft_of(flash, layout, known, t);
+    let mut draft = Draft::new();
+    draft_run(flash, layout, known, t, &mut draft);
     Prepared {
         words: draft.words(t),
         place: PAGE_WORDS * page + 2 + draft.entries.len() as u16,

@@ -1,2 +1,3 @@
--- What a cursor knows of the pool.
+-- What a cursor knows of places.
+pub mod Marks
 pub mod Cursors

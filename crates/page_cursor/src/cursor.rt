@@ -1,79 +1,71 @@
-//! The search for a place, for control that mostly goes on within one page, or comes again.
+//! The original address of a place, for control that mostly comes where it was before.
 
-ghost use Rattle.std.specs.Prelude.{◌≡◌, ℕ, ◌%◌, true, IfSome};
+ghost use Rattle.std.specs.Prelude.{◌≡◌, ℕ, ◌/◌, ◌<◌, true, false, IfOk, IfSome};
 ghost use Rattle.flash_words.specs.Layouts.{IsRight};
+ghost use Rattle.page_index.specs.Maps.{IsPool, IsMap, entry_count};
 ghost use Rattle.page_index.specs.Entries.{IsEntry, IsMapped};
-ghost use Rattle.page_cursor.specs.Cursors.{IsStretch, IsCursor, IsCursorAnywhere, IsPassed};
+ghost use Rattle.page_cursor.specs.Marks.{IsNoted, IsQuietIn, KeepsOthers};
+ghost use Rattle.page_cursor.specs.Cursors.{AreNoted, IsCursor, IsCursorAnywhere, IsPassed};
 
-use crate::stretch::Stretch;
-use flash_model::{Flash, KERNEL_FIRST, Layout};
-use page_index::Places;
+use crate::marks::Marks;
+use flash_model::{Flash, KERNEL_FIRST, Layout, MOST_IMAGE_WORDS, PAGE_WORDS};
+use page_index::{Places, address_at, entries, is_free, is_in_pool, place_at};
+use std::alloc::{AllocError, Global};
 
-/// How many entries are kept.
-const KEPT: usize = 1024;
+/// How many addresses an image has at most.
+const ADDRESSES: usize = MOST_IMAGE_WORDS as usize;
 
-/// An entry that control has reached.
-#[derive(Clone, Copy)]
-struct Reached {
-    /// The original address.
-    address: u16,
-    /// The stretch that begins at the entry's place.
-    stretch: Stretch,
-}
-
-/// Where the last search was, and how far behind it no other entry begins; and in slots, by the last bits of their
-/// places, entries that were reached before. [`Cursor::origin`] answers as [`origin`] does: without a search
-/// inside a template, where control goes on to the next entry of the page, and at an entry that is kept. A
-/// cursor is right for one state of flash; where flash has changed, let it forget.
+/// For each place whether an entry begins there, and of which address, once control was in its page. [`Cursor::origin`]
+/// answers as [`origin`] does, and reads the map of a page where nothing is known of the place. A cursor is right for one
+/// state of flash; where flash has changed, let it forget.
 ///
 /// [`origin`]: page_index::origin
-#[derive(Clone, Copy)]
+#[derive(Drop)]
 pub struct Cursor {
-    /// The last search. It is taken from a slot at once, with the address, which nothing asks for here.
-    now: Reached,
-    /// For each slot the place of the entry that it keeps. One whose place is of another slot keeps none.
-    kept: [u16; 1024],
-    /// For each slot what it keeps.
-    reached: [Reached; 1024],
+    /// What is known of places.
+    marks: Marks,
+    /// For each original address the place of its entry that was read last, in whatever state of flash. What is known of
+    /// the place tells whether it is one still.
+    placed: [u16; ADDRESSES],
     /// Where entries of original addresses were seen last, in whatever state of flash.
     pub places: Places,
 }
 
 impl Cursor {
     /// A cursor that knows nothing yet.
+    #[inline(always)]
     pub fn new() -> Cursor
         ensures right { IsCursorAnywhere result }
     {
-        let none = Reached {
-            address: 0,
-            stretch: Stretch::new(),
-        };
-        let mut cursor = Cursor {
-            now: none,
-            kept: [0; KEPT],
-            reached: [none; KEPT],
+        Cursor {
+            marks: Marks::new(),
+            placed: [0; ADDRESSES],
             places: Places::new(),
-        };
-        cursor.forget();
-        cursor
+        }
     }
 
-    /// Forgets all that it knows, in less time than a new one is made.
+    /// The same on the heap, since it is large. Not inlined, so that it is made there alone.
+    #[inline(never)]
+    pub fn boxed(alloc: Global) -> Result<Box<Cursor>, AllocError>
+        ensures right { IfOk result (λ cursor. IsCursorAnywhere cursor.value) }
+    {
+        let cursor = Box::new(alloc, Cursor::new())?;
+        Ok(cursor)
+    }
+
+    /// Forgets all that it knows of places, in less time than a new one is made.
     pub fn forget(&mut self)
         ensures right { IsCursorAnywhere self.new }
     {
-        self.now.stretch = Stretch::new();
-        self.kept = [0; KEPT];
-        // Place 0 is of this slot.
-        self.kept[0] = 1;
+        self.marks.forget();
     }
 
-    /// Whether the place is one of those that the last search has found to be none where an entry begins.
+    /// Whether it is known that no entry begins at this place, and that it is none of the kernel's words.
     #[inline(always)]
     pub fn passes(&self, place: u16) -> bool
         ensures passed { result ≡ true → IsPassed self.entry.now place }
     {
-        self.now.stretch.place < place && place < self.now.stretch.next
+        self.marks.is_quiet(place)
     }
 
     /// The original address whose code begins at this place, a word address of flash; None where that
@@ -87,26 +79,11 @@ impl Cursor {
         ensures only { (t : ℕ) → IsEntry layout.now flash.now.words t place → result ≡ Some t }
         ensures cursor { IsCursor layout.now flash.now.words self.new }
     {
+        if let Some(address) = self.marks.address(place) {
+            return Some(address);
+        }
         if self.passes(place) {
             return None;
-        }
-        self.reached(flash, layout, place)
-    }
-
-    /// [`Cursor::origin`], for a place that most likely isn't passed.
-    #[inline(always)]
-    pub fn reached(&mut self, flash: &Flash, layout: &Layout, place: u16) -> Option<u16>
-        requires right { IsRight layout.now }
-        requires mapped { IsMapped layout.now flash.now.words }
-        requires cursor { IsCursor layout.now flash.now.words self.old }
-        ensures found { IfSome result (λ t. IsEntry layout.now flash.now.words t place) }
-        ensures only { (t : ℕ) → IsEntry layout.now flash.now.words t place → result ≡ Some t }
-        ensures cursor { IsCursor layout.now flash.now.words self.new }
-    {
-        let at = slot(place);
-        if self.kept[at] == place {
-            self.now = self.reached[at];
-            return Some(self.now.address);
         }
         // No entry begins in the kernel's words.
         if place >= KERNEL_FIRST {
@@ -115,30 +92,40 @@ impl Cursor {
         self.find(flash, layout, place)
     }
 
-    /// The address whose code begins at a place that isn't kept, by a walk of its page. An entry that is found is kept from then
-    /// on.
+    /// The same at a place of which nothing is known: its page is read.
     #[inline(never)]
     fn find(&mut self, flash: &Flash, layout: &Layout, place: u16) -> Option<u16>
         requires right { IsRight layout.now }
         requires mapped { IsMapped layout.now flash.now.words }
         requires cursor { IsCursor layout.now flash.now.words self.old }
+        requires low { place < 0xF000 }
         ensures found { IfSome result (λ t. IsEntry layout.now flash.now.words t place) }
         ensures only { (t : ℕ) → IsEntry layout.now flash.now.words t place → result ≡ Some t }
         ensures cursor { IsCursor layout.now flash.now.words self.new }
     {
-        let mut stretch = self.now.stretch;
-        let found = follow(&mut stretch, flash, layout, place);
-        if let Some(address) = found {
-            let at = slot(place);
-            self.kept[at] = place;
-            self.reached[at] = Reached { address, stretch };
-        }
-        self.now.stretch = stretch;
-        found
+        self.read_page(flash, layout, place / PAGE_WORDS);
+        self.marks.address(place)
     }
 
-    /// The place, a word address of flash, where the code of the original address `t` begins, if the hint at `t` leads
-    /// there. The last search was there then.
+    /// Reads the page's map, so that all of its places are known.
+    fn read_page(&mut self, flash: &Flash, layout: &Layout, page: u16)
+        requires right { IsRight layout.now }
+        requires mapped { IsMapped layout.now flash.now.words }
+        requires cursor { IsCursor layout.now flash.now.words self.old }
+        requires below_kernel { page < 480 }
+        ensures read { (t place : ℕ) → place / 128 ≡ page → IsEntry layout.now flash.now.words t place → IsNoted self.new.marks place t }
+        ensures cursor { IsCursor layout.now flash.now.words self.new }
+    {
+        self.marks.make_room();
+        self.marks.quiet_page(page);
+        if !is_code_page(flash, layout, page) {
+            return;
+        }
+        note_entries(&mut self.marks, &mut self.placed, flash, page);
+    }
+
+    /// The place, a word address of flash, where the code of the original address `t` begins, if that is known or the hint at
+    /// `t` leads there.
     #[inline(always)]
     pub fn go_to(&mut self, flash: &Flash, layout: &Layout, t: u16) -> Option<u16>
         requires right { IsRight layout.now }
@@ -147,36 +134,47 @@ impl Cursor {
         ensures found { IfSome result (λ v. IsEntry layout.now flash.now.words t v) }
         ensures cursor { IsCursor layout.now flash.now.words self.new }
     {
+        if usize::from(t) < ADDRESSES {
+            let place = self.placed[usize::from(t)];
+            if self.marks.has(place, t) {
+                return Some(place);
+            }
+        }
         match self.places.hinted(flash, layout, t) {
             None => None,
-            Some(listed) => {
-                self.now.stretch = Stretch::at(flash, layout, listed.word, listed.place);
-                Some(listed.place)
-            }
+            Some(listed) => Some(listed.place),
         }
     }
 }
 
-/// The slot of an entry at this place.
-#[inline(always)]
-fn slot(place: u16) -> usize
-    ensures slot { result ≡ place % 1024 }
-{
-    place as usize % KEPT
-}
-
-/// The next entry of the page, or what a search finds.
-fn follow(stretch: &mut Stretch, flash: &Flash, layout: &Layout, place: u16) -> Option<u16>
+/// Whether the page is one of the pool that isn't free.
+fn is_code_page(flash: &Flash, layout: &Layout, page: u16) -> bool
     requires right { IsRight layout.now }
     requires mapped { IsMapped layout.now flash.now.words }
-    requires stretch { IsStretch layout.now flash.now.words stretch.old }
-    ensures found { IfSome result (λ t. IsEntry layout.now flash.now.words t place) }
-    ensures only { (t : ℕ) → IsEntry layout.now flash.now.words t place → result ≡ Some t }
-    ensures stretch { IsStretch layout.now flash.now.words stretch.new }
-    ensures place { IfSome result (λ _. stretch.new.place ≡ place) }
+    ensures map { result ≡ true → IsPool layout.now page × IsMap flash.now.words page }
+    ensures none { result ≡ false → (t place : ℕ) → place / 128 ≡ page → ¬ IsEntry layout.now flash.now.words t place }
 {
-    if stretch.listed != 0 && place == stretch.next {
-        return Some(stretch.go_on(flash, layout));
+    if !is_in_pool(layout, page) {
+        return false;
     }
-    stretch.search(flash, layout, place)
+    if is_free(flash, page) {
+        return false;
+    }
+    true
+}
+
+/// Notes all entries of the page, where it was noted that none begins.
+fn note_entries(marks: &mut Marks, placed: &mut [u16; ADDRESSES], flash: &Flash, page: u16)
+    requires below_kernel { page < 480 }
+    requires map { IsMap flash.now.words page }
+    requires quiet { IsQuietIn marks.old page }
+    ensures noted { AreNoted flash.now.words marks.new page (entry_count flash.now.words page) }
+    ensures others { KeepsOthers marks.old marks.new page }
+{
+    'entries: for i in 0..entries(flash, page) {
+        let place = place_at(flash, page, i);
+        let address = address_at(flash, page, i);
+        marks.note(place, address);
+        placed[usize::from(address)] = place;
+    }
 }

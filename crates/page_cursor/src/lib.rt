@@ -1,10 +1,10 @@
-//! The search for the original address of a place, which keeps what it found.
+//! Which original address a place is of, without a search where control was before.
 //!
-//! A [`Cursor`] answers as [`page_index::origin`] does, and keeps what was found at places, for one state of flash, since
-//! control mostly goes on within one page, or comes again. `specs/Cursors` says what it knows.
+//! A [`Cursor`] answers as [`page_index::origin`] does. It reads the map of a page once, where control first comes there, and
+//! keeps for each place what it has found, for one state of flash. `specs/Cursors` says what it knows.
 #![tactic(auto)]
 
 mod cursor;
-mod stretch;
+mod marks;
 
 pub use cursor::Cursor;

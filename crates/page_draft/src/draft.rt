@@ -1,6 +1,6 @@
 //! The page of a run, while the run is read.
 
-ghost use Rattle.std.specs.Prelude.{◌≡◌, ◌+◌, ◌-◌, ◌<◌, ◌≤◌, ◌++◌, [], All, length, map};
+ghost use Rattle.std.specs.Prelude.{◌≡◌, ◌+◌, ◌-◌, ◌*◌, ◌%◌, ◌<◌, ◌≤◌, ◌∷◌, ◌++◌, [], All, length, map};
 ghost use Rattle.arrayvec.specs.ArrayVec.{array_vec_len};
 ghost use Rattle.flash_words.specs.Layouts.{most_entries};
 ghost use Rattle.nat_template.specs.declared.piece.Piece.TheVariants.{Fixed};
@@ -56,6 +56,21 @@ impl Draft {
         self.entries.push(256 * (here.pc % PAGE_WORDS) + self.size);
         add_code(&mut self.code, here);
         self.size += here.code_size;
+    }
+
+    /// Adds an instruction that has its own word for a template.
+    #[inline(always)]
+    pub fn add_word(&mut self, pc: u16, word: u16)
+        requires entries { array_vec_len self.old.entries < most_entries }
+        requires sized { self.old.size ≡ size_of self.old.code.items }
+        requires room { self.old.size + 1 ≤ 128 }
+        ensures entries { self.new.entries.items ≡ self.old.entries.items ++ (256 * (pc % 128) + self.old.size) ∷ [] }
+        ensures code { self.new.code.items ≡ self.old.code.items ++ Fixed word ∷ [] }
+        ensures size { self.new.size ≡ self.old.size + 1 }
+    {
+        self.entries.push(256 * (pc % PAGE_WORDS) + self.size);
+        self.code.push(Piece::Fixed(word));
+        self.size += 1;
     }
 
     /// Adds the closing of the last instruction.

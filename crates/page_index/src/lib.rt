@@ -6,7 +6,8 @@
 //! of an original address, [`origin`] the original address of a place, and [`free_page`] the lowest
 //! page that is free. Nothing has to be kept beside flash: each search reads the maps themselves, of the pages that
 //! flash tells by their first words where these decide.
-//! [`known_offsets`] tells of all addresses of one original page at once whether they have entries. [`Places`] keeps
+//! [`known_offsets`] tells of all addresses of one original page at once whether they have entries, and [`unmark_offsets`]
+//! takes those of one page out of what it told. [`Places`] keeps
 //! hints at entries, for any state of flash, and gives a [`Survey`] where an address has none. Of one page, which is
 //! free or has a map whatever the others hold, [`is_free`], [`entries`], [`address_at`], [`place_at`] and [`place_in`]
 //! tell what its map says.
@@ -23,7 +24,7 @@ mod places;
 mod pool;
 mod survey;
 
-pub use page::{address_at, entries, is_free, place_at, place_in};
+pub use page::{address_at, entries, is_free, place_at, place_in, unmark_offsets};
 pub use places::{Listed, Places};
 pub use pool::{entry, free_page, is_in_pool, known_offsets, origin};
 pub use survey::Survey;

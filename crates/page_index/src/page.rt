@@ -84,6 +84,25 @@ pub(crate) fn mark_offsets(flash: &Flash, page: u16, original: u16, known: &mut 
     }
 }
 
+/// Takes the marks off the offsets of this page's entries, where it is of this original page.
+pub fn unmark_offsets(flash: &Flash, page: u16, original: u16, known: &mut [bool; 128])
+    requires below_kernel { page < 480 }
+    requires mapped { IsFree flash.now.words page ⊎ IsMap flash.now.words page }
+    requires original { original < page_count }
+    ensures size { length known.new ≡ length known.old }
+    ensures only { (k : ℕ) → slice_index_or known.new k false ≡ true → slice_index_or known.old k false ≡ true }
+    ensures unmarked { (k i v : ℕ) → k < 128 → Lists flash.now.words page i (128 * original + k) v → slice_index_or known.new k false ≡ false }
+    ensures kept { (k : ℕ) → k < 128 → slice_index_or known.old k false ≡ true
+        → (slice_index_or known.new k false ≡ true) ⊎ ((i : ℕ) × (v : ℕ) × Lists flash.now.words page i (128 * original + k) v) }
+{
+    if word(flash, page, 0) != original {
+        return;
+    }
+    'entries: for i in 0..entries(flash, page) {
+        known[map_entry(flash, page, i).offset as usize] = false;
+    }
+}
+
 /// The original address whose place is this, where this page has such an entry.
 pub(crate) fn address_in(flash: &Flash, page: u16, place: u16) -> Option<u16>
     requires below_kernel { page < 480 }

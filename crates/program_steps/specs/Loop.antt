@@ -6,15 +6,11 @@ use Rattle.std.specs.Prelude.{◌≡◌, ◌≢◌, ℕ, ◌+◌, ◌<◌, ◌�
 use Rattle.std.specs.Option.{option_or}
 use Rattle.mote_devices.specs.declared.line.Line.{Line}
 use Rattle.page_index.specs.Entries.{IsEntry}
-use Rattle.page_cursor.specs.Cursors.{IsPassed}
-use Rattle.page_cursor.specs.declared.cursor.Cursor.{Cursor}
 use Rattle.branch_bridge.specs.declared.arrival.Refused.{Refused}
 use Rattle.branch_bridge.specs.declared.through.Arrival.{Arrival}
 use Rattle.branch_bridge.specs.Arrivals.{KeptThrough, KeepsParts}
 use Rattle.kernel_entry.specs.declared.kernel.Owed.{Owed}
 use Rattle.program_steps.specs.declared.progress.Progress.{Progress}
-use Rattle.program_steps.specs.declared.moves.Led.{Led}
-use Rattle.program_steps.specs.declared.moves.Led.TheVariants.{Inside, Onward}
 use Rattle.program_steps.specs.Machines.{Machine, state_of, numbers_of}
 use Rattle.program_steps.specs.Ready.{IsGoing}
 use Rattle.program_steps.specs.Interrupts.{IsUntaken}
@@ -81,11 +77,6 @@ pub data IsHalted (m : Machine) : Type 0 where
 abbrev pub Halts : Machine → Bool → Type 0
 Halts m true = IsHalted m
 Halts m false = (m.owed ≡ None) × (m.end ≡ None)
-
--- where moves have led: control isn't with the kernel, and stands at this place, which the cursor passes, or may not
-abbrev pub HasLed : Machine → Cursor → Led → Type 0
-HasLed m cursor (Inside pc) = (pc ≡ m.kernel.mote.cpu.pc) × Halts m false × IsPassed cursor pc
-HasLed m cursor (Onward pc) = (pc ≡ m.kernel.mote.cpu.pc) × Halts m false
 
 -- where control stands at the end of a step: at the code of this address, or with the kernel
 abbrev pub HasReached : Machine → Option ℕ → Type 0

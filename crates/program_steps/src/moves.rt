@@ -5,7 +5,7 @@ ghost use Rattle.std.specs.Option.{option_or};
 ghost use Rattle.flash_words.specs.Layouts.{IsRight};
 ghost use Rattle.page_cursor.specs.Cursors.{IsCursor};
 ghost use Rattle.program_steps.specs.Machines.{Machine, state_of, numbers_of};
-ghost use Rattle.program_steps.specs.Loop.{CanPlain, HasPlain, CanServeNow, HasServed, IsUnderway, IsFurther, HasLed, Halts, is_small, moves_made};
+ghost use Rattle.program_steps.specs.Loop.{CanPlain, HasPlain, CanServeNow, HasServed, IsUnderway, IsFurther, Halts, is_small, moves_made};
 ghost use Rattle.program_steps.specs.Wholes.{whole, entered};
 
 use crate::progress::Progress;
@@ -14,19 +14,10 @@ use kernel_entry::{End, Kernel, Owed, Served, resume_at_once, return_at_once, se
 use mote_devices::Line;
 use page_cursor::Cursor;
 
-/// Where moves have led, with the pc.
-#[derive(Clone, Copy)]
-pub(crate) enum Led {
-    /// To a place that the cursor passes.
-    Inside(u16),
-    /// To any other, where an entry may begin.
-    Onward(u16),
-}
-
-/// Plain steps where the pc, which is `pc`, is in the pool, up to where an entry may begin; else a service. Tells where they
-/// led; None where an arrival is owed now, or the program has stopped.
+/// Moves on from a place where no entry begins, up to one where an entry may begin: by a service, where the pc, which is `pc`,
+/// is the kernel's, and by plain steps. Tells the new pc; None where an arrival is owed now, or the program has stopped.
 #[inline(always)]
-pub(crate) fn some_moves(k: &mut Kernel, p: &mut Progress, cursor: &Cursor, pc: u16) -> Option<Led>
+pub(crate) fn more_moves(k: &mut Kernel, p: &mut Progress, cursor: &Cursor, pc: u16) -> Option<u16>
     requires at { pc ≡ k.old.mote.cpu.pc }
     requires untorn { p.old.torn ≡ None }
     requires right { IsRight k.old.layout }
@@ -34,29 +25,28 @@ pub(crate) fn some_moves(k: &mut Kernel, p: &mut Progress, cursor: &Cursor, pc: 
     requires cursor { IsCursor k.old.layout k.old.mote.flash.words cursor.now }
     ensures further { (begun : Machine) → IsUnderway begun (whole k.old p.old) p.old.line → IsFurther begun (whole k.new p.new) p.new.line }
     ensures more { moves_made (whole k.old p.old) < moves_made (whole k.new p.new) }
-    ensures on { IfSome result (HasLed (whole k.new p.new) cursor.entry.now) }
+    ensures on { IfSome result (λ pc. (pc ≡ k.new.mote.cpu.pc) × Halts (whole k.new p.new) false) }
     ensures over { IfNone result (Halts (whole k.new p.new) true) }
     ensures flash { k.new.mote.flash ≡ k.old.mote.flash }
     ensures layout { k.new.layout ≡ k.old.layout }
     ensures torn { p.new.torn ≡ p.old.torn }
 {
     if pc < KERNEL_FIRST {
-        return Some(Led::Onward(plain_steps(k, p, cursor, pc)));
+        return Some(plain_steps(k, p, cursor, pc));
     }
     if service(k, p) {
         return None;
     }
-    let pc = k.mote.cpu.pc;
-    if cursor.passes(pc) {
-        Some(Led::Inside(pc))
-    } else {
-        Some(Led::Onward(pc))
+    let behind = k.mote.cpu.pc;
+    if !cursor.passes(behind) {
+        return Some(behind);
     }
+    Some(plain_steps(k, p, cursor, behind))
 }
 
 /// Plain steps from the instruction at the pc on, up to where an entry may begin. Tells the new pc.
 #[inline(always)]
-fn plain_steps(k: &mut Kernel, p: &mut Progress, cursor: &Cursor, pc: u16) -> u16
+pub(crate) fn plain_steps(k: &mut Kernel, p: &mut Progress, cursor: &Cursor, pc: u16) -> u16
     requires at { pc ≡ k.old.mote.cpu.pc }
     requires low { pc < 0xF000 }
     requires underway { (begun : Machine) × IsUnderway begun (whole k.old p.old) p.old.line }

@@ -1,6 +1,7 @@
 //! Steps of the program: each from one entry of its code to the next, or to the kernel.
 
-ghost use Rattle.std.specs.Prelude.{◌≡◌, ◌≢◌, ℕ, ◌+◌, ◌<◌, ◌≤◌, ◌^◌, true, false, None, IfSome, IfNone};
+ghost use Rattle.std.specs.Prelude.{◌≡◌, ◌≢◌, ℕ, ◌+◌, ◌<◌, ◌≤◌, ◌^◌, false, None, IfSome, IfNone};
+ghost use Rattle.std.specs.Option.{option_map};
 ghost use Rattle.flash_words.specs.Layouts.{IsRight};
 ghost use Rattle.page_index.specs.Entries.{IsEntry, IsMapped};
 ghost use Rattle.page_cursor.specs.Cursors.{IsCursor};
@@ -16,7 +17,7 @@ ghost use Rattle.program_steps.specs.Several.{HasFollowed, HasDone};
 ghost use Rattle.program_steps.specs.Wholes.{whole};
 
 use crate::arrival::{arrive_between_steps, is_followed};
-use crate::moves::{Led, some_moves};
+use crate::moves::{more_moves, plain_steps};
 use crate::progress::Progress;
 use kernel_entry::Kernel;
 use mote_devices::Devices;
@@ -68,32 +69,53 @@ fn undue_steps(k: &mut Kernel, p: &mut Progress, cursor: &mut Cursor, most: u64)
     p.line = None;
     let begin = p.steps;
     let end = begin + most;
+    let mut pc = k.mote.cpu.pc;
     'steps: loop {
-        let goes_on = step(k, p, cursor);
-        if !follows(k, p, cursor, goes_on, end) {
-            return steps_since(begin, p);
+        let led = step(k, p, cursor, pc);
+        match followed(k, p, cursor, led, end) {
+            Some(place) => pc = place,
+            None => return steps_since(begin, p),
         }
     }
 }
 
-/// Whether the next step may follow: there are fewer than so many, this one wrote no line, and it has led to an entry, or
-/// to an arrival, which is made then. If not, nothing is done.
+/// The place from where the next step may follow, behind one that has led to such an entry, or to an arrival, which is made
+/// then: there are fewer than so many, and this one wrote no line. If none may, nothing is done.
 #[inline(always)]
-fn follows(k: &mut Kernel, p: &mut Progress, cursor: &mut Cursor, goes_on: bool, end: u64) -> bool
+fn followed(
+    k: &mut Kernel,
+    p: &mut Progress,
+    cursor: &mut Cursor,
+    led: Option<u16>,
+    end: u64,
+) -> Option<u16>
     requires going { p.old.end ≡ None → IsGoing (whole k.old p.old) × IsQuiet (whole k.old p.old) }
     requires ended { p.old.end ≢ None → p.old.owed ≡ None }
-    requires reached { goes_on ≡ true → (p.old.owed ≡ None) × (p.old.end ≡ None) × (p.old.due ≡ false) }
+    requires led { IfSome led (λ pc. (pc ≡ k.old.mote.cpu.pc) × (p.old.owed ≡ None) × (p.old.end ≡ None) × (p.old.due ≡ false)) }
     requires cursor { IsCursor k.old.layout k.old.mote.flash.words cursor.old }
-    ensures followed { result ≡ true → HasFollowed (whole k.old p.old) (whole k.new p.new) }
-    ensures fewer { result ≡ true → p.old.steps < end }
-    ensures silent { result ≡ true → (p.old.line ≡ None) × (p.new.line ≡ None) }
-    ensures none { result ≡ false → (k.new ≡ k.old) × (p.new ≡ p.old) }
+    ensures followed { IfSome result (λ _. HasFollowed (whole k.old p.old) (whole k.new p.new)) }
+    ensures pc { IfSome result (λ pc. pc ≡ k.new.mote.cpu.pc) }
+    ensures fewer { IfSome result (λ _. p.old.steps < end) }
+    ensures silent { IfSome result (λ _. (p.old.line ≡ None) × (p.new.line ≡ None)) }
+    ensures none { IfNone result ((k.new ≡ k.old) × (p.new ≡ p.old)) }
     ensures cursor { IsCursor k.new.layout k.new.mote.flash.words cursor.new }
 {
-    if goes_on {
-        return is_followed(p, end);
+    match led {
+        Some(place) => {
+            if is_followed(p, end) {
+                Some(place)
+            } else {
+                None
+            }
+        }
+        None => {
+            if arrive_between_steps(k, p, cursor, end) {
+                Some(k.mote.cpu.pc)
+            } else {
+                None
+            }
+        }
     }
-    arrive_between_steps(k, p, cursor, end)
 }
 
 /// How many steps there were since so many were counted. One that stopped the program isn't counted.
@@ -111,9 +133,11 @@ fn steps_since(begin: u64, p: &Progress) -> u64
     }
 }
 
-/// One whole step of the program. Tells whether it has led to an entry, so that the next may follow.
+/// One whole step of the program, from the entry at `pc`, where control is. Tells the place of the entry that it has led to,
+/// if it has, so that the next may follow.
 #[inline(always)]
-fn step(k: &mut Kernel, p: &mut Progress, cursor: &mut Cursor) -> bool
+fn step(k: &mut Kernel, p: &mut Progress, cursor: &mut Cursor, pc: u16) -> Option<u16>
+    requires at { pc ≡ k.old.mote.cpu.pc }
     requires ready { IsGoing (whole k.old p.old) }
     requires placed { p.old.owed ≡ None }
     requires steps { p.old.steps < 2 ^ 50 }
@@ -121,27 +145,28 @@ fn step(k: &mut Kernel, p: &mut Progress, cursor: &mut Cursor) -> bool
     requires silent { p.old.line ≡ None }
     requires cursor { IsCursor k.old.layout k.old.mote.flash.words cursor.old }
     ensures stepped { HasStepped (whole k.old p.old) (whole k.new p.new) p.new.line }
-    ensures reached { result ≡ true → (p.new.owed ≡ None) × (p.new.end ≡ None) × (p.new.due ≡ false) }
+    ensures reached { IfSome result (λ pc. (pc ≡ k.new.mote.cpu.pc) × (p.new.owed ≡ None) × (p.new.end ≡ None) × (p.new.due ≡ false)) }
     ensures ended { p.new.end ≢ None → p.new.owed ≡ None }
     ensures cursor { IsCursor k.new.layout k.new.mote.flash.words cursor.new }
 {
     keeps_timely(&k.mote.devices);
-    match all_moves(k, p, cursor) {
-        Some(t) => {
-            settle(p, Some(t));
-            true
+    match all_moves(k, p, cursor, pc) {
+        Some(reached) => {
+            settle(p, Some(reached.1));
+            Some(reached.0)
         }
         None => {
             settle(p, None);
-            false
+            None
         }
     }
 }
 
-/// The moves of one step, from the entry where control stands. Tells the original address whose code control
-/// has reached; None where an arrival is owed or the program has stopped.
+/// The moves of one step, from the entry at `pc`, where control stands. Tells the place of the entry that control has reached,
+/// and the original address whose code begins there; None where an arrival is owed or the program has stopped.
 #[inline(always)]
-fn all_moves(k: &mut Kernel, p: &mut Progress, cursor: &mut Cursor) -> Option<u16>
+fn all_moves(k: &mut Kernel, p: &mut Progress, cursor: &mut Cursor, pc: u16) -> Option<(u16, u16)>
+    requires at { pc ≡ k.old.mote.cpu.pc }
     requires untorn { p.old.torn ≡ None }
     requires right { IsRight k.old.layout }
     requires mapped { IsMapped k.old.layout k.old.mote.flash.words }
@@ -151,25 +176,20 @@ fn all_moves(k: &mut Kernel, p: &mut Progress, cursor: &mut Cursor) -> Option<u1
     requires silent { p.old.line ≡ None }
     requires cursor { IsCursor k.old.layout k.old.mote.flash.words cursor.old }
     ensures taken { HasTaken (whole k.old p.old) (whole k.new p.new) p.new.line }
-    ensures reached { HasReached (whole k.new p.new) result }
+    ensures reached { HasReached (whole k.new p.new) (option_map (λ reached. reached.1) result) }
+    ensures place { IfSome result (λ reached. reached.0 ≡ k.new.mote.cpu.pc) }
     ensures flash { k.new.mote.flash ≡ k.old.mote.flash }
     ensures layout { k.new.layout ≡ k.old.layout }
     ensures torn { p.new.torn ≡ p.old.torn }
     ensures cursor { IsCursor k.new.layout k.new.mote.flash.words cursor.new }
 {
     p.steps += 1;
-    let mut pc = k.mote.cpu.pc;
+    let mut pc = plain_steps(k, p, cursor, pc);
     'moves: loop {
-        match some_moves(k, p, cursor, pc)? {
-            Led::Inside(place) => {
-                pc = place;
-                continue 'moves;
-            }
-            Led::Onward(place) => pc = place,
-        }
         if let Some(t) = look(k, cursor, pc) {
-            return Some(t);
+            return Some((pc, t));
         }
+        pc = more_moves(k, p, cursor, pc)?;
     }
 }
 
@@ -184,7 +204,7 @@ fn look(k: &Kernel, cursor: &mut Cursor, pc: u16) -> Option<u16>
     ensures none { IfNone result ((t : ℕ) → ¬ IsEntry k.now.layout k.now.mote.flash.words t k.now.mote.cpu.pc) }
     ensures cursor { IsCursor k.now.layout k.now.mote.flash.words cursor.new }
 {
-    cursor.reached(&k.mote.flash, &k.layout, pc)
+    cursor.origin(&k.mote.flash, &k.layout, pc)
 }
 
 /// The numbers of the events to come fit 32 bits, as the devices' type keeps it; a read of their count tells so to the

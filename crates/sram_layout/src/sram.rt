@@ -53,7 +53,7 @@ impl Sram {
         ensures value { result ≡ byte_at self.now a }
         ensures size { length self.now ≡ byte_count }
     {
-        self.bytes[(a - SRAM_FIRST) as usize]
+        self.bytes[a as usize - SRAM_FIRST as usize]
     }
 
     /// Writes the byte at a data address.
@@ -63,7 +63,7 @@ impl Sram {
         ensures after { self.new ≡ with_byte self.old a v }
         ensures size { (length self.old ≡ byte_count) × (length self.new ≡ byte_count) }
     {
-        self.bytes[(a - SRAM_FIRST) as usize] = v;
+        self.bytes[a as usize - SRAM_FIRST as usize] = v;
     }
 
     /// Writes a return address as a call leaves it: its low byte at a data address, its high byte below.

@@ -1,5 +1,5 @@
 -- The acts of a walk, and what each of them is.
-use Rattle.std.proofs.Common.{◌≡◌, ◌≢◌, ℕ, ◌+◌, ◌/◌, ◌≤◌, Bool, true, false, ◌%◌, ◌-◌, slice_index, cond, List, [], ◌∷◌, length, Option, Some, None, refl, sym, ap, ◌∙◌, subst, arith, ◌⊎◌, ◌<◌, inl, inr, slice_set}
+use Rattle.std.proofs.Common.{◌≡◌, ◌≢◌, ℕ, ◌+◌, ◌/◌, ◌≤◌, Bool, true, false, nat_le, if◌then◌else◌, ◌%◌, ◌-◌, slice_index, cond, List, [], ◌∷◌, length, Option, Some, None, refl, sym, ap, ◌∙◌, subst, arith, ◌⊎◌, ◌<◌, inl, inr, slice_set}
 use Rattle.sram_layout.specs.Bytes.{byte_at, with_byte, data_word_at, with_word}
 use Rattle.flash_words.specs.declared.layout.Layout.{Layout}
 use Rattle.flash_words.specs.Layouts.{layout_of, image_of, IsRight}
@@ -19,7 +19,9 @@ use Rattle.mote_devices.specs.State.{State as Devices}
 use Rattle.mote_devices.specs.Waking.{wake}
 use Rattle.nat_template.specs.declared.shapes.TemplateShape.TheVariants.{SelfJump}
 use Rattle.nat_template.specs.Stubs.{quantum_entry, mem_entry, push_return_entry, return_entry, indirect_entry, self_entry, fault_entry}
-use Rattle.preempt_count.proofs.CountLaws.{byte_crossed}
+use Rattle.std.proofs.lemmas.Bool.Decides.{nat_tests}
+use Rattle.preempt_count.specs.Counting.{count_over}
+use Rattle.preempt_count.proofs.CountLaws.{byte_crossed, count_crossed}
 use Rattle.flash_words.specs.Memory.{Memory}
 use Rattle.page_index.specs.Entries.{IsEntry}
 use Rattle.nat_page.specs.Faithful.{IsFaithful}
@@ -49,7 +51,7 @@ use Rattle.avr_exec.specs.Asks.{ask_of}
 use Rattle.avr_exec.specs.Likeness.{Leaves as LeavesSpace}
 use Rattle.mem_guard.specs.Guarded.{Guarded}
 use Rattle.heap_frames.specs.Paged.{IsPaged}
-use Rattle.kernel_entry.specs.Seen.{View, view_of, view_by, space_of}
+use Rattle.kernel_entry.specs.Seen.{View, view_of, view_by, space_of, count_of}
 use Rattle.theorem_reader.specs.Memory.{HasMemory}
 use Rattle.theorem_reader.proofs.Holding.{has_memory}
 use Rattle.kernel_entry.specs.Parts.{virtual_sp, core_of, image_held, return_address, descriptor, instruction, rested}
@@ -116,31 +118,38 @@ at_an_entry k (AtIndirect at shape can count) = (omega (arith, at), omega (arith
 at_an_entry k (AtSelf at shape can count) = (omega (arith, at), omega (arith, at))
 at_an_entry k (AtFault at shape can) = (omega (arith, at), omega (arith, at))
 
+some_bytes : (m : List ℕ) → 1 ≤ byte_at m 0x0100 → 0 < length m
+unfolding byte_at
+some_bytes [] some = absurd (omega (arith, some))
+some_bytes (b ∷ m) some = omega arith
+
 -- FAULT: a SLEEP ends, or the program does
-slept_sleeps : (k : Kernel) (o : Option Devices) → wake k.mote.devices ≡ o → Sleeps k.mote (slept_by k o).1.mote
+slept_sleeps : (k : Kernel) (o : Option Devices) → 0 < length k.mote.sram → wake k.mote.devices ≡ o → Sleeps k.quantum k.mote (slept_by k o).1.mote
 unfolding byte_at
-slept_sleeps k None is = Stays refl
-slept_sleeps k (Some devices) is = Wakes devices is (λ a low. byte_crossed k.quantum (descriptor k) (wrapping_sum (descriptor k) 1) a k.mote.sram (omega (arith, low)) (λ e. omega (arith, e, low))) refl
+slept_sleeps k None some is = Stays refl
+slept_sleeps k (Some devices) some is =
+    let to = wrapping_sum (descriptor k) 1 in
+    Wakes devices is (λ a low. byte_crossed k.quantum (descriptor k) to a k.mote.sram (omega (arith, low)) (λ e. omega (arith, e, low))) refl (count_crossed k.quantum (descriptor k) to k.mote.sram some)
 
-slept_by_status : (k : Kernel) (b : Bool) → has_bit k.mote.cpu.sreg interrupts ≡ b → Sleeps k.mote (slept k).1.mote
-slept_by_status k true on = along (λ result new. Sleeps k.mote new.mote) (slept k) (slept_by k (wake k.mote.devices)) (slept_is k true on) (slept_sleeps k (wake k.mote.devices) refl)
-slept_by_status k false off = along (λ result new. Sleeps k.mote new.mote) (slept k) (Served.Stopped (Asleep (descriptor k)), rested k) (slept_is k false off) (Stays refl)
+slept_by_status : (k : Kernel) (b : Bool) → 0 < length k.mote.sram → has_bit k.mote.cpu.sreg interrupts ≡ b → Sleeps k.quantum k.mote (slept k).1.mote
+slept_by_status k true some on = along (λ result new. Sleeps k.quantum k.mote new.mote) (slept k) (slept_by k (wake k.mote.devices)) (slept_is k true on) (slept_sleeps k (wake k.mote.devices) some refl)
+slept_by_status k false some off = along (λ result new. Sleeps k.quantum k.mote new.mote) (slept k) (Served.Stopped (Asleep (descriptor k)), rested k) (slept_is k false off) (Stays refl)
 
-faulted_sleeps : (k : Kernel) (b : Bool) → is_sleep (instruction k) ≡ b → Sleeps k.mote (faulted k).1.mote
-faulted_sleeps k true is = along (λ result new. Sleeps k.mote new.mote) (faulted k) (slept k) (faulted_is k true is) (slept_by_status k _ refl)
-faulted_sleeps k false is = along (λ result new. Sleeps k.mote new.mote) (faulted k) (Served.Stopped (fault_of (descriptor k) (instruction k)), rested k) (faulted_is k false is) (Stays refl)
+faulted_sleeps : (k : Kernel) (b : Bool) → 0 < length k.mote.sram → is_sleep (instruction k) ≡ b → Sleeps k.quantum k.mote (faulted k).1.mote
+faulted_sleeps k true some is = along (λ result new. Sleeps k.quantum k.mote new.mote) (faulted k) (slept k) (faulted_is k true is) (slept_by_status k _ some refl)
+faulted_sleeps k false some is = along (λ result new. Sleeps k.quantum k.mote new.mote) (faulted k) (Served.Stopped (fault_of (descriptor k) (instruction k)), rested k) (faulted_is k false is) (Stays refl)
 
-sleeps_at : (k : Kernel) → k.mote.cpu.pc ≡ 0xF00E → Sleeps k.mote (served k).1.mote
-sleeps_at k at = along (λ result new. Sleeps k.mote new.mote) (served k) (faulted k) (at_entry k fault_entry at) (faulted_sleeps k _ refl)
+sleeps_at : (k : Kernel) → 0 < length k.mote.sram → k.mote.cpu.pc ≡ 0xF00E → Sleeps k.quantum k.mote (served k).1.mote
+sleeps_at k some at = along (λ result new. Sleeps k.quantum k.mote new.mote) (served k) (faulted k) (at_entry k fault_entry at) (faulted_sleeps k _ some refl)
 
-sleeping_core : (before after : Mote) → Sleeps before after → (after.cpu.pc ≡ before.cpu.pc) × (after.cpu.r ≡ before.cpu.r)
-sleeping_core before after (Stays is) = (ap (λ (m : Mote). m.cpu.pc) is, ap (λ (m : Mote). m.cpu.r) is)
-sleeping_core before after (Wakes devices wakes bytes is) = (ap (λ (m : Mote). m.cpu.pc) is, ap (λ (m : Mote). m.cpu.r) is)
+sleeping_core : (quantum : ℕ) (before after : Mote) → Sleeps quantum before after → (after.cpu.pc ≡ before.cpu.pc) × (after.cpu.r ≡ before.cpu.r)
+sleeping_core quantum before after (Stays is) = (ap (λ (m : Mote). m.cpu.pc) is, ap (λ (m : Mote). m.cpu.r) is)
+sleeping_core quantum before after (Wakes devices wakes bytes is count) = (ap (λ (m : Mote). m.cpu.pc) is, ap (λ (m : Mote). m.cpu.r) is)
 
-sleeping_cells : (before after : Mote) → Sleeps before after → (a : ℕ) → 0x0105 ≤ a → byte_at after.sram a ≡ byte_at before.sram a
+sleeping_cells : (quantum : ℕ) (before after : Mote) → Sleeps quantum before after → (a : ℕ) → 0x0101 ≤ a → byte_at after.sram a ≡ byte_at before.sram a
 unfolding byte_at
-sleeping_cells before after (Stays is) a low = ap (λ (m : Mote). slice_index m.sram (a - 0x0100)) is
-sleeping_cells before after (Wakes devices wakes bytes is) a low = bytes a (omega (arith, low))
+sleeping_cells quantum before after (Stays is) a low = ap (λ (m : Mote). slice_index m.sram (a - 0x0100)) is
+sleeping_cells quantum before after (Wakes devices wakes bytes is count) a low = bytes a low
 
 -- where the pc is behind a service
 abbrev PcAfter : Kernel → Kernel → Type 0
@@ -190,7 +199,7 @@ served_pc k (AtPushReturn at shape can) = let row = push_row k (AtPushReturn at 
 served_pc k (AtReturn at shape can count) = let row = return_row k (AtReturn at shape can count) at in inl (popped_pc k _ _ row.form _ row.does)
 served_pc k (AtIndirect at shape can count) = let row = indirect_row k (AtIndirect at shape can count) at in inl (through_pc k _ _ row.form row.does)
 served_pc k (AtSelf at shape can count) = inl (looped_pc k _ _ _ refl (self_entry_row k (AtSelf at shape can count) at))
-served_pc k (AtFault at shape can) = inl (sleeping_core k.mote (served k).1.mote (sleeps_at k at)).0
+served_pc k (AtFault at shape can) = inl (sleeping_core k.quantum k.mote (served k).1.mote (sleeps_at k (some_bytes k.mote.sram can.count.some) at)).0
 
 -- the registers behind the services from PUSHRET on
 stopped_r : (k new : Kernel) (result : Served) (stop : Stop) → HasStopped k result new stop → new.mote.cpu.r ≡ k.mote.cpu.r
@@ -224,83 +233,97 @@ served_r k (AtPushReturn at shape can) low = let row = push_row k (AtPushReturn 
 served_r k (AtReturn at shape can count) low = let row = return_row k (AtReturn at shape can count) at in popped_r k _ _ row.form _ row.does
 served_r k (AtIndirect at shape can count) low = let row = indirect_row k (AtIndirect at shape can count) at in through_r k _ _ row.form row.does
 served_r k (AtSelf at shape can count) low = looped_r k _ _ _ refl (self_entry_row k (AtSelf at shape can count) at)
-served_r k (AtFault at shape can) low = (sleeping_core k.mote (served k).1.mote (sleeps_at k at)).1
+served_r k (AtFault at shape can) low = (sleeping_core k.quantum k.mote (served k).1.mote (sleeps_at k (some_bytes k.mote.sram can.count.some) at)).1
 
 -- QUANTUM, as it changes the mote
-quantum_is : (k : Kernel) → k.mote.cpu.pc ≡ 0xF002 → (count : ℕ) × ((served k).1.mote ≡ record k.mote {
+quantum_is : (k : Kernel) → k.mote.cpu.pc ≡ 0xF002 → (served k).1.mote ≡ record k.mote {
   cpu = record k.mote.cpu { r = slice_set k.mote.cpu.r 24 (slice_index k.mote.sram 1); sreg = slice_index k.mote.sram 2; sp = 0x011F };
-  sram = slice_set k.mote.sram 0 count;
-})
+  sram = slice_set k.mote.sram 0 k.quantum;
+}
 unfolding byte_at with_byte
-quantum_is k at = (k.quantum, ap (λ (p : Served × Kernel). p.1.mote) (at_entry k quantum_entry at))
+quantum_is k at = ap (λ (p : Served × Kernel). p.1.mote) (at_entry k quantum_entry at)
 
 -- An instruction of the program is executed, over the memory that the program sees. The kernel's cells stay.
 record Ran (k new : Kernel) : Type 0 where
-  executes : Executes (image_held k) k.mote new.mote
-  cells : (a : ℕ) → 0x0105 ≤ a → a ≤ 0x011F → byte_at new.mote.sram a ≡ byte_at k.mote.sram a
+  executes : Executes (image_held k) k.quantum k.mote new.mote
+  cells : (a : ℕ) → 0x0101 ≤ a → a ≤ 0x011F → a ≢ 0x0103 → a ≢ 0x0104 → byte_at new.mote.sram a ≡ byte_at k.mote.sram a
+
+-- COUNT behind an instruction that led there
+abbrev CountBehind : Kernel → Bool → (to : ℕ) → ℕ
+CountBehind k stays to = if stays then count_of k else count_over k.quantum (descriptor k) to (count_of k)
 
 done_by : (k new : Kernel) (form : Form) (core : Cpu) (space : FlatSpace) → IsPaged k.mote.sram k.mote.swap → IsPaged new.mote.sram new.mote.swap → instruction k ≡ Some form → flatly k form ≡ Went core space → view_of new ≡ view_by core space
-    → Executes (image_held k) k.mote new.mote
+    → count_of new ≡ CountBehind k (nat_le k.mote.cpu.pc 0xF007) core.pc → Executes (image_held k) k.quantum k.mote new.mote
 unfolding byte_at data_word_at
-done_by k new form core space paged paged' is executed view =
+done_by k new form core space paged paged' is executed view count =
     Done form core (space_of k) space is (has_memory k.mote paged) refl refl executed (ap (λ (v : View). v.registers) view) (ap (λ (v : View). v.status) view) (ap (λ (v : View). v.stack_pointer) view)
-    (subst (HasMemory new.mote) (ap (λ (v : View). v.memory) view) (has_memory new.mote paged')) (ap (λ (v : View). v.devices) view)
+    (subst (HasMemory new.mote) (ap (λ (v : View). v.memory) view) (has_memory new.mote paged')) (ap (λ (v : View). v.devices) view) count
 
 resumes_by : (k new : Kernel) (result : Served) (form : Form) (ask : Ask) (outcome : Outcome FlatSpace Cpu) → IsPaged k.mote.sram k.mote.swap → IsPaged new.mote.sram new.mote.swap → instruction k ≡ Some form → flatly k form ≡ outcome
-    → ResumedBy k result new ask outcome → Executes (image_held k) k.mote new.mote
-resumes_by k new result form ask (Went core space) paged paged' is executed does = done_by k new form core space paged paged' is executed does.0.view
-resumes_by k new result form ask (Stopped stop) paged paged' is executed does = Ends (ap (λ (n : Kernel). n.mote) does.stays)
+    → nat_le k.mote.cpu.pc 0xF007 ≡ true → ResumedBy k result new ask outcome → Executes (image_held k) k.quantum k.mote new.mote
+resumes_by k new result form ask (Went core space) paged paged' is executed low does =
+    done_by k new form core space paged paged' is executed does.0.view (does.0.count ∙ ap (λ b. CountBehind k b core.pc) (sym low))
+resumes_by k new result form ask (Stopped stop) paged paged' is executed low does = Ends (ap (λ (n : Kernel). n.mote) does.stays)
 
 goes_by : (k new : Kernel) (result : Served) (form : Form) (outcome : Outcome FlatSpace Cpu) → IsPaged k.mote.sram k.mote.swap → IsPaged new.mote.sram new.mote.swap → instruction k ≡ Some form → flatly k form ≡ outcome
-    → WentBy k result new outcome → Executes (image_held k) k.mote new.mote
-goes_by k new result form (Went core space) paged paged' is executed does = done_by k new form core space paged paged' is executed does.view
-goes_by k new result form (Stopped stop) paged paged' is executed does = Ends (ap (λ (n : Kernel). n.mote) does.stays)
+    → nat_le k.mote.cpu.pc 0xF007 ≡ false → WentBy k result new outcome → Executes (image_held k) k.quantum k.mote new.mote
+goes_by k new result form (Went core space) paged paged' is executed high does =
+    done_by k new form core space paged paged' is executed does.view (does.count ∙ ap (λ b. CountBehind k b core.pc) (sym high))
+goes_by k new result form (Stopped stop) paged paged' is executed high does = Ends (ap (λ (n : Kernel). n.mote) does.stays)
 
-resumed_cells : (k : Kernel) (ask : Ask) (o : Outcome Guarded Cpu) (a : ℕ) → 0x0105 ≤ a → a ≤ 0x011F → LeavesSpace (Kept k ask) o → byte_at (resumed_by k (execution_by k o).0 (execution_by k o).1).1.mote.sram a ≡ byte_at k.mote.sram a
-resumed_cells k ask (Went core memory) a low high left =
-    byte_out_of_word memory.sram vsp_cell a core.sp (omega arith) (omega (arith, low)) (λ e. omega (arith, e, low)) (λ e. omega (arith, e, low)) ∙ left.0.cells a (omega (arith, low)) (omega (arith, high))
-resumed_cells k ask (Stopped stop) a low high left = refl
+resumed_cells : (k : Kernel) (ask : Ask) (o : Outcome Guarded Cpu) (a : ℕ) → 0x0101 ≤ a → a ≤ 0x011F → a ≢ 0x0103 → a ≢ 0x0104 → LeavesSpace (Kept k ask) o → byte_at (resumed_by k (execution_by k o).0 (execution_by k o).1).1.mote.sram a ≡ byte_at k.mote.sram a
+resumed_cells k ask (Went core memory) a low high first second left =
+    byte_out_of_word memory.sram vsp_cell a core.sp (omega arith) (omega (arith, low)) first second ∙ left.0.cells a (omega (arith, low)) (omega (arith, high))
+resumed_cells k ask (Stopped stop) a low high first second left = refl
 
-gone_cells : (k : Kernel) (ask : Ask) (o : Outcome Guarded Cpu) (a : ℕ) → 0x0105 ≤ a → a ≤ 0x011F → LeavesSpace (Kept k ask) o → byte_at (gone_by k (execution_by k o).0 (execution_by k o).1).1.mote.sram a ≡ byte_at k.mote.sram a
-gone_cells k ask (Went core memory) a low high left =
-    byte_crossed k.quantum (descriptor k) core.pc a (with_word memory.sram vsp_cell core.sp) (omega (arith, low)) (λ e. omega (arith, e, low)) ∙ resumed_cells k ask (Went core memory) a low high left
-gone_cells k ask (Stopped stop) a low high left = refl
+gone_cells : (k : Kernel) (ask : Ask) (o : Outcome Guarded Cpu) (a : ℕ) → 0x0101 ≤ a → a ≤ 0x011F → a ≢ 0x0103 → a ≢ 0x0104 → LeavesSpace (Kept k ask) o → byte_at (gone_by k (execution_by k o).0 (execution_by k o).1).1.mote.sram a ≡ byte_at k.mote.sram a
+gone_cells k ask (Went core memory) a low high first second left =
+    byte_crossed k.quantum (descriptor k) core.pc a (with_word memory.sram vsp_cell core.sp) (omega (arith, low)) (λ e. omega (arith, e, low)) ∙ resumed_cells k ask (Went core memory) a low high first second left
+gone_cells k ask (Stopped stop) a low high first second left = refl
 
-resumes_is : (k : Kernel) (can : CanServe k) (form : Form) → IsPaged k.mote.sram k.mote.swap → instruction k ≡ Some form → served k ≡ resumed k → Ran k (served k).1
+-- at MEM and PUSHRET rewritten code counts, and behind them the service
+early : (k : Kernel) → (k.mote.cpu.pc ≡ 0xF004) ⊎ (k.mote.cpu.pc ≡ 0xF006) → nat_le k.mote.cpu.pc 0xF007 ≡ true
+early k (inl at) = ap (λ n. nat_le n 0xF007) at
+early k (inr at) = ap (λ n. nat_le n 0xF007) at
+
+late : (k : Kernel) → 0xF008 ≤ k.mote.cpu.pc → nat_le k.mote.cpu.pc 0xF007 ≡ false
+late k high = grind (arith, nat_tests)
+
+resumes_is : (k : Kernel) (can : CanServe k) (form : Form) → IsPaged k.mote.sram k.mote.swap → instruction k ≡ Some form → nat_le k.mote.cpu.pc 0xF007 ≡ true → served k ≡ resumed k → Ran k (served k).1
 unfolding resumed
-resumes_is k can form paged is at =
+resumes_is k can form paged is low at =
     let ask = ask_of form (core_of k (descriptor k)) in
     let e = resumed_by k (execution k form).0 (execution k form).1 in
     let there : served k ≡ e = at ∙ ap (λ i. if_instruction k i (λ f. resumed_by k (execution k f).0 (execution k f).1)) is in
     along (λ result new. IsPaged new.mote.sram new.mote.swap → Ran k new) (served k) e there
     (λ paged'. record {
-      executes = resumes_by k e.1 e.0 form ask (flatly k form) paged paged' is refl (resumes_row k form paged);
-      cells = λ a low high. resumed_cells k ask (executed k form) a low high (kept k form paged);
+      executes = resumes_by k e.1 e.0 form ask (flatly k form) paged paged' is refl low (resumes_row k form paged);
+      cells = λ a from to first second. resumed_cells k ask (executed k form) a from to first second (kept k form paged);
     }) ((served_leaves k can).paged paged)
 
-goes_is : (k : Kernel) (can : CanServe k) (form : Form) → IsPaged k.mote.sram k.mote.swap → instruction k ≡ Some form → served k ≡ gone k → Ran k (served k).1
+goes_is : (k : Kernel) (can : CanServe k) (form : Form) → IsPaged k.mote.sram k.mote.swap → instruction k ≡ Some form → nat_le k.mote.cpu.pc 0xF007 ≡ false → served k ≡ gone k → Ran k (served k).1
 unfolding gone
-goes_is k can form paged is at =
+goes_is k can form paged is low at =
     let ask = ask_of form (core_of k (descriptor k)) in
     let e = gone_by k (execution k form).0 (execution k form).1 in
     let there : served k ≡ e = at ∙ ap (λ i. if_instruction k i (λ f. gone_by k (execution k f).0 (execution k f).1)) is in
     along (λ result new. IsPaged new.mote.sram new.mote.swap → Ran k new) (served k) e there
     (λ paged'. record {
-      executes = goes_by k e.1 e.0 form (flatly k form) paged paged' is refl (goes_row k form paged);
-      cells = λ a low high. gone_cells k ask (executed k form) a low high (kept k form paged);
+      executes = goes_by k e.1 e.0 form (flatly k form) paged paged' is refl low (goes_row k form paged);
+      cells = λ a from to first second. gone_cells k ask (executed k form) a from to first second (kept k form paged);
     }) ((served_leaves k can).paged paged)
 
 -- .. or the program ends
 rests : (k : Kernel) (result : Served) → served k ≡ (result, rested k) → Ran k (served k).1
-rests k result is = along (λ answer new. Ran k new) (served k) (result, rested k) is (record { executes = Ends refl; cells = λ a low high. refl })
+rests k result is = along (λ answer new. Ran k new) (served k) (result, rested k) is (record { executes = Ends refl; cells = λ a low high first second. refl })
 
 reads_at : (k : Kernel) (can : CanServe k) (form : Form) → IsPaged k.mote.sram k.mote.swap → instruction k ≡ Some form → k.mote.cpu.pc ≡ 0xF004 → (foreign : Option ℕ) → foreign_read k ≡ foreign → Ran k (served k).1
 unfolding accessed
-reads_at k can form paged is at None own = resumes_is k can form paged is (at_entry k mem_entry at ∙ ap (read_by k) own)
+reads_at k can form paged is at None own = resumes_is k can form paged is (early k (inl at)) (at_entry k mem_entry at ∙ ap (read_by k) own)
 reads_at k can form paged is at (Some a) foreign = rests k (Served.Stopped (Read (descriptor k) a)) (at_entry k mem_entry at ∙ ap (read_by k) foreign)
 
 loops_at : (k : Kernel) (can : CanServe k) (form : Form) → IsPaged k.mote.sram k.mote.swap → instruction k ≡ Some form → k.mote.cpu.pc ≡ 0xF00C → (b : Bool) → has_bit k.mote.cpu.sreg interrupts ≡ b → Ran k (served k).1
-loops_at k can form paged is at true on = goes_is k can form paged is (at_entry k self_entry at ∙ looped_as k true on)
+loops_at k can form paged is at true on = goes_is k can form paged is (late k (omega (arith, at))) (at_entry k self_entry at ∙ looped_as k true on)
 loops_at k can form paged is at false off = rests k (Served.Stopped (Halted (descriptor k))) (at_entry k self_entry at ∙ looped_as k false off)
 
 runs_at : (k : Kernel) → CanServe k → 0xF004 ≤ k.mote.cpu.pc → k.mote.cpu.pc ≤ 0xF00D → Ran k (served k).1
@@ -311,67 +334,67 @@ runs_at k (AtMem at shape can) low high =
     reads_at k (AtMem at shape can) row.form can.paged row.is at (foreign_read k) refl
 runs_at k (AtPushReturn at shape can) low high =
     let row = push_row k (AtPushReturn at shape can) at in
-    resumes_is k (AtPushReturn at shape can) row.form can.paged row.is (at_entry k push_return_entry at)
+    resumes_is k (AtPushReturn at shape can) row.form can.paged row.is (early k (inr at)) (at_entry k push_return_entry at)
 runs_at k (AtReturn at shape can count) low high =
     let row = return_row k (AtReturn at shape can count) at in
-    goes_is k (AtReturn at shape can count) row.form can.paged row.is (at_entry k return_entry at)
+    goes_is k (AtReturn at shape can count) row.form can.paged row.is (late k (omega (arith, at))) (at_entry k return_entry at)
 runs_at k (AtIndirect at shape can count) low high =
     let row = indirect_row k (AtIndirect at shape can count) at in
-    goes_is k (AtIndirect at shape can count) row.form can.paged row.is (at_entry k indirect_entry at)
+    goes_is k (AtIndirect at shape can count) row.form can.paged row.is (late k (omega (arith, at))) (at_entry k indirect_entry at)
 runs_at k (AtSelf at shape can count) low high =
     let called = (serving k SelfJump shape (λ e. cc) can).called in
     loops_at k (AtSelf at shape can count) called.form can.paged called.is at (has_bit k.mote.cpu.sreg interrupts) refl
 runs_at k (AtFault at shape can) low high = absurd (omega (arith, at, high))
 
 -- the kernel's cells stay at each entry
-cells_at : (k : Kernel) → CanServe k → (a : ℕ) → 0x0105 ≤ a → a ≤ 0x011F → byte_at (served k).1.mote.sram a ≡ byte_at k.mote.sram a
+cells_at : (k : Kernel) → CanServe k → (a : ℕ) → 0x0101 ≤ a → a ≤ 0x011F → a ≢ 0x0103 → a ≢ 0x0104 → byte_at (served k).1.mote.sram a ≡ byte_at k.mote.sram a
 unfolding byte_at with_byte
-cells_at k (AtBridge at) a low high = ap (λ (n : Kernel). slice_index n.mote.sram (a - 0x0100)) (bridge_row k at).stays
-cells_at k (AtQuantum at) a low high =
+cells_at k (AtBridge at) a low high first second = ap (λ (n : Kernel). slice_index n.mote.sram (a - 0x0100)) (bridge_row k at).stays
+cells_at k (AtQuantum at) a low high first second =
     ap (λ (p : Served × Kernel). byte_at p.1.mote.sram a) (at_entry k quantum_entry at) ∙ byte_other k.mote.sram 0x0100 a k.quantum (omega arith) (omega (arith, low)) (λ e. omega (arith, e, low))
-cells_at k (AtMem at shape can) a low high = (runs_at k (AtMem at shape can) (omega (arith, at)) (omega (arith, at))).cells a low high
-cells_at k (AtPushReturn at shape can) a low high = (runs_at k (AtPushReturn at shape can) (omega (arith, at)) (omega (arith, at))).cells a low high
-cells_at k (AtReturn at shape can count) a low high = (runs_at k (AtReturn at shape can count) (omega (arith, at)) (omega (arith, at))).cells a low high
-cells_at k (AtIndirect at shape can count) a low high = (runs_at k (AtIndirect at shape can count) (omega (arith, at)) (omega (arith, at))).cells a low high
-cells_at k (AtSelf at shape can count) a low high = (runs_at k (AtSelf at shape can count) (omega (arith, at)) (omega (arith, at))).cells a low high
-cells_at k (AtFault at shape can) a low high = sleeping_cells k.mote (served k).1.mote (sleeps_at k at) a low
+cells_at k (AtMem at shape can) a low high first second = (runs_at k (AtMem at shape can) (omega (arith, at)) (omega (arith, at))).cells a low high first second
+cells_at k (AtPushReturn at shape can) a low high first second = (runs_at k (AtPushReturn at shape can) (omega (arith, at)) (omega (arith, at))).cells a low high first second
+cells_at k (AtReturn at shape can count) a low high first second = (runs_at k (AtReturn at shape can count) (omega (arith, at)) (omega (arith, at))).cells a low high first second
+cells_at k (AtIndirect at shape can count) a low high first second = (runs_at k (AtIndirect at shape can count) (omega (arith, at)) (omega (arith, at))).cells a low high first second
+cells_at k (AtSelf at shape can count) a low high first second = (runs_at k (AtSelf at shape can count) (omega (arith, at)) (omega (arith, at))).cells a low high first second
+cells_at k (AtFault at shape can) a low high first second = sleeping_cells k.quantum k.mote (served k).1.mote (sleeps_at k (some_bytes k.mote.sram can.count.some) at) a low
 
-last_entry : (k : Kernel) → CanServe k → 0xF00E ≤ k.mote.cpu.pc → k.mote.cpu.pc ≡ 0xF00E
-last_entry k (AtBridge at) low = absurd (omega (arith, at, low))
-last_entry k (AtQuantum at) low = absurd (omega (arith, at, low))
-last_entry k (AtMem at shape can) low = absurd (omega (arith, at, low))
-last_entry k (AtPushReturn at shape can) low = absurd (omega (arith, at, low))
-last_entry k (AtReturn at shape can count) low = absurd (omega (arith, at, low))
-last_entry k (AtIndirect at shape can count) low = absurd (omega (arith, at, low))
-last_entry k (AtSelf at shape can count) low = absurd (omega (arith, at, low))
-last_entry k (AtFault at shape can) low = at
+slept_at : (k : Kernel) → CanServe k → 0xF00E ≤ k.mote.cpu.pc → Sleeps k.quantum k.mote (served k).1.mote
+slept_at k (AtBridge there) at = absurd (omega (arith, there, at))
+slept_at k (AtQuantum there) at = absurd (omega (arith, there, at))
+slept_at k (AtMem there shape can) at = absurd (omega (arith, there, at))
+slept_at k (AtPushReturn there shape can) at = absurd (omega (arith, there, at))
+slept_at k (AtReturn there shape can count) at = absurd (omega (arith, there, at))
+slept_at k (AtIndirect there shape can count) at = absurd (omega (arith, there, at))
+slept_at k (AtSelf there shape can count) at = absurd (omega (arith, there, at))
+slept_at k (AtFault there shape can) at = sleeps_at k (some_bytes k.mote.sram can.count.some) there
 
 record ServedAs (k new : Kernel) : Type 0 where
   registers : 0xF006 ≤ k.mote.cpu.pc → new.mote.cpu.r ≡ k.mote.cpu.r
-  executes : 0xF004 ≤ k.mote.cpu.pc → k.mote.cpu.pc ≤ 0xF00D → Executes (image_held k) k.mote new.mote
-  sleeps : 0xF00E ≤ k.mote.cpu.pc → Sleeps k.mote new.mote
-  cells : (a : ℕ) → 0x0105 ≤ a → a ≤ 0x011F → byte_at new.mote.sram a ≡ byte_at k.mote.sram a
+  executes : 0xF004 ≤ k.mote.cpu.pc → k.mote.cpu.pc ≤ 0xF00D → Executes (image_held k) k.quantum k.mote new.mote
+  sleeps : 0xF00E ≤ k.mote.cpu.pc → Sleeps k.quantum k.mote new.mote
+  cells : (a : ℕ) → 0x0101 ≤ a → a ≤ 0x011F → a ≢ 0x0103 → a ≢ 0x0104 → byte_at new.mote.sram a ≡ byte_at k.mote.sram a
   pc : PcAfter k new
   bridge : k.mote.cpu.pc ≡ 0xF000 → new.mote ≡ record k.mote { cpu = record k.mote.cpu { sp = 0x011F } }
-  quantum : k.mote.cpu.pc ≡ 0xF002 → (count : ℕ) × (new.mote ≡ record k.mote {
+  refilled : k.mote.cpu.pc ≡ 0xF002 → new.mote ≡ record k.mote {
     cpu = record k.mote.cpu { r = slice_set k.mote.cpu.r 24 (slice_index k.mote.sram 1); sreg = slice_index k.mote.sram 2; sp = 0x011F };
-    sram = slice_set k.mote.sram 0 count;
-  })
+    sram = slice_set k.mote.sram 0 k.quantum;
+  }
 
 served_as : (k : Kernel) → CanServe k → ServedAs k (served k).1
 served_as k can = record {
   registers = served_r k can;
   executes = λ low high. (runs_at k can low high).executes;
-  sleeps = λ low. sleeps_at k (last_entry k can low);
+  sleeps = slept_at k can;
   cells = cells_at k can;
   pc = served_pc k can;
   bridge = λ at. ap (λ (n : Kernel). n.mote) (bridge_row k at).stays;
-  quantum = quantum_is k;
+  refilled = quantum_is k;
 }
 
-pub service_is : (image : List ℕ) (x y : State) (line : Option Line) (stops : Bool) → image_held x.kernel ≡ image → MakesServe x line stops y → IsService image (mote_of x) (mote_of y)
+pub service_is : (image : List ℕ) (quantum : ℕ) (x y : State) (line : Option Line) (stops : Bool) → image_held x.kernel ≡ image → x.kernel.quantum ≡ quantum → MakesServe x line stops y → IsService image quantum (mote_of x) (mote_of y)
 unfolding byte_at
-service_is image x y line stops held makes =
+service_is image quantum x y line stops held counts makes =
     let at = at_an_entry x.kernel makes.can in
     let leaves = subst (Leaves x.kernel) (sym (kernel_served x y line stops makes)) (served_leaves x.kernel makes.can) in
     let told : ServedAs x.kernel y.kernel = subst (ServedAs x.kernel) (sym (kernel_served x y line stops makes)) (served_as x.kernel makes.can) in
@@ -382,10 +405,13 @@ service_is image x y line stops held makes =
       stack = leaves.stack;
       pc = told.pc;
       bridge = told.bridge;
-      quantum = told.quantum;
+      refilled = λ at. told.refilled at ∙ ap (λ q. record (mote_of x) {
+        cpu = record (mote_of x).cpu { r = slice_set (mote_of x).cpu.r 24 (slice_index (mote_of x).sram 1); sreg = slice_index (mote_of x).sram 2; sp = 0x011F };
+        sram = slice_set (mote_of x).sram 0 q;
+      }) counts;
       registers = told.registers;
-      executes = λ low high. subst (λ i. Executes i (mote_of x) (mote_of y)) held (told.executes low high);
-      sleeps = told.sleeps;
+      executes = λ low high. subst (λ q. Executes image q (mote_of x) (mote_of y)) counts (subst (λ i. Executes i x.kernel.quantum (mote_of x) (mote_of y)) held (told.executes low high));
+      sleeps = λ low. subst (λ q. Sleeps q (mote_of x) (mote_of y)) counts (told.sleeps low);
       cells = told.cells;
       flash = leaves.flash;
       tables = λ a low high. leaves.tables a low (omega arith);
@@ -397,13 +423,14 @@ one_most : (b : Bool) → one_if b ≤ 1
 one_most true = omega arith
 one_most false = omega arith
 
--- the image stands in flash, and the layout is that of its length
-pub record Holds (image : List ℕ) (x : State) : Type 0 where
+-- the image stands in flash, the layout is that of its length, and the quantum is this
+pub record Holds (image : List ℕ) (quantum : ℕ) (x : State) : Type 0 where
   pub laid : x.kernel.layout ≡ layout_of (length image)
   pub held : image_of (layout_of (length image)) (mote_of x).flash.words ≡ image
+  pub counts : x.kernel.quantum ≡ quantum
 
-pool_of : (image : List ℕ) (x : State) → Holds image x → Begins (pool_from image) x.kernel.layout
-pool_of image x holds = subst (Begins (pool_from image)) (sym holds.laid) (pool_begins image)
+pool_of : (image : List ℕ) (quantum : ℕ) (x : State) → Holds image quantum x → Begins (pool_from image) x.kernel.layout
+pool_of image quantum x holds = subst (Begins (pool_from image)) (sym holds.laid) (pool_begins image)
 
 -- outside the image nothing is done
 beyond_by : (layout : Layout) (old new : Store) (t : ℕ) (result : Result Moved Refused) → layout.image_words ≤ t → bridge.Arrives layout old new t result → (new ≡ old) × ((moved : Moved) → result ≡ Ok moved → ⊥)
@@ -511,13 +538,13 @@ arrives_by image x y target stub store arrival few held after same from kept (An
     (but_is image words stop.torn few code refusal.torn) others.again others.other others.kept
     (place_either image x y target store arrival stop few after is code (subst (λ r. IfSome arrival.place (λ v. IsEntry l (with_torn words (torn_by r)) target v)) is kept.entered))
 
-record Arriving (image : List ℕ) (target made ops : ℕ) (x y : State) : Type 0 where
+record Arriving (image : List ℕ) (quantum target made ops : ℕ) (x y : State) : Type 0 where
   act : IsArrival image target made ops (mote_of x) (mote_of y)
-  holds : Holds image y
+  holds : Holds image quantum y
 
-arrival_is : (image : List ℕ) (x y : State) (target : ℕ) (made : Bool) (ops : ℕ) → Holds image x → MakesArrive x target made ops y → Arriving image target (one_if made) ops x y
+arrival_is : (image : List ℕ) (quantum : ℕ) (x y : State) (target : ℕ) (made : Bool) (ops : ℕ) → Holds image quantum x → MakesArrive x target made ops y → Arriving image quantum target (one_if made) ops x y
 unfolding byte_at
-arrival_is image x y target made ops holds makes =
+arrival_is image quantum x y target made ops holds makes =
     let l = layout_of (length image) in
     let after = after_arrived x y makes.store makes.arrival makes.after in
     let begins = pool_begins image in
@@ -546,7 +573,7 @@ arrival_is image x y target made ops holds makes =
         arrives = arrives_by image x y target makes.owed.stub makes.store makes.arrival few holds.held makes.after (sym after.store_is) from kept (answered l (store_of x) (store_of y) target makes.owed.stub makes.arrival from) made makes.makes right sound came
             (others_keep image (store_of x) (store_of y) target makes.owed.stub makes.arrival right holds.held sound ring came from kept) ring;
       };
-      holds = record { laid = after.layout ∙ holds.laid; held = kept.image ∙ holds.held };
+      holds = record { laid = after.layout ∙ holds.laid; held = kept.image ∙ holds.held; counts = after.quantum ∙ holds.counts };
     }
 
 -- two bytes inside the stack window
@@ -568,11 +595,13 @@ byte_stays k n target a inside low high first second =
 
 record KeptBy (k new : Kernel) : Type 0 where
   layout : new.layout ≡ k.layout
+  quantum : new.quantum ≡ k.quantum
   mote : IsInterrupt k.mote new.mote
 
 kept_same : (k new : Kernel) → new ≡ k → KeptBy k new
 kept_same k new same = record {
   layout = ap (λ (x : Kernel). x.layout) same;
+  quantum = ap (λ (x : Kernel). x.quantum) same;
   mote = record {
     pc = ap (λ (x : Kernel). x.mote.cpu.pc) same;
     flash = ap (λ (x : Kernel). x.mote.flash) same;
@@ -587,6 +616,7 @@ kept_taken : (k : Kernel) (n target : ℕ) → interrupts.first_outside (virtual
 unfolding byte_at
 kept_taken k n target inside = record {
   layout = refl;
+  quantum = refl;
   mote = record {
     pc = refl;
     flash = refl;
@@ -614,39 +644,39 @@ taken_keeps x y stops makes =
     let p = interrupts.taken x.kernel target in
     subst (KeptBy x.kernel) (sym (ap (λ (s : State). s.kernel) makes.result ∙ kernel_taken x p)) (kept_by x.kernel p.1 target p.0 (taking_row x.kernel target p.0 p.1 refl makes.paged))
 
--- where flash and the layout stay
-holds_still : (image : List ℕ) (x y : State) → Holds image x → y.kernel.layout ≡ x.kernel.layout → (mote_of y).flash ≡ (mote_of x).flash → Holds image y
-holds_still image x y holds layout flash = record { laid = layout ∙ holds.laid; held = ap (λ (f : Memory). image_of (layout_of (length image)) f.words) flash ∙ holds.held }
+-- where flash, the layout and the quantum stay
+holds_still : (image : List ℕ) (quantum : ℕ) (x y : State) → Holds image quantum x → y.kernel.layout ≡ x.kernel.layout → y.kernel.quantum ≡ x.kernel.quantum → (mote_of y).flash ≡ (mote_of x).flash → Holds image quantum y
+holds_still image quantum x y holds layout same flash = record { laid = layout ∙ holds.laid; counts = same ∙ holds.counts; held = ap (λ (f : Memory). image_of (layout_of (length image)) f.words) flash ∙ holds.held }
 
 -- each act of a walk is one, and the image stays
-pub record Following (image : List ℕ) (x : State) (moves : List Move) (z : State) (walk : Walk x moves z) : Type 0 where
-  pub follow : Follow image (mote_of x) (acts_of x moves z walk) (mote_of z)
-  pub holds : Holds image z
+pub record Following (image : List ℕ) (quantum : ℕ) (x : State) (moves : List Move) (z : State) (walk : Walk x moves z) : Type 0 where
+  pub follow : Follow image quantum (mote_of x) (acts_of x moves z walk) (mote_of z)
+  pub holds : Holds image quantum z
 
-pub follow : (image : List ℕ) (x : State) (moves : List Move) (z : State) (walk : Walk x moves z) → Holds image x → Following image x moves z walk
-follow image x [] z walk holds = record { follow = ap mote_of walk; holds = subst (Holds image) walk holds }
-follow image x (Begin line ∷ moves) z walk holds =
+pub follow : (image : List ℕ) (quantum : ℕ) (x : State) (moves : List Move) (z : State) (walk : Walk x moves z) → Holds image quantum x → Following image quantum x moves z walk
+follow image quantum x [] z walk holds = record { follow = ap mote_of walk; holds = subst (Holds image quantum) walk holds }
+follow image quantum x (Begin line ∷ moves) z walk holds =
     let y = walk.0 in
-    let next = holds_still image x y holds (ap (λ (s : State). s.kernel.layout) walk.1.result) (ap (λ (s : State). (mote_of s).flash) walk.1.result ∙ walk.1.step.flash) in
-    let rest = follow image y moves z walk.2 next in
-    record { follow = (refl, step_is (pool_from image) x y true line (pool_of image x holds) walk.1, rest.follow); holds = rest.holds }
-follow image x (Within (Plain line) ∷ moves) z walk holds =
+    let next = holds_still image quantum x y holds (ap (λ (s : State). s.kernel.layout) walk.1.result) (ap (λ (s : State). s.kernel.quantum) walk.1.result) (ap (λ (s : State). (mote_of s).flash) walk.1.result ∙ walk.1.step.flash) in
+    let rest = follow image quantum y moves z walk.2 next in
+    record { follow = (refl, step_is (pool_from image) x y true line (pool_of image quantum x holds) walk.1, rest.follow); holds = rest.holds }
+follow image quantum x (Within (Plain line) ∷ moves) z walk holds =
     let y = walk.0 in
-    let next = holds_still image x y holds (ap (λ (s : State). s.kernel.layout) walk.1.result) (ap (λ (s : State). (mote_of s).flash) walk.1.result ∙ walk.1.step.flash) in
-    let rest = follow image y moves z walk.2 next in
-    record { follow = (refl, step_is (pool_from image) x y false line (pool_of image x holds) walk.1, rest.follow); holds = rest.holds }
-follow image x (Within (Serve line stops) ∷ moves) z walk holds =
+    let next = holds_still image quantum x y holds (ap (λ (s : State). s.kernel.layout) walk.1.result) (ap (λ (s : State). s.kernel.quantum) walk.1.result) (ap (λ (s : State). (mote_of s).flash) walk.1.result ∙ walk.1.step.flash) in
+    let rest = follow image quantum y moves z walk.2 next in
+    record { follow = (refl, step_is (pool_from image) x y false line (pool_of image quantum x holds) walk.1, rest.follow); holds = rest.holds }
+follow image quantum x (Within (Serve line stops) ∷ moves) z walk holds =
     let y = walk.0 in
     let leaves = served_leaves x.kernel walk.1.can in
     let same = kernel_served x y line stops walk.1 in
-    let next = holds_still image x y holds (ap (λ (k : Kernel). k.layout) same ∙ leaves.layout) (ap (λ (k : Kernel). k.mote.flash) same ∙ leaves.flash) in
-    let rest = follow image y moves z walk.2 next in
-    record { follow = (refl, service_is image x y line stops (ap (λ (l : Layout). image_of l (mote_of x).flash.words) holds.laid ∙ holds.held) walk.1, rest.follow); holds = rest.holds }
-follow image x (Arrive target made ops ∷ moves) z walk holds =
-    let one = arrival_is image x walk.0 target made ops holds walk.1 in
-    let rest = follow image walk.0 moves z walk.2 one.holds in
+    let next = holds_still image quantum x y holds (ap (λ (k : Kernel). k.layout) same ∙ leaves.layout) (ap (λ (k : Kernel). k.quantum) same ∙ leaves.quantum) (ap (λ (k : Kernel). k.mote.flash) same ∙ leaves.flash) in
+    let rest = follow image quantum y moves z walk.2 next in
+    record { follow = (refl, service_is image quantum x y line stops (ap (λ (l : Layout). image_of l (mote_of x).flash.words) holds.laid ∙ holds.held) holds.counts walk.1, rest.follow); holds = rest.holds }
+follow image quantum x (Arrive target made ops ∷ moves) z walk holds =
+    let one = arrival_is image quantum x walk.0 target made ops holds walk.1 in
+    let rest = follow image quantum walk.0 moves z walk.2 one.holds in
     record { follow = (refl, one.act, rest.follow); holds = rest.holds }
-follow image x (Take stops ∷ moves) z walk holds =
+follow image quantum x (Take stops ∷ moves) z walk holds =
     let keeps = taken_keeps x walk.0 stops walk.1 in
-    let rest = follow image walk.0 moves z walk.2 (holds_still image x walk.0 holds keeps.layout keeps.mote.flash) in
+    let rest = follow image quantum walk.0 moves z walk.2 (holds_still image quantum x walk.0 holds keeps.layout keeps.quantum keeps.mote.flash) in
     record { follow = (refl, keeps.mote, rest.follow); holds = rest.holds }

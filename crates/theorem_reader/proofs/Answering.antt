@@ -33,7 +33,7 @@ use Rattle.cli_words.specs.declared.job.Job.TheVariants as jobs
 use Rattle.cli_words.specs.declared.request.Request.{Request}
 use Rattle.cli_words.specs.declared.status.Status.{Status}
 use Rattle.tkernel_cli.specs.declared.top.Exit.{Exit}
-use Rattle.cli_requests.specs.Asking.{IsWarranted}
+use Rattle.cli_requests.specs.Asking.{IsWarranted, Tells}
 use Rattle.cli_requests.specs.Reading.{Good}
 use Rattle.cli_words.specs.Stream.{Stream}
 use Rattle.cli_jobs.specs.Runs.{KeepsEnd, Runs, RunsToTheEnd, RunsIntoAFault, Follows, AreUnlisted, first_start}
@@ -76,7 +76,7 @@ has_acts IsFirst asked flash pages lines m begins untried held path walk bound =
       acts = acts;
       first = (start_of asked flash pages).kernel.mote;
       begins = begins;
-      follow = (follow asked.image x moves (state_of m) walk (record { laid = refl; held = held })).follow;
+      follow = (follow asked.image asked.quantum x moves (state_of m) walk (record { laid = refl; held = held; counts = refl })).follow;
       natural_is = ap (λ (k : Numbers). k.natural) path.goes.numbers ∙ natural_of x moves (state_of m) walk counts ∙ zero-add (_);
       entries_is = ap (λ (k : Numbers). k.entries) path.goes.numbers ∙ entries_of x moves (state_of m) walk counts ∙ zero-add (_);
       pages_is = ap (λ (k : Numbers). k.pages) path.goes.numbers ∙ pages_of x moves (state_of m) walk counts;
@@ -107,7 +107,7 @@ stands_from IsFirst asked flash pages n m begins untried held follows within =
     let path = at.path in
     let same = at.state in
     let sound = follows.sound in
-    let pace = paced asked.image (states_of (original_of asked)) start m.steps path.moves m (record { laid = refl; held = held }) at.by_step in
+    let pace = paced asked.image asked.quantum (states_of (original_of asked)) start m.steps path.moves m (record { laid = refl; held = held; counts = refl }) at.by_step in
     let acts = has_acts IsFirst asked flash pages (original_of asked n).lines m begins untried held path pace.walk (subst (λ q. m.longest ≤ 5120 * q) at.quantum follows.longest) in
     record {
       state = record {
@@ -227,12 +227,12 @@ spared asked n m follows unlisted fits =
     let path = follows.at.path in
     let held : image_held m.kernel ≡ asked.image = ap (λ (p : Program). p.image) follows.at.program in
     let right = subst IsRight (layout_same asked.image m follows.sound held) follows.sound.order.right in
-    let laid : Holds asked.image (state_of start) = record { laid = refl; held = loaded_image asked.image } in
-    let pace = paced asked.image (states_of (original_of asked)) start m.steps path.moves m laid follows.at.by_step in
+    let laid : Holds asked.image asked.quantum (state_of start) = record { laid = refl; held = loaded_image asked.image; counts = refl } in
+    let pace = paced asked.image asked.quantum (states_of (original_of asked)) start m.steps path.moves m laid follows.at.by_step in
     let made : m.pages ≡ 0 + made_in (acts_of (state_of start) path.moves (state_of m) pace.walk) = ap (λ (k : Numbers). k.pages) path.goes.numbers ∙ pages_of (state_of start) path.moves (state_of m) pace.walk (numbers_of start) in
     let unused : used_pages (layout_of (length asked.image)) (mote_of (state_of start)).flash.words ≡ 0 = new_unused asked.image asked.failing right in
     spared_from_boot asked.image asked.failing m.kernel.mote.flash
-    (walk_spares asked.image (state_of start) path.moves (state_of m) pace.walk laid (omega (arith, made, fits, unused), unlisted))
+    (walk_spares asked.image asked.quantum (state_of start) path.moves (state_of m) pace.walk laid (omega (arith, made, fits, unused), unlisted))
 
 pub ends_well : (asked : Asked) (before now : Stream) (told : Status) (m : Machine)
     → AreUnlisted (request_of asked) m → RunsToTheEnd (request_of asked) (first_start (request_of asked)) [] before now told m → EndsWell asked m
@@ -259,27 +259,27 @@ ends_in_a_fault asked before now told m run = record {
   faithful = lacking_of asked m run.follows.sound (ap (λ (p : Program). p.image) run.follows.at.program);
 }
 
-ran : (asked : Asked) (words : List (List ℕ)) (text : List ℕ) (exit : Exit) (status faults : ℕ) (taken : List ℕ) (call : Call words text exit status faults taken) (m : Machine) → exit.kept ≡ Some m
+ran : (asked : Asked) (words : List (List ℕ)) (exit : Exit) (status faults : ℕ) (taken : List ℕ) (call : Call words exit status faults taken) (m : Machine) → exit.kept ≡ Some m
     → Runs (request_of asked) call.sink call.sink' exit.status m
     → Somehow call.sink call.sink' (λ sink. IsRun sink asked status taken exit.kept)
-ran asked words text exit status faults taken call m kept (Runs.Ended unlisted run) =
+ran asked words exit status faults taken call m kept (Runs.Ended unlisted run) =
     let r = original_of asked asked.steps in
     so_then call.sink call.sink' _ (λ sink. IsRun sink asked status taken exit.kept) (λ sink told. Ended m kept (record {
       told = retold sink _ _ _ _ status taken (status_same r.end) (ended_same r asked.quantum m) told;
       run = ends_well asked call.sink call.sink' exit.status m unlisted run;
-    })) (told_how words text exit status faults taken call _ _ run.said)
-ran asked words text exit status faults taken call m kept (Runs.Failed run) =
+    })) (told_how words exit status faults taken call _ _ run.said)
+ran asked words exit status faults taken call m kept (Runs.Failed run) =
     let r = original_of asked m.steps in
     so_then call.sink call.sink' _ (λ sink. IsRun sink asked status taken exit.kept) (λ sink told. Failed m kept (record {
       op = run.op;
       told = retold sink 9 9 _ _ status taken refl (failed_same r run.op asked.quantum m (ap (λ (s : Moment). s.now.steps) run.follows.at.state)) told;
       run = ends_in_a_fault asked call.sink call.sink' exit.status m run;
-    })) (told_how words text exit status faults taken call _ _ run.said)
-ran asked words text exit status faults taken call m kept (Runs.Cut run) = (
+    })) (told_how words exit status faults taken call _ _ run.said)
+ran asked words exit status faults taken call m kept (Runs.Cut run) = (
   Fails,
   run.rose,
   Cut m kept refl (record {
-    told = retold Fails 6 6 _ _ status taken refl (lines_same (original_of asked m.steps).lines) (cut_by words text exit status faults taken call _ run.status_is run.put);
+    told = retold Fails 6 6 _ _ status taken refl (lines_same (original_of asked m.steps).lines) (cut_by words exit status faults taken call _ run.status_is run.put);
     stands = stands asked m.steps m run.follows run.within;
     broken = run.broken;
     faithful = lacking_of asked m run.follows.sound (ap (λ (p : Program). p.image) run.follows.at.program);
@@ -287,20 +287,20 @@ ran asked words text exit status faults taken call m kept (Runs.Cut run) = (
 )
 
 -- a run that is warranted, whatever asked for it
-pub run_of : (words : List (List ℕ)) (text : List ℕ) (exit : Exit) (status faults : ℕ) (taken : List ℕ) (call : Call words text exit status faults taken) (asked : Asked)
+pub run_of : (words : List (List ℕ)) (exit : Exit) (status faults : ℕ) (taken : List ℕ) (call : Call words exit status faults taken) (asked : Asked)
     → IsWarranted words call.source call.source' (jobs.Run (request_of asked))
     → IsSoThen faults (λ sink. IsRun sink asked status taken exit.kept)
-run_of words text exit status faults taken call asked warranted =
-    told_by words text exit status faults taken call _ (λ sink. IsRun sink asked status taken exit.kept) warranted (λ sink told none alone. NoMemory told none)
-    (λ done. ran asked words text exit status faults taken call done.0.machine done.0.kept done.0.runs)
+run_of words exit status faults taken call asked warranted =
+    told_by words exit status faults taken call _ (λ sink. IsRun sink asked status taken exit.kept) warranted (λ sink told none alone. NoMemory told none)
+    (λ done. ran asked words exit status faults taken call done.0.machine done.0.kept done.0.runs)
 
-pub run_told : (words : List (List ℕ)) (text : List ℕ) (exit : Exit) (status faults : ℕ) (taken : List ℕ) (call : Call words text exit status faults taken) (asked : Asked)
+pub run_told : (words : List (List ℕ)) (exit : Exit) (status faults : ℕ) (taken : List ℕ) (call : Call words exit status faults taken) (text : List ℕ) → Tells call.source call.source' text → (asked : Asked)
     → Asks words text asked → IsSoThen faults (λ sink. IsRun sink asked status taken exit.kept)
-run_told words text exit status faults taken call asked asks =
-    run_of words text exit status faults taken call asked
-    (inl (RunCommand (options_of asked), asks.command, (text, call.told, inr (asks.input.short, Good (asked.image, asks.input.position) asks.input.hex (Good (script_of asked) asks.input.script refl)))))
+run_told words exit status faults taken call text tells asked asks =
+    run_of words exit status faults taken call asked
+    (inl (RunCommand (options_of asked), asks.command, (text, tells, inr (asks.input.short, Good (asked.image, asks.input.position) asks.input.hex (Good (script_of asked) asks.input.script refl)))))
 
 -- .. of a seed
-pub generated_told : (words : List (List ℕ)) (text : List ℕ) (exit : Exit) (status faults : ℕ) (taken : List ℕ) (call : Call words text exit status faults taken) (seed : ℕ)
+pub generated_told : (words : List (List ℕ)) (exit : Exit) (status faults : ℕ) (taken : List ℕ) (call : Call words exit status faults taken) (seed : ℕ)
     → AsksGenerate words seed → IsSoThen faults (λ sink. IsRun sink (generated_by seed) status taken exit.kept)
-generated_told words text exit status faults taken call seed asks = run_of words text exit status faults taken call (generated_by seed) (inl (Generate seed, asks, refl))
+generated_told words exit status faults taken call seed asks = run_of words exit status faults taken call (generated_by seed) (inl (Generate seed, asks, refl))

@@ -9,6 +9,7 @@ use Rattle.pool_check.specs.declared.checking.Verdict.{Verdict}
 use Rattle.pool_check.specs.declared.checking.Verdict.TheVariants as verdicts
 use Rattle.pool_check.proofs.CheckedLaws.{code_checked}
 use Rattle.program_steps.specs.Machines.{Machine}
+use Rattle.cli_requests.specs.Asking.{Tells}
 use Rattle.tkernel_cli.specs.declared.top.Exit.{Exit}
 use Rattle.cli_words.specs.Status.{number_of}
 use Rattle.printed_text.specs.Verdicts.{verdict_text}
@@ -65,16 +66,16 @@ judged image flash sink (verdicts.Links page) status taken kept right is told no
       lower = λ other inside less. is.1.lower other (in_pool image other inside) less;
     }) told none
 
-checked_how : (words : List (List ℕ)) (text : List ℕ) (exit : Exit) (status faults : ℕ) (taken : List ℕ) (call : Call words text exit status faults taken) (image flash : List ℕ) → IsRight (layout_of (length image)) → Answers image flash call.sink call.sink' exit
+checked_how : (words : List (List ℕ)) (exit : Exit) (status faults : ℕ) (taken : List ℕ) (call : Call words exit status faults taken) (image flash : List ℕ) → IsRight (layout_of (length image)) → Answers image flash call.sink call.sink' exit
     → Somehow call.sink call.sink' (λ sink. IsChecked sink image flash status taken exit.kept)
-checked_how words text exit status faults taken call image flash right (Wanting none) =
-    so_then call.sink call.sink' _ (λ sink. IsChecked sink image flash status taken exit.kept) (λ sink told. NoMemory told none.0.1) (told_how words text exit status faults taken call _ _ none.0.0)
-checked_how words text exit status faults taken call image flash right (Verdicts verdict is said none) =
-    so_then call.sink call.sink' _ (λ sink. IsChecked sink image flash status taken exit.kept) (λ sink told. judged image flash sink verdict status taken exit.kept right is told none) (told_how words text exit status faults taken call _ _ said)
+checked_how words exit status faults taken call image flash right (Wanting none) =
+    so_then call.sink call.sink' _ (λ sink. IsChecked sink image flash status taken exit.kept) (λ sink told. NoMemory told none.0.1) (told_how words exit status faults taken call _ _ none.0.0)
+checked_how words exit status faults taken call image flash right (Verdicts verdict is said none) =
+    so_then call.sink call.sink' _ (λ sink. IsChecked sink image flash status taken exit.kept) (λ sink told. judged image flash sink verdict status taken exit.kept right is told none) (told_how words exit status faults taken call _ _ said)
 
-pub check_told : (words : List (List ℕ)) (text : List ℕ) (exit : Exit) (status faults : ℕ) (taken : List ℕ) (call : Call words text exit status faults taken) (image flash : List ℕ)
+pub check_told : (words : List (List ℕ)) (exit : Exit) (status faults : ℕ) (taken : List ℕ) (call : Call words exit status faults taken) (text : List ℕ) → Tells call.source call.source' text → (image flash : List ℕ)
     → AsksCheck words text image flash → IsSoThen faults (λ sink. IsChecked sink image flash status taken exit.kept)
-check_told words text exit status faults taken call image flash asks =
-    so_is words text exit status faults taken call (λ sink. IsChecked sink image flash status taken exit.kept)
-    (checked_how words text exit status faults taken call image flash (layout_right (length image) (few_words text image asks.position asks.hex))
-    (check_answers words image flash text asks.position call.source call.source' call.sink call.sink' exit asks.command call.told asks.short asks.hex asks.dump call.answer))
+check_told words exit status faults taken call text tells image flash asks =
+    so_is words exit status faults taken call (λ sink. IsChecked sink image flash status taken exit.kept)
+    (checked_how words exit status faults taken call image flash (layout_right (length image) (few_words text image asks.position asks.hex))
+    (check_answers words image flash text asks.position call.source call.source' call.sink call.sink' exit asks.command tells asks.short asks.hex asks.dump call.answer))

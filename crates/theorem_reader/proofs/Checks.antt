@@ -16,6 +16,7 @@ use Rattle.cli_words.specs.Commands.{IsCommand}
 use Rattle.cli_words.specs.Printed.{no_memory}
 use Rattle.cli_requests.specs.Reading.{AsksByText, IsUnread, Bad, Good, most_input}
 use Rattle.cli_words.specs.Stream.{Stream}
+use Rattle.byte_streams.specs.Streams.{Input}
 use Rattle.cli_requests.specs.Asking.{Asks, Tells}
 use Rattle.cli_jobs.specs.Runs.{Says}
 use Rattle.tkernel_cli.specs.Answer.{Does, IsAnswer}
@@ -54,18 +55,18 @@ line_told image flash sink sink' exit job done line =
     let own = subst (λ j. Does j sink sink' exit) line.line done in
     Verdicts line.verdict line.is own.0.0 own.0.1
 
-by_source : (image flash text : List ℕ) (position : ℕ) (source source' sink sink' : Stream) (exit : Exit) (job : Job) → Tells source source' text → length text ≤ most_input → HexText text image position → IsDump (drop position text) flash
+by_source : (image flash text : List ℕ) (position : ℕ) (source source' : Input) (sink sink' : Stream) (exit : Exit) (job : Job) → Tells source source' text → length text ≤ most_input → HexText text image position → IsDump (drop position text) flash
     → Does job sink sink' exit → AsksByText CheckAsks source source' job → Answers image flash sink sink' exit
 by_source image flash text position source source' sink sink' exit job tells short hex dump done (inl (IsUnread.ReadFault is rose taken)) = absurd (tells.read rose)
 by_source image flash text position source source' sink sink' exit job tells short hex dump done (inl (IsUnread.TooLong is taken)) =
-    absurd (omega (arith, taken_of source.told source'.told text (most_input + 1) tells.told taken, short))
+    absurd (omega (arith, taken_of source source' text (most_input + 1) tells.told taken, short))
 by_source image flash text position source source' sink sink' exit job tells short hex dump done (inl (IsUnread.NoMemory is taken)) = Wanting (subst (λ j. Does j sink sink' exit) is done)
 by_source image flash text position source source' sink sink' exit job tells short hex dump done (inr judged) =
     let gave = judged.1 in
-    let same = all_taken source.told source'.told text judged.0 tells.told gave.taken gave.end in
+    let same = all_taken source source' text judged.0 tells.told gave.taken gave.end in
     line_told image flash sink sink' exit job done (of_text text image flash position job hex dump (subst (λ t. CheckAsks t job) same judged.2))
 
-pub check_answers : (words : List (List ℕ)) (image flash text : List ℕ) (position : ℕ) (source source' sink sink' : Stream) (exit : Exit) → IsCommand words Check → Tells source source' text → length text ≤ most_input → HexText text image position → IsDump (drop position text) flash
+pub check_answers : (words : List (List ℕ)) (image flash text : List ℕ) (position : ℕ) (source source' : Input) (sink sink' : Stream) (exit : Exit) → IsCommand words Check → Tells source source' text → length text ≤ most_input → HexText text image position → IsDump (drop position text) flash
     → IsAnswer words source source' sink sink' exit → Answers image flash sink sink' exit
 check_answers words image flash text position source source' sink sink' exit is tells short hex dump answer = elim answer.asked [
   | inl asked ↦

@@ -3,13 +3,13 @@ use Rattle.std.proofs.Common.{◌≡◌, ◌⊎◌, ◌≤◌, ℕ, List, [], �
 use Rattle.std.specs.Io.KnownBytes.{Appends}
 use Rattle.tk_io.specs.Memory.{SinkState}
 use Rattle.byte_streams.specs.Faults.{Rose}
-use Rattle.byte_streams.specs.Streams.{CutShort}
+use Rattle.byte_streams.specs.Streams.{CutShort, Input}
 use Rattle.cli_words.specs.declared.job.Job.{Job}
 use Rattle.cli_words.specs.declared.status.Status.{Status}
 use Rattle.cli_words.specs.declared.status.Status.TheVariants as statuses
 use Rattle.cli_words.specs.Status.{number_of}
 use Rattle.cli_words.specs.Stream.{Stream}
-use Rattle.cli_requests.specs.Asking.{IsWarranted, Tells}
+use Rattle.cli_requests.specs.Asking.{IsWarranted}
 use Rattle.cli_jobs.specs.Runs.{Says}
 use Rattle.tkernel_cli.specs.declared.top.Exit.{Exit}
 use Rattle.tkernel_cli.specs.Answer.{Does, IsAnswer, IsExact}
@@ -44,13 +44,12 @@ taken_is (Some xs) (Some ys) taken text first last appended =
 
 -- A call. -------------------------------------------------------------------------------------------------
 
--- a call over a source that told this text and didn't fail, and a sink that was empty and had counted no fault
-pub record Call (words : List (List ℕ)) (text : List ℕ) (exit : Exit) (status faults : ℕ) (taken : List ℕ) : Type 0 where
-  pub source : Stream
-  pub source' : Stream
+-- a call over a sink that was empty and had counted no fault
+pub record Call (words : List (List ℕ)) (exit : Exit) (status faults : ℕ) (taken : List ℕ) : Type 0 where
+  pub source : Input
+  pub source' : Input
   pub sink : Stream
   pub sink' : Stream
-  pub told : Tells source source' text
   pub empty : sink.told ≡ Some []
   pub sound : sink.faults ≡ 0
   pub taken_is : sink'.told ≡ Some taken
@@ -59,14 +58,13 @@ pub record Call (words : List (List ℕ)) (text : List ℕ) (exit : Exit) (statu
   pub answer : IsAnswer words source source' sink sink' exit
   pub exact : IsExact words source source' sink sink' exit
 
-pub call_of : (words : List (List ℕ)) (text : List ℕ) (exit : Exit) (status : ℕ) (taken : List ℕ) (source source' sink sink' : Stream) → source.told ≡ Some text → (Rose source.faults source'.faults → ⊥) → sink.told ≡ Some [] → sink.faults ≡ 0
-    → sink'.told ≡ Some taken → status ≡ number_of exit.status → IsAnswer words source source' sink sink' exit → IsExact words source source' sink sink' exit → Call words text exit status sink'.faults taken
-call_of words text exit status taken source source' sink sink' told read empty sound last number answer exact = record {
+abbrev pub call_of : (words : List (List ℕ)) (exit : Exit) (status : ℕ) (taken : List ℕ) (source source' : Input) (sink sink' : Stream) → sink.told ≡ Some [] → sink.faults ≡ 0
+    → sink'.told ≡ Some taken → status ≡ number_of exit.status → IsAnswer words source source' sink sink' exit → IsExact words source source' sink sink' exit → Call words exit status sink'.faults taken
+call_of words exit status taken source source' sink sink' empty sound last number answer exact = record {
   source = source;
   source' = source';
   sink = sink;
   sink' = sink';
-  told = record { told = told; read = read };
   empty = empty;
   sound = sound;
   taken_is = last;
@@ -77,9 +75,9 @@ call_of words text exit status taken source source' sink sink' told read empty s
 }
 
 -- a text of which the sink took a part
-pub cut_by : (words : List (List ℕ)) (text : List ℕ) (exit : Exit) (status faults : ℕ) (taken : List ℕ) (call : Call words text exit status faults taken) (whole : List ℕ)
+pub cut_by : (words : List (List ℕ)) (exit : Exit) (status faults : ℕ) (taken : List ℕ) (call : Call words exit status faults taken) (whole : List ℕ)
     → exit.status ≡ statuses.WriteFault → CutShort call.sink.told call.sink'.told whole → IsTold Fails 6 whole status taken
-cut_by words text exit status faults taken call whole is put = (
+cut_by words exit status faults taken call whole is put = (
   call.status_is ∙ ap number_of is,
   record { count = put.0; less = put.1; is = taken_is call.sink.told call.sink'.told taken _ call.empty call.taken_is put.2 },
 )
@@ -90,11 +88,11 @@ retold Serves own own' whole whole' status taken number text told = (told.0 ∙ 
 retold Fails own own' whole whole' status taken number text told = (told.0, subst (IsFront taken) text told.1)
 
 -- how it told a text
-pub told_how : (words : List (List ℕ)) (text : List ℕ) (exit : Exit) (status faults : ℕ) (taken : List ℕ) (call : Call words text exit status faults taken) (own : Status) (whole : List ℕ)
+pub told_how : (words : List (List ℕ)) (exit : Exit) (status faults : ℕ) (taken : List ℕ) (call : Call words exit status faults taken) (own : Status) (whole : List ℕ)
     → Says own whole call.sink call.sink' exit.status → Somehow call.sink call.sink' (λ sink. IsTold sink (number_of own) whole status taken)
-told_how words text exit status faults taken call own whole said = elim said [
+told_how words exit status faults taken call own whole said = elim said [
   | inl is ↦ (Serves, tt, (call.status_is ∙ ap number_of is.0, taken_is call.sink.told call.sink'.told taken whole call.empty call.taken_is is.1))
-  | inr cut ↦ (Fails, cut.1, cut_by words text exit status faults taken call whole cut.0 cut.2)
+  | inr cut ↦ (Fails, cut.1, cut_by words exit status faults taken call whole cut.0 cut.2)
 ]
 
 -- this is so of one that served, or of one that failed and counted a fault
@@ -103,20 +101,20 @@ pub data IsSoThen (faults : ℕ) (So : Sink → Type 0) : Type 0 where
   Failed : 1 ≤ faults → So Fails → IsSoThen faults So
 
 -- what is so of its sink
-pub so_is : (words : List (List ℕ)) (text : List ℕ) (exit : Exit) (status faults : ℕ) (taken : List ℕ) (call : Call words text exit status faults taken) (So : Sink → Type 0) → Somehow call.sink call.sink' So → IsSoThen faults So
-so_is words text exit status faults taken call So (Serves, went, so) = Served so
-so_is words text exit status faults taken call So (Fails, rose, so) = Failed (omega (arith, call.sound, call.faults_are, rose)) so
+pub so_is : (words : List (List ℕ)) (exit : Exit) (status faults : ℕ) (taken : List ℕ) (call : Call words exit status faults taken) (So : Sink → Type 0) → Somehow call.sink call.sink' So → IsSoThen faults So
+so_is words exit status faults taken call So (Serves, went, so) = Served so
+so_is words exit status faults taken call So (Fails, rose, so) = Failed (omega (arith, call.sound, call.faults_are, rose)) so
 
 -- Its job. ------------------------------------------------------------------------------------------------
 
 -- what a call tells whose words and text ask for this job
-pub told_by : (words : List (List ℕ)) (text : List ℕ) (exit : Exit) (status faults : ℕ) (taken : List ℕ) (call : Call words text exit status faults taken) (job : Job) (So : Sink → Type 0)
+pub told_by : (words : List (List ℕ)) (exit : Exit) (status faults : ℕ) (taken : List ℕ) (call : Call words exit status faults taken) (job : Job) (So : Sink → Type 0)
     → IsWarranted words call.source call.source' job → ((sink : Sink) → IsTold sink 8 no_memory status taken → exit.kept ≡ None → exit.tasks ≡ None → So sink) → (Does job call.sink call.sink' exit → Somehow call.sink call.sink' So)
     → IsSoThen faults So
-told_by words text exit status faults taken call job So warranted wanting done =
-    so_is words text exit status faults taken call So
+told_by words exit status faults taken call job So warranted wanting done =
+    so_is words exit status faults taken call So
     (elim (call.exact job warranted) [
-      | inl none ↦ so_then call.sink call.sink' _ So (λ sink told. wanting sink told none.0.1 none.1) (told_how words text exit status faults taken call _ _ none.0.0)
+      | inl none ↦ so_then call.sink call.sink' _ So (λ sink told. wanting sink told none.0.1 none.1) (told_how words exit status faults taken call _ _ none.0.0)
       | inr own ↦ done own
     ])
 

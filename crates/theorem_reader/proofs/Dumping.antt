@@ -8,6 +8,7 @@ use Rattle.program_steps.specs.Machines.{Machine}
 use Rattle.cli_words.specs.declared.command.Command.TheVariants.{Dump}
 use Rattle.cli_words.specs.declared.job.Job.TheVariants as jobs
 use Rattle.cli_words.specs.declared.status.Status.{Status}
+use Rattle.cli_requests.specs.Asking.{Tells}
 use Rattle.tkernel_cli.specs.declared.top.Exit.{Exit}
 use Rattle.cli_requests.specs.Reading.{Good}
 use Rattle.cli_jobs.specs.Runs.{Runs}
@@ -38,19 +39,19 @@ has_ended asked told m (Runs.Ended unlisted run) = Well (ends_well asked silent 
 has_ended asked told m (Runs.Failed run) = InAFault run.op (ends_in_a_fault asked silent silent told m run)
 has_ended asked told m (Runs.Cut run) = absurd (not_risen 0 0 refl refl run.rose)
 
-dumped : (asked : Asked) (words : List (List ℕ)) (text : List ℕ) (exit : Exit) (status faults : ℕ) (taken : List ℕ) (call : Call words text exit status faults taken)
+dumped : (asked : Asked) (words : List (List ℕ)) (exit : Exit) (status faults : ℕ) (taken : List ℕ) (call : Call words exit status faults taken)
     → HasDumped (request_of asked) call.sink call.sink' exit.status exit.kept → Somehow call.sink call.sink' (λ sink. IsDumped sink asked status taken exit.kept)
-dumped asked words text exit status faults taken call done =
+dumped asked words exit status faults taken call done =
     let ended = has_ended asked done.ended done.machine done.runs in
     let So : Sink → Type 0 = λ sink. IsDumped sink asked status taken exit.kept in
     elim done.said [
-      | inl said ↦ so_then call.sink call.sink' _ So (λ sink told. Dumped done.machine done.kept ended (retold sink 0 0 _ _ status taken refl (dump_same done.machine.kernel.mote.flash.words) told)) (told_how words text exit status faults taken call _ _ said)
-      | inr none ↦ so_then call.sink call.sink' _ So (λ sink told. Unwritten done.machine done.kept ended told) (told_how words text exit status faults taken call _ _ none)
+      | inl said ↦ so_then call.sink call.sink' _ So (λ sink told. Dumped done.machine done.kept ended (retold sink 0 0 _ _ status taken refl (dump_same done.machine.kernel.mote.flash.words) told)) (told_how words exit status faults taken call _ _ said)
+      | inr none ↦ so_then call.sink call.sink' _ So (λ sink told. Unwritten done.machine done.kept ended told) (told_how words exit status faults taken call _ _ none)
     ]
 
-pub dump_told : (words : List (List ℕ)) (text : List ℕ) (exit : Exit) (status faults : ℕ) (taken : List ℕ) (call : Call words text exit status faults taken) (asked : Asked)
+pub dump_told : (words : List (List ℕ)) (exit : Exit) (status faults : ℕ) (taken : List ℕ) (call : Call words exit status faults taken) (text : List ℕ) → Tells call.source call.source' text → (asked : Asked)
     → AsksDump words text asked → IsSoThen faults (λ sink. IsDumped sink asked status taken exit.kept)
-dump_told words text exit status faults taken call asked asks =
-    told_by words text exit status faults taken call (jobs.Dump (request_of asked)) (λ sink. IsDumped sink asked status taken exit.kept)
-    (inl (Dump (options_of asked), asks.command, (text, call.told, inr (asks.input.short, Good (asked.image, asks.input.position) asks.input.hex (Good (script_of asked) asks.input.script refl)))))
-    (λ sink told none alone. NoMemory told none) (λ done. dumped asked words text exit status faults taken call done.0)
+dump_told words exit status faults taken call text tells asked asks =
+    told_by words exit status faults taken call (jobs.Dump (request_of asked)) (λ sink. IsDumped sink asked status taken exit.kept)
+    (inl (Dump (options_of asked), asks.command, (text, tells, inr (asks.input.short, Good (asked.image, asks.input.position) asks.input.hex (Good (script_of asked) asks.input.script refl)))))
+    (λ sink told none alone. NoMemory told none) (λ done. dumped asked words exit status faults taken call done.0)

@@ -24,5 +24,6 @@ pub mod Restarting
 pub mod TakingTurns
 pub mod Sharing
 pub mod Refusing
+pub mod Unread
 pub mod WorkedActs
 pub mod Longer

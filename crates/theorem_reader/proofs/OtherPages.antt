@@ -1,7 +1,7 @@
 -- Pages of the pool that an arrival doesn't make: each that is free stays free, and each that holds a run holds it still. So
 -- of their words only those of exit stubs change.
 use Rattle.std.proofs.Common.{◌≡◌, ◌≢◌, ℕ, zero, suc, ◌+◌, ◌-◌, ◌*◌, ◌/◌, ◌<◌, ◌≤◌, Bool, true, false, List, [], ◌∷◌, length, Option, Some, None, Ok, Err, arith, refl, sym, ap, ◌∙◌, inl, inr, subst}
-use Rattle.std.specs.Prelude.{◌==◌, ◌||◌, not, if◌then◌else◌, IfSome, Result}
+use Rattle.std.specs.Prelude.{◌==◌, if◌then◌else◌, IfSome, Result}
 use Rattle.std.proofs.lemmas.Bool.{cases_eq, cases_lt}
 use Rattle.flash_words.specs.Pages.{page_words, word_count, word_at, page_of, set_page}
 use Rattle.flash_words.specs.Layouts.{IsRight, image_of}
@@ -52,6 +52,7 @@ use Rattle.branch_bridge.proofs.MakeLaws.{prepared_makes, by_program, done_words
 use Rattle.branch_bridge.proofs.PartLaws.{arrives_parted}
 use Rattle.branch_bridge.specs.declared.rewriting.Torn.{Torn}
 use Rattle.branch_bridge.specs.Tried.{IsTorn}
+use Rattle.branch_bridge.proofs.PartLaws.{stubs_used}
 use Rattle.theorem_reader.specs.Pools.{IsExit, KeepsWord, Kept, Exits, KeepsCode}
 
 -- a page, in words before and in other ones
@@ -92,11 +93,6 @@ unlinked_stays layout image before words victim from page right code pool pool' 
           subst P (sym here) (run_stays (IsEntry layout words) image before words words' from first last short keeps.old (holds_more (IsEntry layout words) Anywhere image words' from first last (λ a v leads. tt) keeps.new)) is)
       | inr away ↦ same_stays layout image before words words' page right pool' keeps.whole keeps.whole' (keeps.others page away) is
     ]
-
-stubs_used : (itself used some : Bool) → (if itself || not used then false else some) ≡ true → used ≡ true
-stubs_used true used some is = absurd (cc)
-stubs_used false false some is = absurd (cc)
-stubs_used false true some is = refl
 
 one_stays : (layout : Layout) (image before : List ℕ) (now : Memory) (victim from page : ℕ) → IsRight layout → IsFaithful layout image now.words → IsPool layout from → IsPool layout page → Stays image before now.words page
     → (let told = perform now (unlinking image now.words victim from) in Stays image before (mended told.memory.words told.stop) page)

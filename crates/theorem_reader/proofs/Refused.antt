@@ -1,5 +1,5 @@
--- A script of several programs, their image and a dump that are refused.
-use Rattle.std.proofs.Common.{◌≡◌, ◌≢◌, ℕ, zero, suc, ◌≤◌, List, [], ◌∷◌, codes, map, length, slice_index, refl, ap, arith, inl, inr}
+-- A script, one of several programs, their image and a dump that are refused.
+use Rattle.std.proofs.Common.{◌≡◌, ◌≢◌, ℕ, zero, suc, ◌<◌, ◌≤◌, List, [], ◌∷◌, codes, map, length, slice_index, refl, ap, arith, inl, inr}
 use Rattle.std.specs.Prelude.{All}
 use Rattle.std.specs.List.{enumerate_from, range_with_len}
 use Rattle.hex.proofs.OnLiterals.{hex_on_literals}
@@ -9,17 +9,43 @@ use Rattle.hex_image.specs.Places.{Cell, word_of_cells}
 use Rattle.hex_image.specs.HexText.{HexText, IsBeforeEnd}
 use Rattle.hex_image.proofs.GrammarLemmas.{AreSound, sound_row}
 use Rattle.input_script.specs.declared.fault.ScriptFault.{ScriptFault}
-use Rattle.input_script.specs.declared.fault.ScriptFault.TheVariants.{Form}
-use Rattle.input_script.specs.Script.{nothing}
+use Rattle.input_script.specs.declared.fault.ScriptFault.TheVariants.{Form, Order, Range, TooMany}
+use Rattle.input_script.specs.Script.{Has, IsBad, nothing, number_of}
 use Rattle.flash_dump.specs.DumpLines.{HasPage}
 use Rattle.flash_dump.specs.declared.dump_line.DumpFault.TheVariants as dump_faults
 use Rattle.task_input.specs.Images.{IsApart, IsFirstMisplaced}
 use Rattle.task_input.specs.Scripts.{IsTaskLine, IsFault, Formless, InText, IsFirst}
 use Rattle.theorem_reader.specs.Examples.{example_of_tasks, words_of_tasks}
-use Rattle.theorem_reader.specs.Refusals.{IsRefused, BadScripts, BadImage, BadDump, bad_line}
+use Rattle.theorem_reader.specs.Refusals.{Runs, IsRefused, BadScript, BadScripts, BadImage, BadDump, bad_line}
 use Rattle.theorem_reader.specs.Runs.{example}
 use Rattle.theorem_reader.specs.Tasks.{tasks_options_of}
+use Rattle.cli_words.proofs.WorkedWords.{without_options}
+use Rattle.theorem_reader.proofs.Plainly.{no_script}
 use Rattle.theorem_reader.proofs.Exampled.{before_end, check_command, schedules, sound, tasks_command}
+
+-- A script. ----------------------------------------------------------------------------------------------
+
+abbrev script_text : List ℕ
+script_text = codes ":060000000FE00BBBFFCF77\n:00000001FF\nend\n"
+
+hex_before_script : HexText script_text example.image 36
+unfolding hex_on_literals
+hex_before_script = record { before = 1; ends = refl; lines = before_end; different = sound.different; small = sound.small; image = refl; cut = refl }
+
+no_statement : Has Form nothing (codes "end")
+no_statement statement is = grind (arith)
+
+no_earlier : (other : ScriptFault) → number_of other < 1 → ¬ Has other nothing (codes "end")
+no_earlier Form less has = omega (arith, less)
+no_earlier Order less has = omega (arith, less)
+no_earlier Range less has = omega (arith, less)
+no_earlier TooMany less has = omega (arith, less)
+
+faulty : IsBad (codes "end\n") 1 Form
+faulty = record { front = []; line = codes "end"; rest = []; cut = refl; number_is = refl; before = nothing; accepted = no_script; fault_is = record { has = no_statement; first = no_earlier } }
+
+pub bad_script : IsRefused (codes "run" ∷ []) script_text 3 (bad_line (codes "script") 1 (codes "form"))
+bad_script = BadScript (Runs _ without_options) (omega arith) example.image 36 hex_before_script 1 Form faulty refl refl
 
 -- A script of several programs. ---------------------------------------------------------------------------
 

@@ -11,27 +11,28 @@ use Rattle.cli_words.specs.declared.command.Command.TheVariants.{Help, Run, Dump
 use Rattle.cli_words.specs.declared.job.Job.TheVariants as jobs
 use Rattle.cli_words.specs.declared.status.Status.{Status}
 use Rattle.cli_words.specs.declared.status.Status.TheVariants as statuses
+use Rattle.printed_text.specs.PlainLines.{usage_line}
 use Rattle.printed_text.specs.FaultyLines.{bad_image_text, bad_line_text, hex_word, script_word, dump_word, asm_word}
 use Rattle.cli_words.specs.Status.{number_of}
-use Rattle.cli_words.specs.Stream.{Stream}
+use Rattle.byte_streams.specs.Streams.{Input}
 use Rattle.cli_requests.specs.Asking.{Tells, IsWarranted}
 use Rattle.cli_requests.specs.Reading.{Bad, Good}
 use Rattle.cli_requests.specs.TasksCommand.{Refused}
 use Rattle.cli_jobs.specs.Runs.{Says}
 use Rattle.tkernel_cli.specs.declared.top.Exit.{Exit}
-use Rattle.theorem_reader.specs.Refusals.{ReadsScript, Runs, Dumps, Restarts, ReadsHex, Scripted, Several, Checks, ReadsText, Program, Source, bad_line, IsRefused, Helped, Unknown, TooLong, BadHex, BadScript, BadScripts, BadImage, BadDump, BadSource, IsSaid, NoMemory, Said, AsksAsm, IsAssembled}
+use Rattle.theorem_reader.specs.Refusals.{ReadsScript, Runs, Dumps, Restarts, ReadsHex, Scripted, Several, Checks, ReadsText, Program, Source, bad_line, IsUsage, Helped, Unknown, IsRefused, Usage, TooLong, BadHex, BadScript, BadScripts, BadImage, BadDump, BadSource, IsSaid, NoMemory, Said, AsksAsm, IsAssembled}
 use Rattle.theorem_reader.specs.Texts.{address}
 use Rattle.theorem_reader.proofs.Doing.{IsSoThen, Call, Somehow, so_then, told_how, told_by}
 
 -- a line that is warranted
-record Warrants (words : List (List ℕ)) (source source' : Stream) (own : ℕ) (line : List ℕ) : Type 0 where
+record Warrants (words : List (List ℕ)) (source source' : Input) (own : ℕ) (line : List ℕ) : Type 0 where
   status : Status
   items : List ℕ
   warranted : IsWarranted words source source' (jobs.Print status (record { items = items }))
   status_is : number_of status ≡ own
   line_is : items ≡ line
 
-bad_hex : (words : List (List ℕ)) (source source' : Stream) (text : List ℕ) (number : ℕ) (fault : HexFault) → Tells source source' text → length text ≤ 2097152 → HexBad text number fault → ReadsHex words
+bad_hex : (words : List (List ℕ)) (source source' : Input) (text : List ℕ) (number : ℕ) (fault : HexFault) → Tells source source' text → length text ≤ 2097152 → HexBad text number fault → ReadsHex words
     → IsWarranted words source source' (jobs.Print statuses.BadInput (record { items = bad_line_text (codes "bad hex line ") number (hex_word fault) }))
 bad_hex words source source' text number fault tells short bad (Scripted (Runs options is)) = inl (Run options, is, (text, tells, inr (short, Bad number (hex_word fault) (fault, bad, refl) refl)))
 bad_hex words source source' text number fault tells short bad (Scripted (Dumps options is)) = inl (Dump options, is, (text, tells, inr (short, Bad number (hex_word fault) (fault, bad, refl) refl)))
@@ -39,13 +40,13 @@ bad_hex words source source' text number fault tells short bad (Scripted (Restar
 bad_hex words source source' text number fault tells short bad (Several options is) = inl (Tasks options, is, (text, tells, inr (short, Bad number (hex_word fault) (fault, bad, refl) refl)))
 bad_hex words source source' text number fault tells short bad (Checks is) = inl (Check, is, (text, tells, inr (short, Bad number (hex_word fault) (fault, bad, refl) refl)))
 
-bad_script : (words : List (List ℕ)) (source source' : Stream) (text image : List ℕ) (position number : ℕ) (fault : ScriptFault) → Tells source source' text → length text ≤ 2097152 → HexText text image position → IsBad (drop position text) number fault → ReadsScript words
+bad_script : (words : List (List ℕ)) (source source' : Input) (text image : List ℕ) (position number : ℕ) (fault : ScriptFault) → Tells source source' text → length text ≤ 2097152 → HexText text image position → IsBad (drop position text) number fault → ReadsScript words
     → IsWarranted words source source' (jobs.Print statuses.BadInput (record { items = bad_line_text (codes "bad script line ") number (script_word fault) }))
 bad_script words source source' text image position number fault tells short hex bad (Runs options is) = inl (Run options, is, (text, tells, inr (short, Good (image, position) hex (Bad number (script_word fault) (fault, bad, refl) refl))))
 bad_script words source source' text image position number fault tells short hex bad (Dumps options is) = inl (Dump options, is, (text, tells, inr (short, Good (image, position) hex (Bad number (script_word fault) (fault, bad, refl) refl))))
 bad_script words source source' text image position number fault tells short hex bad (Restarts options is) = inl (Restart options, is, (text, tells, inr (short, Good (image, position) hex (Bad number (script_word fault) (fault, bad, refl) refl))))
 
-too_long : (words : List (List ℕ)) (source source' : Stream) (text : List ℕ) → Tells source source' text → 2097152 < length text → ReadsText words
+too_long : (words : List (List ℕ)) (source source' : Input) (text : List ℕ) → Tells source source' text → 2097152 < length text → ReadsText words
     → IsWarranted words source source' (jobs.Print statuses.BadInput (record { items = codes "input too long\n" }))
 too_long words source source' text tells long (Program (Scripted (Runs options is))) = inl (Run options, is, (text, tells, inl (long, refl)))
 too_long words source source' text tells long (Program (Scripted (Dumps options is))) = inl (Dump options, is, (text, tells, inl (long, refl)))
@@ -75,11 +76,12 @@ asm_line : (number : ℕ) (fault : AsmFault) → bad_line_text (codes "bad asm l
 unfolding bad_line_text
 asm_line number fault = refl
 
-warrants : (words : List (List ℕ)) (source source' : Stream) (text : List ℕ) (own : ℕ) (line : List ℕ) → Tells source source' text → IsRefused words text own line → Warrants words source source' own line
-warrants words source source' text own line tells (Helped is own_is line_is) =
-    record { status = statuses.Done; items = _; warranted = inl (Help, is, refl); status_is = sym own_is; line_is = sym line_is }
-warrants words source source' text own line tells (Unknown none own_is line_is) =
-    record { status = statuses.Usage; items = _; warranted = inr (none, refl); status_is = sym own_is; line_is = sym line_is }
+usage_warranted : (words : List (List ℕ)) (source source' : Input) (own : ℕ) → IsUsage words own → Warrants words source source' own usage_line
+usage_warranted words source source' own (Helped is own_is) = record { status = statuses.Done; items = _; warranted = inl (Help, is, refl); status_is = sym own_is; line_is = refl }
+usage_warranted words source source' own (Unknown none own_is) = record { status = statuses.Usage; items = _; warranted = inr (none, refl); status_is = sym own_is; line_is = refl }
+
+warrants : (words : List (List ℕ)) (source source' : Input) (text : List ℕ) (own : ℕ) (line : List ℕ) → Tells source source' text → IsRefused words text own line → Warrants words source source' own line
+warrants words source source' text own line tells (Usage usage line_is) = subst (Warrants words source source' own) (sym line_is) (usage_warranted words source source' own usage)
 warrants words source source' text own line tells (TooLong reads long own_is line_is) =
     record { status = statuses.BadInput; items = _; warranted = too_long words source source' text tells long reads; status_is = sym own_is; line_is = sym line_is }
 warrants words source source' text own line tells (BadHex reads short number fault bad own_is line_is) =
@@ -96,23 +98,32 @@ warrants words source source' text own line tells (BadSource is short number fau
     record { status = statuses.BadInput; items = _; warranted = inl (Asm, is, (text, tells, inr (short, Bad number (asm_word fault) (fault, bad, refl) refl))); status_is = sym own_is; line_is = asm_line number fault ∙ sym line_is }
 
 -- a text that is told, and no machine
-said_how : (words : List (List ℕ)) (text : List ℕ) (exit : Exit) (status faults : ℕ) (taken : List ℕ) (call : Call words text exit status faults taken) (own : Status) (whole : List ℕ) → Says own whole call.sink call.sink' exit.status → exit.kept ≡ None
+pub said_how : (words : List (List ℕ)) (exit : Exit) (status faults : ℕ) (taken : List ℕ) (call : Call words exit status faults taken) (own : Status) (whole : List ℕ) → Says own whole call.sink call.sink' exit.status → exit.kept ≡ None
     → Somehow call.sink call.sink' (λ sink. IsSaid sink (number_of own) whole status taken exit.kept)
-said_how words text exit status faults taken call own whole said none =
-    so_then call.sink call.sink' _ (λ sink. IsSaid sink (number_of own) whole status taken exit.kept) (λ sink told. Said told none) (told_how words text exit status faults taken call own whole said)
+said_how words exit status faults taken call own whole said none =
+    so_then call.sink call.sink' _ (λ sink. IsSaid sink (number_of own) whole status taken exit.kept) (λ sink told. Said told none) (told_how words exit status faults taken call own whole said)
 
-pub refused_told : (words : List (List ℕ)) (text : List ℕ) (exit : Exit) (status faults : ℕ) (taken : List ℕ) (call : Call words text exit status faults taken) (own : ℕ) (line : List ℕ)
-    → IsRefused words text own line → IsSoThen faults (λ sink. IsSaid sink own line status taken exit.kept)
-refused_told words text exit status faults taken call own line refused =
-    let w = warrants words call.source call.source' text own line call.told refused in
+-- a line that is warranted is told
+warranted_told : (words : List (List ℕ)) (exit : Exit) (status faults : ℕ) (taken : List ℕ) (call : Call words exit status faults taken) (own : ℕ) (line : List ℕ)
+    → Warrants words call.source call.source' own line → IsSoThen faults (λ sink. IsSaid sink own line status taken exit.kept)
+warranted_told words exit status faults taken call own line w =
     let So : ℕ → List ℕ → Type 0 = λ n whole. IsSoThen faults (λ sink. IsSaid sink n whole status taken exit.kept) in
     subst (λ whole. So own whole) w.line_is (subst (λ n. So n w.items) w.status_is
-    (told_by words text exit status faults taken call _ (λ sink. IsSaid sink (number_of w.status) w.items status taken exit.kept) w.warranted (λ sink told none alone. NoMemory told none)
-    (λ done. said_how words text exit status faults taken call w.status w.items done.0.0 done.0.1)))
+    (told_by words exit status faults taken call _ (λ sink. IsSaid sink (number_of w.status) w.items status taken exit.kept) w.warranted (λ sink told none alone. NoMemory told none)
+    (λ done. said_how words exit status faults taken call w.status w.items done.0.0 done.0.1)))
 
-pub asm_told_of : (words : List (List ℕ)) (text : List ℕ) (exit : Exit) (status faults : ℕ) (taken : List ℕ) (call : Call words text exit status faults taken) (image : List ℕ)
+pub usage_told : (words : List (List ℕ)) (exit : Exit) (status faults : ℕ) (taken : List ℕ) (call : Call words exit status faults taken) (own : ℕ)
+    → IsUsage words own → IsSoThen faults (λ sink. IsSaid sink own usage_line status taken exit.kept)
+usage_told words exit status faults taken call own usage = warranted_told words exit status faults taken call own usage_line (usage_warranted words call.source call.source' own usage)
+
+pub refused_told : (words : List (List ℕ)) (exit : Exit) (status faults : ℕ) (taken : List ℕ) (call : Call words exit status faults taken) (text : List ℕ) → Tells call.source call.source' text → (own : ℕ) (line : List ℕ)
+    → IsRefused words text own line → IsSoThen faults (λ sink. IsSaid sink own line status taken exit.kept)
+refused_told words exit status faults taken call text tells own line refused =
+    warranted_told words exit status faults taken call own line (warrants words call.source call.source' text own line tells refused)
+
+pub asm_told_of : (words : List (List ℕ)) (exit : Exit) (status faults : ℕ) (taken : List ℕ) (call : Call words exit status faults taken) (text : List ℕ) → Tells call.source call.source' text → (image : List ℕ)
     → AsksAsm words text image → IsSoThen faults (λ sink. IsAssembled sink image status taken exit.kept)
-asm_told_of words text exit status faults taken call image asks =
-    told_by words text exit status faults taken call _ (λ sink. IsAssembled sink image status taken exit.kept)
-    (inl (Asm, asks.command, (text, call.told, inr (asks.short, Good image (asks.faultless, asks.source) refl))))
-    (λ sink told none alone. NoMemory told none) (λ done. said_how words text exit status faults taken call statuses.Done (written image) done.0.0 done.0.1)
+asm_told_of words exit status faults taken call text tells image asks =
+    told_by words exit status faults taken call _ (λ sink. IsAssembled sink image status taken exit.kept)
+    (inl (Asm, asks.command, (text, tells, inr (asks.short, Good image (asks.faultless, asks.source) refl))))
+    (λ sink told none alone. NoMemory told none) (λ done. said_how words exit status faults taken call statuses.Done (written image) done.0.0 done.0.1)

@@ -30,6 +30,7 @@ use Rattle.tk_restart.specs.Restarting.{Restarts}
 use Rattle.tk_restart.proofs.KeepingLaws.{kept_page, kept_lists, lists_before}
 use Rattle.cli_words.specs.declared.command.Command.TheVariants.{Restart}
 use Rattle.cli_words.specs.declared.status.Status.{Status}
+use Rattle.cli_requests.specs.Asking.{Tells}
 use Rattle.tkernel_cli.specs.declared.top.Exit.{Exit}
 use Rattle.cli_requests.specs.Reading.{Good}
 use Rattle.cli_words.specs.Stream.{Stream}
@@ -233,17 +234,17 @@ stands_over asked before now told kept few done n m follows within =
     let from = stands_from (IsStart asked flash) asked (renewed done.left) (used_pages (layout_of (length asked.image)) done.left.words) n m (over_is asked before now told kept few done) refl done.faithful.held follows within in
     subst (λ k. StandsFrom (IsStart asked flash) k asked (original_of asked n) m) (used_is asked.image done.left.words) from
 
-restarted : (asked : Asked) (words : List (List ℕ)) (text : List ℕ) (exit : Exit) (status faults : ℕ) (taken : List ℕ) (call : Call words text exit status faults taken) → length asked.image ≤ 24576
+restarted : (asked : Asked) (words : List (List ℕ)) (exit : Exit) (status faults : ℕ) (taken : List ℕ) (call : Call words exit status faults taken) → length asked.image ≤ 24576
     → (done : HasRestarted (request_of asked) call.sink call.sink' exit.status exit.kept)
     → RunsOver (request_of asked) done.left (restart_text done.told.kept done.told.dropped) call.sink call.sink' exit.status done.machine
     → Somehow call.sink call.sink' (λ sink. IsRestarted sink asked status taken exit.kept)
-restarted asked words text exit status faults taken call few done (RunsOver.Unbegun none) =
+restarted asked words exit status faults taken call few done (RunsOver.Unbegun none) =
     let flash = left_of asked call.sink call.sink' exit.status exit.kept few done in
     let own = line_told asked call.sink call.sink' exit.status exit.kept few done in (
       Fails,
       none.rose,
       Unbegun flash done.machine done.kept refl (record {
-        told = retold Fails 6 6 _ _ status taken refl own (cut_by words text exit status faults taken call _ none.status_is none.put);
+        told = retold Fails 6 6 _ _ status taken refl own (cut_by words exit status faults taken call _ none.status_is none.put);
         start = subst (λ (m : Machine). IsStart asked flash m.kernel.mote) (sym none.is) (over_is asked call.sink call.sink' exit.status exit.kept few done);
         pc = ap (λ (m : Machine). m.at) none.is;
         steps = ap (λ (m : Machine). m.steps) none.is;
@@ -253,7 +254,7 @@ restarted asked words text exit status faults taken call few done (RunsOver.Unbe
         end = ap (λ (m : Machine). m.end) none.is;
       }),
     )
-restarted asked words text exit status faults taken call few done (RunsOver.Ended run) =
+restarted asked words exit status faults taken call few done (RunsOver.Ended run) =
     let r = original_of asked asked.steps in
     let m = done.machine in
     let flash = left_of asked call.sink call.sink' exit.status exit.kept few done in
@@ -266,8 +267,8 @@ restarted asked words text exit status faults taken call few done (RunsOver.Ende
       unbroken = run.unbroken;
       unrefused = run.unrefused;
       faithful = whole_of asked m run.follows.sound (ap (λ (p : Program). p.image) run.follows.at.program) (λ op. no_fault _ m op run.end);
-    })) (told_how words text exit status faults taken call _ _ run.said)
-restarted asked words text exit status faults taken call few done (RunsOver.Cut run) =
+    })) (told_how words exit status faults taken call _ _ run.said)
+restarted asked words exit status faults taken call few done (RunsOver.Cut run) =
     let m = done.machine in
     let flash = left_of asked call.sink call.sink' exit.status exit.kept few done in
     let own = line_told asked call.sink call.sink' exit.status exit.kept few done in
@@ -275,16 +276,16 @@ restarted asked words text exit status faults taken call few done (RunsOver.Cut 
       Fails,
       run.rose,
       Cut flash m done.kept refl (record {
-        told = retold Fails 6 6 _ _ status taken refl whole (cut_by words text exit status faults taken call _ run.status_is run.put);
+        told = retold Fails 6 6 _ _ status taken refl whole (cut_by words exit status faults taken call _ run.status_is run.put);
         stands = stands_over asked call.sink call.sink' exit.status exit.kept few done m.steps m run.follows run.within;
         broken = run.broken;
         faithful = lacking_of asked m run.follows.sound (ap (λ (p : Program). p.image) run.follows.at.program);
       }),
     )
 
-pub restart_told : (words : List (List ℕ)) (text : List ℕ) (exit : Exit) (status faults : ℕ) (taken : List ℕ) (call : Call words text exit status faults taken) (asked : Asked)
+pub restart_told : (words : List (List ℕ)) (exit : Exit) (status faults : ℕ) (taken : List ℕ) (call : Call words exit status faults taken) (text : List ℕ) → Tells call.source call.source' text → (asked : Asked)
     → AsksRestart words text asked → IsSoThen faults (λ sink. IsRestarted sink asked status taken exit.kept)
-restart_told words text exit status faults taken call asked asks =
-    told_by words text exit status faults taken call _ (λ sink. IsRestarted sink asked status taken exit.kept)
-    (inl (Restart (options_of asked), asks.command, (text, call.told, inr (asks.input.short, Good (asked.image, asks.input.position) asks.input.hex (Good (script_of asked) asks.input.script refl)))))
-    (λ sink told none alone. NoMemory told none) (λ done. restarted asked words text exit status faults taken call (few_words text asked.image asks.input.position asks.input.hex) done.0 done.0.over)
+restart_told words exit status faults taken call text tells asked asks =
+    told_by words exit status faults taken call _ (λ sink. IsRestarted sink asked status taken exit.kept)
+    (inl (Restart (options_of asked), asks.command, (text, tells, inr (asks.input.short, Good (asked.image, asks.input.position) asks.input.hex (Good (script_of asked) asks.input.script refl)))))
+    (λ sink told none alone. NoMemory told none) (λ done. restarted asked words exit status faults taken call (few_words text asked.image asks.input.position asks.input.hex) done.0 done.0.over)

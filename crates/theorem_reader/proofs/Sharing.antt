@@ -24,6 +24,7 @@ use Rattle.task_turns.proofs.Isolation.{once_follows}
 use Rattle.cli_words.specs.declared.command.Command.TheVariants.{Tasks as TasksCommand}
 use Rattle.cli_words.specs.declared.status.Status.{Status}
 use Rattle.cli_words.specs.declared.status.Status.TheVariants as status
+use Rattle.cli_requests.specs.Asking.{Tells}
 use Rattle.tkernel_cli.specs.declared.top.Exit.{Exit}
 use Rattle.cli_requests.specs.Reading.{Good}
 use Rattle.cli_jobs.specs.Runs.{status_of_end}
@@ -269,9 +270,9 @@ ended_state asked t each i below =
 sums_of : (t last : Tasks) (broken : Bool) → t ≡ counted last broken → AreSums t
 sums_of t last broken is = subst AreSums (sym is) (record { natural = refl; entries = refl })
 
-apart : (asked : AskedTasks) (words : List (List ℕ)) (text : List ℕ) (exit : Exit) (status faults : ℕ) (taken : List ℕ) (call : Call words text exit status faults taken) (t : Tasks) → length asked.scripts ≡ asked.count → 1 ≤ asked.count
+apart : (asked : AskedTasks) (words : List (List ℕ)) (exit : Exit) (status faults : ℕ) (taken : List ℕ) (call : Call words exit status faults taken) (t : Tasks) → length asked.scripts ≡ asked.count → 1 ≤ asked.count
     → RunsTasksToTheEnd (tasks_request_of asked) call.sink call.sink' exit.status t → Somehow call.sink call.sink' (λ sink. AreApart sink asked status taken t)
-apart asked words text exit status faults taken call t long some run =
+apart asked words exit status faults taken call t long some run =
     let told = told_in asked in
     let tasks : length t.tasks ≡ asked.count =
     ap (λ (z : Tasks). length z.tasks) run.is ∙ path_long asked.steps (start_in asked asked.scripts) run.plays run.last run.path ∙ start_long asked asked.scripts (omega (arith, long, some)) ∙ long in
@@ -283,29 +284,29 @@ apart asked words text exit status faults taken call t long some run =
       stints = have_stints asked asked.scripts t run.last run.plays refl long some run.start run.path run.is run.ended run.sound (ended_state asked t run.alone);
       sums = sums_of t run.last false run.is;
       unbroken = ap (λ (z : Tasks). z.broken) run.is;
-    }) (told_how words text exit status faults taken call _ _ run.said)
+    }) (told_how words exit status faults taken call _ _ run.said)
 
-are_run : (asked : AskedTasks) (words : List (List ℕ)) (text : List ℕ) (exit : Exit) (status faults : ℕ) (taken : List ℕ) (call : Call words text exit status faults taken) (t : Tasks) → length asked.scripts ≡ asked.count → 1 ≤ asked.count → exit.kept ≡ None → exit.tasks ≡ Some t
+are_run : (asked : AskedTasks) (words : List (List ℕ)) (exit : Exit) (status faults : ℕ) (taken : List ℕ) (call : Call words exit status faults taken) (t : Tasks) → length asked.scripts ≡ asked.count → 1 ≤ asked.count → exit.kept ≡ None → exit.tasks ≡ Some t
     → RunsTasks (tasks_request_of asked) call.sink call.sink' exit.status t → Somehow call.sink call.sink' (λ sink. AreRun sink asked status taken exit.kept exit.tasks)
-are_run asked words text exit status faults taken call t long some none kept (RunsTasks.Ended run) =
-    so_then call.sink call.sink' (λ sink. AreApart sink asked status taken t) (λ sink. AreRun sink asked status taken exit.kept exit.tasks) (λ sink is. Ended t is none kept) (apart asked words text exit status faults taken call t long some run)
-are_run asked words text exit status faults taken call t long some none kept (RunsTasks.Cut run) =
+are_run asked words exit status faults taken call t long some none kept (RunsTasks.Ended run) =
+    so_then call.sink call.sink' (λ sink. AreApart sink asked status taken t) (λ sink. AreRun sink asked status taken exit.kept exit.tasks) (λ sink is. Ended t is none kept) (apart asked words exit status faults taken call t long some run)
+are_run asked words exit status faults taken call t long some none kept (RunsTasks.Cut run) =
     let tried : told_of run.plays ≡ (tries (length run.plays) (turns_in asked)).told = ap (λ (a : After). a.told) (sym run.in_turn.tried) in (
       Fails,
       run.rose,
       Cut t refl (record {
         count = length run.plays;
-        told = retold Fails 6 6 _ _ status taken refl (told_same asked.quantum (told_of run.plays) ∙ ap (λ t. printed_text (printed_by asked.quantum t)) tried) (cut_by words text exit status faults taken call _ run.status_is run.put);
-        front = retold Fails 6 6 _ _ status taken refl (told_same asked.quantum (told_in asked)) (cut_by words text exit status faults taken call _ run.status_is run.front);
+        told = retold Fails 6 6 _ _ status taken refl (told_same asked.quantum (told_of run.plays) ∙ ap (λ t. printed_text (printed_by asked.quantum t)) tried) (cut_by words exit status faults taken call _ run.status_is run.put);
+        front = retold Fails 6 6 _ _ status taken refl (told_same asked.quantum (told_in asked)) (cut_by words exit status faults taken call _ run.status_is run.front);
         sums = sums_of t run.last true run.is;
         broken = ap (λ (z : Tasks). z.broken) run.is;
       }) none kept,
     )
 
-pub tasks_told : (words : List (List ℕ)) (text : List ℕ) (exit : Exit) (status faults : ℕ) (taken : List ℕ) (call : Call words text exit status faults taken) (asked : AskedTasks)
+pub tasks_told : (words : List (List ℕ)) (exit : Exit) (status faults : ℕ) (taken : List ℕ) (call : Call words exit status faults taken) (text : List ℕ) → Tells call.source call.source' text → (asked : AskedTasks)
     → AsksTasks words text asked → IsSoThen faults (λ sink. AreRun sink asked status taken exit.kept exit.tasks)
-tasks_told words text exit status faults taken call asked asks =
+tasks_told words exit status faults taken call text tells asked asks =
     let some = one_program words (tasks_options_of asked) asks.command in
-    told_by words text exit status faults taken call _ (λ sink. AreRun sink asked status taken exit.kept exit.tasks)
-    (inl (TasksCommand (tasks_options_of asked), asks.command, (text, call.told, inr (asks.short, Good (asked.image, asks.position) asks.hex (Good asked.scripts asks.scripts (Placed asks.placed refl))))))
-    (λ sink told none alone. NoMemory told none alone) (λ done. are_run asked words text exit status faults taken call done.tasks asks.scripts.each_task some done.none done.kept done.runs)
+    told_by words exit status faults taken call _ (λ sink. AreRun sink asked status taken exit.kept exit.tasks)
+    (inl (TasksCommand (tasks_options_of asked), asks.command, (text, tells, inr (asks.short, Good (asked.image, asks.position) asks.hex (Good asked.scripts asks.scripts (Placed asks.placed refl))))))
+    (λ sink told none alone. NoMemory told none alone) (λ done. are_run asked words exit status faults taken call done.tasks asks.scripts.each_task some done.none done.kept done.runs)

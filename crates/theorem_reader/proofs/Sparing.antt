@@ -63,28 +63,28 @@ spared_by layout old new t last stub arrival right code came kept unlisted tried
 -- Walks. --------------------------------------------------------------------------------------------------
 
 -- how many operations were tried never falls
-rises : (image : List ℕ) (x : State) (moves : List Move) (z : State) → Walk x moves z → Holds image x → (mote_of x).flash.ops ≤ (mote_of z).flash.ops
-rises image x [] z walk holds = omega (arith, ap (λ (s : State). (mote_of s).flash.ops) walk)
-rises image x (Begin line ∷ moves) z walk holds =
-    let one = follow image x (Begin line ∷ []) walk.0 (walk.0, walk.1, refl) holds in
-    omega (arith, ap (λ (m : Memory). m.ops) one.follow.1.flash, rises image walk.0 moves z walk.2 one.holds)
-rises image x (Within (Plain line) ∷ moves) z walk holds =
-    let one = follow image x (Within (Plain line) ∷ []) walk.0 (walk.0, walk.1, refl) holds in
-    omega (arith, ap (λ (m : Memory). m.ops) one.follow.1.flash, rises image walk.0 moves z walk.2 one.holds)
-rises image x (Within (Serve line stops) ∷ moves) z walk holds =
-    let one = follow image x (Within (Serve line stops) ∷ []) walk.0 (walk.0, walk.1, refl) holds in
-    omega (arith, ap (λ (m : Memory). m.ops) one.follow.1.flash, rises image walk.0 moves z walk.2 one.holds)
-rises image x (Take stops ∷ moves) z walk holds =
-    let one = follow image x (Take stops ∷ []) walk.0 (walk.0, walk.1, refl) holds in
-    omega (arith, ap (λ (m : Memory). m.ops) one.follow.1.flash, rises image walk.0 moves z walk.2 one.holds)
-rises image x (Arrive target made ops ∷ moves) z walk holds =
-    let one = follow image x (Arrive target made ops ∷ []) walk.0 (walk.0, walk.1, refl) holds in
-    omega (arith, one.follow.1.tried, rises image walk.0 moves z walk.2 one.holds)
+rises : (image : List ℕ) (quantum : ℕ) (x : State) (moves : List Move) (z : State) → Walk x moves z → Holds image quantum x → (mote_of x).flash.ops ≤ (mote_of z).flash.ops
+rises image quantum x [] z walk holds = omega (arith, ap (λ (s : State). (mote_of s).flash.ops) walk)
+rises image quantum x (Begin line ∷ moves) z walk holds =
+    let one = follow image quantum x (Begin line ∷ []) walk.0 (walk.0, walk.1, refl) holds in
+    omega (arith, ap (λ (m : Memory). m.ops) one.follow.1.flash, rises image quantum walk.0 moves z walk.2 one.holds)
+rises image quantum x (Within (Plain line) ∷ moves) z walk holds =
+    let one = follow image quantum x (Within (Plain line) ∷ []) walk.0 (walk.0, walk.1, refl) holds in
+    omega (arith, ap (λ (m : Memory). m.ops) one.follow.1.flash, rises image quantum walk.0 moves z walk.2 one.holds)
+rises image quantum x (Within (Serve line stops) ∷ moves) z walk holds =
+    let one = follow image quantum x (Within (Serve line stops) ∷ []) walk.0 (walk.0, walk.1, refl) holds in
+    omega (arith, ap (λ (m : Memory). m.ops) one.follow.1.flash, rises image quantum walk.0 moves z walk.2 one.holds)
+rises image quantum x (Take stops ∷ moves) z walk holds =
+    let one = follow image quantum x (Take stops ∷ []) walk.0 (walk.0, walk.1, refl) holds in
+    omega (arith, ap (λ (m : Memory). m.ops) one.follow.1.flash, rises image quantum walk.0 moves z walk.2 one.holds)
+rises image quantum x (Arrive target made ops ∷ moves) z walk holds =
+    let one = follow image quantum x (Arrive target made ops ∷ []) walk.0 (walk.0, walk.1, refl) holds in
+    omega (arith, one.follow.1.tried, rises image quantum walk.0 moves z walk.2 one.holds)
 
 -- the arrival of a walk
-arrival_spared : (image : List ℕ) (x y : State) (target last : ℕ) (made : Bool) (ops : ℕ) → Holds image x → MakesArrive x target made ops y → NoneListed (mote_of x).flash last → (mote_of y).flash.ops ≤ last
+arrival_spared : (image : List ℕ) (quantum : ℕ) (x y : State) (target last : ℕ) (made : Bool) (ops : ℕ) → Holds image quantum x → MakesArrive x target made ops y → NoneListed (mote_of x).flash last → (mote_of y).flash.ops ≤ last
     → used_pages (layout_of (length image)) (mote_of x).flash.words + (if made then 1 else 0) ≤ (layout_of (length image)).pool_pages → Sparing (layout_of (length image)) (mote_of x).flash (mote_of y).flash made
-arrival_spared image x y target last made ops holds makes unlisted tried fits =
+arrival_spared image quantum x y target last made ops holds makes unlisted tried fits =
     let l = layout_of (length image) in
     let after = after_arrived x y makes.store makes.arrival makes.after in
     let right = subst IsRight holds.laid makes.can.right in
@@ -103,29 +103,29 @@ Asks image m made last = (used_pages (layout_of (length image)) m.words + made �
 still_asks : (image : List ℕ) (old mid : Memory) (made last : ℕ) → mid ≡ old → Asks image old made last → Asks image mid made last
 still_asks image old mid made last same asks = subst (λ (m : Memory). Asks image m made last) (sym same) asks
 
-pub walk_spares : (image : List ℕ) (x : State) (moves : List Move) (z : State) (walk : Walk x moves z) → Holds image x → Asks image (mote_of x).flash (made_in (acts_of x moves z walk)) (mote_of z).flash.ops → Spares (mote_of x).flash (mote_of z).flash
-walk_spares image x [] z walk holds asks = subst (λ (s : State). Spares (mote_of x).flash (mote_of s).flash) walk (spares_self (mote_of x).flash)
-walk_spares image x (Begin line ∷ moves) z walk holds asks =
-    let one = follow image x (Begin line ∷ []) walk.0 (walk.0, walk.1, refl) holds in
-    subst (λ (m : Memory). Spares m (mote_of z).flash) one.follow.1.flash (walk_spares image walk.0 moves z walk.2 one.holds (still_asks image _ _ _ _ one.follow.1.flash asks))
-walk_spares image x (Within (Plain line) ∷ moves) z walk holds asks =
-    let one = follow image x (Within (Plain line) ∷ []) walk.0 (walk.0, walk.1, refl) holds in
-    subst (λ (m : Memory). Spares m (mote_of z).flash) one.follow.1.flash (walk_spares image walk.0 moves z walk.2 one.holds (still_asks image _ _ _ _ one.follow.1.flash asks))
-walk_spares image x (Within (Serve line stops) ∷ moves) z walk holds asks =
-    let one = follow image x (Within (Serve line stops) ∷ []) walk.0 (walk.0, walk.1, refl) holds in
-    subst (λ (m : Memory). Spares m (mote_of z).flash) one.follow.1.flash (walk_spares image walk.0 moves z walk.2 one.holds (still_asks image _ _ _ _ one.follow.1.flash asks))
-walk_spares image x (Take stops ∷ moves) z walk holds asks =
-    let one = follow image x (Take stops ∷ []) walk.0 (walk.0, walk.1, refl) holds in
-    subst (λ (m : Memory). Spares m (mote_of z).flash) one.follow.1.flash (walk_spares image walk.0 moves z walk.2 one.holds (still_asks image _ _ _ _ one.follow.1.flash asks))
-walk_spares image x (Arrive target made ops ∷ moves) z walk holds asks =
+pub walk_spares : (image : List ℕ) (quantum : ℕ) (x : State) (moves : List Move) (z : State) (walk : Walk x moves z) → Holds image quantum x → Asks image (mote_of x).flash (made_in (acts_of x moves z walk)) (mote_of z).flash.ops → Spares (mote_of x).flash (mote_of z).flash
+walk_spares image quantum x [] z walk holds asks = subst (λ (s : State). Spares (mote_of x).flash (mote_of s).flash) walk (spares_self (mote_of x).flash)
+walk_spares image quantum x (Begin line ∷ moves) z walk holds asks =
+    let one = follow image quantum x (Begin line ∷ []) walk.0 (walk.0, walk.1, refl) holds in
+    subst (λ (m : Memory). Spares m (mote_of z).flash) one.follow.1.flash (walk_spares image quantum walk.0 moves z walk.2 one.holds (still_asks image _ _ _ _ one.follow.1.flash asks))
+walk_spares image quantum x (Within (Plain line) ∷ moves) z walk holds asks =
+    let one = follow image quantum x (Within (Plain line) ∷ []) walk.0 (walk.0, walk.1, refl) holds in
+    subst (λ (m : Memory). Spares m (mote_of z).flash) one.follow.1.flash (walk_spares image quantum walk.0 moves z walk.2 one.holds (still_asks image _ _ _ _ one.follow.1.flash asks))
+walk_spares image quantum x (Within (Serve line stops) ∷ moves) z walk holds asks =
+    let one = follow image quantum x (Within (Serve line stops) ∷ []) walk.0 (walk.0, walk.1, refl) holds in
+    subst (λ (m : Memory). Spares m (mote_of z).flash) one.follow.1.flash (walk_spares image quantum walk.0 moves z walk.2 one.holds (still_asks image _ _ _ _ one.follow.1.flash asks))
+walk_spares image quantum x (Take stops ∷ moves) z walk holds asks =
+    let one = follow image quantum x (Take stops ∷ []) walk.0 (walk.0, walk.1, refl) holds in
+    subst (λ (m : Memory). Spares m (mote_of z).flash) one.follow.1.flash (walk_spares image quantum walk.0 moves z walk.2 one.holds (still_asks image _ _ _ _ one.follow.1.flash asks))
+walk_spares image quantum x (Arrive target made ops ∷ moves) z walk holds asks =
     let y = walk.0 in
     let l = layout_of (length image) in
     let later = made_in (acts_of y moves z walk.2) in
     let last = (mote_of z).flash.ops in
-    let one = follow image x (Arrive target made ops ∷ []) y (y, walk.1, refl) holds in
-    let spared = arrival_spared image x y target last made ops holds walk.1 asks.1 (rises image y moves z walk.2 one.holds) (omega (arith, asks.0)) in
+    let one = follow image quantum x (Arrive target made ops ∷ []) y (y, walk.1, refl) holds in
+    let spared = arrival_spared image quantum x y target last made ops holds walk.1 asks.1 (rises image quantum y moves z walk.2 one.holds) (omega (arith, asks.0)) in
     let unlisted : NoneListed (mote_of y).flash last = λ op low high. ap (list_any (λ n. n == op)) one.follow.1.failing ∙ asks.1 op low high in
-    spares_on (mote_of x).flash (mote_of y).flash (mote_of z).flash spared.spares (walk_spares image y moves z walk.2 one.holds (omega (arith, spared.used, asks.0), unlisted))
+    spares_on (mote_of x).flash (mote_of y).flash (mote_of z).flash spared.spares (walk_spares image quantum y moves z walk.2 one.holds (omega (arith, spared.used, asks.0), unlisted))
 
 -- From boot. ----------------------------------------------------------------------------------------------
 

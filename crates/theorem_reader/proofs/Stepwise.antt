@@ -82,38 +82,38 @@ none_taken x y z target ops made stops arrives makes =
     (sym (ap (λ (s : State). s.owed) arrives.after) ∙ makes.owes) (sym (ap (λ (s : State). s.end) arrives.after) ∙ makes.going)
 
 -- where control stands, if no arrival is owed
-place_by : (image : List ℕ) (y : Machine) (t : ℕ) (due : Bool) → Holds image (state_of y) → IsGoing y → (state_of y).owed ≡ None → Reaches (links_in y) t due (state_of y) → IsPlaceOf image y.kernel.mote.flash.words t y.kernel.mote.cpu.pc
-place_by image y t due holds ready free (Reaches.Placed undue none enters) =
+place_by : (image : List ℕ) (quantum : ℕ) (y : Machine) (t : ℕ) (due : Bool) → Holds image quantum (state_of y) → IsGoing y → (state_of y).owed ≡ None → Reaches (links_in y) t due (state_of y) → IsPlaceOf image y.kernel.mote.flash.words t y.kernel.mote.cpu.pc
+place_by image quantum y t due holds ready free (Reaches.Placed undue none enters) =
     let l = layout_of (length image) in
     let words = y.kernel.mote.flash.words in
     let whole : IsFaithful y.kernel.layout (image_held y.kernel) words = subst (λ torn. IsFaithful y.kernel.layout (image_held y.kernel) (with_torn words torn)) ready.untorn ready.order.faithful in
     let code : IsFaithful l image words = subst (λ i. IsFaithful l i words) holds.held (subst (λ k. IsFaithful k (image_of k words) words) holds.laid whole) in
     let few = (subst IsRight holds.laid ready.order.right).image_fits in
     place_is image words t y.kernel.mote.cpu.pc (faithful_mapped l image words (layout_right (length image) few) code) (subst (λ k. IsEntry k words t y.kernel.mote.cpu.pc) holds.laid enters.0)
-place_by image y t due holds ready free (Reaches.Owing stub alone owes leads) = absurd (let e : Some (record { target = t; stub = stub; due = due }) ≡ None = sym owes ∙ free in cc)
+place_by image quantum y t due holds ready free (Reaches.Owing stub alone owes leads) = absurd (let e : Some (record { target = t; stub = stub; due = due }) ≡ None = sym owes ∙ free in cc)
 
 -- where it stands in the original program
 at_is : (at : ℕ → Moment) (n : ℕ) (y : Machine) → StandsAfter at n y → y.at ≡ (at n).now.cpu.pc
 at_is at n y stands = ap (λ (s : Moment). s.now.cpu.pc) stands.stands
 
-own_here : (image : List ℕ) (at : ℕ → Moment) (n : ℕ) (y : Machine) (z : State) (own : List Move) → Holds image (state_of y) → StandsAfter at n y → stepping.AreOwn own
+own_here : (image : List ℕ) (quantum : ℕ) (at : ℕ → Moment) (n : ℕ) (y : Machine) (z : State) (own : List Move) → Holds image quantum (state_of y) → StandsAfter at n y → stepping.AreOwn own
     → (walk : Walk (state_of y) own z) → AreOfStep image (at n) (mote_of (state_of y)) (acts_of (state_of y) own z walk)
-own_here image at n y z own holds stands (stepping.Taking stops is) =
+own_here image quantum at n y z own holds stands (stepping.Taking stops is) =
     acts_as (state_of y) z (AreOfStep image (at n) (mote_of (state_of y))) own (Take stops ∷ []) is
     (λ walk. Interrupted (mote_of walk.0) refl (sym (ap (λ (s : Moment). s.due) stands.stands) ∙ take_due y walk.0 stops walk.1))
-own_here image at n y z own holds stands (stepping.Making line rest is few serves) =
+own_here image quantum at n y z own holds stands (stepping.Making line rest is few serves) =
     acts_as (state_of y) z (AreOfStep image (at n) (mote_of (state_of y))) own (Begin line ∷ map Within rest) is
-    (λ walk. There (subst (λ t. IsPlaceOf image y.kernel.mote.flash.words t y.kernel.mote.cpu.pc) (at_is at n y stands) (place_by image y y.at (awaits y) holds stands.ready walk.1.free stands.ready.stands)) (own_acts (state_of y) z line rest few serves walk))
+    (λ walk. There (subst (λ t. IsPlaceOf image y.kernel.mote.flash.words t y.kernel.mote.cpu.pc) (at_is at n y stands) (place_by image quantum y y.at (awaits y) holds stands.ready walk.1.free stands.ready.stands)) (own_acts (state_of y) z line rest few serves walk))
 
 own_behind : (x y z : State) (target ops : ℕ) (made : Bool) (own : List Move) → MakesArrive x target made ops y → stepping.AreOwn own → (walk : Walk y own z) → AreOwn (acts_of y own z walk)
 own_behind x y z target ops made own arrives (stepping.Taking stops is) = acts_as y z AreOwn own (Take stops ∷ []) is (λ walk. absurd (none_taken x y walk.0 target ops made stops arrives walk.1))
 own_behind x y z target ops made own arrives (stepping.Making line rest is few serves) = acts_as y z AreOwn own (Begin line ∷ map Within rest) is (own_acts y z line rest few serves)
 
-step_acts : (image : List ℕ) (at : ℕ → Moment) (n : ℕ) (y : Machine) (z : State) (arrival own : List Move) → Holds image (state_of y) → StandsAfter at n y → stepping.IsArrival y.at arrival → stepping.AreOwn own
+step_acts : (image : List ℕ) (quantum : ℕ) (at : ℕ → Moment) (n : ℕ) (y : Machine) (z : State) (arrival own : List Move) → Holds image quantum (state_of y) → StandsAfter at n y → stepping.IsArrival y.at arrival → stepping.AreOwn own
     → (walk : Walk (state_of y) (arrival ++ own) z) → AreOfStep image (at n) (mote_of (state_of y)) (acts_of (state_of y) (arrival ++ own) z walk)
-step_acts image at n y z arrival own holds stands (stepping.NoArrival none) makes =
-    acts_as (state_of y) z (AreOfStep image (at n) (mote_of (state_of y))) (arrival ++ own) own (ap (λ ms. ms ++ own) none) (own_here image at n y z own holds stands makes)
-step_acts image at n y z arrival own holds stands (stepping.OneArrival made ops one) makes =
+step_acts image quantum at n y z arrival own holds stands (stepping.NoArrival none) makes =
+    acts_as (state_of y) z (AreOfStep image (at n) (mote_of (state_of y))) (arrival ++ own) own (ap (λ ms. ms ++ own) none) (own_here image quantum at n y z own holds stands makes)
+step_acts image quantum at n y z arrival own holds stands (stepping.OneArrival made ops one) makes =
     acts_as (state_of y) z (AreOfStep image (at n) (mote_of (state_of y))) (arrival ++ own) (Arrive y.at made ops ∷ own) (ap (λ ms. ms ++ own) one)
     (λ walk. Arriving (one_if made) ops (mote_of walk.0) (acts_of walk.0 own z walk.2)
     (ap (λ t. Arrival t (one_if made) ops (mote_of (state_of y)) (mote_of walk.0) ∷ acts_of walk.0 own z walk.2) (at_is at n y stands)) (own_behind (state_of y) walk.0 z y.at ops made own walk.1 makes walk.2))
@@ -129,12 +129,12 @@ unmade_alone image at n y z arrival own stands nothing (stepping.OneArrival made
     acts_as (state_of y) z (AreUnmade image (at n) (mote_of (state_of y))) (arrival ++ own) (Arrive y.at made ops ∷ []) same
     (λ walk. Refused (one_if made) ops (mote_of walk.0) (ap (λ t. Arrival t (one_if made) ops (mote_of (state_of y)) (mote_of walk.0) ∷ []) (at_is at n y stands)))
 
-unmade_acts : (image : List ℕ) (at : ℕ → Moment) (n : ℕ) (y : Machine) (z : State) (rest : List Move) → Holds image (state_of y) → StandsAfter at n y → stepping.AreOfStep y.at rest
+unmade_acts : (image : List ℕ) (quantum : ℕ) (at : ℕ → Moment) (n : ℕ) (y : Machine) (z : State) (rest : List Move) → Holds image quantum (state_of y) → StandsAfter at n y → stepping.AreOfStep y.at rest
     → (walk : Walk (state_of y) rest z) → AreUnmade image (at n) (mote_of (state_of y)) (acts_of (state_of y) rest z walk)
-unmade_acts image at n y z rest holds stands of_step =
+unmade_acts image quantum at n y z rest holds stands of_step =
     acts_as (state_of y) z (AreUnmade image (at n) (mote_of (state_of y))) rest (of_step.arrival ++ of_step.own) of_step.parts (λ walk. elim of_step.makes [
       | inl nothing ↦ unmade_alone image at n y z of_step.arrival of_step.own stands nothing of_step.arrives walk
-      | inr makes ↦ Stopped (step_acts image at n y z of_step.arrival of_step.own holds stands of_step.arrives makes walk)
+      | inr makes ↦ Stopped (step_acts image quantum at n y z of_step.arrival of_step.own holds stands of_step.arrives makes walk)
     ])
 
 -- A run. --------------------------------------------------------------------------------------------------
@@ -151,19 +151,19 @@ state_held at n y stands =
       devices = ap (λ (s : Moment). s.now.devices) same;
     }
 
-record Led (image : List ℕ) (at : ℕ → Moment) (start : Machine) (n : ℕ) (moves : List Move) (z : Machine) : Type 0 where
+record Led (image : List ℕ) (quantum : ℕ) (at : ℕ → Moment) (start : Machine) (n : ℕ) (moves : List Move) (z : Machine) : Type 0 where
   walk : Walk (state_of start) moves (state_of z)
-  go : GoByStep image at (mote_of (state_of start)) n (acts_of (state_of start) moves (state_of z) walk) (mote_of (state_of z))
-  holds : Holds image (state_of z)
+  go : GoByStep image quantum at (mote_of (state_of start)) n (acts_of (state_of start) moves (state_of z) walk) (mote_of (state_of z))
+  holds : Holds image quantum (state_of z)
 
-led : (image : List ℕ) (at : ℕ → Moment) (start : Machine) (n : ℕ) (moves : List Move) (z : Machine) → Holds image (state_of start) → StepsTo at start n moves z → Led image at start n moves z
-led image at start zero moves z holds (same, none) =
-    subst (λ ms. Led image at start 0 ms z) (sym none) (subst (λ (m : Machine). Led image at start 0 [] m) same (record { walk = refl; go = (refl, refl); holds = holds }))
-led image at start (suc n) moves z holds (y, before, arrival, own, lines, all, steps, stands, arrives, makes, goes) =
-    let earlier = led image at start n before y holds steps in
+led : (image : List ℕ) (quantum : ℕ) (at : ℕ → Moment) (start : Machine) (n : ℕ) (moves : List Move) (z : Machine) → Holds image quantum (state_of start) → StepsTo at start n moves z → Led image quantum at start n moves z
+led image quantum at start zero moves z holds (same, none) =
+    subst (λ ms. Led image quantum at start 0 ms z) (sym none) (subst (λ (m : Machine). Led image quantum at start 0 [] m) same (record { walk = refl; go = (refl, refl); holds = holds }))
+led image quantum at start (suc n) moves z holds (y, before, arrival, own, lines, all, steps, stands, arrives, makes, goes) =
+    let earlier = led image quantum at start n before y holds steps in
     let joined = acts_join (state_of start) (state_of y) (state_of z) before (arrival ++ own) earlier.walk goes.walk in
-    let next = follow image (state_of y) (arrival ++ own) (state_of z) goes.walk earlier.holds in
-    subst (λ ms. Led image at start (suc n) ms z) (sym all) (record {
+    let next = follow image quantum (state_of y) (arrival ++ own) (state_of z) goes.walk earlier.holds in
+    subst (λ ms. Led image quantum at start (suc n) ms z) (sym all) (record {
       walk = joined.0;
       go = (
         mote_of (state_of y),
@@ -172,22 +172,22 @@ led image at start (suc n) moves z holds (y, before, arrival, own, lines, all, s
         joined.1,
         earlier.go,
         state_held at n y stands,
-        step_acts image at n y (state_of z) arrival own earlier.holds stands arrives makes goes.walk,
+        step_acts image quantum at n y (state_of z) arrival own earlier.holds stands arrives makes goes.walk,
         next.follow,
       );
       holds = next.holds;
     })
 
 -- the moves of a run as acts, step by step
-pub record Paced (image : List ℕ) (at : ℕ → Moment) (start : Machine) (n : ℕ) (moves : List Move) (z : Machine) : Type 0 where
+pub record Paced (image : List ℕ) (quantum : ℕ) (at : ℕ → Moment) (start : Machine) (n : ℕ) (moves : List Move) (z : Machine) : Type 0 where
   pub walk : Walk (state_of start) moves (state_of z)
-  pub by_step : IsByStep image at (mote_of (state_of start)) (acts_of (state_of start) moves (state_of z) walk) n (mote_of (state_of z))
+  pub by_step : IsByStep image quantum at (mote_of (state_of start)) (acts_of (state_of start) moves (state_of z) walk) n (mote_of (state_of z))
 
-pub paced : (image : List ℕ) (at : ℕ → Moment) (start : Machine) (n : ℕ) (moves : List Move) (z : Machine) → Holds image (state_of start) → running.IsByStep at start z n moves → Paced image at start n moves z
-paced image at start n moves z holds is =
-    let earlier = led image at start n is.before is.last holds is.steps in
+pub paced : (image : List ℕ) (quantum : ℕ) (at : ℕ → Moment) (start : Machine) (n : ℕ) (moves : List Move) (z : Machine) → Holds image quantum (state_of start) → running.IsByStep at start z n moves → Paced image quantum at start n moves z
+paced image quantum at start n moves z holds is =
+    let earlier = led image quantum at start n is.before is.last holds is.steps in
     let joined = acts_join (state_of start) (state_of is.last) (state_of z) is.before is.behind earlier.walk is.goes.walk in
-    subst (λ ms. Paced image at start n ms z) (sym is.all) (record {
+    subst (λ ms. Paced image quantum at start n ms z) (sym is.all) (record {
       walk = joined.0;
       by_step = record {
         last = mote_of (state_of is.last);
@@ -196,7 +196,7 @@ paced image at start n moves z holds is =
         all = joined.1;
         steps = earlier.go;
         state = state_held at n is.last is.stands;
-        unmade = unmade_acts image at n is.last (state_of z) is.behind earlier.holds is.stands is.of_step is.goes.walk;
-        follow = (follow image (state_of is.last) is.behind (state_of z) is.goes.walk earlier.holds).follow;
+        unmade = unmade_acts image quantum at n is.last (state_of z) is.behind earlier.holds is.stands is.of_step is.goes.walk;
+        follow = (follow image quantum (state_of is.last) is.behind (state_of z) is.goes.walk earlier.holds).follow;
       };
     })

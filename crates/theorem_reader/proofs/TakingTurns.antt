@@ -24,7 +24,9 @@ use Rattle.task_turns.specs.Reset.{turns_at_reset}
 use Rattle.task_input.specs.Images.{task_words}
 use Rattle.parked_tasks.specs.Parking.{Shares, IsBack}
 use Rattle.parked_tasks.specs.declared.parked.Parked.{Parked}
-use Rattle.tk_tasks.specs.Plays.{Play, IsPlay, TaskPath, counted}
+use Rattle.parked_tasks.specs.Handing.{parked_by}
+use Rattle.tk_tasks.specs.Changes.{given_by, given_to, next_task}
+use Rattle.tk_tasks.specs.Plays.{Play, IsPlay, GoesOn, TaskPath, counted}
 use Rattle.tk_tasks.specs.States.{Tasks, machine_of, AreSound, player_of, turns_of}
 use Rattle.parked_tasks.specs.Ends.{flat_end_of}
 use Rattle.task_turns.specs.Turns.{Player, Turns, HaveEnded}
@@ -33,6 +35,7 @@ use Rattle.task_turns.proofs.OwnPrograms.{player_at, reset_player}
 use Rattle.parked_tasks.proofs.Waiting.{waiting_length}
 use Rattle.tk_tasks.proofs.Changing.{players_length}
 use Rattle.tk_tasks.proofs.FirstPlayers.{each_first, boot_player}
+use Rattle.tk_tasks.proofs.Paths.{player_here}
 use Rattle.tk_tasks.proofs.Stints.{AreLeft, first_motes, left_at_boot, mote_before, mote_behind, is_here, left_behind, sum_play, pages_play, turned_play, last_play, has_back, left_counted}
 use Rattle.cli_words.specs.declared.request.TaskRequest.{TaskRequest}
 use Rattle.tkernel_cli.specs.TasksRuns.{start_by}
@@ -85,40 +88,77 @@ comes_back left own now shares back = record {
   high = λ a from to. back.high a from (omega arith);
 }
 
-record FollowsPlay (words : List ℕ) (n : ℕ) (t new : Tasks) (play : Play) (one : IsPlay n t play new) : Type 0 where
-  follow : Follow words t.kernel.mote (stint_of n t play new one).acts one.mid.kernel.mote
+record FollowsPlay (words : List ℕ) (quantum n : ℕ) (t new : Tasks) (play : Play) (one : IsPlay n t play new) : Type 0 where
+  follow : Follow words quantum t.kernel.mote (stint_of n t play new one).acts one.mid.kernel.mote
   held : image_of (layout_of (length words)) one.mid.kernel.mote.flash.words ≡ words
+  counts : one.mid.kernel.quantum ≡ quantum
 
-follow_play : (words : List ℕ) (n : ℕ) (t new : Tasks) (play : Play) → (one : IsPlay n t play new) → t.kernel.layout ≡ layout_of (length words) → image_of (layout_of (length words)) t.kernel.mote.flash.words ≡ words → FollowsPlay words n t new play one
-follow_play words n t new play one laid held =
+follow_play : (words : List ℕ) (quantum n : ℕ) (t new : Tasks) (play : Play) → (one : IsPlay n t play new) → t.kernel.layout ≡ layout_of (length words) → image_of (layout_of (length words)) t.kernel.mote.flash.words ≡ words → t.kernel.quantum ≡ quantum → FollowsPlay words quantum n t new play one
+follow_play words quantum n t new play one laid held counts =
     let x = state_of (machine_of t t.running one.task) in
     let z = state_of (machine_of one.mid t.running one.next) in
     let acts = (stint_of n t play new one).acts in
     let l = layout_of (length words) in
-    let holds : Holds words x = record { laid = laid; held = ap (λ (m : Mote). image_of l m.flash.words) (mote_before n t new play one) ∙ held } in
-    let done = follow words x play.moves z one.tried.goes.walk holds in
+    let holds : Holds words quantum x = record { laid = laid; held = ap (λ (m : Mote). image_of l m.flash.words) (mote_before n t new play one) ∙ held; counts = counts } in
+    let done = follow words quantum x play.moves z one.tried.goes.walk holds in
     record {
-      follow = subst (λ (b : Mote). Follow words b acts one.mid.kernel.mote) (mote_before n t new play one)
-          (subst (λ (b : Mote). Follow words (machine_of t t.running one.task).kernel.mote acts b) (mote_behind n t new play one) done.follow);
+      follow = subst (λ (b : Mote). Follow words quantum b acts one.mid.kernel.mote) (mote_before n t new play one)
+          (subst (λ (b : Mote). Follow words quantum (machine_of t t.running one.task).kernel.mote acts b) (mote_behind n t new play one) done.follow);
       held = subst (λ (b : Mote). image_of l b.flash.words ≡ words) (mote_behind n t new play one) done.holds.held;
+      counts = done.holds.counts;
     }
 
-take_turns : (words : List ℕ) (count n : ℕ) (t : Tasks) (plays : List Play) (new : Tasks) (motes : List Mote) (left : Mote) → length words ≡ 4096 * count → length t.tasks ≡ count → (path : TaskPath n t plays new) → AreLeft t motes left
-    → image_of (layout_of (length words)) left.flash.words ≡ words → TakeTurns words left motes (stints_of n t plays new path) (motes_behind n t plays new path motes)
-take_turns words count n t [] new motes left size long is are held = refl
-take_turns words count n t (play ∷ plays) new motes left size long (mid, one, rest) are held =
+-- the quantum stays where the mote is given to another
+given_quantum : (t : Tasks) (next : ℕ) (parked : Option Parked) → (given_by t next parked).kernel.quantum ≡ t.kernel.quantum
+given_quantum t next None = refl
+given_quantum t next (Some parked) = refl
+
+to_quantum : (t : Tasks) (next : Option ℕ) → (given_to t next).kernel.quantum ≡ t.kernel.quantum
+to_quantum t None = refl
+to_quantum t (Some next) = given_quantum t next (parked_by (slice_get t.tasks next))
+
+on_quantum : (changes : Bool) (mid new : Tasks) → GoesOn changes mid new → new.kernel.quantum ≡ mid.kernel.quantum
+on_quantum true mid new is = ap (λ (z : Tasks). z.kernel.quantum) is ∙ to_quantum mid (next_task mid)
+on_quantum false mid new is = ap (λ (z : Tasks). z.kernel.quantum) is
+
+-- where a task stands, and so the mote before it is stepped
+state_held : (k : Kernel) (own : Mote) (pc steps crossings : ℕ) (s : FlatState) → IsPaged own.sram own.swap → state_at (record k { mote = own }) pc steps crossings ≡ s → HasState s own
+unfolding data_word_at byte_at
+state_held k own pc steps crossings s paged same = record {
+  registers = ap (λ (z : FlatState). z.cpu.r) same;
+  status = ap (λ (z : FlatState). z.cpu.sreg) same;
+  pointer = ap (λ (z : FlatState). z.cpu.sp) same;
+  memory = subst (HasMemory own) (ap (λ (z : FlatState). z.memory) same) (has_memory own paged);
+  devices = ap (λ (z : FlatState). z.devices) same;
+}
+
+stands_before : (n : ℕ) (t new : Tasks) (play : Play) → (one : IsPlay n t play new) → HasState (player_of n t t.running one.task).moment.now t.kernel.mote
+stands_before n t new play one =
+    let m = machine_of t t.running one.task in
+    subst (HasState (flat_of m).now) (mote_before n t new play one) (state_held m.kernel m.kernel.mote m.at m.steps m.crossings (flat_of m).now (one.sound.each t.running one.task one.here).sound.order.paged refl)
+
+take_turns : (words : List ℕ) (quantum count n : ℕ) (t : Tasks) (plays : List Play) (new : Tasks) (motes : List Mote) (left : Mote) → length words ≡ 4096 * count → length t.tasks ≡ count → (path : TaskPath n t plays new) → AreLeft t motes left
+    → image_of (layout_of (length words)) left.flash.words ≡ words → t.kernel.quantum ≡ quantum → TakeTurns words quantum (turns_of n t) left motes (stints_of n t plays new path) (motes_behind n t plays new path motes)
+take_turns words quantum count n t [] new motes left size long is are held counts = refl
+take_turns words quantum count n t (play ∷ plays) new motes left size long (mid, one, rest) are held counts =
     let had = are.each t.running one.task one.here in
     let laid = one.sound.layout ∙ ap (λ k. layout_of (4096 * k)) long ∙ ap layout_of (sym size) in
     let here = ap (λ (f : Memory). image_of (layout_of (length words)) f.words) are.shares.flash ∙ held in
-    let done = follow_play words n t mid play one laid here in
-    let more = path_long n t (play ∷ []) mid (mid, one, refl) ∙ long in (
+    let done = follow_play words quantum n t mid play one laid here counts in
+    let more = path_long n t (play ∷ []) mid (mid, one, refl) ∙ long in
+    let next = slice_set motes t.running one.mid.kernel.mote in (
+      player_of n t t.running one.task,
       had.own,
       t.kernel.mote,
       one.mid.kernel.mote,
+      player_here n t t.running one.task one.here,
+      refl,
       had.there,
       comes_back left had.own t.kernel.mote are.shares (is_here t one.task had.own had.held),
+      stands_before n t mid play one,
       done.follow,
-      take_turns words count n mid plays new (slice_set motes t.running one.mid.kernel.mote) one.mid.kernel.mote size more rest (left_behind n t mid play motes left one are) done.held,
+      subst (λ (u : Turns). TakeTurns words quantum u one.mid.kernel.mote next (stints_of n mid plays new rest) (motes_behind n mid plays new rest next)) one.in_turn
+          (take_turns words quantum count n mid plays new next one.mid.kernel.mote size more rest (left_behind n t mid play motes left one are) done.held (on_quantum play.changes one.mid mid one.behind ∙ done.counts)),
     )
 
 left_last : (n : ℕ) (t : Tasks) (plays : List Play) (new : Tasks) (motes : List Mote) (left : Mote) → (path : TaskPath n t plays new) → AreLeft t motes left → (last : Mote) × AreLeft new (motes_behind n t plays new path motes) last
@@ -187,16 +227,6 @@ paged_back own n back size paged =
     subst (λ w. IsPaged own.sram w) back.swap (paged_same n.sram own.sram n.swap
     (record { size = size ∙ sym paged.sized.sram; cells = λ b from to. sym (back.low b (omega arith) (omega arith)); tables = λ b from to. sym (back.high b (omega arith) (omega arith)) }) paged)
 
-state_held : (k : Kernel) (own : Mote) (pc steps crossings : ℕ) (s : FlatState) → IsPaged own.sram own.swap → state_at (record k { mote = own }) pc steps crossings ≡ s → HasState s own
-unfolding data_word_at byte_at
-state_held k own pc steps crossings s paged same = record {
-  registers = ap (λ (z : FlatState). z.cpu.r) same;
-  status = ap (λ (z : FlatState). z.cpu.sreg) same;
-  pointer = ap (λ (z : FlatState). z.cpu.sp) same;
-  memory = subst (HasMemory own) (ap (λ (z : FlatState). z.memory) same) (has_memory own paged);
-  devices = ap (λ (z : FlatState). z.devices) same;
-}
-
 -- the mote that a task left is where its program stands
 stands_left : (t : Tasks) (motes : List Mote) (left : Mote) (i : ℕ) (task : Task) (s : FlatState) → AreSound t → AreLeft t motes left → slice_get t.tasks i ≡ Some task → (flat_of (machine_of t i task)).now ≡ s → (m : Mote) × (slice_get motes i ≡ Some m) × HasState s m
 stands_left t motes left i task s sound are there same =
@@ -244,7 +274,7 @@ none_ended asked n some ended =
 pub have_stints : (asked : AskedTasks) (scripts : List Schedule) (t last : Tasks) (plays : List Play) → asked.scripts ≡ scripts → length asked.scripts ≡ asked.count → 1 ≤ asked.count
     → turns_of asked.steps (tasks_at_boot asked asked.scripts) ≡ turns_at_reset asked.image asked.scripts asked.quantum asked.slots asked.steps → TaskPath asked.steps (tasks_at_boot asked asked.scripts) plays last → t ≡ counted last false → HaveEnded (turns_of asked.steps last)
     → AreSound t → ((i : ℕ) → i < asked.count → (task : Task) × (slice_get t.tasks i ≡ Some task) × ((player_of asked.steps t i task).moment.now ≡ (alone_of asked i).state.now))
-    → HaveStints (IsBoot (words_of asked) [] (events_of asked 0) asked.quantum asked.slots) (words_of asked) asked.count t.natural t.entries t.pages t.switches (start_of asked) (λ task. (alone_of asked task).state.now)
+    → HaveStints (IsBoot (words_of asked) [] (events_of asked 0) asked.quantum asked.slots) (words_of asked) asked.quantum (turns_at_reset asked.image asked.scripts asked.quantum asked.slots asked.steps) asked.count t.natural t.entries t.pages t.switches (start_of asked) (λ task. (alone_of asked task).state.now)
 have_stints asked [] t last plays is long some start path counts ended sound each = absurd (omega (arith, ap length is, long, some))
 have_stints asked (first ∷ others) t last plays is long some reset path counts ended sound each =
     let n = asked.steps in
@@ -273,7 +303,8 @@ have_stints asked (first ∷ others) t last plays is long some reset path counts
           let own = boot_player n booted asked.image asked.scripts asked.quantum asked.slots task one.0 at_reset one.1 inside in
           stands_left booted motes booted.kernel.mote task one.0 (start_of asked task) sound_boot are one.1 (ap (λ (p : Player). p.moment.now) own);
       last = motes_behind n booted plays last way motes;
-      turns = take_turns (words_of asked) asked.count n booted plays last motes booted.kernel.mote (length-map-range_with_len (word asked.image) 0 (4096 * asked.count)) tasks_long way are (boots_image asked first others count);
+      turns = subst (λ (u : Turns). TakeTurns (words_of asked) asked.quantum u booted.kernel.mote motes (stints_of n booted plays last way) (motes_behind n booted plays last way motes)) at_reset
+          (take_turns (words_of asked) asked.quantum asked.count n booted plays last motes booted.kernel.mote (length-map-range_with_len (word asked.image) 0 (4096 * asked.count)) tasks_long way are (boots_image asked first others count) refl);
       ends = λ task below.
           let one = each task below in
           stands_left (counted last false) (motes_behind n booted plays last way motes) behind.0 task one.0 (alone_of asked task).state.now sound_last (left_counted last _ behind.0 behind.1)

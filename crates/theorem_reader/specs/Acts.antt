@@ -1,8 +1,9 @@
 -- What a machine did, one act after another, told by the mote before and after each.
-use Rattle.std.specs.Prelude.{◌≡◌, ◌≢◌, ℕ, suc, ◌+◌, ◌-◌, ◌*◌, ◌/◌, ◌%◌, ◌≤◌, ◌⊎◌, List, [], ◌∷◌, ◌++◌, slice_index, slice_set, length, replicate, ◌<◌, ◌==◌, true, Option, Some, None}
+use Rattle.std.specs.Prelude.{◌≡◌, ◌≢◌, ℕ, suc, ◌+◌, ◌-◌, ◌*◌, ◌/◌, ◌%◌, ◌≤◌, ◌⊎◌, List, [], ◌∷◌, ◌++◌, slice_index, slice_set, length, replicate, ◌<◌, ◌==◌, nat_le, if◌then◌else◌, true, Option, Some, None}
 use Rattle.std.specs.Option.{option_map}
 use Rattle.std.specs.List.{list_any}
 use Rattle.avr_isa.specs.declared.form.Form.{Form}
+use Rattle.avr_isa.specs.Crossing.{is_crossing}
 use Rattle.input_script.specs.declared.input.Event.{Event}
 use Rattle.flat_machine.specs.FlatMachine.{at_reset, next_size}
 use Rattle.flat_machine.specs.FlatSpace.{FlatSpace, flat_calls}
@@ -58,43 +59,52 @@ program_address m = slice_index m.flash.words (called_from m)
 abbrev pub program_pointer : Mote → ℕ
 program_pointer m = slice_index m.sram 3 + 256 * slice_index m.sram 4
 
+-- The byte at 0x0100 counts crossings down, once the program went from one address to another: where that is a crossing it
+-- is one less, or the quantum where it was 1.
+abbrev pub count_behind : (quantum from to count : ℕ) → ℕ
+count_behind quantum from to count = if is_crossing from to then (if count == 1 then quantum else count - 1) else count
+
 -- The original program's instruction at that address is executed, just as over flat memory: over the 65,536 bytes that the
--- mote keeps for the program (`Memory`), the devices, and the image. Or the program ends there, and nothing changes.
-pub data Executes (image : List ℕ) (before after : Mote) : Type 0 where
-  Ends : after ≡ record before { cpu = record before.cpu { sp = 0x011F } } → Executes image before after
+-- mote keeps for the program (`Memory`), the devices, and the image. From 0xF008 on the crossing is counted; at 0xF004 and
+-- 0xF006 rewritten code does so. Or the program ends there, and nothing changes.
+pub data Executes (image : List ℕ) (quantum : ℕ) (before after : Mote) : Type 0 where
+  Ends : after ≡ record before { cpu = record before.cpu { sp = 0x011F } } → Executes image quantum before after
   Done : (form : Form) → (core : Cpu) → (old new : FlatSpace) → instruction_at image (program_address before) ≡ Some form
       → HasMemory before old.memory → old.devices ≡ before.devices → old.image ≡ image
       → exec_of flat_calls form (record { r = before.cpu.r; sreg = before.cpu.sreg; sp = program_pointer before; pc = program_address before }) old (next_size image (program_address before)) ≡ Went core new
-      → after.cpu.r ≡ core.r → after.cpu.sreg ≡ core.sreg → program_pointer after ≡ core.sp → HasMemory after new.memory → after.devices ≡ new.devices → Executes image before after
+      → after.cpu.r ≡ core.r → after.cpu.sreg ≡ core.sreg → program_pointer after ≡ core.sp → HasMemory after new.memory → after.devices ≡ new.devices
+      → slice_index after.sram 0 ≡ (if nat_le before.cpu.pc 0xF007 then slice_index before.sram 0 else count_behind quantum (program_address before) core.pc (slice_index before.sram 0)) → Executes image quantum before after
 
--- A SLEEP of the program ends: the devices are as inputs leave them, with an enabled interrupt requested (`wake`), and but
--- for the byte at 0x0100 nothing else changes. Or the program ends there, and nothing changes.
-pub data Sleeps (before after : Mote) : Type 0 where
-  Stays : after ≡ record before { cpu = record before.cpu { sp = 0x011F } } → Sleeps before after
+-- A SLEEP of the program ends: the devices are as inputs leave them, with an enabled interrupt requested (`wake`), the
+-- crossing to the next address is counted, and nothing else changes. Or the program ends there, and nothing changes.
+pub data Sleeps (quantum : ℕ) (before after : Mote) : Type 0 where
+  Stays : after ≡ record before { cpu = record before.cpu { sp = 0x011F } } → Sleeps quantum before after
   Wakes : (devices : State) → wake before.devices ≡ Some devices → ((a : ℕ) → 0x0101 ≤ a → slice_index after.sram (a - 0x0100) ≡ slice_index before.sram (a - 0x0100))
-      → after ≡ record before { cpu = record before.cpu { sp = 0x011F }; sram = after.sram; devices = devices } → Sleeps before after
+      → after ≡ record before { cpu = record before.cpu { sp = 0x011F }; sram = after.sram; devices = devices }
+      → slice_index after.sram 0 ≡ count_behind quantum (program_address before) ((program_address before + 1) % 65536) (slice_index before.sram 0) → Sleeps quantum before after
 
--- The pc is at one of the kernel's eight entries, 0xF000 to 0xF00F. All of flash stays, and the bytes of SRAM at 0x0105 to
--- 0x011F and at 0x0142 to 0x03FF. At each entry but 0xF004, which reaches the program's memory, so does the swap area, and
--- 0x0120 to 0x0CFF. The kernel's stack, 0x011E and 0x011F, is empty again. The pc stays, and the kernel has control; or, at
--- 0xF004 and 0xF006, rewritten code goes on: behind the call of the kernel, whose address that stack had, and the one word
--- behind that. At 0xF000 nothing else changes; at 0xF002 but r24 and SREG, from 0x0101 and 0x0102, and the byte at 0x0100;
--- from 0xF004 to 0xF00D an instruction of the program is executed; at 0xF00E it sleeps. From 0xF006 on the registers stay.
-pub record IsService (image : List ℕ) (before after : Mote) : Type 0 where
+-- The pc is at one of the kernel's eight entries, 0xF000 to 0xF00F. All of flash stays, and the bytes of SRAM at 0x0101 to
+-- 0x011F, but for the program's stack pointer, and at 0x0142 to 0x03FF. At each entry but 0xF004, which reaches the program's
+-- memory, so does the swap area, and 0x0120 to 0x0CFF. The kernel's stack, 0x011E and 0x011F, is empty again. The pc stays, and
+-- the kernel has control; or, at 0xF004 and 0xF006, rewritten code goes on: behind the call of the kernel, whose address that
+-- stack had, and the one word behind that. At 0xF000 nothing else changes; at 0xF002 but r24 and SREG, from 0x0101 and 0x0102,
+-- and the byte at 0x0100, which is the quantum; from 0xF004 to 0xF00D an instruction of the program is executed; at 0xF00E it
+-- sleeps. From 0xF006 on the registers stay.
+pub record IsService (image : List ℕ) (quantum : ℕ) (before after : Mote) : Type 0 where
   pub low : 0xF000 ≤ before.cpu.pc
   pub high : before.cpu.pc ≤ 0xF00F
   pub stack : after.cpu.sp ≡ 0x011F
   pub pc : (after.cpu.pc ≡ before.cpu.pc) ⊎ ((0xF004 ≤ before.cpu.pc) × (before.cpu.pc ≤ 0xF007) × (after.cpu.pc ≡ (called_from before + 1) % 65536))
   pub bridge : before.cpu.pc ≡ 0xF000 → after ≡ record before { cpu = record before.cpu { sp = 0x011F } }
-  pub quantum : before.cpu.pc ≡ 0xF002 → (count : ℕ) × (after ≡ record before {
+  pub refilled : before.cpu.pc ≡ 0xF002 → after ≡ record before {
     cpu = record before.cpu { r = slice_set before.cpu.r 24 (slice_index before.sram 1); sreg = slice_index before.sram 2; sp = 0x011F };
-    sram = slice_set before.sram 0 count;
-  })
-  pub executes : 0xF004 ≤ before.cpu.pc → before.cpu.pc ≤ 0xF00D → Executes image before after
-  pub sleeps : 0xF00E ≤ before.cpu.pc → Sleeps before after
+    sram = slice_set before.sram 0 quantum;
+  }
+  pub executes : 0xF004 ≤ before.cpu.pc → before.cpu.pc ≤ 0xF00D → Executes image quantum before after
+  pub sleeps : 0xF00E ≤ before.cpu.pc → Sleeps quantum before after
   pub registers : 0xF006 ≤ before.cpu.pc → after.cpu.r ≡ before.cpu.r
   pub flash : after.flash ≡ before.flash
-  pub cells : (a : ℕ) → 0x0105 ≤ a → a ≤ 0x011F → slice_index after.sram (a - 0x0100) ≡ slice_index before.sram (a - 0x0100)
+  pub cells : (a : ℕ) → 0x0101 ≤ a → a ≤ 0x011F → a ≢ 0x0103 → a ≢ 0x0104 → slice_index after.sram (a - 0x0100) ≡ slice_index before.sram (a - 0x0100)
   pub tables : (a : ℕ) → 0x0142 ≤ a → a ≤ 0x03FF → slice_index after.sram (a - 0x0100) ≡ slice_index before.sram (a - 0x0100)
   pub swap : before.cpu.pc ≢ 0xF004 → after.swap ≡ before.swap
   pub heap : (a : ℕ) → before.cpu.pc ≢ 0xF004 → 0x0120 ≤ a → a ≤ 0x0CFF → slice_index after.sram (a - 0x0100) ≡ slice_index before.sram (a - 0x0100)
@@ -154,12 +164,12 @@ pub record IsInterrupt (before after : Mote) : Type 0 where
   pub tables : (a : ℕ) → 0x0120 ≤ a → a ≤ 0x0CFF → slice_index after.sram (a - 0x0100) ≡ slice_index before.sram (a - 0x0100)
 
 -- the acts lead from the first mote to the last, each from where the one before it led
-abbrev pub Follow : (image : List ℕ) → Mote → List Act → Mote → Type 0
-Follow image first [] last = first ≡ last
-Follow image first (Step before after ∷ acts) last = (before ≡ first) × IsStep (pool_from image) before after × Follow image after acts last
-Follow image first (Service before after ∷ acts) last = (before ≡ first) × IsService image before after × Follow image after acts last
-Follow image first (Arrival target made ops before after ∷ acts) last = (before ≡ first) × IsArrival image target made ops before after × Follow image after acts last
-Follow image first (Interrupt before after ∷ acts) last = (before ≡ first) × IsInterrupt before after × Follow image after acts last
+abbrev pub Follow : (image : List ℕ) (quantum : ℕ) → Mote → List Act → Mote → Type 0
+Follow image quantum first [] last = first ≡ last
+Follow image quantum first (Step before after ∷ acts) last = (before ≡ first) × IsStep (pool_from image) before after × Follow image quantum after acts last
+Follow image quantum first (Service before after ∷ acts) last = (before ≡ first) × IsService image quantum before after × Follow image quantum after acts last
+Follow image quantum first (Arrival target made ops before after ∷ acts) last = (before ≡ first) × IsArrival image target made ops before after × Follow image quantum after acts last
+Follow image quantum first (Interrupt before after ∷ acts) last = (before ≡ first) × IsInterrupt before after × Follow image quantum after acts last
 
 -- how many steps there are
 abbrev pub steps_in : List Act → ℕ
@@ -217,7 +227,7 @@ pub record HasActs (IsFirst : Mote → Type 0) (began : ℕ) (image : List ℕ) 
   pub acts : List Act
   pub first : Mote
   pub begins : IsFirst first
-  pub follow : Follow image first acts last
+  pub follow : Follow image quantum first acts last
   pub natural_is : natural ≡ steps_in acts
   pub entries_is : entries ≡ services_in acts
   pub pages_is : pages ≡ began + made_in acts

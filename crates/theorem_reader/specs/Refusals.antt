@@ -44,12 +44,16 @@ pub data ReadsText (words : List (List ℕ)) : Type 0 where
 abbrev pub bad_line : (part : List ℕ) (number : ℕ) (word : List ℕ) → List ℕ
 bad_line part number word = codes "bad " ++ part ++ codes " line " ++ decimal number ++ codes " " ++ word ++ codes "\n"
 
--- Words, or words and a text, that are answered with this status and this line: `help`, and words that are no command; a text
--- that is too long; the first faulty line of the HEX text, of the script or the dump behind it, or of a source; and the first
--- word of the image that no program of `tasks` has.
+-- words that are answered with the usage line, and this status: `help`, and words that are no command; no text is read
+pub data IsUsage (words : List (List ℕ)) (own : ℕ) : Type 0 where
+  Helped : IsCommand words Help → own ≡ 0 → IsUsage words own
+  Unknown : IsNoCommand words → own ≡ 4 → IsUsage words own
+
+-- Words, or words and a text, that are answered with this status and this line: the usage; a text that is too long; the first
+-- faulty line of the HEX text, of the script or the dump behind it, or of a source; and the first word of the image that no
+-- program of `tasks` has.
 pub data IsRefused (words : List (List ℕ)) (text : List ℕ) (own : ℕ) (line : List ℕ) : Type 0 where
-  Helped : IsCommand words Help → own ≡ 0 → line ≡ usage_line → IsRefused words text own line
-  Unknown : IsNoCommand words → own ≡ 4 → line ≡ usage_line → IsRefused words text own line
+  Usage : IsUsage words own → line ≡ usage_line → IsRefused words text own line
   TooLong : ReadsText words → 2097152 < length text → own ≡ 3 → line ≡ codes "input too long\n" → IsRefused words text own line
   BadHex : ReadsHex words → length text ≤ 2097152 → (number : ℕ) → (fault : HexFault) → HexBad text number fault
       → own ≡ 3 → line ≡ bad_line (codes "hex") number (hex_word fault) → IsRefused words text own line

@@ -62,7 +62,7 @@ pub record StandsFrom (IsFirst : Mote → Type 0) (began : ℕ) (asked : Asked) 
   pub most_operations : m.kernel.mote.flash.ops ≤ 1000 * (m.steps + 1)
   pub most_pages : m.pages ≤ began + m.steps + 1
   pub acts : HasActs IsFirst began asked.image asked.quantum m.natural m.entries m.pages m.end m.kernel.mote
-  pub by_step : IsByStep asked.image (λ k. (original_of asked k).state) acts.first acts.acts m.steps m.kernel.mote
+  pub by_step : IsByStep asked.image asked.quantum (λ k. (original_of asked k).state) acts.first acts.acts m.steps m.kernel.mote
   pub most_natural : m.natural ≤ 40 * (m.steps + 1)
   pub most_entries : m.entries ≤ 2 * (m.steps + 1)
 

@@ -22,11 +22,11 @@ pub data AreOfStep (image : List ℕ) (s : Moment) (before : Mote) (acts : List 
 
 -- The acts are those of n steps, one behind the other. Before step k + 1 the mote stands where the original program stands
 -- after k steps, at (k).
-abbrev pub GoByStep : (image : List ℕ) (at : ℕ → Moment) → (first : Mote) → (n : ℕ) → List Act → (last : Mote) → Type 0
-GoByStep image at first zero acts last = (first ≡ last) × (acts ≡ [])
-GoByStep image at first (suc k) acts last =
-    (before : Mote) × (earlier own : List Act) × (acts ≡ earlier ++ own) × GoByStep image at first k earlier before × HasState (at k).now before
-    × AreOfStep image (at k) before own × Follow image before own last
+abbrev pub GoByStep : (image : List ℕ) (quantum : ℕ) (at : ℕ → Moment) → (first : Mote) → (n : ℕ) → List Act → (last : Mote) → Type 0
+GoByStep image quantum at first zero acts last = (first ≡ last) × (acts ≡ [])
+GoByStep image quantum at first (suc k) acts last =
+    (before : Mote) × (earlier own : List Act) × (acts ≡ earlier ++ own) × GoByStep image quantum at first k earlier before × HasState (at k).now before
+    × AreOfStep image (at k) before own × Follow image quantum before own last
 
 -- The program goes on by none of these: there are none; or the arrival at its address is refused, or they stop it.
 pub data AreUnmade (image : List ℕ) (s : Moment) (before : Mote) (acts : List Act) : Type 0 where
@@ -35,12 +35,12 @@ pub data AreUnmade (image : List ℕ) (s : Moment) (before : Mote) (acts : List 
   Stopped : AreOfStep image s before acts → AreUnmade image s before acts
 
 -- n steps were made, and behind them at most what begins one more, which isn't
-pub record IsByStep (image : List ℕ) (at : ℕ → Moment) (first : Mote) (acts : List Act) (n : ℕ) (end : Mote) : Type 0 where
+pub record IsByStep (image : List ℕ) (quantum : ℕ) (at : ℕ → Moment) (first : Mote) (acts : List Act) (n : ℕ) (end : Mote) : Type 0 where
   pub last : Mote
   pub earlier : List Act
   pub rest : List Act
   pub all : acts ≡ earlier ++ rest
-  pub steps : GoByStep image at first n earlier last
+  pub steps : GoByStep image quantum at first n earlier last
   pub state : HasState (at n).now last
   pub unmade : AreUnmade image (at n) last rest
-  pub follow : Follow image last rest end
+  pub follow : Follow image quantum last rest end

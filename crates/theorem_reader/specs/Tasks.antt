@@ -125,7 +125,7 @@ pub record AreApart (sink : Sink) (asked : AskedTasks) (status : ℕ) (taken : L
   pub told : IsTold sink (worst_status asked) (printed_text (printed_of asked) ++ last_line t.natural t.entries t.pages t.switches) status taken
   pub theirs : All (λ one. one.task < asked.count) (printed_of asked)
   pub each : (task : ℕ) → task < asked.count → lines_of_task task (printed_of asked) ≡ lines_alone asked task
-  pub stints : HaveStints (IsBoot (words_of asked) [] (events_of asked 0) asked.quantum asked.slots) (words_of asked) asked.count t.natural t.entries t.pages t.switches (start_of asked) (λ task. (alone_of asked task).state.now)
+  pub stints : HaveStints (IsBoot (words_of asked) [] (events_of asked 0) asked.quantum asked.slots) (words_of asked) asked.quantum (turns_at_reset asked.image asked.scripts asked.quantum asked.slots asked.steps) asked.count t.natural t.entries t.pages t.switches (start_of asked) (λ task. (alone_of asked task).state.now)
   pub sums : AreSums t
   pub unbroken : t.broken ≡ false
 

@@ -1,4 +1,4 @@
--- How a text is told: by a sink that takes all of it, or by one that fails, since it has no room for all.
+-- How a text is told: by a sink that takes all of it, or by one that fails, since it has no room for all; and a source that fails.
 use Rattle.std.specs.Prelude.{◌≡◌, ◌⊎◌, ℕ, ◌<◌, ◌≤◌, List, length, take}
 use Rattle.tk_io.specs.Memory.{SinkState}
 
@@ -7,6 +7,11 @@ pub record IsRoomy (room : ℕ) (out : SinkState) : Type 0 where
   pub room_is : out.room ≡ room
   pub most : length out.taken ≤ room
   pub full : (out.faults ≡ 0) ⊎ (length out.taken ≡ room)
+
+-- a source that fails behind its bytes: those that are left, and how often it failed
+pub record BrokenState : Type 0 where
+  pub left : List ℕ
+  pub faults : ℕ
 
 -- whether the sink took all that it was given
 pub data Sink : Type 0 where

@@ -11,6 +11,7 @@ ghost use Rattle.theorem_reader.specs.Runs.{IsRun, example, generated_by};
 ghost use Rattle.theorem_reader.specs.Tasks.{AskedTasks, AsksTasks, AreRun};
 ghost use Rattle.theorem_reader.specs.Telling.{IsSo};
 
+use crate::broken::run_broken;
 use crate::reader::{Told, run_text, word_of};
 use std::alloc::Global;
 use tk_io::NoMemory;
@@ -27,6 +28,9 @@ const SOURCE: &[u8; 46] = b"ldi r16, 0x0F\nout 0x1B, r16\nagain: rjmp again\n";
 
 /// The HEX text, and behind it a line that no script of several programs may have.
 const BAD_TASK_SCRIPT: &[u8; 49] = b":060000000FE00BBBFFCF77\n:00000001FF\nfail flash 1\n";
+
+/// The HEX text, and behind it a line that no script has.
+const BAD_SCRIPT: &[u8; 40] = b":060000000FE00BBBFFCF77\n:00000001FF\nend\n";
 
 /// A HEX text of an image with a word at 0x0FFE, which no program may have.
 const BAD_TASK_IMAGE: &[u8; 28] = b":021FFC000000E3\n:00000001FF\n";
@@ -107,6 +111,13 @@ pub fn bad_source_example<const ROOM: usize>(alloc: Global) -> Result<Told<ROOM>
     answer_alone(alloc, "asm", HEX)
 }
 
+/// What is wrong with a script.
+pub fn bad_script_example<const ROOM: usize>(alloc: Global) -> Result<Told<ROOM>, NoMemory>
+    ensures bad { IfOk result (λ told. IsSo ROOM told.out (λ sink. IsSaid sink 3 (bad_line (codes "script") 1 (codes "form")) told.status told.out.taken told.kept)) }
+{
+    answer_alone(alloc, "run", BAD_SCRIPT)
+}
+
 /// What is wrong with a script of several programs.
 pub fn bad_task_script_example<const ROOM: usize>(alloc: Global) -> Result<Told<ROOM>, NoMemory>
     ensures bad { IfOk result (λ told. IsSo ROOM told.out (λ sink. IsSaid sink 3 (bad_line (codes "script") 1 (codes "form")) told.status told.out.taken told.kept)) }
@@ -134,6 +145,15 @@ pub fn long_example<const ROOM: usize>(alloc: Global, text: &[u8]) -> Result<Tol
         → IfOk result (λ told. IsSo ROOM told.out (λ sink. IsSaid sink 3 (codes "input too long\n") told.status told.out.taken told.kept)) }
 {
     answer_alone(alloc, "asm", text)
+}
+
+/// This program's run, where its text can't be read to the end.
+pub fn broken_example<const ROOM: usize>(alloc: Global) -> Result<Told<ROOM>, NoMemory>
+    ensures fault { IfOk result (λ told. IsSo ROOM told.out (λ sink. IsSaid sink 5 (codes "read fault\n") told.status told.out.taken told.kept)) }
+{
+    let bytes = bytes_of(alloc, HEX)?;
+    let word = word_of(alloc, "run")?;
+    run_broken(alloc, &[word], bytes)
 }
 
 /// Answers one word over a text.

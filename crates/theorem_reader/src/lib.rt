@@ -3,13 +3,13 @@
 //! program's machine and the programs in turn, the mote's instruction, the types of both, and the form and links of a page;
 //! so one that is weakened there, and that they rest on, is refused here.
 //!
-//! To read: `specs/Telling` (how a text is told, by a sink with room for it or without), `specs/Runs` (what a run leaves;
-//! begin at `IsRun`), `specs/Ends` (the end that is kept), `specs/Acts` (what the machine did), `specs/Steps` (which acts
-//! each step of the original program is), `specs/MoreSteps` (what more of them leave), `specs/Pools` (what stands in flash),
-//! `specs/Memory` (where the program's bytes are), `specs/Texts` (the printed lines); then `specs/Dumps` (the flash that a
-//! run leaves), `specs/Restarts` (what is kept of a flash behind a loss of power), `specs/Tasks` and `specs/Stints` (several
-//! programs on one mote), `specs/Checks` (what is said of a flash), and `specs/Refusals` (words and texts that are refused,
-//! and `asm`). Names that stand there and come from elsewhere:
+//! To read: `specs/Telling` (how a text is told, by a sink with room for it or without, and a source that fails),
+//! `specs/Runs` (what a run leaves; begin at `IsRun`), `specs/Ends` (the end that is kept), `specs/Acts` (what the machine
+//! did), `specs/Steps` (which acts each step of the original program is), `specs/MoreSteps` (what more of them leave),
+//! `specs/Pools` (what stands in flash), `specs/Memory` (where the program's bytes are), `specs/Texts` (the printed lines);
+//! then `specs/Dumps` (the flash that a run leaves), `specs/Restarts` (what is kept of a flash behind a loss of power),
+//! `specs/Tasks` and `specs/Stints` (several programs on one mote), `specs/Checks` (what is said of a flash), and
+//! `specs/Refusals` (words and texts that are refused, and `asm`). Names that stand there and come from elsewhere:
 //!
 //! - `original program events n`: the original program's first n steps, by itself on flat memory of 64 KiB. Of it: `end`,
 //!   `lines` (the writes to outputs), and `state`, where `now` has the core (r0 to r31, SREG, SP, pc), the memory, the
@@ -22,22 +22,24 @@
 //! - `Mote`: a modelled ATmega128, that is its core, SRAM, flash, devices, and a swap area beside it. `exec_of` is what an
 //!   instruction does, `the_form` what two words mean (docs/ATMEGA128.md).
 //! - `fault_of text`, `AsmText text image`: what is wrong with a source, and its words, as docs/ASSEMBLER.md tells them.
-//! - `tries count programs`, `turns programs`: what several programs tell in turn, each over a flat memory of its own, in so
-//!   many tries, or until each has ended (docs/TASKS.md).
+//! - `once programs p`, `tries count programs`, `turns programs`: what several programs tell in turn, each over a flat memory of
+//!   its own, in one try, of p, in so many, or until each has ended (docs/TASKS.md).
 //! - `wake devices`: the devices once an enabled interrupt was requested, if inputs ever do (docs/MOTE.md).
 //! - `generated seed`: the program of a seed (docs/FORMATS.md).
 //! - `Machine`: a mote that runs a program, and what was counted (docs/MACHINE.md).
 #![tactic(auto)]
 
+mod broken;
 mod example;
 mod laws;
 mod reader;
 mod room;
 
+pub use broken::{BrokenSource, run_broken};
 pub use example::{
-    asm_example, bad_dump_example, bad_hex_example, bad_source_example, bad_task_image_example,
-    bad_task_script_example, check_example, dump_example, generate_example, help_example,
-    long_example, restart_example, run_example, tasks_example,
+    asm_example, bad_dump_example, bad_hex_example, bad_script_example, bad_source_example,
+    bad_task_image_example, bad_task_script_example, broken_example, check_example, dump_example,
+    generate_example, help_example, long_example, restart_example, run_example, tasks_example,
 };
 pub use laws::more_steps_take_nothing_back;
 pub use reader::{Told, longest_wait, run_image, run_text};

@@ -1,5 +1,5 @@
 //! Streams in memory that fail at calls chosen beforehand.
-ghost use Rattle.std.specs.Prelude.{◌≡◌, ◌↔◌, ◌⊎◌, ◌<◌, ◌-◌, [], Some, length, min, IsTrue, IsErr, IfOk, Contains, if◌then◌else◌, is_ok};
+ghost use Rattle.std.specs.Prelude.{◌≡◌, ◌↔◌, ◌⊎◌, ◌<◌, ◌-◌, [], None, Some, length, min, IsTrue, IsErr, IfOk, Contains, if◌then◌else◌, is_ok};
 ghost use Rattle.std.specs.Io.{ReadsAtMost, WritesAtMost};
 ghost use Rattle.std.specs.Io.KnownBytes.{ReadConsumes, WriteAppends};
 ghost use Rattle.byte_streams.specs.Faults.{HasCause, next_count};
@@ -80,6 +80,7 @@ impl Source for FlakySource {
     fn read(&mut self, buf: &mut [u8]) -> Result<usize, Failed>
         ensures bound { ReadsAtMost result buf.new }
         ensures bytes { ReadConsumes (Some self.old.left) (Some self.new.left) result buf.new }
+        ensures gives { WriteAppends None None result buf.new }
         ensures cause { HasCause self.old.faults self.new.faults result }
 
         // A call fails just where its number is listed.

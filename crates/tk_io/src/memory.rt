@@ -49,6 +49,7 @@ impl Source for MemSource {
     fn read(&mut self, buf: &mut [u8]) -> Result<usize, Failed>
         ensures bound { ReadsAtMost result buf.new }
         ensures bytes { ReadConsumes (Some self.old) (Some self.new) result buf.new }
+        ensures gives { WriteAppends None None result buf.new }
         ensures cause { HasCause 0 0 result }
 
         ensures never { IsOk result }

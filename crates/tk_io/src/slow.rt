@@ -1,5 +1,5 @@
 //! Streams in memory that move only a few bytes at each call.
-ghost use Rattle.std.specs.Prelude.{◌≡◌, ◌↔◌, ◌<◌, ◌-◌, [], Some, length, min, IsOk, IsErr, IfOk, if◌then◌else◌, is_ok};
+ghost use Rattle.std.specs.Prelude.{◌≡◌, ◌↔◌, ◌<◌, ◌-◌, [], None, Some, length, min, IsOk, IsErr, IfOk, if◌then◌else◌, is_ok};
 ghost use Rattle.std.specs.Io.{ReadsAtMost, WritesAtMost};
 ghost use Rattle.std.specs.Io.KnownBytes.{ReadConsumes, WriteAppends};
 ghost use Rattle.byte_streams.specs.Faults.{HasCause, next_count};
@@ -53,6 +53,7 @@ impl Source for SlowSource {
     fn read(&mut self, buf: &mut [u8]) -> Result<usize, Failed>
         ensures bound { ReadsAtMost result buf.new }
         ensures bytes { ReadConsumes (Some self.old.left) (Some self.new.left) result buf.new }
+        ensures gives { WriteAppends None None result buf.new }
         ensures cause { HasCause 0 0 result }
 
         ensures never { IsOk result }

@@ -4,3 +4,4 @@ pub mod Advancing
 pub mod Gathered
 pub mod Booting
 pub mod WholeRun
+pub mod InTurn

@@ -4,3 +4,4 @@ pub mod Booted
 pub mod Held
 pub mod WholeRuns
 pub mod Gathering
+pub mod InTurn

@@ -1,7 +1,8 @@
 //! The machine: a mote that runs a program, how far it has come, and what was counted.
 
-ghost use Rattle.std.specs.Prelude.{◌≡◌, ◌≤◌, ◌+◌, ◌^◌, false, length, IfOk};
+ghost use Rattle.std.specs.Prelude.{◌≡◌, ◌≤◌, ◌+◌, ◌-◌, ◌^◌, false, length, IfOk};
 ghost use Rattle.byte_streams.specs.Faults.{HasCause};
+ghost use Rattle.tk_run.specs.InTurn.{GoOutInTurn};
 ghost use Rattle.tk_run.specs.Running.{HasAdvanced};
 ghost use Rattle.flash_words.specs.Layouts.{layout_of};
 ghost use Rattle.nat_page.specs.Faithful.{IsFaithful};
@@ -21,6 +22,7 @@ use input_script::Script;
 use kernel_entry::Kernel;
 use mote_core::Mote;
 use nat_page::pages_in_use;
+use page_cursor::Cursor;
 use program_steps::Progress;
 use std::alloc::Global;
 use std::marker::Model;
@@ -69,6 +71,8 @@ pub struct Machine {
     pub longest: u64,
     /// How many of `pages` the pool had when the run began.
     pub began: u64,
+    /// What its runs know of places, kept on the heap, if there is room for it there. Without it each run makes one of its own.
+    cursor: Option<Box<Cursor>>,
 }
 
 impl Model for Machine {
@@ -100,7 +104,8 @@ impl Machine {
         let mut mote = Mote::new(alloc, image.words(), script, options.swap)?;
         mote.sram.set_count(options.quantum);
         let layout = Layout::of(image.len_words());
-        Ok(Machine::begun(mote, layout, options.quantum, 0))
+        let cursor = Cursor::boxed(alloc)?;
+        Ok(Machine::begun(mote, layout, options.quantum, 0, Some(cursor)))
     }
 
     /// A machine over a flash whose pool may have pages, which are counted; it has done nothing yet, and owes an arrival
@@ -119,12 +124,18 @@ impl Machine {
         flash.renew();
         let mut mote = Mote::over(flash, script, swap);
         mote.sram.set_count(quantum);
-        Machine::begun(mote, layout, quantum, u64::from(pages))
+        Machine::begun(mote, layout, quantum, u64::from(pages), None)
     }
 
     /// A machine of this mote that has done nothing yet, whose program has the whole image, and which has these pages in
     /// its pool.
-    fn begun(mote: Mote, layout: Layout, quantum: u8, pages: u64) -> Machine
+    fn begun(
+        mote: Mote,
+        layout: Layout,
+        quantum: u8,
+        pages: u64,
+        cursor: Option<Box<Cursor>>,
+    ) -> Machine
         requires kept { IsKept (begun_by mote layout quantum pages) }
         ensures begun { result ≡ begun_by mote layout quantum pages }
     {
@@ -157,6 +168,7 @@ impl Machine {
             since: 0,
             longest: 0,
             began: pages,
+            cursor,
         }
     }
 
@@ -184,6 +196,20 @@ impl Machine {
         }
     }
 
+    /// Gives away what its runs know of places, so that another machine may have the room.
+    pub fn take_cursor(&mut self) -> Option<Box<Cursor>>
+        ensures same { self.new ≡ self.old }
+    {
+        self.cursor.take()
+    }
+
+    /// Keeps this for what its runs know of places.
+    pub fn keep_cursor(&mut self, cursor: Option<Box<Cursor>>)
+        ensures same { self.new ≡ self.old }
+    {
+        self.cursor = cursor;
+    }
+
     /// Does up to n further steps, and puts their device lines to `out`: where 4,096 bytes were gathered,
     /// each 65,536 steps, and before it answers.
     ///
@@ -193,10 +219,12 @@ impl Machine {
         requires running { self.old.broken ≡ false }
         requires steps { self.old.steps + n ≤ 10 ^ 12 }
         ensures advanced { HasAdvanced self.old self.new n (K.taken out.old) (K.taken out.new) result }
+        // However long it goes on, no line waits for more than 65,536 steps.
+        ensures turns { GoOutInTurn K.taken self.old out.old (self.new.steps - self.old.steps) }
         ensures cause { HasCause (K.faults out.old) (K.faults out.new) result }
     {
         let mut p = self.progress();
-        let result = run_on(&mut self.kernel, &mut p, n, out);
+        let result = run_on(&mut self.kernel, &mut p, &mut self.cursor, n, out);
         self.at = p.at;
         self.owed = p.owed;
         self.end = p.end;

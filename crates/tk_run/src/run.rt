@@ -1,9 +1,11 @@
 //! The run loop: arrival, step and device line, up to a bound.
 
-ghost use Rattle.std.specs.Prelude.{◌≡◌, ◌≤◌, ◌+◌, ◌^◌, false, None, []};
+ghost use Rattle.std.specs.Prelude.{◌≡◌, ◌≤◌, ◌+◌, ◌-◌, ◌^◌, false, None, []};
 ghost use Rattle.byte_streams.specs.Faults.{HasCause};
+ghost use Rattle.page_cursor.specs.Cursors.{IsCursor};
 ghost use Rattle.tk_run.specs.Gathering.{HasGathered, HasPut};
 ghost use Rattle.program_steps.specs.Ready.{IsGoing, IsQuiet};
+ghost use Rattle.tk_run.specs.InTurn.{GoOutInTurn};
 ghost use Rattle.tk_run.specs.Running.{HasAdvanced};
 ghost use Rattle.program_steps.specs.Wholes.{whole};
 
@@ -19,6 +21,7 @@ use program_steps::{Progress, at_bound, enter, must_take, steps, take};
 pub(crate) fn run_on<K: Sink>(
     k: &mut Kernel,
     p: &mut Progress,
+    cursor: &mut Option<Box<Cursor>>,
     n: u64,
     out: &mut K,
 ) -> Result<End, Failed>
@@ -29,12 +32,13 @@ pub(crate) fn run_on<K: Sink>(
     requires unshut { k.old.part.shut ≡ false }
     ensures advanced { HasAdvanced (whole k.old p.old) (whole k.new p.new) n (K.taken out.old) (K.taken out.new) result }
     ensures others { p.new.others ≡ p.old.others }
+    ensures turns { GoOutInTurn K.taken (whole k.old p.old) out.old (p.new.steps - p.old.steps) }
     ensures cause { HasCause (K.faults out.old) (K.faults out.new) result }
 {
     if let Some(end) = p.end {
         return Ok(end);
     }
-    match put_steps(k, p, n, out) {
+    match put_steps(k, p, cursor, n, out) {
         Ok(end) => Ok(end),
         Err(failed) => {
             p.broken = true;
@@ -44,7 +48,13 @@ pub(crate) fn run_on<K: Sink>(
 }
 
 /// The steps of a machine without an end, and all their lines.
-fn put_steps<K: Sink>(k: &mut Kernel, p: &mut Progress, n: u64, out: &mut K) -> Result<End, Failed>
+fn put_steps<K: Sink>(
+    k: &mut Kernel,
+    p: &mut Progress,
+    cursor: &mut Option<Box<Cursor>>,
+    n: u64,
+    out: &mut K,
+) -> Result<End, Failed>
     requires going { p.old.end ≡ None }
     requires whole { p.old.broken ≡ false }
     requires ready { IsGoing (whole k.old p.old) }
@@ -52,16 +62,47 @@ fn put_steps<K: Sink>(k: &mut Kernel, p: &mut Progress, n: u64, out: &mut K) -> 
     requires steps { p.old.steps + n ≤ 10 ^ 12 }
     requires unshut { k.old.part.shut ≡ false }
     ensures put { HasPut (whole k.old p.old) (whole k.new p.new) n (K.taken out.old) (K.taken out.new) result }
+    ensures turns { GoOutInTurn K.taken (whole k.old p.old) out.old (p.new.steps - p.old.steps) }
     ensures cause { HasCause (K.faults out.old) (K.faults out.new) result }
 {
     let mut gathered = Gathered::new();
-    let end = all_steps(k, p, n, &mut gathered, out)?;
+    let end = gathered_steps(k, p, cursor, n, &mut gathered, out)?;
     send(&mut gathered, out)?;
     Ok(end)
 }
 
-/// The steps, with the last lines still gathered.
-fn all_steps<K: Sink>(
+/// The steps, with the last lines still gathered. Where no cursor is kept one is made for this run.
+fn gathered_steps<K: Sink>(
+    k: &mut Kernel,
+    p: &mut Progress,
+    cursor: &mut Option<Box<Cursor>>,
+    n: u64,
+    gathered: &mut Gathered,
+    out: &mut K,
+) -> Result<End, Failed>
+    requires going { p.old.end ≡ None }
+    requires whole { p.old.broken ≡ false }
+    requires ready { IsGoing (whole k.old p.old) }
+    requires quiet { IsQuiet (whole k.old p.old) }
+    requires steps { p.old.steps + n ≤ 10 ^ 12 }
+    requires unshut { k.old.part.shut ≡ false }
+    requires empty { gathered.old.items ≡ [] }
+    ensures gathered { HasGathered (whole k.old p.old) (whole k.new p.new) n gathered.new.items (K.taken out.old) (K.taken out.new) result }
+    ensures turns { GoOutInTurn K.taken (whole k.old p.old) out.old (p.new.steps - p.old.steps) }
+    ensures cause { HasCause (K.faults out.old) (K.faults out.new) result }
+{
+    match cursor {
+        Some(cursor) => {
+            cursor.forget();
+            all_steps(k, p, &mut **cursor, n, gathered, out)
+        }
+        None => all_steps_anew(k, p, n, gathered, out),
+    }
+}
+
+/// The steps, by a cursor that is kept on the stack. Not inlined, since it is large.
+#[inline(never)]
+fn all_steps_anew<K: Sink>(
     k: &mut Kernel,
     p: &mut Progress,
     n: u64,
@@ -76,9 +117,33 @@ fn all_steps<K: Sink>(
     requires unshut { k.old.part.shut ≡ false }
     requires empty { gathered.old.items ≡ [] }
     ensures gathered { HasGathered (whole k.old p.old) (whole k.new p.new) n gathered.new.items (K.taken out.old) (K.taken out.new) result }
+    ensures turns { GoOutInTurn K.taken (whole k.old p.old) out.old (p.new.steps - p.old.steps) }
     ensures cause { HasCause (K.faults out.old) (K.faults out.new) result }
 {
-    let mut cursor = Cursor::new();
+    all_steps(k, p, &mut Cursor::new(), n, gathered, out)
+}
+
+/// The steps, by a cursor that is right for flash as it is.
+fn all_steps<K: Sink>(
+    k: &mut Kernel,
+    p: &mut Progress,
+    cursor: &mut Cursor,
+    n: u64,
+    gathered: &mut Gathered,
+    out: &mut K,
+) -> Result<End, Failed>
+    requires going { p.old.end ≡ None }
+    requires whole { p.old.broken ≡ false }
+    requires ready { IsGoing (whole k.old p.old) }
+    requires quiet { IsQuiet (whole k.old p.old) }
+    requires steps { p.old.steps + n ≤ 10 ^ 12 }
+    requires unshut { k.old.part.shut ≡ false }
+    requires cursor { IsCursor k.old.layout k.old.mote.flash.words cursor.old }
+    requires empty { gathered.old.items ≡ [] }
+    ensures gathered { HasGathered (whole k.old p.old) (whole k.new p.new) n gathered.new.items (K.taken out.old) (K.taken out.new) result }
+    ensures turns { GoOutInTurn K.taken (whole k.old p.old) out.old (p.new.steps - p.old.steps) }
+    ensures cause { HasCause (K.faults out.old) (K.faults out.new) result }
+{
     let mut done = 0;
     'steps: while done < n {
         send_in_turn(done, gathered, out)?;
@@ -89,14 +154,14 @@ fn all_steps<K: Sink>(
             done += 1;
             continue 'steps;
         }
-        if let Some(end) = enter(k, p, &mut cursor) {
+        if let Some(end) = enter(k, p, cursor) {
             return Ok(end);
         }
-        done += steps(k, p, &mut cursor, up_to_turn(done).min(n - done));
+        done += steps(k, p, cursor, up_to_turn(done).min(n - done));
         gather(p.line, gathered, out)?;
         if let Some(end) = p.end {
             return Ok(end);
         }
     }
-    Ok(at_bound(k, p, &mut cursor))
+    Ok(at_bound(k, p, cursor))
 }

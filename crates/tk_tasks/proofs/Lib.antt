@@ -1,5 +1,5 @@
 mod Booting
-mod Paths
+pub mod Paths
 mod Trials
 pub mod Changing
 mod Starting
@@ -7,5 +7,6 @@ mod Keeping
 mod Playing
 pub mod Telling
 mod Runs
+mod InTurn
 pub mod Stints
 pub mod FirstPlayers

@@ -128,7 +128,7 @@ more_found k m t None rest ended = refl
 more_found k m t (Some p) rest ended = more_by k m t p (is_some p.end) rest ended
 
 -- further tries change nothing
-more_tries : (k m : ℕ) (t : Turns) → HaveEnded (tries k t).turns → tries (k + m) t ≡ tries k t
+pub more_tries : (k m : ℕ) (t : Turns) → HaveEnded (tries k t).turns → tries (k + m) t ≡ tries k t
 unfolding tries
 more_tries zero m t ended =
     let same : 0 + m ≡ m = omega arith in

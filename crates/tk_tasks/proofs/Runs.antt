@@ -172,7 +172,7 @@ kept_is t s k stub i task x y m end pages same kernels stubs at index here kept 
 
 -- ---- plays one behind the other
 
-pub way_start : (n : ℕ) (t : Tasks) (gathered : List ℕ) (known : Option (List ℕ)) → gathered ≡ [] → IsUnderWay n t t gathered known known
+abbrev pub way_start : (n : ℕ) (t : Tasks) (gathered : List ℕ) (known : Option (List ℕ)) → gathered ≡ [] → IsUnderWay n t t gathered known known
 way_start n t gathered known empty = record {
   plays = [];
   path = refl;
@@ -184,13 +184,13 @@ way_cut_in_turn n old now gathered before after later way cut =
     let text = told_text old.kernel.quantum (told_of way.plays) in
     record { plays = way.plays; path = way.path; cut = subst (CutShort before later) (append-nil text) (cut_on text gathered [] before after later way.sent cut) }
 
-sent_in_turn : (text gathered mid : List ℕ) (before after later : Option (List ℕ)) → IsSent text gathered before after → IsSent (gathered ++ []) mid after later → IsSent text mid before later
+pub sent_in_turn : (text gathered mid : List ℕ) (before after later : Option (List ℕ)) → IsSent text gathered before after → IsSent (gathered ++ []) mid after later → IsSent text mid before later
 sent_in_turn text gathered mid before after later first second = subst (λ z. IsSent z mid before later) (append-nil text) (sent_on text gathered [] mid before after later first second)
 
-text_on : (quantum : ℕ) (plays more : List Play) (told : List Told) → told_of more ≡ told → told_text quantum (told_of (plays ++ more)) ≡ told_text quantum (told_of plays) ++ told_text quantum told
+pub text_on : (quantum : ℕ) (plays more : List Play) (told : List Told) → told_of more ≡ told → told_text quantum (told_of (plays ++ more)) ≡ told_text quantum (told_of plays) ++ told_text quantum told
 text_on quantum plays more told is = ap (told_text quantum) (told_on plays more) ∙ told_text_on quantum (told_of plays) (told_of more) ∙ ap (λ l. told_text quantum (told_of plays) ++ told_text quantum l) is
 
-pub way_on : (n : ℕ) (old now new : Tasks) (gathered mid left : List ℕ) (before after later last : Option (List ℕ)) (told : List Told) (count quantum : ℕ) → IsUnderWay n old now gathered before after → IsSent (gathered ++ []) mid after later → HasPlayed n now new told count → quantum ≡ old.kernel.quantum
+abbrev pub way_on : (n : ℕ) (old now new : Tasks) (gathered mid left : List ℕ) (before after later last : Option (List ℕ)) (told : List Told) (count quantum : ℕ) → IsUnderWay n old now gathered before after → IsSent (gathered ++ []) mid after later → HasPlayed n now new told count → quantum ≡ old.kernel.quantum
     → IsSent (mid ++ told_text quantum told) left later last → IsUnderWay n old new left before last
 way_on n old now new gathered mid left before after later last told count quantum way turn played same sent =
     let q = old.kernel.quantum in

@@ -4,3 +4,4 @@ pub mod Changes
 pub mod Plays
 pub mod Trying
 pub mod Running
+pub mod InTurn

@@ -11,6 +11,7 @@ use hex_image::Image;
 use input_script::Script;
 use kernel_entry::Kernel;
 use no_memory::NoMemory;
+use page_cursor::Cursor;
 use parked_tasks::{Task, boot_tasks};
 use std::alloc::Global;
 use std::marker::Model;
@@ -35,6 +36,8 @@ pub struct Tasks {
     pub pages: u64,
     /// Changes of the running task.
     pub switches: u64,
+    /// What a run knows of places, on the heap, while none is under way.
+    cursor: Option<Box<Cursor>>,
 }
 
 impl Model for Tasks {
@@ -47,7 +50,8 @@ impl Model for Tasks {
 
 impl Tasks {
     /// The tasks of an image, one for each script, of which none has done anything. Each may use this many swap
-    /// slots, and its program stands in its quarter of the image.
+    /// slots, and its program stands in its quarter of the image. Not inlined, since what it keeps on the stack is large.
+    #[inline(never)]
     pub fn boot(
         alloc: Global,
         image: &Image,
@@ -66,6 +70,7 @@ impl Tasks {
         ensures unstarted { IfOk result (λ tasks. IsUnstarted tasks) }
         ensures turns { IfOk result (λ tasks. (n : ℕ) → turns_of n tasks ≡ turns_at_reset image.now scripts.items quantum swap n) }
     {
+        let cursor = Cursor::boxed(alloc)?;
         let booted = boot_tasks(alloc, image, scripts, quantum, swap)?;
         Ok(Tasks {
             kernel: booted.kernel,
@@ -77,6 +82,20 @@ impl Tasks {
             entries: 0,
             pages: 0,
             switches: 0,
+            cursor: Some(cursor),
         })
+    }
+    /// Gives away what a run knows of places.
+    pub(crate) fn take_cursor(&mut self) -> Option<Box<Cursor>>
+        ensures same { self.new ≡ self.old }
+    {
+        self.cursor.take()
+    }
+
+    /// Keeps this for what a run knows of places.
+    pub(crate) fn keep_cursor(&mut self, cursor: Option<Box<Cursor>>)
+        ensures same { self.new ≡ self.old }
+    {
+        self.cursor = cursor;
     }
 }

@@ -12,6 +12,7 @@ use Rattle.cli_words.specs.declared.status.Status.TheVariants.{Done, NoMemory, U
 use Rattle.cli_words.specs.Commands.{IsCommand}
 use Rattle.cli_words.specs.Printed.{no_memory}
 use Rattle.cli_words.specs.Stream.{Stream}
+use Rattle.byte_streams.specs.Streams.{Input}
 use Rattle.cli_words.proofs.FirstWord.{first_bytes}
 use Rattle.cli_requests.specs.Asking.{Asks, Warrants, wanted}
 use Rattle.cli_requests.specs.Reading.{AsksByText, IsJudged, IsUnread}
@@ -31,7 +32,7 @@ IsRunOrLine (jobs.Run request) = Unit {0}
 IsRunOrLine (jobs.Print own line) = Unit {0}
 IsRunOrLine _ = ⊥
 
-run_or_line : (options : RunOptions) (before now : Stream) (job : Job) → AsksByText (RunAsks options) before now job → IsRunOrLine job
+run_or_line : (options : RunOptions) (before now : Input) (job : Job) → AsksByText (RunAsks options) before now job → IsRunOrLine job
 run_or_line options before now job (inl (IsUnread.ReadFault is rose taken)) = subst IsRunOrLine (sym is) tt
 run_or_line options before now job (inl (IsUnread.TooLong is taken)) = subst IsRunOrLine (sym is) tt
 run_or_line options before now job (inl (IsUnread.NoMemory is taken)) = subst IsRunOrLine (sym is) tt
@@ -48,7 +49,7 @@ other_job (jobs.Restart request again) is no_run no_line = is
 other_job (jobs.Tasks request) is no_run no_line = is
 other_job (jobs.Write text) is no_run no_line = is
 
-pub no_other_job : {A : Type 0} (options : RunOptions) (before now : Stream) (job : Job) → AsksByText (RunAsks options) before now job → ((request : Request) → job ≡ jobs.Run request → ⊥) → ((own : Status) (line : ArrayVec ℕ) → job ≡ jobs.Print own line → ⊥) → A
+pub no_other_job : {A : Type 0} (options : RunOptions) (before now : Input) (job : Job) → AsksByText (RunAsks options) before now job → ((request : Request) → job ≡ jobs.Run request → ⊥) → ((own : Status) (line : ArrayVec ℕ) → job ≡ jobs.Print own line → ⊥) → A
 no_other_job options before now job asks no_run no_line = absurd (other_job job (run_or_line options before now job asks) no_run no_line)
 
 -- words whose later ones are no options
@@ -62,20 +63,20 @@ one_word words first text some one is same =
     first_bytes words first text some is same ∙ ap (λ n. text ∷ map string_bytes (take n (drop 1 words))) none
 
 -- the answers
-pub answer_shown : (words : List (List ℕ)) (source source' sink sink' : Stream) (view : View) (options : RunOptions) (job : Job) (request : Request) (told : Status) → AskToWatch words view options → AsksByText (RunAsks options) source source' job → job ≡ jobs.Run request
+pub answer_shown : (words : List (List ℕ)) (source source' : Input) (sink sink' : Stream) (view : View) (options : RunOptions) (job : Job) (request : Request) (told : Status) → AskToWatch words view options → AsksByText (RunAsks options) source source' job → job ≡ jobs.Run request
     → Shows view request sink sink' told ⊎ Says NoMemory (codes "no memory\n") sink sink' told → IsAnswer words source source' sink sink' told
 answer_shown words source source' sink sink' view options job request told watch asks is (inl shows) =
     record { view = view; job = jobs.Run request; asked = inl (options, watch, subst (AsksByText (RunAsks options) source source') is asks); done = shows }
 answer_shown words source source' sink sink' view options job request told watch asks is (inr none) =
     record { view = view; job = no_memory; asked = inl (options, watch, text_wants (RunAsks options) source source' (jobs.Run request) tt (subst (AsksByText (RunAsks options) source source') is asks)); done = none }
 
-pub answer_line : (words : List (List ℕ)) (source source' sink sink' : Stream) (view : View) (options : RunOptions) (job : Job) (own : Status) (line : ArrayVec ℕ) (put : List ℕ) (told : Status) → AskToWatch words view options → AsksByText (RunAsks options) source source' job → job ≡ jobs.Print own line
+pub answer_line : (words : List (List ℕ)) (source source' : Input) (sink sink' : Stream) (view : View) (options : RunOptions) (job : Job) (own : Status) (line : ArrayVec ℕ) (put : List ℕ) (told : Status) → AskToWatch words view options → AsksByText (RunAsks options) source source' job → job ≡ jobs.Print own line
     → put ≡ line.items → Says own put sink sink' told → IsAnswer words source source' sink sink' told
 answer_line words source source' sink sink' view options job own line put told watch asks is same said =
     record { view = view; job = jobs.Print own line; asked = inl (options, watch, subst (AsksByText (RunAsks options) source source') is asks); done = subst (λ text. Says own text sink sink' told) same said }
 
 -- no view is asked for
-pub answer_usage : (words : List (List ℕ)) (source sink sink' : Stream) (own : Status) (told : Status) → ((view : View) (options : RunOptions) → ¬ AskToWatch words view options) → (AskForHelp words × (own ≡ Done)) ⊎ ((¬ AskForHelp words) × (own ≡ Usage))
+pub answer_usage : (words : List (List ℕ)) (source : Input) (sink sink' : Stream) (own : Status) (told : Status) → ((view : View) (options : RunOptions) → ¬ AskToWatch words view options) → (AskForHelp words × (own ≡ Done)) ⊎ ((¬ AskForHelp words) × (own ≡ Usage))
     → Says own usage_text sink sink' told → IsAnswer words source source sink sink' told
 answer_usage words source sink sink' own told unwatched (inl help) said =
     record { view = Lines; job = usage own; asked = inr (inl (help.0, ap usage help.1, refl)); done = said }
@@ -90,7 +91,7 @@ same_view (word ∷ rest) a b options options' first second = let e : Some a ≡
 no_help : (words : List (List ℕ)) (view : View) (options : RunOptions) → AskForHelp words → ¬ AskToWatch words view options
 no_help words view options help watch = let asked = subst (λ w. AskToWatch w view options) help watch in absurd (let e = asked.0 in cc)
 
-exact_watch : (words : List (List ℕ)) (source source' sink sink' : Stream) (view : View) (options options' : RunOptions) (job whole : Job) (told : Status) → AskToWatch words view options → Asks (Run options) source source' job
+exact_watch : (words : List (List ℕ)) (source source' : Input) (sink sink' : Stream) (view : View) (options options' : RunOptions) (job whole : Job) (told : Status) → AskToWatch words view options → Asks (Run options) source source' job
     → AskToWatch words view options' → Warrants (wanted (Run options')) source source' whole → Does view job sink sink' told → Does view no_memory sink sink' told ⊎ Does view whole sink sink' told
 exact_watch [] source source' sink sink' view options options' job whole told watch asks watch' warrants done = absurd watch
 exact_watch (word ∷ rest) source source' sink sink' view options options' job whole told watch asks watch' warrants done =
@@ -105,7 +106,7 @@ usage_done own a b job whole sink sink' told is same done =
     let said : Says own usage_text sink sink' told = subst (λ j. Does a j sink sink' told) is done in
     subst (λ j. Does b j sink sink' told) (sym same) said
 
-exactly : (words : List (List ℕ)) (source source' sink sink' : Stream) (a b : View) (job whole : Job) (told : Status) → IsAsked words source source' a job → IsWarranted words source source' b whole → Does a job sink sink' told
+exactly : (words : List (List ℕ)) (source source' : Input) (sink sink' : Stream) (a b : View) (job whole : Job) (told : Status) → IsAsked words source source' a job → IsWarranted words source source' b whole → Does a job sink sink' told
     → Does b no_memory sink sink' told ⊎ Does b whole sink sink' told
 exactly words source source' sink sink' a b job whole told (inl asked) (inl other) done =
     let same = same_view words a b asked.0 other.0 asked.1 other.1 in
@@ -120,5 +121,5 @@ exactly words source source' sink sink' a b job whole told (inr (inr nothing)) (
 exactly words source source' sink sink' a b job whole told (inr (inr nothing)) (inr (inr other)) done = inr (usage_done _ a b job whole sink sink' told nothing.1 other.1 done)
 
 -- what is asked for is what is warranted, but for want of memory
-pub answer_is_exact : (words : List (List ℕ)) (source source' sink sink' : Stream) (told : Status) → IsAnswer words source source' sink sink' told → IsExact words source source' sink sink' told
+pub answer_is_exact : (words : List (List ℕ)) (source source' : Input) (sink sink' : Stream) (told : Status) → IsAnswer words source source' sink sink' told → IsExact words source source' sink sink' told
 answer_is_exact words source source' sink sink' told answer view whole warranted = exactly words source source' sink sink' answer.view view answer.job whole told answer.asked warranted answer.done

@@ -18,15 +18,12 @@ use Rattle.tk_run.specs.Running.{HasAdvanced, original_from}
 use Rattle.tk_run.proofs.RunSoFar.{Ran, IsBetween, none_ran, nothing, inside_same, tried_same}
 use Rattle.tk_run.proofs.Advancing.{IsIn, is_in, between_on, no_end, advanced_enter, advanced_stop, advanced_bound}
 use Rattle.tk_run.proofs.Gathered.{take_in}
+use Rattle.tk_run.proofs.InTurn.{lines_so_far, bound_counts}
 use Rattle.tk_watch.specs.Turning.{HasTurned}
 use Rattle.tk_watch.specs.NumberedLines.{numbered_line, numbered_lines}
 use Rattle.tk_watch.proofs.NumberedLaws.{numbered_on, numbered_silent}
 
--- what the original has written, and where it stands
-pub written : (old now : Machine) (i : ℕ) (before after : Option (List ℕ)) → (ran : Ran old now i before after) → (original_from old i).lines ≡ ran.lines
-written old now i before after ran =
-    ap (λ k. (original_from old k).lines) (sym (nothing i)) ∙ ap (λ (r : Run). r.lines) (ran.run 0) ∙ ap (λ l. ran.lines ++ l) (none_ran (program_of old.kernel) (flat_of now)).0 ∙ append-nil ran.lines
-
+-- where the original stands
 pub left : (old now : Machine) (i : ℕ) (before after : Option (List ℕ)) → (ran : Ran old now i before after) → (original_from old i).state ≡ flat_of now
 left old now i before after ran =
     ap (λ k. (original_from old k).state) (sym (nothing i)) ∙ ap (λ (r : Run). r.state) (ran.run 0) ∙ (none_ran (program_of old.kernel) (flat_of now)).1
@@ -46,7 +43,7 @@ step_by old now new i line before after now' (StepWay.On ready quiet steps is) g
     ∙ ap (λ (r : Run). r.lines) (ran.run 1)
     ∙ ap (λ (r : Run). ran.lines ++ r.lines) on
     ∙ ap (λ l. ran.lines ++ l) (line_alone line (run program (flat_of new) 0) (none_ran program (flat_of new)).0)
-    ∙ ap (λ l. l ++ line_before line []) (sym (written old now i before after ran))
+    ∙ ap (λ l. l ++ line_before line []) (sym (lines_so_far old now i before after ran))
 step_by old now new i line before after now' (StepWay.Stopped stop over kept none steps is same) going = absurd (no_end new (ends.Stopped stop) kept going)
 
 step_lines : (old now new : Machine) (i : ℕ) (line : Option Line) (before after : Option (List ℕ)) → IsIn old now i before after → HasStepped now new line → new.end ≡ None → (original_from old (i + 1)).lines ≡ (original_from old i).lines ++ line_before line []
@@ -172,16 +169,12 @@ ended old now new i count n line end text going whole below within between (HasT
     stopped_by old now new i count n line end text going whole within last last.step.way over
 
 -- Where all steps are done.
-bound_steps : (now new : Machine) (end : End) → HasBound now new end → new.steps ≡ now.steps
-bound_steps now new end (HasBound.Waits same inside) = ap (λ (m : Machine). m.steps) same
-bound_steps now new end (HasBound.Leaves entered outside) = entered.steps
-
 pub bound : (old now new : Machine) (n : ℕ) (end : End) (text : List ℕ) → old.end ≡ None → old.broken ≡ false → IsBetween old now n (Some []) (Some text) → HasBound now new end → HasEnded old new n 1 n end
 bound old now new n end text going whole between is = record {
   text = text;
   advanced = advanced_bound old now new n (Some []) (Some text) end going whole between is;
   done = n;
-  steps = bound_steps now new end is ∙ between.ran.steps;
+  steps = bound_counts now new end is ∙ between.ran.steps;
   one = λ few. refl;
   told = refl;
 }

@@ -7,7 +7,7 @@ use Rattle.cli_words.specs.declared.job.Job.TheVariants.{Print}
 use Rattle.cli_words.specs.declared.status.Status.{Status}
 use Rattle.cli_words.specs.declared.status.Status.TheVariants.{Done, Usage}
 use Rattle.cli_words.specs.Commands.{IsCommand}
-use Rattle.cli_words.specs.Stream.{Stream}
+use Rattle.byte_streams.specs.Streams.{Input}
 use Rattle.cli_requests.specs.Asking.{Asks, Warrants, wanted}
 use Rattle.tk_watch.specs.declared.view.View.{View}
 use Rattle.tk_watch.specs.declared.view.View.TheVariants.{Lines, State, Memory, Profile}
@@ -43,14 +43,14 @@ pub record AskForNothing (words : List (List ℕ)) : Type 0 where
 
 -- A view is asked for, and what `tkernel run` does with the same options and the same input is what is watched; or the usage
 -- line is asked for; or the words ask for nothing, and are refused. Nothing is read but for a view.
-abbrev pub IsAsked : List (List ℕ) → (before now : Stream) → View → Job → Type 0
+abbrev pub IsAsked : List (List ℕ) → (before now : Input) → View → Job → Type 0
 IsAsked words before now view job =
     ((options : RunOptions) × AskToWatch words view options × Asks (Run options) before now job)
     ⊎ ((AskForHelp words × (job ≡ usage Done) × (now ≡ before))
     ⊎ (AskForNothing words × (job ≡ usage Usage) × (now ≡ before)))
 
 -- the same, if memory serves
-abbrev pub IsWarranted : List (List ℕ) → (before now : Stream) → View → Job → Type 0
+abbrev pub IsWarranted : List (List ℕ) → (before now : Input) → View → Job → Type 0
 IsWarranted words before now view job =
     ((options : RunOptions) × AskToWatch words view options × Warrants (wanted (Run options)) before now job)
     ⊎ ((AskForHelp words × (job ≡ usage Done)) ⊎ (AskForNothing words × (job ≡ usage Usage)))

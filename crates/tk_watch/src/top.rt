@@ -4,6 +4,7 @@ ghost use Rattle.cli_words.specs.Commands.{AreOptions};
 ghost use Rattle.cli_words.specs.declared.command.RunOptions.{RunOptions};
 ghost use Rattle.cli_words.specs.declared.request.Request.{Request as RequestValue};
 ghost use Rattle.cli_words.specs.declared.status.Status.TheVariants.{Done, NoMemory, Usage};
+ghost use Rattle.byte_streams.specs.Streams.{input_of};
 ghost use Rattle.cli_words.specs.Stream.{stream};
 ghost use Rattle.cli_jobs.specs.Runs.{Says, original_of};
 ghost use Rattle.tk_watch.specs.declared.view.View.{View};
@@ -36,12 +37,13 @@ pub fn tkwatch<S: Source, K: Sink>(
     out: &mut K,
 ) -> Status
     ensures answer { IsAnswer (map string_bytes words.now)
-        (stream S.left S.faults input.old) (stream S.left S.faults input.new)
+        (input_of S.left S.given S.faults input.old) (input_of S.left S.given S.faults input.new)
         (stream K.taken K.faults out.old) (stream K.taken K.faults out.new)
         result }
-    // The words alone decide, and for a view the text of a source that tells it and doesn't fail; or memory is wanted.
+    // The words alone decide, and for a view the text of a source that tells it, or keeps what it gave, and doesn't fail; or
+    // memory is wanted.
     ensures exact { IsExact (map string_bytes words.now)
-        (stream S.left S.faults input.old) (stream S.left S.faults input.new)
+        (input_of S.left S.given S.faults input.old) (input_of S.left S.given S.faults input.new)
         (stream K.taken K.faults out.old) (stream K.taken K.faults out.new)
         result }
     // What the lines of a run are told by is each line that `run` prints of it, behind a number.

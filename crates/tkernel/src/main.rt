@@ -16,7 +16,7 @@ fn main(rt: HostRuntime) -> ExitCode {
     let mut input = StdSource::new(rt.reader());
     let mut out = StdSink::new(io::writer(&rt));
     let exit = tkernel(rt.alloc(), &words, &mut input, &mut out);
-    ExitCode::from(exit.status.number())
+    ExitCode::from(exit.into_status().number())
 }
 
 /// The words after the program's name. Where one of them isn't UTF-8 there is one empty word, which is no

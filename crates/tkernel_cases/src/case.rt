@@ -6,8 +6,8 @@ use std::alloc::{AllocError, Global};
 #[derive(Drop)]
 pub(crate) struct Case {
     pub name: Vec<u8>,
-    /// Lists of words: each is to be answered so.
-    pub words: Vec<Vec<String>>,
+    /// Words between spaces: each list of them is to be answered so.
+    pub words: Vec<String>,
     pub input: Vec<u8>,
     /// How many bytes of the input there are: each number from the first to the last. More are all of it.
     pub shortest: usize,
@@ -53,7 +53,7 @@ impl Case {
     pub(crate) fn take(&mut self, alloc: Global, line: &str) -> Result<(), AllocError> {
         let (kind, rest) = cut(line);
         match kind {
-            "words:" => Ok(self.words.push(words_of(alloc, rest)?)?),
+            "words:" => Ok(self.words.push(String::from_str(alloc, rest)?)?),
             "then:" => {
                 self.then = words_of(alloc, rest)?;
                 Ok(())
@@ -144,7 +144,7 @@ fn put_times(bytes: &mut Vec<u8>, line: &str) -> Result<(), AllocError> {
 }
 
 /// The words of a line, between spaces.
-fn words_of(alloc: Global, line: &str) -> Result<Vec<String>, AllocError> {
+pub(crate) fn words_of(alloc: Global, line: &str) -> Result<Vec<String>, AllocError> {
     let mut words = Vec::new(alloc);
     if line.is_empty() {
         return Ok(words);

@@ -1,5 +1,5 @@
 //! What a case is answered with.
-use crate::case::{Case, cut};
+use crate::case::{Case, cut, words_of};
 use crate::tally::{Answer, Tally};
 use std::alloc::{AllocError, Global};
 use std::io;
@@ -9,10 +9,11 @@ use tkernel_cli::{Exit, tkernel};
 /// Tries a case with each of its words and at each of its lengths, and names it where an answer isn't as it wants.
 pub(crate) fn try_case(rt: &HostRuntime, case: &Case, tally: &mut Tally) -> io::Result<()> {
     let mut is_same = true;
-    for words in &case.words {
+    for line in &case.words {
+        let words = words_of(rt.alloc(), line)?;
         for length in case.shortest..=case.longest {
             let input = case.input.get(..length).unwrap_or(&case.input);
-            let answer = answer_of(rt.alloc(), case, words, input)?;
+            let answer = answer_of(rt.alloc(), case, &words, input)?;
             is_same &= tally.count(case, &answer);
         }
     }
@@ -71,9 +72,9 @@ fn called(
     };
     let exit = tkernel(alloc, words, &mut source, &mut sink);
     Ok(Answer {
-        status: usize::from(exit.status.number()),
-        text: sink.taken().to_vec(alloc)?,
         keeps: kept(&exit),
+        status: usize::from(exit.into_status().number()),
+        text: sink.taken().to_vec(alloc)?,
     })
 }
 

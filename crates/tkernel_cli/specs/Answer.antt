@@ -5,6 +5,7 @@ use Rattle.cli_words.specs.declared.job.Job.TheVariants as jobs
 use Rattle.cli_requests.specs.Asking.{IsAsked, IsWarranted}
 use Rattle.cli_words.specs.Printed.{no_memory}
 use Rattle.cli_words.specs.Stream.{Stream}
+use Rattle.byte_streams.specs.Streams.{Input}
 use Rattle.cli_jobs.specs.Jobs.{DoesAlone}
 use Rattle.tkernel_cli.specs.declared.top.Exit.{Exit}
 use Rattle.tkernel_cli.specs.TasksRuns.{HasTasksRun}
@@ -16,11 +17,11 @@ Does (jobs.Tasks request) sink sink' exit = HasTasksRun request sink sink' exit
 Does job sink sink' exit = DoesAlone job sink sink' exit.status exit.kept × (exit.tasks ≡ None)
 
 -- A call does a job that its words and its input ask for.
-pub record IsAnswer (words : List (List ℕ)) (source source' sink sink' : Stream) (exit : Exit) : Type 0 where
+pub record IsAnswer (words : List (List ℕ)) (source source' : Input) (sink sink' : Stream) (exit : Exit) : Type 0 where
   pub job : Job
   pub asked : IsAsked words source source' job
   pub done : Does job sink sink' exit
 
 -- The job that is warranted is done, whether or not the sink fails; or the line is told that memory is wanted.
-abbrev pub IsExact : List (List ℕ) → Stream → Stream → Stream → Stream → Exit → Type 0
+abbrev pub IsExact : List (List ℕ) → Input → Input → Stream → Stream → Exit → Type 0
 IsExact words source source' sink sink' exit = (job : Job) → IsWarranted words source source' job → Does no_memory sink sink' exit ⊎ Does job sink sink' exit

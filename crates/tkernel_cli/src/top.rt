@@ -1,6 +1,7 @@
 //! The top call: words and input in, lines and a status out.
-ghost use Rattle.std.specs.Prelude.{map, string_bytes};
+ghost use Rattle.std.specs.Prelude.{◌≡◌, map, string_bytes};
 ghost use Rattle.tkernel_cli.specs.Answer.{IsAnswer, IsExact};
+ghost use Rattle.byte_streams.specs.Streams.{input_of};
 ghost use Rattle.cli_words.specs.Stream.{stream};
 
 use crate::tasking::run_tasks;
@@ -20,6 +21,15 @@ pub struct Exit {
     pub kept: Option<Machine>,
     /// The tasks of the run, where several programs were booted.
     pub tasks: Option<Tasks>,
+}
+
+impl Exit {
+    /// The status alone: what is kept is dropped.
+    pub fn into_status(self) -> Status
+        ensures status { result ≡ self.status }
+    {
+        self.status
+    }
 }
 
 /// Answers a command line. `words` are those after the program's name, and make one of eight commands:
@@ -45,13 +55,13 @@ pub fn tkernel<S: Source, K: Sink>(
     out: &mut K,
 ) -> Exit
     ensures answer { IsAnswer (map string_bytes words.now)
-        (stream S.left S.faults input.old) (stream S.left S.faults input.new)
+        (input_of S.left S.given S.faults input.old) (input_of S.left S.given S.faults input.new)
         (stream K.taken K.faults out.old) (stream K.taken K.faults out.new)
         result }
-    // The words alone decide, and for a command that reads the text of a source that tells it and doesn't fail; or memory is
-    // wanted.
+    // The words alone decide, and for a command that reads the text of a source that tells it, or keeps what it gave, and
+    // doesn't fail; or memory is wanted.
     ensures exact { IsExact (map string_bytes words.now)
-        (stream S.left S.faults input.old) (stream S.left S.faults input.new)
+        (input_of S.left S.given S.faults input.old) (input_of S.left S.given S.faults input.new)
         (stream K.taken K.faults out.old) (stream K.taken K.faults out.new)
         result }
 {

@@ -5,9 +5,10 @@ use hex_image::Image;
 use std::alloc::Global;
 use std::test::Fail;
 use theorem_reader::{
-    Told, asm_example, bad_dump_example, bad_hex_example, bad_source_example,
-    bad_task_image_example, bad_task_script_example, check_example, dump_example, generate_example,
-    help_example, long_example, restart_example, run_example, run_image, tasks_example,
+    Told, asm_example, bad_dump_example, bad_hex_example, bad_script_example, bad_source_example,
+    bad_task_image_example, bad_task_script_example, broken_example, check_example, dump_example,
+    generate_example, help_example, long_example, restart_example, run_example, run_image,
+    tasks_example,
 };
 
 /// More bytes than an input may have.
@@ -84,6 +85,10 @@ fn bad_source(alloc: Global) -> Result<Said, Fail> {
     looked_at(alloc, &bad_source_example::<ROOM>(alloc)?)
 }
 
+fn bad_script(alloc: Global) -> Result<Said, Fail> {
+    looked_at(alloc, &bad_script_example::<ROOM>(alloc)?)
+}
+
 fn bad_task_script(alloc: Global) -> Result<Said, Fail> {
     looked_at(alloc, &bad_task_script_example::<ROOM>(alloc)?)
 }
@@ -94,6 +99,10 @@ fn bad_task_image(alloc: Global) -> Result<Said, Fail> {
 
 fn bad_dump(alloc: Global) -> Result<Said, Fail> {
     looked_at(alloc, &bad_dump_example::<ROOM>(alloc)?)
+}
+
+fn broken(alloc: Global) -> Result<Said, Fail> {
+    looked_at(alloc, &broken_example::<ROOM>(alloc)?)
 }
 
 fn too_long(alloc: Global) -> Result<Said, Fail> {
@@ -191,8 +200,15 @@ fn refuses(said: &Said, line: &[u8]) -> bool {
 
 #[test]
 fn the_reader_refuses_what_stands_behind_a_program(rt: HostRuntime) -> Result<(), Fail> {
+    assert!(rt; refuses(&bad_script(rt.alloc())?, b"bad script line 1 form\n"));
     assert!(rt; refuses(&bad_task_script(rt.alloc())?, b"bad script line 1 form\n"));
     assert!(rt; refuses(&bad_task_image(rt.alloc())?, b"bad task image 0x0FFE\n"));
     assert!(rt; refuses(&bad_dump(rt.alloc())?, b"bad dump line 1 form\n"));
+    Ok(())
+}
+
+#[test]
+fn the_reader_tells_a_source_that_fails(rt: HostRuntime) -> Result<(), Fail> {
+    assert!(rt; is(&broken(rt.alloc())?, 5, b"read fault\n", "nothing"));
     Ok(())
 }

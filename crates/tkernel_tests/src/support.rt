@@ -100,7 +100,7 @@ pub(crate) fn answer<S: Source, K: Sink>(
         None => None,
     };
     Ok(Ended {
-        status: exit.status,
+        status: exit.into_status(),
         kept,
     })
 }

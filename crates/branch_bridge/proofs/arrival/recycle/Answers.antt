@@ -3,8 +3,7 @@ use Rattle.flash_words.specs.declared.failing.FlashStop.{FlashStop}
 use Rattle.flash_words.specs.Memory.{Memory}
 use Rattle.flash_words.specs.Operations.{next_op, erased_page}
 use Rattle.flash_words.specs.Layouts.{image_of}
-use Rattle.flash_words.specs.Pages.{word_at}
-use Rattle.page_index.specs.Maps.{IsPool, original_page}
+use Rattle.page_index.specs.Maps.{IsPool}
 use Rattle.nat_page.specs.Used.{is_used, used_pages}
 use Rattle.nat_page.proofs.UsedLaws.{used_among-same, all_used}
 use Rattle.nat_page.proofs.FaithfulLaws.{faithful_mapped}
@@ -47,28 +46,12 @@ turn-requires-clause-ring c =
     let victim = c.args.layout.now.pool_first + c.ring.result in
     omega (arith, ring_kept c.args.sram.now c.forget_page.new.sram c.forget_page.ensures.forgets.rest, c.requires.ring)
 
-pub known_after-known-requires-clause-mapped : goal.known_after-known-requires-clause-mapped
-known_after-known-requires-clause-mapped c =
+pub unmark_offsets-requires-clause-mapped : goal.unmark_offsets-requires-clause-mapped
+unmark_offsets-requires-clause-mapped c =
     let layout = c.args.layout.now in
-    let old : Store = record { flash = c.args.flash.now; sram = c.args.sram.now } in
     let victim = layout.pool_first + c.ring.result in
-    let unlinked = c.unresolve.new.flash in
     let pool : IsPool layout victim = record { from = omega arith; to = omega (arith, c.requires.ring, c.ring.ensures.value) } in
-    let empty : IsEmptied layout old.flash unlinked c.erase.new.self victim c.args.t =
-    emptied layout old.flash unlinked c.erase.new.self victim c.args.t c.requires.right c.in-Ok.ensures.code c.in-Ok.ensures.image pool c.in-Ok.ensures.apart c.in-Ok.ensures.same c.requires.unknown c.in-Ok-erase.ensures.done in
-    faithful_mapped layout (image_of layout c.erase.new.self.words) c.erase.new.self.words c.requires.right empty.code
-
-pub known_after-known-requires-clause-known : goal.known_after-known-requires-clause-known
-known_after-known-requires-clause-known c = λ apart.
-    let layout = c.args.layout.now in
-    let old = c.args.flash.now in
-    let victim = layout.pool_first + c.ring.result in
-    let unlinked = c.unresolve.new.flash in
-    let pool : IsPool layout victim = record { from = omega arith; to = omega (arith, c.requires.ring, c.ring.ensures.value) } in
-    let empty : IsEmptied layout old unlinked c.erase.new.self victim c.args.t =
-    emptied layout old unlinked c.erase.new.self victim c.args.t c.requires.right c.in-Ok.ensures.code c.in-Ok.ensures.image pool c.in-Ok.ensures.apart c.in-Ok.ensures.same c.requires.unknown c.in-Ok-erase.ensures.done in
-    let here : c.word-original.result ≡ original_page unlinked.words victim = c.word-original.ensures.value ∙ ap (word_at unlinked.words) (omega arith) in
-    known_left layout old unlinked c.erase.new.self victim c.args.t (c.args.t / 128) c.args.known.now (faithful_mapped layout (image_of layout old.words) unlinked.words c.requires.right c.in-Ok.ensures.code) empty c.in-Ok.ensures.entries c.requires.known (λ is. apart (here ∙ is))
+    (faithful_mapped layout (image_of layout c.args.flash.now.words) c.unresolve.new.flash.words c.requires.right c.in-Ok.ensures.code).pages victim pool
 
 pub make_page-requires : goal.make_page-requires
 make_page-requires c =
@@ -79,7 +62,10 @@ make_page-requires c =
     let pool : IsPool layout victim = record { from = omega arith; to = omega (arith, c.requires.ring, c.ring.ensures.value) } in
     let empty : IsEmptied layout old.flash unlinked c.erase.new.self victim c.args.t =
     emptied layout old.flash unlinked c.erase.new.self victim c.args.t c.requires.right c.in-Ok.ensures.code c.in-Ok.ensures.image pool c.in-Ok.ensures.apart c.in-Ok.ensures.same c.requires.unknown c.in-Ok-erase.ensures.done in
-    record { right = c.requires.right; code = empty.code; known = search rules; pool = pool; free = empty.free; inside = c.requires.inside; unknown = empty.unknown; room = search rules; size = search rules }
+    let mapped = faithful_mapped layout (image_of layout old.flash.words) unlinked.words c.requires.right c.in-Ok.ensures.code in
+    let marks = c.unmark_offsets.ensures in
+    let known = known_left layout old.flash unlinked c.erase.new.self victim c.args.t (c.args.t / 128) c.args.known.now c.unmark_offsets.new.known c.requires.right mapped pool empty c.in-Ok.ensures.entries c.requires.known marks.size marks.only marks.unmarked marks.kept in
+    record { right = c.requires.right; code = empty.code; known = known; pool = pool; free = empty.free; inside = c.requires.inside; unknown = empty.unknown; room = search rules; size = search rules }
 
 pub returns-in-Err-clause-rest : goal.returns-in-Err-clause-rest
 returns-in-Err-clause-rest c = outside_same c.args.sram.now

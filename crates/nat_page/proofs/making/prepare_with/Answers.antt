@@ -12,19 +12,19 @@ use Rattle.nat_page.proofs.making.prepare_with.Goals as goal
 pub words-requires-clause-fits : goal.words-requires-clause-fits
 words-requires-clause-fits c =
     let words = c.args.flash.now.words in
-    draft_room c.args.layout.now (image_of c.args.layout.now words) words c.args.t c.draft_of-draft.result c.draft_of-draft.ensures.drafted
+    draft_room c.args.layout.now (image_of c.args.layout.now words) words c.args.t c.draft_run.new.draft c.draft_run.ensures.drafted
 
 pub words-requires-clause-small : goal.words-requires-clause-small
 words-requires-clause-small c =
     let words = c.args.flash.now.words in
-    draft_small c.args.layout.now (image_of c.args.layout.now words) words c.args.t c.draft_of-draft.result c.draft_of-draft.ensures.drafted
+    draft_small c.args.layout.now (image_of c.args.layout.now words) words c.args.t c.draft_run.new.draft c.draft_run.ensures.drafted
 
 pub returns : goal.returns
 returns c =
     let words = c.args.flash.now.words in
     let image = image_of c.args.layout.now words in
-    let draft = c.draft_of-draft.result in
-    let drafted = c.draft_of-draft.ensures.drafted in
+    let draft = c.draft_run.new.draft in
+    let drafted = c.draft_run.ensures.drafted in
     let last = drafted.last in
     let page = c.args.page in
     let count : length draft.entries.items ≡ suc last = ap length drafted.entries ∙ length-starts image c.args.t (suc last) in

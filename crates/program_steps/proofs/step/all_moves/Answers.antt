@@ -1,133 +1,127 @@
-use Rattle.std.proofs.Common.{◌≡◌, refl, sym, ◌∙◌, arith, subst}
+use Rattle.std.proofs.Common.{◌≡◌, ℕ, ◌<◌, sym, ◌∙◌, arith, subst}
+use Rattle.std.specs.Prelude.{Option, IfSome}
+use Rattle.std.specs.Option.{option_map}
 use Rattle.flash_words.specs.Layouts.{IsRight}
 use Rattle.program_steps.specs.Wholes.{whole}
-use Rattle.program_steps.specs.Loop.{HasLed, HasReached, IsOver}
+use Rattle.program_steps.specs.Loop.{HasReached, IsOver}
+use Rattle.step_laws.proofs.MoveLaws.{pool_low}
 use Rattle.program_steps.proofs.Told.{mapped_same, over_halted, cursor_same}
 use Rattle.program_steps.proofs.Taking.{took_over}
-use Rattle.program_steps.proofs.Underway.{few_moves, underway_by, begun_now, none_at}
+use Rattle.program_steps.proofs.Underway.{few_moves, underway_by, begun_now}
 use Rattle.program_steps.proofs.step.all_moves.Goals as goal
 
 pub overflow_add-p : goal.overflow_add-p
 overflow_add-p c = omega (arith, c.requires.steps)
 
-pub moves-init : goal.moves-init
-moves-init c = record {
-  pc = refl;
-  flash = refl;
-  layout = refl;
-  torn = refl;
-  cursor = c.requires.cursor;
-  underway = begun_now (whole c.args.k.now c.args.p.now) c.args.p.now.line c.requires.law c.requires.small c.requires.silent;
-}
-
-pub some_moves-requires : goal.some_moves-requires
-some_moves-requires c =
-    let at = c.moves.invariant in
+pub plain_steps-pc-requires : goal.plain_steps-pc-requires
+plain_steps-pc-requires c =
+    let old = whole c.args.k.now c.args.p.now in
     record {
-      at = at.pc;
-      untorn = at.torn ∙ c.requires.untorn;
-      right = subst IsRight (sym at.layout) c.requires.right;
-      underway = (whole c.args.k.now c.args.p.now, at.underway);
-      cursor = at.cursor;
+      at = c.requires.at;
+      low = subst (λ a. a < 0xF000) (sym c.requires.at) (pool_low old.kernel.layout old.kernel.mote.cpu.pc c.requires.right c.requires.law.walk.1.pool);
+      underway = (old, begun_now old c.args.p.now.line c.requires.law c.requires.small c.requires.silent);
+      cursor = c.requires.cursor;
+    }
+
+pub moves-init : goal.moves-init
+moves-init c =
+    let old = whole c.args.k.now c.args.p.now in
+    let new = whole c.plain_steps-pc.new.k c.plain_steps-pc.new.p in
+    let told = c.plain_steps-pc.ensures in
+    record {
+      pc = told.pc;
+      flash = told.flash;
+      layout = told.layout;
+      torn = told.torn;
+      cursor = cursor_same old new c.args.cursor.now told.layout told.flash c.requires.cursor;
+      free = told.free;
+      further = told.further old (begun_now old c.args.p.now.line c.requires.law c.requires.small c.requires.silent);
     }
 
 pub look-requires : goal.look-requires
 look-requires c =
-    let old = whole c.args.k.now c.args.p.now in
-    let now = whole c.moves.k c.moves.p in
-    let new = whole c.some_moves.new.k c.some_moves.new.p in
     let at = c.moves.invariant in
-    let told = c.some_moves.ensures in
-    let layout = told.layout ∙ at.layout in
     record {
-      at = (subst (HasLed new c.moves.cursor) c.in-Onward.is c.in_ok-place.ensures.on).0;
-      right = subst IsRight (sym layout) c.requires.right;
-      mapped = mapped_same old new layout (told.flash ∙ at.flash) c.requires.mapped;
-      cursor = cursor_same now new c.moves.cursor told.layout told.flash at.cursor;
-    }
-
-pub moves-smaller : goal.moves-smaller
-moves-smaller c =
-    let at = c.moves.invariant in
-    omega (arith, few_moves (whole c.args.k.now c.args.p.now) (whole c.moves.k c.moves.p) c.moves.p.line at.underway, c.some_moves.ensures.more)
-
-pub moves-smaller-in-Inside : goal.moves-smaller-in-Inside
-moves-smaller-in-Inside c =
-    let at = c.moves.invariant in
-    omega (arith, few_moves (whole c.args.k.now c.args.p.now) (whole c.moves.k c.moves.p) c.moves.p.line at.underway, c.some_moves.ensures.more)
-
-pub moves-preserved-in-Inside : goal.moves-preserved-in-Inside
-moves-preserved-in-Inside c =
-    let old = whole c.args.k.now c.args.p.now in
-    let now = whole c.moves.k c.moves.p in
-    let new = whole c.some_moves.new.k c.some_moves.new.p in
-    let at = c.moves.invariant in
-    let told = c.some_moves.ensures in
-    let inside = subst (HasLed new c.moves.cursor) c.in-Inside.is c.in_ok-place.ensures.on in
-    let cursor = cursor_same now new c.moves.cursor told.layout told.flash at.cursor in
-    record {
-      pc = inside.0;
-      flash = told.flash ∙ at.flash;
-      layout = told.layout ∙ at.layout;
-      torn = told.torn ∙ at.torn;
-      cursor = cursor;
-      underway = underway_by old now new c.moves.p.line c.some_moves.new.p.line at.underway (told.further old at.underway) inside.1 (none_at new c.moves.cursor c.in-Inside.place cursor inside.2 inside.0);
+      at = at.pc;
+      right = subst IsRight (sym at.layout) c.requires.right;
+      mapped = mapped_same (whole c.args.k.now c.args.p.now) (whole c.moves.k c.moves.p) at.layout at.flash c.requires.mapped;
+      cursor = at.cursor;
     }
 
 pub returns-in-Some : goal.returns-in-Some
 returns-in-Some c =
     let old = whole c.args.k.now c.args.p.now in
-    let new = whole c.some_moves.new.k c.some_moves.new.p in
+    let now = whole c.moves.k c.moves.p in
     let at = c.moves.invariant in
-    let told = c.some_moves.ensures in
-    let layout : new.kernel.layout ≡ old.kernel.layout = told.layout ∙ at.layout in
-    let flash : new.kernel.mote.flash ≡ old.kernel.mote.flash = told.flash ∙ at.flash in
-    let free = (subst (HasLed new c.moves.cursor) c.in-Onward.is c.in_ok-place.ensures.on).1 in
     record {
       taken = λ law.
-          took_over old new c.some_moves.new.p.line (subst IsRight (sym layout) c.requires.right) (mapped_same old new layout flash c.requires.mapped) (IsOver.Reached (c.in-Some.t, c.in-Some.ensures.found)) law
-          ((told.further old at.underway).rest law);
-      reached = (free.0, free.1, c.in-Some.ensures.found);
-      flash = flash;
-      layout = layout;
-      torn = told.torn ∙ at.torn;
+          took_over old now c.moves.p.line (subst IsRight (sym at.layout) c.requires.right) (mapped_same old now at.layout at.flash c.requires.mapped) (IsOver.Reached (c.in-Some.t, c.in-Some.ensures.found)) law (at.further.rest law);
+      reached = (at.free.0, at.free.1, c.in-Some.ensures.found);
+      place = at.pc;
+      flash = at.flash;
+      layout = at.layout;
+      torn = at.torn;
       cursor = c.look.ensures.cursor;
     }
+
+pub more_moves-requires : goal.more_moves-requires
+more_moves-requires c =
+    let old = whole c.args.k.now c.args.p.now in
+    let now = whole c.moves.k c.moves.p in
+    let at = c.moves.invariant in
+    let begun = begun_now old c.args.p.now.line c.requires.law c.requires.small c.requires.silent in
+    record {
+      at = at.pc;
+      untorn = at.torn ∙ c.requires.untorn;
+      right = subst IsRight (sym at.layout) c.requires.right;
+      underway = (old, underway_by old _ now c.args.p.now.line c.moves.p.line begun at.further at.free c.in_default.ensures.none);
+      cursor = c.look.ensures.cursor;
+    }
+
+pub moves-smaller : goal.moves-smaller
+moves-smaller c =
+    let old = whole c.args.k.now c.args.p.now in
+    let now = whole c.moves.k c.moves.p in
+    let at = c.moves.invariant in
+    let begun = begun_now old c.args.p.now.line c.requires.law c.requires.small c.requires.silent in
+    omega (arith, few_moves old now c.moves.p.line (underway_by old _ now c.args.p.now.line c.moves.p.line begun at.further at.free c.in_default.ensures.none), c.more_moves.ensures.more)
 
 pub moves-preserved : goal.moves-preserved
 moves-preserved c =
     let old = whole c.args.k.now c.args.p.now in
     let now = whole c.moves.k c.moves.p in
-    let new = whole c.some_moves.new.k c.some_moves.new.p in
+    let new = whole c.more_moves.new.k c.more_moves.new.p in
     let at = c.moves.invariant in
-    let told = c.some_moves.ensures in
-    let onward = subst (HasLed new c.moves.cursor) c.in-Onward.is c.in_ok-place.ensures.on in
+    let told = c.more_moves.ensures in
+    let begun = begun_now old c.args.p.now.line c.requires.law c.requires.small c.requires.silent in
     record {
-      pc = onward.0;
+      pc = c.in_ok-pc.ensures.on.0;
       flash = told.flash ∙ at.flash;
       layout = told.layout ∙ at.layout;
       torn = told.torn ∙ at.torn;
-      cursor = c.look.ensures.cursor;
-      underway = underway_by old now new c.moves.p.line c.some_moves.new.p.line at.underway (told.further old at.underway) onward.1 c.in_default.ensures.none;
+      cursor = cursor_same now new c.look.new.cursor told.layout told.flash c.look.ensures.cursor;
+      free = c.in_ok-pc.ensures.on.1;
+      further = told.further old (underway_by old _ now c.args.p.now.line c.moves.p.line begun at.further at.free c.in_default.ensures.none);
     }
 
-pub returns-in_err-place : goal.returns-in_err-place
-returns-in_err-place c =
+pub returns-in_err-pc : goal.returns-in_err-pc
+returns-in_err-pc c =
     let old = whole c.args.k.now c.args.p.now in
     let now = whole c.moves.k c.moves.p in
-    let new = whole c.some_moves.new.k c.some_moves.new.p in
+    let new = whole c.more_moves.new.k c.more_moves.new.p in
     let at = c.moves.invariant in
-    let told = c.some_moves.ensures in
+    let told = c.more_moves.ensures in
+    let begun = begun_now old c.args.p.now.line c.requires.law c.requires.small c.requires.silent in
+    let further = told.further old (underway_by old _ now c.args.p.now.line c.moves.p.line begun at.further at.free c.in_default.ensures.none) in
     let layout : new.kernel.layout ≡ old.kernel.layout = told.layout ∙ at.layout in
     let flash : new.kernel.mote.flash ≡ old.kernel.mote.flash = told.flash ∙ at.flash in
-    let halted = c.in_err-place.ensures.over in
+    let halted = c.in_err-pc.ensures.over in
     record {
-      taken = λ law.
-          took_over old new c.some_moves.new.p.line (subst IsRight (sym layout) c.requires.right) (mapped_same old new layout flash c.requires.mapped) (over_halted new halted) law
-          ((told.further old at.underway).rest law);
-      reached = subst (HasReached new) (sym c.from_residual.ensures) halted;
+      taken = λ law. took_over old new c.more_moves.new.p.line (subst IsRight (sym layout) c.requires.right) (mapped_same old new layout flash c.requires.mapped) (over_halted new halted) law (further.rest law);
+      reached = subst (λ (r : Option (ℕ × ℕ)). HasReached new (option_map (λ (x : ℕ × ℕ). x.1) r)) (sym c.from_residual.ensures) halted;
+      place = subst (λ (r : Option (ℕ × ℕ)). IfSome r (λ x. x.0 ≡ new.kernel.mote.cpu.pc)) (sym c.from_residual.ensures) tt;
       flash = flash;
       layout = layout;
       torn = told.torn ∙ at.torn;
-      cursor = cursor_same now new c.moves.cursor told.layout told.flash at.cursor;
+      cursor = cursor_same now new c.look.new.cursor told.layout told.flash c.look.ensures.cursor;
     }

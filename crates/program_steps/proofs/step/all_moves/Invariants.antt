@@ -1,7 +1,7 @@
-use Rattle.std.proofs.Common.{◌≡◌, ◌+◌, ◌-◌}
+use Rattle.std.proofs.Common.{◌≡◌, ◌+◌, ◌-◌, false}
 use Rattle.page_cursor.specs.Cursors.{IsCursor}
 use Rattle.program_steps.specs.Wholes.{whole}
-use Rattle.program_steps.specs.Loop.{moves_made, IsUnderway}
+use Rattle.program_steps.specs.Loop.{Halts, moves_made, IsFurther}
 use Rattle.program_steps.proofs.step.all_moves.Given as goal
 
 -- the moves that are left, whichever the law gives
@@ -12,7 +12,8 @@ invariant-moves l = record {
   layout : l.k.layout ≡ l.fn.k.layout;
   torn : l.p.torn ≡ l.fn.p.torn;
   cursor : IsCursor l.k.layout l.k.mote.flash.words l.cursor;
-  underway : IsUnderway (whole l.fn.k l.fn.p) (whole l.k l.p) l.p.line;
+  free : Halts (whole l.k l.p) false;
+  further : IsFurther (whole l.fn.k l.fn.p) (whole l.k l.p) l.p.line;
 }
 
 -- no step takes more than 65 moves

@@ -1,5 +1,6 @@
-use Rattle.std.proofs.Common.{false, ◌≡◌, refl, sym, subst}
-use Rattle.std.specs.Prelude.{Some, None}
+use Rattle.std.proofs.Common.{ℕ, false, ◌≡◌, refl, sym, subst}
+use Rattle.std.specs.Prelude.{Option, Some, None}
+use Rattle.std.specs.Option.{option_map}
 use Rattle.program_steps.specs.declared.progress.Progress.{Progress}
 use Rattle.program_steps.specs.Wholes.{whole}
 use Rattle.program_steps.specs.Loop.{HasReached}
@@ -37,12 +38,14 @@ returns-in-Some c =
     let is = c.settle.ensures.settled in
     let quiet = quiet_after old (whole k p) p.line c.requires.ready c.keeps_timely.ensures.timely c.requires.placed c.requires.steps c.requires.undue told.taken in
     let mapped = mapped_after old (whole k p) c.requires.ready told.layout told.flash in
-    let at : HasReached (whole k p) (Some c.in-Some.t) = subst (HasReached (whole k p)) c.in-Some.is told.reached in
+    let t = c.in-Some.reached.1 in
+    let at : HasReached (whole k p) (Some t) = subst (λ (r : Option (ℕ × ℕ)). HasReached (whole k p) (option_map (λ (r : ℕ × ℕ). r.1) r)) c.in-Some.is told.reached in
     let gone = gone_by old (whole k p) (whole k q) p.line c.requires.ready c.keeps_timely.ensures.timely (undue_untaken old c.requires.undue) c.requires.steps c.requires.placed told.torn told.taken told.layout told.flash in
+    let free = subst (λ (x : Progress). (x.owed ≡ None) × (x.end ≡ None) × (x.due ≡ false)) (sym is) (reached_free k p (Some t) quiet at refl) in
     record {
-      stepped = stepped_as old k p q (Some c.in-Some.t) gone mapped quiet at is;
-      reached = λ reached. subst (λ (x : Progress). (x.owed ≡ None) × (x.end ≡ None) × (x.due ≡ false)) (sym is) (reached_free k p (Some c.in-Some.t) quiet at refl);
-      ended = λ ended. ended_free k p q (Some c.in-Some.t) at is ended;
+      stepped = stepped_as old k p q (Some t) gone mapped quiet at is;
+      reached = (c.in-Some.ensures.place, free.0, free.1, free.2);
+      ended = λ ended. ended_free k p q (Some t) at is ended;
       cursor = told.cursor;
     }
 
@@ -56,11 +59,11 @@ returns-in-None c =
     let is = c.settle-in-None.ensures.settled in
     let quiet = quiet_after old (whole k p) p.line c.requires.ready c.keeps_timely.ensures.timely c.requires.placed c.requires.steps c.requires.undue told.taken in
     let mapped = mapped_after old (whole k p) c.requires.ready told.layout told.flash in
-    let at : HasReached (whole k p) None = subst (HasReached (whole k p)) c.in-None.is told.reached in
+    let at : HasReached (whole k p) None = subst (λ (r : Option (ℕ × ℕ)). HasReached (whole k p) (option_map (λ (r : ℕ × ℕ). r.1) r)) c.in-None.is told.reached in
     let gone = gone_by old (whole k p) (whole k q) p.line c.requires.ready c.keeps_timely.ensures.timely (undue_untaken old c.requires.undue) c.requires.steps c.requires.placed told.torn told.taken told.layout told.flash in
     record {
       stepped = stepped_as old k p q None gone mapped quiet at is;
-      reached = λ reached. absurd (cc);
+      reached = tt;
       ended = λ ended. ended_free k p q None at is ended;
       cursor = told.cursor;
     }

@@ -14,6 +14,7 @@ steps-init c =
     let old = whole c.args.k.now c.args.p.now in
     let none : c.args.p.now.steps - c.args.p.now.steps ≡ 0 = omega arith in
     record {
+      pc = refl;
       silently = subst (λ n. Silently n old old) (sym none) refl;
       ready = c.requires.ready;
       placed = c.requires.placed;
@@ -25,35 +26,35 @@ steps-init c =
       cursor = c.requires.cursor;
     }
 
-pub step-goes_on-requires : goal.step-goes_on-requires
-step-goes_on-requires c =
+pub step-led-requires : goal.step-led-requires
+step-led-requires c =
     let at = c.steps.invariant in
-    record { ready = at.ready; placed = at.placed; steps = omega (arith, at.most, c.requires.few); undue = at.undue; silent = at.silent; cursor = at.cursor }
+    record { at = at.pc; ready = at.ready; placed = at.placed; steps = omega (arith, at.most, c.requires.few); undue = at.undue; silent = at.silent; cursor = at.cursor }
 
-pub follows-requires : goal.follows-requires
-follows-requires c =
-    let told = c.step-goes_on.ensures in
+pub followed-requires : goal.followed-requires
+followed-requires c =
+    let told = c.step-led.ensures in
     let now = whole c.steps.k c.steps.p in
-    let w = whole c.step-goes_on.new.k c.step-goes_on.new.p in
-    record { going = λ going. (let on = goes_on_by now w c.step-goes_on.new.p.line told.stepped.way going in (on.ready, on.quiet)); ended = told.ended; reached = told.reached; cursor = told.cursor }
+    let w = whole c.step-led.new.k c.step-led.new.p in
+    record { going = λ going. (let on = goes_on_by now w c.step-led.new.p.line told.stepped.way going in (on.ready, on.quiet)); ended = told.ended; led = told.reached; cursor = told.cursor }
 
 pub steps_since-requires : goal.steps_since-requires
 steps_since-requires c =
     let at = c.steps.invariant in
-    let same = c.follows.ensures.none c.if-not-follows.true in
+    let same = c.in-None.ensures.none in
     let steps = ap (λ (p : Progress). p.steps) same.1 in
-    let range = steps_on (whole c.steps.k c.steps.p) (whole c.step-goes_on.new.k c.step-goes_on.new.p) c.step-goes_on.new.p.line c.step-goes_on.ensures.stepped.way in
+    let range = steps_on (whole c.steps.k c.steps.p) (whole c.step-led.new.k c.step-led.new.p) c.step-led.new.p.line c.step-led.ensures.stepped.way in
     record { begun = omega (arith, at.begun, range.0, steps); few = omega (arith, range.1, at.most, c.requires.few, steps) }
 
-pub returns-then-not-follows : goal.returns-then-not-follows
-returns-then-not-follows c =
+pub returns-in-None : goal.returns-in-None
+returns-in-None c =
     let now = whole c.steps.k c.steps.p in
-    let w = whole c.step-goes_on.new.k c.step-goes_on.new.p in
-    let line = c.step-goes_on.new.p.line in
+    let w = whole c.step-led.new.k c.step-led.new.p in
+    let line = c.step-led.new.p.line in
     let begin = c.args.p.now.steps in
     let at = c.steps.invariant in
-    let told = c.step-goes_on.ensures in
-    let same = c.follows.ensures.none c.if-not-follows.true in
+    let told = c.step-led.ensures in
+    let same = c.in-None.ensures.none in
     let since = c.steps_since in
     let still = ap (λ (p : Progress). p.steps) same.1 in
     let all : begin + since.result ≡ now.steps + 1 =
@@ -62,33 +63,33 @@ returns-then-not-follows c =
       done = rw same.0 (rw same.1 (record { earlier = now.steps - begin; last = now; counted = omega (arith, all, at.begun); silently = at.silently; step = told.stepped }));
       ended = rw same.1 told.ended;
       most = omega (arith, all, at.most);
-      cursor = c.follows.ensures.cursor;
+      cursor = c.followed.ensures.cursor;
     }
 
 pub steps-smaller : goal.steps-smaller
 steps-smaller c =
-    let followed = c.follows.ensures.followed c.if-not-follows.false in
-    let on = goes_on_by (whole c.steps.k c.steps.p) (whole c.step-goes_on.new.k c.step-goes_on.new.p) c.step-goes_on.new.p.line c.step-goes_on.ensures.stepped.way followed.ready.going in
+    let followed = c.in-Some.ensures.followed in
+    let on = goes_on_by (whole c.steps.k c.steps.p) (whole c.step-led.new.k c.step-led.new.p) c.step-led.new.p.line c.step-led.ensures.stepped.way followed.ready.going in
     omega (arith, on.steps, followed.entered.steps, c.steps.invariant.most)
 
 pub steps-preserved : goal.steps-preserved
 steps-preserved c =
     let old = whole c.args.k.now c.args.p.now in
     let now = whole c.steps.k c.steps.p in
-    let w = whole c.step-goes_on.new.k c.step-goes_on.new.p in
-    let new = whole c.follows.new.k c.follows.new.p in
-    let line = c.step-goes_on.new.p.line in
+    let w = whole c.step-led.new.k c.step-led.new.p in
+    let new = whole c.followed.new.k c.followed.new.p in
+    let line = c.step-led.new.p.line in
     let at = c.steps.invariant in
-    let told = c.step-goes_on.ensures in
-    let follows = c.if-not-follows.false in
-    let followed = c.follows.ensures.followed follows in
-    let silent = c.follows.ensures.silent follows in
+    let told = c.step-led.ensures in
+    let followed = c.in-Some.ensures.followed in
+    let silent = c.in-Some.ensures.silent in
     let on = goes_on_by now w line told.stepped.way followed.ready.going in
     let steps = followed.entered.steps in
     let into = let_in w new None followed.entered refl in
     let begin = c.args.p.now.steps in
     let one : now.steps - begin + 1 ≡ new.steps - begin = omega (arith, on.steps, steps, at.begun) in
     record {
+      pc = c.in-Some.ensures.pc;
       silently = subst (λ n. Silently n old new) one (silently_on (now.steps - begin) old now w new line at.silently told.stepped silent.0 followed);
       ready = into.ready;
       placed = into.placed;
@@ -96,6 +97,6 @@ steps-preserved c =
       going = into.ready.going;
       silent = silent.1;
       begun = omega (arith, on.steps, steps, at.begun);
-      most = omega (arith, steps, c.follows.ensures.fewer follows);
-      cursor = c.follows.ensures.cursor;
+      most = omega (arith, steps, c.in-Some.ensures.fewer);
+      cursor = c.followed.ensures.cursor;
     }

@@ -8,6 +8,7 @@ use Rattle.program_steps.proofs.step.undue_steps.Given as goal
 
 abbrev pub invariant-steps : goal.invariant-steps
 invariant-steps l = record {
+  pc : l.pc ≡ l.k.mote.cpu.pc;
   silently : Silently (l.p.steps - l.begin) (whole l.fn.k l.fn.p) (whole l.k l.p);
   ready : IsGoing (whole l.k l.p);
   placed : l.p.owed ≡ None;

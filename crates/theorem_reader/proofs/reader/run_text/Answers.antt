@@ -1,5 +1,6 @@
-use Rattle.std.proofs.Common.{refl, ap, Some}
+use Rattle.std.proofs.Common.{refl, ap, Some, inl}
 use Rattle.tk_io.specs.Memory.{SinkState}
+use Rattle.cli_requests.specs.Asking.{Tells}
 use Rattle.theorem_reader.proofs.Doing.{call_of, not_risen, with_room}
 use Rattle.theorem_reader.proofs.Answering.{run_told, generated_told}
 use Rattle.theorem_reader.proofs.Checking.{check_told}
@@ -11,16 +12,17 @@ use Rattle.theorem_reader.proofs.reader.run_text.Goals as goal
 
 pub returns : goal.returns
 returns g c =
-    let call = call_of _ _ c.tkernel-exit.result _ _ _ _ _ _ (ap Some c.new-input.ensures.left) (not_risen 0 0 refl refl)
+    let call = call_of _ c.tkernel-exit.result _ _ _ _ _ _
     (ap (λ (s : SinkState). Some s.taken) c.in_ok-out.ensures.fresh) (ap (λ (s : SinkState). s.faults) c.in_ok-out.ensures.fresh)
     refl c.number-status.ensures.number c.tkernel-exit.ensures.answer c.tkernel-exit.ensures.exact in
+    let tells : Tells call.source call.source' _ = record { told = inl (ap Some c.new-input.ensures.left); read = not_risen 0 0 refl refl } in
     record {
-      run = λ asked asks. with_room g.row.ROOM _ _ c.keeps_room.ensures.room (run_told _ _ _ _ _ _ call asked asks);
-      dump = λ asked asks. with_room g.row.ROOM _ _ c.keeps_room.ensures.room (dump_told _ _ _ _ _ _ call asked asks);
-      restart = λ asked asks. with_room g.row.ROOM _ _ c.keeps_room.ensures.room (restart_told _ _ _ _ _ _ call asked asks);
-      tasks = λ asked asks. with_room g.row.ROOM _ _ c.keeps_room.ensures.room (tasks_told _ _ _ _ _ _ call asked asks);
-      check = λ image flash asks. with_room g.row.ROOM _ _ c.keeps_room.ensures.room (check_told _ _ _ _ _ _ call image flash asks);
-      asm = λ image asks. with_room g.row.ROOM _ _ c.keeps_room.ensures.room (asm_told_of _ _ _ _ _ _ call image asks);
-      generate = λ seed asks. with_room g.row.ROOM _ _ c.keeps_room.ensures.room (generated_told _ _ _ _ _ _ call seed asks);
-      refused = λ own line asks. with_room g.row.ROOM _ _ c.keeps_room.ensures.room (refused_told _ _ _ _ _ _ call own line asks);
+      run = λ asked asks. with_room g.row.ROOM _ _ c.keeps_room.ensures.room (run_told _ _ _ _ _ call _ tells asked asks);
+      dump = λ asked asks. with_room g.row.ROOM _ _ c.keeps_room.ensures.room (dump_told _ _ _ _ _ call _ tells asked asks);
+      restart = λ asked asks. with_room g.row.ROOM _ _ c.keeps_room.ensures.room (restart_told _ _ _ _ _ call _ tells asked asks);
+      tasks = λ asked asks. with_room g.row.ROOM _ _ c.keeps_room.ensures.room (tasks_told _ _ _ _ _ call _ tells asked asks);
+      check = λ image flash asks. with_room g.row.ROOM _ _ c.keeps_room.ensures.room (check_told _ _ _ _ _ call _ tells image flash asks);
+      asm = λ image asks. with_room g.row.ROOM _ _ c.keeps_room.ensures.room (asm_told_of _ _ _ _ _ call _ tells image asks);
+      generate = λ seed asks. with_room g.row.ROOM _ _ c.keeps_room.ensures.room (generated_told _ _ _ _ _ call seed asks);
+      refused = λ own line asks. with_room g.row.ROOM _ _ c.keeps_room.ensures.room (refused_told _ _ _ _ _ call _ tells own line asks);
     }

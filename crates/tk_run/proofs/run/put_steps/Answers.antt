@@ -7,15 +7,15 @@ use Rattle.tk_run.proofs.run.put_steps.Goals as goal
 pub returns-in_err-send-clause-put : goal.returns-in_err-send-clause-put
 returns-in_err-send-clause-put g c =
     let old = whole c.args.k.now c.args.p.now in
-    let new = whole c.all_steps.new.k c.all_steps.new.p in
+    let new = whole c.gathered_steps.new.k c.gathered_steps.new.p in
     let text = c.in_ok-end.ensures.gathered in
     let failed = err_from_is_err_and c.from_residual-in_err-send.result c.from_residual-in_err-send.ensures.1 in
     rw failed.1 (advanced_unput old new c.args.n c.in_ok-end.end failed.0 text.text _ _ c.requires.going c.requires.whole text.advanced
-    (rest_cut text.text c.all_steps.new.gathered.items _ _ _ text.sent c.in_err-send.ensures.text))
+    (rest_cut text.text c.gathered_steps.new.gathered.items _ _ _ text.sent c.in_err-send.ensures.text))
 
 pub returns-clause-put : goal.returns-clause-put
 returns-clause-put g c =
     let old = whole c.args.k.now c.args.p.now in
-    let new = whole c.all_steps.new.k c.all_steps.new.p in
+    let new = whole c.gathered_steps.new.k c.gathered_steps.new.p in
     let text = c.in_ok-end.ensures.gathered in
-    advanced_whole old new c.args.n c.in_ok-end.end text.text _ _ text.advanced (all_on text.text c.all_steps.new.gathered.items _ _ _ text.sent c.in_ok-send.ensures.text)
+    advanced_whole old new c.args.n c.in_ok-end.end text.text _ _ text.advanced (all_on text.text c.gathered_steps.new.gathered.items _ _ _ text.sent c.in_ok-send.ensures.text)

@@ -3,6 +3,7 @@ use Rattle.std.proofs.lemmas.Result.{err_from_is_err_and}
 use Rattle.tk_tasks.specs.States.{Tasks}
 use Rattle.tk_tasks.specs.Trying.{tried_told}
 use Rattle.tk_tasks.proofs.Runs.{way_start, way_cut_in_turn, way_on, way_cut, still_less, room_of, quantum_some, all_ended}
+use Rattle.tk_tasks.proofs.InTurn.{told_on_turns, counts_on, all_in_turn}
 use Rattle.tk_tasks.proofs.run.all_plays.Goals as goal
 
 pub plays-init : goal.plays-init
@@ -11,8 +12,9 @@ plays-init g c = record {
   sound = c.requires.sound;
   whole = c.requires.whole;
   quantum = refl;
-  cursor = c.new-cursor.ensures.right c.args.t.now.kernel.layout c.args.t.now.kernel.mote.flash.words;
-  turn = omega arith;
+  cursor = c.requires.cursor;
+  counted = refl;
+  turns = λ turn below. absurd (omega (arith, below));
   faults = omega arith;
 }
 
@@ -45,7 +47,9 @@ plays-preserved g c =
       whole = c.play-shown.ensures.whole;
       quantum = quantum;
       cursor = c.play-shown.ensures.cursor;
-      turn = omega arith;
+      counted = counts_on c.plays.done r.count c.plays.invariant.way.plays c.play-shown.ensures.played.plays c.plays.invariant.counted c.play-shown.ensures.played.counted;
+      turns = told_on_turns g.K.Sink.taken c.args.n c.args.t.now c.plays.t new c.args.out.now c.plays.out c.send_in_turn.new.out c.plays.done r.count c.plays.gathered.items c.send_in_turn.new.gathered.items told c.plays.invariant.way c.plays.invariant.turns c.plays.invariant.counted
+          c.in_ok-send_in_turn.ensures.text c.in_ok-send_in_turn.ensures.turn c.play-shown.ensures.played (omega (arith, c.play-shown.ensures.most, c.up_to_turn.ensures.value));
       faults = omega (arith, c.plays.invariant.faults, c.in_ok-send_in_turn.ensures.cause.later, c.in_ok-put_shown.ensures.cause.later);
     }
 
@@ -65,3 +69,17 @@ returns-clause-gathered g c = (
   all_ended c.args.n c.args.t.now c.plays.t c.plays.gathered.items (g.K.Sink.taken c.args.out.now) (g.K.Sink.taken c.plays.out) c.plays.invariant.way c.requires.sound c.plays.invariant.sound c.requires.going
       (λ task here going. let e : ◌≡◌ {A = Bool} false true = sym c.plays-test.false ∙ (c.goes_on.ensures.going task here).1 going in cc),
 )
+
+pub returns-in_err-send_in_turn-clause-turns : goal.returns-in_err-send_in_turn-clause-turns
+returns-in_err-send_in_turn-clause-turns g c =
+    let failed = err_from_is_err_and c.from_residual.result c.from_residual.ensures.1 in
+    rw failed.1 tt
+
+pub returns-in_err-put_shown-clause-turns : goal.returns-in_err-put_shown-clause-turns
+returns-in_err-put_shown-clause-turns g c =
+    let failed = err_from_is_err_and c.from_residual-in_err-put_shown.result c.from_residual-in_err-put_shown.ensures.1 in
+    rw failed.1 tt
+
+pub returns-clause-turns : goal.returns-clause-turns
+returns-clause-turns g c =
+    all_in_turn g.K.Sink.taken c.args.n c.args.t.now c.plays.t c.args.out.now c.plays.out c.plays.gathered.items c.plays.invariant.way c.plays.invariant.turns (returns-clause-gathered g c).1

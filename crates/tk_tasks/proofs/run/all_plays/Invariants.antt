@@ -1,7 +1,8 @@
-use Rattle.std.proofs.Common.{◌≡◌, ◌≤◌, ◌<◌, false}
+use Rattle.std.proofs.Common.{◌≡◌, ◌≤◌, ◌%◌, length, false}
 use Rattle.line_gathering.specs.Gathering.{turn_steps}
 use Rattle.page_cursor.specs.Cursors.{IsCursor}
 use Rattle.tk_tasks.specs.States.{AreSound, turns_of}
+use Rattle.tk_tasks.specs.InTurn.{GoOutInTurn}
 use Rattle.tk_tasks.specs.Running.{IsUnderWay}
 use Rattle.task_turns.proofs.Ending.{still}
 use Rattle.tk_tasks.proofs.run.all_plays.Given as goal
@@ -14,7 +15,8 @@ invariant-plays g l = record {
   whole : l.t.broken ≡ false;
   quantum : l.t.kernel.quantum ≡ l.fn.t.kernel.quantum;
   cursor : IsCursor l.t.kernel.layout l.t.kernel.mote.flash.words l.cursor;
-  turn : l.done < turn_steps;
+  counted : l.done ≡ length way.plays % turn_steps;
+  turns : GoOutInTurn g.K.Sink.taken l.n l.fn.t l.fn.out (length way.plays);
   faults : g.K.Sink.faults l.fn.out ≤ g.K.Sink.faults l.out;
 }
 

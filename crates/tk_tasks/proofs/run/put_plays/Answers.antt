@@ -1,6 +1,9 @@
-use Rattle.tk_tasks.proofs.Runs.{sent_all}
+use Rattle.std.proofs.Common.{subst}
+use Rattle.tk_tasks.specs.States.{Tasks}
+use Rattle.tk_tasks.specs.InTurn.{AllGoOutInTurn}
+use Rattle.tk_tasks.specs.Plays.{IfDone}
 use Rattle.tk_tasks.proofs.run.put_plays.Goals as goal
 
-pub returns-clause-gathered : goal.returns-clause-gathered
-returns-clause-gathered g c =
-    sent_all c.send.result c.args.n c.args.t.now c.all_plays.new.t c.all_plays.new.gathered.items (g.K.Sink.taken c.args.out.now) (g.K.Sink.taken c.all_plays.new.out) (g.K.Sink.taken c.send.new.out) c.in_ok-all_plays.ensures.gathered c.send.ensures.text
+pub returns-clause-turns : goal.returns-clause-turns
+returns-clause-turns g c =
+    subst (λ (t : Tasks). IfDone c.put_plays_by-result.result (AllGoOutInTurn g.K.Sink.taken c.args.n t c.args.out.now)) c.take_cursor-kept.ensures.same c.put_plays_by-result.ensures.turns

@@ -1,0 +1,91 @@
+//! A source that fails, and what is answered over it.
+ghost use Rattle.std.specs.Prelude.{◌≡◌, ◌↔◌, ◌≤◌, ℕ, [], ◌∷◌, ◌++◌, codes, length, None, Some, IsErr, IfOk, map, string_bytes};
+ghost use Rattle.std.specs.Io.{ReadsAtMost};
+ghost use Rattle.std.specs.Io.KnownBytes.{ReadConsumes, WriteAppends};
+ghost use Rattle.byte_streams.specs.Faults.{HasCause};
+ghost use Rattle.printed_text.specs.PlainLines.{usage_line};
+ghost use Rattle.theorem_reader.specs.Refusals.{IsSaid, IsUsage, ReadsText};
+ghost use Rattle.theorem_reader.specs.Runs.{AsksGenerate, generated_by, IsRun};
+ghost use Rattle.theorem_reader.specs.Telling.{BrokenState, IsSo};
+
+use crate::reader::Told;
+use crate::room::RoomySink;
+use std::alloc::Global;
+use std::marker::Model;
+use tk_io::{Failed, MemSource, NoMemory, Source};
+use tkernel_cli::tkernel;
+
+/// Bytes in memory to read. Behind them each read fails.
+#[derive(Drop)]
+pub struct BrokenSource {
+    source: MemSource,
+    faults: u64,
+}
+
+impl Model for BrokenSource {
+    ghost use Rattle.theorem_reader.specs.Telling.{BrokenState};
+
+    ghost Value = { BrokenState };
+
+    ghost view = { λ s. record { left = s.source; faults = s.faults } };
+}
+
+impl BrokenSource {
+    /// A source that gives these bytes.
+    pub fn new(bytes: Vec<u8>) -> BrokenSource
+        ensures fresh { result ≡ record { left = bytes.items; faults = 0 } }
+    {
+        BrokenSource {
+            source: MemSource::new(bytes),
+            faults: 0,
+        }
+    }
+}
+
+impl Source for BrokenSource {
+    // One byte is left that it never gives.
+    ghost left = { λ s. Some (s.left ++ 0 ∷ []) };
+
+    ghost faults = { λ s. s.faults };
+
+    fn read(&mut self, buf: &mut [u8]) -> Result<usize, Failed>
+        ensures bound { ReadsAtMost result buf.new }
+        ensures bytes { ReadConsumes (Some (self.old.left ++ 0 ∷ [])) (Some (self.new.left ++ 0 ∷ [])) result buf.new }
+        ensures gives { WriteAppends None None result buf.new }
+        ensures cause { HasCause self.old.faults self.new.faults result }
+
+        ensures behind { IsErr result ↔ (self.old.left ≡ []) }
+    {
+        if self.source.left().is_empty() {
+            self.faults = self.faults.saturating_add(1);
+            return Err(Failed);
+        }
+        self.source.read(buf)
+    }
+}
+
+/// Answers these words over a source that gives this text and then fails, as often as it is read.
+pub fn run_broken<const ROOM: usize>(
+    alloc: Global,
+    words: &[String],
+    text: Vec<u8>,
+) -> Result<Told<ROOM>, NoMemory>
+    ensures fault { ReadsText (map string_bytes words.now) → length text.items ≤ 2097152
+        → IfOk result (λ told. IsSo ROOM told.out (λ sink. IsSaid sink 5 (codes "read fault\n") told.status told.out.taken told.kept)) }
+    ensures generate { IfOk result (λ told. (seed : ℕ) → AsksGenerate (map string_bytes words.now) seed
+        → IsSo ROOM told.out (λ sink. IsRun sink (generated_by seed) told.status told.out.taken told.kept)) }
+    ensures usage { IfOk result (λ told. (own : ℕ) → IsUsage (map string_bytes words.now) own
+        → IsSo ROOM told.out (λ sink. IsSaid sink own usage_line told.status told.out.taken told.kept)) }
+{
+    let mut input = BrokenSource::new(text);
+    let mut out = RoomySink::new(alloc)?;
+    let exit = tkernel(alloc, words, &mut input, &mut out);
+    out.keeps_room();
+    let status = exit.status.number();
+    Ok(Told {
+        status,
+        out,
+        kept: exit.kept,
+        tasks: exit.tasks,
+    })
+}

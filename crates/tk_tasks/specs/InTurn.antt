@@ -1,0 +1,20 @@
+-- When lines of tasks go out: at each multiple of 65,536 tries all that was told by then has (docs/TASKS.md, "A run on the mote").
+use Rattle.std.specs.Prelude.{ℕ, ◌*◌, ◌<◌, List, Option}
+use Rattle.std.specs.Io.KnownBytes.{Appends}
+use Rattle.line_gathering.specs.Gathering.{turn_steps}
+use Rattle.task_turns.specs.Turns.{tries, HaveEnded}
+use Rattle.tk_tasks.specs.States.{Tasks, turns_of}
+use Rattle.tk_tasks.specs.Plays.{told_text}
+
+-- The sink was one that had taken all that so many tries tell, where each task may do n steps, behind what it had taken before.
+pub record HadAllTold {K : Type 0} (taken : K → Option (List ℕ)) (n : ℕ) (old : Tasks) (before : K) (count : ℕ) : Type 0 where
+  pub sink : K
+  pub put : Appends (taken before) (taken sink) (told_text old.kernel.quantum (tries count (turns_of n old)).told)
+
+-- .. at each turn in so many tries
+abbrev pub GoOutInTurn : {K : Type 0} → (K → Option (List ℕ)) → ℕ → Tasks → K → ℕ → Type 0
+GoOutInTurn taken n old before count = (turn : ℕ) → turn_steps * turn < count → HadAllTold taken n old before (turn_steps * turn)
+
+-- .. at each turn until all have ended
+abbrev pub AllGoOutInTurn : {K : Type 0} → (K → Option (List ℕ)) → ℕ → Tasks → K → Type 0
+AllGoOutInTurn taken n old before = (turn : ℕ) → ¬ HaveEnded (tries (turn_steps * turn) (turns_of n old)).turns → HadAllTold taken n old before (turn_steps * turn)
