@@ -9,7 +9,7 @@ use crate::passed::Passed;
 use crate::{Failed, Reader, Sink, Source, Writer};
 
 /// A reader, such as standard input, as a source. It tells the bytes that the reader tells to be left: standard input tells
-/// none. It keeps those that its reads gave.
+/// none. Those that its reads gave it keeps for clauses, and not in memory.
 #[derive(Drop)]
 pub struct StdSource<R: Reader> {
     reader: R,

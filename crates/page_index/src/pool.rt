@@ -46,7 +46,7 @@ pub fn known_offsets(flash: &Flash, layout: &Layout, original: u16) -> [bool; 12
 /// The original address whose code begins at this place, a word address of flash; None where that is
 /// no entry's place.
 ///
-/// This is the plain form: the program calls `origin` of `page_cursor`, which knows where the last search ended.
+/// This is the plain form: the program calls `origin` of `page_cursor`, which marks what is known of each place.
 pub fn origin(flash: &Flash, layout: &Layout, place: u16) -> Option<u16>
     requires right { IsRight layout.now }
     requires mapped { IsMapped layout.now flash.now.words }

@@ -34,7 +34,7 @@ use Rattle.nat_page.proofs.FaithfulLaws.{faithful_mapped}
 use Rattle.branch_bridge.specs.declared.through.Arrival.{Arrival as BridgeArrival}
 use Rattle.branch_bridge.specs.Operating.{with_torn}
 use Rattle.branch_bridge.specs.declared.rewriting.Torn.{Torn}
-use Rattle.branch_bridge.specs.Tried.{Tried, IsTorn, IsRefusal, torn_at, is_listed}
+use Rattle.branch_bridge.specs.Tried.{Tried, IsTorn, IsRefusal, torn_at, number_in, is_listed}
 use Rattle.branch_bridge.specs.Arrivals.{Store, ArrivesFrom, CameThrough, KeptThrough, torn_by, stopped_by, ring_of}
 use Rattle.branch_bridge.proofs.ArrivalLaws.{from_torn}
 use Rattle.branch_bridge.specs.Arrivals as bridge
@@ -108,15 +108,15 @@ step_is from x y begins line pool makes =
     } in
     subst (λ (s : State). IsStep from (mote_of x) (mote_of s)) (sym makes.result) is
 
-at_an_entry : (k : Kernel) → CanServe k → (0xF000 ≤ k.mote.cpu.pc) × (k.mote.cpu.pc ≤ 0xF00F)
-at_an_entry k (AtBridge at) = (omega (arith, at), omega (arith, at))
-at_an_entry k (AtQuantum at) = (omega (arith, at), omega (arith, at))
-at_an_entry k (AtMem at shape can) = (omega (arith, at), omega (arith, at))
-at_an_entry k (AtPushReturn at shape can) = (omega (arith, at), omega (arith, at))
-at_an_entry k (AtReturn at shape can count) = (omega (arith, at), omega (arith, at))
-at_an_entry k (AtIndirect at shape can count) = (omega (arith, at), omega (arith, at))
-at_an_entry k (AtSelf at shape can count) = (omega (arith, at), omega (arith, at))
-at_an_entry k (AtFault at shape can) = (omega (arith, at), omega (arith, at))
+at_an_entry : (k : Kernel) → CanServe k → (0xF000 ≤ k.mote.cpu.pc) × (k.mote.cpu.pc ≤ 0xF00F) × (k.mote.cpu.pc % 2 ≡ 0)
+at_an_entry k (AtBridge at) = (omega (arith, at), omega (arith, at), omega (arith, at))
+at_an_entry k (AtQuantum at) = (omega (arith, at), omega (arith, at), omega (arith, at))
+at_an_entry k (AtMem at shape can) = (omega (arith, at), omega (arith, at), omega (arith, at))
+at_an_entry k (AtPushReturn at shape can) = (omega (arith, at), omega (arith, at), omega (arith, at))
+at_an_entry k (AtReturn at shape can count) = (omega (arith, at), omega (arith, at), omega (arith, at))
+at_an_entry k (AtIndirect at shape can count) = (omega (arith, at), omega (arith, at), omega (arith, at))
+at_an_entry k (AtSelf at shape can count) = (omega (arith, at), omega (arith, at), omega (arith, at))
+at_an_entry k (AtFault at shape can) = (omega (arith, at), omega (arith, at), omega (arith, at))
 
 some_bytes : (m : List ℕ) → 1 ≤ byte_at m 0x0100 → 0 < length m
 unfolding byte_at
@@ -402,6 +402,7 @@ service_is image quantum x y line stops held counts makes =
     record {
       low = at.0;
       high = at.1;
+      even = at.2;
       stack = leaves.stack;
       pc = told.pc;
       bridge = told.bridge;
@@ -439,8 +440,8 @@ beyond_by layout old new t result outside (bridge.Found place inside found same 
 beyond_by layout old new t result outside (bridge.Free page inside missed lowest makes) = absurd (omega (arith, outside, inside))
 beyond_by layout old new t result outside (bridge.Full inside missed full recycles) = absurd (omega (arith, outside, inside))
 
-pub beyond_is : (layout : Layout) (old new : Store) (t : ℕ) (stub : Option ℕ) (arrival : BridgeArrival) → layout.image_words ≤ t → ArrivesFrom layout old new t stub arrival → (new ≡ old) × (arrival.place ≡ None)
-beyond_is layout old new t stub arrival outside (bridge.Stopped refused arrives is) = ((beyond_by layout old new t _ outside arrives).0, ap (λ (a : BridgeArrival). a.place) is)
+pub beyond_is : (layout : Layout) (old new : Store) (t : ℕ) (stub : Option ℕ) (arrival : BridgeArrival) → layout.image_words ≤ t → ArrivesFrom layout old new t stub arrival → (new ≡ old) × (arrival.place ≡ None) × (arrival.made ≡ false)
+beyond_is layout old new t stub arrival outside (bridge.Stopped refused arrives is) = ((beyond_by layout old new t _ outside arrives).0, ap (λ (a : BridgeArrival). a.place) is, ap (λ (a : BridgeArrival). a.made) is)
 beyond_is layout old new t stub arrival outside (bridge.Went moved arrives none is) = absurd ((beyond_by layout old new t _ outside arrives).1 moved refl)
 beyond_is layout old new t stub arrival outside (bridge.Resolved mid moved s arrives some stop done same is) = absurd ((beyond_by layout old mid t _ outside arrives).1 moved refl)
 
@@ -507,6 +508,12 @@ others_keep image old new t stub arrival right held sound ring came from kept =
       kept = λ page inside away apart. stays_keep l image before after page sound (in_pool image page inside) (subst (λ i. StaysThere i before after page) held (torn.1 page (in_pool image page inside) away apart));
     }
 
+-- where none was refused, none that was tried is listed
+unlisted : (layout : Layout) (old new : Memory) (refused : Option Refused) (op : ℕ) → refused ≡ None → Tried layout old new (stopped_by refused) → old.ops < op → op ≤ new.ops → (listed : Bool) → is_listed old op ≡ listed → is_listed old op ≡ false
+unlisted layout old new refused op none tried later most false is = is
+unlisted layout old new refused op none tried later most true is =
+    absurd (let e : None ≡ Some op = sym (ap (λ (r : Option Refused). number_in (stopped_by r)) none) ∙ tried.only op later most is in cc)
+
 -- how it ended
 arrives_by : (image : List ℕ) (x y : State) (target : ℕ) (stub : Option ℕ) (store : Store) (arrival : BridgeArrival) → length image ≤ 24576 → image_of (layout_of (length image)) (mote_of x).flash.words ≡ image
     → y ≡ arrived x store arrival → store ≡ store_of y → ArrivesFrom (layout_of (length image)) (store_of x) (store_of y) target stub arrival → KeptThrough (layout_of (length image)) (store_of x) (store_of y) target arrival
@@ -514,7 +521,7 @@ arrives_by : (image : List ℕ) (x y : State) (target : ℕ) (stub : Option ℕ)
     → CameThrough (layout_of (length image)) (mote_of x).flash.words stub target → OthersKeep image (mote_of x).flash.words (mote_of y).flash.words arrival → ring_of (mote_of x).sram < (layout_of (length image)).pool_pages → Arrives image target (one_if made) (mote_of x) (mote_of y)
 arrives_by image x y target stub store arrival few held after same from kept (Answered.Wild is outside) made is_made right sound came others ring =
     let nothing = beyond_is (layout_of (length image)) (store_of x) (store_of y) target stub arrival outside from in
-    Outside outside (ap (λ (s : Store). s.flash) nothing.0)
+    Outside outside (ap one_if (sym is_made ∙ nothing.2)) (ap (λ (s : Store). s.flash) nothing.0)
     (ap (λ (s : State). (mote_of s).cpu.pc) after ∙ pc_unplaced (with_store x store) arrival.place arrival.refused nothing.1)
 arrives_by image x y target stub store arrival few held after same from kept (Answered.In place there none inside) made is_made right sound came others ring =
     let l = layout_of (length image) in
@@ -528,6 +535,7 @@ arrives_by image x y target stub store arrival few held after same from kept (An
     (λ page pool away. others.unrefused none page pool (λ is. away (is ∙ again ∙ ap (λ v. v / 128) (sym pc))))
     (λ zero. subst (Relinks (mote_of x).flash.words words) (sym pc) (relinks_by l (store_of x) (store_of y) target stub arrival place right (subst (λ i. IsFaithful l i (mote_of x).flash.words) (sym held) sound) came from (is_made ∙ unmade_by made zero) none there))
     (λ one. subst (λ v. IsNext image (mote_of x) (v / 128)) (sym pc) (next_is image (mote_of x) (store_of y) target stub arrival place right held sound ring from (is_made ∙ made_by made one) there))
+    (λ op later tried. unlisted l (mote_of x).flash (mote_of y).flash arrival.refused op none kept.tried later tried _ refl)
 arrives_by image x y target stub store arrival few held after same from kept (Answered.Failed stop is inside) made is_made right sound came others ring =
     let l = layout_of (length image) in
     let words = (mote_of y).flash.words in

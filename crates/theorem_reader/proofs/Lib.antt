@@ -27,3 +27,5 @@ pub mod Refusing
 pub mod Unread
 pub mod WorkedActs
 pub mod Longer
+pub mod ByTable
+pub mod Alone

@@ -98,32 +98,32 @@ warrants words source source' text own line tells (BadSource is short number fau
     record { status = statuses.BadInput; items = _; warranted = inl (Asm, is, (text, tells, inr (short, Bad number (asm_word fault) (fault, bad, refl) refl))); status_is = sym own_is; line_is = asm_line number fault ∙ sym line_is }
 
 -- a text that is told, and no machine
-pub said_how : (words : List (List ℕ)) (exit : Exit) (status faults : ℕ) (taken : List ℕ) (call : Call words exit status faults taken) (own : Status) (whole : List ℕ) → Says own whole call.sink call.sink' exit.status → exit.kept ≡ None
-    → Somehow call.sink call.sink' (λ sink. IsSaid sink (number_of own) whole status taken exit.kept)
-said_how words exit status faults taken call own whole said none =
-    so_then call.sink call.sink' _ (λ sink. IsSaid sink (number_of own) whole status taken exit.kept) (λ sink told. Said told none) (told_how words exit status faults taken call own whole said)
+pub said_how : (words : List (List ℕ)) (exit : Exit) (status faults : ℕ) (taken : List ℕ) (call : Call words exit status faults taken) (own : Status) (whole : List ℕ) → Says own whole call.sink call.sink' exit.status → exit.kept ≡ None → exit.tasks ≡ None
+    → Somehow call.sink call.sink' (λ sink. IsSaid sink (number_of own) whole status taken exit.kept exit.tasks)
+said_how words exit status faults taken call own whole said none alone =
+    so_then call.sink call.sink' _ (λ sink. IsSaid sink (number_of own) whole status taken exit.kept exit.tasks) (λ sink told. Said told none alone) (told_how words exit status faults taken call own whole said)
 
 -- a line that is warranted is told
 warranted_told : (words : List (List ℕ)) (exit : Exit) (status faults : ℕ) (taken : List ℕ) (call : Call words exit status faults taken) (own : ℕ) (line : List ℕ)
-    → Warrants words call.source call.source' own line → IsSoThen faults (λ sink. IsSaid sink own line status taken exit.kept)
+    → Warrants words call.source call.source' own line → IsSoThen faults (λ sink. IsSaid sink own line status taken exit.kept exit.tasks)
 warranted_told words exit status faults taken call own line w =
-    let So : ℕ → List ℕ → Type 0 = λ n whole. IsSoThen faults (λ sink. IsSaid sink n whole status taken exit.kept) in
+    let So : ℕ → List ℕ → Type 0 = λ n whole. IsSoThen faults (λ sink. IsSaid sink n whole status taken exit.kept exit.tasks) in
     subst (λ whole. So own whole) w.line_is (subst (λ n. So n w.items) w.status_is
-    (told_by words exit status faults taken call _ (λ sink. IsSaid sink (number_of w.status) w.items status taken exit.kept) w.warranted (λ sink told none alone. NoMemory told none)
-    (λ done. said_how words exit status faults taken call w.status w.items done.0.0 done.0.1)))
+    (told_by words exit status faults taken call _ (λ sink. IsSaid sink (number_of w.status) w.items status taken exit.kept exit.tasks) w.warranted (λ sink told none alone. NoMemory told none alone)
+    (λ done. said_how words exit status faults taken call w.status w.items done.0.0 done.0.1 done.1)))
 
 pub usage_told : (words : List (List ℕ)) (exit : Exit) (status faults : ℕ) (taken : List ℕ) (call : Call words exit status faults taken) (own : ℕ)
-    → IsUsage words own → IsSoThen faults (λ sink. IsSaid sink own usage_line status taken exit.kept)
+    → IsUsage words own → IsSoThen faults (λ sink. IsSaid sink own usage_line status taken exit.kept exit.tasks)
 usage_told words exit status faults taken call own usage = warranted_told words exit status faults taken call own usage_line (usage_warranted words call.source call.source' own usage)
 
 pub refused_told : (words : List (List ℕ)) (exit : Exit) (status faults : ℕ) (taken : List ℕ) (call : Call words exit status faults taken) (text : List ℕ) → Tells call.source call.source' text → (own : ℕ) (line : List ℕ)
-    → IsRefused words text own line → IsSoThen faults (λ sink. IsSaid sink own line status taken exit.kept)
+    → IsRefused words text own line → IsSoThen faults (λ sink. IsSaid sink own line status taken exit.kept exit.tasks)
 refused_told words exit status faults taken call text tells own line refused =
     warranted_told words exit status faults taken call own line (warrants words call.source call.source' text own line tells refused)
 
 pub asm_told_of : (words : List (List ℕ)) (exit : Exit) (status faults : ℕ) (taken : List ℕ) (call : Call words exit status faults taken) (text : List ℕ) → Tells call.source call.source' text → (image : List ℕ)
-    → AsksAsm words text image → IsSoThen faults (λ sink. IsAssembled sink image status taken exit.kept)
+    → AsksAsm words text image → IsSoThen faults (λ sink. IsAssembled sink image status taken exit.kept exit.tasks)
 asm_told_of words exit status faults taken call text tells image asks =
-    told_by words exit status faults taken call _ (λ sink. IsAssembled sink image status taken exit.kept)
+    told_by words exit status faults taken call _ (λ sink. IsAssembled sink image status taken exit.kept exit.tasks)
     (inl (Asm, asks.command, (text, tells, inr (asks.short, Good image (asks.faultless, asks.source) refl))))
-    (λ sink told none alone. NoMemory told none) (λ done. said_how words exit status faults taken call statuses.Done (written image) done.0.0 done.0.1)
+    (λ sink told none alone. NoMemory told none alone) (λ done. said_how words exit status faults taken call statuses.Done (written image) done.0.0 done.0.1 done.1)

@@ -1,11 +1,11 @@
 -- The acts of a run, step by step, of its moves.
-use Rattle.std.proofs.Common.{◌≡◌, ℕ, zero, suc, ◌+◌, ◌≤◌, Bool, true, List, [], ◌∷◌, ◌++◌, map, length, refl, sym, ap, ◌∙◌, subst, arith, inl, inr}
+use Rattle.std.proofs.Common.{◌≡◌, ℕ, zero, suc, ◌+◌, ◌≤◌, Bool, true, false, ◌&&◌, List, [], ◌∷◌, ◌++◌, map, length, refl, sym, ap, ◌∙◌, subst, arith, inl, inr}
 use Rattle.std.specs.Prelude.{Option, Some, None}
 use Rattle.std.proofs.lemmas.Bool.{and_parts}
 use Rattle.sram_layout.specs.Bytes.{byte_at, data_word_at}
 use Rattle.flash_words.specs.Layouts.{layout_of, image_of, IsRight}
 use Rattle.flash_words.proofs.LayoutLaws.{layout_right}
-use Rattle.flat_machine.specs.FlatMachine.{Moment}
+use Rattle.flat_machine.specs.FlatMachine.{Moment, is_taken}
 use Rattle.mote_devices.specs.declared.line.Line.{Line}
 use Rattle.page_index.specs.Entries.{IsEntry}
 use Rattle.nat_page.specs.Faithful.{IsFaithful}
@@ -18,7 +18,7 @@ use Rattle.step_laws.specs.Numbers.{one_if}
 use Rattle.step_laws.specs.States.{State, Awaited, mote_of, end_by, settled_by, placed, with_store}
 use Rattle.step_laws.specs.StepLaws.{Reaches}
 use Rattle.step_laws.specs.Walks.{Walk, MakesArrive, MakesTake}
-use Rattle.program_steps.specs.Machines.{Machine, state_of, awaits}
+use Rattle.program_steps.specs.Machines.{Machine, state_of, awaits, flat_of}
 use Rattle.program_steps.specs.Ready.{IsGoing}
 use Rattle.program_steps.proofs.Entered.{awaited_due}
 use Rattle.program_steps.specs.Stepping.{links_in}
@@ -67,9 +67,15 @@ own_acts x z line rest few serves walk =
     let later = counted walk.0 z rest walk.2 in
     record { alone = omega (arith, later.alone); some = omega arith; steps = omega (arith, later.steps, few); services = omega (arith, later.services, serves) }
 
--- an interrupt that is taken is due
-take_due : (y : Machine) (z : State) (stops : Bool) → MakesTake (state_of y) stops z → y.due ≡ true
-take_due y z stops makes = sym (awaited_due y.owed y.due makes.owed makes.owes) ∙ (and_parts _ _ makes.taken_now).0
+both : (b c : Bool) → b ≡ true → c ≡ true → (b && c) ≡ true
+both true c first second = second
+both false c first second = absurd (let e : ◌≡◌ {A = Bool} false true = first in cc)
+
+-- an interrupt is one that the original program takes
+take_due : (y : Machine) (z : State) (stops : Bool) → MakesTake (state_of y) stops z → is_taken (flat_of y) ≡ true
+take_due y z stops makes =
+    let now = and_parts _ _ makes.taken_now in
+    both _ _ (sym (awaited_due y.owed y.due makes.owed makes.owes) ∙ now.0) (and_parts _ _ now.1).1
 
 -- and none is taken behind an arrival
 none_owed : (s : State) (refused : Option BridgeRefused) (w : Awaited) → (settled_by s refused).owed ≡ Some w → (settled_by s refused).end ≡ None → ⊥
@@ -100,7 +106,7 @@ own_here : (image : List ℕ) (quantum : ℕ) (at : ℕ → Moment) (n : ℕ) (y
     → (walk : Walk (state_of y) own z) → AreOfStep image (at n) (mote_of (state_of y)) (acts_of (state_of y) own z walk)
 own_here image quantum at n y z own holds stands (stepping.Taking stops is) =
     acts_as (state_of y) z (AreOfStep image (at n) (mote_of (state_of y))) own (Take stops ∷ []) is
-    (λ walk. Interrupted (mote_of walk.0) refl (sym (ap (λ (s : Moment). s.due) stands.stands) ∙ take_due y walk.0 stops walk.1))
+    (λ walk. Interrupted (mote_of walk.0) refl (sym (ap is_taken stands.stands) ∙ take_due y walk.0 stops walk.1))
 own_here image quantum at n y z own holds stands (stepping.Making line rest is few serves) =
     acts_as (state_of y) z (AreOfStep image (at n) (mote_of (state_of y))) own (Begin line ∷ map Within rest) is
     (λ walk. There (subst (λ t. IsPlaceOf image y.kernel.mote.flash.words t y.kernel.mote.cpu.pc) (at_is at n y stands) (place_by image quantum y y.at (awaits y) holds stands.ready walk.1.free stands.ready.stands)) (own_acts (state_of y) z line rest few serves walk))

@@ -1,5 +1,5 @@
 -- What a machine did, one act after another, told by the mote before and after each.
-use Rattle.std.specs.Prelude.{◌≡◌, ◌≢◌, ℕ, suc, ◌+◌, ◌-◌, ◌*◌, ◌/◌, ◌%◌, ◌≤◌, ◌⊎◌, List, [], ◌∷◌, ◌++◌, slice_index, slice_set, length, replicate, ◌<◌, ◌==◌, nat_le, if◌then◌else◌, true, Option, Some, None}
+use Rattle.std.specs.Prelude.{◌≡◌, ◌≢◌, false, ℕ, suc, ◌+◌, ◌-◌, ◌*◌, ◌/◌, ◌%◌, ◌≤◌, ◌⊎◌, List, [], ◌∷◌, ◌++◌, slice_index, slice_set, length, replicate, ◌<◌, ◌==◌, nat_le, if◌then◌else◌, true, Option, Some, None}
 use Rattle.std.specs.Option.{option_map}
 use Rattle.std.specs.List.{list_any}
 use Rattle.avr_isa.specs.declared.form.Form.{Form}
@@ -83,7 +83,7 @@ pub data Sleeps (quantum : ℕ) (before after : Mote) : Type 0 where
       → after ≡ record before { cpu = record before.cpu { sp = 0x011F }; sram = after.sram; devices = devices }
       → slice_index after.sram 0 ≡ count_behind quantum (program_address before) ((program_address before + 1) % 65536) (slice_index before.sram 0) → Sleeps quantum before after
 
--- The pc is at one of the kernel's eight entries, 0xF000 to 0xF00F. All of flash stays, and the bytes of SRAM at 0x0101 to
+-- The pc is at one of the kernel's eight entries, the even addresses from 0xF000 to 0xF00E. All of flash stays, and the bytes of SRAM at 0x0101 to
 -- 0x011F, but for the program's stack pointer, and at 0x0142 to 0x03FF. At each entry but 0xF004, which reaches the program's
 -- memory, so does the swap area, and 0x0120 to 0x0CFF. The kernel's stack, 0x011E and 0x011F, is empty again. The pc stays, and
 -- the kernel has control; or, at 0xF004 and 0xF006, rewritten code goes on: behind the call of the kernel, whose address that
@@ -93,6 +93,7 @@ pub data Sleeps (quantum : ℕ) (before after : Mote) : Type 0 where
 pub record IsService (image : List ℕ) (quantum : ℕ) (before after : Mote) : Type 0 where
   pub low : 0xF000 ≤ before.cpu.pc
   pub high : before.cpu.pc ≤ 0xF00F
+  pub even : before.cpu.pc % 2 ≡ 0
   pub stack : after.cpu.sp ≡ 0x011F
   pub pc : (after.cpu.pc ≡ before.cpu.pc) ⊎ ((0xF004 ≤ before.cpu.pc) × (before.cpu.pc ≤ 0xF007) × (after.cpu.pc ≡ (called_from before + 1) % 65536))
   pub bridge : before.cpu.pc ≡ 0xF000 → after ≡ record before { cpu = record before.cpu { sp = 0x011F } }
@@ -124,14 +125,15 @@ pub data IsNext (image : List ℕ) (before : Mote) (page : ℕ) : Type 0 where
       → 128 * page ≡ pool_from image + 128 * (slice_index before.sram 0x42 + 256 * slice_index before.sram 0x43) → IsNext image before page
 
 -- How an arrival ends. Control goes on where the code of its target begins; each page of the pool but the one of that place
--- keeps its code, and if a page was made it is that one. Or the target is outside the image, and it is refused; or an operation
+-- keeps its code, and if a page was made it is that one; no operation that is listed to fail was tried. Or the target is outside the image, and it is refused; or an operation
 -- on flash was refused, the last of those that were tried, and listed to fail: each page but two keeps its code; the pc stays
 -- then, or is in the pool.
 pub data Arrives (image : List ℕ) (target made : ℕ) (before after : Mote) : Type 0 where
   In : target < length image → AreFaithful image after.flash.words → IsPlaceOf image after.flash.words target after.cpu.pc
       → ((page : ℕ) → IsInPool image page → page ≢ after.cpu.pc / 128 → KeepsCode before.flash.words after.flash.words page)
-      → (made ≡ 0 → Relinks before.flash.words after.flash.words after.cpu.pc) → (made ≡ 1 → IsNext image before (after.cpu.pc / 128)) → Arrives image target made before after
-  Outside : length image ≤ target → after.flash ≡ before.flash → after.cpu.pc ≡ before.cpu.pc → Arrives image target made before after
+      → (made ≡ 0 → Relinks before.flash.words after.flash.words after.cpu.pc) → (made ≡ 1 → IsNext image before (after.cpu.pc / 128))
+      → ((op : ℕ) → before.flash.ops < op → op ≤ after.flash.ops → list_any (λ n. n == op) before.flash.failing ≡ false) → Arrives image target made before after
+  Outside : length image ≤ target → made ≡ 0 → after.flash ≡ before.flash → after.cpu.pc ≡ before.cpu.pc → Arrives image target made before after
   Refused : target < length image → before.flash.ops < after.flash.ops → list_any (λ n. n == after.flash.ops) before.flash.failing ≡ true
       → AreFaithfulBut image after.flash.words → (again other : ℕ) → ((page : ℕ) → IsInPool image page → page ≢ again → page ≢ other → KeepsCode before.flash.words after.flash.words page)
       → (after.cpu.pc ≡ before.cpu.pc) ⊎ ((pool_from image ≤ after.cpu.pc) × (after.cpu.pc < 0xF000)) → Arrives image target made before after

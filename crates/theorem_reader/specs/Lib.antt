@@ -8,7 +8,9 @@ pub mod Ends
 pub mod Wear
 pub mod Steps
 pub mod Runs
+pub mod Words
 pub mod MoreSteps
+pub mod ByCode
 pub mod Checks
 pub mod Dumps
 pub mod Restarts

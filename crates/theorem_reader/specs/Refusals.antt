@@ -15,6 +15,7 @@ use Rattle.avr_asm.specs.declared.fault.AsmFault.{AsmFault}
 use Rattle.printed_text.specs.FaultyLines.{hex_word, script_word, dump_word, asm_word}
 use Rattle.printed_text.specs.PlainLines.{usage_line}
 use Rattle.program_steps.specs.Machines.{Machine}
+use Rattle.tk_tasks.specs.States.{Tasks as KeptTasks}
 use Rattle.cli_words.specs.declared.command.RunOptions.{RunOptions}
 use Rattle.cli_words.specs.declared.command.TaskOptions.{TaskOptions}
 use Rattle.cli_words.specs.declared.command.Command.TheVariants.{Help, Run, Dump, Restart, Tasks, Check, Asm}
@@ -68,10 +69,10 @@ pub data IsRefused (words : List (List ℕ)) (text : List ℕ) (own : ℕ) (line
   BadSource : IsCommand words Asm → length text ≤ 2097152 → (number : ℕ) → (fault : AsmFault) → fault_of text ≡ Some (number, fault)
       → own ≡ 3 → line ≡ bad_line (codes "asm") number (asm_word fault) → IsRefused words text own line
 
--- memory was wanted, or this text is told with this status; no machine is kept
-pub data IsSaid (sink : Sink) (own : ℕ) (whole : List ℕ) (status : ℕ) (taken : List ℕ) (kept : Option Machine) : Type 0 where
-  NoMemory : IsTold sink 8 no_memory status taken → kept ≡ None → IsSaid sink own whole status taken kept
-  Said : IsTold sink own whole status taken → kept ≡ None → IsSaid sink own whole status taken kept
+-- memory was wanted, or this text is told with this status; neither a machine nor tasks are kept
+pub data IsSaid (sink : Sink) (own : ℕ) (whole : List ℕ) (status : ℕ) (taken : List ℕ) (kept : Option Machine) (tasks : Option KeptTasks) : Type 0 where
+  NoMemory : IsTold sink 8 no_memory status taken → kept ≡ None → tasks ≡ None → IsSaid sink own whole status taken kept tasks
+  Said : IsTold sink own whole status taken → kept ≡ None → tasks ≡ None → IsSaid sink own whole status taken kept tasks
 
 -- the words are `asm`, and the text is a source without a fault, of this image
 pub record AsksAsm (words : List (List ℕ)) (text image : List ℕ) : Type 0 where
@@ -81,5 +82,5 @@ pub record AsksAsm (words : List (List ℕ)) (text image : List ℕ) : Type 0 wh
   pub source : AsmText text image
 
 -- the HEX text of the image is told: records of 16 bytes, and the end record (`hex_image/Written`)
-abbrev pub IsAssembled : Sink → (image : List ℕ) → (status : ℕ) (taken : List ℕ) → Option Machine → Type 0
-IsAssembled sink image status taken kept = IsSaid sink 0 (written image) status taken kept
+abbrev pub IsAssembled : Sink → (image : List ℕ) → (status : ℕ) (taken : List ℕ) → Option Machine → Option KeptTasks → Type 0
+IsAssembled sink image status taken kept tasks = IsSaid sink 0 (written image) status taken kept tasks

@@ -74,7 +74,7 @@ Stands asked r m = StandsFrom (IsBoot asked.image asked.failing asked.events ask
 abbrev pub is_to_fail : Asked → ℕ → Bool
 is_to_fail asked op = list_any (λ n. n == op) asked.failing
 
--- The run came to the original's end, which the machine keeps, or through all its steps. No device line was lost; no operation
+-- The run came to the original's end, which the machine keeps, or through all its steps. It isn't broken; no operation
 -- that was tried is to fail; flash is faithful. Where the pool held all pages that were made, each page was erased at most once for
 -- each JMP in it, however many steps there were.
 pub record EndsWell (asked : Asked) (m : Machine) : Type 0 where
@@ -99,7 +99,7 @@ pub record EndsInAFault (asked : Asked) (op : ℕ) (m : Machine) : Type 0 where
   pub faithful : AreFaithfulBut asked.image m.kernel.mote.flash.words
 
 -- The sink failed before the last lines: of the device lines of the steps that were done it took a part, and the machine
--- stands where the original program stands after them. It is broken, and makes no more moves.
+-- stands where the original program stands after them. It is broken: it may not be run on.
 pub record IsCutShort (asked : Asked) (status : ℕ) (taken : List ℕ) (m : Machine) : Type 0 where
   pub told : IsTold Fails 6 (flat_map device_line (original_of asked m.steps).lines) status taken
   pub stands : Stands asked (original_of asked m.steps) m

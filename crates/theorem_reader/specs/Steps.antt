@@ -1,6 +1,6 @@
 -- The acts of a run, step by step of the original program.
 use Rattle.std.specs.Prelude.{◌≡◌, ℕ, zero, suc, ◌+◌, ◌≤◌, true, List, [], ◌∷◌, ◌++◌, length}
-use Rattle.flat_machine.specs.FlatMachine.{Moment}
+use Rattle.flat_machine.specs.FlatMachine.{Moment, is_taken}
 use Rattle.mote_core.specs.declared.mote.Mote.{Mote}
 use Rattle.theorem_reader.specs.Acts.{Act, Arrival, Interrupt, Follow, steps_in, services_in}
 use Rattle.theorem_reader.specs.Memory.{HasState}
@@ -13,10 +13,10 @@ pub record AreOwn (acts : List Act) : Type 0 where
   pub steps : steps_in acts ≤ 40
   pub services : services_in acts ≤ 2
 
--- The acts of one step of the original program, which stands at s. An interrupt is taken, which is due; or control is where
--- the code of the program's address begins, and goes through that; or it arrives there first.
+-- The acts of one step of the original program, which stands at s. It takes an interrupt (`is_taken`), and that is the act; or
+-- control is where the code of the program's address begins, and goes through that; or it arrives there first.
 pub data AreOfStep (image : List ℕ) (s : Moment) (before : Mote) (acts : List Act) : Type 0 where
-  Interrupted : (after : Mote) → acts ≡ Interrupt before after ∷ [] → s.due ≡ true → AreOfStep image s before acts
+  Interrupted : (after : Mote) → acts ≡ Interrupt before after ∷ [] → is_taken s ≡ true → AreOfStep image s before acts
   There : IsPlaceOf image before.flash.words s.now.cpu.pc before.cpu.pc → AreOwn acts → AreOfStep image s before acts
   Arriving : (made ops : ℕ) → (there : Mote) → (own : List Act) → acts ≡ Arrival s.now.cpu.pc made ops before there ∷ own → AreOwn own → AreOfStep image s before acts
 

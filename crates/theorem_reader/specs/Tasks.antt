@@ -144,6 +144,10 @@ pub data AreRun (sink : Sink) (asked : AskedTasks) (status : ℕ) (taken : List 
   Ended : (t : Tasks) → AreApart sink asked status taken t → kept ≡ None → tasks ≡ Some t → AreRun sink asked status taken kept tasks
   Cut : (t : Tasks) → sink ≡ Fails → AreCutShort asked status taken t → kept ≡ None → tasks ≡ Some t → AreRun sink asked status taken kept tasks
 
+-- the words aren't those of `tasks`
+abbrev pub AsksNoTasks : (words : List (List ℕ)) → Type 0
+AsksNoTasks words = (options : TaskOptions) → ¬ IsCommand words (TasksCommand options)
+
 -- The words are those of `tasks` with these options; the text is a HEX text of the image, in which only the programs have
 -- words, and behind it a script of theirs.
 pub record AsksTasks (words : List (List ℕ)) (text : List ℕ) (asked : AskedTasks) : Type 0 where

@@ -1,5 +1,5 @@
 -- How a text is told: by a sink that takes all of it, or by one that fails, since it has no room for all; and a source that fails.
-use Rattle.std.specs.Prelude.{◌≡◌, ◌⊎◌, ℕ, ◌<◌, ◌≤◌, List, length, take}
+use Rattle.std.specs.Prelude.{◌≡◌, ◌⊎◌, ℕ, ◌<◌, ◌≤◌, List, [], length, take}
 use Rattle.tk_io.specs.Memory.{SinkState}
 
 -- the sink takes so many bytes in all, and counted no fault unless it has taken them
@@ -12,6 +12,10 @@ pub record IsRoomy (room : ℕ) (out : SinkState) : Type 0 where
 pub record BrokenState : Type 0 where
   pub left : List ℕ
   pub faults : ℕ
+
+-- it failed only where nothing was left
+abbrev pub FailsBehind : BrokenState → Type 0
+FailsBehind s = (s.faults ≡ 0) ⊎ (s.left ≡ [])
 
 -- whether the sink took all that it was given
 pub data Sink : Type 0 where

@@ -1,12 +1,13 @@
 //! A source that fails, and what is answered over it.
-ghost use Rattle.std.specs.Prelude.{◌≡◌, ◌↔◌, ◌≤◌, ℕ, [], ◌∷◌, ◌++◌, codes, length, None, Some, IsErr, IfOk, map, string_bytes};
+ghost use Rattle.std.specs.Prelude.{◌≡◌, ◌↔◌, ◌<◌, ◌≤◌, ℕ, [], ◌∷◌, ◌++◌, codes, length, None, Some, IsErr, IfOk, map, string_bytes};
 ghost use Rattle.std.specs.Io.{ReadsAtMost};
 ghost use Rattle.std.specs.Io.KnownBytes.{ReadConsumes, WriteAppends};
 ghost use Rattle.byte_streams.specs.Faults.{HasCause};
 ghost use Rattle.printed_text.specs.PlainLines.{usage_line};
 ghost use Rattle.theorem_reader.specs.Refusals.{IsSaid, IsUsage, ReadsText};
 ghost use Rattle.theorem_reader.specs.Runs.{AsksGenerate, generated_by, IsRun};
-ghost use Rattle.theorem_reader.specs.Telling.{BrokenState, IsSo};
+ghost use Rattle.theorem_reader.specs.Tasks.{AsksNoTasks};
+ghost use Rattle.theorem_reader.specs.Telling.{BrokenState, FailsBehind, IsSo};
 
 use crate::reader::Told;
 use crate::room::RoomySink;
@@ -28,6 +29,10 @@ impl Model for BrokenSource {
     ghost Value = { BrokenState };
 
     ghost view = { λ s. record { left = s.source; faults = s.faults } };
+
+    ghost use Rattle.theorem_reader.specs.Telling.{FailsBehind};
+
+    ghost invariant = { λ s. FailsBehind (record { left = s.source; faults = s.faults }) };
 }
 
 impl BrokenSource {
@@ -39,6 +44,13 @@ impl BrokenSource {
             source: MemSource::new(bytes),
             faults: 0,
         }
+    }
+
+    /// It failed only behind its bytes, as its type keeps it; a look at what is left tells so to the proof.
+    fn keeps_behind(&self)
+        ensures behind { FailsBehind self.now }
+    {
+        let _ = self.source.left();
     }
 }
 
@@ -71,16 +83,20 @@ pub fn run_broken<const ROOM: usize>(
     text: Vec<u8>,
 ) -> Result<Told<ROOM>, NoMemory>
     ensures fault { ReadsText (map string_bytes words.now) → length text.items ≤ 2097152
-        → IfOk result (λ told. IsSo ROOM told.out (λ sink. IsSaid sink 5 (codes "read fault\n") told.status told.out.taken told.kept)) }
+        → IfOk result (λ told. IsSo ROOM told.out (λ sink. IsSaid sink 5 (codes "read fault\n") told.status told.out.taken told.kept told.tasks)) }
+    ensures long { ReadsText (map string_bytes words.now) → 2097152 < length text.items
+        → IfOk result (λ told. IsSo ROOM told.out (λ sink. IsSaid sink 3 (codes "input too long\n") told.status told.out.taken told.kept told.tasks)) }
     ensures generate { IfOk result (λ told. (seed : ℕ) → AsksGenerate (map string_bytes words.now) seed
         → IsSo ROOM told.out (λ sink. IsRun sink (generated_by seed) told.status told.out.taken told.kept)) }
     ensures usage { IfOk result (λ told. (own : ℕ) → IsUsage (map string_bytes words.now) own
-        → IsSo ROOM told.out (λ sink. IsSaid sink own usage_line told.status told.out.taken told.kept)) }
+        → IsSo ROOM told.out (λ sink. IsSaid sink own usage_line told.status told.out.taken told.kept told.tasks)) }
+    ensures no_tasks { IfOk result (λ told. AsksNoTasks (map string_bytes words.now) → told.tasks ≡ None) }
 {
     let mut input = BrokenSource::new(text);
     let mut out = RoomySink::new(alloc)?;
     let exit = tkernel(alloc, words, &mut input, &mut out);
     out.keeps_room();
+    input.keeps_behind();
     let status = exit.status.number();
     Ok(Told {
         status,

@@ -76,7 +76,7 @@ pub fn check_example<const ROOM: usize>(alloc: Global) -> Result<Told<ROOM>, NoM
 
 /// The HEX text of this program, of its source.
 pub fn asm_example<const ROOM: usize>(alloc: Global) -> Result<Told<ROOM>, NoMemory>
-    ensures asm { IfOk result (λ told. IsSo ROOM told.out (λ sink. IsAssembled sink example.image told.status told.out.taken told.kept)) }
+    ensures asm { IfOk result (λ told. IsSo ROOM told.out (λ sink. IsAssembled sink example.image told.status told.out.taken told.kept told.tasks)) }
 {
     answer_alone(alloc, "asm", SOURCE)
 }
@@ -92,49 +92,49 @@ pub fn generate_example<const ROOM: usize>(alloc: Global) -> Result<Told<ROOM>, 
 
 /// The usage.
 pub fn help_example<const ROOM: usize>(alloc: Global) -> Result<Told<ROOM>, NoMemory>
-    ensures help { IfOk result (λ told. IsSo ROOM told.out (λ sink. IsSaid sink 0 usage_line told.status told.out.taken told.kept)) }
+    ensures help { IfOk result (λ told. IsSo ROOM told.out (λ sink. IsSaid sink 0 usage_line told.status told.out.taken told.kept told.tasks)) }
 {
     answer_alone(alloc, "help", &[])
 }
 
 /// What is wrong with a text that is no HEX text.
 pub fn bad_hex_example<const ROOM: usize>(alloc: Global) -> Result<Told<ROOM>, NoMemory>
-    ensures bad { IfOk result (λ told. IsSo ROOM told.out (λ sink. IsSaid sink 3 (bad_line (codes "hex") 1 (codes "start")) told.status told.out.taken told.kept)) }
+    ensures bad { IfOk result (λ told. IsSo ROOM told.out (λ sink. IsSaid sink 3 (bad_line (codes "hex") 1 (codes "start")) told.status told.out.taken told.kept told.tasks)) }
 {
     answer_alone(alloc, "run", SOURCE)
 }
 
 /// What is wrong with a text that is no source.
 pub fn bad_source_example<const ROOM: usize>(alloc: Global) -> Result<Told<ROOM>, NoMemory>
-    ensures bad { IfOk result (λ told. IsSo ROOM told.out (λ sink. IsSaid sink 3 (bad_line (codes "asm") 1 (codes "form")) told.status told.out.taken told.kept)) }
+    ensures bad { IfOk result (λ told. IsSo ROOM told.out (λ sink. IsSaid sink 3 (bad_line (codes "asm") 1 (codes "form")) told.status told.out.taken told.kept told.tasks)) }
 {
     answer_alone(alloc, "asm", HEX)
 }
 
 /// What is wrong with a script.
 pub fn bad_script_example<const ROOM: usize>(alloc: Global) -> Result<Told<ROOM>, NoMemory>
-    ensures bad { IfOk result (λ told. IsSo ROOM told.out (λ sink. IsSaid sink 3 (bad_line (codes "script") 1 (codes "form")) told.status told.out.taken told.kept)) }
+    ensures bad { IfOk result (λ told. IsSo ROOM told.out (λ sink. IsSaid sink 3 (bad_line (codes "script") 1 (codes "form")) told.status told.out.taken told.kept told.tasks)) }
 {
     answer_alone(alloc, "run", BAD_SCRIPT)
 }
 
 /// What is wrong with a script of several programs.
 pub fn bad_task_script_example<const ROOM: usize>(alloc: Global) -> Result<Told<ROOM>, NoMemory>
-    ensures bad { IfOk result (λ told. IsSo ROOM told.out (λ sink. IsSaid sink 3 (bad_line (codes "script") 1 (codes "form")) told.status told.out.taken told.kept)) }
+    ensures bad { IfOk result (λ told. IsSo ROOM told.out (λ sink. IsSaid sink 3 (bad_line (codes "script") 1 (codes "form")) told.status told.out.taken told.kept told.tasks)) }
 {
     answer_tasks(alloc, BAD_TASK_SCRIPT)
 }
 
 /// What is wrong with an image of several programs.
 pub fn bad_task_image_example<const ROOM: usize>(alloc: Global) -> Result<Told<ROOM>, NoMemory>
-    ensures bad { IfOk result (λ told. IsSo ROOM told.out (λ sink. IsSaid sink 3 (codes "bad task image 0x0FFE\n") told.status told.out.taken told.kept)) }
+    ensures bad { IfOk result (λ told. IsSo ROOM told.out (λ sink. IsSaid sink 3 (codes "bad task image 0x0FFE\n") told.status told.out.taken told.kept told.tasks)) }
 {
     answer_tasks(alloc, BAD_TASK_IMAGE)
 }
 
 /// What is wrong with a dump.
 pub fn bad_dump_example<const ROOM: usize>(alloc: Global) -> Result<Told<ROOM>, NoMemory>
-    ensures bad { IfOk result (λ told. IsSo ROOM told.out (λ sink. IsSaid sink 3 (bad_line (codes "dump") 1 (codes "form")) told.status told.out.taken told.kept)) }
+    ensures bad { IfOk result (λ told. IsSo ROOM told.out (λ sink. IsSaid sink 3 (bad_line (codes "dump") 1 (codes "form")) told.status told.out.taken told.kept told.tasks)) }
 {
     answer_alone(alloc, "check", BAD_DUMP)
 }
@@ -142,14 +142,14 @@ pub fn bad_dump_example<const ROOM: usize>(alloc: Global) -> Result<Told<ROOM>, 
 /// Any text that is too long.
 pub fn long_example<const ROOM: usize>(alloc: Global, text: &[u8]) -> Result<Told<ROOM>, NoMemory>
     ensures long { 2097152 < length text.now
-        → IfOk result (λ told. IsSo ROOM told.out (λ sink. IsSaid sink 3 (codes "input too long\n") told.status told.out.taken told.kept)) }
+        → IfOk result (λ told. IsSo ROOM told.out (λ sink. IsSaid sink 3 (codes "input too long\n") told.status told.out.taken told.kept told.tasks)) }
 {
     answer_alone(alloc, "asm", text)
 }
 
 /// This program's run, where its text can't be read to the end.
 pub fn broken_example<const ROOM: usize>(alloc: Global) -> Result<Told<ROOM>, NoMemory>
-    ensures fault { IfOk result (λ told. IsSo ROOM told.out (λ sink. IsSaid sink 5 (codes "read fault\n") told.status told.out.taken told.kept)) }
+    ensures fault { IfOk result (λ told. IsSo ROOM told.out (λ sink. IsSaid sink 5 (codes "read fault\n") told.status told.out.taken told.kept told.tasks)) }
 {
     let bytes = bytes_of(alloc, HEX)?;
     let word = word_of(alloc, "run")?;
@@ -165,9 +165,9 @@ fn answer_alone<const ROOM: usize>(
     ensures check { IfOk result (λ told. (image flash : List ℕ) → AsksCheck (command.now ∷ []) text.now image flash
         → IsSo ROOM told.out (λ sink. IsChecked sink image flash told.status told.out.taken told.kept)) }
     ensures asm { IfOk result (λ told. (image : List ℕ) → AsksAsm (command.now ∷ []) text.now image
-        → IsSo ROOM told.out (λ sink. IsAssembled sink image told.status told.out.taken told.kept)) }
+        → IsSo ROOM told.out (λ sink. IsAssembled sink image told.status told.out.taken told.kept told.tasks)) }
     ensures refused { IfOk result (λ told. (own : ℕ) (line : List ℕ) → IsRefused (command.now ∷ []) text.now own line
-        → IsSo ROOM told.out (λ sink. IsSaid sink own line told.status told.out.taken told.kept)) }
+        → IsSo ROOM told.out (λ sink. IsSaid sink own line told.status told.out.taken told.kept told.tasks)) }
 {
     let bytes = bytes_of(alloc, text)?;
     let word = word_of(alloc, command)?;
@@ -179,7 +179,7 @@ fn answer_tasks<const ROOM: usize>(alloc: Global, text: &[u8]) -> Result<Told<RO
     ensures tasks { IfOk result (λ told. (asked : AskedTasks) → AsksTasks words_of_tasks text.now asked
         → IsSo ROOM told.out (λ sink. AreRun sink asked told.status told.out.taken told.kept told.tasks)) }
     ensures refused { IfOk result (λ told. (own : ℕ) (line : List ℕ) → IsRefused words_of_tasks text.now own line
-        → IsSo ROOM told.out (λ sink. IsSaid sink own line told.status told.out.taken told.kept)) }
+        → IsSo ROOM told.out (λ sink. IsSaid sink own line told.status told.out.taken told.kept told.tasks)) }
 {
     let bytes = bytes_of(alloc, text)?;
     let words = [

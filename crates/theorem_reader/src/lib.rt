@@ -1,12 +1,12 @@
 //! The theorem of the whole program, held from above: runs over streams in memory, whose contracts say in lists and
-//! numbers what a user relies on. No definition of the crates below stands in what they conclude, but the original
-//! program's machine and the programs in turn, the mote's instruction, the types of both, and the form and links of a page;
-//! so one that is weakened there, and that they rest on, is refused here.
+//! numbers what a user relies on. Of the crates below only what is listed here stands in what they conclude: so any other
+//! definition there that is weakened, and that they rest on, is refused here.
 //!
 //! To read: `specs/Telling` (how a text is told, by a sink with room for it or without, and a source that fails),
 //! `specs/Runs` (what a run leaves; begin at `IsRun`), `specs/Ends` (the end that is kept), `specs/Acts` (what the machine
 //! did), `specs/Steps` (which acts each step of the original program is), `specs/MoreSteps` (what more of them leave),
-//! `specs/Pools` (what stands in flash), `specs/Memory` (where the program's bytes are), `specs/Texts` (the printed lines);
+//! `specs/ByCode` (nothing is done without rewritten code), `specs/Pools` (what stands in flash), `specs/Memory` (where the
+//! program's bytes are), `specs/Texts` (the printed lines), `specs/Words` (what words mean);
 //! then `specs/Dumps` (the flash that a run leaves), `specs/Restarts` (what is kept of a flash behind a loss of power),
 //! `specs/Tasks` and `specs/Stints` (several programs on one mote), `specs/Checks` (what is said of a flash), and
 //! `specs/Refusals` (words and texts that are refused, and `asm`). Names that stand there and come from elsewhere:
@@ -15,12 +15,13 @@
 //!   `lines` (the writes to outputs), and `state`, where `now` has the core (r0 to r31, SREG, SP, pc), the memory, the
 //!   devices, and the numbers of steps and of crossings, which are steps back, onto themselves, or to another page of 128 words.
 //! - `HexText text image position`, `IsScript text schedule`, `IsCommand words command`: the text of a HEX file up to a
-//!   position, of a script, and the words of a command, as docs/FORMATS.md tells them.
+//!   position, of a script, and the words of a command, as docs/FORMATS.md tells them; `written image`, the text of a HEX
+//!   file, and `usage_line`, `hex_word` and their like, what is printed of faults.
 //! - `Schedules count lines schedules`, `IsMisplaced count image address`: the script of so many programs, and that a word
 //!   stands in their image where none may, as docs/TASKS.md tells them.
 //! - `HasForm`, `HasLinks`: what a page of flash must be by itself, and what it owes to the others (docs/LOADER.md).
 //! - `Mote`: a modelled ATmega128, that is its core, SRAM, flash, devices, and a swap area beside it. `exec_of` is what an
-//!   instruction does, `the_form` what two words mean (docs/ATMEGA128.md).
+//!   instruction does, `the_form` what two words mean (docs/ATMEGA128.md): by `specs/Words`, what the manual's table has.
 //! - `fault_of text`, `AsmText text image`: what is wrong with a source, and its words, as docs/ASSEMBLER.md tells them.
 //! - `once programs p`, `tries count programs`, `turns programs`: what several programs tell in turn, each over a flat memory of
 //!   its own, in one try, of p, in so many, or until each has ended (docs/TASKS.md).
@@ -41,6 +42,8 @@ pub use example::{
     bad_task_image_example, bad_task_script_example, broken_example, check_example, dump_example,
     generate_example, help_example, long_example, restart_example, run_example, tasks_example,
 };
-pub use laws::more_steps_take_nothing_back;
+pub use laws::{
+    more_steps_take_nothing_back, no_step_without_rewritten_code, words_mean_what_the_table_has,
+};
 pub use reader::{Told, longest_wait, run_image, run_text};
 pub use room::RoomySink;

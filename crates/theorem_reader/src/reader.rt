@@ -1,11 +1,11 @@
 //! Runs over streams in memory.
-ghost use Rattle.std.specs.Prelude.{◌≡◌, ◌*◌, ℕ, List, IfOk, map, string_bytes};
+ghost use Rattle.std.specs.Prelude.{◌≡◌, ◌*◌, ℕ, List, None, IfOk, map, string_bytes};
 ghost use Rattle.theorem_reader.specs.Checks.{AsksCheck, IsChecked};
 ghost use Rattle.theorem_reader.specs.Dumps.{AsksDump, IsDumped};
 ghost use Rattle.theorem_reader.specs.Refusals.{IsRefused, IsSaid, AsksAsm, IsAssembled};
 ghost use Rattle.theorem_reader.specs.Restarts.{AsksRestart, IsRestarted};
 ghost use Rattle.theorem_reader.specs.Runs.{Asked, Asks, AsksGenerate, generated_by, IsRun, plainly};
-ghost use Rattle.theorem_reader.specs.Tasks.{AreRun, AskedTasks, AsksTasks};
+ghost use Rattle.theorem_reader.specs.Tasks.{AreRun, AskedTasks, AsksNoTasks, AsksTasks};
 ghost use Rattle.theorem_reader.specs.Telling.{IsSo};
 
 use crate::room::RoomySink;
@@ -47,11 +47,12 @@ pub fn run_text<const ROOM: usize>(
     ensures check { IfOk result (λ told. (image flash : List ℕ) → AsksCheck (map string_bytes words.now) text.items image flash
         → IsSo ROOM told.out (λ sink. IsChecked sink image flash told.status told.out.taken told.kept)) }
     ensures asm { IfOk result (λ told. (image : List ℕ) → AsksAsm (map string_bytes words.now) text.items image
-        → IsSo ROOM told.out (λ sink. IsAssembled sink image told.status told.out.taken told.kept)) }
+        → IsSo ROOM told.out (λ sink. IsAssembled sink image told.status told.out.taken told.kept told.tasks)) }
     ensures generate { IfOk result (λ told. (seed : ℕ) → AsksGenerate (map string_bytes words.now) seed
         → IsSo ROOM told.out (λ sink. IsRun sink (generated_by seed) told.status told.out.taken told.kept)) }
     ensures refused { IfOk result (λ told. (own : ℕ) (line : List ℕ) → IsRefused (map string_bytes words.now) text.items own line
-        → IsSo ROOM told.out (λ sink. IsSaid sink own line told.status told.out.taken told.kept)) }
+        → IsSo ROOM told.out (λ sink. IsSaid sink own line told.status told.out.taken told.kept told.tasks)) }
+    ensures no_tasks { IfOk result (λ told. AsksNoTasks (map string_bytes words.now) → told.tasks ≡ None) }
 {
     let mut input = MemSource::new(text);
     let mut out = RoomySink::new(alloc)?;

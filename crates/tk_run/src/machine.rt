@@ -219,7 +219,7 @@ impl Machine {
         requires running { self.old.broken ≡ false }
         requires steps { self.old.steps + n ≤ 10 ^ 12 }
         ensures advanced { HasAdvanced self.old self.new n (K.taken out.old) (K.taken out.new) result }
-        // However long it goes on, no line waits for more than 65,536 steps.
+        // At each 65,536 steps there was a value of the sink that had taken the lines of just the steps up to there.
         ensures turns { GoOutInTurn K.taken self.old out.old (self.new.steps - self.old.steps) }
         ensures cause { HasCause (K.faults out.old) (K.faults out.new) result }
     {

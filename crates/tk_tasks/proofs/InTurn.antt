@@ -1,20 +1,19 @@
 -- What goes out in turn.
 use Rattle.std.proofs.Common.{◌≡◌, ℕ, ◌+◌, ◌-◌, ◌*◌, ◌%◌, ◌≤◌, List, [], ◌++◌, length, sym, ap, ◌∙◌, subst, arith, append-nil, length-append, inl, inr}
-use Rattle.std.specs.Prelude.{Option, Result, Ok, Err}
+use Rattle.std.specs.Prelude.{Option}
 use Rattle.std.proofs.lemmas.Bool.{cases_lt}
 use Rattle.std.specs.Io.KnownBytes.{Appends}
 use Rattle.byte_streams.specs.Streams.{IsSent}
-use Rattle.byte_streams.specs.declared.failure.Failed.{Failed}
 use Rattle.byte_streams.proofs.KnownBytes.{appends-nothing}
 use Rattle.line_gathering.specs.Gathering.{turn_steps}
 use Rattle.line_gathering.proofs.Gathered.{all_on, sent_on}
-use Rattle.task_turns.specs.Turns.{Told, After, tries, HaveEnded}
+use Rattle.task_turns.specs.Turns.{Told, After, tries}
 use Rattle.tk_tasks.specs.States.{Tasks, turns_of}
-use Rattle.tk_tasks.specs.Plays.{Play, IfDone, told_of, told_text}
-use Rattle.tk_tasks.specs.InTurn.{HadAllTold, GoOutInTurn, AllGoOutInTurn}
+use Rattle.tk_tasks.specs.Plays.{Play, TaskPath, told_of, told_text}
+use Rattle.tk_tasks.specs.InTurn.{HadAllTold, GoOutInTurn, WentOutInTurn}
 use Rattle.tk_tasks.specs.Running.{IsUnderWay}
 use Rattle.tk_tasks.specs.Trying.{HasPlayed}
-use Rattle.tk_tasks.proofs.Paths.{path_tries, more_tries}
+use Rattle.tk_tasks.proofs.Paths.{path_tries}
 
 -- behind the tries so far, with nothing gathered since
 went_out : {K : Type 0} (taken : K → Option (List ℕ)) (n : ℕ) (old now : Tasks) (before after later : K) (gathered left : List ℕ) → (way : IsUnderWay n old now gathered (taken before) (taken after)) → IsSent (gathered ++ []) left (taken after) (taken later) → left ≡ []
@@ -47,20 +46,10 @@ told_on_turns taken n old now new before after later done count gathered left to
 pub counts_on : (done count : ℕ) (before played : List Play) → done ≡ length before % turn_steps → length played ≡ count → (done + count) % turn_steps ≡ length (before ++ played) % turn_steps
 counts_on done count before played is counted = omega (arith, is, counted, length-append before played)
 
--- where all have ended
-pub all_in_turn : {K : Type 0} (taken : K → Option (List ℕ)) (n : ℕ) (old now : Tasks) (before after : K) (gathered : List ℕ) → (way : IsUnderWay n old now gathered (taken before) (taken after)) → GoOutInTurn taken n old before (length way.plays) → HaveEnded (turns_of n now)
-    → AllGoOutInTurn taken n old before
-all_in_turn taken n old now before after gathered way turns ended turn going =
-    let t0 = turns_of n old in
-    let k = length way.plays in
-    let over : HaveEnded (tries k t0).turns = subst (λ (a : After). HaveEnded a.turns) (sym (path_tries n old way.plays now way.path)) ended in
-    elim (cases_lt (turn_steps * turn) k) [
-      | inl earlier ↦ turns turn earlier
-      | inr later ↦
-          let more : k + (turn_steps * turn - k) ≡ turn_steps * turn = omega (arith, later) in
-          absurd (going (subst (λ j. HaveEnded (tries j t0).turns) more (subst (λ (a : After). HaveEnded a.turns) (sym (more_tries k (turn_steps * turn - k) t0 over)) over)))
-    ]
-
-pub if_done : (result : Result (Unit {0}) Failed) (holds : Type 0) → holds → IfDone result holds
-if_done (Ok done) holds it = it
-if_done (Err e) holds it = tt
+-- where the tasks stand, and what went out by then
+pub went_out_by : {K : Type 0} (taken : K → Option (List ℕ)) (n : ℕ) (old now : Tasks) (before : K) (plays : List Play) → TaskPath n old plays now → GoOutInTurn taken n old before (length plays) → WentOutInTurn taken n old now before
+went_out_by taken n old now before plays path turns = record {
+  count = length plays;
+  stand = ap (λ (a : After). a.turns) (path_tries n old plays now path);
+  turns = turns;
+}

@@ -1,8 +1,8 @@
 -- When lines of tasks go out: at each multiple of 65,536 tries all that was told by then has (docs/TASKS.md, "A run on the mote").
-use Rattle.std.specs.Prelude.{ℕ, ◌*◌, ◌<◌, List, Option}
+use Rattle.std.specs.Prelude.{◌≡◌, ℕ, ◌*◌, ◌<◌, List, Option}
 use Rattle.std.specs.Io.KnownBytes.{Appends}
 use Rattle.line_gathering.specs.Gathering.{turn_steps}
-use Rattle.task_turns.specs.Turns.{tries, HaveEnded}
+use Rattle.task_turns.specs.Turns.{tries}
 use Rattle.tk_tasks.specs.States.{Tasks, turns_of}
 use Rattle.tk_tasks.specs.Plays.{told_text}
 
@@ -15,6 +15,8 @@ pub record HadAllTold {K : Type 0} (taken : K → Option (List ℕ)) (n : ℕ) (
 abbrev pub GoOutInTurn : {K : Type 0} → (K → Option (List ℕ)) → ℕ → Tasks → K → ℕ → Type 0
 GoOutInTurn taken n old before count = (turn : ℕ) → turn_steps * turn < count → HadAllTold taken n old before (turn_steps * turn)
 
--- .. at each turn until all have ended
-abbrev pub AllGoOutInTurn : {K : Type 0} → (K → Option (List ℕ)) → ℕ → Tasks → K → Type 0
-AllGoOutInTurn taken n old before = (turn : ℕ) → ¬ HaveEnded (tries (turn_steps * turn) (turns_of n old)).turns → HadAllTold taken n old before (turn_steps * turn)
+-- .. at each turn in the tries that lead to where the tasks stand now
+pub record WentOutInTurn {K : Type 0} (taken : K → Option (List ℕ)) (n : ℕ) (old new : Tasks) (before : K) : Type 0 where
+  pub count : ℕ
+  pub stand : (tries count (turns_of n old)).turns ≡ turns_of n new
+  pub turns : GoOutInTurn taken n old before count

@@ -6,8 +6,8 @@ ghost use Rattle.line_gathering.specs.Gathering.{Gathers};
 ghost use Rattle.parked_tasks.specs.declared.task.Task.{Task as TaskOf};
 ghost use Rattle.page_cursor.specs.Cursors.{IsCursor};
 ghost use Rattle.tk_tasks.specs.States.{AreSound};
-ghost use Rattle.tk_tasks.specs.InTurn.{AllGoOutInTurn};
-ghost use Rattle.tk_tasks.specs.Plays.{HasRunTasks, IfDone, told_text};
+ghost use Rattle.tk_tasks.specs.InTurn.{WentOutInTurn};
+ghost use Rattle.tk_tasks.specs.Plays.{HasRunTasks, told_text};
 ghost use Rattle.tk_tasks.specs.Trying.{tried_told};
 ghost use Rattle.tk_tasks.specs.Running.{end_shown_of, HaveGathered};
 
@@ -75,8 +75,9 @@ impl Tasks {
         requires switches { self.old.switches ≡ 0 }
         requires steps { n ≤ 10 ^ 9 }
         ensures run { HasRunTasks n self.old self.new (K.taken out.old) (K.taken out.new) result }
-        // However long it goes on, nothing that is told waits for more than 65,536 tries.
-        ensures turns { IfDone result (AllGoOutInTurn K.taken n self.old out.old) }
+        // At each 65,536 tries there was a value of the sink that had taken just what the tries up to there tell, whether or not it
+        // failed behind that.
+        ensures turns { WentOutInTurn K.taken n self.old self.new out.old }
         ensures sound { AreSound self.new }
         ensures cause { HasCause (K.faults out.old) (K.faults out.new) result }
     {
@@ -97,7 +98,7 @@ fn put_plays<K: Sink>(t: &mut Tasks, n: u64, out: &mut K) -> Result<(), Failed>
     requires switches { t.old.switches ≡ 0 }
     requires steps { n ≤ 10 ^ 9 }
     ensures gathered { HaveGathered n t.old t.new [] (K.taken out.old) (K.taken out.new) result }
-    ensures turns { IfDone result (AllGoOutInTurn K.taken n t.old out.old) }
+    ensures turns { WentOutInTurn K.taken n t.old t.new out.old }
     ensures sound { AreSound t.new }
     ensures whole { t.new.broken ≡ false }
     ensures cause { HasCause (K.faults out.old) (K.faults out.new) result }
@@ -121,7 +122,7 @@ fn put_plays_by<K: Sink>(
     requires switches { t.old.switches ≡ 0 }
     requires steps { n ≤ 10 ^ 9 }
     ensures gathered { HaveGathered n t.old t.new [] (K.taken out.old) (K.taken out.new) result }
-    ensures turns { IfDone result (AllGoOutInTurn K.taken n t.old out.old) }
+    ensures turns { WentOutInTurn K.taken n t.old t.new out.old }
     ensures sound { AreSound t.new }
     ensures whole { t.new.broken ≡ false }
     ensures cause { HasCause (K.faults out.old) (K.faults out.new) result }
@@ -146,7 +147,7 @@ fn gathered_plays<K: Sink>(
     requires steps { n ≤ 10 ^ 9 }
     requires empty { gathered.old.items ≡ [] }
     ensures gathered { HaveGathered n t.old t.new gathered.new.items (K.taken out.old) (K.taken out.new) result }
-    ensures turns { IfDone result (AllGoOutInTurn K.taken n t.old out.old) }
+    ensures turns { WentOutInTurn K.taken n t.old t.new out.old }
     ensures sound { AreSound t.new }
     ensures whole { t.new.broken ≡ false }
     ensures cause { HasCause (K.faults out.old) (K.faults out.new) result }
@@ -175,7 +176,7 @@ fn all_plays_anew<K: Sink>(
     requires steps { n ≤ 10 ^ 9 }
     requires empty { gathered.old.items ≡ [] }
     ensures gathered { HaveGathered n t.old t.new gathered.new.items (K.taken out.old) (K.taken out.new) result }
-    ensures turns { IfDone result (AllGoOutInTurn K.taken n t.old out.old) }
+    ensures turns { WentOutInTurn K.taken n t.old t.new out.old }
     ensures sound { AreSound t.new }
     ensures whole { t.new.broken ≡ false }
     ensures cause { HasCause (K.faults out.old) (K.faults out.new) result }
@@ -199,7 +200,7 @@ fn all_plays<K: Sink>(
     requires cursor { IsCursor t.old.kernel.layout t.old.kernel.mote.flash.words cursor.old }
     requires empty { gathered.old.items ≡ [] }
     ensures gathered { HaveGathered n t.old t.new gathered.new.items (K.taken out.old) (K.taken out.new) result }
-    ensures turns { IfDone result (AllGoOutInTurn K.taken n t.old out.old) }
+    ensures turns { WentOutInTurn K.taken n t.old t.new out.old }
     ensures sound { AreSound t.new }
     ensures whole { t.new.broken ≡ false }
     ensures cause { HasCause (K.faults out.old) (K.faults out.new) result }

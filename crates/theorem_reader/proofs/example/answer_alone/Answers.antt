@@ -11,8 +11,8 @@ returns g c =
     record {
       check = told_at c.run_text.result (λ words text told. (image flash : List ℕ) → AsksCheck words text image flash → IsSo g.row.ROOM told.out (λ sink. IsChecked sink image flash told.status told.out.taken told.kept))
           _ _ _ _ words c.in_ok-bytes.ensures.same c.run_text.ensures.check;
-      asm = told_at c.run_text.result (λ words text told. (image : List ℕ) → AsksAsm words text image → IsSo g.row.ROOM told.out (λ sink. IsAssembled sink image told.status told.out.taken told.kept))
+      asm = told_at c.run_text.result (λ words text told. (image : List ℕ) → AsksAsm words text image → IsSo g.row.ROOM told.out (λ sink. IsAssembled sink image told.status told.out.taken told.kept told.tasks))
           _ _ _ _ words c.in_ok-bytes.ensures.same c.run_text.ensures.asm;
-      refused = told_at c.run_text.result (λ words text told. (own : ℕ) (line : List ℕ) → IsRefused words text own line → IsSo g.row.ROOM told.out (λ sink. IsSaid sink own line told.status told.out.taken told.kept))
+      refused = told_at c.run_text.result (λ words text told. (own : ℕ) (line : List ℕ) → IsRefused words text own line → IsSo g.row.ROOM told.out (λ sink. IsSaid sink own line told.status told.out.taken told.kept told.tasks))
           _ _ _ _ words c.in_ok-bytes.ensures.same c.run_text.ensures.refused;
     }

@@ -12,6 +12,6 @@ returns g c =
     record {
       tasks = told_at c.run_text.result (λ words text told. (asked : AskedTasks) → AsksTasks words text asked → IsSo g.row.ROOM told.out (λ sink. AreRun sink asked told.status told.out.taken told.kept told.tasks))
           _ _ _ _ words c.in_ok-bytes.ensures.same c.run_text.ensures.tasks;
-      refused = told_at c.run_text.result (λ words text told. (own : ℕ) (line : List ℕ) → IsRefused words text own line → IsSo g.row.ROOM told.out (λ sink. IsSaid sink own line told.status told.out.taken told.kept))
+      refused = told_at c.run_text.result (λ words text told. (own : ℕ) (line : List ℕ) → IsRefused words text own line → IsSo g.row.ROOM told.out (λ sink. IsSaid sink own line told.status told.out.taken told.kept told.tasks))
           _ _ _ _ words c.in_ok-bytes.ensures.same c.run_text.ensures.refused;
     }

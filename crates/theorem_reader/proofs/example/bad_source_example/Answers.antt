@@ -7,5 +7,5 @@ use Rattle.theorem_reader.proofs.example.bad_source_example.Goals as goal
 
 pub returns : goal.returns
 returns g c = record {
-  bad = told_pair c.answer_alone.result (λ own line. IsRefused _ _ own line) (λ own line told. IsSo g.row.ROOM told.out (λ sink. IsSaid sink own line told.status told.out.taken told.kept)) 3 (bad_line (codes "asm") 1 (codes "form")) bad_source c.answer_alone.ensures.refused;
+  bad = told_pair c.answer_alone.result (λ own line. IsRefused _ _ own line) (λ own line told. IsSo g.row.ROOM told.out (λ sink. IsSaid sink own line told.status told.out.taken told.kept told.tasks)) 3 (bad_line (codes "asm") 1 (codes "form")) bad_source c.answer_alone.ensures.refused;
 }

@@ -7,5 +7,5 @@ use Rattle.theorem_reader.proofs.example.bad_task_image_example.Goals as goal
 
 pub returns : goal.returns
 returns g c = record {
-  bad = told_pair c.answer_tasks.result (λ own line. IsRefused _ _ own line) (λ own line told. IsSo g.row.ROOM told.out (λ sink. IsSaid sink own line told.status told.out.taken told.kept)) 3 (codes "bad task image 0x0FFE\n") bad_task_image c.answer_tasks.ensures.refused;
+  bad = told_pair c.answer_tasks.result (λ own line. IsRefused _ _ own line) (λ own line told. IsSo g.row.ROOM told.out (λ sink. IsSaid sink own line told.status told.out.taken told.kept told.tasks)) 3 (codes "bad task image 0x0FFE\n") bad_task_image c.answer_tasks.ensures.refused;
 }

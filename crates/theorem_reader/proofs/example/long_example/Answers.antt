@@ -7,6 +7,6 @@ use Rattle.theorem_reader.proofs.example.long_example.Goals as goal
 
 pub returns : goal.returns
 returns g c = record {
-  long = λ long. told_pair c.answer_alone.result (λ own line. IsRefused _ _ own line) (λ own line told. IsSo g.row.ROOM told.out (λ sink. IsSaid sink own line told.status told.out.taken told.kept)) 3 (codes "input too long\n")
+  long = λ long. told_pair c.answer_alone.result (λ own line. IsRefused _ _ own line) (λ own line told. IsSo g.row.ROOM told.out (λ sink. IsSaid sink own line told.status told.out.taken told.kept told.tasks)) 3 (codes "input too long\n")
       (TooLong (Source asm_word) long refl refl) c.answer_alone.ensures.refused;
 }

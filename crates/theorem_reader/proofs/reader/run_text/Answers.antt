@@ -2,6 +2,7 @@ use Rattle.std.proofs.Common.{refl, ap, Some, inl}
 use Rattle.tk_io.specs.Memory.{SinkState}
 use Rattle.cli_requests.specs.Asking.{Tells}
 use Rattle.theorem_reader.proofs.Doing.{call_of, not_risen, with_room}
+use Rattle.theorem_reader.proofs.Alone.{no_tasks}
 use Rattle.theorem_reader.proofs.Answering.{run_told, generated_told}
 use Rattle.theorem_reader.proofs.Checking.{check_told}
 use Rattle.theorem_reader.proofs.Dumping.{dump_told}
@@ -25,4 +26,5 @@ returns g c =
       asm = λ image asks. with_room g.row.ROOM _ _ c.keeps_room.ensures.room (asm_told_of _ _ _ _ _ call _ tells image asks);
       generate = λ seed asks. with_room g.row.ROOM _ _ c.keeps_room.ensures.room (generated_told _ _ _ _ _ call seed asks);
       refused = λ own line asks. with_room g.row.ROOM _ _ c.keeps_room.ensures.room (refused_told _ _ _ _ _ call _ tells own line asks);
+      no_tasks = no_tasks _ _ _ _ _ call;
     }

@@ -1,9 +1,11 @@
-use Rattle.std.proofs.Common.{◌≡◌, false, true, Bool, refl, sym, ap, ◌∙◌, arith}
+use Rattle.std.proofs.Common.{◌≡◌, ◌++◌, false, true, Bool, refl, sym, ap, ◌∙◌, arith}
 use Rattle.std.proofs.lemmas.Result.{err_from_is_err_and}
 use Rattle.tk_tasks.specs.States.{Tasks}
+use Rattle.tk_tasks.specs.Plays.{IsPlay}
 use Rattle.tk_tasks.specs.Trying.{tried_told}
+use Rattle.step_laws.proofs.Ways.{walks_on}
 use Rattle.tk_tasks.proofs.Runs.{way_start, way_cut_in_turn, way_on, way_cut, still_less, room_of, quantum_some, all_ended}
-use Rattle.tk_tasks.proofs.InTurn.{told_on_turns, counts_on, all_in_turn}
+use Rattle.tk_tasks.proofs.InTurn.{told_on_turns, counts_on, went_out_by}
 use Rattle.tk_tasks.proofs.run.all_plays.Goals as goal
 
 pub plays-init : goal.plays-init
@@ -72,14 +74,19 @@ returns-clause-gathered g c = (
 
 pub returns-in_err-send_in_turn-clause-turns : goal.returns-in_err-send_in_turn-clause-turns
 returns-in_err-send_in_turn-clause-turns g c =
-    let failed = err_from_is_err_and c.from_residual.result c.from_residual.ensures.1 in
-    rw failed.1 tt
+    went_out_by g.K.Sink.taken c.args.n c.args.t.now c.plays.t c.args.out.now c.plays.invariant.way.plays c.plays.invariant.way.path c.plays.invariant.turns
 
 pub returns-in_err-put_shown-clause-turns : goal.returns-in_err-put_shown-clause-turns
 returns-in_err-put_shown-clause-turns g c =
-    let failed = err_from_is_err_and c.from_residual-in_err-put_shown.result c.from_residual-in_err-put_shown.ensures.1 in
-    rw failed.1 tt
+    let r = c.play-shown.result in
+    let told = tried_told r.task r.line r.end r.steps r.crossings in
+    let new = c.play-shown.new.self in
+    let way = c.plays.invariant.way in
+    let played = c.play-shown.ensures.played in
+    let turns = told_on_turns g.K.Sink.taken c.args.n c.args.t.now c.plays.t new c.args.out.now c.plays.out c.send_in_turn.new.out c.plays.done r.count c.plays.gathered.items c.send_in_turn.new.gathered.items told way c.plays.invariant.turns c.plays.invariant.counted
+    c.in_ok-send_in_turn.ensures.text c.in_ok-send_in_turn.ensures.turn played (omega (arith, c.play-shown.ensures.most, c.up_to_turn.ensures.value)) in
+    went_out_by g.K.Sink.taken c.args.n c.args.t.now new c.args.out.now (way.plays ++ played.plays) (walks_on (IsPlay c.args.n) c.args.t.now c.plays.t new way.plays played.plays way.path played.path) turns
 
 pub returns-clause-turns : goal.returns-clause-turns
 returns-clause-turns g c =
-    all_in_turn g.K.Sink.taken c.args.n c.args.t.now c.plays.t c.args.out.now c.plays.out c.plays.gathered.items c.plays.invariant.way c.plays.invariant.turns (returns-clause-gathered g c).1
+    went_out_by g.K.Sink.taken c.args.n c.args.t.now c.plays.t c.args.out.now c.plays.invariant.way.plays c.plays.invariant.way.path c.plays.invariant.turns

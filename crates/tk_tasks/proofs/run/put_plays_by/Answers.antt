@@ -1,5 +1,4 @@
 use Rattle.tk_tasks.proofs.Runs.{sent_all}
-use Rattle.tk_tasks.proofs.InTurn.{if_done}
 use Rattle.tk_tasks.proofs.run.put_plays_by.Goals as goal
 
 pub returns-clause-gathered : goal.returns-clause-gathered
@@ -7,4 +6,4 @@ returns-clause-gathered g c =
     sent_all c.send.result c.args.n c.args.t.now c.gathered_plays.new.t c.gathered_plays.new.gathered.items (g.K.Sink.taken c.args.out.now) (g.K.Sink.taken c.gathered_plays.new.out) (g.K.Sink.taken c.send.new.out) c.in_ok-gathered_plays.ensures.gathered c.send.ensures.text
 
 pub returns-clause-turns : goal.returns-clause-turns
-returns-clause-turns g c = if_done c.send.result _ c.in_ok-gathered_plays.ensures.turns
+returns-clause-turns g c = c.in_ok-gathered_plays.ensures.turns

@@ -1,5 +1,6 @@
 use Rattle.std.proofs.Common.{◌≡◌, sym, ap, ◌∙◌, subst}
 use Rattle.tk_tasks.specs.States.{Tasks, AreSound}
+use Rattle.tk_tasks.specs.InTurn.{WentOutInTurn}
 use Rattle.tk_tasks.proofs.Runs.{has_run, sound_counts, counts_as}
 use Rattle.tk_tasks.proofs.tasks.Tasks.run.Goals as goal
 
@@ -17,3 +18,9 @@ returns-clause-sound g c =
     let written : Tasks → Tasks = λ u. record u { broken = c.is_err-self-inside.result; natural = c.all_counts-counts.result.natural; entries = c.all_counts-counts.result.entries } in
     subst AreSound (sym (ap written c.self.view_is))
     (sound_counts c.put_plays-result.new.t c.is_err-self-inside.result c.all_counts-counts.result.natural c.all_counts-counts.result.entries c.put_plays-result.ensures.whole c.put_plays-result.ensures.sound)
+
+pub returns-clause-turns : goal.returns-clause-turns
+returns-clause-turns g c =
+    let written : Tasks → Tasks = λ u. record u { broken = c.is_err-self-inside.result; natural = c.all_counts-counts.result.natural; entries = c.all_counts-counts.result.entries } in
+    let went = c.put_plays-result.ensures.turns in
+    subst (λ (t : Tasks). WentOutInTurn g.K.Sink.taken c.args.n c.args.self.now t c.args.out.now) (sym (ap written c.self.view_is)) (record { count = went.count; stand = went.stand; turns = went.turns })

@@ -1,0 +1,9 @@
+-- What a run does is done by rewritten code: a body that interprets the program, and tells a service that stands for it, makes no run.
+use Rattle.std.specs.Prelude.{◌≡◌}
+use Rattle.flat_machine.specs.FlatMachine.{Run}
+use Rattle.program_steps.specs.Machines.{Machine}
+use Rattle.theorem_reader.specs.Runs.{Asked, Stands}
+
+-- where no step of rewritten code is told, the original program made no step, and no service is told
+abbrev pub IsDoneByCode : Type 0
+IsDoneByCode = (asked : Asked) → (r : Run) → (m : Machine) → Stands asked r m → m.natural ≡ 0 → (m.steps ≡ 0) × (m.entries ≡ 0)
