@@ -66,7 +66,7 @@ count_behind quantum from to count = if is_crossing from to then (if count == 1 
 
 -- The original program's instruction at that address is executed, just as over flat memory: over the 65,536 bytes that the
 -- mote keeps for the program (`Memory`), the devices, and the image. From 0xF008 on the crossing is counted; at 0xF004 and
--- 0xF006 rewritten code does so. Or the program ends there, and nothing changes.
+-- 0xF006 rewritten code does so. Or nothing changes, as where the program ends there.
 pub data Executes (image : List ℕ) (quantum : ℕ) (before after : Mote) : Type 0 where
   Ends : after ≡ record before { cpu = record before.cpu { sp = 0x011F } } → Executes image quantum before after
   Done : (form : Form) → (core : Cpu) → (old new : FlatSpace) → instruction_at image (program_address before) ≡ Some form
@@ -76,7 +76,7 @@ pub data Executes (image : List ℕ) (quantum : ℕ) (before after : Mote) : Typ
       → slice_index after.sram 0 ≡ (if nat_le before.cpu.pc 0xF007 then slice_index before.sram 0 else count_behind quantum (program_address before) core.pc (slice_index before.sram 0)) → Executes image quantum before after
 
 -- A SLEEP of the program ends: the devices are as inputs leave them, with an enabled interrupt requested (`wake`), the
--- crossing to the next address is counted, and nothing else changes. Or the program ends there, and nothing changes.
+-- crossing to the next address is counted, and nothing else changes. Or nothing does, as where the program ends there.
 pub data Sleeps (quantum : ℕ) (before after : Mote) : Type 0 where
   Stays : after ≡ record before { cpu = record before.cpu { sp = 0x011F } } → Sleeps quantum before after
   Wakes : (devices : State) → wake before.devices ≡ Some devices → ((a : ℕ) → 0x0101 ≤ a → slice_index after.sram (a - 0x0100) ≡ slice_index before.sram (a - 0x0100))
@@ -110,15 +110,15 @@ pub record IsService (image : List ℕ) (quantum : ℕ) (before after : Mote) : 
   pub swap : before.cpu.pc ≢ 0xF004 → after.swap ≡ before.swap
   pub heap : (a : ℕ) → before.cpu.pc ≢ 0xF004 → 0x0120 ≤ a → a ≤ 0x0CFF → slice_index after.sram (a - 0x0100) ≡ slice_index before.sram (a - 0x0100)
 
--- An arrival that makes no page leaves flash as it is; or of the exit stub through which control came, a call of the kernel,
--- two words become a jump to where control goes on.
+-- An arrival that makes no page leaves flash as it is; or two words of it, a call of the kernel at 0xF000, as which an exit stub
+-- begins, become a jump to where control goes on.
 pub data Relinks (before after : List ℕ) (place : ℕ) : Type 0 where
   Same : after ≡ before → Relinks before after place
   Linked : (s : ℕ) → slice_index before s ≡ 0x940E → slice_index before (s + 1) ≡ 0xF000
       → after ≡ slice_set (slice_set before s 0x940C) (s + 1) place → Relinks before after place
 
 -- The page that is made: the lowest of the pool that is erased; or, where none is, the one whose number within the pool stands
--- at 0x0142 and 0x0143: they are recycled in turn.
+-- at 0x0142 and 0x0143.
 pub data IsNext (image : List ℕ) (before : Mote) (page : ℕ) : Type 0 where
   Lowest : IsErased before.flash.words page → ((lower : ℕ) → IsInPool image lower → lower < page → ¬ IsErased before.flash.words lower) → IsNext image before page
   InTurn : ((other : ℕ) → IsInPool image other → ¬ IsErased before.flash.words other)
@@ -139,7 +139,7 @@ pub data Arrives (image : List ℕ) (target made : ℕ) (before after : Mote) : 
       → (after.cpu.pc ≡ before.cpu.pc) ⊎ ((pool_from image ≤ after.cpu.pc) × (after.cpu.pc < 0xF000)) → Arrives image target made before after
 
 -- Before it flash is faithful. Registers, SREG, stack pointer, devices and swap stay; of SRAM all but 0x0142 to 0x03FF, the
--- tables of places; of flash all words outside the pool. Flash counts the operations.
+-- tables of places; of flash all words outside the pool. Its count of operations rises by so many.
 pub record IsArrival (image : List ℕ) (target made ops : ℕ) (before after : Mote) : Type 0 where
   pub sound : AreFaithful image before.flash.words
   pub page : made ≤ 1

@@ -1,4 +1,5 @@
--- What a run does is done by rewritten code: a body that interprets the program, and tells a service that stands for it, makes no run.
+-- What a run does is done by rewritten code: where no step of that is told, nothing was done. So a body that interprets the
+-- program, and tells services alone, makes no run.
 use Rattle.std.specs.Prelude.{◌≡◌}
 use Rattle.flat_machine.specs.FlatMachine.{Run}
 use Rattle.program_steps.specs.Machines.{Machine}

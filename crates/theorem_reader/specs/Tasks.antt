@@ -119,8 +119,8 @@ pub record AreSums (t : Tasks) : Type 0 where
   pub entries : t.entries ≡ sum_by (λ (task : Task). task.entries) t.tasks
 
 -- What is printed is what the programs print in turn, and a last line. The lines of each are just those of its run alone: none
--- can change what another prints, or when and how it ends. The numbers of the last line are those of what the programs did
--- on one mote, each from where it begins to where its run alone ends.
+-- can change what another prints, or when and how it ends. The numbers of the last line are those of stints on one mote, which
+-- lead each program from where it begins to where its run alone ends (`Stints`).
 pub record AreApart (sink : Sink) (asked : AskedTasks) (status : ℕ) (taken : List ℕ) (t : Tasks) : Type 0 where
   pub told : IsTold sink (worst_status asked) (printed_text (printed_of asked) ++ last_line t.natural t.entries t.pages t.switches) status taken
   pub theirs : All (λ one. one.task < asked.count) (printed_of asked)

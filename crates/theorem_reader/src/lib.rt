@@ -1,6 +1,7 @@
 //! The theorem of the whole program, held from above: runs over streams in memory, whose contracts say in lists and
-//! numbers what a user relies on. Of the crates below only what is listed here stands in what they conclude: so any other
-//! definition there that is weakened, and that they rest on, is refused here.
+//! numbers what a user relies on. Of the crates below they name only what the words and texts are, the original program's
+//! machine and the programs in turn, the mote's instruction, types, the form and links of a page, and the program of a seed:
+//! so any other definition there that is weakened, and that they rest on, is refused here.
 //!
 //! To read: `specs/Telling` (how a text is told, by a sink with room for it or without, and a source that fails),
 //! `specs/Runs` (what a run leaves; begin at `IsRun`), `specs/Ends` (the end that is kept), `specs/Acts` (what the machine
