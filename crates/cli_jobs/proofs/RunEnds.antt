@@ -4,7 +4,7 @@ use Rattle.std.specs.Prelude.{◌≢◌, None, Result, Ok, Err, OnErr, ◌^◌}
 use Rattle.std.specs.Io.KnownBytes.{Appends}
 use Rattle.byte_streams.specs.declared.failure.Failed.{Failed}
 use Rattle.byte_streams.specs.Faults.{Rose, HasCause}
-use Rattle.byte_streams.proofs.KnownBytes.{appends-nothing, cut_behind}
+use Rattle.byte_streams.proofs.KnownBytes.{appends-nothing, appends-both, cut_behind}
 use Rattle.hex_image.specs.Image.{IsImage}
 use Rattle.flat_machine.specs.FlatMachine.{End, Spent, Run}
 use Rattle.printed_text.specs.Ends.{stop_text, end_text}
@@ -25,7 +25,7 @@ use Rattle.cli_words.specs.declared.status.Status.TheVariants as status
 use Rattle.cli_jobs.specs.DumpRuns.{silent}
 use Rattle.cli_words.specs.Stream.{Stream}
 use Rattle.cli_jobs.specs.Runs.{Says, Runs, RunsToTheEnd, RunsUntilCut, Follows, KeepsEnd, own_program, original_of, first_start, whole_run, checkpoints_of, count_line_of, last_text, run_text, status_of_end, status_of_stop}
-use Rattle.cli_jobs.proofs.Putting.{rose_on, said_on}
+use Rattle.cli_jobs.proofs.Putting.{rose_on, said_on, begun_on, begun_cut}
 
 -- the last two lines, by the original's counts
 last_lines : (end : MachineEnd) (m : Machine) (steps crossings quantum : ℕ) → m.steps ≡ steps → m.crossings ≡ crossings → m.kernel.quantum ≡ quantum
@@ -72,6 +72,7 @@ ended request start failing front before first mid now told end m status how beg
     let behind = subst (λ s. Says s (run_text r (stop_text r.end r.state.now.steps (checkpoints_of request r)) m) first now told) own (subst (λ l. Says (status_of_stop end) (run_text r l m) first now told) stop whole) in
     record {
       said = said_on (status_of_end r.end) told before first now front _ put earlier behind;
+      begun = begun_on (status_of_stop end) told before.told mid now (front ++ lines_text r.lines) _ (appends-both before.told first.told mid.told front (lines_text r.lines) put run.put) said;
       within = run.within;
       end = subst (λ e. KeepsEnd e m) run.same (keeps_end (flat_end end) end m refl run.kept);
       unrefused = run.unrefused;
@@ -93,6 +94,7 @@ failed request before mid now told op m run later said =
     Runs.Failed (record {
       op = op;
       said = subst (λ n. Says status.FlashFault (run_text r (end_line (ends.Flash op) n (checkpoints_of request r)) m) before now told) (sym steps) whole;
+      begun = begun_on status.FlashFault told before.told mid now (lines_text r.lines) _ run.put said;
       fewer = run.fewer;
       spent = run.same;
       end = run.kept;
@@ -123,6 +125,7 @@ until_cut request start failing front before first now failed m began alone put 
   status_is = refl;
   rose = rose_on before.faults first.faults now.faults later rose;
   put = cut_behind before.told first.told now.told front _ put run.put;
+  begun = begun_cut before.told first.told now.told front _ put run.put;
   broken = run.broken;
   within = run.within;
   follows = follows_by request start m.steps m began alone run.sound run.at;

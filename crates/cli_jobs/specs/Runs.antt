@@ -97,10 +97,15 @@ abbrev pub KeepsEnd : End → Machine → Type 0
 KeepsEnd Spent m = m.end ≡ None
 KeepsEnd end m = (kept : MachineEnd) × (m.end ≡ Some kept) × (flat_end kept ≡ end)
 
+-- what went out begins with this text
+abbrev pub Begins : (before now : Option (List ℕ)) → List ℕ → Type 0
+Begins before now text = (rest : List ℕ) × Appends before now (text ++ rest)
+
 -- The run from this start ended as the original program's first steps do, with no more steps done than were asked for; its
--- text was said behind this one. No operation on flash was refused.
+-- text was said behind this one, and its device lines went out whole. No operation on flash was refused.
 pub record RunsToTheEnd (request : Request) (start : Machine) (front : List ℕ) (before now : Stream) (told : Status) (m : Machine) : Type 0 where
   pub said : Says (status_of_end (whole_run request).end) (front ++ ended_text request m) before now told
+  pub begun : Begins before.told now.told (front ++ lines_text (whole_run request).lines)
   pub within : m.steps ≤ request.options.steps
   pub end : KeepsEnd (whole_run request).end m
   pub unrefused : m.kernel.mote.flash.refused ≡ None
@@ -113,10 +118,11 @@ abbrev pub AreUnlisted : Request → Machine → Type 0
 AreUnlisted request m = (op : ℕ) → 1 ≤ op → op ≤ m.kernel.mote.flash.ops → is_listed request.script.failing op ≡ false
 
 -- With steps left, an operation on flash was refused: the first that was tried and that the script lists. Up to there
--- the run is the original program's.
+-- the run is the original program's, and its device lines went out whole.
 pub record RunsIntoAFault (request : Request) (before now : Stream) (told : Status) (m : Machine) : Type 0 where
   pub op : ℕ
   pub said : Says status.FlashFault (failed_text request op m) before now told
+  pub begun : Begins before.told now.told (lines_text (original_of request m.steps).lines)
   pub fewer : m.steps < request.options.steps
   pub spent : (original_of request m.steps).end ≡ Spent
   pub end : m.end ≡ Some (ends.Flash op)
@@ -128,12 +134,13 @@ pub record RunsIntoAFault (request : Request) (before now : Stream) (told : Stat
   pub unbroken : m.broken ≡ false
   pub ready : IsReady m
 
--- gathered lines could not be put: what went out is cut short of the lines up to the step where the machine stands, and it
--- stands where the original program stands after that step
+-- gathered lines could not be put: what went out begins with this text, and is cut short of the lines up to the step where the
+-- machine stands, and it stands where the original program stands after that step
 pub record RunsUntilCut (request : Request) (start : Machine) (front : List ℕ) (before now : Stream) (told : Status) (m : Machine) : Type 0 where
   pub status_is : told ≡ status.WriteFault
   pub rose : Rose before.faults now.faults
   pub put : CutShort before.told now.told (front ++ lines_text (original_of request m.steps).lines)
+  pub begun : Begins before.told now.told front
   pub broken : m.broken ≡ true
   pub within : m.steps ≤ request.options.steps
   pub follows : Follows request start m.steps m

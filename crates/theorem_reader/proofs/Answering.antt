@@ -1,5 +1,5 @@
 -- What is answered, in lists and numbers.
-use Rattle.std.proofs.Common.{◌≡◌, ◌≢◌, take, length, ℕ, ◌+◌, ◌*◌, ◌≤◌, true, false, List, [], Option, Some, None, refl, sym, ap, ◌∙◌, subst, arith, zero-add, inl, inr}
+use Rattle.std.proofs.Common.{◌≡◌, ◌≢◌, take, length, ℕ, ◌+◌, ◌*◌, ◌≤◌, List, [], Option, Some, None, refl, sym, ap, ◌∙◌, subst, arith, zero-add, inl, inr}
 use Rattle.sram_layout.specs.Bytes.{byte_at, data_word_at}
 use Rattle.std.specs.Prelude.{IfSome}
 use Rattle.flash_words.specs.Memory.{Memory, new_flash}
@@ -11,7 +11,6 @@ use Rattle.branch_bridge.specs.declared.rewriting.Torn.{Torn}
 use Rattle.branch_bridge.specs.Operating.{with_torn}
 use Rattle.branch_bridge.specs.Tried.{IsTorn}
 use Rattle.kernel_entry.specs.Parts.{image_held}
-use Rattle.kernel_entry.specs.declared.kernel.Stop.TheVariants as stops
 use Rattle.kernel_entry.specs.declared.kernel.End.{End as MachineEnd}
 use Rattle.kernel_entry.specs.declared.kernel.End.TheVariants as ends
 use Rattle.input_script.specs.Script.{Schedule}
@@ -37,7 +36,7 @@ use Rattle.cli_requests.specs.Asking.{IsWarranted, Tells}
 use Rattle.cli_requests.specs.Reading.{Good}
 use Rattle.cli_words.specs.Stream.{Stream}
 use Rattle.cli_jobs.specs.Runs.{KeepsEnd, Runs, RunsToTheEnd, RunsIntoAFault, Follows, AreUnlisted, first_start}
-use Rattle.theorem_reader.specs.Acts.{HasActs, IsBoot, tried_in, made_in}
+use Rattle.theorem_reader.specs.Acts.{HasActs, IsBoot, made_in}
 use Rattle.theorem_reader.specs.Pools.{AreFaithful, AreFaithfulBut}
 use Rattle.theorem_reader.specs.Ends.{end_of, IsKeptEnd}
 use Rattle.theorem_reader.specs.Runs.{Asked, Asks, AsksGenerate, generated_by, options_of, original_of, StandsFrom, Stands, EndsWell, EndsInAFault, IsRun, NoMemory, Ended, Failed, Cut}
@@ -48,10 +47,11 @@ use Rattle.theorem_reader.specs.Memory.{HasMemory}
 use Rattle.theorem_reader.proofs.Holding.{has_memory}
 use Rattle.theorem_reader.proofs.Pooling.{faithful_is, but_is}
 use Rattle.theorem_reader.proofs.Booting.{is_boot}
+use Rattle.theorem_reader.proofs.Ending.{own_stop}
 use Rattle.theorem_reader.proofs.Acting.{acts_of, Holds, follow}
 use Rattle.theorem_reader.proofs.Stepwise.{paced}
-use Rattle.theorem_reader.proofs.Bounding.{natural_of, entries_of, pages_of, ops_of, longest_of, longest_in, no_longer, last_arrives, same_last, arrives_last, last_refuses}
-use Rattle.theorem_reader.proofs.Doing.{IsSoThen, Call, Somehow, so_then, retold, told_how, cut_by, told_by}
+use Rattle.theorem_reader.proofs.Bounding.{natural_of, entries_of, pages_of, lines_of_acts, longest_of, longest_in, no_longer}
+use Rattle.theorem_reader.proofs.Doing.{IsSoThen, Call, Somehow, so_then, past_by, retold, told_how, cut_by, told_by}
 use Rattle.theorem_reader.proofs.SameTexts.{lines_same, ended_same, failed_same, status_same}
 
 abbrev pub script_of : Asked → Schedule
@@ -65,9 +65,9 @@ request_of asked = record { image = asked.image; script = script_of asked; optio
 abbrev pub start_of : Asked → Memory → (pages : ℕ) → Machine
 start_of asked flash pages = started asked.image flash (script_of asked) asked.quantum asked.slots pages
 
-has_acts : (IsFirst : Mote → Type 0) (asked : Asked) (flash : Memory) (pages : ℕ) (lines : List Line) (m : Machine) → IsFirst (start_of asked flash pages).kernel.mote → flash.ops ≡ 0 → take (length asked.image) flash.words ≡ asked.image
-    → (path : Leads (start_of asked flash pages) lines m) → Walk (state_of (start_of asked flash pages)) path.moves (state_of m) → m.longest ≤ 5120 * asked.quantum → HasActs IsFirst pages asked.image asked.quantum m.natural m.entries m.pages m.end m.kernel.mote
-has_acts IsFirst asked flash pages lines m begins untried held path walk bound =
+has_acts : (IsFirst : Mote → Type 0) (asked : Asked) (flash : Memory) (pages : ℕ) (lines : List Line) (m : Machine) → IsFirst (start_of asked flash pages).kernel.mote → take (length asked.image) flash.words ≡ asked.image
+    → (path : Leads (start_of asked flash pages) lines m) → Walk (state_of (start_of asked flash pages)) path.moves (state_of m) → m.longest ≤ 5120 * asked.quantum → HasActs IsFirst pages asked.image asked.quantum m.natural m.entries m.pages lines m.kernel.mote
+has_acts IsFirst asked flash pages lines m begins held path walk bound =
     let x = state_of (start_of asked flash pages) in
     let moves = path.moves in
     let counts = numbers_of (start_of asked flash pages) in
@@ -80,16 +80,10 @@ has_acts IsFirst asked flash pages lines m begins untried held path walk bound =
       natural_is = ap (λ (k : Numbers). k.natural) path.goes.numbers ∙ natural_of x moves (state_of m) walk counts ∙ zero-add (_);
       entries_is = ap (λ (k : Numbers). k.entries) path.goes.numbers ∙ entries_of x moves (state_of m) walk counts ∙ zero-add (_);
       pages_is = ap (λ (k : Numbers). k.pages) path.goes.numbers ∙ pages_of x moves (state_of m) walk counts;
-      tried = ap (λ (k : Numbers). k.ops) path.goes.numbers ∙ ops_of x moves (state_of m) walk counts ∙ ap (λ n. n + tried_in acts) untried ∙ zero-add (_);
+      lines_are = sym path.goes.told ∙ lines_of_acts x moves (state_of m) walk;
       few = λ front between back is none.
           let longest : m.longest ≡ longest_in 0 0 acts = ap (λ (k : Numbers). k.longest) path.goes.numbers ∙ longest_of x moves (state_of m) walk counts in
           omega (arith, bound, longest, ap (longest_in 0 0) is, no_longer 0 0 front between back none);
-      ends = λ front target made ops before after is.
-          let arrives = same_last x moves (state_of m) walk ∙ ap last_arrives is ∙ arrives_last front target made ops before after in
-          elim (last_refuses x moves (state_of m) walk arrives) [
-            | inl none ↦ let both : true ≡ false = sym arrives ∙ path.last none in absurd (cc)
-            | inr refusal ↦ refusal
-          ];
     }
 
 -- no other program's arrivals are counted
@@ -107,8 +101,8 @@ stands_from IsFirst asked flash pages n m begins untried held follows within =
     let path = at.path in
     let same = at.state in
     let sound = follows.sound in
-    let pace = paced asked.image asked.quantum (states_of (original_of asked)) start m.steps path.moves m (record { laid = refl; held = held; counts = refl }) at.by_step in
-    let acts = has_acts IsFirst asked flash pages (original_of asked n).lines m begins untried held path pace.walk (subst (λ q. m.longest ≤ 5120 * q) at.quantum follows.longest) in
+    let pace = paced asked.image asked.quantum (states_of (original_of asked)) start m.steps path.moves m (record { laid = refl; held = held; counts = refl }) (λ w owes. refl) at.by_step path.last (sym (zero-add m.steps)) in
+    let acts = has_acts IsFirst asked flash pages (original_of asked n).lines m begins held path pace.walk (subst (λ q. m.longest ≤ 5120 * q) at.quantum follows.longest) in
     record {
       state = record {
         registers = ap (λ (s : Moment). s.now.cpu.r) same;
@@ -141,14 +135,7 @@ stands asked n m follows within =
 -- the end that is kept
 own_end : (end : MachineEnd) → flat_end end ≡ end_of end
 own_end ends.Spent = refl
-own_end (ends.Stopped (stops.Halted pc)) = refl
-own_end (ends.Stopped (stops.Asleep pc)) = refl
-own_end (ends.Stopped (stops.Illegal pc)) = refl
-own_end (ends.Stopped (stops.SelfProgram pc)) = refl
-own_end (ends.Stopped (stops.Read pc a)) = refl
-own_end (ends.Stopped (stops.Io pc a)) = refl
-own_end (ends.Stopped (stops.Stack pc a)) = refl
-own_end (ends.Stopped (stops.SwapFull pc a)) = refl
+own_end (ends.Stopped stop) = own_stop stop
 own_end (ends.Wild t) = refl
 own_end (ends.Flash op) = refl
 
@@ -228,7 +215,7 @@ spared asked n m follows unlisted fits =
     let held : image_held m.kernel ≡ asked.image = ap (λ (p : Program). p.image) follows.at.program in
     let right = subst IsRight (layout_same asked.image m follows.sound held) follows.sound.order.right in
     let laid : Holds asked.image asked.quantum (state_of start) = record { laid = refl; held = loaded_image asked.image; counts = refl } in
-    let pace = paced asked.image asked.quantum (states_of (original_of asked)) start m.steps path.moves m laid follows.at.by_step in
+    let pace = paced asked.image asked.quantum (states_of (original_of asked)) start m.steps path.moves m laid (λ w owes. refl) follows.at.by_step path.last (sym (zero-add m.steps)) in
     let made : m.pages ≡ 0 + made_in (acts_of (state_of start) path.moves (state_of m) pace.walk) = ap (λ (k : Numbers). k.pages) path.goes.numbers ∙ pages_of (state_of start) path.moves (state_of m) pace.walk (numbers_of start) in
     let unused : used_pages (layout_of (length asked.image)) (mote_of (state_of start)).flash.words ≡ 0 = new_unused asked.image asked.failing right in
     spared_from_boot asked.image asked.failing m.kernel.mote.flash
@@ -266,6 +253,7 @@ ran asked words exit status faults taken call m kept (Runs.Ended unlisted run) =
     let r = original_of asked asked.steps in
     so_then call.sink call.sink' _ (λ sink. IsRun sink asked status taken exit.kept) (λ sink told. Ended m kept (record {
       told = retold sink _ _ _ _ status taken (status_same r.end) (ended_same r asked.quantum m) told;
+      past = past_by words exit status faults taken call _ _ (lines_same r.lines) run.begun;
       run = ends_well asked call.sink call.sink' exit.status m unlisted run;
     })) (told_how words exit status faults taken call _ _ run.said)
 ran asked words exit status faults taken call m kept (Runs.Failed run) =
@@ -273,6 +261,7 @@ ran asked words exit status faults taken call m kept (Runs.Failed run) =
     so_then call.sink call.sink' _ (λ sink. IsRun sink asked status taken exit.kept) (λ sink told. Failed m kept (record {
       op = run.op;
       told = retold sink 9 9 _ _ status taken refl (failed_same r run.op asked.quantum m (ap (λ (s : Moment). s.now.steps) run.follows.at.state)) told;
+      past = past_by words exit status faults taken call _ _ (lines_same r.lines) run.begun;
       run = ends_in_a_fault asked call.sink call.sink' exit.status m run;
     })) (told_how words exit status faults taken call _ _ run.said)
 ran asked words exit status faults taken call m kept (Runs.Cut run) = (

@@ -1,5 +1,5 @@
 -- How a call comes to what it tells: by the job that its words and its text ask for.
-use Rattle.std.proofs.Common.{◌≡◌, ◌⊎◌, ◌≤◌, ℕ, List, [], ◌++◌, length, Option, Some, None, refl, sym, ap, ◌∙◌, subst, arith, inl, inr}
+use Rattle.std.proofs.Common.{◌≡◌, ◌⊎◌, ◌≤◌, ℕ, List, [], ◌++◌, length, length-append, Option, Some, None, refl, sym, ap, ◌∙◌, subst, arith, inl, inr}
 use Rattle.std.specs.Io.KnownBytes.{Appends}
 use Rattle.tk_io.specs.Memory.{SinkState}
 use Rattle.byte_streams.specs.Faults.{Rose}
@@ -10,7 +10,7 @@ use Rattle.cli_words.specs.declared.status.Status.TheVariants as statuses
 use Rattle.cli_words.specs.Status.{number_of}
 use Rattle.cli_words.specs.Stream.{Stream}
 use Rattle.cli_requests.specs.Asking.{IsWarranted}
-use Rattle.cli_jobs.specs.Runs.{Says}
+use Rattle.cli_jobs.specs.Runs.{Says, Begins}
 use Rattle.tkernel_cli.specs.declared.top.Exit.{Exit}
 use Rattle.tkernel_cli.specs.Answer.{Does, IsAnswer, IsExact}
 use Rattle.theorem_reader.specs.Telling.{Sink, Serves, Fails, IsFront, IsTold, IsRoomy, IsSo}
@@ -41,6 +41,12 @@ taken_is (Some xs) (Some ys) taken text first last appended =
     let empty : xs ≡ [] = cc in
     let same : ys ≡ taken = cc in
     sym same ∙ appended ∙ ap (λ z. z ++ text) empty
+
+-- .. which are no fewer than those that went out whole
+begun_is : (before now : Option (List ℕ)) (taken text : List ℕ) → before ≡ Some [] → now ≡ Some taken → Begins before now text → length text ≤ length taken
+begun_is before now taken text first last begun =
+    let is = taken_is before now taken (text ++ begun.0) first last begun.1 in
+    omega (arith, ap length is, length-append text begun.0)
 
 -- A call. -------------------------------------------------------------------------------------------------
 
@@ -81,6 +87,10 @@ cut_by words exit status faults taken call whole is put = (
   call.status_is ∙ ap number_of is,
   record { count = put.0; less = put.1; is = taken_is call.sink.told call.sink'.told taken _ call.empty call.taken_is put.2 },
 )
+
+-- a text that went out whole, in other words
+pub past_by : (words : List (List ℕ)) (exit : Exit) (status faults : ℕ) (taken : List ℕ) (call : Call words exit status faults taken) (text text' : List ℕ) → text ≡ text' → Begins call.sink.told call.sink'.told text → length text' ≤ length taken
+past_by words exit status faults taken call text text' same begun = subst (λ t. length t ≤ length taken) same (begun_is call.sink.told call.sink'.told taken text call.empty call.taken_is begun)
 
 -- the same text and status, told
 pub retold : (sink : Sink) (own own' : ℕ) (whole whole' : List ℕ) (status : ℕ) (taken : List ℕ) → own ≡ own' → whole ≡ whole' → IsTold sink own whole status taken → IsTold sink own' whole' status taken

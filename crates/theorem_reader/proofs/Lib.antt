@@ -1,12 +1,16 @@
 -- The acts of a walk, the texts, and the answer.
 pub mod Pooling
 pub mod Booting
+pub mod Ending
 pub mod Linking
 pub mod OtherPages
 pub mod NextPage
+pub mod Working
+pub mod Serving
 pub mod Acting
 pub mod Bounding
 pub mod Holding
+pub mod Stopping
 pub mod Stepwise
 pub mod SameTexts
 pub mod Doing
@@ -21,6 +25,7 @@ mod Checks
 pub mod Checking
 pub mod Dumping
 pub mod Restarting
+pub mod Asking
 pub mod TakingTurns
 pub mod Sharing
 pub mod Refusing

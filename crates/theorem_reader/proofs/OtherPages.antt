@@ -341,7 +341,7 @@ pieces_keep words words' a (Link t ∷ pieces) old new b from to =
       ]
     ]
 
-run_keeps : (image words words' : List ℕ) (page first last : ℕ) → HoldsRun Anywhere image words page first last → HoldsRun Anywhere image words' page first last → KeepsCode words words' page
+pub run_keeps : (image words words' : List ℕ) (page first last : ℕ) → HoldsRun Anywhere image words page first last → HoldsRun Anywhere image words' page first last → KeepsCode words words' page
 run_keeps image words words' page first last old new k below = elim (cases_lt k (page_size image first last)) [
   | inl front ↦ pieces_keep words words' (page_words * page) (page_pieces image first last) old.stands new.stands (128 * page + k) (omega arith) (omega (arith, front))
   | inr behind ↦ Kept (new.rest k behind below ∙ sym (old.rest k behind below))

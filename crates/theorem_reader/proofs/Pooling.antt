@@ -14,7 +14,7 @@ use Rattle.pool_check.proofs.CheckedLaws.{code_checked}
 use Rattle.branch_bridge.specs.declared.rewriting.Torn.{Torn}
 use Rattle.branch_bridge.specs.Operating.{with_torn}
 use Rattle.branch_bridge.specs.Tried.{IsTorn}
-use Rattle.theorem_reader.specs.Pools.{pool_from, IsInPool, AreFaithful, AreFaithfulBut, Whole, Lacking, IsPlaceOf}
+use Rattle.theorem_reader.specs.Pools.{pool_from, IsInPool, AreFaithful, AreFaithfulBut, Whole, Lacking, IsPlaceOf, HasAddress}
 
 -- the layout's pool begins at this word, and ends where the kernel begins
 pub record Begins (from : ℕ) (layout : Layout) : Type 0 where
@@ -57,6 +57,11 @@ place_same words page i =
     ap (λ b. 128 * page + slice_index words b % 256) behind
 
 -- the place of an entry, where each page of the pool is free or has a map
+-- an entry of a page
+abbrev pub address_of_entry : (words : List ℕ) (page i t v : ℕ) → Lists words page i t v → HasAddress words page t
+address_of_entry words page i t v lists =
+    record { index = i; used = subst (λ w. w < 192) (first_word words page) lists.used; most = lists.near; inside = lists.listed; is = lists.address ∙ address_same words page i }
+
 map_of : (layout : Layout) (words : List ℕ) (page i t v : ℕ) → IsFree words page ⊎ IsMap words page → Lists words page i t v → IsMap words page
 map_of layout words page i t v (inl free) lists =
     absurd (omega (arith, lists.used, first_word words page, (let at : 128 * page + 0 ≡ 128 * page = omega arith in ap (slice_index words) (sym at) ∙ blank_word words page 0 free (omega arith))))
@@ -68,12 +73,8 @@ place_is image words t v mapped entry =
     let behind : 128 * entry.page + (2 + entry.index) ≡ 128 * entry.page + 2 + entry.index = omega arith in
     record {
       page = entry.page;
-      index = entry.index;
       pool = from_pool image entry.page entry.pool;
-      used = subst (λ w. w < 192) (first_word words entry.page) entry.lists.used;
-      most = entry.lists.near;
-      inside = entry.lists.listed;
-      address = entry.lists.address ∙ address_same words entry.page entry.index;
+      entry = address_of_entry words entry.page entry.index t v entry.lists;
       place = entry.lists.place ∙ place_same words entry.page entry.index;
       fits = subst (λ a. slice_index words a % 256 < 128) behind (map.inside entry.index entry.lists.listed);
     }

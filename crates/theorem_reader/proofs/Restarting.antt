@@ -13,6 +13,7 @@ use Rattle.flash_words.proofs.PageLaws as pages
 use Rattle.page_index.specs.Maps.{IsPool, place_of}
 use Rattle.page_index.specs.Entries.{Lists}
 use Rattle.page_draft.specs.CodePages.{Anywhere}
+use Rattle.nat_page.proofs.StayLaws.{holds_more}
 use Rattle.nat_page.specs.Used.{used_pages}
 use Rattle.nat_page.proofs.HeldLaws.{map_held}
 use Rattle.flash_dump.specs.WrittenDumps.{is_erased}
@@ -23,7 +24,7 @@ use Rattle.kernel_entry.specs.Parts.{image_held}
 use Rattle.kernel_entry.specs.declared.kernel.End.TheVariants as ends
 use Rattle.program_steps.specs.Machines.{Machine}
 use Rattle.tk_restart.specs.declared.sweeping.Kept.{Kept}
-use Rattle.tk_restart.specs.Keeping.{count_where, is_dropped}
+use Rattle.tk_restart.specs.Keeping.{IsKeptEntry, count_where, is_dropped}
 use Rattle.tk_restart.specs.Keeping as keeping
 use Rattle.tk_restart.specs.Losing.{lost_in, torn_words}
 use Rattle.tk_restart.specs.Restarting.{Restarts}
@@ -40,14 +41,15 @@ use Rattle.cli_jobs.specs.RestartRuns.{HasRestarted, RunsOver, lost_flash, refus
 use Rattle.printed_text.specs.RestartLines.{restart_text}
 use Rattle.cli_requests.proofs.ImageLength.{few_words}
 use Rattle.tk_restart.proofs.TornWords.{number_at, torn_word, length_torn}
-use Rattle.theorem_reader.specs.Pools.{pool_from}
+use Rattle.theorem_reader.specs.Pools.{pool_from, HasAddress}
 use Rattle.theorem_reader.specs.Checks.{used_of}
 use Rattle.theorem_reader.specs.Runs.{Asked, StandsFrom, options_of, original_of}
-use Rattle.theorem_reader.specs.Restarts.{AsksRestart, number_behind, IsLost, Whole, Torn, HasAddress, IsKeeper, dropped_of, IsKept, restart_line, IsLeft, line_of, IsStart, StandsOver, IsRestarted, NoMemory, Restarted, Unbegun, Cut}
+use Rattle.theorem_reader.specs.Restarts.{AsksRestart, number_behind, IsLost, Whole, Torn, IsKeeper, dropped_of, IsKept, restart_line, IsLeft, line_of, IsStart, StandsOver, IsRestarted, NoMemory, Restarted, Unbegun, Cut}
 use Rattle.theorem_reader.specs.Telling.{Fails}
-use Rattle.theorem_reader.proofs.Pooling.{in_pool, from_pool, pool_begins, blank_word, first_word, address_same, faithful_is}
+use Rattle.theorem_reader.proofs.OtherPages.{run_keeps}
+use Rattle.theorem_reader.proofs.Pooling.{in_pool, from_pool, pool_begins, blank_word, first_word, address_same, faithful_is, address_of_entry}
 use Rattle.theorem_reader.proofs.Answering.{script_of, request_of, stands_from, no_fault, kept_end, layout_same, lacking_of, whole_of}
-use Rattle.theorem_reader.proofs.Doing.{IsSoThen, Call, Somehow, not_risen, so_then, retold, cut_by, told_how, told_by}
+use Rattle.theorem_reader.proofs.Doing.{IsSoThen, Call, Somehow, not_risen, so_then, past_by, retold, cut_by, told_how, told_by}
 use Rattle.theorem_reader.proofs.Booting.{is_new}
 use Rattle.theorem_reader.proofs.Checking.{used_same, pool_numbers}
 use Rattle.theorem_reader.proofs.Dumping.{has_ended}
@@ -123,10 +125,6 @@ lost_is asked told m (Runs.Cut run) = absurd (not_risen 0 0 refl refl run.rose)
 
 -- What a restart keeps. -----------------------------------------------------------------------------------
 
-address_of_entry : (words : List ℕ) (page i t v : ℕ) → Lists words page i t v → HasAddress words page t
-address_of_entry words page i t v lists =
-    record { index = i; used = subst (λ w. w < 192) (first_word words page) lists.used; most = lists.near; inside = lists.listed; is = lists.address ∙ address_same words page i }
-
 entry_of_address : (words : List ℕ) (page t : ℕ) → (has : HasAddress words page t) → Lists words page has.index t (place_of words page has.index)
 entry_of_address words page t has =
     record { used = subst (λ w. w < 192) (sym (first_word words page)) has.used; near = has.most; listed = has.inside; address = has.is ∙ sym (address_same words page has.index); place = refl }
@@ -180,6 +178,9 @@ kept_is image old new told few whole faithful restarts =
           let pool = in_pool image page inside in
           (λ is. keeper_is image old.words kept page few pool ((keeps.are page pool).0 is), λ own. (keeps.are page pool).1 (is_keeper image old.words kept page pool own));
       faithful = faithful_is image new.words few faithful;
+      code = λ page inside is.
+          let own = kept_page layout image old.words new.words kept restarts.stray page right whole keeps (in_pool image page inside) is in
+          run_keeps image old.words new.words page own.first own.last own.before (holds_more (λ t v. IsKeptEntry layout old.words kept t v) Anywhere image new.words page own.first own.last (λ t v entry. tt) own.behind);
       same = λ page t inside is.
           let own = kept_page layout image old.words new.words kept restarts.stray page right whole keeps (in_pool image page inside) is in (
             λ has. address_of_entry old.words page has.index t _ (lists_before layout image old.words new.words kept page has.index t _ few own (entry_of_address new.words page t has)),
@@ -248,6 +249,10 @@ restarted asked words exit status faults taken call few done (RunsOver.Unbegun n
         start = subst (λ (m : Machine). IsStart asked flash m.kernel.mote) (sym none.is) (over_is asked call.sink call.sink' exit.status exit.kept few done);
         pc = ap (λ (m : Machine). m.at) none.is;
         steps = ap (λ (m : Machine). m.steps) none.is;
+        crossings = ap (λ (m : Machine). m.crossings) none.is;
+        due = ap (λ (m : Machine). m.due) none.is;
+        quantum = ap (λ (m : Machine). m.kernel.quantum) none.is;
+        unbroken = ap (λ (m : Machine). m.broken) none.is;
         natural = ap (λ (m : Machine). m.natural) none.is;
         entries = ap (λ (m : Machine). m.entries) none.is;
         pages = ap (λ (m : Machine). m.pages) none.is ∙ used_is asked.image done.left.words;
@@ -262,6 +267,7 @@ restarted asked words exit status faults taken call few done (RunsOver.Ended run
     let whole = ap₂ (λ a b. a ++ b) own (ended_same r asked.quantum m) in
     so_then call.sink call.sink' _ (λ sink. IsRestarted sink asked status taken exit.kept) (λ sink told. Restarted flash m done.kept (record {
       told = retold sink _ _ _ _ status taken (status_same r.end) whole told;
+      past = past_by words exit status faults taken call _ _ (ap₂ (λ a b. a ++ b) own (lines_same r.lines)) run.begun;
       stands = stands_over asked call.sink call.sink' exit.status exit.kept few done asked.steps m run.follows run.within;
       end = kept_end _ m run.end;
       unbroken = run.unbroken;
@@ -277,6 +283,7 @@ restarted asked words exit status faults taken call few done (RunsOver.Cut run) 
       run.rose,
       Cut flash m done.kept refl (record {
         told = retold Fails 6 6 _ _ status taken refl whole (cut_by words exit status faults taken call _ run.status_is run.put);
+        past = past_by words exit status faults taken call _ _ own run.begun;
         stands = stands_over asked call.sink call.sink' exit.status exit.kept few done m.steps m run.follows run.within;
         broken = run.broken;
         faithful = lacking_of asked m run.follows.sound (ap (λ (p : Program). p.image) run.follows.at.program);

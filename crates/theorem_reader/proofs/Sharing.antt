@@ -5,11 +5,10 @@ use Rattle.std.specs.List.{range_with_len, find}
 use Rattle.std.proofs.lemmas.Bool.{cases_eq}
 use Rattle.std.proofs.lemmas.Bool.Decides.{nat_tests}
 use Rattle.std.proofs.lemmas.List.Elements.{All-nil, All-cons, All-append, All-head, All-tail}
-use Rattle.mote_devices.specs.declared.line.Line.{Line}
 use Rattle.input_script.specs.Script.{Schedule}
 use Rattle.avr_isa.specs.Image.{word}
 use Rattle.flat_machine.specs.declared.part.Part.{Part}
-use Rattle.flat_machine.specs.FlatMachine.{End as FlatEnd, Moment, Run, run, at_reset, is_own}
+use Rattle.flat_machine.specs.FlatMachine.{End as FlatEnd, Run, run, is_own, original}
 use Rattle.flat_machine.specs.Masked.{masked, masked_from}
 use Rattle.parked_tasks.specs.declared.task.Task.{Task}
 use Rattle.parked_tasks.specs.declared.task.TaskEnd.{TaskEnd}
@@ -17,9 +16,9 @@ use Rattle.task_turns.specs.Reset.{turns_at_reset, players_at_reset}
 use Rattle.task_turns.specs.Quarters.{quarter_part}
 use Rattle.task_input.specs.Images.{task_words}
 use Rattle.tk_tasks.specs.Plays.{shown_text, told_text, told_of, counted}
-use Rattle.tk_tasks.specs.States.{Tasks, player_of}
+use Rattle.tk_tasks.specs.States.{Tasks, player_of, turns_of}
 use Rattle.parked_tasks.specs.Ends.{flat_end, flat_end_of}
-use Rattle.task_turns.specs.Turns.{Player, Turns, Told, Shown, Wrote, Stops, After, others, has_ended, ends_of, next_in, changed_to, with_player, once, continued, go_on, tries, shown_by, own_told}
+use Rattle.task_turns.specs.Turns.{Player, Turns, Told, Shown, Wrote, Stops, After, others, has_ended, ends_of, next_in, changed_to, with_player, once, continued, go_on, tries, turns, shown_by, own_told, HaveEnded}
 use Rattle.task_turns.proofs.Isolation.{once_follows}
 use Rattle.cli_words.specs.declared.command.Command.TheVariants.{Tasks as TasksCommand}
 use Rattle.cli_words.specs.declared.status.Status.{Status}
@@ -32,13 +31,14 @@ use Rattle.cli_words.specs.Status.{number_of}
 use Rattle.cli_requests.specs.TasksCommand.{Placed}
 use Rattle.tkernel_cli.specs.TasksRuns.{RunsTasks, RunsTasksToTheEnd, EachIsAlone, run_of_task, all_told, turns_by, start_by, worse, worst, status_of_task}
 use Rattle.printed_text.specs.Counts.{tasks_count_text}
-use Rattle.theorem_reader.specs.Tasks.{AskedTasks, AsksTasks, tasks_options_of, image_of, events_of, alone_of, lines_alone, Printed, printed_text, line_shown, printed_by, lines_of_task, last_line, greatest, worst_status, AreSums, AreApart, AreRun, NoMemory, Ended, Cut}
+use Rattle.theorem_reader.specs.Tasks.{AskedTasks, AsksTasks, tasks_options_of, image_of, events_of, alone_of, lines_alone, Printed, printed_text, line_shown, printed_by, lines_of_task, last_line, greatest, worst_status, AreSums, AreApart, AreRun, NoMemory, Ended, Cut, reset_of, in_turn}
 use Rattle.theorem_reader.specs.Telling.{Fails}
-use Rattle.theorem_reader.specs.Texts.{device_line, end_status}
-use Rattle.theorem_reader.proofs.Doing.{IsSoThen, Call, Somehow, so_then, retold, cut_by, told_how, told_by}
+use Rattle.theorem_reader.specs.Texts.{end_status}
+use Rattle.theorem_reader.proofs.Doing.{IsSoThen, Call, Somehow, so_then, past_by, retold, cut_by, told_how, told_by}
 use Rattle.theorem_reader.proofs.SameTexts.{line_same, stop_same, status_same}
 use Rattle.cli_words.proofs.OneCommand.{one_program}
 use Rattle.parked_tasks.proofs.Waiting.{waiting_length}
+use Rattle.tk_tasks.proofs.Paths.{player_here, path_turns}
 use Rattle.theorem_reader.proofs.TakingTurns.{length_set, path_long, tasks_request_of, have_stints}
 
 -- what is asked of the program, as it sees it: its run of one program alone, what all tell, and that each is alone
@@ -81,9 +81,7 @@ image_alone asked task =
 
 run_alone : (asked : AskedTasks) (task : ℕ) → own_run asked task ≡ alone_of asked task
 run_alone asked task =
-    let reset = at_reset (events_of asked task) in
-    ap (λ image. run (record { image = image; part = quarter_part task; page_limit = asked.slots; quantum = asked.quantum }) (record { now = record reset { cpu = record reset.cpu { pc = 4096 * task } }; due = false }) asked.steps)
-    (image_alone asked task)
+    ap (λ image. original (record { image = image; part = quarter_part task; page_limit = asked.slots; quantum = asked.quantum }) (events_of asked task) asked.steps) (image_alone asked task)
 
 -- What is printed. ----------------------------------------------------------------------------------------
 
@@ -110,14 +108,8 @@ own_same : (task quantum : ℕ) (told : List Told) → lines_of_task task (print
 own_same task quantum [] = refl
 own_same task quantum (one ∷ more) = one_more (eqb one.task task) quantum one.shown (own_told task more) (lines_of_task task (printed_by quantum more)) (own_same task quantum more)
 
-lines_then : (quantum : ℕ) (lines : List Line) (stop : Shown) → map (line_shown quantum) (map Wrote lines ++ stop ∷ []) ≡ map device_line lines ++ line_shown quantum stop ∷ []
-lines_then quantum [] stop = refl
-lines_then quantum (line ∷ lines) stop = ap (λ (l : List (List ℕ)). device_line line ∷ l) (lines_then quantum lines stop)
-
 shown_alone : (asked : AskedTasks) (task : ℕ) → map (line_shown asked.quantum) (shown_by (own_run asked task)) ≡ lines_alone asked task
-shown_alone asked task =
-    let r = alone_of asked task in
-    ap (λ r. map (line_shown asked.quantum) (shown_by r)) (run_alone asked task) ∙ lines_then asked.quantum r.lines (Stops r.end r.state.now.steps r.state.now.crossings)
+shown_alone asked task = ap (λ r. map (line_shown asked.quantum) (shown_by r)) (run_alone asked task)
 
 -- Each line is of a program. ------------------------------------------------------------------------------
 
@@ -259,12 +251,6 @@ status_is asked t long each =
     let count : greatest (map f (range_with_len 0 (length t.tasks))) ≡ worst_status asked = ap (λ n. greatest (map f (range_with_len 0 n))) long in
     omega (arith, all, count)
 
--- each ends where its program alone does
-ended_state : (asked : AskedTasks) (t : Tasks) → AreAlone asked t → (i : ℕ) → i < asked.count → (task : Task) × (slice_get t.tasks i ≡ Some task) × ((player_of asked.steps t i task).moment.now ≡ (alone_of asked i).state.now)
-ended_state asked t each i below =
-    let one = each i below in
-    (one.0, one.1, ap (λ (m : Moment). m.now) one.2.2 ∙ ap (λ (r : Run). r.state.now) (run_alone asked i))
-
 -- The answer. ---------------------------------------------------------------------------------------------
 
 sums_of : (t last : Tasks) (broken : Bool) → t ≡ counted last broken → AreSums t
@@ -277,11 +263,26 @@ apart asked words exit status faults taken call t long some run =
     let tasks : length t.tasks ≡ asked.count =
     ap (λ (z : Tasks). length z.tasks) run.is ∙ path_long asked.steps (start_in asked asked.scripts) run.plays run.last run.path ∙ start_long asked asked.scripts (omega (arith, long, some)) ∙ long in
     let whole = ap₂ (λ a b. a ++ b) (told_same asked.quantum told) (last_same t.natural t.entries t.pages t.switches) in
+    let leads : turns_of asked.steps run.last ≡ (in_turn asked).turns =
+    ap (λ (a : After). a.turns) (sym (path_turns asked.steps (start_in asked asked.scripts) run.plays run.last run.path run.ended)) ∙ ap (λ (s : Turns). (turns s).turns) run.start.turns in
+    let ended : HaveEnded (in_turn asked).turns = subst HaveEnded leads run.ended in
+    let stints = have_stints asked asked.scripts t run.last run.plays false (in_turn asked).turns refl long some run.start.sound run.start.turns run.path run.is leads run.sound in
     so_then call.sink call.sink' _ (λ sink. AreApart sink asked status taken t) (λ sink said. record {
       told = retold sink _ _ _ _ status taken (status_is asked t tasks run.alone) whole said;
+      past = past_by words exit status faults taken call _ _ (told_same asked.quantum told) run.begun;
       theirs = printed_below asked.count asked.quantum told (told_below asked long some);
       each = λ task below. own_same task asked.quantum told ∙ ap (map (line_shown asked.quantum)) (run.alone task below).2.0 ∙ shown_alone asked task;
-      stints = have_stints asked asked.scripts t run.last run.plays refl long some run.start run.path run.is run.ended run.sound (ended_state asked t run.alone);
+      stints = stints.stints;
+      switches = stints.switches ended;
+      alone = λ task below.
+          let one = run.alone task below in
+          let here : slice_get run.last.tasks task ≡ Some one.0 = ap (λ (z : Tasks). slice_get z.tasks task) (sym run.is) ∙ one.1 in
+          let same : player_of asked.steps t task one.0 ≡ player_of asked.steps run.last task one.0 = ap (λ (z : Tasks). player_of asked.steps z task one.0) run.is in (
+            player_of asked.steps t task one.0,
+            ap (λ (s : Turns). slice_get s.players task) (sym leads) ∙ player_here asked.steps run.last task one.0 here ∙ ap Some (sym same),
+            one.2.2 ∙ ap (λ (r : Run). r.state) (run_alone asked task),
+            one.2.1 ∙ ap (λ (r : Run). Some r.end) (run_alone asked task),
+          );
       sums = sums_of t run.last false run.is;
       unbroken = ap (λ (z : Tasks). z.broken) run.is;
     }) (told_how words exit status faults taken call _ _ run.said)
@@ -298,6 +299,7 @@ are_run asked words exit status faults taken call t long some none kept (RunsTas
         count = length run.plays;
         told = retold Fails 6 6 _ _ status taken refl (told_same asked.quantum (told_of run.plays) ∙ ap (λ t. printed_text (printed_by asked.quantum t)) tried) (cut_by words exit status faults taken call _ run.status_is run.put);
         front = retold Fails 6 6 _ _ status taken refl (told_same asked.quantum (told_in asked)) (cut_by words exit status faults taken call _ run.status_is run.front);
+        stints = (have_stints asked asked.scripts t run.last run.plays true (tries (length run.plays) (reset_of asked)).turns refl long some run.start.sound run.start.turns run.path run.is (ap (λ (a : After). a.turns) (sym run.in_turn.tried)) run.sound).stints;
         sums = sums_of t run.last true run.is;
         broken = ap (λ (z : Tasks). z.broken) run.is;
       }) none kept,

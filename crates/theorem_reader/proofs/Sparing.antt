@@ -79,7 +79,8 @@ rises image quantum x (Take stops ∷ moves) z walk holds =
     omega (arith, ap (λ (m : Memory). m.ops) one.follow.1.flash, rises image quantum walk.0 moves z walk.2 one.holds)
 rises image quantum x (Arrive target made ops ∷ moves) z walk holds =
     let one = follow image quantum x (Arrive target made ops ∷ []) walk.0 (walk.0, walk.1, refl) holds in
-    omega (arith, one.follow.1.tried, rises image quantum walk.0 moves z walk.2 one.holds)
+    let counted : (mote_of walk.0).flash.ops ≡ (mote_of x).flash.ops + ops = ap (λ (s : Store). s.flash.ops) (after_arrived x walk.0 walk.1.store walk.1.arrival walk.1.after).store_is ∙ walk.1.tried in
+    omega (arith, counted, rises image quantum walk.0 moves z walk.2 one.holds)
 
 -- the arrival of a walk
 arrival_spared : (image : List ℕ) (quantum : ℕ) (x y : State) (target last : ℕ) (made : Bool) (ops : ℕ) → Holds image quantum x → MakesArrive x target made ops y → NoneListed (mote_of x).flash last → (mote_of y).flash.ops ≤ last
@@ -124,7 +125,8 @@ walk_spares image quantum x (Arrive target made ops ∷ moves) z walk holds asks
     let last = (mote_of z).flash.ops in
     let one = follow image quantum x (Arrive target made ops ∷ []) y (y, walk.1, refl) holds in
     let spared = arrival_spared image quantum x y target last made ops holds walk.1 asks.1 (rises image quantum y moves z walk.2 one.holds) (omega (arith, asks.0)) in
-    let unlisted : NoneListed (mote_of y).flash last = λ op low high. ap (list_any (λ n. n == op)) one.follow.1.failing ∙ asks.1 op low high in
+    let listed : (mote_of y).flash.failing ≡ (mote_of x).flash.failing = ap (λ (s : Store). s.flash.failing) (after_arrived x y walk.1.store walk.1.arrival walk.1.after).store_is ∙ walk.1.kept.tried.failing in
+    let unlisted : NoneListed (mote_of y).flash last = λ op low high. ap (list_any (λ n. n == op)) listed ∙ asks.1 op low high in
     spares_on (mote_of x).flash (mote_of y).flash (mote_of z).flash spared.spares (walk_spares image quantum y moves z walk.2 one.holds (omega (arith, spared.used, asks.0), unlisted))
 
 -- From boot. ----------------------------------------------------------------------------------------------

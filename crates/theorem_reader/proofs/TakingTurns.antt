@@ -1,10 +1,12 @@
 -- What several programs did on one mote, stint after stint.
-use Rattle.std.proofs.Common.{◌≡◌, ◌≢◌, ℕ, zero, suc, ◌+◌, ◌*◌, ◌<◌, ◌≤◌, eqb, cond, Bool, true, false, List, [], ◌∷◌, length, Option, Some, None, refl, sym, ap, ◌∙◌, subst, arith, zero-add, inl, inr}
-use Rattle.std.specs.Prelude.{slice_get, slice_set, slice_index_or, sum_by, take}
+use Rattle.std.proofs.Common.{◌≡◌, ◌≢◌, ℕ, zero, suc, ◌+◌, ◌-◌, ◌*◌, ◌≤◌, eqb, cond, Bool, true, false, List, [], ◌∷◌, ◌++◌, length, Option, Some, None, refl, sym, ap, ◌∙◌, subst, arith, zero-add, inl, inr}
+use Rattle.std.specs.Prelude.{slice_get, slice_set, slice_index_or, sum_by, take, nat_le, ◌==◌, ◌||◌}
 use Rattle.std.proofs.lemmas.Bool.Decides.{nat_tests}
+use Rattle.std.proofs.lemmas.Option.{same_Some}
 use Rattle.std.proofs.lemmas.List.FromFn.{length-map-range_with_len}
 use Rattle.std.proofs.lemmas.List.Sums.{sum_by-cons}
 use Rattle.sram_layout.specs.Bytes.{byte_count, byte_at, data_word_at}
+use Rattle.sram_layout.proofs.PartLaws.{part_byte}
 use Rattle.flash_words.specs.Memory.{Memory}
 use Rattle.flash_words.proofs.LoadedLaws.{loaded_image}
 use Rattle.flash_words.specs.Layouts.{layout_of, image_of}
@@ -12,41 +14,53 @@ use Rattle.input_script.specs.Script.{Schedule}
 use Rattle.avr_isa.specs.Image.{word}
 use Rattle.heap_frames.specs.Paged.{IsPaged}
 use Rattle.heap_frames.proofs.SamePagingLaws.{paged_same}
-use Rattle.flat_machine.specs.FlatMachine.{FlatState}
+use Rattle.flat_machine.specs.FlatMachine.{FlatState, Spent, Halted, Asleep, Wild, Illegal, SelfProgram, Read, Io, Stack, SwapFull}
+use Rattle.avr_exec.specs.declared.cpu.Cpu.{Cpu}
 use Rattle.mote_core.specs.declared.mote.Mote.{Mote}
 use Rattle.kernel_entry.specs.declared.kernel.Kernel.{Kernel}
 use Rattle.kernel_entry.specs.Seen.{state_at}
+use Rattle.step_laws.specs.Moves.{Move}
 use Rattle.step_laws.specs.Numbers.{Numbers}
-use Rattle.program_steps.specs.Machines.{state_of, numbers_of, flat_of}
+use Rattle.step_laws.specs.States.{State, mote_of}
+use Rattle.step_laws.specs.Walks.{Walk}
+use Rattle.program_steps.specs.Machines.{Machine, state_of, numbers_of, flat_of}
+use Rattle.program_steps.specs.Ready.{IsGoing}
+use Rattle.std.specs.Option.{option_map}
+use Rattle.flash_words.specs.Memory.{new_flash}
 use Rattle.parked_tasks.specs.declared.task.Task.{Task}
+use Rattle.parked_tasks.specs.declared.task.TaskEnd.{TaskEnd}
+use Rattle.parked_tasks.specs.declared.task.TaskEnd.TheVariants as task_ends
 use Rattle.parked_tasks.specs.AtBoot.{mote_at_boot, parked_at_boot, at_start, waiting_from}
-use Rattle.task_turns.specs.Reset.{turns_at_reset}
 use Rattle.task_input.specs.Images.{task_words}
-use Rattle.parked_tasks.specs.Parking.{Shares, IsBack}
+use Rattle.parked_tasks.specs.Parking.{low_count, high_count, parked_of, Shares, IsBack}
 use Rattle.parked_tasks.specs.declared.parked.Parked.{Parked}
 use Rattle.parked_tasks.specs.Handing.{parked_by}
 use Rattle.tk_tasks.specs.Changes.{given_by, given_to, next_task}
-use Rattle.tk_tasks.specs.Plays.{Play, IsPlay, GoesOn, TaskPath, counted}
-use Rattle.tk_tasks.specs.States.{Tasks, machine_of, AreSound, player_of, turns_of}
+use Rattle.tk_tasks.specs.Plays.{Play, AreAStep, AreStopped, lines_told, IsPlay, GoesOn, TaskPath, counted}
+use Rattle.tk_tasks.specs.Plays as playing
+use Rattle.tk_tasks.specs.States.{Tasks, machine_of, AreSound, player_of, turns_of, players_from}
 use Rattle.parked_tasks.specs.Ends.{flat_end_of}
-use Rattle.task_turns.specs.Turns.{Player, Turns, HaveEnded}
+use Rattle.task_turns.specs.Turns.{Player, Turns, Played, Over, Gone, played, HaveEnded}
 use Rattle.task_turns.proofs.Isolation.{once_follows}
-use Rattle.task_turns.proofs.OwnPrograms.{player_at, reset_player}
 use Rattle.parked_tasks.proofs.Waiting.{waiting_length}
 use Rattle.tk_tasks.proofs.Changing.{players_length}
-use Rattle.tk_tasks.proofs.FirstPlayers.{each_first, boot_player}
 use Rattle.tk_tasks.proofs.Paths.{player_here}
-use Rattle.tk_tasks.proofs.Stints.{AreLeft, first_motes, left_at_boot, mote_before, mote_behind, is_here, left_behind, sum_play, pages_play, turned_play, last_play, has_back, left_counted}
+use Rattle.tk_tasks.proofs.Stints.{IsHeld, AreLeft, first_motes, waiting_motes, left_at_boot, mote_before, mote_behind, is_here, left_behind, sum_play, pages_play, turned_play, last_play, has_back, left_counted}
 use Rattle.cli_words.specs.declared.request.TaskRequest.{TaskRequest}
 use Rattle.tkernel_cli.specs.TasksRuns.{start_by}
-use Rattle.theorem_reader.specs.Acts.{Follow, IsBoot, steps_in, services_in, made_in}
+use Rattle.theorem_reader.specs.Acts.{Follow, IsNew, IsBoot, steps_in, services_in, made_in, StopsLast}
 use Rattle.theorem_reader.specs.Memory.{HasMemory, HasState}
-use Rattle.theorem_reader.specs.Stints.{Stint, ComesBack, TakeTurns, changes_from, HaveStints}
-use Rattle.theorem_reader.specs.Tasks.{AskedTasks, tasks_options_of, words_of, events_of, start_of, alone_of}
+use Rattle.theorem_reader.specs.Steps.{AreOfStep, is_with_kernel, HasCount}
+use Rattle.theorem_reader.specs.Stints.{Stint, ComesBack, IsParked, HasPart, Here, Away, AreOfTry, TakeTurns, changes_from, task_end}
+use Rattle.theorem_reader.specs.Tasks.{AskedTasks, tasks_options_of, words_of, events_of, reset_of, LeadThere}
 use Rattle.theorem_reader.proofs.Acting.{acts_of, Holds, follow}
-use Rattle.theorem_reader.proofs.Booting.{is_boot}
-use Rattle.theorem_reader.proofs.Bounding.{natural_of, entries_of, pages_of}
+use Rattle.theorem_reader.proofs.Booting.{is_new, is_boot}
+use Rattle.theorem_reader.proofs.Ending.{own_stop}
+use Rattle.theorem_reader.proofs.Bounding.{natural_of, entries_of, pages_of, lines_of_acts}
 use Rattle.theorem_reader.proofs.Holding.{has_memory}
+use Rattle.theorem_reader.proofs.Stepwise.{acts_as, step_acts, count_held}
+use Rattle.theorem_reader.proofs.Asking.{AllAsked, asked_before, asked_behind}
+use Rattle.theorem_reader.proofs.Stopping.{Asked, no_stop, stop_last}
 
 -- How many tasks there are. -------------------------------------------------------------------------------
 
@@ -88,6 +102,11 @@ comes_back left own now shares back = record {
   high = λ a from to. back.high a from (omega arith);
 }
 
+holds_before : (words : List ℕ) (quantum n : ℕ) (t new : Tasks) (play : Play) → (one : IsPlay n t play new) → t.kernel.layout ≡ layout_of (length words) → image_of (layout_of (length words)) t.kernel.mote.flash.words ≡ words → t.kernel.quantum ≡ quantum
+    → Holds words quantum (state_of (machine_of t t.running one.task))
+holds_before words quantum n t new play one laid held counts =
+    record { laid = laid; held = ap (λ (m : Mote). image_of (layout_of (length words)) m.flash.words) (mote_before n t new play one) ∙ held; counts = counts }
+
 record FollowsPlay (words : List ℕ) (quantum n : ℕ) (t new : Tasks) (play : Play) (one : IsPlay n t play new) : Type 0 where
   follow : Follow words quantum t.kernel.mote (stint_of n t play new one).acts one.mid.kernel.mote
   held : image_of (layout_of (length words)) one.mid.kernel.mote.flash.words ≡ words
@@ -99,8 +118,7 @@ follow_play words quantum n t new play one laid held counts =
     let z = state_of (machine_of one.mid t.running one.next) in
     let acts = (stint_of n t play new one).acts in
     let l = layout_of (length words) in
-    let holds : Holds words quantum x = record { laid = laid; held = ap (λ (m : Mote). image_of l m.flash.words) (mote_before n t new play one) ∙ held; counts = counts } in
-    let done = follow words quantum x play.moves z one.tried.goes.walk holds in
+    let done = follow words quantum x play.moves z one.tried.goes.walk (holds_before words quantum n t new play one laid held counts) in
     record {
       follow = subst (λ (b : Mote). Follow words quantum b acts one.mid.kernel.mote) (mote_before n t new play one)
           (subst (λ (b : Mote). Follow words quantum (machine_of t t.running one.task).kernel.mote acts b) (mote_behind n t new play one) done.follow);
@@ -137,10 +155,58 @@ stands_before n t new play one =
     let m = machine_of t t.running one.task in
     subst (HasState (flat_of m).now) (mote_before n t new play one) (state_held m.kernel m.kernel.mote m.at m.steps m.crossings (flat_of m).now (one.sound.each t.running one.task one.here).sound.order.paged refl)
 
+-- the moves of a try as acts
+step_tried : (image : List ℕ) (quantum : ℕ) (y : Machine) (z : State) (moves : List Move) → Holds image quantum (state_of y) → IsGoing y → Asked (state_of y) → AreAStep y.at moves → (walk : Walk (state_of y) moves z)
+    → AreOfStep image (flat_of y) (mote_of (state_of y)) (acts_of (state_of y) moves z walk)
+step_tried image quantum y z moves holds ready asked made =
+    acts_as (state_of y) z (AreOfStep image (flat_of y) (mote_of (state_of y))) moves (made.arrival ++ made.own) made.parts
+    (step_acts image quantum (λ k. flat_of y) 0 y z made.arrival made.own holds (record { ready = ready; stands = refl }) asked made.arrives made.makes)
+
+stop_tried : (image : List ℕ) (quantum : ℕ) (y : Machine) (z : State) (moves : List Move) → Holds image quantum (state_of y) → IsGoing y → Asked (state_of y) → AreStopped y.at moves z.end → (walk : Walk (state_of y) moves z)
+    → AreOfStep image (flat_of y) (mote_of (state_of y)) (acts_of (state_of y) moves z walk) × StopsLast true (acts_of (state_of y) moves z walk)
+stop_tried image quantum y z moves holds ready asked made walk = (step_tried image quantum y z moves holds ready asked made.step walk, stop_last (state_of y) moves z walk ready.going (made.stop, made.stops))
+
+try_acts : (image : List ℕ) (quantum : ℕ) (y : Machine) (z : State) (moves : List Move) → Holds image quantum (state_of y) → IsGoing y → Asked (state_of y) → (comes : Played) → playing.AreOfTry y.at moves z.end comes → (walk : Walk (state_of y) moves z)
+    → AreOfTry image (flat_of y) (mote_of (state_of y)) (acts_of (state_of y) moves z walk) comes
+try_acts image quantum y z moves holds ready asked (Over Spent) none = acts_as (state_of y) z (λ acts. acts ≡ []) moves [] none (λ walk. refl)
+try_acts image quantum y z moves holds ready asked (Over (Wild pc)) none = acts_as (state_of y) z (λ acts. acts ≡ []) moves [] none (λ walk. refl)
+try_acts image quantum y z moves holds ready asked (Over (Halted pc)) made = stop_tried image quantum y z moves holds ready asked made
+try_acts image quantum y z moves holds ready asked (Over (Asleep pc)) made = stop_tried image quantum y z moves holds ready asked made
+try_acts image quantum y z moves holds ready asked (Over (Illegal pc)) made = stop_tried image quantum y z moves holds ready asked made
+try_acts image quantum y z moves holds ready asked (Over (SelfProgram pc)) made = stop_tried image quantum y z moves holds ready asked made
+try_acts image quantum y z moves holds ready asked (Over (Read pc a)) made = stop_tried image quantum y z moves holds ready asked made
+try_acts image quantum y z moves holds ready asked (Over (Io pc a)) made = stop_tried image quantum y z moves holds ready asked made
+try_acts image quantum y z moves holds ready asked (Over (Stack pc a)) made = stop_tried image quantum y z moves holds ready asked made
+try_acts image quantum y z moves holds ready asked (Over (SwapFull pc a)) made = stop_tried image quantum y z moves holds ready asked made
+try_acts image quantum y z moves holds ready asked (Gone line checkpoint next) made = λ walk. (step_tried image quantum y z moves holds ready asked made.step walk, no_stop (state_of y) moves z walk made.going)
+
+tried_acts : (words : List ℕ) (quantum n : ℕ) (t new : Tasks) (play : Play) → (one : IsPlay n t play new) → t.kernel.layout ≡ layout_of (length words) → image_of (layout_of (length words)) t.kernel.mote.flash.words ≡ words → t.kernel.quantum ≡ quantum → Asked (state_of (machine_of t t.running one.task))
+    → AreOfTry words (player_of n t t.running one.task).moment t.kernel.mote (stint_of n t play new one).acts (played (player_of n t t.running one.task))
+tried_acts words quantum n t new play one laid held counts asked =
+    let y = machine_of t t.running one.task in
+    let z = state_of (machine_of one.mid t.running one.next) in
+    let p = player_of n t t.running one.task in
+    subst (λ (b : Mote). AreOfTry words p.moment b (stint_of n t play new one).acts (played p)) (mote_before n t new play one)
+    (try_acts words quantum y z play.moves (holds_before words quantum n t new play one laid held counts) ((one.sound.each t.running one.task one.here).going one.whole one.going) asked (played p) one.of_try one.tried.goes.walk)
+
+-- COUNT before it
+counted_before : (words : List ℕ) (quantum n : ℕ) (t new : Tasks) (play : Play) → (one : IsPlay n t play new) → t.kernel.layout ≡ layout_of (length words) → image_of (layout_of (length words)) t.kernel.mote.flash.words ≡ words → t.kernel.quantum ≡ quantum
+    → HasCount quantum (player_of n t t.running one.task).moment.now t.kernel.mote
+counted_before words quantum n t new play one laid held counts =
+    let y = machine_of t t.running one.task in
+    subst (HasCount quantum (flat_of y).now) (mote_before n t new play one)
+    (count_held words quantum (λ k. flat_of y) 0 y (holds_before words quantum n t new play one laid held counts) (record { ready = (one.sound.each t.running one.task one.here).going one.whole one.going; stands = refl }))
+
+-- the mote that is left behind the last of them
+abbrev pub left_at_end : (n : ℕ) (t : Tasks) (plays : List Play) (new : Tasks) → TaskPath n t plays new → Mote → Mote
+left_at_end n t [] new is left = left
+left_at_end n t (play ∷ plays) new (mid, one, rest) left = left_at_end n mid plays new rest one.mid.kernel.mote
+
 take_turns : (words : List ℕ) (quantum count n : ℕ) (t : Tasks) (plays : List Play) (new : Tasks) (motes : List Mote) (left : Mote) → length words ≡ 4096 * count → length t.tasks ≡ count → (path : TaskPath n t plays new) → AreLeft t motes left
-    → image_of (layout_of (length words)) left.flash.words ≡ words → t.kernel.quantum ≡ quantum → TakeTurns words quantum (turns_of n t) left motes (stints_of n t plays new path) (motes_behind n t plays new path motes)
-take_turns words quantum count n t [] new motes left size long is are held counts = refl
-take_turns words quantum count n t (play ∷ plays) new motes left size long (mid, one, rest) are held counts =
+    → AllAsked t motes → image_of (layout_of (length words)) left.flash.words ≡ words → t.kernel.quantum ≡ quantum
+    → TakeTurns words quantum (turns_of n t) left motes (stints_of n t plays new path) (turns_of n new) (left_at_end n t plays new path left) (motes_behind n t plays new path motes)
+take_turns words quantum count n t [] new motes left size long is are asked held counts = (ap (turns_of n) is, refl, refl)
+take_turns words quantum count n t (play ∷ plays) new motes left size long (mid, one, rest) are asked held counts =
     let had = are.each t.running one.task one.here in
     let laid = one.sound.layout ∙ ap (λ k. layout_of (4096 * k)) long ∙ ap layout_of (sym size) in
     let here = ap (λ (f : Memory). image_of (layout_of (length words)) f.words) are.shares.flash ∙ held in
@@ -152,23 +218,22 @@ take_turns words quantum count n t (play ∷ plays) new motes left size long (mi
       t.kernel.mote,
       one.mid.kernel.mote,
       player_here n t t.running one.task one.here,
+      ap flat_end_of one.going,
       refl,
       had.there,
       comes_back left had.own t.kernel.mote are.shares (is_here t one.task had.own had.held),
       stands_before n t mid play one,
+      counted_before words quantum n t mid play one laid here counts,
+      tried_acts words quantum n t mid play one laid here counts (asked_before n t mid play motes left one are asked),
+      sym (lines_of_acts (state_of (machine_of t t.running one.task)) play.moves (state_of (machine_of one.mid t.running one.next)) one.tried.goes.walk) ∙ one.tried.goes.told ∙ ap lines_told one.told,
       done.follow,
-      subst (λ (u : Turns). TakeTurns words quantum u one.mid.kernel.mote next (stints_of n mid plays new rest) (motes_behind n mid plays new rest next)) one.in_turn
-          (take_turns words quantum count n mid plays new next one.mid.kernel.mote size more rest (left_behind n t mid play motes left one are) done.held (on_quantum play.changes one.mid mid one.behind ∙ done.counts)),
+      subst (λ (u : Turns). TakeTurns words quantum u one.mid.kernel.mote next (stints_of n mid plays new rest) (turns_of n new) (left_at_end n mid plays new rest one.mid.kernel.mote) (motes_behind n mid plays new rest next)) one.in_turn
+          (take_turns words quantum count n mid plays new next one.mid.kernel.mote size more rest (left_behind n t mid play motes left one are) (asked_behind n t mid play motes left one are asked) done.held (on_quantum play.changes one.mid mid one.behind ∙ done.counts)),
     )
 
-left_last : (n : ℕ) (t : Tasks) (plays : List Play) (new : Tasks) (motes : List Mote) (left : Mote) → (path : TaskPath n t plays new) → AreLeft t motes left → (last : Mote) × AreLeft new (motes_behind n t plays new path motes) last
-left_last n t [] new motes left is are = (left, subst (λ u. AreLeft u motes left) is are)
+left_last : (n : ℕ) (t : Tasks) (plays : List Play) (new : Tasks) (motes : List Mote) (left : Mote) → (path : TaskPath n t plays new) → AreLeft t motes left → AreLeft new (motes_behind n t plays new path motes) (left_at_end n t plays new path left)
+left_last n t [] new motes left is are = subst (λ u. AreLeft u motes left) is are
 left_last n t (play ∷ plays) new motes left (mid, one, rest) are = left_last n mid plays new (slice_set motes t.running one.mid.kernel.mote) one.mid.kernel.mote rest (left_behind n t mid play motes left one are)
-
--- tasks that any play leads from are sound
-sound_first : (n : ℕ) (t : Tasks) (plays : List Play) (new : Tasks) → TaskPath n t plays new → (t ≡ new → ⊥) → AreSound t
-sound_first n t [] new is apart = absurd (apart is)
-sound_first n t (play ∷ plays) new (mid, one, rest) apart = one.sound
 
 -- What they count. ----------------------------------------------------------------------------------------
 
@@ -227,14 +292,33 @@ paged_back own n back size paged =
     subst (λ w. IsPaged own.sram w) back.swap (paged_same n.sram own.sram n.swap
     (record { size = size ∙ sym paged.sized.sram; cells = λ b from to. sym (back.low b (omega arith) (omega arith)); tables = λ b from to. sym (back.high b (omega arith) (omega arith)) }) paged)
 
+-- the part of the mote that a task has
+is_parked : (own : Mote) → IsParked own (parked_of own)
+unfolding byte_at
+is_parked own = record {
+  core = refl;
+  devices = refl;
+  swap = refl;
+  low = λ a from to. let at : 0x0100 + (a - 0x0100) ≡ a = omega arith in part_byte own.sram 0x0100 low_count (a - 0x0100) (omega arith) (omega arith) ∙ ap (byte_at own.sram) at;
+  high = λ a from to. let at : 0x0400 + (a - 0x0400) ≡ a = omega arith in part_byte own.sram 0x0400 high_count (a - 0x0400) (omega arith) (omega arith) ∙ ap (byte_at own.sram) at;
+}
+
+has_part : (t : Tasks) (left : Mote) (i : ℕ) (task : Task) (own : Mote) → AreSound t → Shares left t.kernel.mote → slice_get t.tasks i ≡ Some task → IsHeld t i task own → HasPart left own t.kernel.mote (eqb i t.running) task
+has_part t left i task own sound shares there (IsHeld.Here same back) =
+    let runs : eqb i t.running ≡ true = grind (arith, nat_tests, same) in
+    Here runs ((sound.each i task there).running same) (comes_back left own t.kernel.mote shares back)
+has_part t left i task own sound shares there (IsHeld.Away apart parked) =
+    let waits : eqb i t.running ≡ false = grind (arith, nat_tests, apart) in
+    Away waits (parked_of own) parked (is_parked own)
+
 -- the mote that a task left is where its program stands
-stands_left : (t : Tasks) (motes : List Mote) (left : Mote) (i : ℕ) (task : Task) (s : FlatState) → AreSound t → AreLeft t motes left → slice_get t.tasks i ≡ Some task → (flat_of (machine_of t i task)).now ≡ s → (m : Mote) × (slice_get motes i ≡ Some m) × HasState s m
+stands_left : (t : Tasks) (motes : List Mote) (left : Mote) (i : ℕ) (task : Task) (s : FlatState) → AreSound t → (are : AreLeft t motes left) → (there : slice_get t.tasks i ≡ Some task) → (flat_of (machine_of t i task)).now ≡ s → HasState s (are.each i task there).own
 stands_left t motes left i task s sound are there same =
     let m = machine_of t i task in
     let has = are.each i task there in
     let back = has_back t motes i task sound there has in
     let paged = paged_back has.own m.kernel.mote back has.size (sound.each i task there).sound.order.paged in
-    (has.own, has.there, state_held m.kernel has.own m.at m.steps m.crossings s paged (sym (back.program m.kernel m.at m.steps m.crossings) ∙ same))
+    state_held m.kernel has.own m.at m.steps m.crossings s paged (sym (back.program m.kernel m.at m.steps m.crossings) ∙ same)
 
 -- From boot. ----------------------------------------------------------------------------------------------
 
@@ -263,54 +347,130 @@ boots_image asked first others long =
     let Held : ℕ → Type 0 = λ k. take (length (task_words k asked.image)) (mote_at_boot (task_words (length others + 1) asked.image) first asked.quantum asked.slots).flash.words ≡ task_words k asked.image in
     subst Held long (loaded_image (task_words (length others + 1) asked.image))
 
--- and none has ended there
-none_ended : (asked : AskedTasks) (n : ℕ) → 0 < length asked.scripts → HaveEnded (turns_at_reset asked.image asked.scripts asked.quantum asked.slots n) → ⊥
-none_ended asked n some ended =
-    let over = ended 0 (player_at (task_words (length asked.scripts) asked.image) asked.scripts asked.quantum asked.slots n 0) (reset_player asked.image asked.scripts asked.quantum asked.slots n 0 some) in
-    let both : ◌≡◌ {A = Bool} false true = over in
-    cc
+-- each task's own mote there
+own_waiting : (scripts : List Schedule) (quantum slots k : ℕ) (m : Mote) → slice_get (waiting_motes scripts quantum slots) k ≡ Some m → IsNew (slice_index_or {A = Schedule} scripts k (record { events = []; failing = [] })).events quantum slots m
+own_waiting [] quantum slots k m there = absurd (cc)
+own_waiting (script ∷ scripts) quantum slots zero m there = subst (IsNew script.events quantum slots) (same_Some _ m there) (is_new (new_flash [] []) script.events quantum slots refl refl)
+own_waiting (script ∷ scripts) quantum slots (suc k) m there = own_waiting scripts quantum slots k m there
 
--- all of it, where each ends as it should
-pub have_stints : (asked : AskedTasks) (scripts : List Schedule) (t last : Tasks) (plays : List Play) → asked.scripts ≡ scripts → length asked.scripts ≡ asked.count → 1 ≤ asked.count
-    → turns_of asked.steps (tasks_at_boot asked asked.scripts) ≡ turns_at_reset asked.image asked.scripts asked.quantum asked.slots asked.steps → TaskPath asked.steps (tasks_at_boot asked asked.scripts) plays last → t ≡ counted last false → HaveEnded (turns_of asked.steps last)
-    → AreSound t → ((i : ℕ) → i < asked.count → (task : Task) × (slice_get t.tasks i ≡ Some task) × ((player_of asked.steps t i task).moment.now ≡ (alone_of asked i).state.now))
-    → HaveStints (IsBoot (words_of asked) [] (events_of asked 0) asked.quantum asked.slots) (words_of asked) asked.quantum (turns_at_reset asked.image asked.scripts asked.quantum asked.slots asked.steps) asked.count t.natural t.entries t.pages t.switches (start_of asked) (λ task. (alone_of asked task).state.now)
-have_stints asked [] t last plays is long some start path counts ended sound each = absurd (omega (arith, ap length is, long, some))
-have_stints asked (first ∷ others) t last plays is long some reset path counts ended sound each =
+own_at_boot : (image : List ℕ) (first : Schedule) (others : List Schedule) (quantum slots task : ℕ) (m : Mote) → slice_get (first_motes image first others quantum slots) task ≡ Some m
+    → IsNew (slice_index_or {A = Schedule} (first ∷ others) task (record { events = []; failing = [] })).events quantum slots m
+own_at_boot image first others quantum slots zero m there = subst (IsNew first.events quantum slots) (same_Some _ m there) (is_new (new_flash (task_words (length others + 1) image) []) first.events quantum slots refl refl)
+own_at_boot image first others quantum slots (suc k) m there = own_waiting others quantum slots k m there
+
+-- nothing was done by it
+at_rest : (m : Mote) → m.cpu.pc ≡ 0 → is_with_kernel m ≡ true
+at_rest m zero_pc = ap (λ pc. (pc == 0) || nat_le 0xF000 pc) zero_pc
+
+-- how a task ended, in the reader's words
+same_end : (end : Option TaskEnd) → option_map task_end end ≡ flat_end_of end
+same_end None = refl
+same_end (Some task_ends.Spent) = refl
+same_end (Some (task_ends.Wild pc)) = refl
+same_end (Some (task_ends.Read pc a)) = refl
+same_end (Some (task_ends.Stopped stop)) = ap Some (sym (own_stop stop))
+
+-- Each player is a task. ----------------------------------------------------------------------------------
+
+record IsPlayed (n : ℕ) (t : Tasks) (i : ℕ) (p : Player) : Type 0 where
+  its : Task
+  there : slice_get t.tasks i ≡ Some its
+  is : player_of n t i its ≡ p
+
+played_from : (n : ℕ) (t : Tasks) (k : ℕ) (tasks : List Task) (i : ℕ) (p : Player) → slice_get (players_from n t k tasks) i ≡ Some p → (task : Task) × (slice_get tasks i ≡ Some task) × (player_of n t (k + i) task ≡ p)
+played_from n t k [] i p there = absurd (cc)
+played_from n t k (task ∷ tasks) zero p there =
+    let at : k + 0 ≡ k = omega arith in
+    (task, refl, ap (λ j. player_of n t j task) at ∙ same_Some _ p there)
+played_from n t k (task ∷ tasks) (suc i) p there =
+    let more = played_from n t (k + 1) tasks i p there in
+    let at : k + suc i ≡ k + 1 + i = omega arith in
+    (more.0, more.1, ap (λ j. player_of n t j more.0) at ∙ more.2)
+
+is_played : (n : ℕ) (t : Tasks) (turns : Turns) (i : ℕ) (p : Player) → turns_of n t ≡ turns → slice_get turns.players i ≡ Some p → IsPlayed n t i p
+is_played n t turns i p same there =
+    let one = played_from n t 0 t.tasks i p (ap (λ (s : Turns). slice_get s.players i) same ∙ there) in
+    let at : i ≡ 0 + i = omega arith in
+    record { its = one.0; there = one.1; is = ap (λ j. player_of n t j one.0) at ∙ one.2 }
+
+-- what is counted of all is no part of a task's mote
+held_counted : (t : Tasks) (broken : Bool) (i : ℕ) (task : Task) (own : Mote) → IsHeld t i task own → IsHeld (counted t broken) i task own
+held_counted t broken i task own (IsHeld.Here same back) = IsHeld.Here same back
+held_counted t broken i task own (IsHeld.Away apart parked) = IsHeld.Away apart parked
+
+left_if : (t : Tasks) (broken : Bool) (motes : List Mote) (left : Mote) → AreLeft (counted t false) motes left → AreLeft (counted t broken) motes left
+left_if t broken motes left are = record {
+  shares = are.shares;
+  each = λ i task there. (let has = are.each i task there in record { own = has.own; there = has.there; size = has.size; held = held_counted (counted t false) broken i task has.own has.held });
+}
+
+-- All of it. ----------------------------------------------------------------------------------------------
+
+-- the stints, and how often the program was changed, once each has ended
+pub record AreStints (asked : AskedTasks) (to : Turns) (t : Tasks) : Type 0 where
+  pub stints : LeadThere asked to t
+  pub switches : HaveEnded to → t.switches ≡ changes_from 0 stints.stints
+
+pub have_stints : (asked : AskedTasks) (scripts : List Schedule) (t last : Tasks) (plays : List Play) (broken : Bool) (to : Turns) → asked.scripts ≡ scripts → length asked.scripts ≡ asked.count → 1 ≤ asked.count
+    → AreSound (tasks_at_boot asked asked.scripts) → turns_of asked.steps (tasks_at_boot asked asked.scripts) ≡ reset_of asked → TaskPath asked.steps (tasks_at_boot asked asked.scripts) plays last → t ≡ counted last broken → turns_of asked.steps last ≡ to
+    → AreSound t → AreStints asked to t
+have_stints asked [] t last plays broken to is long some sound_boot reset path counts leads sound = absurd (omega (arith, ap length is, long, some))
+have_stints asked (first ∷ others) t last plays broken to is long some sound_boot reset path counts leads sound =
     let n = asked.steps in
     let booted = tasks_at_boot asked (first ∷ others) in
     let same : tasks_at_boot asked asked.scripts ≡ booted = ap (tasks_at_boot asked) is in
     let way = subst (λ u. TaskPath n u plays last) same path in
-    let at_reset : turns_of n booted ≡ turns_at_reset asked.image asked.scripts asked.quantum asked.slots n = ap (turns_of n) (sym same) ∙ reset in
+    let at_reset : turns_of n booted ≡ reset_of asked = ap (turns_of n) (sym same) ∙ reset in
     let motes = first_motes asked.image first others asked.quantum asked.slots in
     let are = left_at_boot asked.image first others asked.quantum asked.slots in
-    let behind = left_last n booted plays last motes booted.kernel.mote way are in
-    let sound_last : AreSound (counted last false) = subst AreSound counts sound in
-    let sound_boot = sound_first n booted plays last way (λ same_last. none_ended asked n (omega (arith, long, some)) (subst HaveEnded at_reset (subst (λ (u : Tasks). HaveEnded (turns_of n u)) (sym same_last) ended))) in
+    let asked_first : AllAsked booted motes = λ i task own there mote going owes. at_rest own (ap (λ (c : Cpu). c.pc) (own_at_boot asked.image first others asked.quantum asked.slots i own mote).core) in
+    let left = left_at_end n booted plays last way booted.kernel.mote in
+    let behind = motes_behind n booted plays last way motes in
+    let u = counted last broken in
+    let are_last : AreLeft u behind left = left_if last broken behind left (left_counted last behind left (left_last n booted plays last motes booted.kernel.mote way are)) in
+    let sound_last : AreSound u = subst AreSound counts sound in
     let size : length asked.scripts ≡ length (first ∷ others) = ap length is in
     let count : length others + 1 ≡ asked.count = omega (arith, size, long) in
     let tasks_long : length booted.tasks ≡ asked.count = omega (arith, waiting_length 1 others asked.quantum asked.slots, count) in
     let none : (f : Task → ℕ) → ((k : ℕ) (parked : Option Parked) → f (at_start k parked) ≡ 0) → sum_by f booted.tasks ≡ 0 = λ f zero_at. omega (arith, sum_by-cons f (at_start 0 None) (waiting_from 1 others asked.quantum asked.slots), zero_at 0 None, waiting_none f 1 others asked.quantum asked.slots zero_at) in
     record {
-      stints = stints_of n booted plays last way;
-      first = booted.kernel.mote;
-      begins = boots asked first others count (ap (λ (s : List Schedule). (slice_index_or {A = Schedule} s 0 (record { events = []; failing = [] })).events) is);
-      motes = motes;
-      first_is = refl;
-      starts = λ task below.
-          let inside : task < length asked.scripts = omega (arith, below, long) in
-          let one = each_first n booted asked.image asked.scripts asked.quantum asked.slots task at_reset inside in
-          let own = boot_player n booted asked.image asked.scripts asked.quantum asked.slots task one.0 at_reset one.1 inside in
-          stands_left booted motes booted.kernel.mote task one.0 (start_of asked task) sound_boot are one.1 (ap (λ (p : Player). p.moment.now) own);
-      last = motes_behind n booted plays last way motes;
-      turns = subst (λ (u : Turns). TakeTurns (words_of asked) asked.quantum u booted.kernel.mote motes (stints_of n booted plays last way) (motes_behind n booted plays last way motes)) at_reset
-          (take_turns (words_of asked) asked.quantum asked.count n booted plays last motes booted.kernel.mote (length-map-range_with_len (word asked.image) 0 (4096 * asked.count)) tasks_long way are (boots_image asked first others count) refl);
-      ends = λ task below.
-          let one = each task below in
-          stands_left (counted last false) (motes_behind n booted plays last way motes) behind.0 task one.0 (alone_of asked task).state.now sound_last (left_counted last _ behind.0 behind.1)
-          (ap (λ (u : Tasks). slice_get u.tasks task) (sym counts) ∙ one.1) (ap (λ (u : Tasks). (player_of n u task one.0).moment.now) (sym counts) ∙ one.2);
-      natural_is = ap (λ (u : Tasks). u.natural) counts ∙ sum_path (λ task. task.natural) (λ stint. steps_in stint.acts) n booted plays last natural_counts way ∙ ap (λ k. k + sum_by (λ (stint : Stint). steps_in stint.acts) (stints_of n booted plays last way)) (none (λ task. task.natural) (λ k parked. refl)) ∙ zero-add (_);
-      entries_is = ap (λ (u : Tasks). u.entries) counts ∙ sum_path (λ task. task.entries) (λ stint. services_in stint.acts) n booted plays last entries_counts way ∙ ap (λ k. k + sum_by (λ (stint : Stint). services_in stint.acts) (stints_of n booted plays last way)) (none (λ task. task.entries) (λ k parked. refl)) ∙ zero-add (_);
-      pages_is = ap (λ (u : Tasks). u.pages) counts ∙ pages_path n booted plays last way ∙ zero-add (_);
-      switches_is = ap (λ (u : Tasks). u.switches) counts ∙ changes_path n booted plays last way ended ∙ zero-add (_);
+      stints = record {
+        stints = stints_of n booted plays last way;
+        first = booted.kernel.mote;
+        begins = boots asked first others count (ap (λ (s : List Schedule). (slice_index_or {A = Schedule} s 0 (record { events = []; failing = [] })).events) is);
+        motes = motes;
+        first_is = refl;
+        own = λ task m there. subst (λ (l : List Schedule). IsNew (slice_index_or {A = Schedule} l task (record { events = []; failing = [] })).events asked.quantum asked.slots m) (sym is) (own_at_boot asked.image first others asked.quantum asked.slots task m there);
+        starts = λ task p there.
+            let one = is_played n booted (reset_of asked) task p at_reset there in
+            let has = are.each task one.its one.there in
+            (has.own, has.there, stands_left booted motes booted.kernel.mote task one.its p.moment.now (subst AreSound same sound_boot) are one.there (ap (λ (q : Player). q.moment.now) one.is));
+        last = behind;
+        left = left;
+        turns = subst (λ (to : Turns). TakeTurns (words_of asked) asked.quantum (reset_of asked) booted.kernel.mote motes (stints_of n booted plays last way) to left behind) leads
+            (subst (λ (from : Turns). TakeTurns (words_of asked) asked.quantum from booted.kernel.mote motes (stints_of n booted plays last way) (turns_of n last) left behind) at_reset
+            (take_turns (words_of asked) asked.quantum asked.count n booted plays last motes booted.kernel.mote (length-map-range_with_len (word asked.image) 0 (4096 * asked.count)) tasks_long way are asked_first (boots_image asked first others count) refl));
+        ends = λ task p there.
+            let one = is_played n last to task p leads there in
+            let its = one.its in
+            let has = are_last.each task its one.there in (
+              has.own,
+              its,
+              has.there,
+              stands_left u behind left task its p.moment.now sound_last are_last one.there (ap (λ (q : Player). q.moment.now) one.is),
+              ap (λ (z : Tasks). slice_get z.tasks task) counts ∙ one.there,
+              subst (λ (z : Tasks). HasPart left has.own z.kernel.mote (eqb task z.running) its) (sym counts) (has_part u left task its has.own sound_last are_last.shares one.there has.held),
+              same_end its.end ∙ ap (λ (q : Player). q.end) one.is,
+              ap (λ (q : Player). q.moment.due) one.is,
+              ap (λ (q : Player). q.moment.now.cpu.pc) one.is,
+              ap (λ (q : Player). q.moment.now.steps) one.is,
+              ap (λ (q : Player). q.moment.now.crossings) one.is,
+            );
+        runs = ap (λ (z : Tasks). z.running) counts ∙ ap (λ (s : Turns). s.running) leads;
+        many = ap (λ (z : Tasks). length z.tasks) counts ∙ sym (players_length n last 0 last.tasks) ∙ ap (λ (s : Turns). length s.players) leads;
+        natural_is = ap (λ (z : Tasks). z.natural) counts ∙ sum_path (λ task. task.natural) (λ stint. steps_in stint.acts) n booted plays last natural_counts way ∙ ap (λ k. k + sum_by (λ (stint : Stint). steps_in stint.acts) (stints_of n booted plays last way)) (none (λ task. task.natural) (λ k parked. refl)) ∙ zero-add (_);
+        entries_is = ap (λ (z : Tasks). z.entries) counts ∙ sum_path (λ task. task.entries) (λ stint. services_in stint.acts) n booted plays last entries_counts way ∙ ap (λ k. k + sum_by (λ (stint : Stint). services_in stint.acts) (stints_of n booted plays last way)) (none (λ task. task.entries) (λ k parked. refl)) ∙ zero-add (_);
+        pages_is = ap (λ (z : Tasks). z.pages) counts ∙ pages_path n booted plays last way ∙ zero-add (_);
+      };
+      switches = λ ended. ap (λ (z : Tasks). z.switches) counts ∙ changes_path n booted plays last way (subst HaveEnded (sym leads) ended) ∙ zero-add (_);
     }

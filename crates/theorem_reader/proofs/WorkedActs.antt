@@ -2,48 +2,50 @@
 -- tells none of these, or services alone, is refused.
 use Rattle.std.proofs.Common.{◌≡◌, ℕ, zero, suc, ◌+◌, ◌≤◌, ◌<◌, Bool, true, false, cond, List, [], ◌∷◌, ◌++◌, ◌∙◌, refl, sym, ap, subst, arith, inl, inr}
 use Rattle.std.proofs.lemmas.Bool.{and_parts}
-use Rattle.avr_exec.specs.declared.cpu.Cpu.{Cpu}
 use Rattle.mote_core.specs.declared.mote.Mote.{Mote}
-use Rattle.flat_machine.specs.FlatMachine.{Program, Moment, End as FlatEnd, Spent, Wild, whole_part, is_inside, at_front, ended, run}
-use Rattle.theorem_reader.specs.Acts.{Act, Step, Service, Arrival, Interrupt, Arrives, In, Outside, Refused, Follow, steps_in, services_in}
+use Rattle.flat_machine.specs.FlatMachine.{Program, Run, Moment, End as FlatEnd, Spent, Wild, whole_part, is_inside, at_front, ended, run}
+use Rattle.avr_exec.specs.declared.cpu.Cpu.{Cpu}
+use Rattle.theorem_reader.specs.Acts.{IsBoot, Act, Step, Service, Arrival, Interrupt, Arrives, In, Outside, Refused, Follow, steps_in, services_in}
 use Rattle.theorem_reader.specs.Steps.{AreOfStep, Interrupted, There, Arriving, GoByStep}
-use Rattle.theorem_reader.specs.Runs.{Asked, original_of}
-use Rattle.theorem_reader.specs.ByCode.{IsDoneByCode}
+use Rattle.program_steps.specs.Machines.{Machine}
+use Rattle.theorem_reader.specs.Restarts.{IsStart, used_in}
+use Rattle.theorem_reader.specs.Runs.{Asked, StandsFrom, original_of}
+use Rattle.theorem_reader.specs.ByCode.{IsDoneByCode, IsDoneByCodeAgain}
 use Rattle.theorem_reader.proofs.Pooling.{place_low}
 
-low_behind : (image : List ℕ) (target made : ℕ) (before after : Mote) → Arrives image target made before after → before.cpu.pc < 0xF000 → after.cpu.pc < 0xF000
-low_behind image target made before after (In inside faithful place others linked next unlisted) low = (place_low image after.flash.words target after.cpu.pc place).1
-low_behind image target made before after (Outside outside unmade flash pc) low = omega (arith, pc, low)
-low_behind image target made before after (Refused inside later listed faithful again other others (inl pc)) low = omega (arith, pc, low)
-low_behind image target made before after (Refused inside later listed faithful again other others (inr pool)) low = pool.1
+low_behind : (image : List ℕ) (refused : Bool) (target made : ℕ) (before after : Mote) → Arrives image refused target made before after → before.cpu.pc < 0xF000 → after.cpu.pc < 0xF000
+low_behind image refused target made before after (In going inside faithful place others linked next unlisted) low = (place_low image after.flash.words target after.cpu.pc place).1
+low_behind image refused target made before after (Outside over outside unmade flash pc) low = omega (arith, pc, low)
+low_behind image refused target made before after (Refused over inside later listed faithful again other others (inl pc) next) low = omega (arith, pc, low)
+low_behind image refused target made before after (Refused over inside later listed faithful again other others (inr pool) next) low = pool.1
 
 pub no_service_alone : (image : List ℕ) (quantum : ℕ) (first : Mote) (acts : List Act) (last : Mote) → Follow image quantum first acts last → first.cpu.pc < 0xF000 → steps_in acts ≡ 0 → services_in acts ≡ 0
 no_service_alone image quantum first [] last follow low none = refl
-no_service_alone image quantum first (Step before after ∷ acts) last follow low none = absurd (omega (arith, none))
-no_service_alone image quantum first (Service before after ∷ acts) last follow low none = absurd (omega (arith, low, follow.1.low, ap (λ (m : Mote). m.cpu.pc) follow.0))
-no_service_alone image quantum first (Arrival target made ops before after ∷ acts) last follow low none =
-    no_service_alone image quantum after acts last follow.2 (low_behind image target made before after follow.1.arrives (omega (arith, low, ap (λ (m : Mote). m.cpu.pc) follow.0))) none
-no_service_alone image quantum first (Interrupt before after ∷ acts) last follow low none =
-    no_service_alone image quantum after acts last follow.2 (omega (arith, low, follow.1.pc, ap (λ (m : Mote). m.cpu.pc) follow.0)) none
+no_service_alone image quantum first (Step line before after ∷ acts) last follow low none = absurd (omega (arith, none))
+no_service_alone image quantum first (Service line stops before after ∷ acts) last follow low none = absurd (omega (arith, low, follow.1.low, ap (λ (m : Mote). m.cpu.pc) follow.0))
+no_service_alone image quantum first (Arrival refused target made ops before after ∷ acts) last follow low none =
+    no_service_alone image quantum after acts last follow.2 (low_behind image refused target made before after follow.1.arrives (omega (arith, low, ap (λ (m : Mote). m.cpu.pc) follow.0))) none
+no_service_alone image quantum first (Interrupt stops before after ∷ acts) last follow low none =
+    no_service_alone image quantum after acts last follow.2 (omega (arith, low, ap (λ (c : Cpu). c.pc) follow.1.core, ap (λ (m : Mote). m.cpu.pc) follow.0)) none
 
 steps_behind : (acts more : List Act) → steps_in (acts ++ more) ≡ steps_in acts + steps_in more
 steps_behind [] more = omega arith
-steps_behind (Step before after ∷ acts) more = omega (arith, steps_behind acts more)
-steps_behind (Service before after ∷ acts) more = steps_behind acts more
-steps_behind (Arrival target made ops before after ∷ acts) more = steps_behind acts more
-steps_behind (Interrupt before after ∷ acts) more = steps_behind acts more
+steps_behind (Step line before after ∷ acts) more = omega (arith, steps_behind acts more)
+steps_behind (Service line stops before after ∷ acts) more = steps_behind acts more
+steps_behind (Arrival refused target made ops before after ∷ acts) more = steps_behind acts more
+steps_behind (Interrupt stops before after ∷ acts) more = steps_behind acts more
 
 -- a step of the program at which no interrupt is due
 steps_of_own : (image : List ℕ) (s : Moment) (before : Mote) (acts : List Act) → s.due ≡ false → AreOfStep image s before acts → 1 ≤ steps_in acts
-steps_of_own image s before acts undue (Interrupted after same taken) = absurd (let e : true ≡ false = sym (and_parts _ _ taken).0 ∙ undue in cc)
+steps_of_own image s before acts undue (Interrupted asked stops after same taken) = absurd (let e : true ≡ false = sym (and_parts _ _ taken).0 ∙ undue in cc)
 steps_of_own image s before acts undue (There place own) = own.some
-steps_of_own image s before acts undue (Arriving made ops there rest same own) = subst (λ (l : List Act). 1 ≤ steps_in l) (sym same) own.some
+steps_of_own image s before acts undue (Arriving asked made ops there rest same own) = subst (λ (l : List Act). 1 ≤ steps_in l) (sym same) own.some
 
 -- the first one is such a step
 steps_of_first : (image : List ℕ) (quantum : ℕ) (at : ℕ → Moment) (first : Mote) (k : ℕ) (acts : List Act) (last : Mote) → (at 0).due ≡ false → GoByStep image quantum at first (suc k) acts last → 1 ≤ steps_in acts
-steps_of_first image quantum at first zero acts last undue (before, earlier, own, all, go, state, of_step, follow) =
+steps_of_first image quantum at first zero acts last undue (before, earlier, own, all, go, state, count, of_step, stops, follow) =
     omega (arith, ap steps_in all, steps_behind earlier own, steps_of_own image (at 0) before own undue of_step)
-steps_of_first image quantum at first (suc k) acts last undue (before, earlier, own, all, go, state, of_step, follow) =
+steps_of_first image quantum at first (suc k) acts last undue (before, earlier, own, all, go, state, count, of_step, stops, follow) =
     omega (arith, ap steps_in all, steps_behind earlier own, steps_of_first image quantum at first k earlier before undue go)
 
 no_step_alone : (image : List ℕ) (quantum : ℕ) (at : ℕ → Moment) (first : Mote) (n : ℕ) (acts : List Act) (last : Mote) → (at 0).due ≡ false → GoByStep image quantum at first n acts last → steps_in acts ≡ 0 → n ≡ 0
@@ -62,12 +64,19 @@ undue_at_first asked =
     let first : Moment = at_front program asked.events in
     ap (λ (s : Moment). s.due) (at_rest (is_inside program first.now.cpu.pc) first (Wild first.now.cpu.pc))
 
-pub done_by_code : IsDoneByCode
-done_by_code asked r m stands none =
+done_from : (IsFirst : Mote → Type 0) → ((first : Mote) → IsFirst first → first.cpu.pc ≡ 0) → (began : ℕ) → (asked : Asked) → (r : Run) → (m : Machine) → StandsFrom IsFirst began asked r m → m.natural ≡ 0 → (m.steps ≡ 0) × (m.entries ≡ 0)
+done_from IsFirst at_reset began asked r m stands none =
     let acts = stands.acts in
     let by = stands.by_step in
     let no_steps : steps_in acts.acts ≡ 0 = sym acts.natural_is ∙ none in
-    let low : acts.first.cpu.pc < 0xF000 = omega (arith, ap (λ (c : Cpu). c.pc) acts.begins.new.core) in (
+    let low : acts.first.cpu.pc < 0xF000 = omega (arith, at_reset acts.first acts.begins) in (
       no_step_alone asked.image asked.quantum (λ k. (original_of asked k).state) acts.first m.steps by.earlier by.last (undue_at_first asked) by.steps (omega (arith, no_steps, ap steps_in by.all, steps_behind by.earlier by.rest)),
       acts.entries_is ∙ no_service_alone asked.image asked.quantum acts.first acts.acts m.kernel.mote acts.follow low no_steps,
     )
+
+pub done_by_code : IsDoneByCode
+done_by_code asked r m stands none =
+    done_from (IsBoot asked.image asked.failing asked.events asked.quantum asked.slots) (λ first boot. ap (λ (c : Cpu). c.pc) boot.new.core) 0 asked r m stands none
+
+pub done_by_code_again : IsDoneByCodeAgain
+done_by_code_again asked flash r m stands none = done_from (IsStart asked flash) (λ first start. ap (λ (c : Cpu). c.pc) start.new.core) (used_in asked flash) asked r m stands none

@@ -1,5 +1,5 @@
 -- What a machine did, one act after another, told by the mote before and after each.
-use Rattle.std.specs.Prelude.{◌≡◌, ◌≢◌, false, ℕ, suc, ◌+◌, ◌-◌, ◌*◌, ◌/◌, ◌%◌, ◌≤◌, ◌⊎◌, List, [], ◌∷◌, ◌++◌, slice_index, slice_set, length, replicate, ◌<◌, ◌==◌, nat_le, if◌then◌else◌, true, Option, Some, None}
+use Rattle.std.specs.Prelude.{◌≡◌, ◌≢◌, All, Bool, false, ℕ, suc, ◌+◌, ◌-◌, ◌*◌, ◌/◌, ◌%◌, ◌≤◌, ◌⊎◌, List, [], ◌∷◌, ◌++◌, slice_index, slice_set, length, replicate, ◌<◌, ◌==◌, nat_le, if◌then◌else◌, true, Option, Some, None}
 use Rattle.std.specs.Option.{option_map}
 use Rattle.std.specs.List.{list_any}
 use Rattle.avr_isa.specs.declared.form.Form.{Form}
@@ -15,32 +15,32 @@ use Rattle.avr_exec.specs.Execution.{exec_of}
 use Rattle.mote_devices.specs.declared.line.Line.{Line}
 use Rattle.mote_devices.specs.State.{State}
 use Rattle.mote_devices.specs.Waking.{wake}
+use Rattle.flash_words.specs.Operations.{Operation, operated_page, perform}
 use Rattle.mote_core.specs.declared.mote.Mote.{Mote}
 use Rattle.mote_core.specs.Physical.{physical_calls}
-use Rattle.kernel_entry.specs.declared.kernel.End.{End}
-use Rattle.kernel_entry.specs.declared.kernel.End.TheVariants as ends
+use Rattle.step_laws.specs.Moves.{line_before}
 use Rattle.theorem_reader.specs.Pools.{pool_from, IsInPool, AreFaithful, IsErased, AreFaithfulBut, IsPlaceOf, KeepsCode}
 use Rattle.theorem_reader.specs.Memory.{HasMemory}
+use Rattle.theorem_reader.specs.Wear.{pool_size}
 
--- one AVR instruction of the mote in rewritten code; a service of the kernel, which rewritten code called; the arrival
--- of control at an original address, the target, which may make a page, and tries so many operations on flash; an
--- interrupt, taken before an arrival
+-- One AVR instruction of the mote in rewritten code. A service of the kernel, in which the program may stop. Each may write a
+-- device line. The arrival of control at an original address, the target, which may be refused; which may make a page; and which
+-- tries so many operations on flash. An interrupt, in which the program may stop too.
 pub data Act : Type 0 where
-  Step : (before after : Mote) → Act
-  Service : (before after : Mote) → Act
-  Arrival : (target made ops : ℕ) → (before after : Mote) → Act
-  Interrupt : (before after : Mote) → Act
+  Step : (line : Option Line) → (before after : Mote) → Act
+  Service : (line : Option Line) → (stops : Bool) → (before after : Mote) → Act
+  Arrival : (refused : Bool) → (target made ops : ℕ) → (before after : Mote) → Act
+  Interrupt : (stops : Bool) → (before after : Mote) → Act
 
 -- The mote executes the instruction whose words stand at its pc, and that is in the pool, `from` to 0xEFFF. All of flash
 -- stays, and so does the swap area; of SRAM the bytes at 0x0108 to 0x011D and at 0x0120 to 0x04FF.
-pub record IsStep (from : ℕ) (before after : Mote) : Type 0 where
+pub record IsStep (from : ℕ) (line : Option Line) (before after : Mote) : Type 0 where
   pub low : from ≤ before.cpu.pc
   pub high : before.cpu.pc ≤ 0xEFFF
   pub flash : after.flash ≡ before.flash
   pub swap : after.swap ≡ before.swap
   pub cells : (a : ℕ) → 0x0108 ≤ a → a ≤ 0x011D → slice_index after.sram (a - 0x0100) ≡ slice_index before.sram (a - 0x0100)
   pub tables : (a : ℕ) → 0x0120 ≤ a → a ≤ 0x04FF → slice_index after.sram (a - 0x0100) ≡ slice_index before.sram (a - 0x0100)
-  pub line : Option Line
   pub executed : option_map (λ (form : Form). exec_of physical_calls form before.cpu
       (record { sram = before.sram; devices = before.devices; words = before.flash.words; line = None })
       (size_by_first_word (slice_index before.flash.words ((before.cpu.pc + 1) % 65536))))
@@ -64,45 +64,51 @@ program_pointer m = slice_index m.sram 3 + 256 * slice_index m.sram 4
 abbrev pub count_behind : (quantum from to count : ℕ) → ℕ
 count_behind quantum from to count = if is_crossing from to then (if count == 1 then quantum else count - 1) else count
 
--- The original program's instruction at that address is executed, just as over flat memory: over the 65,536 bytes that the
--- mote keeps for the program (`Memory`), the devices, and the image. From 0xF008 on the crossing is counted; at 0xF004 and
--- 0xF006 rewritten code does so. Or nothing changes, as where the program ends there.
-pub data Executes (image : List ℕ) (quantum : ℕ) (before after : Mote) : Type 0 where
-  Ends : after ≡ record before { cpu = record before.cpu { sp = 0x011F } } → Executes image quantum before after
-  Done : (form : Form) → (core : Cpu) → (old new : FlatSpace) → instruction_at image (program_address before) ≡ Some form
-      → HasMemory before old.memory → old.devices ≡ before.devices → old.image ≡ image
+-- The original program's instruction at that address is executed over flat memory, whatever of it was stored to: the 65,536
+-- bytes that the mote keeps for the program (`Memory`), the devices, and the image. From 0xF008 on the crossing is counted; at
+-- 0xF004 and 0xF006 COUNT stays, and a line may be written. Or nothing but the kernel's stack pointer changes, where the
+-- program stops.
+pub data Executes (image : List ℕ) (quantum : ℕ) (line : Option Line) (stops : Bool) (before after : Mote) : Type 0 where
+  Ends : stops ≡ true → line ≡ None → after ≡ record before { cpu = record before.cpu { sp = 0x011F } } → Executes image quantum line stops before after
+  Done : stops ≡ false → (form : Form) → (core : Cpu) → (old new : FlatSpace) → line ≡ (if nat_le before.cpu.pc 0xF007 then new.line else None) → instruction_at image (program_address before) ≡ Some form
+      → HasMemory before old.memory → old.devices ≡ before.devices → old.image ≡ image → old.line ≡ None
       → exec_of flat_calls form (record { r = before.cpu.r; sreg = before.cpu.sreg; sp = program_pointer before; pc = program_address before }) old (next_size image (program_address before)) ≡ Went core new
       → after.cpu.r ≡ core.r → after.cpu.sreg ≡ core.sreg → program_pointer after ≡ core.sp → HasMemory after new.memory → after.devices ≡ new.devices
-      → slice_index after.sram 0 ≡ (if nat_le before.cpu.pc 0xF007 then slice_index before.sram 0 else count_behind quantum (program_address before) core.pc (slice_index before.sram 0)) → Executes image quantum before after
+      → slice_index after.sram 0 ≡ (if nat_le before.cpu.pc 0xF007 then slice_index before.sram 0 else count_behind quantum (program_address before) core.pc (slice_index before.sram 0)) → Executes image quantum line stops before after
 
--- A SLEEP of the program ends: the devices are as inputs leave them, with an enabled interrupt requested (`wake`), the
--- crossing to the next address is counted, and nothing else changes. Or nothing does, as where the program ends there.
-pub data Sleeps (quantum : ℕ) (before after : Mote) : Type 0 where
-  Stays : after ≡ record before { cpu = record before.cpu { sp = 0x011F } } → Sleeps quantum before after
-  Wakes : (devices : State) → wake before.devices ≡ Some devices → ((a : ℕ) → 0x0101 ≤ a → slice_index after.sram (a - 0x0100) ≡ slice_index before.sram (a - 0x0100))
+-- The program goes on at the next address, as behind a SLEEP: the devices are as inputs leave them, with an enabled interrupt
+-- requested (`wake`), the crossing to the next address is counted, and nothing else changes. Or nothing but the kernel's stack
+-- pointer does, where the program stops.
+pub data Sleeps (quantum : ℕ) (stops : Bool) (before after : Mote) : Type 0 where
+  Stays : stops ≡ true → after ≡ record before { cpu = record before.cpu { sp = 0x011F } } → Sleeps quantum stops before after
+  Wakes : stops ≡ false → (devices : State) → wake before.devices ≡ Some devices → ((a : ℕ) → 0x0101 ≤ a → slice_index after.sram (a - 0x0100) ≡ slice_index before.sram (a - 0x0100))
       → after ≡ record before { cpu = record before.cpu { sp = 0x011F }; sram = after.sram; devices = devices }
-      → slice_index after.sram 0 ≡ count_behind quantum (program_address before) ((program_address before + 1) % 65536) (slice_index before.sram 0) → Sleeps quantum before after
+      → slice_index after.sram 0 ≡ count_behind quantum (program_address before) ((program_address before + 1) % 65536) (slice_index before.sram 0) → Sleeps quantum stops before after
 
--- The pc is at one of the kernel's eight entries, the even addresses from 0xF000 to 0xF00E. All of flash stays, and the bytes of SRAM at 0x0101 to
--- 0x011F, but for the program's stack pointer, and at 0x0142 to 0x03FF. At each entry but 0xF004, which reaches the program's
--- memory, so does the swap area, and 0x0120 to 0x0CFF. The kernel's stack, 0x011E and 0x011F, is empty again. The pc stays, and
--- the kernel has control; or, at 0xF004 and 0xF006, rewritten code goes on: behind the call of the kernel, whose address that
--- stack had, and the one word behind that. At 0xF000 nothing else changes; at 0xF002 but r24 and SREG, from 0x0101 and 0x0102,
--- and the byte at 0x0100, which is the quantum; from 0xF004 to 0xF00D an instruction of the program is executed; at 0xF00E it
--- sleeps. From 0xF006 on the registers stay.
-pub record IsService (image : List ℕ) (quantum : ℕ) (before after : Mote) : Type 0 where
+-- The pc is at one of the kernel's eight entries, the even addresses from 0xF000 to 0xF00E. All of flash stays, and the bytes
+-- of SRAM at 0x0101 to 0x011F, but for the program's stack pointer, and at 0x0142 to 0x03FF. At each entry but 0xF004, which
+-- reaches the program's memory, so does the swap area, and 0x0120 to 0x0CFF. The kernel's stack, 0x011E and 0x011F, is empty
+-- again. The pc stays, and the kernel has control; but at 0xF004 and 0xF006, unless the program stops, rewritten code goes on:
+-- behind the call of the kernel, whose address that stack had, and the one word behind that. At 0xF000 nothing else changes; at
+-- 0xF002 but r24 and SREG, from 0x0101 and 0x0102, and the byte at 0x0100, which is the quantum; from 0xF004 to 0xF00D an
+-- instruction of the program is executed; at 0xF00E it goes on behind a SLEEP or stops. From 0xF006 on the registers stay. A
+-- line is written at 0xF004 and 0xF006 alone.
+pub record IsService (image : List ℕ) (quantum : ℕ) (line : Option Line) (stops : Bool) (before after : Mote) : Type 0 where
   pub low : 0xF000 ≤ before.cpu.pc
   pub high : before.cpu.pc ≤ 0xF00F
   pub even : before.cpu.pc % 2 ≡ 0
   pub stack : after.cpu.sp ≡ 0x011F
-  pub pc : (after.cpu.pc ≡ before.cpu.pc) ⊎ ((0xF004 ≤ before.cpu.pc) × (before.cpu.pc ≤ 0xF007) × (after.cpu.pc ≡ (called_from before + 1) % 65536))
+  pub resumed : stops ≡ false → 0xF004 ≤ before.cpu.pc → before.cpu.pc ≤ 0xF007 → after.cpu.pc ≡ (called_from before + 1) % 65536
+  pub stays : (stops ≡ true) ⊎ ((before.cpu.pc ≤ 0xF003) ⊎ (0xF008 ≤ before.cpu.pc)) → after.cpu.pc ≡ before.cpu.pc
   pub bridge : before.cpu.pc ≡ 0xF000 → after ≡ record before { cpu = record before.cpu { sp = 0x011F } }
+  pub going : before.cpu.pc ≤ 0xF003 → stops ≡ false
+  pub silent : (before.cpu.pc ≤ 0xF003) ⊎ (0xF00E ≤ before.cpu.pc) → line ≡ None
   pub refilled : before.cpu.pc ≡ 0xF002 → after ≡ record before {
     cpu = record before.cpu { r = slice_set before.cpu.r 24 (slice_index before.sram 1); sreg = slice_index before.sram 2; sp = 0x011F };
     sram = slice_set before.sram 0 quantum;
   }
-  pub executes : 0xF004 ≤ before.cpu.pc → before.cpu.pc ≤ 0xF00D → Executes image quantum before after
-  pub sleeps : 0xF00E ≤ before.cpu.pc → Sleeps quantum before after
+  pub executes : 0xF004 ≤ before.cpu.pc → before.cpu.pc ≤ 0xF00D → Executes image quantum line stops before after
+  pub sleeps : 0xF00E ≤ before.cpu.pc → Sleeps quantum stops before after
   pub registers : 0xF006 ≤ before.cpu.pc → after.cpu.r ≡ before.cpu.r
   pub flash : after.flash ≡ before.flash
   pub cells : (a : ℕ) → 0x0101 ≤ a → a ≤ 0x011F → a ≢ 0x0103 → a ≢ 0x0104 → slice_index after.sram (a - 0x0100) ≡ slice_index before.sram (a - 0x0100)
@@ -110,41 +116,50 @@ pub record IsService (image : List ℕ) (quantum : ℕ) (before after : Mote) : 
   pub swap : before.cpu.pc ≢ 0xF004 → after.swap ≡ before.swap
   pub heap : (a : ℕ) → before.cpu.pc ≢ 0xF004 → 0x0120 ≤ a → a ≤ 0x0CFF → slice_index after.sram (a - 0x0100) ≡ slice_index before.sram (a - 0x0100)
 
--- An arrival that makes no page leaves flash as it is; or two words of it, a call of the kernel at 0xF000, as which an exit stub
--- begins, become a jump to where control goes on.
+-- An arrival that makes no page leaves the words of flash as they are; or two of them, a call of the kernel at 0xF000, as which
+-- an exit stub begins, become a jump to where control goes on.
 pub data Relinks (before after : List ℕ) (place : ℕ) : Type 0 where
   Same : after ≡ before → Relinks before after place
   Linked : (s : ℕ) → slice_index before s ≡ 0x940E → slice_index before (s + 1) ≡ 0xF000
       → after ≡ slice_set (slice_set before s 0x940C) (s + 1) place → Relinks before after place
 
--- The page that is made: the lowest of the pool that is erased; or, where none is, the one whose number within the pool stands
--- at 0x0142 and 0x0143.
-pub data IsNext (image : List ℕ) (before : Mote) (page : ℕ) : Type 0 where
-  Lowest : IsErased before.flash.words page → ((lower : ℕ) → IsInPool image lower → lower < page → ¬ IsErased before.flash.words lower) → IsNext image before page
-  InTurn : ((other : ℕ) → IsInPool image other → ¬ IsErased before.flash.words other)
-      → 128 * page ≡ pool_from image + 128 * (slice_index before.sram 0x42 + 256 * slice_index before.sram 0x43) → IsNext image before page
+-- RING, at 0x0142 and 0x0143: the number within the pool of the page to be made anew where none is erased
+abbrev pub ring_of : Mote → ℕ
+ring_of m = slice_index m.sram 0x42 + 256 * slice_index m.sram 0x43
+
+-- The page that is made: the lowest of the pool that is erased; or, where none is, RING's, and RING is the next one then.
+pub data IsNext (image : List ℕ) (before after : Mote) (page : ℕ) : Type 0 where
+  Lowest : IsErased before.flash.words page → ((lower : ℕ) → IsInPool image lower → lower < page → ¬ IsErased before.flash.words lower)
+      → ring_of after ≡ ring_of before → IsNext image before after page
+  InTurn : ((other : ℕ) → IsInPool image other → ¬ IsErased before.flash.words other) → 128 * page ≡ pool_from image + 128 * ring_of before
+      → ring_of after ≡ (ring_of before + 1) % pool_size image → IsNext image before after page
 
 -- How an arrival ends. Control goes on where the code of its target begins; each page of the pool but the one of that place
--- keeps its code, and if a page was made it is that one; no operation that is listed to fail was tried. Or the target is outside the image, and it is refused; or an operation
--- on flash was refused, the last of those that were tried, and listed to fail: each page but two keeps its code; the pc stays
--- then, or is in the pool.
-pub data Arrives (image : List ℕ) (target made : ℕ) (before after : Mote) : Type 0 where
-  In : target < length image → AreFaithful image after.flash.words → IsPlaceOf image after.flash.words target after.cpu.pc
+-- keeps its code, and if a page was made it is that one; no operation that is listed to fail was tried. Or the target is
+-- outside the image, and it is refused; or an operation on flash was refused, the last of those that were tried, and listed to
+-- fail: each page but two keeps its code; the pc stays then, or is in the pool.
+pub data Arrives (image : List ℕ) (refused : Bool) (target made : ℕ) (before after : Mote) : Type 0 where
+  In : refused ≡ false → target < length image → AreFaithful image after.flash.words → IsPlaceOf image after.flash.words target after.cpu.pc
       → ((page : ℕ) → IsInPool image page → page ≢ after.cpu.pc / 128 → KeepsCode before.flash.words after.flash.words page)
-      → (made ≡ 0 → Relinks before.flash.words after.flash.words after.cpu.pc) → (made ≡ 1 → IsNext image before (after.cpu.pc / 128))
-      → ((op : ℕ) → before.flash.ops < op → op ≤ after.flash.ops → list_any (λ n. n == op) before.flash.failing ≡ false) → Arrives image target made before after
-  Outside : length image ≤ target → made ≡ 0 → after.flash ≡ before.flash → after.cpu.pc ≡ before.cpu.pc → Arrives image target made before after
-  Refused : target < length image → before.flash.ops < after.flash.ops → list_any (λ n. n == after.flash.ops) before.flash.failing ≡ true
+      → (made ≡ 0 → Relinks before.flash.words after.flash.words after.cpu.pc × (ring_of after ≡ ring_of before)) → (made ≡ 1 → IsNext image before after (after.cpu.pc / 128))
+      → ((op : ℕ) → before.flash.ops < op → op ≤ after.flash.ops → list_any (λ n. n == op) before.flash.failing ≡ false) → Arrives image refused target made before after
+  Outside : refused ≡ true → length image ≤ target → made ≡ 0 → after.flash ≡ before.flash → after.cpu.pc ≡ before.cpu.pc → Arrives image refused target made before after
+  Refused : refused ≡ true → target < length image → before.flash.ops < after.flash.ops → list_any (λ n. n == after.flash.ops) before.flash.failing ≡ true
       → AreFaithfulBut image after.flash.words → (again other : ℕ) → ((page : ℕ) → IsInPool image page → page ≢ again → page ≢ other → KeepsCode before.flash.words after.flash.words page)
-      → (after.cpu.pc ≡ before.cpu.pc) ⊎ ((pool_from image ≤ after.cpu.pc) × (after.cpu.pc < 0xF000)) → Arrives image target made before after
+      → (after.cpu.pc ≡ before.cpu.pc) ⊎ ((pool_from image ≤ after.cpu.pc) × (after.cpu.pc < 0xF000)) → (made ≡ 1 → IsNext image before after (after.cpu.pc / 128)) → Arrives image refused target made before after
 
--- Before it flash is faithful. Registers, SREG, stack pointer, devices and swap stay; of SRAM all but 0x0142 to 0x03FF, the
--- tables of places; of flash all words outside the pool. Its count of operations rises by so many.
-pub record IsArrival (image : List ℕ) (target made ops : ℕ) (before after : Mote) : Type 0 where
+-- Before it flash is faithful. Registers, SREG, stack pointer, devices and swap stay; of SRAM all but 0x0142 to 0x03FF; of
+-- flash all words outside the pool. Flash changes by so many operations, one behind the other up to one that is refused: each
+-- erases a page, or programs one, which has its words then (docs/MOTE.md). A page that is made takes one at least.
+pub record IsArrival (image : List ℕ) (refused : Bool) (target made ops : ℕ) (before after : Mote) : Type 0 where
   pub sound : AreFaithful image before.flash.words
   pub page : made ≤ 1
-  pub tried : after.flash.ops ≡ before.flash.ops + ops
-  pub failing : after.flash.failing ≡ before.flash.failing
+  pub worked : made ≤ ops
+  pub operations : List Operation
+  pub tried : length operations ≡ ops
+  pub counted : after.flash.ops ≡ before.flash.ops + ops
+  pub pages : All (λ operation. IsInPool image (operated_page operation)) operations
+  pub performed : (perform before.flash operations).memory ≡ after.flash
   pub registers : after.cpu.r ≡ before.cpu.r
   pub status : after.cpu.sreg ≡ before.cpu.sreg
   pub pointer : after.cpu.sp ≡ before.cpu.sp
@@ -154,52 +169,61 @@ pub record IsArrival (image : List ℕ) (target made ops : ℕ) (before after : 
   pub high : (a : ℕ) → 0x0400 ≤ a → slice_index after.sram (a - 0x0100) ≡ slice_index before.sram (a - 0x0100)
   pub below : (a : ℕ) → a < pool_from image → slice_index after.flash.words a ≡ slice_index before.flash.words a
   pub above : (a : ℕ) → 0xF000 ≤ a → slice_index after.flash.words a ≡ slice_index before.flash.words a
-  pub arrives : Arrives image target made before after
+  pub arrives : Arrives image refused target made before after
 
--- All of flash stays, and so do the swap area, the registers and the pc; of SRAM the bytes at 0x0100 and at 0x0120 to 0x0CFF.
-pub record IsInterrupt (before after : Mote) : Type 0 where
-  pub pc : after.cpu.pc ≡ before.cpu.pc
+-- All of flash stays, and so do the swap area, the core but for SREG, and the kernel's bytes of SRAM but for the program's stack
+-- pointer. Nothing changes where the program stops there.
+pub record IsInterrupt (stops : Bool) (before after : Mote) : Type 0 where
+  pub stopped : stops ≡ true → after ≡ before
+  pub core : after.cpu ≡ record before.cpu { sreg = after.cpu.sreg }
   pub flash : after.flash ≡ before.flash
   pub swap : after.swap ≡ before.swap
-  pub registers : after.cpu.r ≡ before.cpu.r
-  pub count : slice_index after.sram 0 ≡ slice_index before.sram 0
-  pub tables : (a : ℕ) → 0x0120 ≤ a → a ≤ 0x0CFF → slice_index after.sram (a - 0x0100) ≡ slice_index before.sram (a - 0x0100)
+  pub cells : (a : ℕ) → 0x0100 ≤ a → a ≤ 0x0CFF → a ≢ 0x0103 → a ≢ 0x0104 → slice_index after.sram (a - 0x0100) ≡ slice_index before.sram (a - 0x0100)
 
 -- the acts lead from the first mote to the last, each from where the one before it led
 abbrev pub Follow : (image : List ℕ) (quantum : ℕ) → Mote → List Act → Mote → Type 0
 Follow image quantum first [] last = first ≡ last
-Follow image quantum first (Step before after ∷ acts) last = (before ≡ first) × IsStep (pool_from image) before after × Follow image quantum after acts last
-Follow image quantum first (Service before after ∷ acts) last = (before ≡ first) × IsService image quantum before after × Follow image quantum after acts last
-Follow image quantum first (Arrival target made ops before after ∷ acts) last = (before ≡ first) × IsArrival image target made ops before after × Follow image quantum after acts last
-Follow image quantum first (Interrupt before after ∷ acts) last = (before ≡ first) × IsInterrupt before after × Follow image quantum after acts last
+Follow image quantum first (Step line before after ∷ acts) last = (before ≡ first) × IsStep (pool_from image) line before after × Follow image quantum after acts last
+Follow image quantum first (Service line stops before after ∷ acts) last = (before ≡ first) × IsService image quantum line stops before after × Follow image quantum after acts last
+Follow image quantum first (Arrival refused target made ops before after ∷ acts) last = (before ≡ first) × IsArrival image refused target made ops before after × Follow image quantum after acts last
+Follow image quantum first (Interrupt stops before after ∷ acts) last = (before ≡ first) × IsInterrupt stops before after × Follow image quantum after acts last
 
 -- how many steps there are
 abbrev pub steps_in : List Act → ℕ
 steps_in [] = 0
-steps_in (Step before after ∷ acts) = suc (steps_in acts)
+steps_in (Step line before after ∷ acts) = suc (steps_in acts)
 steps_in (_ ∷ acts) = steps_in acts
 
 -- how many services
 abbrev pub services_in : List Act → ℕ
 services_in [] = 0
-services_in (Service before after ∷ acts) = suc (services_in acts)
+services_in (Service line stops before after ∷ acts) = suc (services_in acts)
 services_in (_ ∷ acts) = services_in acts
 
--- how many pages were made
+-- how many pages were made, by arrivals that went on or were refused
 abbrev pub made_in : List Act → ℕ
 made_in [] = 0
-made_in (Arrival target made ops before after ∷ acts) = made + made_in acts
+made_in (Arrival refused target made ops before after ∷ acts) = made + made_in acts
 made_in (_ ∷ acts) = made_in acts
 
--- how many operations on flash were tried
-abbrev pub tried_in : List Act → ℕ
-tried_in [] = 0
-tried_in (Arrival target made ops before after ∷ acts) = ops + tried_in acts
-tried_in (_ ∷ acts) = tried_in acts
+-- the device lines that were written
+abbrev pub lines_in : List Act → List Line
+lines_in [] = []
+lines_in (Step line before after ∷ acts) = line_before line (lines_in acts)
+lines_in (Service line stops before after ∷ acts) = line_before line (lines_in acts)
+lines_in (_ ∷ acts) = lines_in acts
 
--- the program's end was told by a refused arrival: outside the image, or by an operation on flash
-abbrev pub IsRefusal : Option End → Type 0
-IsRefusal end = ((t : ℕ) × (end ≡ Some (ends.Wild t))) ⊎ ((op : ℕ) × (end ≡ Some (ends.Flash op)))
+-- whether the program stops in it
+abbrev pub is_stop : Act → Bool
+is_stop (Service line stops before after) = stops
+is_stop (Interrupt stops before after) = stops
+is_stop _ = false
+
+-- the program stops in the last of the acts, and in no other; or in none
+abbrev pub StopsLast : (stops : Bool) → List Act → Type 0
+StopsLast stops [] = stops ≡ false
+StopsLast stops (act ∷ []) = is_stop act ≡ stops
+StopsLast stops (act ∷ other ∷ acts) = (is_stop act ≡ false) × StopsLast stops (other ∷ acts)
 
 -- A mote that has done nothing: registers and SREG are 0, the pc is 0, and the kernel's stack is empty. SRAM is 0 but for the
 -- byte at 0x0100, the quantum, and the map of the swap area at 0x0400 to 0x04FF, which is 0xFF. The devices are the original
@@ -222,10 +246,10 @@ pub record IsBoot (image failing : List ℕ) (events : List Event) (quantum slot
   pub erases : m.flash.erases ≡ replicate 512 0
   pub failing_is : m.flash.failing ≡ failing
 
--- Acts lead to a mote from one of which this is so, whose pool had so many pages, and these are all: so many steps,
--- services and pages. No more than 5,120 steps for each crossing of the quantum stand between two services. The last act is
--- an arrival only where that was refused.
-pub record HasActs (IsFirst : Mote → Type 0) (began : ℕ) (image : List ℕ) (quantum natural entries pages : ℕ) (end : Option End) (last : Mote) : Type 0 where
+-- Acts lead to a mote from one of which this is so, and these are all: so many steps and services, so many pages beside those
+-- that there were, and these device lines. No more than 5,120 steps for each crossing of the quantum stand between two
+-- services.
+pub record HasActs (IsFirst : Mote → Type 0) (began : ℕ) (image : List ℕ) (quantum natural entries pages : ℕ) (lines : List Line) (last : Mote) : Type 0 where
   pub acts : List Act
   pub first : Mote
   pub begins : IsFirst first
@@ -233,6 +257,5 @@ pub record HasActs (IsFirst : Mote → Type 0) (began : ℕ) (image : List ℕ) 
   pub natural_is : natural ≡ steps_in acts
   pub entries_is : entries ≡ services_in acts
   pub pages_is : pages ≡ began + made_in acts
-  pub tried : last.flash.ops ≡ tried_in acts
+  pub lines_are : lines ≡ lines_in acts
   pub few : (front between back : List Act) → acts ≡ front ++ (between ++ back) → services_in between ≡ 0 → steps_in between ≤ 5120 * quantum
-  pub ends : (front : List Act) (target made ops : ℕ) (before after : Mote) → acts ≡ front ++ (Arrival target made ops before after ∷ []) → IsRefusal end

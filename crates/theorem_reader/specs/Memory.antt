@@ -32,7 +32,7 @@ pub record HasMemory (m : Mote) (memory : List ℕ) : Type 0 where
       → slice_index memory a ≡ slice_index (slice_index_or m.swap (slot_of m (a / 256)) []) (a % 256)
   pub untouched : (a : ℕ) → IsHeap a → slot_of m (a / 256) ≡ 0xFF → slice_index memory a ≡ 0
 
--- the program stands on its mote where its own machine does
+-- the program stands on its mote where its own machine does, but for its address
 pub record HasState (s : FlatState) (m : Mote) : Type 0 where
   pub registers : m.cpu.r ≡ s.cpu.r
   pub status : m.cpu.sreg ≡ s.cpu.sreg

@@ -45,21 +45,25 @@ pub data AreFaithfulBut (image flash : List ℕ) : Type 0 where
   Lacking : (page : ℕ) → (words : List ℕ) → IsInPool image page → IsErased flash page → length words ≡ 128
       → AreFaithful image (with_page flash page words) → AreFaithfulBut image flash
 
--- The code of the original address t begins at the place v. A page of the pool that isn't erased has the number of an
--- original page in its first word, how many addresses it has in the second, and from the third on a word for each: the upper
--- byte is the address in its original page, the lower one the place in this page.
-pub record IsPlaceOf (image flash : List ℕ) (t v : ℕ) : Type 0 where
-  pub page : ℕ
+-- A page that isn't erased has an entry of the address t. The numbers of its entries stand from its third word on: the upper
+-- byte is the place of the address in its page of 128 words, whose number is the first word; how many there are, the second.
+pub record HasAddress (flash : List ℕ) (page t : ℕ) : Type 0 where
   pub index : ℕ
-  pub pool : IsInPool image page
   pub used : slice_index flash (128 * page) < 192
   pub most : index < 126
   pub inside : index < slice_index flash (128 * page + 1)
-  pub address : t ≡ 128 * slice_index flash (128 * page) + slice_index flash (128 * page + 2 + index) / 256
-  pub place : v ≡ 128 * page + slice_index flash (128 * page + 2 + index) % 256
-  pub fits : slice_index flash (128 * page + 2 + index) % 256 < 128
+  pub is : t ≡ 128 * slice_index flash (128 * page) + slice_index flash (128 * page + 2 + index) / 256
 
--- Two words of an exit stub: a call of the kernel at 0xF000, or a jump.
+-- The code of the original address t begins at the place v: in a page of the pool with an entry of t, of whose number the lower
+-- byte is the place in this page.
+pub record IsPlaceOf (image flash : List ℕ) (t v : ℕ) : Type 0 where
+  pub page : ℕ
+  pub pool : IsInPool image page
+  pub entry : HasAddress flash page t
+  pub place : v ≡ 128 * page + slice_index flash (128 * page + 2 + entry.index) % 256
+  pub fits : slice_index flash (128 * page + 2 + entry.index) % 256 < 128
+
+-- Two words as an exit stub begins: a call of the kernel at 0xF000, or a jump.
 abbrev pub IsExit : (flash : List ℕ) → (s : ℕ) → Type 0
 IsExit flash s = ((slice_index flash s ≡ 0x940E) × (slice_index flash (s + 1) ≡ 0xF000)) ⊎ (slice_index flash s ≡ 0x940C)
 

@@ -40,12 +40,13 @@ pub data ReadsText (words : List (List ℕ)) : Type 0 where
   Program : ReadsHex words → ReadsText words
   Source : IsCommand words Asm → ReadsText words
 
--- a line of a part of the input, with its fault, as `bad hex line 3 digit`. The word of each fault is in `printed_text/FaultyLines`:
--- `hex_word`, `script_word`, `dump_word` and `asm_word`; the usage line is in `printed_text/PlainLines`.
+-- a line of a part of the input, with its fault, as `bad hex line 3 digit`. The word of each fault is in
+-- `printed_text/FaultyLines`: `hex_word`, `script_word`, `dump_word` and `asm_word`; the usage line is in
+-- `printed_text/PlainLines`.
 abbrev pub bad_line : (part : List ℕ) (number : ℕ) (word : List ℕ) → List ℕ
 bad_line part number word = codes "bad " ++ part ++ codes " line " ++ decimal number ++ codes " " ++ word ++ codes "\n"
 
--- words that are answered with the usage line, and this status: `help`, and words that are no command; no text is read
+-- words that are answered with the usage line, and this status: `help`, and words that are no command, whatever the text is
 pub data IsUsage (words : List (List ℕ)) (own : ℕ) : Type 0 where
   Helped : IsCommand words Help → own ≡ 0 → IsUsage words own
   Unknown : IsNoCommand words → own ≡ 4 → IsUsage words own

@@ -1,5 +1,5 @@
 -- What `restart` answers: a run, what stands in flash behind a loss of power, what is kept of it, and a second run.
-use Rattle.std.specs.Prelude.{◌≡◌, ◌≢◌, ◌↔◌, ℕ, zero, suc, ◌+◌, ◌-◌, ◌*◌, ◌/◌, ◌%◌, ◌<◌, ◌==◌, Bool, true, false, if◌then◌else◌, List, [], ◌++◌, codes, decimal, flat_map, drop, take, slice_index, Option, Some, None}
+use Rattle.std.specs.Prelude.{◌≡◌, ◌≢◌, ◌↔◌, ℕ, zero, suc, ◌+◌, ◌-◌, ◌*◌, ◌/◌, ◌%◌, ◌<◌, ◌≤◌, ◌==◌, Bool, true, false, if◌then◌else◌, List, [], ◌++◌, codes, decimal, flat_map, drop, take, length, slice_index, Option, Some, None}
 use Rattle.std.specs.List.{list_all}
 use Rattle.input_script.specs.declared.input.Event.{Event}
 use Rattle.flat_machine.specs.FlatMachine.{Run}
@@ -8,7 +8,7 @@ use Rattle.kernel_entry.specs.declared.kernel.End.TheVariants as ends
 use Rattle.program_steps.specs.Machines.{Machine}
 use Rattle.cli_words.specs.declared.command.Command.TheVariants.{Restart}
 use Rattle.theorem_reader.specs.Acts.{IsNew}
-use Rattle.theorem_reader.specs.Pools.{pool_from, is_formed, IsInPool, AreFaithful, AreFaithfulBut}
+use Rattle.theorem_reader.specs.Pools.{pool_from, is_formed, IsInPool, AreFaithful, AreFaithfulBut, HasAddress, KeepsCode}
 use Rattle.theorem_reader.specs.Checks.{used_of}
 use Rattle.theorem_reader.specs.Dumps.{HasEnded}
 use Rattle.theorem_reader.specs.Ends.{IsKeptEnd}
@@ -25,23 +25,14 @@ abbrev pub number_behind : (x k : ℕ) → ℕ
 number_behind x zero = (x * 1664525 + 1013904223) % 4294967296
 number_behind x (suc k) = (number_behind x k * 1664525 + 1013904223) % 4294967296
 
--- Flash when power is back. Where the run ended in a refused operation, its page of the pool has other words, each the upper
--- half of a number behind that operation's; all else is as the run left it.
+-- Flash when power is back. Where the run ended in a refused operation, the page of that, one of the pool, has other words,
+-- each the upper half of a number behind that operation's; all else is as the run left it.
 pub data IsLost (image : List ℕ) (m : Machine) (flash : List ℕ) : Type 0 where
   Whole : ((op : ℕ) → m.end ≢ Some (ends.Flash op)) → flash ≡ m.kernel.mote.flash.words → IsLost image m flash
   Torn : (op page : ℕ) → m.end ≡ Some (ends.Flash op) → m.kernel.mote.flash.refused ≡ Some page → IsInPool image page
       → ((k : ℕ) → k < 128 → slice_index flash (128 * page + k) ≡ number_behind op k / 65536)
       → ((a : ℕ) → a / 128 ≢ page → slice_index flash a ≡ slice_index m.kernel.mote.flash.words a)
       → IsLost image m flash
-
--- A page that isn't erased has an entry of the address t. The numbers of its entries stand from its third word on: the
--- upper byte is the place of the address in its page of 128 words, whose number is the first word; how many there are, the second.
-pub record HasAddress (flash : List ℕ) (page t : ℕ) : Type 0 where
-  pub index : ℕ
-  pub used : slice_index flash (128 * page) < 192
-  pub most : index < 126
-  pub inside : index < slice_index flash (128 * page + 1)
-  pub is : t ≡ 128 * slice_index flash (128 * page) + slice_index flash (128 * page + 2 + index) / 256
 
 -- The page holds code of the image, wherever that leads, and no lower page that is kept has one of its addresses.
 pub record IsKeeper (image flash : List ℕ) (kept : ℕ → Bool) (page : ℕ) : Type 0 where
@@ -57,10 +48,11 @@ dropped_of flash kept first (suc n) =
     + dropped_of flash kept first n
 
 -- Of the pages of the pool just these are kept. What is left is a faithful flash, in which a page that is kept has the
--- addresses that it had, and each other page of the pool is erased.
+-- addresses that it had, and of its code only exit stubs change; and each other page of the pool is erased.
 pub record IsKept (image lost left : List ℕ) (kept : ℕ → Bool) : Type 0 where
   pub are : (page : ℕ) → IsInPool image page → ((kept page ≡ true) ↔ IsKeeper image lost kept page)
   pub faithful : AreFaithful image left
+  pub code : (page : ℕ) → IsInPool image page → kept page ≡ true → KeepsCode lost left page
   pub same : (page t : ℕ) → IsInPool image page → kept page ≡ true → (HasAddress left page t ↔ HasAddress lost page t)
   pub erased : (page k : ℕ) → IsInPool image page → kept page ≡ false → k < 128 → slice_index left (128 * page + k) ≡ 0xFFFF
 
@@ -102,11 +94,12 @@ IsStart asked flash m = IsOver flash.left asked.events asked.quantum asked.slots
 abbrev pub StandsOver : (asked : Asked) → IsLeft asked → Run → Machine → Type 0
 StandsOver asked flash r m = StandsFrom (IsStart asked flash) (used_in asked flash) asked r m
 
--- Behind the line text and status are the original program's, and the machine stands where that stands and keeps its end. No
--- operation on flash was refused.
+-- Behind the line text and status are the original program's, but for the counts, whose device lines went out whole, and the
+-- machine stands where that stands and keeps its end. No operation on flash was refused.
 pub record IsSecond (sink : Sink) (asked : Asked) (flash : IsLeft asked) (status : ℕ) (taken : List ℕ) (m : Machine) : Type 0 where
   pub told : IsTold sink (end_status (original_of asked asked.steps).end)
       (line_of asked flash ++ text_of (original_of asked asked.steps) (end_words (original_of asked asked.steps).end) asked.quantum m) status taken
+  pub past : length (line_of asked flash ++ flat_map device_line (original_of asked asked.steps).lines) ≤ length taken
   pub stands : StandsOver asked flash (original_of asked asked.steps) m
   pub end : IsKeptEnd (original_of asked asked.steps).end m.end
   pub unbroken : m.broken ≡ false
@@ -119,6 +112,10 @@ pub record IsUnbegun (asked : Asked) (flash : IsLeft asked) (status : ℕ) (take
   pub start : IsStart asked flash m.kernel.mote
   pub pc : m.at ≡ 0
   pub steps : m.steps ≡ 0
+  pub crossings : m.crossings ≡ 0
+  pub due : m.due ≡ false
+  pub quantum : m.kernel.quantum ≡ asked.quantum
+  pub unbroken : m.broken ≡ false
   pub natural : m.natural ≡ 0
   pub entries : m.entries ≡ 0
   pub pages : m.pages ≡ used_in asked flash
@@ -127,6 +124,7 @@ pub record IsUnbegun (asked : Asked) (flash : IsLeft asked) (status : ℕ) (take
 -- the sink failed behind it, before the last lines
 pub record IsSecondCut (asked : Asked) (flash : IsLeft asked) (status : ℕ) (taken : List ℕ) (m : Machine) : Type 0 where
   pub told : IsTold Fails 6 (line_of asked flash ++ flat_map device_line (original_of asked m.steps).lines) status taken
+  pub past : length (line_of asked flash) ≤ length taken
   pub stands : StandsOver asked flash (original_of asked m.steps) m
   pub broken : m.broken ≡ true
   pub faithful : AreFaithfulBut asked.image m.kernel.mote.flash.words

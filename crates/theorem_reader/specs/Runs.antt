@@ -47,8 +47,8 @@ text_of r how quantum m =
 
 -- The machine stands where the original program stands: registers, SREG, stack pointer, pc, the 65,536 bytes, devices,
 -- the counts of steps and crossings, and whether an interrupt is due. Its image is as long, its slots are as many, and its
--- quantum is the one that were asked for. It came there by acts, step by step, from a mote of which this is so and whose
--- pool had so many pages; each step made one page at most, and so did the arrival behind the last.
+-- quantum is the one that were asked for. It came there by acts, step by step, from a mote of which this is so, where so many
+-- pages were made before; each step made one page at most, and so did the arrival behind the last.
 pub record StandsFrom (IsFirst : Mote → Type 0) (began : ℕ) (asked : Asked) (r : Run) (m : Machine) : Type 0 where
   pub state : HasState r.state.now m.kernel.mote
   pub pc : m.at ≡ r.state.now.cpu.pc
@@ -61,8 +61,8 @@ pub record StandsFrom (IsFirst : Mote → Type 0) (began : ℕ) (asked : Asked) 
   pub most_steps : m.steps ≤ asked.steps
   pub most_operations : m.kernel.mote.flash.ops ≤ 1000 * (m.steps + 1)
   pub most_pages : m.pages ≤ began + m.steps + 1
-  pub acts : HasActs IsFirst began asked.image asked.quantum m.natural m.entries m.pages m.end m.kernel.mote
-  pub by_step : IsByStep asked.image asked.quantum (λ k. (original_of asked k).state) acts.first acts.acts m.steps m.kernel.mote
+  pub acts : HasActs IsFirst began asked.image asked.quantum m.natural m.entries m.pages r.lines m.kernel.mote
+  pub by_step : IsByStep asked.image asked.quantum (λ k. (original_of asked k).state) acts.first acts.acts m.steps m.kernel.mote m.end
   pub most_natural : m.natural ≤ 40 * (m.steps + 1)
   pub most_entries : m.entries ≤ 2 * (m.steps + 1)
 
@@ -74,9 +74,9 @@ Stands asked r m = StandsFrom (IsBoot asked.image asked.failing asked.events ask
 abbrev pub is_to_fail : Asked → ℕ → Bool
 is_to_fail asked op = list_any (λ n. n == op) asked.failing
 
--- The run came to the original's end, which the machine keeps, or through all its steps. It isn't broken; no operation
--- that was tried is to fail; flash is faithful. Where the pool held all pages that were made, each page was erased at most once for
--- each JMP in it, however many steps there were.
+-- The run came to the original's end, which the machine keeps, or through all its steps. It isn't broken; no operation that was
+-- tried is to fail; flash is faithful. Where the pool held all pages that were made, each page was erased at most once for each
+-- word 0x940C in it, as begins a JMP, however many steps there were.
 pub record EndsWell (asked : Asked) (m : Machine) : Type 0 where
   pub stands : Stands asked (original_of asked asked.steps) m
   pub end : IsKeptEnd (original_of asked asked.steps).end m.end
@@ -86,7 +86,7 @@ pub record EndsWell (asked : Asked) (m : Machine) : Type 0 where
   pub faithful : AreFaithful asked.image m.kernel.mote.flash.words
 
 -- With steps left an operation on flash was refused: the first that was tried and is to fail. None was tried behind it. Flash is
--- faithful but for a page that was to be programmed.
+-- faithful but for words that an erased page of the pool lacks.
 pub record EndsInAFault (asked : Asked) (op : ℕ) (m : Machine) : Type 0 where
   pub stands : Stands asked (original_of asked m.steps) m
   pub fewer : m.steps < asked.steps
@@ -99,7 +99,7 @@ pub record EndsInAFault (asked : Asked) (op : ℕ) (m : Machine) : Type 0 where
   pub faithful : AreFaithfulBut asked.image m.kernel.mote.flash.words
 
 -- The sink failed before the last lines: of the device lines of the steps that were done it took a part, and the machine
--- stands where the original program stands after them. It is broken: it may not be run on.
+-- stands where the original program stands after them. It is broken.
 pub record IsCutShort (asked : Asked) (status : ℕ) (taken : List ℕ) (m : Machine) : Type 0 where
   pub told : IsTold Fails 6 (flat_map device_line (original_of asked m.steps).lines) status taken
   pub stands : Stands asked (original_of asked m.steps) m
@@ -107,15 +107,17 @@ pub record IsCutShort (asked : Asked) (status : ℕ) (taken : List ℕ) (m : Mac
   pub faithful : AreFaithfulBut asked.image m.kernel.mote.flash.words
 
 -- The text is the original program's: its device lines, its stop line, and the machine's own counts; and the status is
--- its end's.
+-- its end's. The device lines went out whole.
 pub record ToTheEnd (sink : Sink) (asked : Asked) (status : ℕ) (taken : List ℕ) (m : Machine) : Type 0 where
   pub told : IsTold sink (end_status (original_of asked asked.steps).end) (text_of (original_of asked asked.steps) (end_words (original_of asked asked.steps).end) asked.quantum m) status taken
+  pub past : length (flat_map device_line (original_of asked asked.steps).lines) ≤ length taken
   pub run : EndsWell asked m
 
--- Up to the refused operation the text is the original program's.
+-- Up to the refused operation the text is the original program's, whose device lines went out whole.
 pub record IntoAFault (sink : Sink) (asked : Asked) (status : ℕ) (taken : List ℕ) (m : Machine) : Type 0 where
   pub op : ℕ
   pub told : IsTold sink 9 (text_of (original_of asked m.steps) (codes "flash fault " ++ decimal op) asked.quantum m) status taken
+  pub past : length (flat_map device_line (original_of asked m.steps).lines) ≤ length taken
   pub run : EndsInAFault asked op m
 
 -- memory was wanted, which is all that is told, and no machine is kept; or the program was run to the original's end, or
@@ -150,7 +152,7 @@ plainly image = record { image = image; events = []; failing = []; steps = 10000
 abbrev pub generated_by : (seed : ℕ) → Asked
 generated_by seed = record { image = generated seed; events = []; failing = []; steps = 10000000; quantum = 255; slots = 128 }
 
--- the words are those of `generate` with this seed; no text is read
+-- the words are those of `generate` with this seed, whatever the text is
 abbrev pub AsksGenerate : (words : List (List ℕ)) (seed : ℕ) → Type 0
 AsksGenerate words seed = IsCommand words (Generate seed)
 

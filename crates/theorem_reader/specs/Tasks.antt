@@ -1,23 +1,23 @@
 -- What a run of several programs leaves, which take turns on one mote: each prints and ends as if it were alone.
-use Rattle.std.specs.Prelude.{◌≡◌, ℕ, ◌+◌, ◌*◌, ◌/◌, ◌<◌, ◌≤◌, max, List, [], ◌∷◌, ◌++◌, codes, decimal, flat_map, map, length, drop, slice_index_or, true, false, ◌==◌, if◌then◌else◌, All, sum_by, Option, Some, None}
+use Rattle.std.specs.Prelude.{◌≡◌, ℕ, ◌+◌, ◌*◌, ◌/◌, ◌<◌, ◌≤◌, max, List, [], ◌∷◌, ◌++◌, codes, decimal, flat_map, map, length, drop, slice_get, slice_index_or, true, false, ◌==◌, if◌then◌else◌, All, sum_by, Option, Some, None}
 use Rattle.std.specs.List.{range_with_len}
 use Rattle.line_reader.specs.Lines.{lines_of}
 use Rattle.hex_image.specs.HexText.{HexText}
 use Rattle.input_script.specs.declared.input.Event.{Event}
 use Rattle.input_script.specs.Script.{Schedule}
-use Rattle.flat_machine.specs.FlatMachine.{FlatState, Run, run, at_reset}
+use Rattle.flat_machine.specs.FlatMachine.{Run, original}
 use Rattle.program_steps.specs.Machines.{Machine}
 use Rattle.parked_tasks.specs.declared.task.Task.{Task}
 use Rattle.tk_tasks.specs.States.{Tasks}
-use Rattle.task_turns.specs.Turns.{Told, Shown, Wrote, Stops, tries, turns}
+use Rattle.task_turns.specs.Turns.{Player, Turns, After, Told, Shown, Wrote, Stops, shown_by, tries, turns}
 use Rattle.task_turns.specs.Reset.{turns_at_reset}
 use Rattle.task_input.specs.Images.{IsMisplaced}
 use Rattle.task_input.specs.Scripts.{Schedules}
 use Rattle.cli_words.specs.declared.command.Command.TheVariants.{Tasks as TasksCommand}
 use Rattle.cli_words.specs.declared.command.TaskOptions.{TaskOptions}
 use Rattle.cli_words.specs.Commands.{IsCommand}
-use Rattle.theorem_reader.specs.Acts.{IsBoot}
-use Rattle.theorem_reader.specs.Stints.{HaveStints}
+use Rattle.theorem_reader.specs.Acts.{IsBoot, IsNew}
+use Rattle.theorem_reader.specs.Stints.{changes_from, HaveStints}
 use Rattle.theorem_reader.specs.Telling.{Sink, Fails, IsTold}
 use Rattle.theorem_reader.specs.Texts.{device_line, end_words, stop_line, end_status, no_memory}
 
@@ -46,24 +46,12 @@ words_of asked = map (λ a. slice_index_or asked.image a 0xFFFF) (range_with_len
 abbrev pub events_of : AskedTasks → ℕ → List Event
 events_of asked task = (slice_index_or asked.scripts task (record { events = []; failing = [] })).events
 
--- it begins at the first of its words
-abbrev pub start_of : AskedTasks → ℕ → FlatState
-start_of asked task =
-    let reset = at_reset (events_of asked task) in
-    record reset { cpu = record reset.cpu { pc = 4096 * task } }
-
--- That program's run, by itself on flat memory of 64 KiB, for the steps that each may do. It may read no words but its own.
+-- That program's run, by itself on flat memory of 64 KiB, from the first of its words, for the steps that each may do. It may
+-- read no words but its own.
 abbrev pub alone_of : AskedTasks → ℕ → Run
 alone_of asked task =
-    run (record { image = image_of asked task; part = record { first = 4096 * task; count = 4096; shut = true }; page_limit = asked.slots; quantum = asked.quantum })
-    (record { now = start_of asked task; due = false })
-    asked.steps
-
--- its lines: those of its devices, and its stop line
-abbrev pub lines_alone : AskedTasks → ℕ → List (List ℕ)
-lines_alone asked task =
-    let r = alone_of asked task in
-    map device_line r.lines ++ stop_line (end_words r.end) r.state.now.steps (r.state.now.crossings / asked.quantum) ∷ []
+    original (record { image = image_of asked task; part = record { first = 4096 * task; count = 4096; shut = true }; page_limit = asked.slots; quantum = asked.quantum })
+    (events_of asked task) asked.steps
 
 -- a line, and the program that it is of
 pub record Printed : Type 0 where
@@ -79,20 +67,32 @@ abbrev pub line_shown : (quantum : ℕ) → Shown → List ℕ
 line_shown quantum (Wrote line) = device_line line
 line_shown quantum (Stops end steps crossings) = stop_line (end_words end) steps (crossings / quantum)
 
+-- the lines of one program alone: those of its devices, and its stop line
+abbrev pub lines_alone : AskedTasks → ℕ → List (List ℕ)
+lines_alone asked task = map (line_shown asked.quantum) (shown_by (alone_of asked task))
+
 -- those that were told of the programs
 abbrev pub printed_by : (quantum : ℕ) → List Told → List Printed
 printed_by quantum [] = []
 printed_by quantum (one ∷ more) = record { task = one.task; line = line_shown quantum one.shown } ∷ printed_by quantum more
 
+-- the programs at reset, in turn
+abbrev pub reset_of : AskedTasks → Turns
+reset_of asked = turns_at_reset asked.image asked.scripts asked.quantum asked.slots asked.steps
+
+-- .. and until each has ended
+abbrev pub in_turn : AskedTasks → After
+in_turn asked = turns (reset_of asked)
+
 -- What the programs print in turn: each goes on up to its checkpoint, and then the next that hasn't ended is stepped
 -- (`task_turns/Turns`, where each has a flat memory of its own, and reads nothing of another). A try is a step, or ends a
 -- program; this is printed in so many tries.
 abbrev pub printed_in : AskedTasks → (count : ℕ) → List Printed
-printed_in asked count = printed_by asked.quantum (tries count (turns_at_reset asked.image asked.scripts asked.quantum asked.slots asked.steps)).told
+printed_in asked count = printed_by asked.quantum (tries count (reset_of asked)).told
 
 -- .. until each has ended
 abbrev pub printed_of : AskedTasks → List Printed
-printed_of asked = printed_by asked.quantum (turns (turns_at_reset asked.image asked.scripts asked.quantum asked.slots asked.steps)).told
+printed_of asked = printed_by asked.quantum (in_turn asked).told
 
 -- the lines of one program, in their order
 abbrev pub lines_of_task : ℕ → List Printed → List (List ℕ)
@@ -104,35 +104,44 @@ abbrev pub last_line : (natural entries pages switches : ℕ) → List ℕ
 last_line natural entries pages switches =
     codes "natural " ++ decimal natural ++ codes " entries " ++ decimal entries ++ codes " pages " ++ decimal pages ++ codes " switches " ++ decimal switches ++ codes "\n"
 
--- 2 where a program ended in a fault, else 1 where one did all its steps, else 0
+-- the greatest of the numbers, or 0
 abbrev pub greatest : List ℕ → ℕ
 greatest [] = 0
 greatest (n ∷ numbers) = max n (greatest numbers)
 
--- .. of the programs alone
+-- 2 where a program alone ends in a fault, else 1 where one does all its steps, else 0
 abbrev pub worst_status : AskedTasks → ℕ
 worst_status asked = greatest (map (λ task. end_status (alone_of asked task).end) (range_with_len 0 asked.count))
 
--- the steps and services of all that are kept are sums of each one's
+-- stints lead the programs from reset to these turns, and each that is kept stands there (`Stints`)
+abbrev pub LeadThere : AskedTasks → Turns → Tasks → Type 0
+LeadThere asked to t = HaveStints (IsBoot (words_of asked) [] (events_of asked 0) asked.quantum asked.slots) (λ task. IsNew (events_of asked task) asked.quantum asked.slots) (words_of asked) asked.quantum (reset_of asked) to t
+
+-- the steps and services of all that are kept are sums of the numbers that each keeps
 pub record AreSums (t : Tasks) : Type 0 where
   pub natural : t.natural ≡ sum_by (λ (task : Task). task.natural) t.tasks
   pub entries : t.entries ≡ sum_by (λ (task : Task). task.entries) t.tasks
 
--- What is printed is what the programs print in turn, and a last line. The lines of each are just those of its run alone: none
--- can change what another prints, or when and how it ends. The numbers of the last line are those of stints on one mote, which
--- lead each program from where it begins to where its run alone ends (`Stints`).
+-- What is printed is what the programs print in turn, which went out whole, and a last line. The lines of each are just those
+-- of its run alone: none can change what another prints, or when and how it ends. The numbers of the last line are those of
+-- stints on one mote, which lead each program from where it begins to where its run alone ends.
 pub record AreApart (sink : Sink) (asked : AskedTasks) (status : ℕ) (taken : List ℕ) (t : Tasks) : Type 0 where
   pub told : IsTold sink (worst_status asked) (printed_text (printed_of asked) ++ last_line t.natural t.entries t.pages t.switches) status taken
+  pub past : length (printed_text (printed_of asked)) ≤ length taken
   pub theirs : All (λ one. one.task < asked.count) (printed_of asked)
   pub each : (task : ℕ) → task < asked.count → lines_of_task task (printed_of asked) ≡ lines_alone asked task
-  pub stints : HaveStints (IsBoot (words_of asked) [] (events_of asked 0) asked.quantum asked.slots) (words_of asked) asked.quantum (turns_at_reset asked.image asked.scripts asked.quantum asked.slots asked.steps) asked.count t.natural t.entries t.pages t.switches (start_of asked) (λ task. (alone_of asked task).state.now)
+  pub stints : LeadThere asked (in_turn asked).turns t
+  pub switches : t.switches ≡ changes_from 0 stints.stints
+  pub alone : (task : ℕ) → task < asked.count → (p : Player) × (slice_get (in_turn asked).turns.players task ≡ Some p) × (p.moment ≡ (alone_of asked task).state) × (p.end ≡ Some (alone_of asked task).end)
   pub sums : AreSums t
   pub unbroken : t.broken ≡ false
 
--- The sink failed before the last line: it took a part of what so many tries printed, and of what the programs print in turn.
+-- The sink failed before the last line: it took a part of what so many tries printed, and of what the programs print in turn; and
+-- stints lead there.
 pub record AreCutShort (asked : AskedTasks) (status : ℕ) (taken : List ℕ) (t : Tasks) : Type 0 where
   pub count : ℕ
   pub told : IsTold Fails 6 (printed_text (printed_in asked count)) status taken
+  pub stints : LeadThere asked (tries count (reset_of asked)).turns t
   pub front : IsTold Fails 6 (printed_text (printed_of asked)) status taken
   pub sums : AreSums t
   pub broken : t.broken ≡ true

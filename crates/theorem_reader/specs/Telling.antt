@@ -1,4 +1,5 @@
--- How a text is told: by a sink that takes all of it, or by one that fails, since it has no room for all; and a source that fails.
+-- How a text is told: by a sink that takes all of it, or by one that fails, since it has no room for all; and a source that
+-- fails.
 use Rattle.std.specs.Prelude.{◌≡◌, ◌⊎◌, ℕ, ◌<◌, ◌≤◌, List, [], length, take}
 use Rattle.tk_io.specs.Memory.{SinkState}
 

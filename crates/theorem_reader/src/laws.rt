@@ -1,5 +1,5 @@
 //! Laws of what is told, each as the contract of a function that does nothing.
-ghost use Rattle.theorem_reader.specs.ByCode.{IsDoneByCode};
+ghost use Rattle.theorem_reader.specs.ByCode.{IsDoneByCode, IsDoneByCodeAgain};
 ghost use Rattle.theorem_reader.specs.MoreSteps.{EndsStay, LinesStay};
 ghost use Rattle.theorem_reader.specs.Words.{AreReadByTable, AreSizedByTable};
 
@@ -16,8 +16,9 @@ pub fn words_mean_what_the_table_has()
     ensures sized { AreSizedByTable }
 {}
 
-/// A run of no step of rewritten code has no step of the program and no service. So what interprets the program, and prints
-/// `natural 0 entries 1 pages 0`, is no run, whatever machine it keeps.
+/// A run of no step of rewritten code has no step of the program and no service, nor has one behind a restart. So what
+/// interprets the program, and prints `natural 0 entries 1 pages 0`, is no run, whatever machine it keeps.
 pub fn no_step_without_rewritten_code()
     ensures done { IsDoneByCode }
+    ensures again { IsDoneByCodeAgain }
 {}

@@ -1,16 +1,17 @@
 //! The theorem of the whole program, held from above: runs over streams in memory, whose contracts say in lists and
 //! numbers what a user relies on. Of the crates below they name only what the words and texts are, the original program's
-//! machine and the programs in turn, the mote's instruction, types, the form and links of a page, and the program of a seed:
-//! so any other definition there that is weakened, and that they rest on, is refused here.
+//! machine and the programs in turn, the mote's instruction and operations on flash, types, the form and links of a page, and
+//! the program of a seed: so any other definition there that is weakened, and that they rest on, is refused here.
 //!
 //! To read: `specs/Telling` (how a text is told, by a sink with room for it or without, and a source that fails),
 //! `specs/Runs` (what a run leaves; begin at `IsRun`), `specs/Ends` (the end that is kept), `specs/Acts` (what the machine
 //! did), `specs/Steps` (which acts each step of the original program is), `specs/MoreSteps` (what more of them leave),
-//! `specs/ByCode` (nothing is done without rewritten code), `specs/Pools` (what stands in flash), `specs/Memory` (where the
-//! program's bytes are), `specs/Texts` (the printed lines), `specs/Words` (what words mean);
-//! then `specs/Dumps` (the flash that a run leaves), `specs/Restarts` (what is kept of a flash behind a loss of power),
-//! `specs/Tasks` and `specs/Stints` (several programs on one mote), `specs/Checks` (what is said of a flash), and
-//! `specs/Refusals` (words and texts that are refused, and `asm`). Names that stand there and come from elsewhere:
+//! `specs/ByCode` (where no step of rewritten code is told, none was made), `specs/Pools` (what stands in flash),
+//! `specs/Wear` (how often it is erased), `specs/Memory` (where the program's bytes are), `specs/Texts` (the printed
+//! lines), `specs/Words` (what words mean); then `specs/Dumps` (the flash that a run leaves), `specs/Restarts` (what is
+//! kept of a flash behind a loss of power), `specs/Tasks` and `specs/Stints` (several programs on one mote), `specs/Checks`
+//! (what is said of a flash), and `specs/Refusals` (words and texts that are refused, and `asm`). Names that stand there
+//! and come from elsewhere:
 //!
 //! - `original program events n`: the original program's first n steps, by itself on flat memory of 64 KiB. Of it: `end`,
 //!   `lines` (the writes to outputs), and `state`, where `now` has the core (r0 to r31, SREG, SP, pc), the memory, the
@@ -26,6 +27,7 @@
 //! - `fault_of text`, `AsmText text image`: what is wrong with a source, and its words, as docs/ASSEMBLER.md tells them.
 //! - `once programs p`, `tries count programs`, `turns programs`: what several programs tell in turn, each over a flat memory of
 //!   its own, in one try, of p, in so many, or until each has ended (docs/TASKS.md).
+//! - `perform flash operations`: flash behind erases and programs of pages (docs/MOTE.md).
 //! - `wake devices`: the devices once an enabled interrupt was requested, if inputs ever do (docs/MOTE.md).
 //! - `generated seed`: the program of a seed (docs/FORMATS.md).
 //! - `Machine`: a mote that runs a program, and what was counted (docs/MACHINE.md).

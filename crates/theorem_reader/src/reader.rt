@@ -24,9 +24,9 @@ pub struct Told<const ROOM: usize> {
     pub status: u8,
     /// What was put.
     pub out: RoomySink<ROOM>,
-    /// The machine of the run, where one was made.
+    /// The machine of the run, of the second one for `restart`, where one is kept.
     pub kept: Option<Machine>,
-    /// The tasks of the run, where several programs were booted.
+    /// The tasks of the run, for `tasks`.
     pub tasks: Option<Tasks>,
 }
 
@@ -83,7 +83,7 @@ pub(crate) fn word_of(alloc: Global, text: &str) -> Result<String, NoMemory>
     Ok(String::from_str(alloc, text)?)
 }
 
-/// The most plain steps that a run of this quantum makes between two services.
+/// So many plain steps are the most between two services of a run of this quantum (`few` of `HasActs`).
 pub fn longest_wait(quantum: u8) -> u64
     ensures value { result ≡ 5120 * quantum }
 {

@@ -3,7 +3,7 @@ pub mod Paths
 mod Trials
 pub mod Changing
 mod Starting
-mod Keeping
+pub mod Keeping
 mod Playing
 pub mod Telling
 mod Runs

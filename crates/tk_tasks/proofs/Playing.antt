@@ -1,5 +1,5 @@
 -- Tries of the running task are plays of the tasks.
-use Rattle.std.proofs.Common.{length, ◌≡◌, ℕ, zero, suc, ◌+◌, ◌-◌, ◌*◌, ◌<◌, ◌≤◌, Bool, true, false, cond, List, [], ◌∷◌, ◌++◌, refl, sym, ap, ap₂, ◌∙◌, arith, subst, inl}
+use Rattle.std.proofs.Common.{length, ◌≡◌, ℕ, zero, suc, ◌+◌, ◌-◌, ◌*◌, ◌<◌, ◌≤◌, Bool, true, false, cond, List, [], ◌∷◌, ◌++◌, refl, sym, ap, ap₂, ◌∙◌, arith, subst}
 use Rattle.std.specs.Prelude.{◌≢◌, ◌^◌, ◌==◌, ◌&&◌, is_some, slice_get, slice_set, Option, Some, None}
 use Rattle.std.proofs.lemmas.List.{append-nil}
 use Rattle.std.proofs.lemmas.Bool.Decides.{nat_tests}
@@ -11,6 +11,7 @@ use Rattle.kernel_entry.specs.declared.kernel.Stop.{Stop}
 use Rattle.kernel_entry.specs.declared.kernel.Stop.TheVariants as stops
 use Rattle.kernel_entry.specs.Seen.{program as program_of, end_of}
 use Rattle.kernel_entry.specs.declared.kernel.Owed.{Owed}
+use Rattle.kernel_entry.specs.declared.kernel.End.{End}
 use Rattle.kernel_entry.specs.declared.kernel.End.TheVariants as ends
 use Rattle.step_laws.specs.Moves.{Move, lines_of, line_before}
 use Rattle.step_laws.specs.Numbers.{Numbers}
@@ -19,7 +20,7 @@ use Rattle.step_laws.specs.StepLaws.{Reaches}
 use Rattle.step_laws.proofs.NumberLaws.{unmoved}
 use Rattle.program_steps.specs.Machines.{Machine, awaited, awaits, state_of, numbers_of, flat_of}
 use Rattle.program_steps.specs.Ready.{IsSound, IsGoing, IsQuiet, IsEnded}
-use Rattle.program_steps.specs.Stepping.{Goes, StepWay, IsArrival, AreOfStep, ends_in_arrive, links_in}
+use Rattle.program_steps.specs.Stepping.{Goes, StepWay, ends_in_arrive, links_in}
 use Rattle.program_steps.proofs.Bounds.{bounds_ready}
 use Rattle.program_steps.proofs.Leading.{stays_self}
 use Rattle.program_steps.proofs.OneBehindOther.{GoesOn as StepsOn, goes_on_by as steps_on_by}
@@ -28,11 +29,11 @@ use Rattle.parked_tasks.specs.declared.task.Task.{Task}
 use Rattle.parked_tasks.specs.declared.task.TaskEnd.{TaskEnd}
 use Rattle.parked_tasks.specs.declared.task.TaskEnd.TheVariants.{Spent, Wild}
 use Rattle.tk_tasks.specs.declared.trying.Tried.{Tried}
-use Rattle.task_turns.specs.Turns.{Turns, Stops, After, rests_by, rests, played_by, tried_by, once_by, once, changed, with_player, told_line, stopped, at_checkpoint, stepped, after_line}
+use Rattle.task_turns.specs.Turns.{Turns, Stops, After, Over, played as outcome, rests_by, rests, played_by, tried_by, once_by, once, changed, with_player, told_line, stopped, at_checkpoint, stepped, after_line}
 use Rattle.tk_tasks.specs.States.{Tasks, machine_of, machine_end, AreSound, player_of, turns_of}
 use Rattle.parked_tasks.specs.Ends.{flat_end, flat_end_of}
 use Rattle.tk_tasks.specs.Changes.{IsFree}
-use Rattle.tk_tasks.specs.Plays.{Play, GoesOn, IsPlay, TaskPath, told_of, lines_told}
+use Rattle.tk_tasks.specs.Plays.{Play, AreStopped, AreOfTry, GoesOn, IsPlay, TaskPath, told_of, lines_told}
 use Rattle.tk_tasks.specs.Trying.{rest_at, rest_if, ended_by, Went, checks, Quietly, IsBehind, HasTried, target_of, stub_in, kept_task, kept_tasks, finished, line_told, end_told, tried_told, HasPlayed}
 use Rattle.task_turns.proofs.Crossings.{undue_unchecked}
 use Rattle.tk_tasks.proofs.Trials.{unrested}
@@ -102,7 +103,7 @@ record CanPlay (n : ℕ) (u : Tasks) (task : Task) (m : Machine) (line : Option 
   moves : List Move
   goes : Goes (machine_of u u.running task) m moves (line_before line [])
   last : ends_in_arrive moves ≡ false
-  of_step : AreOfStep task.at moves
+  of_try : AreOfTry task.at moves (machine_end end) (outcome (player_of n u u.running task))
   once_is : once (turns_of n u) (player_of n u u.running task) ≡ record { told = tried_told u.running line end m.steps m.crossings; turns = turned changes (with_player (turns_of n u) (player_by n m end)) }
 
 turned_on : (n : ℕ) (u : Tasks) (task : Task) (m : Machine) (end : Option TaskEnd) (changes : Bool) → IsBefore u task → IsCome u task m end → turns_of n (finished changes (kept_tasks u task m end)) ≡ turned changes (with_player (turns_of n u) (player_by n m end))
@@ -125,6 +126,7 @@ play_on n u task m line end changes can =
     let lines = lines_one u.running line end m.steps m.crossings in
     record {
       sound = before.sound;
+      whole = before.whole;
       task = task;
       here = before.here;
       going = can.going;
@@ -133,16 +135,44 @@ play_on n u task m line end changes can =
       tried = record {
         goes = subst (λ z. Goes (machine_of u u.running task) z can.moves (lines_told (tried_told u.running line end m.steps m.crossings))) (sym same) (subst (Goes (machine_of u u.running task) m can.moves) (sym lines) can.goes);
         last = can.last;
-        of_step = can.of_step;
         tasks = refl;
         running = refl;
         switches = refl;
         sound = sound_kept u task m end before can.come;
       };
+      of_try = can.of_try;
       behind = goes_on_by changes v;
       in_turn = turned_on n u task m end changes before can.come ∙ sym (ap (λ (a : After). a.turns) can.once_is);
       told = sym (ap (λ (a : After). a.told) can.once_is);
     }
+
+-- ---- what a try comes to
+
+played_rests : (n : ℕ) (u : Tasks) (task : Task) (end : TaskEnd) → rest_at (machine_of u u.running task).kernel.part task.at (n - task.steps) ≡ Some end → outcome (player_of n u u.running task) ≡ Over (flat_end end)
+played_rests n u task end rest =
+    let p = player_of n u u.running task in
+    ap (tried_by p) (rests_is p.program p.moment p.left ∙ ap flat_end_of rest)
+
+played_tries : (n : ℕ) (u : Tasks) (task : Task) (next : Next) → rest_at (machine_of u u.running task).kernel.part task.at (n - task.steps) ≡ None
+    → next_of (program_of (machine_of u u.running task).kernel) (flat_of (machine_of u u.running task)) ≡ next → outcome (player_of n u u.running task) ≡ played_by (player_of n u u.running task) next
+played_tries n u task next rest is =
+    let p = player_of n u u.running task in
+    ap (tried_by p) (rests_is p.program p.moment p.left ∙ ap flat_end_of rest) ∙ ap (played_by p) is
+
+nothing_tried : (own none : Bool) (pc at : ℕ) (end : TaskEnd) → cond own (cond none (Some Spent) None) (Some (Wild pc)) ≡ Some end → AreOfTry at [] (machine_end (Some end)) (Over (flat_end end))
+nothing_tried true true pc at end is = let e : Spent ≡ end = cc in subst (λ (z : TaskEnd). AreOfTry at [] (machine_end (Some z)) (Over (flat_end z))) e refl
+nothing_tried true false pc at end is = absurd (cc)
+nothing_tried false none pc at end is = let e : Wild pc ≡ end = cc in subst (λ (z : TaskEnd). AreOfTry at [] (machine_end (Some z)) (Over (flat_end z))) e refl
+
+stop_tried : (stop : Stop) (at : ℕ) (moves : List Move) (end : Option End) → AreStopped at moves end → AreOfTry at moves end (Over (end_of stop))
+stop_tried (stops.Halted pc) at moves end made = made
+stop_tried (stops.Asleep pc) at moves end made = made
+stop_tried (stops.Illegal pc) at moves end made = made
+stop_tried (stops.SelfProgram pc) at moves end made = made
+stop_tried (stops.Read pc a) at moves end made = made
+stop_tried (stops.Io pc a) at moves end made = made
+stop_tried (stops.Stack pc a) at moves end made = made
+stop_tried (stops.SwapFull pc a) at moves end made = made
 
 -- ---- a task that rests
 
@@ -181,7 +211,7 @@ can_rest n u task end before going rest =
       moves = [];
       goes = record { walk = refl; told = refl; numbers = refl };
       last = refl;
-      of_step = record { arrival = []; own = []; parts = refl; arrives = IsArrival.NoArrival refl; makes = inl refl };
+      of_try = subst (AreOfTry task.at [] (machine_end (Some end))) (sym (played_rests n u task end rest)) (nothing_tried (is_own x.kernel.part task.at) ((n - task.steps) == 0) task.at task.at end rest);
       once_is = once_rests n u task end rest;
     }
 
@@ -255,7 +285,8 @@ can_go n u task m line before going most rest went ready quiet steps is =
       moves = went.moves;
       goes = went.goes;
       last = went.last;
-      of_step = went.of_step;
+      of_try = subst (AreOfTry task.at went.moves (machine_end (rest_if (checks x m) m.kernel.part m.at (n - m.steps)))) (sym (played_tries n u task (On line (flat_of m)) rest is))
+          (record { step = went.of_step; going = rest_if_ends (checks x m) m.kernel.part m.at (n - m.steps) });
       once_is = once_goes n u task m line going rest went.stays.program steps is (checks x m) refl;
     }
 
@@ -285,7 +316,8 @@ can_stop n u task m line stop before going rest went over kept none steps is sam
       moves = went.moves;
       goes = subst (λ l. Goes x m went.moves (line_before l [])) none went.goes;
       last = went.last;
-      of_step = went.of_step;
+      of_try = subst (AreOfTry task.at went.moves (machine_end (Some (ended_by stop)))) (sym (played_tries n u task (Ends (end_of stop)) rest is))
+          (stop_tried stop task.at went.moves (machine_end (Some (ended_by stop))) (record { step = went.of_step; stop = stop; stops = stop_ends stop }));
       once_is = once_stops n u task m stop going rest went.stays.program steps is same;
     }
 

@@ -1,5 +1,5 @@
 -- A try of the running task, as its machine makes it: an arrival and a step, or an interrupt.
-use Rattle.std.proofs.Common.{◌≡◌, ℕ, zero, suc, ◌+◌, ◌-◌, ◌≤◌, Bool, true, false, cond, List, [], ◌∷◌, ◌++◌, refl, sym, ap, ap₂, ◌∙◌, arith, subst, inl, inr}
+use Rattle.std.proofs.Common.{◌≡◌, ℕ, zero, suc, ◌+◌, ◌-◌, ◌≤◌, Bool, true, false, cond, List, [], ◌∷◌, ◌++◌, refl, sym, ap, ap₂, ◌∙◌, arith, subst, inl}
 use Rattle.std.specs.Prelude.{◌≢◌, ◌==◌, ◌&&◌, Option, Some, None}
 use Rattle.std.proofs.lemmas.Bool.{and_parts}
 use Rattle.mote_devices.specs.declared.line.Line.{Line}
@@ -45,7 +45,7 @@ went_entered x m y line entered step = record {
   moves = entered.moves ++ step.moves;
   goes = goes_on x m y entered.moves step.moves [] (line_before line []) entered.goes step.goes;
   last = last_by entered.moves step.moves step.some ∙ step.last;
-  of_step = record { arrival = entered.moves; own = step.moves; parts = refl; arrives = entered.arrives; makes = inr step.own };
+  of_step = record { arrival = entered.moves; own = step.moves; parts = refl; arrives = entered.arrives; makes = step.own };
   stays = stays_on x m y entered.stays step.stays;
   broken = step.broken ∙ entered.broken;
   left = left_stepped m y line step.arrivals step.way;
@@ -57,7 +57,7 @@ went_stepped x y line step = record {
   moves = step.moves;
   goes = step.goes;
   last = step.last;
-  of_step = record { arrival = []; own = step.moves; parts = refl; arrives = IsArrival.NoArrival refl; makes = inr step.own };
+  of_step = record { arrival = []; own = step.moves; parts = refl; arrives = IsArrival.NoArrival refl; makes = step.own };
   stays = step.stays;
   broken = step.broken;
   left = left_stepped x y line step.arrivals step.way;

@@ -1,18 +1,21 @@
 -- A run of the tasks on the mote, play by play, beside the tasks in turn (docs/TASKS.md, "A run on the mote").
 use Rattle.std.specs.Prelude.{◌≡◌, ℕ, ◌/◌, Bool, true, false, List, [], ◌∷◌, ◌++◌, length, flat_map, slice_get, slice_set, sum_by, Option, Some, None, Result, Ok, Err, is_err}
 use Rattle.mote_devices.specs.declared.line.Line.{Line}
-use Rattle.flat_machine.specs.FlatMachine.{Run}
+use Rattle.flat_machine.specs.FlatMachine.{Run, Spent, Wild}
 use Rattle.printed_text.specs.DeviceLines.{device_line_text}
 use Rattle.printed_text.specs.Ends.{stop_text}
 use Rattle.byte_streams.specs.declared.failure.Failed.{Failed}
 use Rattle.byte_streams.specs.Streams.{Puts}
+use Rattle.kernel_entry.specs.declared.kernel.Stop.{Stop}
+use Rattle.kernel_entry.specs.declared.kernel.End.{End}
+use Rattle.kernel_entry.specs.declared.kernel.End.TheVariants as ends
 use Rattle.step_laws.specs.Moves.{Move}
 use Rattle.step_laws.specs.Walks.{Walks}
-use Rattle.program_steps.specs.Stepping.{Goes, AreOfStep, ends_in_arrive}
+use Rattle.program_steps.specs.Stepping.{Goes, IsArrival, AreOwn, ends_in_arrive}
 use Rattle.parked_tasks.specs.declared.task.Task.{Task}
 use Rattle.line_writer.specs.Pieces.{task_text}
-use Rattle.task_turns.specs.Turns.{Player, Turns, Shown, Wrote, Stops, Told, once, tries, turns, alone, shown_by, own_told, HaveEnded}
-use Rattle.tk_tasks.specs.States.{Tasks, AreSound, machine_of, player_of, turns_of}
+use Rattle.task_turns.specs.Turns.{Player, Turns, Shown, Wrote, Stops, Told, Played, Over, Gone, played, once, tries, turns, alone, shown_by, own_told, HaveEnded}
+use Rattle.tk_tasks.specs.States.{Tasks, AreSound, machine_end, machine_of, player_of, turns_of}
 use Rattle.tk_tasks.specs.Changes.{changed_tasks}
 
 -- one try of the running task: its moves, what is told of it, and whether the mote may be given to another behind it
@@ -29,12 +32,38 @@ line_shown (Stops end steps crossings) = []
 abbrev pub lines_told : List Told → List Line
 lines_told told = flat_map (λ one. line_shown one.shown) told
 
--- The running task's machine goes by these moves: at most an arrival where it stands, and at most the moves of one step; the
--- last is no arrival. A move counts for this task alone. The other tasks have what they had, and all stay sound.
+-- at most an arrival at this address, and behind it the moves of one step
+pub record AreAStep (at : ℕ) (moves : List Move) : Type 0 where
+  pub arrival : List Move
+  pub own : List Move
+  pub parts : moves ≡ arrival ++ own
+  pub arrives : IsArrival at arrival
+  pub makes : AreOwn own
+
+-- .. that is made, and behind which the machine has no end
+pub record AreMade (at : ℕ) (moves : List Move) (end : Option End) : Type 0 where
+  pub step : AreAStep at moves
+  pub going : end ≡ None
+
+-- .. or that isn't, since the program stops in it
+pub record AreStopped (at : ℕ) (moves : List Move) (end : Option End) : Type 0 where
+  pub step : AreAStep at moves
+  pub stop : Stop
+  pub stops : end ≡ Some (ends.Stopped stop)
+
+-- The moves of a try that comes to this, and the end of the machine behind them. One that has done all its steps, or has left its
+-- part, makes none.
+abbrev pub AreOfTry : (at : ℕ) → List Move → Option End → Played → Type 0
+AreOfTry at moves end (Over Spent) = moves ≡ []
+AreOfTry at moves end (Over (Wild pc)) = moves ≡ []
+AreOfTry at moves end (Over _) = AreStopped at moves end
+AreOfTry at moves end (Gone line checkpoint next) = AreMade at moves end
+
+-- The running task's machine goes by these moves, of which the last is no arrival. A move counts for this task alone. The other
+-- tasks have what they had, and all stay sound.
 pub record IsTry (t : Tasks) (task : Task) (play : Play) (new : Tasks) (next : Task) : Type 0 where
   pub goes : Goes (machine_of t t.running task) (machine_of new t.running next) play.moves (lines_told play.told)
   pub last : ends_in_arrive play.moves ≡ false
-  pub of_step : AreOfStep task.at play.moves
   pub tasks : new.tasks ≡ slice_set t.tasks t.running next
   pub running : new.running ≡ t.running
   pub switches : new.switches ≡ t.switches
@@ -45,16 +74,18 @@ abbrev pub GoesOn : Bool → Tasks → Tasks → Type 0
 GoesOn true mid new = new ≡ changed_tasks mid
 GoesOn false mid new = new ≡ mid
 
--- One play of a task that has not ended, of sound tasks, where each may do n steps: the tasks stand behind it, and of them
--- is told, what one try in turn comes to.
+-- One play of a task that has not ended, of sound tasks that aren't broken, where each may do n steps: the tasks stand behind
+-- it, and of them is told, what one try in turn comes to.
 pub record IsPlay (n : ℕ) (t : Tasks) (play : Play) (new : Tasks) : Type 0 where
   pub sound : AreSound t
+  pub whole : t.broken ≡ false
   pub task : Task
   pub here : slice_get t.tasks t.running ≡ Some task
   pub going : task.end ≡ None
   pub mid : Tasks
   pub next : Task
   pub tried : IsTry t task play mid next
+  pub of_try : AreOfTry task.at play.moves (machine_end next.end) (played (player_of n t t.running task))
   pub behind : GoesOn play.changes mid new
   pub in_turn : turns_of n new ≡ (once (turns_of n t) (player_of n t t.running task)).turns
   pub told : play.told ≡ (once (turns_of n t) (player_of n t t.running task)).told

@@ -11,7 +11,7 @@ use Rattle.kernel_entry.specs.declared.kernel.Owed.{Owed}
 use Rattle.step_laws.specs.Moves.{Move, line_before}
 use Rattle.program_steps.specs.Machines.{Machine}
 use Rattle.program_steps.specs.Ready.{IsGoing}
-use Rattle.program_steps.specs.Stepping.{Goes, Stays, StepWay, HasStepped, AreOfStep, ends_in_arrive}
+use Rattle.program_steps.specs.Stepping.{Goes, Stays, StepWay, HasStepped, ends_in_arrive}
 use Rattle.program_steps.specs.Several.{Silently}
 use Rattle.program_steps.specs.Waiting.{IsLeft}
 use Rattle.parked_tasks.specs.declared.task.Task.{Task}
@@ -22,7 +22,7 @@ use Rattle.task_turns.specs.Turns.{Told, Wrote, Stops}
 use Rattle.tk_tasks.specs.States.{Tasks}
 use Rattle.parked_tasks.specs.Ends.{flat_end}
 use Rattle.tk_tasks.specs.Changes.{changed_tasks}
-use Rattle.tk_tasks.specs.Plays.{Play, TaskPath, told_of}
+use Rattle.tk_tasks.specs.Plays.{Play, TaskPath, told_of, AreAStep}
 use Rattle.task_turns.specs.Checkpoints.{checks_by}
 
 -- a task that makes no further step, with so many left, where its next would begin
@@ -45,7 +45,7 @@ pub record Went (old new : Machine) (line : Option Line) : Type 0 where
   pub moves : List Move
   pub goes : Goes old new moves (line_before line [])
   pub last : ends_in_arrive moves ≡ false
-  pub of_step : AreOfStep old.at moves
+  pub of_step : AreAStep old.at moves
   pub stays : Stays old new
   pub broken : new.broken ≡ old.broken
   pub left : IsLeft new

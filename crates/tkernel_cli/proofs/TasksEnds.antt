@@ -23,15 +23,19 @@ use Rattle.cli_words.specs.declared.status.Status.{Status}
 use Rattle.cli_words.specs.declared.status.Status.TheVariants as status
 use Rattle.cli_words.specs.Commands.{AreTasks}
 use Rattle.cli_words.specs.Stream.{Stream}
-use Rattle.cli_jobs.specs.Runs.{Says}
-use Rattle.tkernel_cli.specs.TasksRuns.{RunsTasks, EachIsAlone, all_told, run_of_task, start_by, start_of, turns_by, worst}
+use Rattle.cli_jobs.specs.Runs.{Says, Begins}
+use Rattle.tkernel_cli.specs.TasksRuns.{AreAtReset, RunsTasks, EachIsAlone, all_told, run_of_task, start_by, start_of, turns_by, worst}
 use Rattle.printed_text.specs.Counts.{tasks_count_text}
-use Rattle.cli_jobs.proofs.Putting.{said_on}
+use Rattle.cli_jobs.proofs.Putting.{said_on, begun_on}
 
 -- what stands of the tasks at boot
 pub record Starts (request : TaskRequest) (start : Tasks) : Type 0 where
   pub is : start ≡ start_of request
   pub in_turn : turns_of request.options.steps start ≡ turns_by request
+  pub sound : AreSound start
+
+at_reset : (request : TaskRequest) (start : Tasks) → Starts request start → AreAtReset request
+at_reset request start starts = record { sound = subst AreSound starts.is starts.sound; turns = ap (turns_of request.options.steps) (sym starts.is) ∙ starts.in_turn }
 
 started_quantum : (request : TaskRequest) (scripts : List Schedule) → (start_by request scripts).kernel.quantum ≡ request.options.quantum
 started_quantum request [] = refl
@@ -56,17 +60,17 @@ can_run request start starts = (
 -- the tasks that boot made
 starts_of : (request : TaskRequest) (start : Tasks) → (scripts : List Schedule) → 1 ≤ length scripts → request.scripts ≡ scripts
     → ((first : Schedule) (others : List Schedule) → request.scripts ≡ first ∷ others → start ≡ booted request.image first others request.options.quantum request.options.swap)
-    → turns_of request.options.steps start ≡ turns_by request → Starts request start
-starts_of request start [] some is made same = absurd (omega arith)
-starts_of request start (first ∷ others) some is made same = record { is = made first others is ∙ sym (ap (start_by request) is); in_turn = same }
+    → turns_of request.options.steps start ≡ turns_by request → AreSound start → Starts request start
+starts_of request start [] some is made same sound = absurd (omega arith)
+starts_of request start (first ∷ others) some is made same sound = record { is = made first others is ∙ sym (ap (start_by request) is); in_turn = same; sound = sound }
 
 pub starts_at_boot : (request : TaskRequest) (start : Tasks) (list : List Schedule) → AreTasks request → list ≡ request.scripts
     → ((first : Schedule) (others : List Schedule) → list ≡ first ∷ others → start ≡ booted request.image first others request.options.quantum request.options.swap)
-    → ((n : ℕ) → turns_of n start ≡ turns_at_reset request.image list request.options.quantum request.options.swap n) → Starts request start
-starts_at_boot request start list may is made in_turn =
+    → ((n : ℕ) → turns_of n start ≡ turns_at_reset request.image list request.options.quantum request.options.swap n) → AreSound start → Starts request start
+starts_at_boot request start list may is made in_turn sound =
     let some : 1 ≤ length request.scripts = omega (arith, may.each_task, may.possible.0) in
     starts_of request start request.scripts some refl (λ first others same. made first others (is ∙ same))
-    (in_turn request.options.steps ∙ ap (λ scripts. turns_at_reset request.image scripts request.options.quantum request.options.swap request.options.steps) is)
+    (in_turn request.options.steps ∙ ap (λ scripts. turns_at_reset request.image scripts request.options.quantum request.options.swap request.options.steps) is) sound
 
 -- the run of a task alone is that of its player at boot
 own_alone : (request : TaskRequest) (i : ℕ) → AreTasks request → i < length request.scripts
@@ -109,9 +113,10 @@ tasks_ended request start t before mid now told done may starts run sound later 
     let whole = said_on (worst status.Done t.tasks) told before mid now (told_text start.kernel.quantum (told_of run.plays)) last run.put later said in
     RunsTasks.Ended (record {
       said = subst (λ l. Says (worst status.Done t.tasks) (l ++ last) before now told) text whole;
+      begun = subst (Begins before.told now.told) text (begun_on (worst status.Done t.tasks) told before.told mid now (told_text start.kernel.quantum (told_of run.plays)) last run.put said);
       alone = each_alone request start run.last t (told_of run.plays) may starts run.run run.counts;
       sound = sound;
-      start = ap (turns_of request.options.steps) (sym starts.is) ∙ starts.in_turn;
+      start = at_reset request start starts;
       plays = run.plays;
       last = run.last;
       path = subst (λ s. TaskPath request.options.steps s run.plays run.last) starts.is run.path;
@@ -134,6 +139,7 @@ tasks_cut request start t before now failed starts run sound rose =
     RunsTasks.Cut (record {
       status_is = refl;
       rose = rose;
+      start = at_reset request start starts;
       plays = run.plays;
       last = run.last;
       path = subst (λ s. TaskPath request.options.steps s run.plays run.last) starts.is run.path;

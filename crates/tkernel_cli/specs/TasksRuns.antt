@@ -21,7 +21,7 @@ use Rattle.cli_words.specs.declared.status.Status.{Status}
 use Rattle.cli_words.specs.declared.status.Status.TheVariants as status
 use Rattle.tkernel_cli.specs.declared.top.Exit.{Exit}
 use Rattle.cli_words.specs.Stream.{Stream}
-use Rattle.cli_jobs.specs.Runs.{Says, status_of_end}
+use Rattle.cli_jobs.specs.Runs.{Says, Begins, status_of_end}
 use Rattle.cli_words.specs.Status.{number_of}
 use Rattle.printed_text.specs.Counts.{tasks_count_text}
 
@@ -70,13 +70,19 @@ abbrev pub EachIsAlone : TaskRequest → Tasks → Type 0
 EachIsAlone request t =
     (i : ℕ) → i < request.options.count → (task : Task) × (slice_get t.tasks i ≡ Some task) × EndsAsAlone (run_of_task request i) i (all_told request) (player_of request.options.steps t i task)
 
--- Every task ended, and what was printed is what the programs tell in turn, with the counts of all. The machine of each is
--- sound, so the pool is faithful, and plays lead here from the start, where each task stands at its program's reset.
+-- the tasks before they do anything are sound, and each stands at its program's reset
+pub record AreAtReset (request : TaskRequest) : Type 0 where
+  pub sound : AreSound (start_of request)
+  pub turns : turns_of request.options.steps (start_of request) ≡ turns_by request
+
+-- Every task ended, and what was printed is what the programs tell in turn, which went out whole, with the counts of all. The
+-- machine of each is sound, so the pool is faithful, and plays lead here from the start.
 pub record RunsTasksToTheEnd (request : TaskRequest) (before now : Stream) (told : Status) (t : Tasks) : Type 0 where
   pub said : Says (worst status.Done t.tasks) (told_text request.options.quantum (all_told request) ++ tasks_count_text t.natural t.entries t.pages t.switches) before now told
+  pub begun : Begins before.told now.told (told_text request.options.quantum (all_told request))
   pub alone : EachIsAlone request t
   pub sound : AreSound t
-  pub start : turns_of request.options.steps (start_of request) ≡ turns_by request
+  pub start : AreAtReset request
   pub plays : List Play
   pub last : Tasks
   pub path : TaskPath request.options.steps (start_of request) plays last
@@ -89,6 +95,7 @@ pub record RunsTasksToTheEnd (request : TaskRequest) (before now : Stream) (told
 pub record RunsTasksUntilCut (request : TaskRequest) (before now : Stream) (told : Status) (t : Tasks) : Type 0 where
   pub status_is : told ≡ status.WriteFault
   pub rose : Rose before.faults now.faults
+  pub start : AreAtReset request
   pub plays : List Play
   pub last : Tasks
   pub path : TaskPath request.options.steps (start_of request) plays last

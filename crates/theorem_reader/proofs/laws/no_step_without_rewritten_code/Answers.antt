@@ -1,5 +1,5 @@
-use Rattle.theorem_reader.proofs.WorkedActs.{done_by_code}
+use Rattle.theorem_reader.proofs.WorkedActs.{done_by_code, done_by_code_again}
 use Rattle.theorem_reader.proofs.laws.no_step_without_rewritten_code.Goals as goal
 
 pub returns : goal.returns
-returns c = record { done = done_by_code }
+returns c = record { done = done_by_code; again = done_by_code_again }

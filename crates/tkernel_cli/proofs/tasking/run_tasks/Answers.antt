@@ -8,13 +8,13 @@ use Rattle.tkernel_cli.proofs.tasking.run_tasks.Goals as goal
 pub run-requires : goal.run-requires
 run-requires g c =
     let request = c.args.request in
-    let can = can_run request c.in-Ok.tasks (starts_at_boot request c.in-Ok.tasks c.list.result.items c.requires.possible c.list.ensures.list c.in-Ok.ensures.booted c.in-Ok.ensures.turns) in
+    let can = can_run request c.in-Ok.tasks (starts_at_boot request c.in-Ok.tasks c.list.result.items c.requires.possible c.list.ensures.list c.in-Ok.ensures.booted c.in-Ok.ensures.turns c.in-Ok.ensures.sound) in
     record { sound = c.in-Ok.ensures.sound; whole = can.0; switches = can.1; going = can.2; steps = c.requires.possible.possible.4 }
 
 pub returns : goal.returns
 returns g c =
     let request = c.args.request in
-    let starts = starts_at_boot request c.in-Ok.tasks c.list.result.items c.requires.possible c.list.ensures.list c.in-Ok.ensures.booted c.in-Ok.ensures.turns in
+    let starts = starts_at_boot request c.in-Ok.tasks c.list.result.items c.requires.possible c.list.ensures.list c.in-Ok.ensures.booted c.in-Ok.ensures.turns c.in-Ok.ensures.sound in
     let before : Stream = record { told = g.K.Sink.taken c.args.out.now; faults = g.K.Sink.faults c.args.out.now } in
     let mid : Stream = record { told = g.K.Sink.taken c.run.new.out; faults = g.K.Sink.faults c.run.new.out } in
     record {
