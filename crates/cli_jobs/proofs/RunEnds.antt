@@ -127,6 +127,7 @@ until_cut request start failing front before first now failed m began alone put 
   put = cut_behind before.told first.told now.told front _ put run.put;
   begun = begun_cut before.told first.told now.told front _ put run.put;
   broken = run.broken;
+  over = run.over;
   within = run.within;
   follows = follows_by request start m.steps m began alone run.sound run.at;
 }

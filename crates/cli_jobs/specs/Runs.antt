@@ -134,14 +134,16 @@ pub record RunsIntoAFault (request : Request) (before now : Stream) (told : Stat
   pub unbroken : m.broken ≡ false
   pub ready : IsReady m
 
--- gathered lines could not be put: what went out begins with this text, and is cut short of the lines up to the step where the
--- machine stands, and it stands where the original program stands after that step
+-- Gathered lines could not be put: what went out begins with this text, and is cut short of the lines up to the step where the
+-- machine stands, and it stands where the original program stands after that step. An end that it keeps all the same, but by
+-- flash, is that of the original program.
 pub record RunsUntilCut (request : Request) (start : Machine) (front : List ℕ) (before now : Stream) (told : Status) (m : Machine) : Type 0 where
   pub status_is : told ≡ status.WriteFault
   pub rose : Rose before.faults now.faults
   pub put : CutShort before.told now.told (front ++ lines_text (original_of request m.steps).lines)
   pub begun : Begins before.told now.told front
   pub broken : m.broken ≡ true
+  pub over : (end : MachineEnd) → m.end ≡ Some end → ((op : ℕ) → end ≢ ends.Flash op) → (whole_run request).end ≡ flat_end end
   pub within : m.steps ≤ request.options.steps
   pub follows : Follows request start m.steps m
 

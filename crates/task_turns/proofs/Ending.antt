@@ -47,7 +47,7 @@ not_false : (b : Bool) → not b ≡ false → b ≡ true
 not_false true is = refl
 not_false false is = absurd (cc)
 
-ended_at : (t : Turns) (k : ℕ) (p : Player) → slice_get t.players k ≡ Some p → has_ended (ends_of t) k ≡ is_some p.end
+pub ended_at : (t : Turns) (k : ℕ) (p : Player) → slice_get t.players k ≡ Some p → has_ended (ends_of t) k ≡ is_some p.end
 ended_at t k p there =
     ap is_some (get_or-map (λ (q : Player). q.end) t.players k p None (slice_get_within t.players k p there) ∙ ap (λ (q : Player). q.end) (get_or_from_slice_get t.players k p p there))
 

@@ -79,7 +79,7 @@ state_line (Some line) r = refl
 
 -- ---- one try
 
-by_change : (t : Turns) (found : Option ℕ) → (changed_to t found).players ≡ t.players
+pub by_change : (t : Turns) (found : Option ℕ) → (changed_to t found).players ≡ t.players
 by_change t None = refl
 by_change t (Some next) = refl
 

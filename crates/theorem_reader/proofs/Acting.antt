@@ -8,7 +8,6 @@ use Rattle.mote_core.specs.Step.{stepped}
 use Rattle.mote_core.specs.Shown.{line_shown}
 use Rattle.std.specs.Prelude.{IfSome, is_some, Result, Ok, Err}
 use Rattle.avr_isa.specs.Addresses.{wrapping_difference}
-use Rattle.avr_flags.specs.Status.{interrupts}
 use Rattle.std.proofs.lemmas.Bool.Decides.{nat_tests}
 use Rattle.flash_words.specs.Memory.{Memory}
 use Rattle.page_index.specs.Entries.{IsEntry}
@@ -27,14 +26,10 @@ use Rattle.branch_bridge.specs.Arrivals.{Store, ArrivesFrom, CameThrough, KeptTh
 use Rattle.branch_bridge.proofs.ArrivalLaws.{from_torn}
 use Rattle.branch_bridge.specs.Arrivals as bridge
 use Rattle.program_steps.proofs.Arriving.{Answered, answered}
-use Rattle.kernel_entry.specs.Services.{executed}
 use Rattle.kernel_entry.specs.declared.kernel.Kernel.{Kernel}
 use Rattle.kernel_entry.specs.declared.kernel.End.{End}
 use Rattle.kernel_entry.specs.declared.kernel.End.TheVariants as ends
-use Rattle.page_index.specs.Maps.{IsPool}
-use Rattle.std.specs.Prelude.{All}
-use Rattle.std.proofs.lemmas.List.Elements.{All-nil, All-cons, All-head, All-tail}
-use Rattle.flash_words.specs.Operations.{Operation, operated_page, Performed}
+use Rattle.flash_words.specs.Operations.{Performed}
 use Rattle.kernel_entry.specs.Parts.{virtual_sp}
 use Rattle.kernel_entry.specs.Interrupts as interrupts
 use Rattle.kernel_entry.specs.declared.kernel.Taken.{Taken}
@@ -52,13 +47,14 @@ use Rattle.step_laws.specs.Numbers.{one_if}
 use Rattle.step_laws.specs.States.{State, end_by, mote_of, after_taking, stops_taking, store_of, with_store, placed, settled_by, arrived}
 use Rattle.step_laws.specs.Walks.{Walk, MakesPlain, MakesArrive, MakesTake}
 use Rattle.program_steps.proofs.Arrived.{after_arrived, pc_in}
-use Rattle.theorem_reader.specs.Acts.{Act, Step, Service, Arrival, Interrupt, IsStep, Relinks, IsNext, Arrives, In, Outside, Refused as RefusedThere, IsArrival, IsInterrupt, Follow}
+use Rattle.theorem_reader.specs.Acts.{Act, Step, Service, Arrival, Interrupt, IsStep, Relinks, IsNext, IsMade, IsUnmade, Arrives, In, Outside, Refused as RefusedThere, IsArrival, IsInterrupt, Follow}
 use Rattle.theorem_reader.specs.Pools.{pool_from, IsInPool, IsPlaceOf, KeepsCode}
 use Rattle.theorem_reader.proofs.Linking.{relinks_by}
-use Rattle.theorem_reader.proofs.NextPage.{ring_stays, next_is}
-use Rattle.theorem_reader.proofs.OtherPages.{Stays as StaysThere, others_stay, torn_stays, stays_keep}
-use Rattle.theorem_reader.proofs.Pooling.{Begins, pool_begins, in_pool, faithful_is, but_is, place_is, place_low, from_pool}
-use Rattle.theorem_reader.proofs.Working.{works_from}
+use Rattle.theorem_reader.proofs.NextPage.{pool_pages_of, ring_stays, next_is, anew_from, erased_free}
+use Rattle.theorem_reader.proofs.OtherPages.{Stays as StaysThere, StaysOrLost, lost_in, others_stay, stays_keep}
+use Rattle.theorem_reader.proofs.RefusedPages.{others_or_lost, made_untorn, place_untorn}
+use Rattle.theorem_reader.proofs.Pooling.{Begins, pool_begins, in_pool, blank_word, faithful_is, but_is, place_is, entry_is, place_low}
+use Rattle.theorem_reader.proofs.Working.{works_from, few_from, allowed_each}
 use Rattle.theorem_reader.proofs.Serving.{service_is}
 
 -- a move as an act between these states
@@ -145,13 +141,19 @@ made_by : (made : Bool) → one_if made ≡ 1 → made ≡ true
 made_by true one = refl
 made_by false one = absurd (omega (arith, one))
 
+-- a page that stays or is lost, in the reader's words
+keeps_by : (image before words : List ℕ) (torn : Option Torn) (page : ℕ) → IsRight (layout_of (length image)) → IsFaithful (layout_of (length image)) image before → IsInPool image page → StaysOrLost image before words torn page → IsUnmade before words (lost_in torn) page
+keeps_by image before words torn page right sound inside (inl stays) =
+    let l = layout_of (length image) in
+    let pool = in_pool image page inside in
+    inl (stays_keep l image before words page sound pool stays, λ erased k below. blank_word words page k (stays.free (erased_free l image before page right sound pool erased)) below)
+keeps_by image before words torn page right sound inside (inr lost) = inr (lost.0, λ k below. blank_word words page k lost.1 below)
+
 -- pages that an arrival doesn't make
 record OthersKeep (image before after : List ℕ) (arrival : BridgeArrival) : Type 0 where
-  again : ℕ
-  other : ℕ
-  here : IfSome arrival.place (λ v. again ≡ v / 128)
-  unrefused : arrival.refused ≡ None → (page : ℕ) → IsInPool image page → page ≢ again → KeepsCode before after page
-  kept : (page : ℕ) → IsInPool image page → page ≢ again → page ≢ other → KeepsCode before after page
+  lost : ℕ
+  unrefused : arrival.refused ≡ None → (place : ℕ) → arrival.place ≡ Some place → (page : ℕ) → IsInPool image page → page ≢ place / 128 → KeepsCode before after page
+  unmade : (page : ℕ) → IsInPool image page → (arrival.made ≡ false) ⊎ ((place : ℕ) × (arrival.place ≡ Some place) × (page ≢ place / 128)) → IsUnmade before after lost page
 
 lacks_by : (layout : Layout) (old new : Memory) (stop : Option ResolveStop) → IfSome stop (IsRefusal layout old new) → IfSome (torn_at stop) (IsTorn layout new.words)
 lacks_by layout old new None refusal = tt
@@ -164,16 +166,18 @@ others_keep image old new t stub arrival right held sound ring came from kept =
     let l = layout_of (length image) in
     let before = old.flash.words in
     let after = new.flash.words in
-    let stay = others_stay l old new t stub arrival right (subst (λ i. IsFaithful l i before) (sym held) sound) ring came from in
+    let code = subst (λ i. IsFaithful l i before) (sym held) sound in
+    let stay = others_stay l old new t stub arrival right code ring came from in
     let lacks = subst (λ (o : Option Torn). IfSome o (IsTorn l after)) (sym (from_torn l old new t stub arrival from)) (lacks_by l old.flash new.flash (stopped_by arrival.refused) kept.tried.refused) in
-    let torn = torn_stays l (image_of l before) before after (torn_by arrival.refused) stay.0 right (kept.tried.size ∙ sound.whole) lacks stay.2 in
+    let left = λ (page : ℕ) (inside : IsInPool image page) (which : (arrival.made ≡ false) ⊎ ((place : ℕ) × (arrival.place ≡ Some place) × (page ≢ place / 128))).
+    subst (λ i. StaysOrLost i before after (torn_by arrival.refused) page) held
+    (others_or_lost l old new t page stub arrival right code ring came (kept.tried.size ∙ sound.whole) lacks (in_pool image page inside) from which) in
     record {
-      again = stay.0;
-      other = torn.0;
-      here = stay.1;
-      unrefused = λ none page inside away. stays_keep l image before after page sound (in_pool image page inside)
-          (subst (λ i. StaysThere i before after page) held (subst (λ r. StaysThere (image_of l before) before (with_torn after (torn_by r)) page) none (stay.2 page (in_pool image page inside) away)));
-      kept = λ page inside away apart. stays_keep l image before after page sound (in_pool image page inside) (subst (λ i. StaysThere i before after page) held (torn.1 page (in_pool image page inside) away apart));
+      lost = lost_in (torn_by arrival.refused);
+      unrefused = λ none place there page inside away. stays_keep l image before after page sound (in_pool image page inside)
+          (subst (λ i. StaysThere i before after page) held (subst (λ r. StaysThere (image_of l before) before (with_torn after (torn_by r)) page) none
+          (stay.2 page (in_pool image page inside) (λ same. away (same ∙ subst (λ p. IfSome p (λ v. stay.0 ≡ v / 128)) there stay.1)))));
+      unmade = λ page inside which. keeps_by image before after (torn_by arrival.refused) page right sound inside (left page inside which);
     }
 
 -- where none was refused, none that was tried is listed
@@ -199,7 +203,7 @@ settled_flag : (x : State) (refused : Option Refused) → is_some (settled_by x 
 settled_flag x None = refl
 settled_flag x (Some refused) = refl
 
-refused_flag : (x y : State) (store : Store) (arrival : BridgeArrival) → y ≡ arrived x store arrival → is_some y.end ≡ is_some arrival.refused
+pub refused_flag : (x y : State) (store : Store) (arrival : BridgeArrival) → y ≡ arrived x store arrival → is_some y.end ≡ is_some arrival.refused
 refused_flag x y store arrival after = ap (λ (s : State). is_some s.end) after ∙ settled_flag (placed (with_store x store) arrival.place) arrival.refused
 
 -- and so it ends
@@ -231,6 +235,29 @@ place_made layout old new t stub arrival (bridge.Stopped refused arrives is) mad
 place_made layout old new t stub arrival (bridge.Went moved arrives none is) made = (moved.place, ap (λ (a : BridgeArrival). a.place) is)
 place_made layout old new t stub arrival (bridge.Resolved mid moved s arrives some stop done same is) made = (moved.place, ap (λ (a : BridgeArrival). a.place) is)
 
+-- what is told of a page that was made
+made_there : (image : List ℕ) (x y : State) (target place : ℕ) (stub : Option ℕ) (store : Store) (arrival : BridgeArrival) → image_of (layout_of (length image)) (mote_of x).flash.words ≡ image → y ≡ arrived x store arrival
+    → ArrivesFrom (layout_of (length image)) (store_of x) (store_of y) target stub arrival → IsRight (layout_of (length image)) → IsFaithful (layout_of (length image)) image (mote_of x).flash.words → ring_of (mote_of x).sram < (layout_of (length image)).pool_pages
+    → arrival.made ≡ true → arrival.place ≡ Some place → IsPlaceOf image (mote_of y).flash.words target place → IsMade image target (mote_of x) (mote_of y)
+made_there image x y target place stub store arrival held after from right sound ring made there begins =
+    let l = layout_of (length image) in
+    let pc : (mote_of y).cpu.pc ≡ place = ap (λ (s : State). (mote_of s).cpu.pc) after ∙ pc_in (with_store x store) arrival.place arrival.refused place there in
+    record {
+      anew = λ v is. anew_from l (store_of x) (store_of y) target stub arrival from made v (entry_is image (mote_of x).flash.words target v is);
+      next = subst (λ v. IsNext image (mote_of x) (mote_of y) (v / 128)) (sym pc) (next_is image (mote_of x) (mote_of y) target stub arrival place right held sound ring from made there);
+      place = subst (IsPlaceOf image (mote_of y).flash.words target) (sym pc) begins;
+    }
+
+-- no page was made, or it is another one than this
+unmade_or_other : (image : List ℕ) (x y : State) (target : ℕ) (stub : Option ℕ) (store : Store) (arrival : BridgeArrival) → y ≡ arrived x store arrival → ArrivesFrom (layout_of (length image)) (store_of x) (store_of y) target stub arrival
+    → (made : Bool) → arrival.made ≡ made → (page : ℕ) → (one_if made ≡ 0) ⊎ (page ≢ (mote_of y).cpu.pc / 128) → (arrival.made ≡ false) ⊎ ((place : ℕ) × (arrival.place ≡ Some place) × (page ≢ place / 128))
+unmade_or_other image x y target stub store arrival after from false is_made page which = inl is_made
+unmade_or_other image x y target stub store arrival after from true is_made page (inl zero) = absurd (omega (arith, zero))
+unmade_or_other image x y target stub store arrival after from true is_made page (inr away) =
+    let there = place_made (layout_of (length image)) (store_of x) (store_of y) target stub arrival from is_made in
+    let pc : (mote_of y).cpu.pc ≡ there.0 = ap (λ (s : State). (mote_of s).cpu.pc) after ∙ pc_in (with_store x store) arrival.place arrival.refused there.0 there.1 in
+    inr (there.0, there.1, λ same. away (same ∙ ap (λ v. v / 128) (sym pc)))
+
 -- how it ended
 arrives_by : (image : List ℕ) (x y : State) (target : ℕ) (stub : Option ℕ) (store : Store) (arrival : BridgeArrival) → length image ≤ 24576 → image_of (layout_of (length image)) (mote_of x).flash.words ≡ image
     → y ≡ arrived x store arrival → store ≡ store_of y → ArrivesFrom (layout_of (length image)) (store_of x) (store_of y) target stub arrival → KeptThrough (layout_of (length image)) (store_of x) (store_of y) target arrival
@@ -245,14 +272,14 @@ arrives_by image x y target stub store arrival few held after same from kept (An
     let words = (mote_of y).flash.words in
     let code : IsFaithful l image words = subst (λ r. IsFaithful l image (with_torn words (torn_by r))) none (subst (λ i. IsFaithful l i (with_torn words (torn_by arrival.refused))) held kept.code) in
     let pc : (mote_of y).cpu.pc ≡ place = ap (λ (s : State). (mote_of s).cpu.pc) after ∙ pc_in (with_store x store) arrival.place arrival.refused place there in
-    let again : others.again ≡ place / 128 = subst (λ p. IfSome p (λ v. others.again ≡ v / 128)) there others.here in
-    In (refused_flag x y store arrival after ∙ ap is_some none) inside (faithful_is image words few code) (in_place image x y target place store arrival few held after kept there none)
-    (λ page pool away. others.unrefused none page pool (λ is. away (is ∙ again ∙ ap (λ v. v / 128) (sym pc))))
+    let begins = in_place image x y target place store arrival few held after kept there none in
+    In (refused_flag x y store arrival after ∙ ap is_some none) inside (faithful_is image words few code) begins
+    (λ page pool away. others.unrefused none place there page pool (λ is. away (is ∙ ap (λ v. v / 128) (sym pc))))
     (λ zero. (
       subst (Relinks (mote_of x).flash.words words) (sym pc) (relinks_by l (store_of x) (store_of y) target stub arrival place right (subst (λ i. IsFaithful l i (mote_of x).flash.words) (sym held) sound) came from (is_made ∙ unmade_by made zero) none there),
       ring_stays l (store_of x) (mote_of y) target stub arrival (is_made ∙ unmade_by made zero) place there from,
     ))
-    (λ one. subst (λ v. IsNext image (mote_of x) (mote_of y) (v / 128)) (sym pc) (next_is image (mote_of x) (mote_of y) target stub arrival place right held sound ring from (is_made ∙ made_by made one) there))
+    (λ one. made_there image x y target place stub store arrival held after from right sound ring (is_made ∙ made_by made one) there (subst (IsPlaceOf image words target) pc begins))
     (λ op later tried. unlisted l (mote_of x).flash (mote_of y).flash arrival.refused op none kept.tried later tried _ refl)
 arrives_by image x y target stub store arrival few held after same from kept (Answered.Failed stop is inside) made is_made right sound came others ring =
     let l = layout_of (length image) in
@@ -260,20 +287,19 @@ arrives_by image x y target stub store arrival few held after same from kept (An
     let tried : Tried l (mote_of x).flash (mote_of y).flash (Some stop) = subst (λ r. Tried l (mote_of x).flash (mote_of y).flash (stopped_by r)) is kept.tried in
     let refusal = tried.refused in
     let code : IsFaithful l image (with_torn words stop.torn) = subst (λ r. IsFaithful l image (with_torn words (torn_by r))) is (subst (λ i. IsFaithful l i (with_torn words (torn_by arrival.refused))) held kept.code) in
+    let entered = subst (λ r. IfSome arrival.place (λ v. IsEntry l (with_torn words (torn_by r)) target v)) is kept.entered in
     RefusedThere (refused_flag x y store arrival after ∙ ap is_some is) inside (omega (arith, refusal.later, refusal.last)) (ap (is_listed (mote_of x).flash) (sym refusal.last) ∙ refusal.listed)
-    (but_is image words stop.torn few code refusal.torn) others.again others.other others.kept
-    (place_either image x y target store arrival stop few after is code (subst (λ r. IfSome arrival.place (λ v. IsEntry l (with_torn words (torn_by r)) target v)) is kept.entered))
+    (but_is image words stop.torn few code refusal.torn) others.lost
+    (λ page pool which. others.unmade page pool (unmade_or_other image x y target stub store arrival after from made is_made page which))
+    (place_either image x y target store arrival stop few after is code entered)
     (λ one.
-    let there = place_made l (store_of x) (store_of y) target stub arrival from (is_made ∙ made_by made one) in
-    let pc : (mote_of y).cpu.pc ≡ there.0 = ap (λ (s : State). (mote_of s).cpu.pc) after ∙ pc_in (with_store x store) arrival.place arrival.refused there.0 there.1 in
-    subst (λ v. IsNext image (mote_of x) (mote_of y) (v / 128)) (sym pc) (next_is image (mote_of x) (mote_of y) target stub arrival there.0 right held sound ring from (is_made ∙ made_by made one) there.1))
-
--- the pages that operations are of, by their numbers
-in_pool_all : (image : List ℕ) (operations : List Operation) → All (λ operation. IsPool (layout_of (length image)) (operated_page operation)) operations → All (λ operation. IsInPool image (operated_page operation)) operations
-in_pool_all image [] all = All-nil (λ (operation : Operation). IsInPool image (operated_page operation))
-in_pool_all image (operation ∷ operations) all =
-    All-cons (λ (o : Operation). IsInPool image (operated_page o)) operation operations (from_pool image (operated_page operation) (All-head (λ (o : Operation). IsPool (layout_of (length image)) (operated_page o)) operation operations all))
-    (in_pool_all image operations (All-tail (λ (o : Operation). IsPool (layout_of (length image)) (operated_page o)) operation operations all))
+    let makes = is_made ∙ made_by made one in
+    let there = place_made l (store_of x) (store_of y) target stub arrival from makes in
+    let own = subst (λ i. IsFaithful l i (mote_of x).flash.words) (sym held) sound in
+    let untorn = subst (λ r. IfSome (torn_by r) (λ torn. torn.page ≢ there.0 / 128)) is (made_untorn l (store_of x) (store_of y) target stub arrival there.0 right own ring came from makes there.1) in
+    let entry = subst (λ p. IfSome p (λ v. IsEntry l (with_torn words stop.torn) target v)) there.1 entered in
+    made_there image x y target there.0 stub store arrival held after from right sound ring makes there.1
+    (place_untorn image words stop.torn target there.0 right (tried.size ∙ sound.whole) refusal.torn (faithful_mapped l image (with_torn words stop.torn) right code) entry untorn))
 
 pub record Arriving (image : List ℕ) (quantum target made ops : ℕ) (x y : State) : Type 0 where
   pub act : IsArrival image (is_some y.end) target made ops (mote_of x) (mote_of y)
@@ -294,8 +320,8 @@ arrival_is image quantum x y target made ops holds makes =
     let ring = subst (λ (k : Layout). ring_of (mote_of x).sram < k.pool_pages) holds.laid makes.can.ring in
     let counted = ap (λ (s : Store). s.flash.ops) after.store_is ∙ makes.tried in
     let answer = answered l (store_of x) (store_of y) target makes.owed.stub makes.arrival from in
-    let worked = works_from l (store_of x) (store_of y) target makes.owed.stub makes.arrival ring came from in
     let sound = subst (λ i. IsFaithful l i (mote_of x).flash.words) holds.held (subst (λ k. IsFaithful k (image_of k (mote_of x).flash.words) (mote_of x).flash.words) holds.laid makes.can.faithful) in
+    let worked = works_from l (store_of x) (store_of y) target makes.owed.stub makes.arrival right (subst (λ i. IsFaithful l i (mote_of x).flash.words) (sym holds.held) sound) ring came from in
     record {
       act = record {
         sound = faithful_is image (mote_of x).flash.words few sound;
@@ -304,7 +330,11 @@ arrival_is image quantum x y target made ops holds makes =
         operations = worked.operations;
         tried = omega (arith, counted, worked.counted);
         counted = counted;
-        pages = in_pool_all image worked.operations worked.pages;
+        allowed = λ done behind operation split. allowed_each image (mote_of x).flash worked.operations done behind operation worked.suit (ap (λ (p : Performed). p.memory.ops) worked.is ∙ worked.counted) split;
+        few = λ page inside erased. (
+            let pool = in_pool image page inside in
+            omega (arith, counted, few_from l (store_of x) (store_of y) target page makes.owed.stub makes.arrival pool (erased_free l image (mote_of x).flash.words page right sound pool erased) from, ap one_if makes.makes));
+        most = omega (arith, counted, kept.ops, pool_pages_of image);
         performed = ap (λ (p : Performed). p.memory) worked.is;
         registers = after.r;
         status = after.sreg;

@@ -1,9 +1,11 @@
 -- What is answered, in lists and numbers.
-use Rattle.std.proofs.Common.{◌≡◌, ◌≢◌, take, length, ℕ, ◌+◌, ◌*◌, ◌≤◌, List, [], Option, Some, None, refl, sym, ap, ◌∙◌, subst, arith, zero-add, inl, inr}
+use Rattle.std.proofs.Common.{◌≡◌, ◌≢◌, true, false, take, length, ℕ, false, ◌+◌, ◌*◌, ◌≤◌, List, [], Option, Some, None, refl, sym, ap, ◌∙◌, subst, arith, zero-add, inl, inr}
 use Rattle.sram_layout.specs.Bytes.{byte_at, data_word_at}
 use Rattle.std.specs.Prelude.{IfSome}
+use Rattle.std.proofs.lemmas.Bool.{false_from_ne_true}
 use Rattle.flash_words.specs.Memory.{Memory, new_flash}
 use Rattle.flash_words.specs.Layouts.{layout_of, IsRight}
+use Rattle.flash_words.specs.Operations.{is_listed}
 use Rattle.flash_words.specs.declared.layout.Layout.{Layout}
 use Rattle.flash_words.proofs.LoadedLaws.{loaded_image}
 use Rattle.nat_page.specs.Faithful.{IsFaithful}
@@ -17,7 +19,6 @@ use Rattle.input_script.specs.Script.{Schedule}
 use Rattle.flat_machine.specs.FlatMachine.{Moment, Program, End as FlatEnd}
 use Rattle.flat_machine.specs.FlatMachine as flat_ends
 use Rattle.step_laws.specs.Numbers.{Numbers}
-use Rattle.step_laws.specs.States.{mote_of}
 use Rattle.nat_page.specs.Used.{used_pages}
 use Rattle.step_laws.specs.Walks.{Walk}
 use Rattle.mote_core.specs.declared.mote.Mote.{Mote}
@@ -39,9 +40,9 @@ use Rattle.cli_jobs.specs.Runs.{KeepsEnd, Runs, RunsToTheEnd, RunsIntoAFault, Fo
 use Rattle.theorem_reader.specs.Acts.{HasActs, IsBoot, made_in}
 use Rattle.theorem_reader.specs.Pools.{AreFaithful, AreFaithfulBut}
 use Rattle.theorem_reader.specs.Ends.{end_of, IsKeptEnd}
-use Rattle.theorem_reader.specs.Runs.{Asked, Asks, AsksGenerate, generated_by, options_of, original_of, StandsFrom, Stands, EndsWell, EndsInAFault, IsRun, NoMemory, Ended, Failed, Cut}
+use Rattle.theorem_reader.specs.Runs.{Asked, Asks, AsksGenerate, generated_by, options_of, original_of, StandsFrom, Stands, EndsWell, EndsInAFault, IsCutOff, IsRun, NoMemory, Ended, Failed, Cut}
 use Rattle.theorem_reader.specs.Wear.{pool_size, IsSpared}
-use Rattle.theorem_reader.proofs.Sparing.{walk_spares, new_unused, spared_from_boot}
+use Rattle.theorem_reader.proofs.Sparing.{walk_spares, failing_stays, new_unused}
 use Rattle.theorem_reader.specs.Telling.{Fails}
 use Rattle.theorem_reader.specs.Memory.{HasMemory}
 use Rattle.theorem_reader.proofs.Holding.{has_memory}
@@ -49,6 +50,7 @@ use Rattle.theorem_reader.proofs.Pooling.{faithful_is, but_is}
 use Rattle.theorem_reader.proofs.Booting.{is_boot}
 use Rattle.theorem_reader.proofs.Ending.{own_stop}
 use Rattle.theorem_reader.proofs.Acting.{acts_of, Holds, follow}
+use Rattle.theorem_reader.proofs.Linked.{are_linked}
 use Rattle.theorem_reader.proofs.Stepwise.{paced}
 use Rattle.theorem_reader.proofs.Bounding.{natural_of, entries_of, pages_of, lines_of_acts, longest_of, longest_in, no_longer}
 use Rattle.theorem_reader.proofs.Doing.{IsSoThen, Call, Somehow, so_then, past_by, retold, told_how, cut_by, told_by}
@@ -84,16 +86,23 @@ has_acts IsFirst asked flash pages lines m begins held path walk bound =
       few = λ front between back is none.
           let longest : m.longest ≡ longest_in 0 0 acts = ap (λ (k : Numbers). k.longest) path.goes.numbers ∙ longest_of x moves (state_of m) walk counts in
           omega (arith, bound, longest, ap (longest_in 0 0) is, no_longer 0 0 front between back none);
+      linked = are_linked x moves (state_of m) walk;
     }
 
 -- no other program's arrivals are counted
 runs_alone : (asked : Asked) (flash : Memory) (pages n : ℕ) (m : Machine) → Leads (start_of asked flash pages) (original_of asked n).lines m → m.others ≡ 0
 runs_alone asked flash pages n m path = ap (λ (k : Numbers). k.others) path.goes.numbers ∙ (unmoved path.moves (numbers_of (start_of asked flash pages))).1
 
+-- the layout of a run is that of its image
+pub layout_same : (image : List ℕ) (m : Machine) → IsSound m → image_held m.kernel ≡ image → m.kernel.layout ≡ layout_of (length image)
+layout_same image m sound held =
+    let order = sound.order in
+    order.layout ∙ ap layout_of (sym order.faithful.image_length ∙ ap length held)
+
 -- where moves lead from such a start
 pub stands_from : (IsFirst : Mote → Type 0) (asked : Asked) (flash : Memory) (pages n : ℕ) (m : Machine) → IsFirst (start_of asked flash pages).kernel.mote → flash.ops ≡ 0 → take (length asked.image) flash.words ≡ asked.image
     → Follows (request_of asked) (start_of asked flash pages) n m → m.steps ≤ asked.steps
-    → StandsFrom IsFirst pages asked (original_of asked n) m
+    → (at : StandsFrom IsFirst pages asked (original_of asked n) m) × (at.acts.first ≡ (start_of asked flash pages).kernel.mote)
 unfolding data_word_at byte_at has_acts
 stands_from IsFirst asked flash pages n m begins untried held follows within =
     let start = start_of asked flash pages in
@@ -102,32 +111,35 @@ stands_from IsFirst asked flash pages n m begins untried held follows within =
     let same = at.state in
     let sound = follows.sound in
     let pace = paced asked.image asked.quantum (states_of (original_of asked)) start m.steps path.moves m (record { laid = refl; held = held; counts = refl }) (λ w owes. refl) at.by_step path.last (sym (zero-add m.steps)) in
-    let acts = has_acts IsFirst asked flash pages (original_of asked n).lines m begins held path pace.walk (subst (λ q. m.longest ≤ 5120 * q) at.quantum follows.longest) in
-    record {
-      state = record {
-        registers = ap (λ (s : Moment). s.now.cpu.r) same;
-        status = ap (λ (s : Moment). s.now.cpu.sreg) same;
-        pointer = ap (λ (s : Moment). s.now.cpu.sp) same;
-        memory = subst (HasMemory m.kernel.mote) (ap (λ (s : Moment). s.now.memory) same) (has_memory m.kernel.mote sound.order.paged);
-        devices = ap (λ (s : Moment). s.now.devices) same;
-      };
-      pc = ap (λ (s : Moment). s.now.cpu.pc) same;
-      steps = ap (λ (s : Moment). s.now.steps) same;
-      crossings = ap (λ (s : Moment). s.now.crossings) same;
-      due = ap (λ (s : Moment). s.due) same;
-      words = sym sound.order.faithful.image_length ∙ ap (λ (p : Program). length p.image) at.program;
-      slots = ap (λ (p : Program). p.page_limit) at.program;
-      quantum = at.quantum;
-      most_steps = within;
-      most_operations = omega (arith, sound.bounded.ops, runs_alone asked flash pages n m path);
-      most_pages = follows.pages;
-      acts = acts;
-      by_step = pace.by_step;
-      most_natural = sound.bounded.moves.natural;
-      most_entries = sound.bounded.moves.entries;
-    }
+    let acts = has_acts IsFirst asked flash pages (original_of asked n).lines m begins held path pace.walk (subst (λ q. m.longest ≤ 5120 * q) at.quantum follows.longest) in (
+      record {
+        state = record {
+          registers = ap (λ (s : Moment). s.now.cpu.r) same;
+          status = ap (λ (s : Moment). s.now.cpu.sreg) same;
+          pointer = ap (λ (s : Moment). s.now.cpu.sp) same;
+          memory = subst (HasMemory m.kernel.mote) (ap (λ (s : Moment). s.now.memory) same) (has_memory m.kernel.mote sound.order.paged);
+          devices = ap (λ (s : Moment). s.now.devices) same;
+        };
+        pc = ap (λ (s : Moment). s.now.cpu.pc) same;
+        steps = ap (λ (s : Moment). s.now.steps) same;
+        crossings = ap (λ (s : Moment). s.now.crossings) same;
+        due = ap (λ (s : Moment). s.due) same;
+        layout = layout_same asked.image m sound (ap (λ (p : Program). p.image) at.program);
+        slots = ap (λ (p : Program). p.page_limit) at.program;
+        quantum = at.quantum;
+        most_steps = within;
+        most_operations = omega (arith, sound.bounded.ops, runs_alone asked flash pages n m path);
+        most_pages = follows.pages;
+        acts = acts;
+        by_step = pace.by_step;
+        most_natural = sound.bounded.moves.natural;
+        most_entries = sound.bounded.moves.entries;
+      },
+      refl,
+    )
 
-stands : (asked : Asked) (n : ℕ) (m : Machine) → Follows (request_of asked) (first_start (request_of asked)) n m → m.steps ≤ asked.steps → Stands asked (original_of asked n) m
+stands : (asked : Asked) (n : ℕ) (m : Machine) → Follows (request_of asked) (first_start (request_of asked)) n m → m.steps ≤ asked.steps
+    → (at : Stands asked (original_of asked n) m) × (at.acts.first ≡ (first_start (request_of asked)).kernel.mote)
 stands asked n m follows within =
     stands_from (IsBoot asked.image asked.failing asked.events asked.quantum asked.slots) asked (new_flash asked.image asked.failing) 0 n m (is_boot asked.image asked.failing asked.events asked.quantum asked.slots) refl (loaded_image asked.image)
     follows within
@@ -173,12 +185,6 @@ no_fault (flat_ends.Io pc a) m op keeps is = let e : flat_ends.Io pc a ≡ flat_
 no_fault (flat_ends.Stack pc a) m op keeps is = let e : flat_ends.Stack pc a ≡ flat_ends.Spent = fault_spends (flat_ends.Stack pc a) m op keeps is in absurd (cc)
 no_fault (flat_ends.SwapFull pc a) m op keeps is = let e : flat_ends.SwapFull pc a ≡ flat_ends.Spent = fault_spends (flat_ends.SwapFull pc a) m op keeps is in absurd (cc)
 
--- the layout of a run is that of its image
-pub layout_same : (image : List ℕ) (m : Machine) → IsSound m → image_held m.kernel ≡ image → m.kernel.layout ≡ layout_of (length image)
-layout_same image m sound held =
-    let order = sound.order in
-    order.layout ∙ ap layout_of (sym order.faithful.image_length ∙ ap length held)
-
 torn_by_order : (torn : Option Torn) (layout : Layout) (m : Machine) → IfSome torn (λ t. IsTorn layout m.kernel.mote.flash.words t × HasFault m) → IfSome torn (IsTorn layout m.kernel.mote.flash.words)
 torn_by_order None layout m is = tt
 torn_by_order (Some torn) layout m is = is.0
@@ -207,35 +213,65 @@ whole_of asked m sound held unfailed =
     let few = (subst IsRight laid order.right).image_fits in
     faithful_is asked.image m.kernel.mote.flash.words few (subst (λ t. IsFaithful l asked.image (with_torn m.kernel.mote.flash.words t)) untorn code)
 
--- how often pages were erased
-spared : (asked : Asked) (n : ℕ) (m : Machine) → Follows (request_of asked) (first_start (request_of asked)) n m → AreUnlisted (request_of asked) m → m.pages ≤ pool_size asked.image → IsSpared m.kernel.mote.flash
-spared asked n m follows unlisted fits =
-    let start = start_of asked (new_flash asked.image asked.failing) 0 in
+-- how often pages were erased, where so many are used at the start
+pub spared : (asked : Asked) (flash : Memory) (pages n : ℕ) (m : Machine) → take (length asked.image) flash.words ≡ asked.image → pages ≡ used_pages (layout_of (length asked.image)) flash.words
+    → ((op : ℕ) → 1 ≤ op → op ≤ m.kernel.mote.flash.ops → is_listed flash.failing op ≡ false) → Follows (request_of asked) (start_of asked flash pages) n m → m.pages ≤ pool_size asked.image → IsSpared flash m.kernel.mote.flash
+spared asked flash pages n m held used unlisted follows fits =
+    let start = start_of asked flash pages in
     let path = follows.at.path in
-    let held : image_held m.kernel ≡ asked.image = ap (λ (p : Program). p.image) follows.at.program in
-    let right = subst IsRight (layout_same asked.image m follows.sound held) follows.sound.order.right in
-    let laid : Holds asked.image asked.quantum (state_of start) = record { laid = refl; held = loaded_image asked.image; counts = refl } in
+    let laid : Holds asked.image asked.quantum (state_of start) = record { laid = refl; held = held; counts = refl } in
     let pace = paced asked.image asked.quantum (states_of (original_of asked)) start m.steps path.moves m laid (λ w owes. refl) follows.at.by_step path.last (sym (zero-add m.steps)) in
-    let made : m.pages ≡ 0 + made_in (acts_of (state_of start) path.moves (state_of m) pace.walk) = ap (λ (k : Numbers). k.pages) path.goes.numbers ∙ pages_of (state_of start) path.moves (state_of m) pace.walk (numbers_of start) in
-    let unused : used_pages (layout_of (length asked.image)) (mote_of (state_of start)).flash.words ≡ 0 = new_unused asked.image asked.failing right in
-    spared_from_boot asked.image asked.failing m.kernel.mote.flash
-    (walk_spares asked.image asked.quantum (state_of start) path.moves (state_of m) pace.walk laid (omega (arith, made, fits, unused), unlisted))
+    let made : m.pages ≡ pages + made_in (acts_of (state_of start) path.moves (state_of m) pace.walk) = ap (λ (k : Numbers). k.pages) path.goes.numbers ∙ pages_of (state_of start) path.moves (state_of m) pace.walk (numbers_of start) in
+    walk_spares asked.image asked.quantum (state_of start) path.moves (state_of m) pace.walk laid (omega (arith, made, fits, used), unlisted)
+
+unused_at_boot : (asked : Asked) (n : ℕ) (m : Machine) → Follows (request_of asked) (first_start (request_of asked)) n m → 0 ≡ used_pages (layout_of (length asked.image)) (new_flash asked.image asked.failing).words
+unused_at_boot asked n m follows =
+    let held : image_held m.kernel ≡ asked.image = ap (λ (p : Program). p.image) follows.at.program in
+    sym (new_unused asked.image asked.failing (subst IsRight (layout_same asked.image m follows.sound held) follows.sound.order.right))
+
+-- .. from boot, where none is
+spared_from_boot : (asked : Asked) (n : ℕ) (m : Machine) → Follows (request_of asked) (first_start (request_of asked)) n m → AreUnlisted (request_of asked) m → m.pages ≤ pool_size asked.image → IsSpared (new_flash asked.image asked.failing) m.kernel.mote.flash
+spared_from_boot asked n m follows unlisted fits =
+    spared asked (new_flash asked.image asked.failing) 0 n m (loaded_image asked.image) (unused_at_boot asked n m follows) unlisted follows fits
+
+-- .. of a machine whose device lines could not be put
+unlisted_by : (asked : Asked) (flash : Memory) (pages n : ℕ) (m : Machine) → take (length asked.image) flash.words ≡ asked.image → Follows (request_of asked) (start_of asked flash pages) n m → ((op : ℕ) → m.end ≢ Some (ends.Flash op))
+    → (op : ℕ) → 1 ≤ op → op ≤ m.kernel.mote.flash.ops → is_listed flash.failing op ≡ false
+unlisted_by asked flash pages n m held follows unfailed op low high =
+    let start = start_of asked flash pages in
+    let path = follows.at.path in
+    let stays = failing_stays asked.image asked.quantum (state_of start) path.moves (state_of m) path.goes.walk (record { laid = refl; held = held; counts = refl }) in
+    false_from_ne_true (is_listed flash.failing op) (λ there. unfailed op (follows.sound.order.tried.listed op low high (ap (λ failing. is_listed failing op) stays ∙ there)))
+
+pub cut_off : (asked : Asked) (flash : Memory) (pages : ℕ) (m : Machine) → take (length asked.image) flash.words ≡ asked.image → pages ≡ used_pages (layout_of (length asked.image)) flash.words → Follows (request_of asked) (start_of asked flash pages) m.steps m → m.broken ≡ true
+    → ((end : MachineEnd) → m.end ≡ Some end → ((op : ℕ) → end ≢ ends.Flash op) → (original_of asked asked.steps).end ≡ flat_end end) → IsCutOff asked (start_of asked flash pages).kernel.mote m
+cut_off asked flash pages m held used follows broken over =
+    let image : image_held m.kernel ≡ asked.image = ap (λ (p : Program). p.image) follows.at.program in
+    record {
+      broken = broken;
+      over = λ end is other. sym (own_end end) ∙ sym (over end is other);
+      lacking = lacking_of asked m follows.sound image;
+      faithful = whole_of asked m follows.sound image;
+      wear = λ unfailed fits. spared asked flash pages m.steps m held used (unlisted_by asked flash pages m.steps m held follows unfailed) follows fits;
+    }
 
 pub ends_well : (asked : Asked) (before now : Stream) (told : Status) (m : Machine)
     → AreUnlisted (request_of asked) m → RunsToTheEnd (request_of asked) (first_start (request_of asked)) [] before now told m → EndsWell asked m
-ends_well asked before now told m unlisted run = record {
-  stands = stands asked asked.steps m run.follows run.within;
-  end = kept_end _ m run.end;
-  unbroken = run.unbroken;
-  none_failed = unlisted;
-  wear = spared asked asked.steps m run.follows unlisted;
-  faithful = whole_of asked m run.follows.sound (ap (λ (p : Program). p.image) run.follows.at.program) (λ op. no_fault _ m op run.end);
-}
+ends_well asked before now told m unlisted run =
+    let there = stands asked asked.steps m run.follows run.within in
+    record {
+      stands = there.0;
+      end = kept_end _ m run.end;
+      unbroken = run.unbroken;
+      none_failed = unlisted;
+      wear = λ fits. subst (λ (first : Mote). IsSpared first.flash m.kernel.mote.flash) (sym there.1) (spared_from_boot asked asked.steps m run.follows unlisted fits);
+      faithful = whole_of asked m run.follows.sound (ap (λ (p : Program). p.image) run.follows.at.program) (λ op. no_fault _ m op run.end);
+    }
 
 pub ends_in_a_fault : (asked : Asked) (before now : Stream) (told : Status) (m : Machine)
     → (run : RunsIntoAFault (request_of asked) before now told m) → EndsInAFault asked run.op m
 ends_in_a_fault asked before now told m run = record {
-  stands = stands asked m.steps m run.follows (omega (arith, run.fewer));
+  stands = (stands asked m.steps m run.follows (omega (arith, run.fewer))).0;
   fewer = run.fewer;
   going = run.spent;
   last = sym run.last;
@@ -264,16 +300,17 @@ ran asked words exit status faults taken call m kept (Runs.Failed run) =
       past = past_by words exit status faults taken call _ _ (lines_same r.lines) run.begun;
       run = ends_in_a_fault asked call.sink call.sink' exit.status m run;
     })) (told_how words exit status faults taken call _ _ run.said)
-ran asked words exit status faults taken call m kept (Runs.Cut run) = (
-  Fails,
-  run.rose,
-  Cut m kept refl (record {
-    told = retold Fails 6 6 _ _ status taken refl (lines_same (original_of asked m.steps).lines) (cut_by words exit status faults taken call _ run.status_is run.put);
-    stands = stands asked m.steps m run.follows run.within;
-    broken = run.broken;
-    faithful = lacking_of asked m run.follows.sound (ap (λ (p : Program). p.image) run.follows.at.program);
-  }),
-)
+ran asked words exit status faults taken call m kept (Runs.Cut run) =
+    let there = stands asked m.steps m run.follows run.within in (
+      Fails,
+      run.rose,
+      Cut m kept refl (record {
+        told = retold Fails 6 6 _ _ status taken refl (lines_same (original_of asked m.steps).lines) (cut_by words exit status faults taken call _ run.status_is run.put);
+        stands = there.0;
+        left = subst (λ (first : Mote). IsCutOff asked first m) (sym there.1)
+            (cut_off asked (new_flash asked.image asked.failing) 0 m (loaded_image asked.image) (unused_at_boot asked m.steps m run.follows) run.follows run.broken run.over);
+      }),
+    )
 
 -- a run that is warranted, whatever asked for it
 pub run_of : (words : List (List ℕ)) (exit : Exit) (status faults : ℕ) (taken : List ℕ) (call : Call words exit status faults taken) (asked : Asked)

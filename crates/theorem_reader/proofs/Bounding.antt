@@ -35,6 +35,20 @@ lines_of_acts x (Within (Plain line) ∷ moves) z walk = ap (line_before line) (
 lines_of_acts x (Within (Serve line stops) ∷ moves) z walk = ap (line_before line) (lines_of_acts walk.0 moves z walk.2)
 lines_of_acts x (move ∷ moves) z walk = lines_of_acts walk.0 moves z walk.2
 
+-- how many steps stand behind the last service, where so many stand before these acts
+abbrev pub since_in : (since : ℕ) → List Act → ℕ
+since_in since [] = since
+since_in since (Step line before after ∷ acts) = since_in (since + 1) acts
+since_in since (Service line stops before after ∷ acts) = since_in 0 acts
+since_in since (Arrival refused target made ops before after ∷ acts) = since_in since acts
+since_in since (Interrupt stops before after ∷ acts) = since_in since acts
+
+pub since_of : (x : State) (moves : List Move) (z : State) (walk : Walk x moves z) (n : Numbers) → (numbered moves n).since ≡ since_in n.since (acts_of x moves z walk)
+unfolding moved
+since_of x [] z walk n = refl
+since_of x (Within (Plain line) ∷ moves) z walk n = since_of walk.0 moves z walk.2 (moved (Within (Plain line)) n)
+since_of x (move ∷ moves) z walk n = since_of walk.0 moves z walk.2 (moved move n)
+
 -- the longest stretch of steps, where so many stand before it and the longest before it is this
 abbrev pub longest_in : (since longest : ℕ) → List Act → ℕ
 longest_in since longest [] = longest
@@ -69,3 +83,33 @@ no_longer since longest (Step line before after ∷ front) between back none = n
 no_longer since longest (Service line stops before after ∷ front) between back none = no_longer 0 longest front between back none
 no_longer since longest (Arrival refused target made ops before after ∷ front) between back none = no_longer since longest front between back none
 no_longer since longest (Interrupt stops before after ∷ front) between back none = no_longer since longest front between back none
+
+-- Acts behind others. -------------------------------------------------------------------------------------
+
+pub steps_behind : (acts more : List Act) → steps_in (acts ++ more) ≡ steps_in acts + steps_in more
+steps_behind [] more = omega arith
+steps_behind (Step line before after ∷ acts) more = omega (arith, steps_behind acts more)
+steps_behind (Service line stops before after ∷ acts) more = steps_behind acts more
+steps_behind (Arrival refused target made ops before after ∷ acts) more = steps_behind acts more
+steps_behind (Interrupt stops before after ∷ acts) more = steps_behind acts more
+
+pub services_behind : (acts more : List Act) → services_in (acts ++ more) ≡ services_in acts + services_in more
+services_behind [] more = omega arith
+services_behind (Step line before after ∷ acts) more = services_behind acts more
+services_behind (Service line stops before after ∷ acts) more = omega (arith, services_behind acts more)
+services_behind (Arrival refused target made ops before after ∷ acts) more = services_behind acts more
+services_behind (Interrupt stops before after ∷ acts) more = services_behind acts more
+
+pub since_behind : (since : ℕ) (acts more : List Act) → since_in since (acts ++ more) ≡ since_in (since_in since acts) more
+since_behind since [] more = refl
+since_behind since (Step line before after ∷ acts) more = since_behind (since + 1) acts more
+since_behind since (Service line stops before after ∷ acts) more = since_behind 0 acts more
+since_behind since (Arrival refused target made ops before after ∷ acts) more = since_behind since acts more
+since_behind since (Interrupt stops before after ∷ acts) more = since_behind since acts more
+
+pub longest_behind : (since longest : ℕ) (acts more : List Act) → longest_in since longest (acts ++ more) ≡ longest_in (since_in since acts) (longest_in since longest acts) more
+longest_behind since longest [] more = refl
+longest_behind since longest (Step line before after ∷ acts) more = longest_behind (since + 1) (max longest (since + 1)) acts more
+longest_behind since longest (Service line stops before after ∷ acts) more = longest_behind 0 longest acts more
+longest_behind since longest (Arrival refused target made ops before after ∷ acts) more = longest_behind since longest acts more
+longest_behind since longest (Interrupt stops before after ∷ acts) more = longest_behind since longest acts more

@@ -6,9 +6,11 @@ pub mod Linking
 pub mod OtherPages
 pub mod NextPage
 pub mod Working
+pub mod RefusedPages
 pub mod Serving
 pub mod Acting
 pub mod Bounding
+pub mod Linked
 pub mod Holding
 pub mod Stopping
 pub mod Stepwise
@@ -24,13 +26,18 @@ pub mod Refused
 mod Checks
 pub mod Checking
 pub mod Dumping
+pub mod Erasing
 pub mod Restarting
 pub mod Asking
+pub mod Pacing
 pub mod TakingTurns
 pub mod Sharing
 pub mod Refusing
 pub mod Unread
 pub mod WorkedActs
+pub mod OwnSteps
 pub mod Longer
 pub mod ByTable
 pub mod Alone
+pub mod Waiting
+pub mod Covering

@@ -26,7 +26,7 @@ use Rattle.theorem_reader.specs.Acts.{IsNext, Lowest, InTurn}
 use Rattle.theorem_reader.specs.Pools.{IsErased}
 use Rattle.theorem_reader.specs.Wear.{pool_size}
 use Rattle.theorem_reader.proofs.OtherPages.{made_stays, recycled_stays}
-use Rattle.theorem_reader.proofs.Pooling.{pool_begins, in_pool, blank_word}
+use Rattle.theorem_reader.proofs.Pooling.{pool_begins, in_pool, from_pool, blank_word}
 
 -- RING stays where a place is noted, and where a page is forgotten
 ring_noted : (old new : List ℕ) (t place : ℕ) → new ≡ noted old t place → ring_of new ≡ ring_of old
@@ -131,8 +131,26 @@ next_from layout old new t stub arrival place right code ring (Resolved mid move
     let there : Next layout old mid (place / page_words) = subst (λ v. Next layout old mid (v / page_words)) same (next_of layout old mid t moved right code ring arrives (sym (ap (λ (a : Arrival). a.made) is) ∙ made)) in
     next_after layout old mid new (place / page_words) (ap ring_of kept) there
 
+-- the address had no entry
+missed : (layout : Layout) (words old new : List ℕ) (t : ℕ) → Finds layout words old new t None → (place : ℕ) → ¬ IsEntry layout words t place
+missed layout words old new t (Finds.Hit place there answer is) = absurd (cc)
+missed layout words old new t (Finds.Entered place there entry answer is) = absurd (cc)
+missed layout words old new t (Finds.Missed there none answer is) = none
+
+anew_of : (layout : Layout) (old new : Store) (t : ℕ) (moved : Moved) → Arrives layout old new t (Ok moved) → moved.made ≡ true → (place : ℕ) → ¬ IsEntry layout old.flash.words t place
+anew_of layout old new t moved (Beyond out same answer) made = absurd (cc)
+anew_of layout old new t moved (Found place inside finds same answer) made =
+    absurd (let e : moved ≡ record { place = place; made = false; recycled = None } = cc in made_true moved.made made (ap (λ (m : Moved). m.made) e))
+anew_of layout old new t moved (Free page inside finds lowest makes) made = missed layout old.flash.words old.sram old.sram t finds
+anew_of layout old new t moved (Full inside finds none recycles) made = missed layout old.flash.words old.sram old.sram t finds
+
+pub anew_from : (layout : Layout) (old new : Store) (t : ℕ) (stub : Option ℕ) (arrival : Arrival) → ArrivesFrom layout old new t stub arrival → arrival.made ≡ true → (place : ℕ) → ¬ IsEntry layout old.flash.words t place
+anew_from layout old new t stub arrival (Stopped refused arrives is) made = absurd (made_true arrival.made made (ap (λ (a : Arrival). a.made) is))
+anew_from layout old new t stub arrival (Went moved arrives nothing is) made = anew_of layout old new t moved arrives (sym (ap (λ (a : Arrival). a.made) is) ∙ made)
+anew_from layout old new t stub arrival (Resolved mid moved s arrives some stop done kept is) made = anew_of layout old mid t moved arrives (sym (ap (λ (a : Arrival). a.made) is) ∙ made)
+
 -- a page of a faithful pool whose words are erased is free
-erased_free : (layout : Layout) (image words : List ℕ) (page : ℕ) → IsRight layout → IsFaithful layout image words → IsPool layout page → IsErased words page → IsFree words page
+pub erased_free : (layout : Layout) (image words : List ℕ) (page : ℕ) → IsRight layout → IsFaithful layout image words → IsPool layout page → IsErased words page → IsFree words page
 erased_free layout image words page right code pool erased = elim (code.pages page pool) [
   | inl free ↦ free
   | inr run ↦ (
@@ -142,7 +160,7 @@ erased_free layout image words page right code pool erased = elim (code.pages pa
       absurd (omega (arith, blank, original, begins, code.image_length, right.image_fits)))
 ]
 
-pool_pages_of : (image : List ℕ) → (layout_of (length image)).pool_pages ≡ pool_size image
+pub pool_pages_of : (image : List ℕ) → (layout_of (length image)).pool_pages ≡ pool_size image
 pool_pages_of image = elim (nat_le (length image) 16384) as (λ b. ◌≡◌ {A = ℕ} (if b then 352 else 288) (if b then 352 else 288)) [
   | true ↦ refl
   | false ↦ refl
@@ -153,7 +171,7 @@ by_numbers : (image : List ℕ) (before after : Mote) (page : ℕ) → IsRight (
     → Next (layout_of (length image)) (record { flash = before.flash; sram = before.sram }) (record { flash = after.flash; sram = after.sram }) page → IsNext image before after page
 unfolding byte_at data_word_at
 by_numbers image before after page right code (First lowest same) =
-    Lowest (λ k below. blank_word before.flash.words page k lowest.free below)
+    Lowest (from_pool image page lowest.pool) (λ k below. blank_word before.flash.words page k lowest.free below)
     (λ lower inside below erased. lowest.lowest lower (in_pool image lower inside) below (erased_free (layout_of (length image)) image before.flash.words lower right code (in_pool image lower inside) erased))
     same
 by_numbers image before after page right code (Again none is turns) =

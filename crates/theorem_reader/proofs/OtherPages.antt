@@ -1,6 +1,6 @@
 -- Pages of the pool that an arrival doesn't make: each that is free stays free, and each that holds a run holds it still. So
 -- of their words only those of exit stubs change.
-use Rattle.std.proofs.Common.{◌≡◌, ◌≢◌, ℕ, zero, suc, ◌+◌, ◌-◌, ◌*◌, ◌/◌, ◌<◌, ◌≤◌, Bool, true, false, List, [], ◌∷◌, length, Option, Some, None, Ok, Err, arith, refl, sym, ap, ◌∙◌, inl, inr, subst}
+use Rattle.std.proofs.Common.{◌≡◌, ◌≢◌, ℕ, zero, suc, ◌+◌, ◌-◌, ◌*◌, ◌/◌, ◌<◌, ◌≤◌, ◌⊎◌, Bool, true, false, List, [], ◌∷◌, length, Option, Some, None, Ok, Err, arith, refl, sym, ap, ◌∙◌, inl, inr, subst}
 use Rattle.std.specs.Prelude.{◌==◌, if◌then◌else◌, IfSome, Result}
 use Rattle.std.proofs.lemmas.Bool.{cases_eq, cases_lt}
 use Rattle.flash_words.specs.Pages.{page_words, word_count, word_at, page_of, set_page}
@@ -40,8 +40,8 @@ use Rattle.branch_bridge.specs.declared.through.Arrival.{Arrival}
 use Rattle.branch_bridge.specs.declared.rewriting.ResolveStop.{ResolveStop}
 use Rattle.branch_bridge.specs.Operating.{Performed, perform, rewriting, unless_stopped, then_on, mended, with_torn}
 use Rattle.branch_bridge.specs.Resolving.{resolving}
-use Rattle.branch_bridge.specs.Unresolving.{has_stubs_into, unlinking, unresolved}
-use Rattle.branch_bridge.specs.Arrivals.{Store, ring_of, Makes, Made, NotMade, Recycles, NotUnlinked, NotErased, Erased, Arrives, Beyond, Found, Free, Full, torn_in, turned, ArrivesFrom, Stopped, Went, Resolved, CameThrough, torn_by}
+use Rattle.branch_bridge.specs.Unresolving.{has_stubs_into, unlinking, unresolved, unresolved_in}
+use Rattle.branch_bridge.specs.Arrivals.{Store, ring_of, Makes, Made, NotMade, Recycles, NotUnlinked, NotErased, Erased, Arrives, Beyond, Found, Free, Full, torn_in, turned, ArrivesFrom, Stopped, Went, Resolved, CameThrough, torn_by, to_resolve}
 use Rattle.addr_tables.specs.Changes.{forgotten}
 use Rattle.branch_bridge.proofs.PerformLaws.{mended_by}
 use Rattle.branch_bridge.proofs.ThroughLaws.{is_to_resolve, mended_is}
@@ -142,6 +142,19 @@ told_all layout old victim page zero right code pool below = (λ none. up_to_non
 told_all layout old victim page (suc k) right code pool below =
     told_next layout old victim page k (unresolved (image_of layout old.words) victim layout.pool_first k old) right pool below (told_all layout old victim page k right code pool (omega arith))
 
+pub unlinking_stays : (layout : Layout) (old new : Memory) (victim page : ℕ) (stop : Option ResolveStop) → IsRight layout → IsFaithful layout (image_of layout old.words) old.words → IsPool layout page
+    → unresolved_in layout victim old ≡ record { memory = new; stop = stop } → Stays (image_of layout old.words) old.words (mended new.words stop) page
+unlinking_stays layout old new victim page stop right code pool performed =
+    let Q : Performed → Type 0 = λ p. Stays (image_of layout old.words) old.words (mended p.memory.words p.stop) page in
+    subst Q performed (told_all layout old victim page layout.pool_pages right code pool (omega arith)).1
+
+-- .. where none was refused
+pub unlinked_all : (layout : Layout) (old unlinked : Memory) (victim : ℕ) → IsRight layout → IsFaithful layout (image_of layout old.words) old.words → IsPool layout victim
+    → unresolved_in layout victim old ≡ record { memory = unlinked; stop = None } → UpTo layout old unlinked victim layout.pool_pages
+unlinked_all layout old unlinked victim right code pool performed =
+    let Up : Performed → Type 0 = λ p. p.stop ≡ None → UpTo layout old p.memory victim layout.pool_pages in
+    (subst Up performed (told_all layout old victim victim layout.pool_pages right code pool (omega arith)).0) refl
+
 -- What an arrival at an address leaves of flash: all pages but one, which is the one where control goes on; where nothing was
 -- refused flash is as long as before.
 pub record OthersStay (layout : Layout) (old : Memory) (words : List ℕ) (place : Option ℕ) : Type 0 where
@@ -195,7 +208,7 @@ recycled_stays layout old new victim t result right code pool (NotUnlinked stop 
     subst P (sym answer) (record {
       here = tt;
       whole = tt;
-      others = λ other pool' away. (let Q : Performed → Type 0 = λ p. Stays image old.flash.words (mended p.memory.words p.stop) other in subst Q performed (told_all layout old.flash victim other layout.pool_pages right code pool' (omega arith)).1);
+      others = λ other pool' away. unlinking_stays layout old.flash new.flash victim other (Some stop) right code pool' performed;
     })
 recycled_stays layout old new victim t result right code pool (NotErased unlinked performed listed left same answer) =
     let image = image_of layout old.flash.words in
@@ -203,23 +216,19 @@ recycled_stays layout old new victim t result right code pool (NotErased unlinke
     subst P (sym answer) (record {
       here = tt;
       whole = tt;
-      others = λ other pool' away. (
-          let Q : Performed → Type 0 = λ p. Stays image old.flash.words (mended p.memory.words p.stop) other in
-          subst (λ w. Stays image old.flash.words w other) (sym (ap (λ (m : Memory). m.words) left)) (subst Q performed (told_all layout old.flash victim other layout.pool_pages right code pool' (omega arith)).1));
+      others = λ other pool' away. subst (λ w. Stays image old.flash.words w other) (sym (ap (λ (m : Memory). m.words) left)) (unlinking_stays layout old.flash unlinked victim other None right code pool' performed);
     })
 recycled_stays layout old new victim t result right code pool (Erased unlinked performed free makes) =
     let image = image_of layout old.flash.words in
-    let Up : Performed → Type 0 = λ p. p.stop ≡ None → UpTo layout old.flash p.memory victim layout.pool_pages in
-    let up = (subst Up performed (told_all layout old.flash victim victim layout.pool_pages right code pool (omega arith)).0) refl in
+    let up = unlinked_all layout old.flash unlinked victim right code pool performed in
     let alone : IsAlone layout image unlinked.words victim = record { pool = pool; apart = λ page pool' away. up.apart page pool' (omega (arith, pool'.to)) away } in
     let erased = erased_page unlinked victim in
     let held : IsFaithful layout image erased.words = erased_faithful layout image unlinked.words victim right up.code alone in
     let image_there : image_of layout erased.words ≡ image = erased_image layout image unlinked.words victim right up.code pool ∙ up.same_image in
     let mid : Store = record { flash = erased; sram = turned layout (forgotten old.sram victim) } in
-    made_stays layout mid new image old.flash.words victim t true result right image_there held pool (victim_free layout image unlinked.words victim right up.code pool) makes (λ other pool' away. (
-    let Q : Performed → Type 0 = λ p. Stays image old.flash.words (mended p.memory.words p.stop) other in
-    let here = subst Q performed (told_all layout old.flash victim other layout.pool_pages right code pool' (omega arith)).1 in
-    same_stays layout image old.flash.words unlinked.words erased.words other right pool' up.code.whole held.whole (other_left layout image unlinked.words victim other right up.code pool away) here))
+    made_stays layout mid new image old.flash.words victim t true result right image_there held pool (victim_free layout image unlinked.words victim right up.code pool) makes (λ other pool' away.
+    same_stays layout image old.flash.words unlinked.words erased.words other right pool' up.code.whole held.whole (other_left layout image unlinked.words victim other right up.code pool away)
+    (unlinking_stays layout old.flash unlinked victim other None right code pool' performed))
 
 as_others : (layout : Layout) (old : Memory) (words : List ℕ) (page : ℕ) (place : Option ℕ) → MakesStay layout (image_of layout old.words) old.words words page place → OthersStay layout old words place
 as_others layout old words page place is = record { again = page; here = is.here; whole = is.whole; others = is.others }
@@ -263,16 +272,31 @@ relinked_stays layout image before words s t place page right short whole link p
       | inr away ↦ same_stays layout image before words words' page right pool whole whole' (record { word = λ k below. sym (word_beside_two words s (page_words * page + k) jump_word place (λ at. away (omega arith)) (λ at. away (omega arith))) }) is
     ]
 
-resolved_stays : (layout : Layout) (image before : List ℕ) (old : Memory) (s t place page : ℕ) → IsRight layout → length image ≤ 24576 → length old.words ≡ word_count → IsLinkIn layout image old.words s t → IsPool layout page
+-- the page with the jump in it
+pub page_resolved : (layout : Layout) (image words : List ℕ) (s t place : ℕ) → IsRight layout → length words ≡ word_count → IsLinkIn layout image words s t
+    → set_page words (s / page_words) (page_of (with_two_words words s jump_word place) (s / page_words)) ≡ with_two_words words s jump_word place
+page_resolved layout image words s t place right whole link =
+    let placed = link_placed layout image words s t jump_word place right whole link in
+    ap (set_page words (s / page_words)) (page_of_two words (s / page_words) s jump_word place (omega (arith, whole, placed.low)) refl placed.room) ∙ placed.is
+
+pub resolved_stays : (layout : Layout) (image before : List ℕ) (old : Memory) (s t place page : ℕ) → IsRight layout → length image ≤ 24576 → length old.words ≡ word_count → IsLinkIn layout image old.words s t → IsPool layout page
     → Stays image before old.words page → (let told = perform old (resolving old.words s place) in Stays image before (mended told.memory.words told.stop) page)
 resolved_stays layout image before old s t place page right short whole link pool is =
     let words = old.words in
     let from = s / page_words in
     let placed = link_placed layout image words s t jump_word place right whole link in
-    let there : set_page words from (page_of (with_two_words words s jump_word place) from) ≡ with_two_words words s jump_word place =
-    ap (set_page words from) (page_of_two words from s jump_word place (omega (arith, whole, placed.low)) refl placed.room) ∙ placed.is in
+    let there = page_resolved layout image words s t place right whole link in
     mended_by (λ w. Stays image before w page) old from (page_of (with_two_words words s jump_word place) from) (omega (arith, whole, placed.low)) is
     (subst (λ w. Stays image before w page) (sym there) (relinked_stays layout image before words s t place page right short whole link pool is))
+
+-- one that is to be resolved is still where it was
+pub still_linked : (layout : Layout) (old mid : Store) (t s : ℕ) (stub : Option ℕ) (moved : Moved) → IsRight layout → IsFaithful layout (image_of layout old.flash.words) old.flash.words → ring_of old.sram < layout.pool_pages
+    → CameThrough layout old.flash.words stub t → Arrives layout old mid t (Ok moved) → to_resolve moved.recycled stub ≡ Some s → IsLinkIn layout (image_of layout old.flash.words) mid.flash.words s t
+still_linked layout old mid t s stub moved right code ring came arrives some =
+    let to = is_to_resolve moved.recycled stub s some in
+    let link : IsLinkIn layout (image_of layout old.flash.words) old.flash.words s t = (subst (λ x. CameThrough layout old.flash.words x t) to.same came).link in
+    let from : IsLinkFrom layout (image_of layout old.flash.words) old.flash.words (λ a. 0) 0 s t = record { link = link; own = refl } in
+    ((arrives_parted layout old mid (λ a. 0) t (Ok moved) right code ring arrives (λ b a l jump. refl)).1 0 s t to.apart from).link
 
 -- an arrival, through a stub or through none
 pub others_stay : (layout : Layout) (old new : Store) (t : ℕ) (stub : Option ℕ) (arrival : Arrival) → IsRight layout → IsFaithful layout (image_of layout old.flash.words) old.flash.words → ring_of old.sram < layout.pool_pages
@@ -289,10 +313,7 @@ others_stay layout old new t stub arrival right code ring came (Went moved arriv
 others_stay layout old new t stub arrival right code ring came (Resolved mid moved s arrives some stop done same is) =
     let image = image_of layout old.flash.words in
     let left = arrives_others layout old mid t (Ok moved) right code ring arrives in
-    let to = is_to_resolve moved.recycled stub s some in
-    let link : IsLinkIn layout image old.flash.words s t = (subst (λ x. CameThrough layout old.flash.words x t) to.same came).link in
-    let from : IsLinkFrom layout image old.flash.words (λ a. 0) 0 s t = record { link = link; own = refl } in
-    let there = ((arrives_parted layout old mid (λ a. 0) t (Ok moved) right code ring arrives (λ b a l jump. refl)).1 0 s t to.apart from).link in
+    let there = still_linked layout old mid t s stub moved right code ring came arrives some in
     let short : length image ≤ 24576 = omega (arith, code.image_length, right.image_fits) in
     let P : Arrival → Type 0 = λ a. (again : ℕ) × IfSome a.place (λ v. again ≡ v / page_words) × ((page : ℕ) → IsPool layout page → page ≢ again → Stays image old.flash.words (with_torn new.flash.words (torn_by a.refused)) page) in
     let Q : ℕ → Performed → Type 0 = λ page p. Stays image old.flash.words (mended p.memory.words p.stop) page in
@@ -304,16 +325,26 @@ others_stay layout old new t stub arrival right code ring came (Resolved mid mov
           (subst (Q page) done (resolved_stays layout image old.flash.words mid.flash s t moved.place page right short left.whole there pool (left.others page pool away))),
     )
 
--- .. and words that lack those of a torn page
-pub torn_stays : (layout : Layout) (image before words : List ℕ) (torn : Option Torn) (again : ℕ) → IsRight layout → length words ≡ word_count → IfSome torn (IsTorn layout words)
-    → ((page : ℕ) → IsPool layout page → page ≢ again → Stays image before (with_torn words torn) page) → (other : ℕ) × ((page : ℕ) → IsPool layout page → page ≢ again → page ≢ other → Stays image before words page)
-torn_stays layout image before words None again right whole lacks stay = (again, λ page pool away apart. stay page pool away)
-torn_stays layout image before words (Some torn) again right whole lacks stay =
-    let inside : page_words * torn.page + page_words ≤ length words = omega (arith, whole, lacks.pool.to, right.pool_below_kernel) in (
-      torn.page,
-      λ page pool away apart. same_stays layout image before (set_page words torn.page torn.words) words page right pool (length-set_page words torn.words torn.page lacks.size inside ∙ whole) whole
-          (same_back words (set_page words torn.page torn.words) page (page_left words torn.words torn.page page lacks.size inside apart)) (stay page pool away),
-    )
+-- the page that is torn, if any
+abbrev pub lost_in : Option Torn → ℕ
+lost_in None = 0
+lost_in (Some torn) = torn.page
+
+-- a page stays, or is torn and free
+abbrev pub StaysOrLost : (image before words : List ℕ) → Option Torn → (page : ℕ) → Type 0
+StaysOrLost image before words torn page = Stays image before words page ⊎ ((page ≡ lost_in torn) × IsFree words page)
+
+-- .. in words that lack those of a torn page
+pub torn_stays : (layout : Layout) (image before words : List ℕ) (torn : Option Torn) (page : ℕ) → IsRight layout → length words ≡ word_count → IfSome torn (IsTorn layout words) → IsPool layout page
+    → Stays image before (with_torn words torn) page → StaysOrLost image before words torn page
+torn_stays layout image before words None page right whole lacks pool stay = inl stay
+torn_stays layout image before words (Some torn) page right whole lacks pool stay =
+    let inside : page_words * torn.page + page_words ≤ length words = omega (arith, whole, lacks.pool.to, right.pool_below_kernel) in
+    elim (cases_eq page torn.page) [
+      | inl same ↦ inr (same, subst (IsFree words) (sym same) lacks.blank)
+      | inr apart ↦ inl (same_stays layout image before (set_page words torn.page torn.words) words page right pool (length-set_page words torn.words torn.page lacks.size inside ∙ whole) whole
+          (same_back words (set_page words torn.page torn.words) page (page_left words torn.words torn.page page lacks.size inside apart)) stay)
+    ]
 
 -- Word by word. -------------------------------------------------------------------------------------
 

@@ -62,14 +62,13 @@ abbrev pub address_of_entry : (words : List ℕ) (page i t v : ℕ) → Lists wo
 address_of_entry words page i t v lists =
     record { index = i; used = subst (λ w. w < 192) (first_word words page) lists.used; most = lists.near; inside = lists.listed; is = lists.address ∙ address_same words page i }
 
-map_of : (layout : Layout) (words : List ℕ) (page i t v : ℕ) → IsFree words page ⊎ IsMap words page → Lists words page i t v → IsMap words page
+pub map_of : (layout : Layout) (words : List ℕ) (page i t v : ℕ) → IsFree words page ⊎ IsMap words page → Lists words page i t v → IsMap words page
 map_of layout words page i t v (inl free) lists =
     absurd (omega (arith, lists.used, first_word words page, (let at : 128 * page + 0 ≡ 128 * page = omega arith in ap (slice_index words) (sym at) ∙ blank_word words page 0 free (omega arith))))
 map_of layout words page i t v (inr map) lists = map
 
-pub place_is : (image words : List ℕ) (t v : ℕ) → IsMapped (layout_of (length image)) words → IsEntry (layout_of (length image)) words t v → IsPlaceOf image words t v
-place_is image words t v mapped entry =
-    let map = map_of (layout_of (length image)) words entry.page entry.index t v (mapped.pages entry.page entry.pool) entry.lists in
+pub place_listed : (image words : List ℕ) (t v : ℕ) → (entry : IsEntry (layout_of (length image)) words t v) → IsMap words entry.page → IsPlaceOf image words t v
+place_listed image words t v entry map =
     let behind : 128 * entry.page + (2 + entry.index) ≡ 128 * entry.page + 2 + entry.index = omega arith in
     record {
       page = entry.page;
@@ -78,6 +77,24 @@ place_is image words t v mapped entry =
       place = entry.lists.place ∙ place_same words entry.page entry.index;
       fits = subst (λ a. slice_index words a % 256 < 128) behind (map.inside entry.index entry.lists.listed);
     }
+
+pub place_is : (image words : List ℕ) (t v : ℕ) → IsMapped (layout_of (length image)) words → IsEntry (layout_of (length image)) words t v → IsPlaceOf image words t v
+place_is image words t v mapped entry = place_listed image words t v entry (map_of (layout_of (length image)) words entry.page entry.index t v (mapped.pages entry.page entry.pool) entry.lists)
+
+-- .. and back
+pub entry_is : (image words : List ℕ) (t v : ℕ) → IsPlaceOf image words t v → IsEntry (layout_of (length image)) words t v
+entry_is image words t v place = record {
+  page = place.page;
+  index = place.entry.index;
+  pool = in_pool image place.page place.pool;
+  lists = record {
+    used = subst (λ w. w < 192) (sym (first_word words place.page)) place.entry.used;
+    near = place.entry.most;
+    listed = place.entry.inside;
+    address = place.entry.is ∙ sym (address_same words place.page place.entry.index);
+    place = place.place ∙ sym (place_same words place.page place.entry.index);
+  };
+}
 
 -- it is in the pool
 pub place_low : (image words : List ℕ) (t v : ℕ) → IsPlaceOf image words t v → (pool_from image ≤ v) × (v < 0xF000)

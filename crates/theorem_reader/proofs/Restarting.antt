@@ -23,6 +23,7 @@ use Rattle.flat_machine.specs.FlatMachine.{Program}
 use Rattle.kernel_entry.specs.Parts.{image_held}
 use Rattle.kernel_entry.specs.declared.kernel.End.TheVariants as ends
 use Rattle.program_steps.specs.Machines.{Machine}
+use Rattle.mote_core.specs.declared.mote.Mote.{Mote}
 use Rattle.tk_restart.specs.declared.sweeping.Kept.{Kept}
 use Rattle.tk_restart.specs.Keeping.{IsKeptEntry, count_where, is_dropped}
 use Rattle.tk_restart.specs.Keeping as keeping
@@ -43,16 +44,18 @@ use Rattle.cli_requests.proofs.ImageLength.{few_words}
 use Rattle.tk_restart.proofs.TornWords.{number_at, torn_word, length_torn}
 use Rattle.theorem_reader.specs.Pools.{pool_from, HasAddress}
 use Rattle.theorem_reader.specs.Checks.{used_of}
-use Rattle.theorem_reader.specs.Runs.{Asked, StandsFrom, options_of, original_of}
+use Rattle.theorem_reader.specs.Runs.{Asked, StandsFrom, IsCutOff, options_of, original_of}
 use Rattle.theorem_reader.specs.Restarts.{AsksRestart, number_behind, IsLost, Whole, Torn, IsKeeper, dropped_of, IsKept, restart_line, IsLeft, line_of, IsStart, StandsOver, IsRestarted, NoMemory, Restarted, Unbegun, Cut}
+use Rattle.theorem_reader.specs.Wear.{IsSpared}
 use Rattle.theorem_reader.specs.Telling.{Fails}
 use Rattle.theorem_reader.proofs.OtherPages.{run_keeps}
 use Rattle.theorem_reader.proofs.Pooling.{in_pool, from_pool, pool_begins, blank_word, first_word, address_same, faithful_is, address_of_entry}
-use Rattle.theorem_reader.proofs.Answering.{script_of, request_of, stands_from, no_fault, kept_end, layout_same, lacking_of, whole_of}
+use Rattle.theorem_reader.proofs.Answering.{script_of, request_of, stands_from, spared, cut_off, no_fault, kept_end, layout_same, whole_of}
 use Rattle.theorem_reader.proofs.Doing.{IsSoThen, Call, Somehow, not_risen, so_then, past_by, retold, cut_by, told_how, told_by}
 use Rattle.theorem_reader.proofs.Booting.{is_new}
 use Rattle.theorem_reader.proofs.Checking.{used_same, pool_numbers}
 use Rattle.theorem_reader.proofs.Dumping.{has_ended}
+use Rattle.theorem_reader.proofs.Erasing.{turned, erased_once, erased_never}
 use Rattle.theorem_reader.proofs.SameTexts.{lines_same, ended_same, status_same}
 
 -- What stands in flash when power is back. ----------------------------------------------------------------
@@ -83,7 +86,7 @@ outside_page page a other = elim (cases_lt a (page_words * page)) [
 
 -- that, and how long it is
 record LostFlash (image : List ℕ) (m : Machine) : Type 0 where
-  is : IsLost image m (lost_flash m).words
+  is : IsLost image m (lost_flash m).words (lost_flash m).erases
   size : length (lost_flash m).words ≡ 65536
 
 torn_is : (image : List ℕ) (m : Machine) (op page : ℕ) → m.kernel.mote.flash.refused ≡ Some page → m.end ≡ Some (ends.Flash op) → IsPool (layout_of (length image)) page → length m.kernel.mote.flash.words ≡ 65536
@@ -102,7 +105,8 @@ torn_is image m op page is end pool whole =
           let at : 128 * page + k - page_words * page ≡ k = omega arith in
           ap (λ f. slice_index f (128 * page + k)) same ∙ pages.word_in_page words (torn_words op 128) page (128 * page + k) long inside (omega arith) (omega (arith, below))
           ∙ ap (slice_index (torn_words op 128)) at ∙ torn_word op 128 k below ∙ ap (λ n. n / 65536) (number_same op k))
-          (λ a other. ap (λ f. slice_index f a) same ∙ pages.word_out_of_page words (torn_words op 128) page a long inside (outside_page page a other));
+          (λ a other. ap (λ f. slice_index f a) same ∙ pages.word_out_of_page words (torn_words op 128) page a long inside (outside_page page a other))
+          (ap₂ (λ o p. (lost_in o p (renewed m.kernel.mote.flash)).erases) (ap refused_in end) is);
       size = ap length same ∙ pages.length-set_page words (torn_words op 128) page long inside ∙ whole;
     }
 
@@ -115,7 +119,9 @@ lost_is : (asked : Asked) (told : Status) (m : Machine) → Runs (request_of ask
 lost_is asked told m (Runs.Ended unlisted run) =
     let same : (lost_flash m).words ≡ m.kernel.mote.flash.words =
     ap (λ p. (lost_in (refused_in m.end) p (renewed m.kernel.mote.flash)).words) run.unrefused ∙ ap (λ (f : Memory). f.words) (lost_none (refused_in m.end) (renewed m.kernel.mote.flash)) in
-    record { is = Whole (λ op. no_fault _ m op run.end) same; size = ap length same ∙ run.follows.sound.order.whole.words }
+    let erases : (lost_flash m).erases ≡ m.kernel.mote.flash.erases =
+    ap (λ p. (lost_in (refused_in m.end) p (renewed m.kernel.mote.flash)).erases) run.unrefused ∙ ap (λ (f : Memory). f.erases) (lost_none (refused_in m.end) (renewed m.kernel.mote.flash)) in
+    record { is = Whole (λ op. no_fault _ m op run.end) same erases; size = ap length same ∙ run.follows.sound.order.whole.words }
 lost_is asked told m (Runs.Failed run) =
     let order = run.follows.sound.order in
     let held : image_held m.kernel ≡ asked.image = ap (λ (p : Program). p.image) run.follows.at.program in
@@ -210,6 +216,7 @@ left_of asked before now told kept few done =
       first = done.first;
       ended = has_ended asked done.ended done.first done.runs;
       lost = (lost_flash done.first).words;
+      erases = (lost_flash done.first).erases;
       left = done.left.words;
       kept = done.restarts.kept;
       lost_is = before_it.is;
@@ -224,16 +231,26 @@ line_told asked before now told kept few done =
 
 over_is : (asked : Asked) (before now : Stream) (told : Status) (kept : Option Machine) (few : length asked.image ≤ 24576) (done : HasRestarted (request_of asked) before now told kept)
     → IsStart asked (left_of asked before now told kept few done) (second_start (request_of asked) done.left).kernel.mote
-over_is asked before now told kept few done = record { new = is_new (renewed done.left) asked.events asked.quantum asked.slots refl refl; words = refl; failing = refl }
+over_is asked before now told kept few done =
+    let layout : Layout = layout_of (length asked.image) in
+    let size = (lost_is asked done.ended done.first done.runs).size in
+    let page_turned = λ (page : ℕ). turned layout asked.image (lost_flash done.first) done.left done.told page (layout_right (length asked.image) few) size done.restarts in
+    record {
+      new = is_new (renewed done.left) asked.events asked.quantum asked.slots refl refl;
+      words = refl;
+      failing = refl;
+      once = λ page below. erased_once (lost_flash done.first) done.left page (page_turned page);
+      never = λ page below. erased_never (lost_flash done.first) done.left page (page_turned page);
+    }
 
 -- where the second stands
 stands_over : (asked : Asked) (before now : Stream) (told : Status) (kept : Option Machine) (few : length asked.image ≤ 24576) (done : HasRestarted (request_of asked) before now told kept) (n : ℕ) (m : Machine)
     → Follows (request_of asked) (second_start (request_of asked) done.left) n m → m.steps ≤ asked.steps
-    → StandsOver asked (left_of asked before now told kept few done) (original_of asked n) m
+    → (at : StandsOver asked (left_of asked before now told kept few done) (original_of asked n) m) × (at.acts.first ≡ (second_start (request_of asked) done.left).kernel.mote)
 stands_over asked before now told kept few done n m follows within =
     let flash = left_of asked before now told kept few done in
     let from = stands_from (IsStart asked flash) asked (renewed done.left) (used_pages (layout_of (length asked.image)) done.left.words) n m (over_is asked before now told kept few done) refl done.faithful.held follows within in
-    subst (λ k. StandsFrom (IsStart asked flash) k asked (original_of asked n) m) (used_is asked.image done.left.words) from
+    subst (λ k. (at : StandsFrom (IsStart asked flash) k asked (original_of asked n) m) × (at.acts.first ≡ (second_start (request_of asked) done.left).kernel.mote)) (used_is asked.image done.left.words) from
 
 restarted : (asked : Asked) (words : List (List ℕ)) (exit : Exit) (status faults : ℕ) (taken : List ℕ) (call : Call words exit status faults taken) → length asked.image ≤ 24576
     → (done : HasRestarted (request_of asked) call.sink call.sink' exit.status exit.kept)
@@ -251,6 +268,7 @@ restarted asked words exit status faults taken call few done (RunsOver.Unbegun n
         steps = ap (λ (m : Machine). m.steps) none.is;
         crossings = ap (λ (m : Machine). m.crossings) none.is;
         due = ap (λ (m : Machine). m.due) none.is;
+        layout = ap (λ (m : Machine). m.kernel.layout) none.is;
         quantum = ap (λ (m : Machine). m.kernel.quantum) none.is;
         unbroken = ap (λ (m : Machine). m.broken) none.is;
         natural = ap (λ (m : Machine). m.natural) none.is;
@@ -265,28 +283,33 @@ restarted asked words exit status faults taken call few done (RunsOver.Ended run
     let flash = left_of asked call.sink call.sink' exit.status exit.kept few done in
     let own = line_told asked call.sink call.sink' exit.status exit.kept few done in
     let whole = ap₂ (λ a b. a ++ b) own (ended_same r asked.quantum m) in
+    let there = stands_over asked call.sink call.sink' exit.status exit.kept few done asked.steps m run.follows run.within in
     so_then call.sink call.sink' _ (λ sink. IsRestarted sink asked status taken exit.kept) (λ sink told. Restarted flash m done.kept (record {
       told = retold sink _ _ _ _ status taken (status_same r.end) whole told;
       past = past_by words exit status faults taken call _ _ (ap₂ (λ a b. a ++ b) own (lines_same r.lines)) run.begun;
-      stands = stands_over asked call.sink call.sink' exit.status exit.kept few done asked.steps m run.follows run.within;
+      stands = there.0;
       end = kept_end _ m run.end;
       unbroken = run.unbroken;
       unrefused = run.unrefused;
+      wear = λ fits.
+          subst (λ (first : Mote). IsSpared first.flash m.kernel.mote.flash) (sym there.1)
+          (spared asked (renewed done.left) (used_pages (layout_of (length asked.image)) done.left.words) asked.steps m done.faithful.held refl (λ op low high. refl) run.follows fits);
       faithful = whole_of asked m run.follows.sound (ap (λ (p : Program). p.image) run.follows.at.program) (λ op. no_fault _ m op run.end);
     })) (told_how words exit status faults taken call _ _ run.said)
 restarted asked words exit status faults taken call few done (RunsOver.Cut run) =
     let m = done.machine in
     let flash = left_of asked call.sink call.sink' exit.status exit.kept few done in
     let own = line_told asked call.sink call.sink' exit.status exit.kept few done in
-    let whole = ap₂ (λ a b. a ++ b) own (lines_same (original_of asked m.steps).lines) in (
+    let whole = ap₂ (λ a b. a ++ b) own (lines_same (original_of asked m.steps).lines) in
+    let there = stands_over asked call.sink call.sink' exit.status exit.kept few done m.steps m run.follows run.within in (
       Fails,
       run.rose,
       Cut flash m done.kept refl (record {
         told = retold Fails 6 6 _ _ status taken refl whole (cut_by words exit status faults taken call _ run.status_is run.put);
         past = past_by words exit status faults taken call _ _ own run.begun;
-        stands = stands_over asked call.sink call.sink' exit.status exit.kept few done m.steps m run.follows run.within;
-        broken = run.broken;
-        faithful = lacking_of asked m run.follows.sound (ap (λ (p : Program). p.image) run.follows.at.program);
+        stands = there.0;
+        left = subst (λ (first : Mote). IsCutOff asked first m) (sym there.1)
+            (cut_off asked (renewed done.left) (used_pages (layout_of (length asked.image)) done.left.words) m done.faithful.held refl run.follows run.broken run.over);
       }),
     )
 

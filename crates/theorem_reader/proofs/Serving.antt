@@ -17,7 +17,6 @@ use Rattle.nat_template.specs.Stubs.{quantum_entry, mem_entry, push_return_entry
 use Rattle.std.proofs.lemmas.Bool.Decides.{nat_tests}
 use Rattle.preempt_count.specs.Counting.{count_over}
 use Rattle.preempt_count.proofs.CountLaws.{byte_crossed, count_crossed}
-use Rattle.branch_bridge.specs.Arrivals as bridge
 use Rattle.kernel_entry.specs.declared.kernel.Served.{Served}
 use Rattle.kernel_entry.specs.declared.kernel.Stop.{Stop}
 use Rattle.kernel_entry.specs.declared.kernel.Stop.TheVariants.{Asleep, Halted, Read}
@@ -34,7 +33,6 @@ use Rattle.kernel_entry.specs.Seen.{View, view_of, view_by, space_of, count_of}
 use Rattle.theorem_reader.specs.Memory.{HasMemory}
 use Rattle.theorem_reader.proofs.Holding.{has_memory}
 use Rattle.kernel_entry.specs.Parts.{core_of, image_held, descriptor, instruction, rested}
-use Rattle.kernel_entry.specs.Interrupts as interrupts
 use Rattle.sram_layout.specs.Cells.{vsp_cell}
 use Rattle.sram_layout.proofs.Laws.{byte_other, byte_out_of_word}
 use Rattle.kernel_entry.specs.Left.{Leaves, LeavesHeap}

@@ -15,10 +15,10 @@ use Rattle.parked_tasks.specs.declared.task.TaskEnd.{TaskEnd}
 use Rattle.task_turns.specs.Reset.{turns_at_reset, players_at_reset}
 use Rattle.task_turns.specs.Quarters.{quarter_part}
 use Rattle.task_input.specs.Images.{task_words}
-use Rattle.tk_tasks.specs.Plays.{shown_text, told_text, told_of, counted}
+use Rattle.tk_tasks.specs.Plays.{shown_text, told_text, told_of}
 use Rattle.tk_tasks.specs.States.{Tasks, player_of, turns_of}
 use Rattle.parked_tasks.specs.Ends.{flat_end, flat_end_of}
-use Rattle.task_turns.specs.Turns.{Player, Turns, Told, Shown, Wrote, Stops, After, others, has_ended, ends_of, next_in, changed_to, with_player, once, continued, go_on, tries, turns, shown_by, own_told, HaveEnded}
+use Rattle.task_turns.specs.Turns.{Player, Turns, Told, Shown, Wrote, Stops, After, others, has_ended, ends_of, next_in, changed_to, with_player, once, continued, go_on, tries, turns, shown_by, own_told}
 use Rattle.task_turns.proofs.Isolation.{once_follows}
 use Rattle.cli_words.specs.declared.command.Command.TheVariants.{Tasks as TasksCommand}
 use Rattle.cli_words.specs.declared.status.Status.{Status}
@@ -31,7 +31,7 @@ use Rattle.cli_words.specs.Status.{number_of}
 use Rattle.cli_requests.specs.TasksCommand.{Placed}
 use Rattle.tkernel_cli.specs.TasksRuns.{RunsTasks, RunsTasksToTheEnd, EachIsAlone, run_of_task, all_told, turns_by, start_by, worse, worst, status_of_task}
 use Rattle.printed_text.specs.Counts.{tasks_count_text}
-use Rattle.theorem_reader.specs.Tasks.{AskedTasks, AsksTasks, tasks_options_of, image_of, events_of, alone_of, lines_alone, Printed, printed_text, line_shown, printed_by, lines_of_task, last_line, greatest, worst_status, AreSums, AreApart, AreRun, NoMemory, Ended, Cut, reset_of, in_turn}
+use Rattle.theorem_reader.specs.Tasks.{AskedTasks, AsksTasks, tasks_options_of, image_of, events_of, alone_of, lines_alone, Printed, printed_text, line_shown, printed_by, lines_of_task, last_line, greatest, worst_status, AreApart, AreRun, NoMemory, Ended, Cut, reset_of, in_turn}
 use Rattle.theorem_reader.specs.Telling.{Fails}
 use Rattle.theorem_reader.specs.Texts.{end_status}
 use Rattle.theorem_reader.proofs.Doing.{IsSoThen, Call, Somehow, so_then, past_by, retold, cut_by, told_how, told_by}
@@ -198,7 +198,7 @@ unfolding tries
 tries_below zero count t are = All-nil (IsBelow count)
 tries_below (suc n) count t are = tries_found count t (tries n) (slice_get t.players t.running) are (λ next are'. tries_below n count next are')
 
-reset_long : (words : List ℕ) (k : ℕ) (scripts : List Schedule) (quantum slots n : ℕ) → length (players_at_reset words k scripts quantum slots n) ≡ length scripts
+pub reset_long : (words : List ℕ) (k : ℕ) (scripts : List Schedule) (quantum slots n : ℕ) → length (players_at_reset words k scripts quantum slots n) ≡ length scripts
 reset_long words k [] quantum slots n = refl
 reset_long words k (script ∷ scripts) quantum slots n = ap (λ m. suc m) (reset_long words (k + 1) scripts quantum slots n)
 
@@ -253,9 +253,6 @@ status_is asked t long each =
 
 -- The answer. ---------------------------------------------------------------------------------------------
 
-sums_of : (t last : Tasks) (broken : Bool) → t ≡ counted last broken → AreSums t
-sums_of t last broken is = subst AreSums (sym is) (record { natural = refl; entries = refl })
-
 apart : (asked : AskedTasks) (words : List (List ℕ)) (exit : Exit) (status faults : ℕ) (taken : List ℕ) (call : Call words exit status faults taken) (t : Tasks) → length asked.scripts ≡ asked.count → 1 ≤ asked.count
     → RunsTasksToTheEnd (tasks_request_of asked) call.sink call.sink' exit.status t → Somehow call.sink call.sink' (λ sink. AreApart sink asked status taken t)
 apart asked words exit status faults taken call t long some run =
@@ -265,15 +262,12 @@ apart asked words exit status faults taken call t long some run =
     let whole = ap₂ (λ a b. a ++ b) (told_same asked.quantum told) (last_same t.natural t.entries t.pages t.switches) in
     let leads : turns_of asked.steps run.last ≡ (in_turn asked).turns =
     ap (λ (a : After). a.turns) (sym (path_turns asked.steps (start_in asked asked.scripts) run.plays run.last run.path run.ended)) ∙ ap (λ (s : Turns). (turns s).turns) run.start.turns in
-    let ended : HaveEnded (in_turn asked).turns = subst HaveEnded leads run.ended in
-    let stints = have_stints asked asked.scripts t run.last run.plays false (in_turn asked).turns refl long some run.start.sound run.start.turns run.path run.is leads run.sound in
     so_then call.sink call.sink' _ (λ sink. AreApart sink asked status taken t) (λ sink said. record {
       told = retold sink _ _ _ _ status taken (status_is asked t tasks run.alone) whole said;
       past = past_by words exit status faults taken call _ _ (told_same asked.quantum told) run.begun;
       theirs = printed_below asked.count asked.quantum told (told_below asked long some);
       each = λ task below. own_same task asked.quantum told ∙ ap (map (line_shown asked.quantum)) (run.alone task below).2.0 ∙ shown_alone asked task;
-      stints = stints.stints;
-      switches = stints.switches ended;
+      stints = have_stints asked asked.scripts t run.last run.plays false (in_turn asked).turns refl long some run.start.sound run.start.turns run.path run.is leads run.sound;
       alone = λ task below.
           let one = run.alone task below in
           let here : slice_get run.last.tasks task ≡ Some one.0 = ap (λ (z : Tasks). slice_get z.tasks task) (sym run.is) ∙ one.1 in
@@ -283,7 +277,6 @@ apart asked words exit status faults taken call t long some run =
             one.2.2 ∙ ap (λ (r : Run). r.state) (run_alone asked task),
             one.2.1 ∙ ap (λ (r : Run). Some r.end) (run_alone asked task),
           );
-      sums = sums_of t run.last false run.is;
       unbroken = ap (λ (z : Tasks). z.broken) run.is;
     }) (told_how words exit status faults taken call _ _ run.said)
 
@@ -299,8 +292,7 @@ are_run asked words exit status faults taken call t long some none kept (RunsTas
         count = length run.plays;
         told = retold Fails 6 6 _ _ status taken refl (told_same asked.quantum (told_of run.plays) ∙ ap (λ t. printed_text (printed_by asked.quantum t)) tried) (cut_by words exit status faults taken call _ run.status_is run.put);
         front = retold Fails 6 6 _ _ status taken refl (told_same asked.quantum (told_in asked)) (cut_by words exit status faults taken call _ run.status_is run.front);
-        stints = (have_stints asked asked.scripts t run.last run.plays true (tries (length run.plays) (reset_of asked)).turns refl long some run.start.sound run.start.turns run.path run.is (ap (λ (a : After). a.turns) (sym run.in_turn.tried)) run.sound).stints;
-        sums = sums_of t run.last true run.is;
+        stints = have_stints asked asked.scripts t run.last run.plays true (tries (length run.plays) (reset_of asked)).turns refl long some run.start.sound run.start.turns run.path run.is (ap (λ (a : After). a.turns) (sym run.in_turn.tried)) run.sound;
         broken = ap (λ (z : Tasks). z.broken) run.is;
       }) none kept,
     )

@@ -1,13 +1,11 @@
--- A whole run that recycles no page: each page was erased at most once for each JMP in it.
+-- A whole run that recycles no page: each page was erased at most once for each JMP that it has more.
 use Rattle.std.proofs.Common.{◌≡◌, ℕ, ◌+◌, ◌≤◌, ◌==◌, min, Bool, true, false, List, [], ◌∷◌, length, Option, Some, refl, sym, ap, ◌∙◌, subst, arith}
 use Rattle.std.specs.Prelude.{if◌then◌else◌}
 use Rattle.std.specs.List.{list_any}
 use Rattle.std.proofs.Math.Nat.{min-le_left}
-use Rattle.base_laws.proofs.ManyLaws.{get_or-many}
 use Rattle.flash_words.specs.declared.layout.Layout.{Layout}
 use Rattle.flash_words.specs.Layouts.{layout_of, image_of, IsRight}
 use Rattle.flash_words.specs.Memory.{Memory, new_flash}
-use Rattle.flash_words.specs.Pages.{page_count}
 use Rattle.flash_words.proofs.LoadedLaws.{loaded_page}
 use Rattle.nat_page.specs.Faithful.{IsFaithful}
 use Rattle.nat_page.specs.Used.{used_pages}
@@ -24,7 +22,7 @@ use Rattle.step_laws.specs.Walks.{Walk, MakesArrive}
 use Rattle.theorem_reader.specs.Acts.{made_in}
 use Rattle.theorem_reader.specs.Wear.{IsSpared}
 use Rattle.theorem_reader.proofs.Acting.{acts_of, Holds, beyond_is, follow}
-use Rattle.theorem_reader.proofs.Wearing.{Spares, spares_self, spares_on, arrival_spares}
+use Rattle.theorem_reader.proofs.Wearing.{spares_self, spares_on, arrival_spares}
 
 -- the operation of this number is listed
 abbrev listed_in : Memory → ℕ → Bool
@@ -36,7 +34,7 @@ NoneListed m last = (op : ℕ) → 1 ≤ op → op ≤ last → listed_in m op �
 -- An arrival, behind which so many operations were tried. -------------------------------------------------
 
 record Sparing (layout : Layout) (old new : Memory) (made : Bool) : Type 0 where
-  spares : Spares old new
+  spares : IsSpared old new
   used : used_pages layout new.words ≤ used_pages layout old.words + (if made then 1 else 0)
 
 spared_same : (layout : Layout) (old new : Memory) (made : Bool) → new ≡ old → Sparing layout old new made
@@ -60,6 +58,9 @@ spared_by layout old new t last stub arrival right code came kept unlisted tried
       used = omega (arith, used, min-le_left (used_pages layout old.flash.words + (if arrival.made then 1 else 0)) layout.pool_pages);
     }
 
+listed_stay : (x y : State) (target : ℕ) (made : Bool) (ops : ℕ) → MakesArrive x target made ops y → (mote_of y).flash.failing ≡ (mote_of x).flash.failing
+listed_stay x y target made ops makes = ap (λ (s : Store). s.flash.failing) (after_arrived x y makes.store makes.arrival makes.after).store_is ∙ makes.kept.tried.failing
+
 -- Walks. --------------------------------------------------------------------------------------------------
 
 -- how many operations were tried never falls
@@ -81,6 +82,25 @@ rises image quantum x (Arrive target made ops ∷ moves) z walk holds =
     let one = follow image quantum x (Arrive target made ops ∷ []) walk.0 (walk.0, walk.1, refl) holds in
     let counted : (mote_of walk.0).flash.ops ≡ (mote_of x).flash.ops + ops = ap (λ (s : Store). s.flash.ops) (after_arrived x walk.0 walk.1.store walk.1.arrival walk.1.after).store_is ∙ walk.1.tried in
     omega (arith, counted, rises image quantum walk.0 moves z walk.2 one.holds)
+
+-- nor does it change which are to fail
+pub failing_stays : (image : List ℕ) (quantum : ℕ) (x : State) (moves : List Move) (z : State) → Walk x moves z → Holds image quantum x → (mote_of z).flash.failing ≡ (mote_of x).flash.failing
+failing_stays image quantum x [] z walk holds = ap (λ (s : State). (mote_of s).flash.failing) (sym walk)
+failing_stays image quantum x (Begin line ∷ moves) z walk holds =
+    let one = follow image quantum x (Begin line ∷ []) walk.0 (walk.0, walk.1, refl) holds in
+    failing_stays image quantum walk.0 moves z walk.2 one.holds ∙ ap (λ (m : Memory). m.failing) one.follow.1.flash
+failing_stays image quantum x (Within (Plain line) ∷ moves) z walk holds =
+    let one = follow image quantum x (Within (Plain line) ∷ []) walk.0 (walk.0, walk.1, refl) holds in
+    failing_stays image quantum walk.0 moves z walk.2 one.holds ∙ ap (λ (m : Memory). m.failing) one.follow.1.flash
+failing_stays image quantum x (Within (Serve line stops) ∷ moves) z walk holds =
+    let one = follow image quantum x (Within (Serve line stops) ∷ []) walk.0 (walk.0, walk.1, refl) holds in
+    failing_stays image quantum walk.0 moves z walk.2 one.holds ∙ ap (λ (m : Memory). m.failing) one.follow.1.flash
+failing_stays image quantum x (Take stops ∷ moves) z walk holds =
+    let one = follow image quantum x (Take stops ∷ []) walk.0 (walk.0, walk.1, refl) holds in
+    failing_stays image quantum walk.0 moves z walk.2 one.holds ∙ ap (λ (m : Memory). m.failing) one.follow.1.flash
+failing_stays image quantum x (Arrive target made ops ∷ moves) z walk holds =
+    let one = follow image quantum x (Arrive target made ops ∷ []) walk.0 (walk.0, walk.1, refl) holds in
+    failing_stays image quantum walk.0 moves z walk.2 one.holds ∙ listed_stay x walk.0 target made ops walk.1
 
 -- the arrival of a walk
 arrival_spared : (image : List ℕ) (quantum : ℕ) (x y : State) (target last : ℕ) (made : Bool) (ops : ℕ) → Holds image quantum x → MakesArrive x target made ops y → NoneListed (mote_of x).flash last → (mote_of y).flash.ops ≤ last
@@ -104,20 +124,20 @@ Asks image m made last = (used_pages (layout_of (length image)) m.words + made �
 still_asks : (image : List ℕ) (old mid : Memory) (made last : ℕ) → mid ≡ old → Asks image old made last → Asks image mid made last
 still_asks image old mid made last same asks = subst (λ (m : Memory). Asks image m made last) (sym same) asks
 
-pub walk_spares : (image : List ℕ) (quantum : ℕ) (x : State) (moves : List Move) (z : State) (walk : Walk x moves z) → Holds image quantum x → Asks image (mote_of x).flash (made_in (acts_of x moves z walk)) (mote_of z).flash.ops → Spares (mote_of x).flash (mote_of z).flash
-walk_spares image quantum x [] z walk holds asks = subst (λ (s : State). Spares (mote_of x).flash (mote_of s).flash) walk (spares_self (mote_of x).flash)
+pub walk_spares : (image : List ℕ) (quantum : ℕ) (x : State) (moves : List Move) (z : State) (walk : Walk x moves z) → Holds image quantum x → Asks image (mote_of x).flash (made_in (acts_of x moves z walk)) (mote_of z).flash.ops → IsSpared (mote_of x).flash (mote_of z).flash
+walk_spares image quantum x [] z walk holds asks = subst (λ (s : State). IsSpared (mote_of x).flash (mote_of s).flash) walk (spares_self (mote_of x).flash)
 walk_spares image quantum x (Begin line ∷ moves) z walk holds asks =
     let one = follow image quantum x (Begin line ∷ []) walk.0 (walk.0, walk.1, refl) holds in
-    subst (λ (m : Memory). Spares m (mote_of z).flash) one.follow.1.flash (walk_spares image quantum walk.0 moves z walk.2 one.holds (still_asks image _ _ _ _ one.follow.1.flash asks))
+    subst (λ (m : Memory). IsSpared m (mote_of z).flash) one.follow.1.flash (walk_spares image quantum walk.0 moves z walk.2 one.holds (still_asks image _ _ _ _ one.follow.1.flash asks))
 walk_spares image quantum x (Within (Plain line) ∷ moves) z walk holds asks =
     let one = follow image quantum x (Within (Plain line) ∷ []) walk.0 (walk.0, walk.1, refl) holds in
-    subst (λ (m : Memory). Spares m (mote_of z).flash) one.follow.1.flash (walk_spares image quantum walk.0 moves z walk.2 one.holds (still_asks image _ _ _ _ one.follow.1.flash asks))
+    subst (λ (m : Memory). IsSpared m (mote_of z).flash) one.follow.1.flash (walk_spares image quantum walk.0 moves z walk.2 one.holds (still_asks image _ _ _ _ one.follow.1.flash asks))
 walk_spares image quantum x (Within (Serve line stops) ∷ moves) z walk holds asks =
     let one = follow image quantum x (Within (Serve line stops) ∷ []) walk.0 (walk.0, walk.1, refl) holds in
-    subst (λ (m : Memory). Spares m (mote_of z).flash) one.follow.1.flash (walk_spares image quantum walk.0 moves z walk.2 one.holds (still_asks image _ _ _ _ one.follow.1.flash asks))
+    subst (λ (m : Memory). IsSpared m (mote_of z).flash) one.follow.1.flash (walk_spares image quantum walk.0 moves z walk.2 one.holds (still_asks image _ _ _ _ one.follow.1.flash asks))
 walk_spares image quantum x (Take stops ∷ moves) z walk holds asks =
     let one = follow image quantum x (Take stops ∷ []) walk.0 (walk.0, walk.1, refl) holds in
-    subst (λ (m : Memory). Spares m (mote_of z).flash) one.follow.1.flash (walk_spares image quantum walk.0 moves z walk.2 one.holds (still_asks image _ _ _ _ one.follow.1.flash asks))
+    subst (λ (m : Memory). IsSpared m (mote_of z).flash) one.follow.1.flash (walk_spares image quantum walk.0 moves z walk.2 one.holds (still_asks image _ _ _ _ one.follow.1.flash asks))
 walk_spares image quantum x (Arrive target made ops ∷ moves) z walk holds asks =
     let y = walk.0 in
     let l = layout_of (length image) in
@@ -125,8 +145,7 @@ walk_spares image quantum x (Arrive target made ops ∷ moves) z walk holds asks
     let last = (mote_of z).flash.ops in
     let one = follow image quantum x (Arrive target made ops ∷ []) y (y, walk.1, refl) holds in
     let spared = arrival_spared image quantum x y target last made ops holds walk.1 asks.1 (rises image quantum y moves z walk.2 one.holds) (omega (arith, asks.0)) in
-    let listed : (mote_of y).flash.failing ≡ (mote_of x).flash.failing = ap (λ (s : Store). s.flash.failing) (after_arrived x y walk.1.store walk.1.arrival walk.1.after).store_is ∙ walk.1.kept.tried.failing in
-    let unlisted : NoneListed (mote_of y).flash last = λ op low high. ap (list_any (λ n. n == op)) listed ∙ asks.1 op low high in
+    let unlisted : NoneListed (mote_of y).flash last = λ op low high. ap (list_any (λ n. n == op)) (listed_stay x y target made ops walk.1) ∙ asks.1 op low high in
     spares_on (mote_of x).flash (mote_of y).flash (mote_of z).flash spared.spares (walk_spares image quantum y moves z walk.2 one.holds (omega (arith, spared.used, asks.0), unlisted))
 
 -- From boot. ----------------------------------------------------------------------------------------------
@@ -134,6 +153,3 @@ walk_spares image quantum x (Arrive target made ops ∷ moves) z walk holds asks
 -- no page of the pool is used
 pub new_unused : (image failing : List ℕ) → IsRight (layout_of (length image)) → used_pages (layout_of (length image)) (new_flash image failing).words ≡ 0
 new_unused image failing right = none_used (layout_of (length image)) (new_flash image failing).words (λ page pool. loaded_page image page (omega (arith, right.image_below_pool, pool.from)) (omega (arith, pool.to, right.pool_below_kernel)))
-
-pub spared_from_boot : (image failing : List ℕ) (flash : Memory) → Spares (new_flash image failing) flash → IsSpared flash
-spared_from_boot image failing flash spares page below = omega (arith, spares page below, get_or-many page_count 0 page below)

@@ -1,11 +1,16 @@
 -- The acts of a run, step by step, of its moves.
-use Rattle.std.proofs.Common.{◌≡◌, ℕ, zero, suc, ◌+◌, ◌≤◌, Bool, true, false, ◌&&◌, List, [], ◌∷◌, ◌++◌, map, length, refl, sym, ap, ◌∙◌, subst, arith, inl, inr, ◌-◌, ◌%◌, ap₂}
-use Rattle.std.specs.Prelude.{Option, Some, None, is_some}
+use Rattle.std.proofs.Common.{◌≡◌, ℕ, zero, suc, ◌+◌, ◌≤◌, Bool, true, false, ◌&&◌, List, [], ◌∷◌, ◌++◌, map, length, refl, sym, ap, ◌∙◌, subst, arith, inl, inr, ◌-◌, ◌%◌, ◌<◌, ◌⊎◌, ap₂}
+use Rattle.std.specs.Prelude.{Option, Some, None, is_some, not, ◌||◌}
 use Rattle.std.proofs.lemmas.Bool.{and_parts}
+use Rattle.std.proofs.lemmas.Bool.Decides.{nat_tests}
 use Rattle.sram_layout.specs.Bytes.{byte_at, data_word_at}
+use Rattle.flash_words.specs.declared.layout.Layout.{Layout}
 use Rattle.flash_words.specs.Layouts.{layout_of, image_of, IsRight}
 use Rattle.flash_words.proofs.LayoutLaws.{layout_right}
-use Rattle.flat_machine.specs.FlatMachine.{Moment, is_taken}
+use Rattle.flat_machine.specs.declared.part.Part.{Part}
+use Rattle.flat_machine.specs.FlatMachine.{Moment, is_own, is_taken}
+use Rattle.avr_flags.specs.Status.{has_bit, interrupts}
+use Rattle.mote_devices.specs.Waking.{is_enabled}
 use Rattle.mote_devices.specs.declared.line.Line.{Line}
 use Rattle.page_index.specs.Entries.{IsEntry}
 use Rattle.nat_page.specs.Faithful.{IsFaithful}
@@ -15,20 +20,22 @@ use Rattle.kernel_entry.specs.Parts.{image_held}
 use Rattle.kernel_entry.specs.declared.kernel.End.{End}
 use Rattle.step_laws.specs.Moves.{Inner, Plain, Serve, Move, Begin, Within, Arrive, Take, count_plain, count_serve}
 use Rattle.step_laws.specs.Numbers.{one_if}
-use Rattle.step_laws.specs.States.{State, mote_of, placed, with_store}
+use Rattle.step_laws.specs.States.{State, mote_of, Awaited, admits, placed, with_store}
 use Rattle.step_laws.specs.StepLaws.{Reaches}
 use Rattle.step_laws.specs.Walks.{Walk, MakesArrive, MakesTake}
-use Rattle.program_steps.specs.Machines.{Machine, state_of, awaits, flat_of}
-use Rattle.program_steps.specs.Ready.{IsGoing}
-use Rattle.program_steps.proofs.Entered.{awaited_due}
+use Rattle.kernel_entry.specs.declared.kernel.Owed.{Owed}
+use Rattle.mote_core.specs.declared.mote.Mote.{Mote}
+use Rattle.program_steps.specs.Machines.{Machine, awaited, state_of, awaits, flat_of}
+use Rattle.program_steps.specs.Ready.{IsGoing, IsQuiet, IsRightPart}
+use Rattle.program_steps.proofs.Entered.{awaited_due, untaken_by}
 use Rattle.program_steps.specs.Stepping.{Goes, links_in, ends_in_arrive}
 use Rattle.program_steps.specs.Stepping as stepping
 use Rattle.tk_run.specs.Running.{StandsAfter, StepsTo}
 use Rattle.tk_run.specs.Running as running
-use Rattle.theorem_reader.specs.Acts.{Act, Arrival, steps_in, services_in}
+use Rattle.theorem_reader.specs.Acts.{Act, Arrival, Arrives, In, Outside, Refused as RefusedThere, steps_in, services_in}
 use Rattle.theorem_reader.specs.Memory.{HasMemory, HasState}
 use Rattle.theorem_reader.specs.Pools.{IsPlaceOf}
-use Rattle.theorem_reader.specs.Steps.{EndsThere, AreOwn, AreOfStep, Interrupted, There, Arriving, HasCount, GoByStep, AreUnmade, Nothing, Refused, Stopped, IsByStep}
+use Rattle.theorem_reader.specs.Steps.{EndsThere, AreOwn, AreOfStep, Interrupted, There, Arriving, is_with_kernel, IsBetween, GoByStep, AreUnmade, Nothing, Refused, Stopped, IsByStep}
 use Rattle.theorem_reader.proofs.Acting.{act_of, acts_of, Holds, refusal_end, arrival_is, follow}
 use Rattle.theorem_reader.proofs.Holding.{has_memory}
 use Rattle.theorem_reader.proofs.Pooling.{place_is}
@@ -82,6 +89,35 @@ take_due y z stops makes =
     let now = and_parts _ _ makes.taken_now in
     both _ _ (sym (awaited_due y.owed y.due makes.owed makes.owes) ∙ now.0) (and_parts _ _ now.1).1
 
+-- where none is due, it takes none
+undue_takes : (s : Moment) → s.due ≡ false → is_taken s ≡ false
+undue_takes s undue = ap (λ b. b && (has_bit s.now.cpu.sreg interrupts && is_enabled s.now.devices)) undue
+
+none_awaited : (owed : Option Owed) (due : Bool) → awaited owed due ≡ None → owed ≡ None
+none_awaited None due none = refl
+none_awaited (Some owed) due none = absurd (cc)
+
+none_here : (y : Machine) → IsQuiet y → (state_of y).owed ≡ None → is_taken (flat_of y) ≡ false
+none_here y quiet free = undue_takes (flat_of y) (quiet (none_awaited y.owed y.due free))
+
+-- nor before an arrival that goes on
+is_own_part : (part : Part) (words t : ℕ) → IsRightPart part words → admits part t ≡ true → t < words → (shut : Bool) → part.shut ≡ shut → is_own part t ≡ true
+is_own_part part words t right admitted below true is = ap (λ b. not b || is_own part t) (sym is) ∙ admitted
+is_own_part part words t right admitted below false is =
+    let whole = right.whole is in
+    grind (arith, nat_tests, below, whole.0, whole.1)
+
+inside_image : (image : List ℕ) (refused : Bool) (target made : ℕ) (before after : Mote) → Arrives image refused target made before after → refused ≡ false → target < length image
+inside_image image refused target made before after (In none inside code place others links page unlisted) going = inside
+inside_image image refused target made before after (Outside some outside nothing same pc) going = absurd (let e : ◌≡◌ {A = Bool} true false = sym some ∙ going in cc)
+inside_image image refused target made before after (RefusedThere some inside tried listed code lost others pc page) going = absurd (let e : ◌≡◌ {A = Bool} true false = sym some ∙ going in cc)
+
+none_before : (image : List ℕ) (quantum : ℕ) (y : Machine) (x : State) (ops : ℕ) (made : Bool) → Holds image quantum (state_of y) → IsGoing y → MakesArrive (state_of y) y.at made ops x → x.end ≡ None → is_taken (flat_of y) ≡ false
+none_before image quantum y x ops made holds ready makes going =
+    let inside = inside_image image (is_some x.end) y.at (one_if made) (mote_of (state_of y)) (mote_of x) (arrival_is image quantum (state_of y) x y.at made ops holds makes).act.arrives (ap is_some going) in
+    let own = is_own_part y.kernel.part y.kernel.layout.image_words y.at ready.order.part makes.own (omega (arith, inside, ap (λ (l : Layout). l.image_words) holds.laid)) y.kernel.part.shut refl in
+    untaken_by y makes.owed makes.owes ready makes.untaken own
+
 -- and none is taken behind an arrival
 none_taken : (x y z : State) (target ops : ℕ) (made stops : Bool) → MakesArrive x target made ops y → MakesTake y stops z → ⊥
 none_taken x y z target ops made stops arrives makes =
@@ -110,7 +146,7 @@ own_here image quantum at n y z own holds stands asked (stepping.Taking stops is
     (λ walk. Interrupted (asked walk.1.owed walk.1.owes) stops (mote_of walk.0) refl (sym (ap is_taken stands.stands) ∙ take_due y walk.0 stops walk.1))
 own_here image quantum at n y z own holds stands asked (stepping.Making line rest is few serves) =
     acts_as (state_of y) z (AreOfStep image (at n) (mote_of (state_of y))) own (Begin line ∷ map Within rest) is
-    (λ walk. There (subst (λ t. IsPlaceOf image y.kernel.mote.flash.words t y.kernel.mote.cpu.pc) (at_is at n y stands) (place_by image quantum y y.at (awaits y) holds stands.ready walk.1.free stands.ready.stands)) (own_acts (state_of y) z line rest few serves walk))
+    (λ walk. There (sym (ap is_taken stands.stands) ∙ none_here y stands.quiet walk.1.free) (subst (λ t. IsPlaceOf image y.kernel.mote.flash.words t y.kernel.mote.cpu.pc) (at_is at n y stands) (place_by image quantum y y.at (awaits y) holds stands.ready walk.1.free stands.ready.stands)) (own_acts (state_of y) z line rest few serves walk))
 
 -- the program goes on where they begin
 own_goes : (y z : State) (own : List Move) → stepping.AreOwn own → Walk y own z → y.end ≡ None
@@ -127,9 +163,20 @@ step_acts image quantum at n y z arrival own holds stands asked (stepping.NoArri
     acts_as (state_of y) z (AreOfStep image (at n) (mote_of (state_of y))) (arrival ++ own) own (ap (λ ms. ms ++ own) none) (own_here image quantum at n y z own holds stands asked makes)
 step_acts image quantum at n y z arrival own holds stands asked (stepping.OneArrival made ops one) makes =
     acts_as (state_of y) z (AreOfStep image (at n) (mote_of (state_of y))) (arrival ++ own) (Arrive y.at made ops ∷ own) (ap (λ ms. ms ++ own) one)
-    (λ walk. Arriving (asked walk.1.owed walk.1.owes) (one_if made) ops (mote_of walk.0) (acts_of walk.0 own z walk.2)
+    (λ walk. Arriving (asked walk.1.owed walk.1.owes) (sym (ap is_taken stands.stands) ∙ none_before image quantum y walk.0 ops made holds stands.ready walk.1 (own_goes walk.0 z own makes walk.2)) (one_if made) ops (mote_of walk.0) (acts_of walk.0 own z walk.2)
     (ap₂ (λ refused t. Arrival refused t (one_if made) ops (mote_of (state_of y)) (mote_of walk.0) ∷ acts_of walk.0 own z walk.2) (ap is_some (own_goes walk.0 z own makes walk.2)) (at_is at n y stands))
     (own_behind (state_of y) walk.0 z y.at ops made own walk.1 makes walk.2))
+
+-- a next step can begin
+begins_by : (image : List ℕ) (quantum : ℕ) (at : ℕ → Moment) (n : ℕ) (y : Machine) (due : Bool) → Holds image quantum (state_of y) → StandsAfter at n y → Asked (state_of y) → Reaches (links_in y) y.at due (state_of y)
+    → (is_with_kernel (mote_of (state_of y)) ≡ true) ⊎ IsPlaceOf image y.kernel.mote.flash.words (at n).now.cpu.pc y.kernel.mote.cpu.pc
+begins_by image quantum at n y due holds stands asked (Reaches.Placed undue none enters) =
+    inr (subst (λ t. IsPlaceOf image y.kernel.mote.flash.words t y.kernel.mote.cpu.pc) (at_is at n y stands) (place_by image quantum y y.at due holds stands.ready none (Reaches.Placed undue none enters)))
+begins_by image quantum at n y due holds stands asked (Reaches.Owing stub alone owes leads) = inl (asked (record { target = y.at; stub = stub; due = due }) owes)
+
+can_begin : (image : List ℕ) (quantum : ℕ) (at : ℕ → Moment) (n : ℕ) (y : Machine) → Holds image quantum (state_of y) → StandsAfter at n y → Asked (state_of y)
+    → (is_with_kernel (mote_of (state_of y)) ≡ true) ⊎ IsPlaceOf image y.kernel.mote.flash.words (at n).now.cpu.pc y.kernel.mote.cpu.pc
+can_begin image quantum at n y holds stands asked = begins_by image quantum at n y (awaits y) holds stands asked stands.ready.stands
 
 some_by : (o : Option End) → (o ≡ None → ⊥) → is_some o ≡ true
 some_by None some = absurd (some refl)
@@ -140,7 +187,7 @@ unmade_alone : (image : List ℕ) (quantum : ℕ) (at : ℕ → Moment) (n : ℕ
     → own ≡ [] → stepping.IsArrival y.at arrival → (z.end ≡ None → ends_in_arrive (arrival ++ own) ≡ false) → (walk : Walk (state_of y) (arrival ++ own) z) → AreUnmade image (at n) (mote_of (state_of y)) (acts_of (state_of y) (arrival ++ own) z walk) z.end
 unmade_alone image quantum at n y z arrival own holds stands asked nothing (stepping.NoArrival none) final =
     let same : arrival ++ own ≡ [] = ap (λ ms. ms ++ own) none ∙ nothing in
-    acts_as (state_of y) z (λ acts. AreUnmade image (at n) (mote_of (state_of y)) acts z.end) (arrival ++ own) [] same (λ walk. Nothing refl (ap (λ (s : State). s.end) (sym walk) ∙ stands.ready.going))
+    acts_as (state_of y) z (λ acts. AreUnmade image (at n) (mote_of (state_of y)) acts z.end) (arrival ++ own) [] same (λ walk. Nothing refl (ap (λ (s : State). s.end) (sym walk) ∙ stands.ready.going) (can_begin image quantum at n y holds stands asked))
 unmade_alone image quantum at n y z arrival own holds stands asked nothing (stepping.OneArrival made ops one) final =
     let same : arrival ++ own ≡ Arrive y.at made ops ∷ [] = ap (λ ms. ms ++ own) one ∙ ap (λ ms. Arrive y.at made ops ∷ ms) nothing in
     let over : is_some z.end ≡ true = some_by z.end (λ going. absurd (let both : ◌≡◌ {A = Bool} true false = sym (ap ends_in_arrive same) ∙ final going in cc)) in
@@ -193,11 +240,18 @@ state_held at n y stands =
       devices = ap (λ (s : Moment). s.now.devices) same;
     }
 
--- COUNT is what the crossings leave of the quantum
-pub count_held : (image : List ℕ) (quantum : ℕ) (at : ℕ → Moment) (n : ℕ) (y : Machine) → Holds image quantum (state_of y) → StandsAfter at n y → HasCount quantum (at n).now (mote_of (state_of y))
+-- the kernel's stack is empty, COUNT is what the crossings leave of the quantum, and where an interrupt is due the kernel has control
+some_awaited : (owed : Option Owed) (due : Bool) → (owed ≡ None → due ≡ false) → due ≡ true → (w : Awaited) × (awaited owed due ≡ Some w)
+some_awaited None due quiet is = absurd (let e : ◌≡◌ {A = Bool} true false = sym is ∙ quiet refl in cc)
+some_awaited (Some owed) due quiet is = (record { target = owed.target; stub = owed.stub; due = due }, refl)
+
+pub between_held : (image : List ℕ) (quantum : ℕ) (at : ℕ → Moment) (n : ℕ) (y : Machine) → Holds image quantum (state_of y) → StandsAfter at n y → Asked (state_of y) → IsBetween quantum (at n) (mote_of (state_of y))
 unfolding byte_at
-count_held image quantum at n y holds stands =
-    stands.ready.exact ∙ ap (λ q. q - y.crossings % q) holds.counts ∙ ap (λ (s : Moment). quantum - s.now.crossings % quantum) stands.stands
+between_held image quantum at n y holds stands asked = record {
+  stack = stands.ready.top;
+  count = stands.ready.exact ∙ ap (λ q. q - y.crossings % q) holds.counts ∙ ap (λ (s : Moment). quantum - s.now.crossings % quantum) stands.stands;
+  due = λ is. let owes = some_awaited y.owed y.due stands.quiet (ap (λ (s : Moment). s.due) stands.stands ∙ is) in asked owes.0 owes.1;
+}
 
 record Led (image : List ℕ) (quantum : ℕ) (at : ℕ → Moment) (start : Machine) (n : ℕ) (moves : List Move) (z : Machine) : Type 0 where
   walk : Walk (state_of start) moves (state_of z)
@@ -221,7 +275,7 @@ led image quantum at start (suc n) moves z holds first going (y, before, arrival
         joined.1,
         earlier.go,
         state_held at n y stands,
-        count_held image quantum at n y earlier.holds stands,
+        between_held image quantum at n y earlier.holds stands asked,
         step_acts image quantum at n y (state_of z) arrival own earlier.holds stands asked arrives makes goes.walk,
         no_stop (state_of y) (arrival ++ own) (state_of z) goes.walk going,
         next.follow,
@@ -249,7 +303,7 @@ paced image quantum at start n moves z holds first is final done =
         all = joined.1;
         steps = earlier.go;
         state = state_held at n is.last is.stands;
-        count = count_held image quantum at n is.last earlier.holds is.stands;
+        between = between_held image quantum at n is.last earlier.holds is.stands asked;
         unmade = unmade_acts image quantum at n start is.last z is.before is.behind is.lines earlier.holds is.steps is.stands asked is.of_step (λ going. last_alone is.before is.behind (sym (ap ends_in_arrive is.all) ∙ final going)) done is.goes;
         follow = (follow image quantum (state_of is.last) is.behind (state_of z) is.goes.walk earlier.holds).follow;
       };

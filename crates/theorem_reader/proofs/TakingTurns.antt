@@ -1,6 +1,8 @@
 -- What several programs did on one mote, stint after stint.
-use Rattle.std.proofs.Common.{◌≡◌, ◌≢◌, ℕ, zero, suc, ◌+◌, ◌-◌, ◌*◌, ◌≤◌, eqb, cond, Bool, true, false, List, [], ◌∷◌, ◌++◌, length, Option, Some, None, refl, sym, ap, ◌∙◌, subst, arith, zero-add, inl, inr}
+use Rattle.std.proofs.Common.{◌≡◌, ◌≢◌, ℕ, zero, suc, ◌+◌, ◌-◌, ◌*◌, ◌≤◌, min, eqb, cond, Bool, true, false, List, [], ◌∷◌, ◌++◌, length, Option, Some, None, refl, sym, ap, ◌∙◌, subst, arith, zero-add, inl, inr}
 use Rattle.std.specs.Prelude.{slice_get, slice_set, slice_index_or, sum_by, take, nat_le, ◌==◌, ◌||◌}
+use Rattle.std.specs.List.{list_any}
+use Rattle.std.proofs.Math.Nat.{min-le_left}
 use Rattle.std.proofs.lemmas.Bool.Decides.{nat_tests}
 use Rattle.std.proofs.lemmas.Option.{same_Some}
 use Rattle.std.proofs.lemmas.List.FromFn.{length-map-range_with_len}
@@ -9,12 +11,15 @@ use Rattle.sram_layout.specs.Bytes.{byte_count, byte_at, data_word_at}
 use Rattle.sram_layout.proofs.PartLaws.{part_byte}
 use Rattle.flash_words.specs.Memory.{Memory}
 use Rattle.flash_words.proofs.LoadedLaws.{loaded_image}
-use Rattle.flash_words.specs.Layouts.{layout_of, image_of}
+use Rattle.flash_words.specs.declared.layout.Layout.{Layout}
+use Rattle.flash_words.specs.Layouts.{layout_of, image_of, IsRight}
+use Rattle.nat_page.specs.Faithful.{IsFaithful}
+use Rattle.nat_page.specs.Used.{used_pages}
 use Rattle.input_script.specs.Script.{Schedule}
 use Rattle.avr_isa.specs.Image.{word}
 use Rattle.heap_frames.specs.Paged.{IsPaged}
 use Rattle.heap_frames.proofs.SamePagingLaws.{paged_same}
-use Rattle.flat_machine.specs.FlatMachine.{FlatState, Spent, Halted, Asleep, Wild, Illegal, SelfProgram, Read, Io, Stack, SwapFull}
+use Rattle.flat_machine.specs.FlatMachine.{FlatState, Spent, Wild}
 use Rattle.avr_exec.specs.declared.cpu.Cpu.{Cpu}
 use Rattle.mote_core.specs.declared.mote.Mote.{Mote}
 use Rattle.kernel_entry.specs.declared.kernel.Kernel.{Kernel}
@@ -24,7 +29,9 @@ use Rattle.step_laws.specs.Numbers.{Numbers}
 use Rattle.step_laws.specs.States.{State, mote_of}
 use Rattle.step_laws.specs.Walks.{Walk}
 use Rattle.program_steps.specs.Machines.{Machine, state_of, numbers_of, flat_of}
-use Rattle.program_steps.specs.Ready.{IsGoing}
+use Rattle.program_steps.proofs.Bounds.{most_owed}
+use Rattle.tk_run.specs.Running.{StandsAfter}
+use Rattle.preempt_count.specs.Counting.{bound_per_crossing}
 use Rattle.std.specs.Option.{option_map}
 use Rattle.flash_words.specs.Memory.{new_flash}
 use Rattle.parked_tasks.specs.declared.task.Task.{Task}
@@ -38,29 +45,37 @@ use Rattle.parked_tasks.specs.Handing.{parked_by}
 use Rattle.tk_tasks.specs.Changes.{given_by, given_to, next_task}
 use Rattle.tk_tasks.specs.Plays.{Play, AreAStep, AreStopped, lines_told, IsPlay, GoesOn, TaskPath, counted}
 use Rattle.tk_tasks.specs.Plays as playing
-use Rattle.tk_tasks.specs.States.{Tasks, machine_of, AreSound, player_of, turns_of, players_from}
+use Rattle.tk_tasks.specs.States.{Tasks, owed_of, mote_for, arrivals_of, machine_of, AreSound, player_of, turns_of, players_from}
 use Rattle.parked_tasks.specs.Ends.{flat_end_of}
-use Rattle.task_turns.specs.Turns.{Player, Turns, Played, Over, Gone, played, HaveEnded}
+use Rattle.task_turns.specs.Turns.{Player, Turns, Played, Over, Gone, played}
 use Rattle.task_turns.proofs.Isolation.{once_follows}
 use Rattle.parked_tasks.proofs.Waiting.{waiting_length}
-use Rattle.tk_tasks.proofs.Changing.{players_length}
+use Rattle.parked_tasks.proofs.Sums.{sum_has}
+use Rattle.tk_tasks.proofs.Changing.{players_length, running_task}
 use Rattle.tk_tasks.proofs.Paths.{player_here}
-use Rattle.tk_tasks.proofs.Stints.{IsHeld, AreLeft, first_motes, waiting_motes, left_at_boot, mote_before, mote_behind, is_here, left_behind, sum_play, pages_play, turned_play, last_play, has_back, left_counted}
+use Rattle.tk_tasks.proofs.Stints.{IsHeld, AreLeft, first_motes, waiting_motes, left_at_boot, mote_before, mote_behind, is_here, left_behind, sum_play, pages_play, turned_play, has_back, left_counted}
+use Rattle.tk_run.specs.Running.{StandsAfter}
 use Rattle.cli_words.specs.declared.request.TaskRequest.{TaskRequest}
 use Rattle.tkernel_cli.specs.TasksRuns.{start_by}
 use Rattle.theorem_reader.specs.Acts.{Follow, IsNew, IsBoot, steps_in, services_in, made_in, StopsLast}
 use Rattle.theorem_reader.specs.Memory.{HasMemory, HasState}
-use Rattle.theorem_reader.specs.Steps.{AreOfStep, is_with_kernel, HasCount}
+use Rattle.theorem_reader.specs.Pools.{AreFaithful}
+use Rattle.theorem_reader.specs.Steps.{AreOfStep, is_with_kernel, IsBetween}
 use Rattle.theorem_reader.specs.Stints.{Stint, ComesBack, IsParked, HasPart, Here, Away, AreOfTry, TakeTurns, changes_from, task_end}
 use Rattle.theorem_reader.specs.Tasks.{AskedTasks, tasks_options_of, words_of, events_of, reset_of, LeadThere}
+use Rattle.theorem_reader.specs.Wear.{pool_size, IsSpared}
 use Rattle.theorem_reader.proofs.Acting.{acts_of, Holds, follow}
 use Rattle.theorem_reader.proofs.Booting.{is_new, is_boot}
 use Rattle.theorem_reader.proofs.Ending.{own_stop}
 use Rattle.theorem_reader.proofs.Bounding.{natural_of, entries_of, pages_of, lines_of_acts}
 use Rattle.theorem_reader.proofs.Holding.{has_memory}
-use Rattle.theorem_reader.proofs.Stepwise.{acts_as, step_acts, count_held}
+use Rattle.theorem_reader.proofs.Pooling.{faithful_is}
+use Rattle.theorem_reader.proofs.Stepwise.{acts_as, step_acts, between_held}
+use Rattle.theorem_reader.proofs.Pacing.{stint_of, stints_of, counts_from_boot, few_from_boot}
 use Rattle.theorem_reader.proofs.Asking.{AllAsked, asked_before, asked_behind}
 use Rattle.theorem_reader.proofs.Stopping.{Asked, no_stop, stop_last}
+use Rattle.theorem_reader.proofs.Wearing.{spares_self, spares_on}
+use Rattle.theorem_reader.proofs.Sparing.{walk_spares}
 
 -- How many tasks there are. -------------------------------------------------------------------------------
 
@@ -78,13 +93,6 @@ path_long n t (play ∷ plays) new (mid, one, rest) =
     ∙ length_set (turns_of n t).players t.running step.q ∙ players_length n t 0 t.tasks
 
 -- Stints. -------------------------------------------------------------------------------------------------
-
-abbrev stint_of : (n : ℕ) (t : Tasks) (play : Play) (new : Tasks) → IsPlay n t play new → Stint
-stint_of n t play new one = record { task = t.running; acts = acts_of (state_of (machine_of t t.running one.task)) play.moves (state_of (machine_of one.mid t.running one.next)) one.tried.goes.walk }
-
-abbrev stints_of : (n : ℕ) (t : Tasks) (plays : List Play) (new : Tasks) → TaskPath n t plays new → List Stint
-stints_of n t [] new is = []
-stints_of n t (play ∷ plays) new (mid, one, rest) = stint_of n t play mid one ∷ stints_of n mid plays new rest
 
 abbrev motes_behind : (n : ℕ) (t : Tasks) (plays : List Play) (new : Tasks) → TaskPath n t plays new → List Mote → List Mote
 motes_behind n t [] new is motes = motes
@@ -155,30 +163,28 @@ stands_before n t new play one =
     let m = machine_of t t.running one.task in
     subst (HasState (flat_of m).now) (mote_before n t new play one) (state_held m.kernel m.kernel.mote m.at m.steps m.crossings (flat_of m).now (one.sound.each t.running one.task one.here).sound.order.paged refl)
 
+stands_here : (n : ℕ) (t new : Tasks) (play : Play) → (one : IsPlay n t play new) → StandsAfter (λ k. flat_of (machine_of t t.running one.task)) 0 (machine_of t t.running one.task)
+stands_here n t new play one =
+    let its = one.sound.each t.running one.task one.here in
+    record { ready = its.going one.whole one.going; quiet = its.quiet one.whole one.going; stands = refl }
+
 -- the moves of a try as acts
-step_tried : (image : List ℕ) (quantum : ℕ) (y : Machine) (z : State) (moves : List Move) → Holds image quantum (state_of y) → IsGoing y → Asked (state_of y) → AreAStep y.at moves → (walk : Walk (state_of y) moves z)
+step_tried : (image : List ℕ) (quantum : ℕ) (y : Machine) (z : State) (moves : List Move) → Holds image quantum (state_of y) → StandsAfter (λ k. flat_of y) 0 y → Asked (state_of y) → AreAStep y.at moves → (walk : Walk (state_of y) moves z)
     → AreOfStep image (flat_of y) (mote_of (state_of y)) (acts_of (state_of y) moves z walk)
-step_tried image quantum y z moves holds ready asked made =
+step_tried image quantum y z moves holds stands asked made =
     acts_as (state_of y) z (AreOfStep image (flat_of y) (mote_of (state_of y))) moves (made.arrival ++ made.own) made.parts
-    (step_acts image quantum (λ k. flat_of y) 0 y z made.arrival made.own holds (record { ready = ready; stands = refl }) asked made.arrives made.makes)
+    (step_acts image quantum (λ k. flat_of y) 0 y z made.arrival made.own holds stands asked made.arrives made.makes)
 
-stop_tried : (image : List ℕ) (quantum : ℕ) (y : Machine) (z : State) (moves : List Move) → Holds image quantum (state_of y) → IsGoing y → Asked (state_of y) → AreStopped y.at moves z.end → (walk : Walk (state_of y) moves z)
+stop_tried : (image : List ℕ) (quantum : ℕ) (y : Machine) (z : State) (moves : List Move) → Holds image quantum (state_of y) → StandsAfter (λ k. flat_of y) 0 y → Asked (state_of y) → AreStopped y.at moves z.end → (walk : Walk (state_of y) moves z)
     → AreOfStep image (flat_of y) (mote_of (state_of y)) (acts_of (state_of y) moves z walk) × StopsLast true (acts_of (state_of y) moves z walk)
-stop_tried image quantum y z moves holds ready asked made walk = (step_tried image quantum y z moves holds ready asked made.step walk, stop_last (state_of y) moves z walk ready.going (made.stop, made.stops))
+stop_tried image quantum y z moves holds stands asked made walk = (step_tried image quantum y z moves holds stands asked made.step walk, stop_last (state_of y) moves z walk stands.ready.going (made.stop, made.stops))
 
-try_acts : (image : List ℕ) (quantum : ℕ) (y : Machine) (z : State) (moves : List Move) → Holds image quantum (state_of y) → IsGoing y → Asked (state_of y) → (comes : Played) → playing.AreOfTry y.at moves z.end comes → (walk : Walk (state_of y) moves z)
+try_acts : (image : List ℕ) (quantum : ℕ) (y : Machine) (z : State) (moves : List Move) → Holds image quantum (state_of y) → StandsAfter (λ k. flat_of y) 0 y → Asked (state_of y) → (comes : Played) → playing.AreOfTry y.at moves z.end comes → (walk : Walk (state_of y) moves z)
     → AreOfTry image (flat_of y) (mote_of (state_of y)) (acts_of (state_of y) moves z walk) comes
-try_acts image quantum y z moves holds ready asked (Over Spent) none = acts_as (state_of y) z (λ acts. acts ≡ []) moves [] none (λ walk. refl)
-try_acts image quantum y z moves holds ready asked (Over (Wild pc)) none = acts_as (state_of y) z (λ acts. acts ≡ []) moves [] none (λ walk. refl)
-try_acts image quantum y z moves holds ready asked (Over (Halted pc)) made = stop_tried image quantum y z moves holds ready asked made
-try_acts image quantum y z moves holds ready asked (Over (Asleep pc)) made = stop_tried image quantum y z moves holds ready asked made
-try_acts image quantum y z moves holds ready asked (Over (Illegal pc)) made = stop_tried image quantum y z moves holds ready asked made
-try_acts image quantum y z moves holds ready asked (Over (SelfProgram pc)) made = stop_tried image quantum y z moves holds ready asked made
-try_acts image quantum y z moves holds ready asked (Over (Read pc a)) made = stop_tried image quantum y z moves holds ready asked made
-try_acts image quantum y z moves holds ready asked (Over (Io pc a)) made = stop_tried image quantum y z moves holds ready asked made
-try_acts image quantum y z moves holds ready asked (Over (Stack pc a)) made = stop_tried image quantum y z moves holds ready asked made
-try_acts image quantum y z moves holds ready asked (Over (SwapFull pc a)) made = stop_tried image quantum y z moves holds ready asked made
-try_acts image quantum y z moves holds ready asked (Gone line checkpoint next) made = λ walk. (step_tried image quantum y z moves holds ready asked made.step walk, no_stop (state_of y) moves z walk made.going)
+try_acts image quantum y z moves holds stands asked (Over Spent) none = acts_as (state_of y) z (λ acts. acts ≡ []) moves [] none (λ walk. refl)
+try_acts image quantum y z moves holds stands asked (Over (Wild pc)) none = acts_as (state_of y) z (λ acts. acts ≡ []) moves [] none (λ walk. refl)
+try_acts image quantum y z moves holds stands asked (Over _) made = stop_tried image quantum y z moves holds stands asked made
+try_acts image quantum y z moves holds stands asked (Gone line checkpoint next) made = λ walk. (step_tried image quantum y z moves holds stands asked made.step walk, no_stop (state_of y) moves z walk made.going)
 
 tried_acts : (words : List ℕ) (quantum n : ℕ) (t new : Tasks) (play : Play) → (one : IsPlay n t play new) → t.kernel.layout ≡ layout_of (length words) → image_of (layout_of (length words)) t.kernel.mote.flash.words ≡ words → t.kernel.quantum ≡ quantum → Asked (state_of (machine_of t t.running one.task))
     → AreOfTry words (player_of n t t.running one.task).moment t.kernel.mote (stint_of n t play new one).acts (played (player_of n t t.running one.task))
@@ -187,15 +193,15 @@ tried_acts words quantum n t new play one laid held counts asked =
     let z = state_of (machine_of one.mid t.running one.next) in
     let p = player_of n t t.running one.task in
     subst (λ (b : Mote). AreOfTry words p.moment b (stint_of n t play new one).acts (played p)) (mote_before n t new play one)
-    (try_acts words quantum y z play.moves (holds_before words quantum n t new play one laid held counts) ((one.sound.each t.running one.task one.here).going one.whole one.going) asked (played p) one.of_try one.tried.goes.walk)
+    (try_acts words quantum y z play.moves (holds_before words quantum n t new play one laid held counts) (stands_here n t new play one) asked (played p) one.of_try one.tried.goes.walk)
 
--- COUNT before it
+-- between two steps, before it
 counted_before : (words : List ℕ) (quantum n : ℕ) (t new : Tasks) (play : Play) → (one : IsPlay n t play new) → t.kernel.layout ≡ layout_of (length words) → image_of (layout_of (length words)) t.kernel.mote.flash.words ≡ words → t.kernel.quantum ≡ quantum
-    → HasCount quantum (player_of n t t.running one.task).moment.now t.kernel.mote
-counted_before words quantum n t new play one laid held counts =
+    → Asked (state_of (machine_of t t.running one.task)) → IsBetween quantum (player_of n t t.running one.task).moment t.kernel.mote
+counted_before words quantum n t new play one laid held counts asked =
     let y = machine_of t t.running one.task in
-    subst (HasCount quantum (flat_of y).now) (mote_before n t new play one)
-    (count_held words quantum (λ k. flat_of y) 0 y (holds_before words quantum n t new play one laid held counts) (record { ready = (one.sound.each t.running one.task one.here).going one.whole one.going; stands = refl }))
+    subst (IsBetween quantum (flat_of y)) (mote_before n t new play one)
+    (between_held words quantum (λ k. flat_of y) 0 y (holds_before words quantum n t new play one laid held counts) (stands_here n t new play one) asked)
 
 -- the mote that is left behind the last of them
 abbrev pub left_at_end : (n : ℕ) (t : Tasks) (plays : List Play) (new : Tasks) → TaskPath n t plays new → Mote → Mote
@@ -223,13 +229,24 @@ take_turns words quantum count n t (play ∷ plays) new motes left size long (mi
       had.there,
       comes_back left had.own t.kernel.mote are.shares (is_here t one.task had.own had.held),
       stands_before n t mid play one,
-      counted_before words quantum n t mid play one laid here counts,
+      counted_before words quantum n t mid play one laid here counts (asked_before n t mid play motes left one are asked),
       tried_acts words quantum n t mid play one laid here counts (asked_before n t mid play motes left one are asked),
       sym (lines_of_acts (state_of (machine_of t t.running one.task)) play.moves (state_of (machine_of one.mid t.running one.next)) one.tried.goes.walk) ∙ one.tried.goes.told ∙ ap lines_told one.told,
       done.follow,
       subst (λ (u : Turns). TakeTurns words quantum u one.mid.kernel.mote next (stints_of n mid plays new rest) (turns_of n new) (left_at_end n mid plays new rest one.mid.kernel.mote) (motes_behind n mid plays new rest next)) one.in_turn
           (take_turns words quantum count n mid plays new next one.mid.kernel.mote size more rest (left_behind n t mid play motes left one are) (asked_behind n t mid play motes left one are asked) done.held (on_quantum play.changes one.mid mid one.behind ∙ done.counts)),
     )
+
+-- the quantum stays
+quantum_path : (words : List ℕ) (quantum count n : ℕ) (t : Tasks) (plays : List Play) (new : Tasks) (motes : List Mote) (left : Mote) → length words ≡ 4096 * count → length t.tasks ≡ count → (path : TaskPath n t plays new) → AreLeft t motes left
+    → image_of (layout_of (length words)) left.flash.words ≡ words → t.kernel.quantum ≡ quantum → new.kernel.quantum ≡ quantum
+quantum_path words quantum count n t [] new motes left size long is are held counts = ap (λ (u : Tasks). u.kernel.quantum) (sym is) ∙ counts
+quantum_path words quantum count n t (play ∷ plays) new motes left size long (mid, one, rest) are held counts =
+    let laid = one.sound.layout ∙ ap (λ k. layout_of (4096 * k)) long ∙ ap layout_of (sym size) in
+    let here = ap (λ (f : Memory). image_of (layout_of (length words)) f.words) are.shares.flash ∙ held in
+    let done = follow_play words quantum n t mid play one laid here counts in
+    quantum_path words quantum count n mid plays new (slice_set motes t.running one.mid.kernel.mote) one.mid.kernel.mote size (path_long n t (play ∷ []) mid (mid, one, refl) ∙ long) rest (left_behind n t mid play motes left one are) done.held
+    (on_quantum play.changes one.mid mid one.behind ∙ done.counts)
 
 left_last : (n : ℕ) (t : Tasks) (plays : List Play) (new : Tasks) (motes : List Mote) (left : Mote) → (path : TaskPath n t plays new) → AreLeft t motes left → AreLeft new (motes_behind n t plays new path motes) (left_at_end n t plays new path left)
 left_last n t [] new motes left is are = subst (λ u. AreLeft u motes left) is are
@@ -259,12 +276,14 @@ entries_counts = record {
   play = λ n t new play one. ap (λ (k : Numbers). k.entries) one.tried.goes.numbers ∙ entries_of (state_of (machine_of t t.running one.task)) play.moves (state_of (machine_of one.mid t.running one.next)) one.tried.goes.walk (numbers_of (machine_of t t.running one.task));
 }
 
+pages_tried : (n : ℕ) (t new : Tasks) (play : Play) → (one : IsPlay n t play new) → one.mid.pages ≡ t.pages + made_in (stint_of n t play new one).acts
+pages_tried n t new play one =
+    ap (λ (k : Numbers). k.pages) one.tried.goes.numbers ∙ pages_of (state_of (machine_of t t.running one.task)) play.moves (state_of (machine_of one.mid t.running one.next)) one.tried.goes.walk (numbers_of (machine_of t t.running one.task))
+
 pages_path : (n : ℕ) (t : Tasks) (plays : List Play) (new : Tasks) → (path : TaskPath n t plays new) → new.pages ≡ t.pages + sum_by (λ (stint : Stint). made_in stint.acts) (stints_of n t plays new path)
 pages_path n t [] new is = let same : new.pages ≡ t.pages = ap (λ (u : Tasks). u.pages) (sym is) in omega (arith, same)
 pages_path n t (play ∷ plays) new (mid, one, rest) =
-    let made : one.mid.pages ≡ t.pages + made_in (stint_of n t play mid one).acts =
-    ap (λ (k : Numbers). k.pages) one.tried.goes.numbers ∙ pages_of (state_of (machine_of t t.running one.task)) play.moves (state_of (machine_of one.mid t.running one.next)) one.tried.goes.walk (numbers_of (machine_of t t.running one.task)) in
-    omega (arith, pages_path n mid plays new rest, pages_play n t mid play one, made, sum_by-cons (λ (stint : Stint). made_in stint.acts) (stint_of n t play mid one) (stints_of n mid plays new rest))
+    omega (arith, pages_path n mid plays new rest, pages_play n t mid play one, pages_tried n t mid play one, sum_by-cons (λ (stint : Stint). made_in stint.acts) (stint_of n t play mid one) (stints_of n mid plays new rest))
 
 abbrev one_unless : Bool → ℕ
 one_unless test = cond test 0 1
@@ -275,15 +294,115 @@ same_one a b is = let test : eqb a b ≡ true = grind (arith, nat_tests, is) in 
 other_one : (a b : ℕ) → a ≢ b → one_unless (eqb a b) ≡ 1
 other_one a b apart = let test : eqb a b ≡ false = grind (arith, nat_tests, apart) in ap one_unless test
 
-changes_path : (n : ℕ) (t : Tasks) (plays : List Play) (new : Tasks) → (path : TaskPath n t plays new) → HaveEnded (turns_of n new) → new.switches ≡ t.switches + changes_from t.running (stints_of n t plays new path)
-changes_path n t [] new is ended = let same : new.switches ≡ t.switches = ap (λ (u : Tasks). u.switches) (sym is) in omega (arith, same)
-changes_path n t (play ∷ []) new (mid, one, is) ended = omega (arith, last_play n t new play (subst (λ u. IsPlay n t play u) is one) ended, same_one t.running t.running refl)
-changes_path n t (play ∷ other ∷ plays) new (mid, one, (next, later, rest)) ended =
-    let behind = changes_path n mid (other ∷ plays) new (next, later, rest) ended in
+-- the next stint is of the task that runs behind this one, or none follows
+changes_on : (n : ℕ) (t : Tasks) (plays : List Play) (new : Tasks) (before : ℕ) → (path : TaskPath n t plays new)
+    → changes_from before (stints_of n t plays new path) new.running ≡ one_unless (eqb t.running before) + changes_from t.running (stints_of n t plays new path) new.running
+changes_on n t [] new before is =
+    let same : new.running ≡ t.running = ap (λ (u : Tasks). u.running) (sym is) in
+    omega (arith, same_one new.running t.running same, ap (λ r. one_unless (eqb r before)) same)
+changes_on n t (play ∷ plays) new before (mid, one, rest) = omega (arith, same_one t.running t.running refl)
+
+changes_path : (n : ℕ) (t : Tasks) (plays : List Play) (new : Tasks) → (path : TaskPath n t plays new) → new.switches ≡ t.switches + changes_from t.running (stints_of n t plays new path) new.running
+changes_path n t [] new is =
+    let same : new.switches ≡ t.switches = ap (λ (u : Tasks). u.switches) (sym is) in
+    omega (arith, same, same_one new.running t.running (ap (λ (u : Tasks). u.running) (sym is)))
+changes_path n t (play ∷ plays) new (mid, one, rest) =
+    let behind = changes_path n mid plays new rest in
+    let on = changes_on n mid plays new t.running rest in
     elim (turned_play n t mid play one) [
-      | inl same ↦ omega (arith, behind, same.1, same_one t.running t.running refl, same_one mid.running t.running same.0, same_one mid.running mid.running refl)
-      | inr apart ↦ omega (arith, behind, apart.1, same_one t.running t.running refl, other_one mid.running t.running apart.0, same_one mid.running mid.running refl)
+      | inl same ↦ omega (arith, behind, on, same.1, same_one t.running t.running refl, same_one mid.running t.running same.0)
+      | inr apart ↦ omega (arith, behind, on, apart.1, same_one t.running t.running refl, other_one mid.running t.running apart.0)
     ]
+
+-- How often pages are erased. -----------------------------------------------------------------------------
+
+-- by a play behind which the pool holds all pages that were made
+play_spares : (words : List ℕ) (quantum n : ℕ) (t new : Tasks) (play : Play) → (one : IsPlay n t play new) → t.kernel.layout ≡ layout_of (length words) → image_of (layout_of (length words)) t.kernel.mote.flash.words ≡ words → t.kernel.quantum ≡ quantum
+    → one.mid.pages ≤ (layout_of (length words)).pool_pages → IsSpared t.kernel.mote.flash one.mid.kernel.mote.flash
+play_spares words quantum n t new play one laid held counts fits =
+    let y = machine_of t t.running one.task in
+    let z = machine_of one.mid t.running one.next in
+    let flash = y.kernel.mote.flash in
+    let l = layout_of (length words) in
+    let before : flash ≡ t.kernel.mote.flash = ap (λ (m : Mote). m.flash) (mote_before n t new play one) in
+    let behind : z.kernel.mote.flash ≡ one.mid.kernel.mote.flash = ap (λ (m : Mote). m.flash) (mote_behind n t new play one) in
+    let used : used_pages l flash.words ≡ min t.pages l.pool_pages = subst (λ (k : Layout). used_pages k flash.words ≡ min t.pages k.pool_pages) laid (one.sound.each t.running one.task one.here).sound.order.pages in
+    let none : flash.failing ≡ [] = ap (λ (f : Memory). f.failing) before ∙ one.sound.unfailing in
+    subst (λ (f : Memory). IsSpared f one.mid.kernel.mote.flash) before (subst (IsSpared flash) behind
+    (walk_spares words quantum (state_of y) play.moves (state_of z) one.tried.goes.walk (holds_before words quantum n t new play one laid held counts)
+    (omega (arith, used, min-le_left t.pages l.pool_pages, pages_tried n t new play one, fits), λ op low high. ap (list_any (λ k. k == op)) none)))
+
+-- the change of the task leaves flash
+path_spares : (words : List ℕ) (quantum count n : ℕ) (t : Tasks) (plays : List Play) (new : Tasks) (motes : List Mote) (left : Mote) → length words ≡ 4096 * count → length t.tasks ≡ count → TaskPath n t plays new → AreLeft t motes left
+    → image_of (layout_of (length words)) left.flash.words ≡ words → t.kernel.quantum ≡ quantum → new.pages ≤ (layout_of (length words)).pool_pages → IsSpared t.kernel.mote.flash new.kernel.mote.flash
+path_spares words quantum count n t [] new motes left size long is are held counts fits = subst (λ (u : Tasks). IsSpared t.kernel.mote.flash u.kernel.mote.flash) is (spares_self t.kernel.mote.flash)
+path_spares words quantum count n t (play ∷ plays) new motes left size long (mid, one, rest) are held counts fits =
+    let laid = one.sound.layout ∙ ap (λ k. layout_of (4096 * k)) long ∙ ap layout_of (sym size) in
+    let here = ap (λ (f : Memory). image_of (layout_of (length words)) f.words) are.shares.flash ∙ held in
+    let done = follow_play words quantum n t mid play one laid here counts in
+    let next = left_behind n t mid play motes left one are in
+    spares_on t.kernel.mote.flash one.mid.kernel.mote.flash new.kernel.mote.flash (play_spares words quantum n t mid play one laid here counts (omega (arith, fits, pages_path n mid plays new rest, pages_play n t mid play one)))
+    (subst (λ (f : Memory). IsSpared f new.kernel.mote.flash) next.shares.flash
+    (path_spares words quantum count n mid plays new (slice_set motes t.running one.mid.kernel.mote) one.mid.kernel.mote size (path_long n t (play ∷ []) mid (mid, one, refl) ∙ long) rest next done.held
+    (on_quantum play.changes one.mid mid one.behind ∙ done.counts) fits))
+
+-- What stands in flash. -----------------------------------------------------------------------------------
+
+held_path : (words : List ℕ) (quantum count n : ℕ) (t : Tasks) (plays : List Play) (new : Tasks) (motes : List Mote) (left : Mote) → length words ≡ 4096 * count → length t.tasks ≡ count → TaskPath n t plays new → AreLeft t motes left
+    → image_of (layout_of (length words)) left.flash.words ≡ words → t.kernel.quantum ≡ quantum → image_of (layout_of (length words)) new.kernel.mote.flash.words ≡ words
+held_path words quantum count n t [] new motes left size long is are held counts =
+    ap (λ (u : Tasks). image_of (layout_of (length words)) u.kernel.mote.flash.words) (sym is) ∙ ap (λ (f : Memory). image_of (layout_of (length words)) f.words) are.shares.flash ∙ held
+held_path words quantum count n t (play ∷ plays) new motes left size long (mid, one, rest) are held counts =
+    let laid = one.sound.layout ∙ ap (λ k. layout_of (4096 * k)) long ∙ ap layout_of (sym size) in
+    let here = ap (λ (f : Memory). image_of (layout_of (length words)) f.words) are.shares.flash ∙ held in
+    let done = follow_play words quantum n t mid play one laid here counts in
+    held_path words quantum count n mid plays new (slice_set motes t.running one.mid.kernel.mote) one.mid.kernel.mote size (path_long n t (play ∷ []) mid (mid, one, refl) ∙ long) rest (left_behind n t mid play motes left one are) done.held
+    (on_quantum play.changes one.mid mid one.behind ∙ done.counts)
+
+faithful_left : (words : List ℕ) (t : Tasks) → AreSound t → t.kernel.layout ≡ layout_of (length words) → image_of (layout_of (length words)) t.kernel.mote.flash.words ≡ words → AreFaithful words t.kernel.mote.flash.words
+faithful_left words t sound laid held =
+    let runs = running_task t (slice_get t.tasks t.running) sound.one_runs refl in
+    let its = sound.each t.running runs.0 runs.1 in
+    let order = its.sound.order in
+    let l = layout_of (length words) in
+    let flash = t.kernel.mote.flash.words in
+    let same : (machine_of t t.running runs.0).kernel.mote.flash.words ≡ flash = ap (λ o. (mote_for t.kernel.mote o).flash.words) (its.running refl) in
+    let here : IsFaithful t.kernel.layout (image_of t.kernel.layout flash) flash = subst (λ w. IsFaithful t.kernel.layout (image_of t.kernel.layout w) w) same order.faithful in
+    faithful_is words flash (subst IsRight laid order.right).image_fits (subst (λ i. IsFaithful l i flash) held (subst (λ k. IsFaithful k (image_of k flash) flash) laid here))
+
+-- How far the numbers go. ---------------------------------------------------------------------------------
+
+-- each task has arrived at most once for each of its steps, and once more
+all_arrived : (tasks : List Task) → sum_by arrivals_of tasks ≤ sum_by (λ (task : Task). task.steps) tasks + length tasks
+all_arrived [] = omega arith
+all_arrived (task ∷ tasks) = omega (arith, all_arrived tasks, most_owed (owed_of task.owed None) task.steps, sum_by-cons arrivals_of task tasks, sum_by-cons (λ (x : Task). x.steps) task tasks)
+
+-- .. and the others than one
+others_arrived : (tasks : List Task) (i : ℕ) (task : Task) → slice_get tasks i ≡ Some task → sum_by arrivals_of tasks + task.steps + 1 ≤ sum_by (λ (x : Task). x.steps) tasks + length tasks + arrivals_of task
+others_arrived [] i task there = absurd (cc)
+others_arrived (x ∷ tasks) zero task there =
+    let same : x ≡ task = same_Some x task there in
+    omega (arith, all_arrived tasks, ap arrivals_of same, ap (λ (y : Task). y.steps) same, sum_by-cons arrivals_of x tasks, sum_by-cons (λ (y : Task). y.steps) x tasks)
+others_arrived (x ∷ tasks) (suc i) task there =
+    omega (arith, others_arrived tasks i task there, most_owed (owed_of x.owed None) x.steps, sum_by-cons arrivals_of x tasks, sum_by-cons (λ (y : Task). y.steps) x tasks)
+
+-- the pages that were made, and the operations that were tried
+record AreWithin (t : Tasks) (most : ℕ) : Type 0 where
+  pages : t.pages ≤ most
+  ops : t.kernel.mote.flash.ops ≤ 1000 * most
+
+are_within : (t : Tasks) → AreSound t → AreWithin t (sum_by (λ (task : Task). task.steps) t.tasks + length t.tasks)
+are_within t sound =
+    let runs = running_task t (slice_get t.tasks t.running) sound.one_runs refl in
+    let its = sound.each t.running runs.0 runs.1 in
+    let bounded = its.sound.bounded in
+    let same : (machine_of t t.running runs.0).kernel.mote.flash.ops ≡ t.kernel.mote.flash.ops = ap (λ o. (mote_for t.kernel.mote o).flash.ops) (its.running refl) in
+    let others = others_arrived t.tasks t.running runs.0 runs.1 in
+    let own = sum_has arrivals_of t.tasks t.running runs.0 runs.1 in
+    record {
+      pages = omega (arith, bounded.pages, others, own);
+      ops = omega (arith, bounded.ops, same, others, own);
+    }
 
 -- Where a program stands. ---------------------------------------------------------------------------------
 
@@ -406,14 +525,9 @@ left_if t broken motes left are = record {
 
 -- All of it. ----------------------------------------------------------------------------------------------
 
--- the stints, and how often the program was changed, once each has ended
-pub record AreStints (asked : AskedTasks) (to : Turns) (t : Tasks) : Type 0 where
-  pub stints : LeadThere asked to t
-  pub switches : HaveEnded to → t.switches ≡ changes_from 0 stints.stints
-
 pub have_stints : (asked : AskedTasks) (scripts : List Schedule) (t last : Tasks) (plays : List Play) (broken : Bool) (to : Turns) → asked.scripts ≡ scripts → length asked.scripts ≡ asked.count → 1 ≤ asked.count
     → AreSound (tasks_at_boot asked asked.scripts) → turns_of asked.steps (tasks_at_boot asked asked.scripts) ≡ reset_of asked → TaskPath asked.steps (tasks_at_boot asked asked.scripts) plays last → t ≡ counted last broken → turns_of asked.steps last ≡ to
-    → AreSound t → AreStints asked to t
+    → AreSound t → LeadThere asked to t
 have_stints asked [] t last plays broken to is long some sound_boot reset path counts leads sound = absurd (omega (arith, ap length is, long, some))
 have_stints asked (first ∷ others) t last plays broken to is long some sound_boot reset path counts leads sound =
     let n = asked.steps in
@@ -433,44 +547,64 @@ have_stints asked (first ∷ others) t last plays broken to is long some sound_b
     let count : length others + 1 ≡ asked.count = omega (arith, size, long) in
     let tasks_long : length booted.tasks ≡ asked.count = omega (arith, waiting_length 1 others asked.quantum asked.slots, count) in
     let none : (f : Task → ℕ) → ((k : ℕ) (parked : Option Parked) → f (at_start k parked) ≡ 0) → sum_by f booted.tasks ≡ 0 = λ f zero_at. omega (arith, sum_by-cons f (at_start 0 None) (waiting_from 1 others asked.quantum asked.slots), zero_at 0 None, waiting_none f 1 others asked.quantum asked.slots zero_at) in
+    let words_long : length (words_of asked) ≡ 4096 * asked.count = length-map-range_with_len (word asked.image) 0 (4096 * asked.count) in
+    let last_long : length t.tasks ≡ asked.count = ap (λ (z : Tasks). length z.tasks) counts ∙ path_long n booted plays last way ∙ tasks_long in
+    let laid_last : t.kernel.layout ≡ layout_of (length (words_of asked)) = sound.layout ∙ ap (λ k. layout_of (4096 * k)) last_long ∙ ap layout_of (sym words_long) in
+    let quantum : t.kernel.quantum ≡ asked.quantum = ap (λ (z : Tasks). z.kernel.quantum) counts ∙ quantum_path (words_of asked) asked.quantum asked.count n booted plays last motes booted.kernel.mote words_long tasks_long way are (boots_image asked first others count) refl in
     record {
-      stints = record {
-        stints = stints_of n booted plays last way;
-        first = booted.kernel.mote;
-        begins = boots asked first others count (ap (λ (s : List Schedule). (slice_index_or {A = Schedule} s 0 (record { events = []; failing = [] })).events) is);
-        motes = motes;
-        first_is = refl;
-        own = λ task m there. subst (λ (l : List Schedule). IsNew (slice_index_or {A = Schedule} l task (record { events = []; failing = [] })).events asked.quantum asked.slots m) (sym is) (own_at_boot asked.image first others asked.quantum asked.slots task m there);
-        starts = λ task p there.
-            let one = is_played n booted (reset_of asked) task p at_reset there in
-            let has = are.each task one.its one.there in
-            (has.own, has.there, stands_left booted motes booted.kernel.mote task one.its p.moment.now (subst AreSound same sound_boot) are one.there (ap (λ (q : Player). q.moment.now) one.is));
-        last = behind;
-        left = left;
-        turns = subst (λ (to : Turns). TakeTurns (words_of asked) asked.quantum (reset_of asked) booted.kernel.mote motes (stints_of n booted plays last way) to left behind) leads
-            (subst (λ (from : Turns). TakeTurns (words_of asked) asked.quantum from booted.kernel.mote motes (stints_of n booted plays last way) (turns_of n last) left behind) at_reset
-            (take_turns (words_of asked) asked.quantum asked.count n booted plays last motes booted.kernel.mote (length-map-range_with_len (word asked.image) 0 (4096 * asked.count)) tasks_long way are asked_first (boots_image asked first others count) refl));
-        ends = λ task p there.
-            let one = is_played n last to task p leads there in
-            let its = one.its in
-            let has = are_last.each task its one.there in (
-              has.own,
-              its,
-              has.there,
-              stands_left u behind left task its p.moment.now sound_last are_last one.there (ap (λ (q : Player). q.moment.now) one.is),
-              ap (λ (z : Tasks). slice_get z.tasks task) counts ∙ one.there,
-              subst (λ (z : Tasks). HasPart left has.own z.kernel.mote (eqb task z.running) its) (sym counts) (has_part u left task its has.own sound_last are_last.shares one.there has.held),
-              same_end its.end ∙ ap (λ (q : Player). q.end) one.is,
-              ap (λ (q : Player). q.moment.due) one.is,
-              ap (λ (q : Player). q.moment.now.cpu.pc) one.is,
-              ap (λ (q : Player). q.moment.now.steps) one.is,
-              ap (λ (q : Player). q.moment.now.crossings) one.is,
-            );
-        runs = ap (λ (z : Tasks). z.running) counts ∙ ap (λ (s : Turns). s.running) leads;
-        many = ap (λ (z : Tasks). length z.tasks) counts ∙ sym (players_length n last 0 last.tasks) ∙ ap (λ (s : Turns). length s.players) leads;
-        natural_is = ap (λ (z : Tasks). z.natural) counts ∙ sum_path (λ task. task.natural) (λ stint. steps_in stint.acts) n booted plays last natural_counts way ∙ ap (λ k. k + sum_by (λ (stint : Stint). steps_in stint.acts) (stints_of n booted plays last way)) (none (λ task. task.natural) (λ k parked. refl)) ∙ zero-add (_);
-        entries_is = ap (λ (z : Tasks). z.entries) counts ∙ sum_path (λ task. task.entries) (λ stint. services_in stint.acts) n booted plays last entries_counts way ∙ ap (λ k. k + sum_by (λ (stint : Stint). services_in stint.acts) (stints_of n booted plays last way)) (none (λ task. task.entries) (λ k parked. refl)) ∙ zero-add (_);
-        pages_is = ap (λ (z : Tasks). z.pages) counts ∙ pages_path n booted plays last way ∙ zero-add (_);
-      };
-      switches = λ ended. ap (λ (z : Tasks). z.switches) counts ∙ changes_path n booted plays last way (subst HaveEnded (sym leads) ended) ∙ zero-add (_);
+      stints = stints_of n booted plays last way;
+      first = booted.kernel.mote;
+      begins = boots asked first others count (ap (λ (s : List Schedule). (slice_index_or {A = Schedule} s 0 (record { events = []; failing = [] })).events) is);
+      motes = motes;
+      first_is = refl;
+      own = λ task m there. subst (λ (l : List Schedule). IsNew (slice_index_or {A = Schedule} l task (record { events = []; failing = [] })).events asked.quantum asked.slots m) (sym is) (own_at_boot asked.image first others asked.quantum asked.slots task m there);
+      starts = λ task p there.
+          let one = is_played n booted (reset_of asked) task p at_reset there in
+          let has = are.each task one.its one.there in
+          (has.own, has.there, stands_left booted motes booted.kernel.mote task one.its p.moment.now (subst AreSound same sound_boot) are one.there (ap (λ (q : Player). q.moment.now) one.is));
+      last = behind;
+      left = left;
+      turns = subst (λ (to : Turns). TakeTurns (words_of asked) asked.quantum (reset_of asked) booted.kernel.mote motes (stints_of n booted plays last way) to left behind) leads
+          (subst (λ (from : Turns). TakeTurns (words_of asked) asked.quantum from booted.kernel.mote motes (stints_of n booted plays last way) (turns_of n last) left behind) at_reset
+          (take_turns (words_of asked) asked.quantum asked.count n booted plays last motes booted.kernel.mote words_long tasks_long way are asked_first (boots_image asked first others count) refl));
+      ends = λ task p there.
+          let one = is_played n last to task p leads there in
+          let its = one.its in
+          let has = are_last.each task its one.there in
+          let counts_own = counts_from_boot asked.image first others asked.quantum asked.slots n plays last task its way one.there in
+          record {
+            own = has.own;
+            its = its;
+            own_is = has.there;
+            its_is = ap (λ (z : Tasks). slice_get z.tasks task) counts ∙ one.there;
+            state = stands_left u behind left task its p.moment.now sound_last are_last one.there (ap (λ (q : Player). q.moment.now) one.is);
+            slots = ap (λ (l : List (List ℕ)). length l) (sym (has_back u behind task its sound_last one.there has).swap) ∙ ap (λ (q : Player). q.program.page_limit) one.is;
+            part = subst (λ (z : Tasks). HasPart left has.own z.kernel.mote (eqb task z.running) its) (sym counts) (has_part u left task its has.own sound_last are_last.shares one.there has.held);
+            end = same_end its.end ∙ ap (λ (q : Player). q.end) one.is;
+            due = ap (λ (q : Player). q.moment.due) one.is;
+            pc = ap (λ (q : Player). q.moment.now.cpu.pc) one.is;
+            steps = ap (λ (q : Player). q.moment.now.steps) one.is;
+            crossings = ap (λ (q : Player). q.moment.now.crossings) one.is;
+            natural = counts_own.natural;
+            entries = counts_own.entries;
+          };
+      runs = ap (λ (z : Tasks). z.running) counts ∙ ap (λ (s : Turns). s.running) leads;
+      many = ap (λ (z : Tasks). length z.tasks) counts ∙ sym (players_length n last 0 last.tasks) ∙ ap (λ (s : Turns). length s.players) leads;
+      layout = laid_last;
+      quantum_is = quantum;
+      switched = ap (λ (z : Tasks). z.switches) counts ∙ ap (λ (s : Turns). s.switches) leads;
+      switches = ap (λ (z : Tasks). z.switches) counts ∙ changes_path n booted plays last way ∙ zero-add (_) ∙ ap (changes_from 0 (stints_of n booted plays last way)) (ap (λ (s : Turns). s.running) leads);
+      natural_is = ap (λ (z : Tasks). z.natural) counts ∙ sum_path (λ task. task.natural) (λ stint. steps_in stint.acts) n booted plays last natural_counts way ∙ ap (λ k. k + sum_by (λ (stint : Stint). steps_in stint.acts) (stints_of n booted plays last way)) (none (λ task. task.natural) (λ k parked. refl)) ∙ zero-add (_);
+      entries_is = ap (λ (z : Tasks). z.entries) counts ∙ sum_path (λ task. task.entries) (λ stint. services_in stint.acts) n booted plays last entries_counts way ∙ ap (λ k. k + sum_by (λ (stint : Stint). services_in stint.acts) (stints_of n booted plays last way)) (none (λ task. task.entries) (λ k parked. refl)) ∙ zero-add (_);
+      pages_is = ap (λ (z : Tasks). z.pages) counts ∙ pages_path n booted plays last way ∙ zero-add (_);
+      few = λ task front between back is none.
+          let bound : steps_in between ≤ bound_per_crossing * t.kernel.quantum =
+          few_from_boot asked.image first others asked.quantum asked.slots n plays last task (bound_per_crossing * t.kernel.quantum) way (λ its there. (sound.each task its (ap (λ (z : Tasks). slice_get z.tasks task) counts ∙ there)).sound.bounded.moves.most) front between back is none in
+          subst (λ q. steps_in between ≤ 5120 * q) quantum bound;
+      most_pages = (are_within t sound).pages;
+      most_operations = (are_within t sound).ops;
+      faithful = faithful_left (words_of asked) t sound laid_last
+          (ap (λ (z : Tasks). image_of (layout_of (length (words_of asked))) z.kernel.mote.flash.words) counts ∙ held_path (words_of asked) asked.quantum asked.count n booted plays last motes booted.kernel.mote words_long tasks_long way are (boots_image asked first others count) refl);
+      wear = subst (λ (z : Tasks). z.pages ≤ pool_size (words_of asked) → IsSpared booted.kernel.mote.flash z.kernel.mote.flash) (sym counts)
+          (λ fits. path_spares (words_of asked) asked.quantum asked.count n booted plays last motes booted.kernel.mote words_long tasks_long way are (boots_image asked first others count) refl fits);
     }

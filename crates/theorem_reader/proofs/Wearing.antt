@@ -32,7 +32,7 @@ use Rattle.branch_bridge.specs.Arrivals.{Store, Makes, Arrives, ArrivesFrom, Cam
 use Rattle.branch_bridge.proofs.PerformLaws.{rewriting_done}
 use Rattle.branch_bridge.proofs.ThroughLaws.{is_to_resolve}
 use Rattle.program_steps.proofs.Arriving.{same_found}
-use Rattle.theorem_reader.specs.Wear.{jumps_from, jumps_in}
+use Rattle.theorem_reader.specs.Wear.{jumps_from, jumps_in, IsSpared}
 use Rattle.theorem_reader.proofs.Linking.{not_stopped}
 
 -- Jumps among words. --------------------------------------------------------------------------------------
@@ -76,14 +76,10 @@ jump_other words a w is other = ap jump_of is ∙ not_jump w other
 
 -- One flash after another. --------------------------------------------------------------------------------
 
--- each page was erased at most once for each jump that it has more
-abbrev pub Spares : Memory → Memory → Type 0
-Spares old new = (page : ℕ) → page < 512 → slice_index new.erases page + jumps_in old.words page ≤ slice_index old.erases page + jumps_in new.words page
-
-pub spares_self : (m : Memory) → Spares m m
+pub spares_self : (m : Memory) → IsSpared m m
 spares_self m page below = omega arith
 
-pub spares_on : (old mid new : Memory) → Spares old mid → Spares mid new → Spares old new
+pub spares_on : (old mid new : Memory) → IsSpared old mid → IsSpared mid new → IsSpared old new
 spares_on old mid new first second page below = omega (arith, first page below, second page below)
 
 beside : (page own k : ℕ) → k < 128 → page ≢ own → (128 * page + k < 128 * own) ⊎ (128 * own + 128 ≤ 128 * page + k)
@@ -150,7 +146,7 @@ jump_kept old new s place k is below =
       ]
     ]
 
-resolved_spares : (old new : Memory) (s place : ℕ) → StubResolved old new s place → Spares old new
+resolved_spares : (old new : Memory) (s place : ℕ) → StubResolved old new s place → IsSpared old new
 resolved_spares old new s place is page below =
     let own = s / 128 in
     let words = page_of (with_two_words old.words s jump_word place) own in
@@ -189,7 +185,7 @@ programmed_is m m' again page words performed =
 
 -- what an arrival leaves before its stub is resolved
 record Landed (old new : Memory) : Type 0 where
-  spares : Spares old new
+  spares : IsSpared old new
   whole : length new.words ≡ 65536
   kept : (a : ℕ) → word_at old.words a ≢ 0xFFFF → word_at new.words a ≡ word_at old.words a
 
@@ -242,7 +238,7 @@ arrives_lands layout old new t moved true right code made fits (Arrives.Full ins
 -- An arrival. ---------------------------------------------------------------------------------------------
 
 pub arrival_spares : (layout : Layout) (old new : Store) (t : ℕ) (stub : Option ℕ) (arrival : Arrival) → IsRight layout → IsFaithful layout (image_of layout old.flash.words) old.flash.words → CameThrough layout old.flash.words stub t
-    → arrival.refused ≡ None → used_pages layout old.flash.words + (if arrival.made then 1 else 0) ≤ layout.pool_pages → ArrivesFrom layout old new t stub arrival → Spares old.flash new.flash
+    → arrival.refused ≡ None → used_pages layout old.flash.words + (if arrival.made then 1 else 0) ≤ layout.pool_pages → ArrivesFrom layout old new t stub arrival → IsSpared old.flash new.flash
 arrival_spares layout old new t stub arrival right code came unrefused fits (ArrivesFrom.Stopped refused arrives is) = absurd (let e : Some refused ≡ None = sym (ap (λ (a : Arrival). a.refused) is) ∙ unrefused in cc)
 arrival_spares layout old new t stub arrival right code came unrefused fits (ArrivesFrom.Went moved arrives nothing is) =
     (arrives_lands layout old new t moved moved.made right code refl (subst (λ (a : Arrival). used_pages layout old.flash.words + (if a.made then 1 else 0) ≤ layout.pool_pages) is fits) arrives).spares

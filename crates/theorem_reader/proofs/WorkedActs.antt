@@ -1,6 +1,6 @@
 -- No service and no step of the program without a step of rewritten code: so a body that interprets the original program, and
 -- tells none of these, or services alone, is refused.
-use Rattle.std.proofs.Common.{◌≡◌, ℕ, zero, suc, ◌+◌, ◌≤◌, ◌<◌, Bool, true, false, cond, List, [], ◌∷◌, ◌++◌, ◌∙◌, refl, sym, ap, subst, arith, inl, inr}
+use Rattle.std.proofs.Common.{◌≡◌, ℕ, zero, suc, ◌≤◌, ◌<◌, Bool, true, false, cond, List, [], ◌∷◌, ◌∙◌, refl, sym, ap, subst, arith, inl, inr}
 use Rattle.std.proofs.lemmas.Bool.{and_parts}
 use Rattle.mote_core.specs.declared.mote.Mote.{Mote}
 use Rattle.flat_machine.specs.FlatMachine.{Program, Run, Moment, End as FlatEnd, Spent, Wild, whole_part, is_inside, at_front, ended, run}
@@ -12,12 +12,13 @@ use Rattle.theorem_reader.specs.Restarts.{IsStart, used_in}
 use Rattle.theorem_reader.specs.Runs.{Asked, StandsFrom, original_of}
 use Rattle.theorem_reader.specs.ByCode.{IsDoneByCode, IsDoneByCodeAgain}
 use Rattle.theorem_reader.proofs.Pooling.{place_low}
+use Rattle.theorem_reader.proofs.Bounding.{steps_behind}
 
 low_behind : (image : List ℕ) (refused : Bool) (target made : ℕ) (before after : Mote) → Arrives image refused target made before after → before.cpu.pc < 0xF000 → after.cpu.pc < 0xF000
 low_behind image refused target made before after (In going inside faithful place others linked next unlisted) low = (place_low image after.flash.words target after.cpu.pc place).1
 low_behind image refused target made before after (Outside over outside unmade flash pc) low = omega (arith, pc, low)
-low_behind image refused target made before after (Refused over inside later listed faithful again other others (inl pc) next) low = omega (arith, pc, low)
-low_behind image refused target made before after (Refused over inside later listed faithful again other others (inr pool) next) low = pool.1
+low_behind image refused target made before after (Refused over inside later listed faithful lost others (inl pc) next) low = omega (arith, pc, low)
+low_behind image refused target made before after (Refused over inside later listed faithful lost others (inr pool) next) low = pool.1
 
 pub no_service_alone : (image : List ℕ) (quantum : ℕ) (first : Mote) (acts : List Act) (last : Mote) → Follow image quantum first acts last → first.cpu.pc < 0xF000 → steps_in acts ≡ 0 → services_in acts ≡ 0
 no_service_alone image quantum first [] last follow low none = refl
@@ -28,18 +29,11 @@ no_service_alone image quantum first (Arrival refused target made ops before aft
 no_service_alone image quantum first (Interrupt stops before after ∷ acts) last follow low none =
     no_service_alone image quantum after acts last follow.2 (omega (arith, low, ap (λ (c : Cpu). c.pc) follow.1.core, ap (λ (m : Mote). m.cpu.pc) follow.0)) none
 
-steps_behind : (acts more : List Act) → steps_in (acts ++ more) ≡ steps_in acts + steps_in more
-steps_behind [] more = omega arith
-steps_behind (Step line before after ∷ acts) more = omega (arith, steps_behind acts more)
-steps_behind (Service line stops before after ∷ acts) more = steps_behind acts more
-steps_behind (Arrival refused target made ops before after ∷ acts) more = steps_behind acts more
-steps_behind (Interrupt stops before after ∷ acts) more = steps_behind acts more
-
 -- a step of the program at which no interrupt is due
-steps_of_own : (image : List ℕ) (s : Moment) (before : Mote) (acts : List Act) → s.due ≡ false → AreOfStep image s before acts → 1 ≤ steps_in acts
+pub steps_of_own : (image : List ℕ) (s : Moment) (before : Mote) (acts : List Act) → s.due ≡ false → AreOfStep image s before acts → 1 ≤ steps_in acts
 steps_of_own image s before acts undue (Interrupted asked stops after same taken) = absurd (let e : true ≡ false = sym (and_parts _ _ taken).0 ∙ undue in cc)
-steps_of_own image s before acts undue (There place own) = own.some
-steps_of_own image s before acts undue (Arriving asked made ops there rest same own) = subst (λ (l : List Act). 1 ≤ steps_in l) (sym same) own.some
+steps_of_own image s before acts undue (There untaken place own) = own.some
+steps_of_own image s before acts undue (Arriving asked untaken made ops there rest same own) = subst (λ (l : List Act). 1 ≤ steps_in l) (sym same) own.some
 
 -- the first one is such a step
 steps_of_first : (image : List ℕ) (quantum : ℕ) (at : ℕ → Moment) (first : Mote) (k : ℕ) (acts : List Act) (last : Mote) → (at 0).due ≡ false → GoByStep image quantum at first (suc k) acts last → 1 ≤ steps_in acts

@@ -1,4 +1,4 @@
--- What `check` answers about a flash, page by page.
+-- What `check` answers about a flash.
 use Rattle.std.specs.Prelude.{◌≡◌, ℕ, zero, suc, ◌+◌, ◌-◌, ◌*◌, ◌/◌, ◌<◌, ◌≤◌, ◌==◌, if◌then◌else◌, List, ◌++◌, codes, decimal, drop, length, slice_index, Option, None}
 use Rattle.hex_image.specs.HexText.{HexText}
 use Rattle.flash_dump.specs.Dumps.{IsDump}
@@ -9,7 +9,7 @@ use Rattle.theorem_reader.specs.Pools.{pool_from, is_formed, is_linked, IsInPool
 use Rattle.theorem_reader.specs.Telling.{Sink, IsTold}
 use Rattle.theorem_reader.specs.Texts.{no_memory}
 
--- The word is `check`; the text is a HEX text of the image, and behind it a dump of these 65,536 words of flash.
+-- The word is `check`; the text is a HEX text of the image, and behind it a dump of these 65,536 words of flash, and isn't too long.
 pub record AsksCheck (words : List (List ℕ)) (text image flash : List ℕ) : Type 0 where
   pub command : IsCommand words Check
   pub position : ℕ

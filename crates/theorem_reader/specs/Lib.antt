@@ -16,5 +16,7 @@ pub mod Dumps
 pub mod Restarts
 pub mod Stints
 pub mod Tasks
+pub mod Waiting
 pub mod Examples
 pub mod Refusals
+pub mod Calls

@@ -1,4 +1,5 @@
--- Where the mote keeps the 65,536 bytes that the program sees. Each page of 256 bytes has a number, its address / 256.
+-- Where the mote keeps the program's data memory of 65,536 bytes. In place of registers and devices, which are told apart, it
+-- has 0. Each page of 256 bytes has a number, its address / 256.
 use Rattle.std.specs.Prelude.{◌≡◌, ◌≢◌, ℕ, ◌+◌, ◌-◌, ◌*◌, ◌/◌, ◌%◌, ◌<◌, ◌≤◌, List, [], length, slice_index, slice_index_or}
 use Rattle.flat_machine.specs.FlatMachine.{FlatState}
 use Rattle.mote_core.specs.declared.mote.Mote.{Mote}
@@ -22,7 +23,8 @@ pub data IsHeap (a : ℕ) : Type 0 where
   Below : 0x0100 ≤ a → a ≤ 0x0CFF → IsHeap a
   Above : 0x1100 ≤ a → a ≤ 0xFFFF → IsHeap a
 
--- The stack window is SRAM's own; a page of the heap is in the frame that holds it, else in its slot, else all 0.
+-- The stack window is SRAM's own; a page of the heap is in the frame that holds it, else in its slot, and one without a slot is
+-- all 0. Below 0x0100 all is 0.
 pub record HasMemory (m : Mote) (memory : List ℕ) : Type 0 where
   pub size : length memory ≡ 65536
   pub registers : (a : ℕ) → a < 0x0100 → slice_index memory a ≡ 0
@@ -32,7 +34,7 @@ pub record HasMemory (m : Mote) (memory : List ℕ) : Type 0 where
       → slice_index memory a ≡ slice_index (slice_index_or m.swap (slot_of m (a / 256)) []) (a % 256)
   pub untouched : (a : ℕ) → IsHeap a → slot_of m (a / 256) ≡ 0xFF → slice_index memory a ≡ 0
 
--- the program stands on its mote where its own machine does, but for its address
+-- the program stands on its mote where its own machine does, but for its address, and the numbers of its steps and crossings
 pub record HasState (s : FlatState) (m : Mote) : Type 0 where
   pub registers : m.cpu.r ≡ s.cpu.r
   pub status : m.cpu.sreg ≡ s.cpu.sreg

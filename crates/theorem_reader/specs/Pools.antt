@@ -22,8 +22,8 @@ pub record IsInPool (image : List ℕ) (page : ℕ) : Type 0 where
   pub low : pool_from image ≤ 128 * page
   pub high : page ≤ 479
 
--- every page has its form, and every page of the pool its links: so flash holds the image, erased words from there to the
--- pool, and RET from 0xF000 on
+-- every page has its form, and every page of the pool its links; flash holds the image, erased words from there to the pool, and
+-- RET from 0xF000 on
 pub record AreFaithful (image flash : List ℕ) : Type 0 where
   pub forms : (page : ℕ) → page < 512 → is_formed image flash page
   pub links : (page : ℕ) → IsInPool image page → is_linked image flash page
@@ -45,8 +45,9 @@ pub data AreFaithfulBut (image flash : List ℕ) : Type 0 where
   Lacking : (page : ℕ) → (words : List ℕ) → IsInPool image page → IsErased flash page → length words ≡ 128
       → AreFaithful image (with_page flash page words) → AreFaithfulBut image flash
 
--- A page that isn't erased has an entry of the address t. The numbers of its entries stand from its third word on: the upper
--- byte is the place of the address in its page of 128 words, whose number is the first word; how many there are, the second.
+-- A page whose first word is below 192, as that of an erased one isn't, has an entry of the address t. The numbers of its
+-- entries stand from its third word on: the upper byte is the place of the address in its page of 128 words, whose number is
+-- the first word; how many there are, the second.
 pub record HasAddress (flash : List ℕ) (page t : ℕ) : Type 0 where
   pub index : ℕ
   pub used : slice_index flash (128 * page) < 192
@@ -67,11 +68,11 @@ pub record IsPlaceOf (image flash : List ℕ) (t v : ℕ) : Type 0 where
 abbrev pub IsExit : (flash : List ℕ) → (s : ℕ) → Type 0
 IsExit flash s = ((slice_index flash s ≡ 0x940E) × (slice_index flash (s + 1) ≡ 0xF000)) ⊎ (slice_index flash s ≡ 0x940C)
 
--- A word stays; or it is one of an exit stub's two, before and after.
+-- A word stays; or it is one of two as an exit stub begins, before and after.
 pub data KeepsWord (before after : List ℕ) (a : ℕ) : Type 0 where
   Kept : slice_index after a ≡ slice_index before a → KeepsWord before after a
   Exits : (s : ℕ) → (a ≡ s) ⊎ (a ≡ s + 1) → IsExit before s → IsExit after s → KeepsWord before after a
 
--- .. for each word of a page: of its code nothing changes but which exit stubs call the kernel, and where the others jump
+-- .. for each word of a page: of its code nothing changes but which of such pairs call the kernel, and where the others jump
 abbrev pub KeepsCode : (before after : List ℕ) → (page : ℕ) → Type 0
 KeepsCode before after page = (k : ℕ) → k < 128 → KeepsWord before after (128 * page + k)

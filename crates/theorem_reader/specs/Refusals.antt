@@ -52,8 +52,8 @@ pub data IsUsage (words : List (List ℕ)) (own : ℕ) : Type 0 where
   Unknown : IsNoCommand words → own ≡ 4 → IsUsage words own
 
 -- Words, or words and a text, that are answered with this status and this line: the usage; a text that is too long; the first
--- faulty line of the HEX text, of the script or the dump behind it, or of a source; and the first word of the image that no
--- program of `tasks` has.
+-- faulty line of the HEX text, of the script or the dump behind it, or of a source; and the first word of the image that stands
+-- where no program of `tasks` may have one.
 pub data IsRefused (words : List (List ℕ)) (text : List ℕ) (own : ℕ) (line : List ℕ) : Type 0 where
   Usage : IsUsage words own → line ≡ usage_line → IsRefused words text own line
   TooLong : ReadsText words → 2097152 < length text → own ≡ 3 → line ≡ codes "input too long\n" → IsRefused words text own line
@@ -75,13 +75,13 @@ pub data IsSaid (sink : Sink) (own : ℕ) (whole : List ℕ) (status : ℕ) (tak
   NoMemory : IsTold sink 8 no_memory status taken → kept ≡ None → tasks ≡ None → IsSaid sink own whole status taken kept tasks
   Said : IsTold sink own whole status taken → kept ≡ None → tasks ≡ None → IsSaid sink own whole status taken kept tasks
 
--- the words are `asm`, and the text is a source without a fault, of this image
+-- the words are `asm`, and the text is a source without a fault, of this image, and isn't too long
 pub record AsksAsm (words : List (List ℕ)) (text image : List ℕ) : Type 0 where
   pub command : IsCommand words Asm
   pub short : length text ≤ 2097152
   pub faultless : fault_of text ≡ None
   pub source : AsmText text image
 
--- the HEX text of the image is told: records of 16 bytes, and the end record (`hex_image/Written`)
+-- memory was wanted, or the HEX text of the image is told: records of up to 16 bytes, and the end record (`hex_image/Written`)
 abbrev pub IsAssembled : Sink → (image : List ℕ) → (status : ℕ) (taken : List ℕ) → Option Machine → Option KeptTasks → Type 0
 IsAssembled sink image status taken kept tasks = IsSaid sink 0 (written image) status taken kept tasks

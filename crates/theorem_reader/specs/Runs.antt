@@ -1,10 +1,12 @@
 -- What a run leaves.
-use Rattle.std.specs.Prelude.{◌≡◌, ℕ, ◌+◌, ◌*◌, ◌/◌, ◌<◌, ◌≤◌, List, [], ◌∷◌, ◌++◌, codes, decimal, flat_map, length, drop, Bool, true, false, ◌==◌, Option, Some, None}
-use Rattle.std.specs.List.{list_any}
+use Rattle.std.specs.Prelude.{◌≡◌, ◌≢◌, ℕ, ◌+◌, ◌*◌, ◌/◌, ◌<◌, ◌≤◌, List, [], ◌∷◌, ◌++◌, codes, decimal, flat_map, length, drop, true, false, Option, Some, None}
 use Rattle.input_script.specs.declared.input.Event.{Event}
 use Rattle.input_script.specs.declared.input.Input.TheVariants.{Uart}
+use Rattle.flash_words.specs.Layouts.{layout_of}
+use Rattle.flash_words.specs.Operations.{is_listed}
 use Rattle.flat_machine.specs.FlatMachine.{Spent, Run, whole_part, original}
 use Rattle.mote_core.specs.declared.mote.Mote.{Mote}
+use Rattle.kernel_entry.specs.declared.kernel.End.{End as MachineEnd}
 use Rattle.kernel_entry.specs.declared.kernel.End.TheVariants as ends
 use Rattle.program_generator.specs.Generated.{generated}
 use Rattle.program_steps.specs.Machines.{Machine}
@@ -18,7 +20,7 @@ use Rattle.theorem_reader.specs.Acts.{HasActs, IsBoot}
 use Rattle.theorem_reader.specs.Pools.{AreFaithful, AreFaithfulBut}
 use Rattle.theorem_reader.specs.Steps.{IsByStep}
 use Rattle.theorem_reader.specs.Memory.{HasState}
-use Rattle.theorem_reader.specs.Ends.{IsKeptEnd}
+use Rattle.theorem_reader.specs.Ends.{end_of, IsKeptEnd}
 use Rattle.theorem_reader.specs.Wear.{pool_size, IsSpared}
 use Rattle.theorem_reader.specs.Telling.{Sink, Fails, IsTold}
 use Rattle.theorem_reader.specs.Texts.{device_line, end_words, stop_line, count_line, end_status, no_memory}
@@ -45,17 +47,19 @@ abbrev pub text_of : Run → (how : List ℕ) → (quantum : ℕ) → Machine �
 text_of r how quantum m =
     flat_map device_line r.lines ++ stop_line how r.state.now.steps (r.state.now.crossings / quantum) ++ count_line m
 
--- The machine stands where the original program stands: registers, SREG, stack pointer, pc, the 65,536 bytes, devices,
--- the counts of steps and crossings, and whether an interrupt is due. Its image is as long, its slots are as many, and its
--- quantum is the one that were asked for. It came there by acts, step by step, from a mote of which this is so, where so many
--- pages were made before; each step made one page at most, and so did the arrival behind the last.
+-- The machine stands where the original program stands: registers, SREG, stack pointer, pc, the 65,536 bytes, devices, the
+-- counts of steps and crossings, and whether an interrupt is due. Its flash is laid out for an image of this length, its slots
+-- are as many, and its quantum is the one that were asked for. It did at most as many steps as are allowed, and came there by
+-- acts, step by step, from a mote of which this is so, where so many pages were made before; each step made one page at most,
+-- and so did the arrival behind the last. Nor did it try more than 1,000 operations on flash for each step and one more, or
+-- make more than 40 instructions of rewritten code and two services.
 pub record StandsFrom (IsFirst : Mote → Type 0) (began : ℕ) (asked : Asked) (r : Run) (m : Machine) : Type 0 where
   pub state : HasState r.state.now m.kernel.mote
   pub pc : m.at ≡ r.state.now.cpu.pc
   pub steps : m.steps ≡ r.state.now.steps
   pub crossings : m.crossings ≡ r.state.now.crossings
   pub due : m.due ≡ r.state.due
-  pub words : m.kernel.layout.image_words ≡ length asked.image
+  pub layout : m.kernel.layout ≡ layout_of (length asked.image)
   pub slots : length m.kernel.mote.swap ≡ asked.slots
   pub quantum : m.kernel.quantum ≡ asked.quantum
   pub most_steps : m.steps ≤ asked.steps
@@ -70,44 +74,49 @@ pub record StandsFrom (IsFirst : Mote → Type 0) (began : ℕ) (asked : Asked) 
 abbrev pub Stands : Asked → Run → Machine → Type 0
 Stands asked r m = StandsFrom (IsBoot asked.image asked.failing asked.events asked.quantum asked.slots) 0 asked r m
 
--- the operation of this number is to fail
-abbrev pub is_to_fail : Asked → ℕ → Bool
-is_to_fail asked op = list_any (λ n. n == op) asked.failing
-
 -- The run came to the original's end, which the machine keeps, or through all its steps. It isn't broken; no operation that was
 -- tried is to fail; flash is faithful. Where the pool held all pages that were made, each page was erased at most once for each
--- word 0x940C in it, as begins a JMP, however many steps there were.
+-- word 0x940C, as begins a JMP, that it has more than at boot, however many steps there were.
 pub record EndsWell (asked : Asked) (m : Machine) : Type 0 where
   pub stands : Stands asked (original_of asked asked.steps) m
   pub end : IsKeptEnd (original_of asked asked.steps).end m.end
   pub unbroken : m.broken ≡ false
-  pub none_failed : (op : ℕ) → 1 ≤ op → op ≤ m.kernel.mote.flash.ops → is_to_fail asked op ≡ false
-  pub wear : m.pages ≤ pool_size asked.image → IsSpared m.kernel.mote.flash
+  pub none_failed : (op : ℕ) → 1 ≤ op → op ≤ m.kernel.mote.flash.ops → is_listed asked.failing op ≡ false
+  pub wear : m.pages ≤ pool_size asked.image → IsSpared stands.acts.first.flash m.kernel.mote.flash
   pub faithful : AreFaithful asked.image m.kernel.mote.flash.words
 
 -- With steps left an operation on flash was refused: the first that was tried and is to fail. None was tried behind it. Flash is
--- faithful but for words that an erased page of the pool lacks.
+-- faithful, but that an erased page of the pool may lack its words.
 pub record EndsInAFault (asked : Asked) (op : ℕ) (m : Machine) : Type 0 where
   pub stands : Stands asked (original_of asked m.steps) m
   pub fewer : m.steps < asked.steps
   pub going : (original_of asked m.steps).end ≡ Spent
   pub last : m.kernel.mote.flash.ops ≡ op
-  pub listed : is_to_fail asked op ≡ true
-  pub first : (earlier : ℕ) → 1 ≤ earlier → earlier < op → is_to_fail asked earlier ≡ false
+  pub listed : is_listed asked.failing op ≡ true
+  pub first : (earlier : ℕ) → 1 ≤ earlier → earlier < op → is_listed asked.failing earlier ≡ false
   pub end : m.end ≡ Some (ends.Flash op)
   pub unbroken : m.broken ≡ false
   pub faithful : AreFaithfulBut asked.image m.kernel.mote.flash.words
 
+-- A machine whose device lines could not be put is broken, and came from this first mote. An end that it keeps is the original
+-- program's, but where flash refused an operation. Flash is faithful, but that a page may lack its words; where none was refused
+-- it lacks none, and was spared as in a run to the end.
+pub record IsCutOff (asked : Asked) (first : Mote) (m : Machine) : Type 0 where
+  pub broken : m.broken ≡ true
+  pub over : (end : MachineEnd) → m.end ≡ Some end → ((op : ℕ) → end ≢ ends.Flash op) → end_of end ≡ (original_of asked asked.steps).end
+  pub lacking : AreFaithfulBut asked.image m.kernel.mote.flash.words
+  pub faithful : ((op : ℕ) → m.end ≢ Some (ends.Flash op)) → AreFaithful asked.image m.kernel.mote.flash.words
+  pub wear : ((op : ℕ) → m.end ≢ Some (ends.Flash op)) → m.pages ≤ pool_size asked.image → IsSpared first.flash m.kernel.mote.flash
+
 -- The sink failed before the last lines: of the device lines of the steps that were done it took a part, and the machine
--- stands where the original program stands after them. It is broken.
+-- stands where the original program stands after them.
 pub record IsCutShort (asked : Asked) (status : ℕ) (taken : List ℕ) (m : Machine) : Type 0 where
   pub told : IsTold Fails 6 (flat_map device_line (original_of asked m.steps).lines) status taken
   pub stands : Stands asked (original_of asked m.steps) m
-  pub broken : m.broken ≡ true
-  pub faithful : AreFaithfulBut asked.image m.kernel.mote.flash.words
+  pub left : IsCutOff asked stands.acts.first m
 
 -- The text is the original program's: its device lines, its stop line, and the machine's own counts; and the status is
--- its end's. The device lines went out whole.
+-- its end's, where the sink serves. The device lines went out whole.
 pub record ToTheEnd (sink : Sink) (asked : Asked) (status : ℕ) (taken : List ℕ) (m : Machine) : Type 0 where
   pub told : IsTold sink (end_status (original_of asked asked.steps).end) (text_of (original_of asked asked.steps) (end_words (original_of asked asked.steps).end) asked.quantum m) status taken
   pub past : length (flat_map device_line (original_of asked asked.steps).lines) ≤ length taken
@@ -120,15 +129,16 @@ pub record IntoAFault (sink : Sink) (asked : Asked) (status : ℕ) (taken : List
   pub past : length (flat_map device_line (original_of asked m.steps).lines) ≤ length taken
   pub run : EndsInAFault asked op m
 
--- memory was wanted, which is all that is told, and no machine is kept; or the program was run to the original's end, or
--- into a fault of flash; or up to where the sink failed
+-- memory was wanted, which is all that is told, and no machine is kept; or the program was run to the original's end or through
+-- all its steps, or into a fault of flash; or up to a step by which the sink had failed
 pub data IsRun (sink : Sink) (asked : Asked) (status : ℕ) (taken : List ℕ) (kept : Option Machine) : Type 0 where
   NoMemory : IsTold sink 8 no_memory status taken → kept ≡ None → IsRun sink asked status taken kept
   Ended : (m : Machine) → kept ≡ Some m → ToTheEnd sink asked status taken m → IsRun sink asked status taken kept
   Failed : (m : Machine) → kept ≡ Some m → IntoAFault sink asked status taken m → IsRun sink asked status taken kept
   Cut : (m : Machine) → kept ≡ Some m → sink ≡ Fails → IsCutShort asked status taken m → IsRun sink asked status taken kept
 
--- a HEX text of the image, and behind it a script of these inputs and operations that are to fail
+-- a text of at most 2,097,152 bytes: a HEX text of the image, and behind it a script of these inputs and operations that are to
+-- fail
 pub record IsTextOf (text : List ℕ) (asked : Asked) : Type 0 where
   pub position : ℕ
   pub hex : HexText text asked.image position

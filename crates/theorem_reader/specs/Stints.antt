@@ -1,7 +1,8 @@
 -- What several programs did on one mote: stint after stint, each a try of one program, told by the motes before and after it.
-use Rattle.std.specs.Prelude.{◌≡◌, ℕ, ◌+◌, ◌-◌, ◌≤◌, ◌==◌, if◌then◌else◌, Bool, true, false, List, [], ◌∷◌, length, slice_get, slice_index, slice_set, sum_by, Some, None}
+use Rattle.std.specs.Prelude.{◌≡◌, ℕ, ◌+◌, ◌-◌, ◌*◌, ◌≤◌, ◌==◌, if◌then◌else◌, Bool, true, false, List, [], ◌∷◌, ◌++◌, length, slice_get, slice_index, slice_set, sum_by, Some, None}
 use Rattle.std.specs.Option.{option_map}
 use Rattle.flat_machine.specs.FlatMachine.{Moment, End, Spent, Wild, Read}
+use Rattle.flash_words.specs.Layouts.{layout_of}
 use Rattle.mote_core.specs.declared.mote.Mote.{Mote}
 use Rattle.parked_tasks.specs.declared.parked.Parked.{Parked}
 use Rattle.parked_tasks.specs.declared.task.Task.{Task}
@@ -13,7 +14,9 @@ use Rattle.task_turns.specs.Turns.{Player, Turns, Played, Over, Gone, played, on
 use Rattle.theorem_reader.specs.Acts.{Act, Follow, steps_in, services_in, made_in, lines_in, StopsLast}
 use Rattle.theorem_reader.specs.Ends.{end_of_stop}
 use Rattle.theorem_reader.specs.Memory.{sram_byte, HasState}
-use Rattle.theorem_reader.specs.Steps.{AreOfStep, HasCount}
+use Rattle.theorem_reader.specs.Pools.{AreFaithful}
+use Rattle.theorem_reader.specs.Steps.{AreOfStep, IsBetween}
+use Rattle.theorem_reader.specs.Wear.{pool_size, IsSpared}
 
 -- the number of a program, and its acts in one try
 pub record Stint : Type 0 where
@@ -41,12 +44,13 @@ AreOfTry image s before acts (Gone line checkpoint next) = AreOfStep image s bef
 
 -- The motes, one for each program as it was left, go by the stints to the last ones. The mote was left as this one. Each stint is
 -- a try of the programs in turn, which stand at `turns` (`task_turns/Turns`): of the one that is stepped then, and before it the
--- mote stands where this program does. They lead to the turns `to`, and leave the mote `end`.
+-- mote stands where this program does, between two steps. Its acts write the lines that the try tells. They lead to the turns
+-- `to`, and leave the mote `end`.
 abbrev pub TakeTurns : (image : List ℕ) (quantum : ℕ) → Turns → (left : Mote) → List Mote → List Stint → (to : Turns) → (end : Mote) → (last : List Mote) → Type 0
 TakeTurns image quantum turns left motes [] to end last = (turns ≡ to) × (left ≡ end) × (motes ≡ last)
 TakeTurns image quantum turns left motes (stint ∷ stints) to end last =
     (p : Player) × (own before after : Mote) × (slice_get turns.players turns.running ≡ Some p) × (p.end ≡ None) × (stint.task ≡ turns.running) × (slice_get motes stint.task ≡ Some own) × ComesBack left own before
-    × HasState p.moment.now before × HasCount quantum p.moment.now before × AreOfTry image p.moment before stint.acts (played p) × (lines_in stint.acts ≡ lines_told (once turns p).told) × Follow image quantum before stint.acts after × TakeTurns image quantum (once turns p).turns after (slice_set motes stint.task after) stints to end last
+    × HasState p.moment.now before × IsBetween quantum p.moment before × AreOfTry image p.moment before stint.acts (played p) × (lines_in stint.acts ≡ lines_told (once turns p).told) × Follow image quantum before stint.acts after × TakeTurns image quantum (once turns p).turns after (slice_set motes stint.task after) stints to end last
 
 -- What is parked of a program while it hasn't the mote is as its last stint left it.
 pub record IsParked (own : Mote) (parked : Parked) : Type 0 where
@@ -68,14 +72,42 @@ task_end (task_ends.Wild pc) = Wild pc
 task_end (task_ends.Read pc a) = Read pc a
 task_end (task_ends.Stopped stop) = end_of_stop stop
 
--- how often another program's stint is next, where this program is the first
-abbrev pub changes_from : ℕ → List Stint → ℕ
-changes_from task [] = 0
-changes_from task (stint ∷ stints) = (if stint.task == task then 0 else 1) + changes_from stint.task stints
+-- how often another program is next: from this first one, stint after stint, to that last one
+abbrev pub changes_from : (task : ℕ) → List Stint → (last : ℕ) → ℕ
+changes_from task [] last = if last == task then 0 else 1
+changes_from task (stint ∷ stints) last = (if stint.task == task then 0 else 1) + changes_from stint.task stints last
+
+-- the acts of one program, one behind the other
+abbrev pub acts_of_task : (task : ℕ) → List Stint → List Act
+acts_of_task task [] = []
+acts_of_task task (stint ∷ stints) = (if stint.task == task then stint.acts else []) ++ acts_of_task task stints
+
+-- What is left of a program, whose player is this one at the last turns. Its own mote stands where the player does, and has as
+-- many slots as the program. Its task, which is kept, has its part of the mote, and the player's address, counts and end; its own
+-- numbers of instructions of rewritten code and of services are those of the program's acts.
+pub record IsLeft (left : Mote) (last : List Mote) (stints : List Stint) (t : Tasks) (task : ℕ) (p : Player) : Type 0 where
+  pub own : Mote
+  pub its : Task
+  pub own_is : slice_get last task ≡ Some own
+  pub its_is : slice_get t.tasks task ≡ Some its
+  pub state : HasState p.moment.now own
+  pub slots : length own.swap ≡ p.program.page_limit
+  pub part : HasPart left own t.kernel.mote (task == t.running) its
+  pub end : option_map task_end its.end ≡ p.end
+  pub due : its.due ≡ p.moment.due
+  pub pc : its.at ≡ p.moment.now.cpu.pc
+  pub steps : its.steps ≡ p.moment.now.steps
+  pub crossings : its.crossings ≡ p.moment.now.crossings
+  pub natural : its.natural ≡ steps_in (acts_of_task task stints)
+  pub entries : its.entries ≡ services_in (acts_of_task task stints)
 
 -- Stints lead all programs from where they stand at these turns, the first on a mote of which this is so and each on one of its
--- own, to where they stand at the last turns. The tasks that are kept have these numbers of steps, services and pages made; and
--- each its part of the mote, with its program's address, counts and end.
+-- own, to where they stand at the last turns. The tasks that are kept are as many, on a mote with the layout of the image and
+-- with this quantum, and as often changed; and have these numbers of changes, and of instructions of rewritten code, services
+-- and pages made. Of one program's acts no more than 5,120 such instructions for each crossing of the quantum stand in a row
+-- without a service. One page at most was made for each step that the programs made, and one more for each program; and at most
+-- 1,000 operations on flash were tried for each of these. Where the pool held all pages that were made, each page was erased at
+-- most once for each word 0x940C, as begins a JMP, that it has more than at first. Flash is faithful.
 pub record HaveStints (IsFirst : Mote → Type 0) (IsOwn : ℕ → Mote → Type 0) (image : List ℕ) (quantum : ℕ) (from to : Turns) (t : Tasks) : Type 0 where
   pub stints : List Stint
   pub first : Mote
@@ -87,10 +119,18 @@ pub record HaveStints (IsFirst : Mote → Type 0) (IsOwn : ℕ → Mote → Type
   pub last : List Mote
   pub left : Mote
   pub turns : TakeTurns image quantum from first motes stints to left last
-  pub ends : (task : ℕ) (p : Player) → slice_get to.players task ≡ Some p → (own : Mote) × (its : Task) × (slice_get last task ≡ Some own) × HasState p.moment.now own × (slice_get t.tasks task ≡ Some its)
-      × HasPart left own t.kernel.mote (task == t.running) its × (option_map task_end its.end ≡ p.end) × (its.due ≡ p.moment.due) × (its.at ≡ p.moment.now.cpu.pc) × (its.steps ≡ p.moment.now.steps) × (its.crossings ≡ p.moment.now.crossings)
+  pub ends : (task : ℕ) (p : Player) → slice_get to.players task ≡ Some p → IsLeft left last stints t task p
   pub runs : t.running ≡ to.running
   pub many : length t.tasks ≡ length to.players
+  pub layout : t.kernel.layout ≡ layout_of (length image)
+  pub quantum_is : t.kernel.quantum ≡ quantum
+  pub switched : t.switches ≡ to.switches
+  pub switches : t.switches ≡ changes_from from.running stints to.running
   pub natural_is : t.natural ≡ sum_by (λ (stint : Stint). steps_in stint.acts) stints
   pub entries_is : t.entries ≡ sum_by (λ (stint : Stint). services_in stint.acts) stints
   pub pages_is : t.pages ≡ sum_by (λ (stint : Stint). made_in stint.acts) stints
+  pub few : (task : ℕ) → (front between back : List Act) → acts_of_task task stints ≡ front ++ (between ++ back) → services_in between ≡ 0 → steps_in between ≤ 5120 * quantum
+  pub most_pages : t.pages ≤ sum_by (λ (task : Task). task.steps) t.tasks + length t.tasks
+  pub most_operations : t.kernel.mote.flash.ops ≤ 1000 * (sum_by (λ (task : Task). task.steps) t.tasks + length t.tasks)
+  pub wear : t.pages ≤ pool_size image → IsSpared first.flash t.kernel.mote.flash
+  pub faithful : AreFaithful image t.kernel.mote.flash.words

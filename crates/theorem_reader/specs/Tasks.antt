@@ -1,5 +1,5 @@
 -- What a run of several programs leaves, which take turns on one mote: each prints and ends as if it were alone.
-use Rattle.std.specs.Prelude.{◌≡◌, ℕ, ◌+◌, ◌*◌, ◌/◌, ◌<◌, ◌≤◌, max, List, [], ◌∷◌, ◌++◌, codes, decimal, flat_map, map, length, drop, slice_get, slice_index_or, true, false, ◌==◌, if◌then◌else◌, All, sum_by, Option, Some, None}
+use Rattle.std.specs.Prelude.{◌≡◌, ℕ, ◌+◌, ◌*◌, ◌/◌, ◌<◌, ◌≤◌, max, List, [], ◌∷◌, ◌++◌, codes, decimal, flat_map, map, length, drop, slice_get, slice_index_or, true, false, ◌==◌, if◌then◌else◌, All, Option, Some, None}
 use Rattle.std.specs.List.{range_with_len}
 use Rattle.line_reader.specs.Lines.{lines_of}
 use Rattle.hex_image.specs.HexText.{HexText}
@@ -7,7 +7,6 @@ use Rattle.input_script.specs.declared.input.Event.{Event}
 use Rattle.input_script.specs.Script.{Schedule}
 use Rattle.flat_machine.specs.FlatMachine.{Run, original}
 use Rattle.program_steps.specs.Machines.{Machine}
-use Rattle.parked_tasks.specs.declared.task.Task.{Task}
 use Rattle.tk_tasks.specs.States.{Tasks}
 use Rattle.task_turns.specs.Turns.{Player, Turns, After, Told, Shown, Wrote, Stops, shown_by, tries, turns}
 use Rattle.task_turns.specs.Reset.{turns_at_reset}
@@ -17,7 +16,7 @@ use Rattle.cli_words.specs.declared.command.Command.TheVariants.{Tasks as TasksC
 use Rattle.cli_words.specs.declared.command.TaskOptions.{TaskOptions}
 use Rattle.cli_words.specs.Commands.{IsCommand}
 use Rattle.theorem_reader.specs.Acts.{IsBoot, IsNew}
-use Rattle.theorem_reader.specs.Stints.{changes_from, HaveStints}
+use Rattle.theorem_reader.specs.Stints.{HaveStints}
 use Rattle.theorem_reader.specs.Telling.{Sink, Fails, IsTold}
 use Rattle.theorem_reader.specs.Texts.{device_line, end_words, stop_line, end_status, no_memory}
 
@@ -117,23 +116,16 @@ worst_status asked = greatest (map (λ task. end_status (alone_of asked task).en
 abbrev pub LeadThere : AskedTasks → Turns → Tasks → Type 0
 LeadThere asked to t = HaveStints (IsBoot (words_of asked) [] (events_of asked 0) asked.quantum asked.slots) (λ task. IsNew (events_of asked task) asked.quantum asked.slots) (words_of asked) asked.quantum (reset_of asked) to t
 
--- the steps and services of all that are kept are sums of the numbers that each keeps
-pub record AreSums (t : Tasks) : Type 0 where
-  pub natural : t.natural ≡ sum_by (λ (task : Task). task.natural) t.tasks
-  pub entries : t.entries ≡ sum_by (λ (task : Task). task.entries) t.tasks
-
--- What is printed is what the programs print in turn, which went out whole, and a last line. The lines of each are just those
--- of its run alone: none can change what another prints, or when and how it ends. The numbers of the last line are those of
--- stints on one mote, which lead each program from where it begins to where its run alone ends.
+-- What is told is what the programs print in turn, which went out whole, and a last line, with the worst of their statuses. The
+-- lines of each are just those of its run alone: none can change what another prints, or when and how it ends. The numbers of
+-- the last line are those of stints on one mote, which lead each program from where it begins to where its run alone ends.
 pub record AreApart (sink : Sink) (asked : AskedTasks) (status : ℕ) (taken : List ℕ) (t : Tasks) : Type 0 where
   pub told : IsTold sink (worst_status asked) (printed_text (printed_of asked) ++ last_line t.natural t.entries t.pages t.switches) status taken
   pub past : length (printed_text (printed_of asked)) ≤ length taken
   pub theirs : All (λ one. one.task < asked.count) (printed_of asked)
   pub each : (task : ℕ) → task < asked.count → lines_of_task task (printed_of asked) ≡ lines_alone asked task
   pub stints : LeadThere asked (in_turn asked).turns t
-  pub switches : t.switches ≡ changes_from 0 stints.stints
   pub alone : (task : ℕ) → task < asked.count → (p : Player) × (slice_get (in_turn asked).turns.players task ≡ Some p) × (p.moment ≡ (alone_of asked task).state) × (p.end ≡ Some (alone_of asked task).end)
-  pub sums : AreSums t
   pub unbroken : t.broken ≡ false
 
 -- The sink failed before the last line: it took a part of what so many tries printed, and of what the programs print in turn; and
@@ -143,11 +135,10 @@ pub record AreCutShort (asked : AskedTasks) (status : ℕ) (taken : List ℕ) (t
   pub told : IsTold Fails 6 (printed_text (printed_in asked count)) status taken
   pub stints : LeadThere asked (tries count (reset_of asked)).turns t
   pub front : IsTold Fails 6 (printed_text (printed_of asked)) status taken
-  pub sums : AreSums t
   pub broken : t.broken ≡ true
 
--- memory was wanted, which is all that is told; or all programs were run, or up to where the sink failed, and they are kept. No
--- machine is kept.
+-- memory was wanted, which is all that is told; or all programs were run, or up to a try by which the sink had failed, and they
+-- are kept. No machine is kept.
 pub data AreRun (sink : Sink) (asked : AskedTasks) (status : ℕ) (taken : List ℕ) (kept : Option Machine) (tasks : Option Tasks) : Type 0 where
   NoMemory : IsTold sink 8 no_memory status taken → kept ≡ None → tasks ≡ None → AreRun sink asked status taken kept tasks
   Ended : (t : Tasks) → AreApart sink asked status taken t → kept ≡ None → tasks ≡ Some t → AreRun sink asked status taken kept tasks
@@ -157,8 +148,8 @@ pub data AreRun (sink : Sink) (asked : AskedTasks) (status : ℕ) (taken : List 
 abbrev pub AsksNoTasks : (words : List (List ℕ)) → Type 0
 AsksNoTasks words = (options : TaskOptions) → ¬ IsCommand words (TasksCommand options)
 
--- The words are those of `tasks` with these options; the text is a HEX text of the image, in which only the programs have
--- words, and behind it a script of theirs.
+-- The words are those of `tasks` with these options; the text is a HEX text of the image, in which no word stands where no program
+-- may have one (`IsMisplaced`), and behind it a script of theirs, and isn't too long.
 pub record AsksTasks (words : List (List ℕ)) (text : List ℕ) (asked : AskedTasks) : Type 0 where
   pub command : IsCommand words (TasksCommand (tasks_options_of asked))
   pub position : ℕ

@@ -48,7 +48,7 @@ end_words (Io pc a) = codes "fault io " ++ address pc ++ codes " address " ++ ad
 end_words (Stack pc a) = codes "fault stack " ++ address pc ++ codes " address " ++ address a
 end_words (SwapFull pc a) = codes "fault swap " ++ address pc ++ codes " address " ++ address a
 
--- the last line but one: how the run ended, and its steps and checkpoints
+-- the line of how a program ended, and its steps and checkpoints: the last but one of a run
 abbrev pub stop_line : (how : List ℕ) (steps checkpoints : ℕ) → List ℕ
 stop_line how steps checkpoints = how ++ codes " steps " ++ decimal steps ++ codes " checkpoints " ++ decimal checkpoints ++ codes "\n"
 

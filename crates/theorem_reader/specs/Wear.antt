@@ -15,6 +15,6 @@ jumps_from words a (suc n) = (if slice_index words (a + n) == 0x940C then 1 else
 abbrev pub jumps_in : List ℕ → (page : ℕ) → ℕ
 jumps_in words page = jumps_from words (128 * page) 128
 
--- Each page was erased at most once for each such word in it.
-abbrev pub IsSpared : Memory → Type 0
-IsSpared flash = (page : ℕ) → page < 512 → slice_index flash.erases page ≤ jumps_in flash.words page
+-- From one flash to the other each page was erased at most once for each such word that it has more.
+abbrev pub IsSpared : (before after : Memory) → Type 0
+IsSpared before after = (page : ℕ) → page < 512 → slice_index after.erases page + jumps_in before.words page ≤ slice_index before.erases page + jumps_in after.words page

@@ -4,6 +4,7 @@ ghost use Rattle.std.specs.Io.{ReadsAtMost};
 ghost use Rattle.std.specs.Io.KnownBytes.{ReadConsumes, WriteAppends};
 ghost use Rattle.byte_streams.specs.Faults.{HasCause};
 ghost use Rattle.printed_text.specs.PlainLines.{usage_line};
+ghost use Rattle.theorem_reader.specs.Calls.{AreCovered};
 ghost use Rattle.theorem_reader.specs.Refusals.{IsSaid, IsUsage, ReadsText};
 ghost use Rattle.theorem_reader.specs.Runs.{AsksGenerate, generated_by, IsRun};
 ghost use Rattle.theorem_reader.specs.Tasks.{AsksNoTasks};
@@ -91,6 +92,7 @@ pub fn run_broken<const ROOM: usize>(
     ensures usage { IfOk result (λ told. (own : ℕ) → IsUsage (map string_bytes words.now) own
         → IsSo ROOM told.out (λ sink. IsSaid sink own usage_line told.status told.out.taken told.kept told.tasks)) }
     ensures no_tasks { IfOk result (λ told. AsksNoTasks (map string_bytes words.now) → told.tasks ≡ None) }
+    ensures covered { IfOk result (λ told. AreCovered (map string_bytes words.now)) }
 {
     let mut input = BrokenSource::new(text);
     let mut out = RoomySink::new(alloc)?;

@@ -1,5 +1,5 @@
-//! Calls of each command, and of some words and texts that are refused, so that what the clauses ask of words and texts is met
-//! by some.
+//! Calls of each command, and of some texts that are refused, so that what the clauses of `run_text` ask of words and texts is
+//! met by some.
 ghost use Rattle.std.specs.Prelude.{◌≡◌, ◌<◌, ℕ, List, [], ◌∷◌, codes, length, IfOk};
 ghost use Rattle.theorem_reader.specs.Checks.{AsksCheck, IsChecked};
 ghost use Rattle.theorem_reader.specs.Dumps.{IsDumped};

@@ -1,5 +1,6 @@
 //! Runs over streams in memory.
-ghost use Rattle.std.specs.Prelude.{◌≡◌, ◌*◌, ℕ, List, None, IfOk, map, string_bytes};
+ghost use Rattle.std.specs.Prelude.{◌≡◌, ◌⊎◌, ◌*◌, ℕ, List, None, IfOk, map, string_bytes};
+ghost use Rattle.theorem_reader.specs.Calls.{IsAsked, IsWanting};
 ghost use Rattle.theorem_reader.specs.Checks.{AsksCheck, IsChecked};
 ghost use Rattle.theorem_reader.specs.Dumps.{AsksDump, IsDumped};
 ghost use Rattle.theorem_reader.specs.Refusals.{IsRefused, IsSaid, AsksAsm, IsAssembled};
@@ -22,7 +23,7 @@ use tkernel_cli::tkernel;
 pub struct Told<const ROOM: usize> {
     /// The number that the process would end with.
     pub status: u8,
-    /// What was put.
+    /// What was taken.
     pub out: RoomySink<ROOM>,
     /// The machine of the run, of the second one for `restart`, where one is kept.
     pub kept: Option<Machine>,
@@ -53,6 +54,8 @@ pub fn run_text<const ROOM: usize>(
     ensures refused { IfOk result (λ told. (own : ℕ) (line : List ℕ) → IsRefused (map string_bytes words.now) text.items own line
         → IsSo ROOM told.out (λ sink. IsSaid sink own line told.status told.out.taken told.kept told.tasks)) }
     ensures no_tasks { IfOk result (λ told. AsksNoTasks (map string_bytes words.now) → told.tasks ≡ None) }
+    ensures covered { IfOk result (λ told. IsAsked (map string_bytes words.now) text.items
+        ⊎ IsSo ROOM told.out (λ sink. IsWanting (map string_bytes words.now) sink told.status told.out.taken told.kept told.tasks)) }
 {
     let mut input = MemSource::new(text);
     let mut out = RoomySink::new(alloc)?;
@@ -83,7 +86,8 @@ pub(crate) fn word_of(alloc: Global, text: &str) -> Result<String, NoMemory>
     Ok(String::from_str(alloc, text)?)
 }
 
-/// So many plain steps are the most between two services of a run of this quantum (`few` of `HasActs`).
+/// In a run of this quantum at most so many instructions of rewritten code stand in a row without a service (`few` of
+/// `HasActs`).
 pub fn longest_wait(quantum: u8) -> u64
     ensures value { result ≡ 5120 * quantum }
 {

@@ -19,7 +19,7 @@ use Rattle.program_steps.specs.Machines.{Machine, numbers_of, flat_of}
 use Rattle.program_steps.specs.Ready.{IsGoing, IsQuiet, IsSound, IsEnded, IsKept}
 use Rattle.printed_text.specs.DeviceLines.{lines_text}
 use Rattle.program_steps.specs.Stepping.{Goes, IsFault, ends_in_arrive, HasStepped, StepWay, HasEntered, Entering, HasBound}
-use Rattle.tk_run.specs.Running.{Leads, original_from, states_of, run_of, IsByStep, Answers, IsBroken, HasAdvanced}
+use Rattle.tk_run.specs.Running.{Leads, original_from, states_of, run_of, flat_end, IsByStep, IsOver, Answers, IsBroken, HasAdvanced}
 use Rattle.program_steps.proofs.Bounds.{bounds_ready}
 use Rattle.program_steps.proofs.Leading.{last_on, stays_self}
 use Rattle.program_steps.proofs.OneBehindOther.{goes_on_by, let_in}
@@ -213,7 +213,7 @@ advanced_cut old now i n e text before after going whole below between cut =
         written = ap (λ k. (original_from old k).lines) (sym (nothing i)) ∙ ap (λ (r : Run). r.lines) (ran.run 0) ∙ ap (λ l. ran.lines ++ l) none.0 ∙ append-nil ran.lines;
         left = ap (λ k. (original_from old k).state) (sym (nothing i)) ∙ ap (λ (r : Run). r.state) (ran.run 0) ∙ none.1;
         by_step = by_step_marked old now i ran.moves (by_step_begun old now i ran.moves (begun_between old now i (Some []) (Some text) between));
-        answers = record { broken = refl; order = between.ready.order; bounded = bounds_ready now between.ready };
+        answers = record { broken = refl; over = λ end is other. absurd (no_end now end is between.ready.going); order = between.ready.order; bounded = bounds_ready now between.ready };
       };
       keeps = λ few before'. kept_broken now (kept_ready now (omega (arith, ran.steps, few, below)) (unshut_on old now ran.stays before'.unshut) between.ready between.quiet);
       kept = λ end is. absurd (no_end old end is going);
@@ -240,11 +240,19 @@ advanced_whole old new n end text before after advanced put = record {
   kept = advanced.kept;
 }
 
-broken_by : (old new : Machine) (n done : ℕ) (lines : List Line) (end : End) → Answers old new n done lines (Ok end) → IsBroken (record new { broken = true })
-broken_by old new n done lines ends.Spent spent = record { broken = refl; order = spent.ready.order; bounded = bounds_ready new spent.ready }
-broken_by old new n done lines (ends.Flash op) failed = record { broken = refl; order = failed.ended.order; bounded = failed.ended.bounded }
-broken_by old new n done lines (ends.Wild t) over = record { broken = refl; order = over.ended.order; bounded = over.ended.bounded }
-broken_by old new n done lines (ends.Stopped stop) over = record { broken = refl; order = over.ended.order; bounded = over.ended.bounded }
+-- the end that is kept is the original program's
+over_as : (old new : Machine) (n : ℕ) (lines : List Line) (own end : End) → IsOver old new n lines own → new.end ≡ Some end → (original_from old n).end ≡ flat_end end
+over_as old new n lines own end over is =
+    let same : Some own ≡ Some end = sym over.kept ∙ is in
+    let e : own ≡ end = cc in
+    ap (λ (r : Run). r.end) over.ran ∙ ap flat_end e
+
+broken_by : (old new : Machine) (n done : ℕ) (lines : List Line) (end : End) → Answers old new n done lines (Ok end) → IsBroken old (record new { broken = true }) n
+broken_by old new n done lines ends.Spent spent = record { broken = refl; over = λ end is other. absurd (no_end new end is spent.ready.going); order = spent.ready.order; bounded = bounds_ready new spent.ready }
+broken_by old new n done lines (ends.Flash op) failed =
+    record { broken = refl; over = λ end is other. absurd (let e : Some end ≡ Some (ends.Flash op) = sym is ∙ failed.kept in other op (cc)); order = failed.ended.order; bounded = failed.ended.bounded }
+broken_by old new n done lines (ends.Wild t) over = record { broken = refl; over = λ end is other. over_as old new n lines (ends.Wild t) end over is; order = over.ended.order; bounded = over.ended.bounded }
+broken_by old new n done lines (ends.Stopped stop) over = record { broken = refl; over = λ end is other. over_as old new n lines (ends.Stopped stop) end over is; order = over.ended.order; bounded = over.ended.bounded }
 
 -- All steps were done, and then the text could not be put.
 pub advanced_unput : (old new : Machine) (n : ℕ) (end : End) (e : Failed) (text : List ℕ) (before after : Option (List ℕ)) → old.end ≡ None → old.broken ≡ false → HasAdvanced old new n (Some []) (Some text) (Ok end) → CutShort before after text

@@ -63,6 +63,7 @@ nothing i = omega arith
 stands_after : (old now : Machine) (i : ℕ) (before after : Option (List ℕ)) → IsBetween old now i before after → StandsAfter (states_of (original_from old)) i now
 stands_after old now i before after between = record {
   ready = between.ready;
+  quiet = between.quiet;
   stands = sym (ap (states_of (original_from old)) (sym (nothing i)) ∙ ap (λ (r : Run). r.state) (between.ran.run 0) ∙ (none_ran (program_of old.kernel) (flat_of now)).1);
 }
 

@@ -53,7 +53,7 @@ leads_as x y lines lines' leads same =
 
 -- its moves, step by step, beside another run that has the same steps
 stands_as : (run run' : ℕ → Run) → ((k : ℕ) → run k ≡ run' k) → (n : ℕ) (m : Machine) → StandsAfter (states_of run) n m → StandsAfter (states_of run') n m
-stands_as run run' same n m stands = record { ready = stands.ready; stands = stands.stands ∙ ap (λ (r : Run). r.state) (same n) }
+stands_as run run' same n m stands = record { ready = stands.ready; quiet = stands.quiet; stands = stands.stands ∙ ap (λ (r : Run). r.state) (same n) }
 
 steps_as : (run run' : ℕ → Run) → ((k : ℕ) → run k ≡ run' k) → (first z : Machine) (n : ℕ) (moves : List Move) → StepsTo (states_of run) first n moves z → StepsTo (states_of run') first n moves z
 steps_as run run' same first z zero moves steps = steps
@@ -152,6 +152,7 @@ cut_by start own run failing n before after e m is kept advanced ran =
     record {
       within = omega (arith, done, ran.within);
       at = at_of start own run failing m.steps ran.done advanced.lines m is advanced.stays advanced.leads ran.steps ran.by_step lines (sym ran.left ∙ ap (λ (r : Run). r.state) same);
+      over = λ end kept' other. ap (λ (r : Run). r.end) (sym (is.run_is n)) ∙ ran.answers.over end kept' other;
       broken = advanced.broken;
       put = subst (λ l. CutShort before after (lines_text l)) lines advanced.put;
       sound = kept.sound;

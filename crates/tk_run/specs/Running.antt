@@ -60,9 +60,10 @@ pub record IsFailed (old new : Machine) (n done : ℕ) (lines : List Line) (op :
   pub ended : IsEnded new
   pub fault : IsFault new op
 
--- gathered lines could not be put
-pub record IsBroken (new : Machine) : Type 0 where
+-- Gathered lines could not be put. An end that is kept all the same, but by flash, is the original program's.
+pub record IsBroken (old new : Machine) (n : ℕ) : Type 0 where
   pub broken : new.broken ≡ true
+  pub over : (end : End) → new.end ≡ Some end → ((op : ℕ) → end ≢ ends.Flash op) → (original_from old n).end ≡ flat_end end
   pub order : IsInOrder new
   pub bounded : HasBounds new
 
@@ -71,11 +72,12 @@ Answers old new n done lines (Ok ends.Spent) = IsSpent old new n done lines
 Answers old new n done lines (Ok (ends.Flash op)) = IsFailed old new n done lines op
 Answers old new n done lines (Ok (ends.Wild t)) = IsOver old new n lines (ends.Wild t)
 Answers old new n done lines (Ok (ends.Stopped stop)) = IsOver old new n lines (ends.Stopped stop)
-Answers old new n done lines (Err e) = IsBroken new
+Answers old new n done lines (Err e) = IsBroken old new n
 
 -- between two steps, where the original program stands after n of them
 pub record StandsAfter (at : ℕ → Moment) (n : ℕ) (m : Machine) : Type 0 where
   pub ready : IsGoing m
+  pub quiet : IsQuiet m
   pub stands : flat_of m ≡ at n
 
 -- The moves lead from the first machine through n steps, one behind the other. Before each of them the machine stands where

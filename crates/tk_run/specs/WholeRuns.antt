@@ -66,11 +66,13 @@ pub record IsFailedRun (start : Machine) (own : Program) (run : ℕ → Run) (fa
   pub first : (earlier : ℕ) → 1 ≤ earlier → earlier < op → is_listed failing earlier ≡ false
   pub refused : m.kernel.mote.flash.refused ≢ None
 
--- gathered lines could not be put: what went out is cut short of the lines of the steps that were done
+-- Gathered lines could not be put: what went out is cut short of the lines of the steps that were done. An end that is kept all
+-- the same, but by flash, is that of the original program's n steps.
 pub record IsCutRun (start : Machine) (own : Program) (run : ℕ → Run) (n : ℕ) (before after : Option (List ℕ)) (m : Machine) : Type 0 where
   pub within : m.steps ≤ n
   pub put : CutShort before after (lines_text (run m.steps).lines)
   pub at : IsAt start own run m.steps m
+  pub over : (end : End) → m.end ≡ Some end → ((op : ℕ) → end ≢ ends.Flash op) → (run n).end ≡ flat_end end
   pub broken : m.broken ≡ true
   pub sound : IsSound m
 

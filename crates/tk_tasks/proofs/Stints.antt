@@ -1,8 +1,8 @@
 -- The mote that each task left, along plays; and what plays count.
 use Rattle.std.proofs.Common.{◌≡◌, ℕ, zero, suc, ◌+◌, Bool, true, false, List, [], ◌∷◌, ◌⊎◌, length, refl, sym, ap, ◌∙◌, arith, subst, inl, inr}
-use Rattle.std.specs.Prelude.{◌≢◌, is_some, slice_get, slice_set, sum_by, Option, Some, None}
-use Rattle.std.proofs.lemmas.Bool.{cases_eq, both_ways, not-true}
-use Rattle.std.proofs.lemmas.Option.{get_or_from_slice_get, same_Some}
+use Rattle.std.specs.Prelude.{◌≢◌, slice_get, slice_set, sum_by, Option, Some, None}
+use Rattle.std.proofs.lemmas.Bool.{cases_eq}
+use Rattle.std.proofs.lemmas.Option.{same_Some}
 use Rattle.input_script.specs.Script.{Schedule}
 use Rattle.sram_layout.specs.Bytes.{byte_count}
 use Rattle.mote_core.specs.declared.mote.Mote.{Mote}
@@ -10,19 +10,15 @@ use Rattle.kernel_entry.specs.declared.kernel.Kernel.{Kernel}
 use Rattle.parked_tasks.specs.declared.parked.Parked.{Parked}
 use Rattle.parked_tasks.specs.declared.task.Task.{Task}
 use Rattle.parked_tasks.specs.Parking.{parked_of, Shares, IsBack}
-use Rattle.task_turns.specs.Turns.{HaveEnded}
-use Rattle.tk_tasks.specs.States.{Tasks, mote_for, machine_of, AreSound, turns_of}
-use Rattle.parked_tasks.specs.Ends.{flat_end_of}
+use Rattle.tk_tasks.specs.States.{Tasks, mote_for, machine_of, AreSound}
 use Rattle.parked_tasks.specs.AtBoot.{mote_at_boot, waiting_from}
 use Rattle.tk_tasks.specs.Booted.{booted}
 use Rattle.parked_tasks.specs.Handing.{parked_by}
 use Rattle.tk_tasks.specs.Changes.{given_by, given_to, next_task, changed_tasks}
 use Rattle.tk_tasks.specs.Plays.{Play, GoesOn, IsPlay, counted}
 use Rattle.parked_tasks.proofs.Parkings.{shared, back}
-use Rattle.tk_tasks.proofs.Paths.{player_here}
 use Rattle.parked_tasks.proofs.TaskLists.{IsUnparked, elsewhere_by}
-use Rattle.tk_tasks.proofs.Changing.{IsGiven, here_is, first_of, last_of, other_of, same_sum_of, running_size, has_changed, running_task}
-use Rattle.parked_tasks.proofs.NextTasks.{goes_flat, is_next}
+use Rattle.tk_tasks.proofs.Changing.{IsGiven, here_is, last_of, other_of, same_sum_of, running_size, has_changed, running_task}
 use Rattle.tk_tasks.proofs.Keeping.{set_same}
 use Rattle.parked_tasks.proofs.Sums.{sum_set}
 use Rattle.parked_tasks.proofs.Waiting.{size_at_boot}
@@ -219,29 +215,6 @@ turned_play n t new play one =
       | inl same ↦ inl (same.0 ∙ tried.running, same.1 ∙ tried.switches)
       | inr other ↦ inr ((λ e. other.0 (e ∙ sym tried.running)), other.1 ∙ ap (λ k. k + 1) tried.switches)
     ]
-
--- where all have ended, none was given the mote
-none_given : (n : ℕ) (t : Tasks) (last : Task) (found : Option ℕ) → AreSound t → slice_get t.tasks t.running ≡ Some last → next_task t ≡ found → HaveEnded (turns_of n (changed_tasks t)) → (changed_tasks t).switches ≡ t.switches
-none_given n t last None sound runs is ended = ap (λ (u : Tasks). u.switches) (ap (given_to t) is)
-none_given n t last (Some next) sound runs is ended =
-    let changed = has_changed t next last sound runs is in
-    let given = changed.given in
-    let u = given_by t next (Some changed.parked) in
-    let found = is_next t.running t.tasks next sound.one_runs is in
-    let first = given.first in
-    let at = sym (get_or_from_slice_get t.tasks next first first given.waits) in
-    let all = subst (λ (v : Tasks). HaveEnded (turns_of n v)) changed.is ended in
-    let over : is_some (flat_end_of first.end) ≡ true = all next _ (player_here n u next (record first { parked = None }) (first_of t next changed.parked given)) in
-    absurd (both_ways (is_some (flat_end_of first.end)) (not-true (is_some (flat_end_of first.end)) (sym (goes_flat t.tasks next first found.below at) ∙ found.going)) over)
-
-ended_by : (n : ℕ) (t new : Tasks) (play : Play) (changes : Bool) → (one : IsPlay n t play new) → GoesOn changes one.mid new → HaveEnded (turns_of n new) → new.switches ≡ one.mid.switches
-ended_by n t new play false one is ended = ap (λ (u : Tasks). u.switches) is
-ended_by n t new play true one is ended =
-    let runs : slice_get one.mid.tasks one.mid.running ≡ Some one.next = ap (slice_get one.mid.tasks) one.tried.running ∙ next_there n t new play one in
-    ap (λ (u : Tasks). u.switches) is ∙ none_given n one.mid one.next (next_task one.mid) one.tried.sound runs refl (subst (λ (v : Tasks). HaveEnded (turns_of n v)) is ended)
-
-pub last_play : (n : ℕ) (t new : Tasks) (play : Play) → IsPlay n t play new → HaveEnded (turns_of n new) → new.switches ≡ t.switches
-last_play n t new play one ended = ended_by n t new play play.changes one one.behind ended ∙ one.tried.switches
 
 -- What a task left is what its machine has. ---------------------------------------------------------------
 

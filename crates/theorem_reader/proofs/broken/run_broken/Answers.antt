@@ -6,6 +6,7 @@ use Rattle.theorem_reader.proofs.Answering.{generated_told}
 use Rattle.theorem_reader.proofs.Refusing.{usage_told}
 use Rattle.theorem_reader.proofs.Unread.{IsBroken, not_before, fault_told, length_told}
 use Rattle.theorem_reader.proofs.Alone.{no_tasks}
+use Rattle.theorem_reader.proofs.Covering.{words_covered}
 use Rattle.theorem_reader.proofs.broken.run_broken.Goals as goal
 
 pub returns : goal.returns
@@ -20,4 +21,5 @@ returns g c =
       generate = λ seed asks. with_room g.row.ROOM _ _ c.keeps_room.ensures.room (generated_told _ _ _ _ _ call seed asks);
       usage = λ own usage. with_room g.row.ROOM _ _ c.keeps_room.ensures.room (usage_told _ _ _ _ _ call own usage);
       no_tasks = no_tasks _ _ _ _ _ call;
+      covered = words_covered _ _ _ _ call.answer.asked;
     }

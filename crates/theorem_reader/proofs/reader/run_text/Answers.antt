@@ -5,6 +5,7 @@ use Rattle.theorem_reader.proofs.Doing.{call_of, not_risen, with_room}
 use Rattle.theorem_reader.proofs.Alone.{no_tasks}
 use Rattle.theorem_reader.proofs.Answering.{run_told, generated_told}
 use Rattle.theorem_reader.proofs.Checking.{check_told}
+use Rattle.theorem_reader.proofs.Covering.{covered}
 use Rattle.theorem_reader.proofs.Dumping.{dump_told}
 use Rattle.theorem_reader.proofs.Refusing.{refused_told, asm_told_of}
 use Rattle.theorem_reader.proofs.Restarting.{restart_told}
@@ -27,4 +28,5 @@ returns g c =
       generate = λ seed asks. with_room g.row.ROOM _ _ c.keeps_room.ensures.room (generated_told _ _ _ _ _ call seed asks);
       refused = λ own line asks. with_room g.row.ROOM _ _ c.keeps_room.ensures.room (refused_told _ _ _ _ _ call _ tells own line asks);
       no_tasks = no_tasks _ _ _ _ _ call;
+      covered = covered g.row.ROOM _ _ _ _ c.keeps_room.ensures.room call _ tells;
     }
