@@ -72,15 +72,6 @@ one_or_other : (b : Bool) → (b ≡ true) ⊎ (b ≡ false)
 one_or_other true = inl refl
 one_or_other false = inr refl
 
-pool_or_not : (layout : Layout) (page : ℕ) → IsPool layout page ⊎ (IsPool layout page → ⊥)
-pool_or_not layout page = elim (cases_lt page layout.pool_first) [
-  | inl before ↦ inr (λ pool. omega (arith, before, pool.from))
-  | inr from ↦ elim (cases_lt page (layout.pool_first + layout.pool_pages)) [
-    | inl to ↦ inl (record { from = omega (arith, from); to = to })
-    | inr behind ↦ inr (λ pool. omega (arith, behind, pool.to))
-  ]
-]
-
 -- a page that is kept is erased where it has stubs that stray, any other where it has words
 where_kept : (blank kept some : Bool) → kept ≡ true → ((not blank && not kept) || (kept && some)) ≡ some
 where_kept blank false some is = absurd (cc)
@@ -104,41 +95,50 @@ other_words image words words' stray page whole low is fits some same =
     let here : 128 * page + k ≡ one.at = omega (arith, one.low) in
     one.apart (ap (word_at new) (sym here) ∙ sym (same_words new words' page is k below) ∙ same k below ∙ ap (word_at words) here)
 
-pub turned : (layout : Layout) (image : List ℕ) (old new : Memory) (told : Kept) (page : ℕ) → IsRight layout → length old.words ≡ 65536 → Restarts layout image old new told → Turned old new page
-turned layout image old new told page right whole restarts =
+-- outside the pool nothing changes
+turned_out : (layout : Layout) (image : List ℕ) (old new : Memory) (told : Kept) (page : ℕ) → Restarts layout image old new told → (IsPool layout page → ⊥) → Turned old new page
+turned_out layout image old new told page restarts out = Same (same_words old.words new.words page (restarts.keeps.outside page out)) (restarts.other_erases page out)
+
+turned_in : (layout : Layout) (image : List ℕ) (old new : Memory) (told : Kept) (page : ℕ) → IsRight layout → length old.words ≡ 65536 → Restarts layout image old new told → IsPool layout page → Turned old new page
+turned_in layout image old new told page right whole restarts pool =
     let keeps = restarts.keeps in
     let stray = restarts.stray in
     let kept = restarts.kept page in
     let stubs = stubs_where stray image old.words page in
     let blank = is_erased (page_of old.words page) in
     let count = slice_index old.erases page in
-    elim (pool_or_not layout page) [
-      | inr out ↦ Same (same_words old.words new.words page (keeps.outside page out)) (restarts.other_erases page out)
-      | inl pool ↦ (
-          let low : page < 480 = omega (arith, pool.to, right.pool_below_kernel) in
-          let long : length (page_of old.words page) ≡ 128 = length-page_of old.words page (omega (arith, whole, low)) in
-          let by = restarts.erases page pool in
-          elim (one_or_other kept) [
-            | inl is ↦ (
-                let test = where_kept blank kept (are_some stubs) is in
-                let own = keeps.keeps page pool is in
-                let code = ((keeps.are page pool).0 is).code in
-                elim (one_or_other (are_some stubs)) [
-                  | inl some ↦ Other (other_words image old.words new.words stray page whole low own (own_run Anywhere image old.words page code.first code.last code.holds).holds.fits some) (by ∙ ap (λ b. worn b count) (test ∙ some))
-                  | inr none ↦ Same (same_words old.words new.words page (own ∙ ap (λ w. page_of w page) (no_stubs old.words stubs none))) (by ∙ ap (λ b. worn b count) (test ∙ none))
-                ])
-            | inr not_kept ↦ (
-                let test = where_not blank kept (are_some stubs) not_kept in
-                let free = keeps.drops page pool not_kept in
-                elim (one_or_other blank) [
-                  | inl is ↦ Same (same_words old.words new.words page (free ∙ sym ((all_are_blank (page_of old.words page) long).0 is))) (by ∙ ap (λ b. worn b count) (test ∙ ap not is))
-                  | inr filled ↦ Other (λ same.
-                      let was = free_alike new.words old.words page (record { word = same }) (omega (arith, whole, keeps.size, low)) (omega (arith, whole, low)) free in
-                      let both : true ≡ false = sym ((all_are_blank (page_of old.words page) long).1 was) ∙ filled in
-                      absurd (cc)) (by ∙ ap (λ b. worn b count) (test ∙ ap not filled))
-                ])
+    let low : page < 480 = omega (arith, pool.to, right.pool_below_kernel) in
+    let long : length (page_of old.words page) ≡ 128 = length-page_of old.words page (omega (arith, whole, low)) in
+    let by = restarts.erases page pool in
+    elim (one_or_other kept) [
+      | inl is ↦ (
+          let test = where_kept blank kept (are_some stubs) is in
+          let own = keeps.keeps page pool is in
+          let code = ((keeps.are page pool).0 is).code in
+          elim (one_or_other (are_some stubs)) [
+            | inl some ↦ Other (other_words image old.words new.words stray page whole low own (own_run Anywhere image old.words page code.first code.last code.holds).holds.fits some) (by ∙ ap (λ b. worn b count) (test ∙ some))
+            | inr none ↦ Same (same_words old.words new.words page (own ∙ ap (λ w. page_of w page) (no_stubs old.words stubs none))) (by ∙ ap (λ b. worn b count) (test ∙ none))
+          ])
+      | inr not_kept ↦ (
+          let test = where_not blank kept (are_some stubs) not_kept in
+          let free = keeps.drops page pool not_kept in
+          elim (one_or_other blank) [
+            | inl is ↦ Same (same_words old.words new.words page (free ∙ sym ((all_are_blank (page_of old.words page) long).0 is))) (by ∙ ap (λ b. worn b count) (test ∙ ap not is))
+            | inr filled ↦ Other (λ same.
+                let was = free_alike new.words old.words page (record { word = same }) (omega (arith, whole, keeps.size, low)) (omega (arith, whole, low)) free in
+                let both : true ≡ false = sym ((all_are_blank (page_of old.words page) long).1 was) ∙ filled in
+                absurd (cc)) (by ∙ ap (λ b. worn b count) (test ∙ ap not filled))
           ])
     ]
+
+pub turned : (layout : Layout) (image : List ℕ) (old new : Memory) (told : Kept) (page : ℕ) → IsRight layout → length old.words ≡ 65536 → Restarts layout image old new told → Turned old new page
+turned layout image old new told page right whole restarts = elim (cases_lt page layout.pool_first) [
+  | inl before ↦ turned_out layout image old new told page restarts (λ pool. omega (arith, before, pool.from))
+  | inr from ↦ elim (cases_lt page (layout.pool_first + layout.pool_pages)) [
+    | inl to ↦ turned_in layout image old new told page right whole restarts (record { from = omega (arith, from); to = to })
+    | inr behind ↦ turned_out layout image old new told page restarts (λ pool. omega (arith, behind, pool.to))
+  ]
+]
 
 pub erased_once : (old new : Memory) (page : ℕ) → Turned old new page → (IsSamePage old.words new.words page → ⊥) → slice_index new.erases page ≡ raised (slice_index old.erases page)
 erased_once old new page (Same same still) other = absurd (other same)

@@ -237,15 +237,17 @@ take_turns words quantum count n t (play ∷ plays) new motes left size long (mi
           (take_turns words quantum count n mid plays new next one.mid.kernel.mote size more rest (left_behind n t mid play motes left one are) (asked_behind n t mid play motes left one are asked) done.held (on_quantum play.changes one.mid mid one.behind ∙ done.counts)),
     )
 
--- the quantum stays
-quantum_path : (words : List ℕ) (quantum count n : ℕ) (t : Tasks) (plays : List Play) (new : Tasks) (motes : List Mote) (left : Mote) → length words ≡ 4096 * count → length t.tasks ≡ count → (path : TaskPath n t plays new) → AreLeft t motes left
-    → image_of (layout_of (length words)) left.flash.words ≡ words → t.kernel.quantum ≡ quantum → new.kernel.quantum ≡ quantum
-quantum_path words quantum count n t [] new motes left size long is are held counts = ap (λ (u : Tasks). u.kernel.quantum) (sym is) ∙ counts
-quantum_path words quantum count n t (play ∷ plays) new motes left size long (mid, one, rest) are held counts =
+-- the quantum stays, and the image in flash
+kept_path : (words : List ℕ) (quantum count n : ℕ) (t : Tasks) (plays : List Play) (new : Tasks) (motes : List Mote) (left : Mote) → length words ≡ 4096 * count → length t.tasks ≡ count → TaskPath n t plays new → AreLeft t motes left
+    → image_of (layout_of (length words)) left.flash.words ≡ words → t.kernel.quantum ≡ quantum → (new.kernel.quantum ≡ quantum) × (image_of (layout_of (length words)) new.kernel.mote.flash.words ≡ words)
+kept_path words quantum count n t [] new motes left size long is are held counts =
+    let image : Tasks → List ℕ = λ u. image_of (layout_of (length words)) u.kernel.mote.flash.words in
+    (ap (λ (u : Tasks). u.kernel.quantum) (sym is) ∙ counts, ap image (sym is) ∙ ap (λ (f : Memory). image_of (layout_of (length words)) f.words) are.shares.flash ∙ held)
+kept_path words quantum count n t (play ∷ plays) new motes left size long (mid, one, rest) are held counts =
     let laid = one.sound.layout ∙ ap (λ k. layout_of (4096 * k)) long ∙ ap layout_of (sym size) in
     let here = ap (λ (f : Memory). image_of (layout_of (length words)) f.words) are.shares.flash ∙ held in
     let done = follow_play words quantum n t mid play one laid here counts in
-    quantum_path words quantum count n mid plays new (slice_set motes t.running one.mid.kernel.mote) one.mid.kernel.mote size (path_long n t (play ∷ []) mid (mid, one, refl) ∙ long) rest (left_behind n t mid play motes left one are) done.held
+    kept_path words quantum count n mid plays new (slice_set motes t.running one.mid.kernel.mote) one.mid.kernel.mote size (path_long n t (play ∷ []) mid (mid, one, refl) ∙ long) rest (left_behind n t mid play motes left one are) done.held
     (on_quantum play.changes one.mid mid one.behind ∙ done.counts)
 
 left_last : (n : ℕ) (t : Tasks) (plays : List Play) (new : Tasks) (motes : List Mote) (left : Mote) → (path : TaskPath n t plays new) → AreLeft t motes left → AreLeft new (motes_behind n t plays new path motes) (left_at_end n t plays new path left)
@@ -347,17 +349,6 @@ path_spares words quantum count n t (play ∷ plays) new motes left size long (m
     (on_quantum play.changes one.mid mid one.behind ∙ done.counts) fits))
 
 -- What stands in flash. -----------------------------------------------------------------------------------
-
-held_path : (words : List ℕ) (quantum count n : ℕ) (t : Tasks) (plays : List Play) (new : Tasks) (motes : List Mote) (left : Mote) → length words ≡ 4096 * count → length t.tasks ≡ count → TaskPath n t plays new → AreLeft t motes left
-    → image_of (layout_of (length words)) left.flash.words ≡ words → t.kernel.quantum ≡ quantum → image_of (layout_of (length words)) new.kernel.mote.flash.words ≡ words
-held_path words quantum count n t [] new motes left size long is are held counts =
-    ap (λ (u : Tasks). image_of (layout_of (length words)) u.kernel.mote.flash.words) (sym is) ∙ ap (λ (f : Memory). image_of (layout_of (length words)) f.words) are.shares.flash ∙ held
-held_path words quantum count n t (play ∷ plays) new motes left size long (mid, one, rest) are held counts =
-    let laid = one.sound.layout ∙ ap (λ k. layout_of (4096 * k)) long ∙ ap layout_of (sym size) in
-    let here = ap (λ (f : Memory). image_of (layout_of (length words)) f.words) are.shares.flash ∙ held in
-    let done = follow_play words quantum n t mid play one laid here counts in
-    held_path words quantum count n mid plays new (slice_set motes t.running one.mid.kernel.mote) one.mid.kernel.mote size (path_long n t (play ∷ []) mid (mid, one, refl) ∙ long) rest (left_behind n t mid play motes left one are) done.held
-    (on_quantum play.changes one.mid mid one.behind ∙ done.counts)
 
 faithful_left : (words : List ℕ) (t : Tasks) → AreSound t → t.kernel.layout ≡ layout_of (length words) → image_of (layout_of (length words)) t.kernel.mote.flash.words ≡ words → AreFaithful words t.kernel.mote.flash.words
 faithful_left words t sound laid held =
@@ -550,7 +541,8 @@ have_stints asked (first ∷ others) t last plays broken to is long some sound_b
     let words_long : length (words_of asked) ≡ 4096 * asked.count = length-map-range_with_len (word asked.image) 0 (4096 * asked.count) in
     let last_long : length t.tasks ≡ asked.count = ap (λ (z : Tasks). length z.tasks) counts ∙ path_long n booted plays last way ∙ tasks_long in
     let laid_last : t.kernel.layout ≡ layout_of (length (words_of asked)) = sound.layout ∙ ap (λ k. layout_of (4096 * k)) last_long ∙ ap layout_of (sym words_long) in
-    let quantum : t.kernel.quantum ≡ asked.quantum = ap (λ (z : Tasks). z.kernel.quantum) counts ∙ quantum_path (words_of asked) asked.quantum asked.count n booted plays last motes booted.kernel.mote words_long tasks_long way are (boots_image asked first others count) refl in
+    let stays = kept_path (words_of asked) asked.quantum asked.count n booted plays last motes booted.kernel.mote words_long tasks_long way are (boots_image asked first others count) refl in
+    let quantum : t.kernel.quantum ≡ asked.quantum = ap (λ (z : Tasks). z.kernel.quantum) counts ∙ stays.0 in
     record {
       stints = stints_of n booted plays last way;
       first = booted.kernel.mote;
@@ -604,7 +596,7 @@ have_stints asked (first ∷ others) t last plays broken to is long some sound_b
       most_pages = (are_within t sound).pages;
       most_operations = (are_within t sound).ops;
       faithful = faithful_left (words_of asked) t sound laid_last
-          (ap (λ (z : Tasks). image_of (layout_of (length (words_of asked))) z.kernel.mote.flash.words) counts ∙ held_path (words_of asked) asked.quantum asked.count n booted plays last motes booted.kernel.mote words_long tasks_long way are (boots_image asked first others count) refl);
+          (ap (λ (z : Tasks). image_of (layout_of (length (words_of asked))) z.kernel.mote.flash.words) counts ∙ stays.1);
       wear = subst (λ (z : Tasks). z.pages ≤ pool_size (words_of asked) → IsSpared booted.kernel.mote.flash z.kernel.mote.flash) (sym counts)
           (λ fits. path_spares (words_of asked) asked.quantum asked.count n booted plays last motes booted.kernel.mote words_long tasks_long way are (boots_image asked first others count) refl fits);
     }
