@@ -13,8 +13,8 @@
 //! }
 //! ```
 //!
-//! `specs/Asking` says which job is asked for, by a file of `specs/` for each command. Crate `cli_jobs` does the jobs, and
-//! `tkernel_cli` those of several tasks.
+//! `specs/Asking` says which job is asked for, by a file of `specs/` for each command. Crate `tkernel_cli` does the
+//! jobs.
 #![tactic(auto)]
 
 mod asking;

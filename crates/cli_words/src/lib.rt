@@ -2,7 +2,7 @@
 //! the jobs that print a line in place of a run.
 //!
 //! The words are a command with its options ([`command_of`]). Which job a command asks for is told by crate `cli_requests`,
-//! which reads its input; crate `cli_jobs` does the jobs, and `tkernel_cli` those of several tasks.
+//! which reads its input; crate `tkernel_cli` does the jobs.
 //!
 //! ```rust
 //! match command_of(&words) {

@@ -133,7 +133,7 @@ fn classes(rt: HostRuntime) {
 /// STS and LDS at each class: three pages of the heap have a slot, and the fourth has none.
 #[test]
 fn loads_and_stores(rt: HostRuntime) -> Result<(), Fail> {
-    let mut parts = parts_at_boot(&rt, 3)?;
+    let mut parts = Box::new(rt.alloc(), parts_at_boot(&rt, 3)?)?;
     let mut cpu = cpu_at_reset();
     for a in [0x0CFF, 0x0D00, 0x10FF, 0x1100, 0x0100] {
         let value = (a / 16 % 256) as u8;
@@ -159,7 +159,7 @@ fn loads_and_stores(rt: HostRuntime) -> Result<(), Fail> {
 /// ST and LDD with a pointer that passes 0xFFFF: what lies there is r0.
 #[test]
 fn past_the_last_address(rt: HostRuntime) -> Result<(), Fail> {
-    let mut parts = parts_at_boot(&rt, 1)?;
+    let mut parts = Box::new(rt.alloc(), parts_at_boot(&rt, 1)?)?;
     let mut cpu = cpu_at_reset();
     cpu.r[16] = 0x5A;
     cpu.r[26] = 0xFF;
@@ -183,7 +183,7 @@ fn past_the_last_address(rt: HostRuntime) -> Result<(), Fail> {
 /// PINA may be read and not written, so SBI of it is refused before the poll.
 #[test]
 fn a_register_of_one_direction(rt: HostRuntime) -> Result<(), Fail> {
-    let mut parts = parts_at_boot(&rt, 0)?;
+    let mut parts = Box::new(rt.alloc(), parts_at_boot(&rt, 0)?)?;
     let mut cpu = cpu_at_reset();
     let pins = (0x9AC8, 0); // SBI PINA, 0
     assert!(rt; execute(&rt, &mut cpu, &mut parts, pins) == Err(BusStop::Io(0x39)));
@@ -224,7 +224,7 @@ fn answer(outside: Option<u16>) -> Result<Option<Line>, BusStop> {
 /// PUSH, POP, RCALL and RET at the edges of the window: a stop names the first byte outside.
 #[test]
 fn edges_of_the_window(rt: HostRuntime) -> Result<(), Fail> {
-    let mut parts = parts_at_boot(&rt, 0)?;
+    let mut parts = Box::new(rt.alloc(), parts_at_boot(&rt, 0)?)?;
     let mut cpu = cpu_at_reset();
     for (word, sp, outside) in EDGES {
         cpu.sp = sp;

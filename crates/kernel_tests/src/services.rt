@@ -31,7 +31,8 @@ const IMAGE: [u16; 64] = [
     16, 17, 18, 19, 20, 21, 22, 23, 24, 25, 26, 27, 28, 29, 30, 31,
 ];
 
-/// A kernel at boot, with this many swap slots.
+/// A kernel at boot, with this many swap slots. Tests put it in a box: where a kernel itself is let go, the proof goes through
+/// all its parts.
 fn kernel_at_boot(rt: &HostRuntime, slots: u8) -> Result<Kernel, Fail>
     requires { slots ≤ 251 }
     ensures paged { IfOk result (λ k. IsPaged k.mote.sram k.mote.swap) }
@@ -214,7 +215,7 @@ const WINDOW: [(u16, u16, u16, Told, (u16, u8, u8)); 11] = [
 
 #[test]
 fn calls_and_returns_use_the_stack_window(rt: HostRuntime) -> Result<(), Fail> {
-    let mut k = kernel_at_boot(&rt, 0)?;
+    let mut k = Box::new(rt.alloc(), kernel_at_boot(&rt, 0)?)?;
     for (entry, at, sp, want, after) in WINDOW {
         let call = Call {
             entry,
@@ -242,7 +243,7 @@ const ENDS: [(u16, u16, u8, Told, u8, u8); 9] = [
 
 #[test]
 fn ends_and_steps_of_the_kernel(rt: HostRuntime) -> Result<(), Fail> {
-    let mut k = kernel_at_boot(&rt, 0)?;
+    let mut k = Box::new(rt.alloc(), kernel_at_boot(&rt, 0)?)?;
     for (entry, at, sreg, want, sreg_after, count) in ENDS {
         let call = Call {
             entry,
@@ -259,7 +260,7 @@ fn ends_and_steps_of_the_kernel(rt: HostRuntime) -> Result<(), Fail> {
 /// SLEEP with INT2 enabled goes on behind itself at poll 7, and INT2 is taken before INT5.
 #[test]
 fn an_interrupt_ends_a_sleep(rt: HostRuntime) -> Result<(), Fail> {
-    let mut k = kernel_at_boot(&rt, 0)?;
+    let mut k = Box::new(rt.alloc(), kernel_at_boot(&rt, 0)?)?;
     let call = Call {
         entry: FAULT,
         at: 8,
@@ -337,7 +338,7 @@ const ACCESSES: [(u16, u16, u16, Told, u8, u16); 18] = [
 
 #[test]
 fn loads_and_stores_reach_the_programs_memory(rt: HostRuntime) -> Result<(), Fail> {
-    let mut k = kernel_at_boot(&rt, 1)?;
+    let mut k = Box::new(rt.alloc(), kernel_at_boot(&rt, 1)?)?;
     for (at, pointer, sp, want, r17, sp_after) in ACCESSES {
         let answer = told(accessed(&rt, &mut k, at, pointer, sp));
         assert!(rt; answer == want, "{at}");
@@ -354,7 +355,7 @@ fn loads_and_stores_reach_the_programs_memory(rt: HostRuntime) -> Result<(), Fai
 /// ELPM with RAMPZ set reads behind the image.
 #[test]
 fn no_program_byte_stands_behind_the_image(rt: HostRuntime) -> Result<(), Fail> {
-    let mut k = kernel_at_boot(&rt, 0)?;
+    let mut k = Box::new(rt.alloc(), kernel_at_boot(&rt, 0)?)?;
     k.mote.devices.set_rampz(1);
     let answer = accessed(&rt, &mut k, 20, 1, 0);
     assert!(rt; told(answer) == ON);

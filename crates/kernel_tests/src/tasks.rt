@@ -133,7 +133,7 @@ fn two_tasks(alloc: Global, words: &[u16]) -> Result<Tasks, Fail> {
 
 #[test]
 fn a_task_comes_back_as_it_was(rt: HostRuntime) -> Result<(), Fail> {
-    let mut tasks = two_tasks(rt.alloc(), &[0xE00F, 0xCFFF])?;
+    let mut tasks = Box::new(rt.alloc(), two_tasks(rt.alloc(), &[0xE00F, 0xCFFF])?)?;
     assert!(rt; tasks.running == 0);
     let second = tasks.tasks.pop().ok_or("there are two tasks")?;
     assert!(rt; second.at == 0x1000);

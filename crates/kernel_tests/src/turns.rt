@@ -28,7 +28,8 @@ fn first_write(rt: &HostRuntime, words: &[u16]) -> Result<(FlakySink, bool), Fai
         quantum: 255,
         swap: 0,
     };
-    let mut machine = Machine::boot(alloc, &image, read(alloc, b"")?, options)?;
+    let machine = Machine::boot(alloc, &image, read(alloc, b"")?, options)?;
+    let mut machine = Box::new(alloc, machine)?;
     let mut out = FlakySink::new(alloc, 100, vec![in alloc; 2]?)?;
     let whole = machine.advance(100_000, &mut out).is_ok();
     Ok((out, whole))

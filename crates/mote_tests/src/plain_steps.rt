@@ -78,9 +78,10 @@ fn a_program_in_flash(rt: HostRuntime) -> Result<(), Fail> {
         0x940E, 0x1234, // CALL 0x1234
     ];
     let script = script(rt.alloc(), b"at 1 pina 0x77")?;
-    let mut mote = Mote::new(rt.alloc(), &image, script, 0)
+    let mote = Mote::new(rt.alloc(), &image, script, 0)
         .ok()
         .ok_or("memory is ample")?;
+    let mut mote = Box::new(rt.alloc(), mote)?;
     let line = |port, value| Some(Line { port, value });
     let shown = [
         None,

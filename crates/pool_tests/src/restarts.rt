@@ -7,7 +7,7 @@ ghost use Rattle.pool_check.specs.Links.{HaveFormsAround};
 
 use crate::recycling::{ROUND, go_round, small};
 use crate::runs::{boot, counts, halted_at, run};
-use crate::support::{LOOP, loaded, loaded_to_fail, loop_page, sram_at_boot};
+use crate::support::{LOOP, loaded_to_fail, loop_page, sram_at_boot};
 use flash_model::{Flash, Layout};
 use hex_image::Image;
 use input_script::read;
@@ -124,20 +124,33 @@ fn what_is_kept_of_two_pages(rt: HostRuntime) -> Result<(), Fail> {
     Ok(())
 }
 
+/// The first of the two pages that a run of the jump makes. It jumps into the second.
+fn first_page_of_the_jump(rt: &HostRuntime) -> Result<[u16; 128], Fail> {
+    let mut out = MemSink::new(rt.alloc(), 100)?;
+    let mut machine = boot(rt, &JUMP, 255)?;
+    match halted_at(run(&mut machine, 1000, &mut out)?) {
+        Some(4) => Ok(page_words(&machine.kernel.mote.flash, 128)),
+        _ => Err("the jump to itself isn't reached".into()),
+    }
+}
+
+/// Each jump into page 129 is a call of the bridge.
+fn opened(mut words: [u16; 128]) -> [u16; 128] {
+    for k in 0..127usize {
+        let into = words[k + 1] / 128;
+        if words[k] == 0x940C && into == 129 {
+            words[k] = 0x940E;
+            words[k + 1] = 0xF000;
+        }
+    }
+    words
+}
+
 /// Two pages, of which the first jumps into the second, as a run makes them; the second is lost.
 #[test]
 fn a_jump_into_a_page_that_is_lost_calls_the_bridge_again(rt: HostRuntime) -> Result<(), Fail> {
-    let mut out = MemSink::new(rt.alloc(), 100)?;
-    let mut machine = boot(&rt, &JUMP, 255)?;
-    assert!(rt; halted_at(run(&mut machine, 1000, &mut out)?) == Some(4));
-    let first = page_words(&machine.kernel.mote.flash, 128);
-    let mut expected = first;
-    for k in 0..127usize {
-        if first[k] == 0x940C && first[k + 1] / 128 == 129 {
-            expected[k] = 0x940E;
-            expected[k + 1] = 0xF000;
-        }
-    }
+    let first = first_page_of_the_jump(&rt)?;
+    let expected = opened(first);
     assert!(rt; expected != first);
     let left = restarted(&rt, &JUMP, &[first, [0; 128], [0xFFFF; 128]])?;
     assert!(rt; left.told.kept == 1);
@@ -155,15 +168,34 @@ struct Second {
     out: MemSink,
 }
 
+/// A machine over this flash, which holds the image.
+fn machine_over(rt: &HostRuntime, flash: Flash, image: &Image) -> Result<Box<Machine>, Fail>
+    requires faithful { IsFaithful (layout_of (length image.now)) image.now flash.words }
+{
+    let script = read(rt.alloc(), b"")?;
+    let swap = Swap::new(rt.alloc(), 128)?;
+    let machine = Machine::over(flash, image, script, swap, 255);
+    Ok(Box::new(rt.alloc(), machine)?)
+}
+
+/// A restart of these three pages, and a machine over what it leaves.
+fn machine_again(
+    rt: &HostRuntime,
+    words: &[u16],
+    pages: &[[u16; 128]; 3],
+) -> Result<Box<Machine>, Fail>
+    requires short { length words.now ≤ 16384 }
+{
+    let image = Image::from_words(rt.alloc(), words)?;
+    let left = restarted(rt, words, pages)?;
+    machine_over(rt, left.flash, &image)
+}
+
 /// A restart of these three pages, and a run over what it leaves.
 fn run_again(rt: &HostRuntime, words: &[u16], pages: &[[u16; 128]; 3]) -> Result<Second, Fail>
     requires short { length words.now ≤ 16384 }
 {
-    let image = Image::from_words(rt.alloc(), words)?;
-    let Left { flash, .. } = restarted(rt, words, pages)?;
-    let script = read(rt.alloc(), b"")?;
-    let swap = Swap::new(rt.alloc(), 128)?;
-    let mut machine = Machine::over(flash, &image, script, swap, 255);
+    let mut machine = machine_again(rt, words, pages)?;
     let mut out = MemSink::new(rt.alloc(), 1000)?;
     let end = run(&mut machine, 1000, &mut out)?;
     Ok(Second {
@@ -205,7 +237,8 @@ fn run_calls(rt: &HostRuntime, script: &[u8]) -> Result<Gone, Fail> {
         quantum: 255,
         swap: 128,
     };
-    let mut machine = Machine::boot(rt.alloc(), &image, script, options)?;
+    let machine = Machine::boot(rt.alloc(), &image, script, options)?;
+    let mut machine = Box::new(rt.alloc(), machine)?;
     let mut out = MemSink::new(rt.alloc(), 1000)?;
     let end = run(&mut machine, 1000, &mut out)?;
     let flash = &machine.kernel.mote.flash;
@@ -270,37 +303,70 @@ fn restarted_in(rt: &HostRuntime, layout: &Layout, pages: &[[u16; 128]; 2]) -> R
     Ok(Left { told, flash })
 }
 
+/// What a restart of a small pool with these words in its two pages tells.
+fn told_in(rt: &HostRuntime, layout: &Layout, pages: &[[u16; 128]; 2]) -> Result<Kept, Fail>
+    requires right { IsRight layout.now }
+    requires image { layout.now.image_words ≡ 4 }
+    requires first { layout.now.pool_first ≡ 128 }
+    requires pool { layout.now.pool_pages ≡ 2 }
+{
+    let left = restarted_in(rt, layout, pages)?;
+    Ok(left.told)
+}
+
+/// What going round leaves: the two pages, and which of them the refused operation was on, if one was refused.
+#[derive(Clone, Copy)]
+struct Round {
+    pages: [[u16; 128]; 2],
+    ops: u64,
+    refused: Option<usize>,
+}
+
+/// Goes round in a small pool whose operations of these numbers are to fail.
+fn gone_round(rt: &HostRuntime, layout: &Layout, failing: &[u32]) -> Result<Round, Fail>
+    requires right { IsRight layout.now }
+    requires image { layout.now.image_words ≡ 4 }
+{
+    let mut flash = loaded_to_fail(rt, layout, &ROUND, failing)?;
+    let mut sram = sram_at_boot(layout);
+    let gone = go_round(&mut sram, &mut flash, layout);
+    let page = flash.refused().unwrap_or(128).clamp(128, 129);
+    Ok(Round {
+        pages: [page_words(&flash, 128), page_words(&flash, 129)],
+        ops: flash.ops(),
+        refused: if gone.is_err() {
+            Some(usize::from(page - 128))
+        } else {
+            None
+        },
+    })
+}
+
 /// A pool of two pages, of which one is used again: each of the eight operations is refused in turn. Its page then has zeros,
 /// blank words, the words that it had, or those of the other page; or it is code of the image by accident.
 #[test]
 fn each_operation_in_a_small_pool_is_lost(rt: HostRuntime) -> Result<(), Fail> {
     let layout = small(4, 2);
-    let mut whole = loaded(&rt, &layout, &ROUND)?;
-    let mut sram = sram_at_boot(&layout);
-    let _gone = go_round(&mut sram, &mut whole, &layout);
-    assert!(rt; whole.ops() == 8);
+    let whole = gone_round(&rt, &layout, &[])?;
+    assert!(rt; whole.ops == 8);
     for op in 1..9u32 {
-        let mut flash = loaded_to_fail(&rt, &layout, &ROUND, &[op])?;
-        let mut sram = sram_at_boot(&layout);
-        let refused = go_round(&mut sram, &mut flash, &layout);
-        assert!(rt; refused.is_err());
-        let place = usize::from(flash.refused().unwrap_or(128).clamp(128, 129) - 128);
-        let pages = [page_words(&flash, 128), page_words(&flash, 129)];
+        let left = gone_round(&rt, &layout, &[op])?;
+        let place = left.refused.ok_or("no operation is refused")?.min(1);
         let contents = [
             // the words, whether the page is kept beside the other one, and whether it is dropped
             ([0; 128], 0, 1),
             ([0xFFFF; 128], 0, 0),
-            (pages[1 - place], 0, 1),
-            (page_words(&whole, 128), 1, 0),
+            (left.pages[1 - place], 0, 1),
+            (whole.pages[0], 1, 0),
         ];
         for (words, kept, dropped) in contents {
-            let mut lost = pages;
+            let mut lost = left.pages;
             lost[place] = words;
             let others = u16::from(lost[1 - place] != [0xFFFF; 128]);
-            let left = restarted_in(&rt, &layout, &lost)?;
+            let told = told_in(&rt, &layout, &lost)?;
             if others == 1 {
-                assert!(rt; left.told.kept.checked_sub(others) == Some(kept));
-                assert!(rt; left.told.dropped == dropped);
+                assert!(rt; told.kept.checked_sub(others) == Some(kept));
+                assert!(rt; told.dropped == dropped);
             }
         }
     }

@@ -14,14 +14,16 @@ use tk_run::{End, Machine, Options};
 /// Writes 0 to PORTA, and jumps to itself.
 const PORT: [u16; 2] = [0xBB0B, 0xCFFF];
 
-pub(crate) fn boot(rt: &HostRuntime, words: &[u16], quantum: u8) -> Result<Machine, Fail>
+/// A machine that has done nothing, in a box: where a machine itself is let go, the proof goes through all its parts.
+pub(crate) fn boot(rt: &HostRuntime, words: &[u16], quantum: u8) -> Result<Box<Machine>, Fail>
     requires quantum { 1 ≤ quantum }
     requires few { length words.now ≤ 24576 }
 {
     let image = Image::from_words(rt.alloc(), words)?;
     let script = read(rt.alloc(), b"")?;
     let options = Options { quantum, swap: 128 };
-    Ok(Machine::boot(rt.alloc(), &image, script, options)?)
+    let machine = Machine::boot(rt.alloc(), &image, script, options)?;
+    Ok(Box::new(rt.alloc(), machine)?)
 }
 
 /// Runs a machine that can run on.

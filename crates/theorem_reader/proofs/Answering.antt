@@ -36,7 +36,7 @@ use Rattle.tkernel_cli.specs.declared.top.Exit.{Exit}
 use Rattle.cli_requests.specs.Asking.{IsWarranted, Tells}
 use Rattle.cli_requests.specs.Reading.{Good}
 use Rattle.cli_words.specs.Stream.{Stream}
-use Rattle.cli_jobs.specs.Runs.{KeepsEnd, Runs, RunsToTheEnd, RunsIntoAFault, Follows, AreUnlisted, first_start}
+use Rattle.tkernel_cli.specs.Runs.{KeepsEnd, Runs, RunsToTheEnd, RunsIntoAFault, Follows, AreUnlisted, first_start}
 use Rattle.theorem_reader.specs.Acts.{HasActs, IsBoot, made_in}
 use Rattle.theorem_reader.specs.Pools.{AreFaithful, AreFaithfulBut}
 use Rattle.theorem_reader.specs.Ends.{end_of, IsKeptEnd}

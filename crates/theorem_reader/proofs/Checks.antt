@@ -18,7 +18,7 @@ use Rattle.cli_requests.specs.Reading.{AsksByText, IsUnread, Bad, Good, most_inp
 use Rattle.cli_words.specs.Stream.{Stream}
 use Rattle.byte_streams.specs.Streams.{Input}
 use Rattle.cli_requests.specs.Asking.{Asks, Tells}
-use Rattle.cli_jobs.specs.Runs.{Says}
+use Rattle.tkernel_cli.specs.Runs.{Says}
 use Rattle.tkernel_cli.specs.Answer.{Does, IsAnswer}
 use Rattle.cli_requests.proofs.Reasons.{all_taken, taken_of}
 use Rattle.cli_words.proofs.OneCommand.{one_command}

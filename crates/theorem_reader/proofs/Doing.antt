@@ -10,7 +10,7 @@ use Rattle.cli_words.specs.declared.status.Status.TheVariants as statuses
 use Rattle.cli_words.specs.Status.{number_of}
 use Rattle.cli_words.specs.Stream.{Stream}
 use Rattle.cli_requests.specs.Asking.{IsWarranted}
-use Rattle.cli_jobs.specs.Runs.{Says, Begins}
+use Rattle.tkernel_cli.specs.Runs.{Says, Begins}
 use Rattle.tkernel_cli.specs.declared.top.Exit.{Exit}
 use Rattle.tkernel_cli.specs.Answer.{Does, IsAnswer, IsExact}
 use Rattle.theorem_reader.specs.Telling.{Sink, Serves, Fails, IsFront, IsTold, IsRoomy, IsSo}

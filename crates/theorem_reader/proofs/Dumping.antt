@@ -11,8 +11,8 @@ use Rattle.cli_words.specs.declared.status.Status.{Status}
 use Rattle.cli_requests.specs.Asking.{Tells}
 use Rattle.tkernel_cli.specs.declared.top.Exit.{Exit}
 use Rattle.cli_requests.specs.Reading.{Good}
-use Rattle.cli_jobs.specs.Runs.{Runs}
-use Rattle.cli_jobs.specs.DumpRuns.{HasDumped, silent}
+use Rattle.tkernel_cli.specs.Runs.{Runs}
+use Rattle.tkernel_cli.specs.DumpRuns.{HasDumped, silent}
 use Rattle.theorem_reader.specs.Runs.{Asked, options_of}
 use Rattle.theorem_reader.specs.Dumps.{AsksDump, page_text, dump_text, HasEnded, Well, InAFault, IsDumped, NoMemory, Unwritten, Dumped}
 use Rattle.theorem_reader.specs.Telling.{Sink}

@@ -18,7 +18,7 @@ use Rattle.byte_streams.specs.Streams.{Input}
 use Rattle.cli_requests.specs.Asking.{Tells, IsWarranted}
 use Rattle.cli_requests.specs.Reading.{Bad, Good}
 use Rattle.cli_requests.specs.TasksCommand.{Refused}
-use Rattle.cli_jobs.specs.Runs.{Says}
+use Rattle.tkernel_cli.specs.Runs.{Says}
 use Rattle.tkernel_cli.specs.declared.top.Exit.{Exit}
 use Rattle.theorem_reader.specs.Refusals.{ReadsScript, Runs, Dumps, Restarts, ReadsHex, Scripted, Several, Checks, ReadsText, Program, Source, bad_line, IsUsage, Helped, Unknown, IsRefused, Usage, TooLong, BadHex, BadScript, BadScripts, BadImage, BadDump, BadSource, IsSaid, NoMemory, Said, AsksAsm, IsAssembled}
 use Rattle.theorem_reader.specs.Texts.{address}

@@ -36,9 +36,9 @@ use Rattle.cli_requests.specs.Asking.{Tells}
 use Rattle.tkernel_cli.specs.declared.top.Exit.{Exit}
 use Rattle.cli_requests.specs.Reading.{Good}
 use Rattle.cli_words.specs.Stream.{Stream}
-use Rattle.cli_jobs.specs.Runs.{Runs, Follows}
-use Rattle.cli_jobs.specs.DumpRuns.{silent}
-use Rattle.cli_jobs.specs.RestartRuns.{HasRestarted, RunsOver, lost_flash, refused_in, second_start}
+use Rattle.tkernel_cli.specs.Runs.{Runs, Follows}
+use Rattle.tkernel_cli.specs.DumpRuns.{silent}
+use Rattle.tkernel_cli.specs.RestartRuns.{HasRestarted, RunsOver, lost_flash, refused_in, second_start}
 use Rattle.printed_text.specs.RestartLines.{restart_text}
 use Rattle.cli_requests.proofs.ImageLength.{few_words}
 use Rattle.tk_restart.proofs.TornWords.{number_at, torn_word, length_torn}

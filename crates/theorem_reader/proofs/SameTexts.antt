@@ -10,7 +10,7 @@ use Rattle.printed_text.specs.Ends.{stop_text, end_text}
 use Rattle.printed_text.specs.StopLines.{end_line}
 use Rattle.kernel_entry.specs.declared.kernel.End.TheVariants as ends
 use Rattle.program_steps.specs.Machines.{Machine}
-use Rattle.cli_jobs.specs.Runs.{count_line_of, status_of_end}
+use Rattle.tkernel_cli.specs.Runs.{count_line_of, status_of_end}
 use Rattle.cli_words.specs.Status.{number_of}
 use Rattle.printed_text.specs.Counts.{count_text}
 use Rattle.theorem_reader.specs.Texts.{port_word, device_line, end_words, stop_line, count_line, end_status}

@@ -26,7 +26,7 @@ use Rattle.cli_words.specs.declared.status.Status.TheVariants as status
 use Rattle.cli_requests.specs.Asking.{Tells}
 use Rattle.tkernel_cli.specs.declared.top.Exit.{Exit}
 use Rattle.cli_requests.specs.Reading.{Good}
-use Rattle.cli_jobs.specs.Runs.{status_of_end}
+use Rattle.tkernel_cli.specs.Runs.{status_of_end}
 use Rattle.cli_words.specs.Status.{number_of}
 use Rattle.cli_requests.specs.TasksCommand.{Placed}
 use Rattle.tkernel_cli.specs.TasksRuns.{RunsTasks, RunsTasksToTheEnd, EachIsAlone, run_of_task, all_told, turns_by, start_by, worse, worst, status_of_task}

@@ -19,7 +19,7 @@ use Rattle.cli_requests.specs.Reading.{AsksByText, IsJudged, IsUnread}
 use Rattle.cli_requests.specs.RunCommand.{RunAsks}
 use Rattle.cli_requests.proofs.Judging.{text_wants}
 use Rattle.cli_requests.proofs.Reasons.{Wanting, Same, why}
-use Rattle.cli_jobs.specs.Runs.{Says}
+use Rattle.tkernel_cli.specs.Runs.{Says}
 use Rattle.tk_watch.specs.declared.view.View.{View}
 use Rattle.tk_watch.specs.declared.view.View.TheVariants.{Lines}
 use Rattle.tk_watch.specs.Answer.{Does, IsAnswer, IsExact}

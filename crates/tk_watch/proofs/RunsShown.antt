@@ -14,8 +14,8 @@ use Rattle.tk_run.proofs.Booting.{begun_boot, run_start}
 use Rattle.cli_words.specs.declared.request.Request.{Request}
 use Rattle.cli_words.specs.declared.status.Status.{Status}
 use Rattle.cli_words.specs.Stream.{Stream}
-use Rattle.cli_jobs.specs.Runs.{Says, original_of, status_of_stop}
-use Rattle.cli_jobs.proofs.RunEnds.{ran_silently}
+use Rattle.tkernel_cli.specs.Runs.{Says, original_of, status_of_stop}
+use Rattle.tkernel_cli.proofs.RunEnds.{ran_silently}
 use Rattle.tk_watch.specs.declared.view.View.{View}
 use Rattle.tk_watch.specs.declared.view.View.TheVariants.{Lines, Profile}
 use Rattle.tk_watch.specs.NumberedLines.{numbered_lines}

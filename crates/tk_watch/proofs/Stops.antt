@@ -17,9 +17,9 @@ use Rattle.cli_words.specs.declared.request.Request.{Request}
 use Rattle.cli_words.specs.declared.status.Status.{Status}
 use Rattle.cli_words.specs.declared.status.Status.TheVariants as status
 use Rattle.cli_words.specs.Stream.{Stream}
-use Rattle.cli_jobs.specs.DumpRuns.{silent}
-use Rattle.cli_jobs.specs.Runs.{Says, Runs, AreUnlisted, RunsToTheEnd, RunsIntoAFault, KeepsEnd, first_start, original_of, whole_run, checkpoints_of, status_of_end, status_of_stop}
-use Rattle.cli_jobs.proofs.Putting.{said_on}
+use Rattle.tkernel_cli.specs.DumpRuns.{silent}
+use Rattle.tkernel_cli.specs.Runs.{Says, Runs, AreUnlisted, RunsToTheEnd, RunsIntoAFault, KeepsEnd, first_start, original_of, whole_run, checkpoints_of, status_of_end, status_of_stop}
+use Rattle.tkernel_cli.proofs.Putting.{said_on}
 use Rattle.tk_watch.specs.declared.view.View.{View}
 use Rattle.tk_watch.specs.Views.{Shows, shown, ended_text, failed_text}
 use Rattle.tk_watch.specs.Watching.{kept_end, stop_of}

@@ -6,7 +6,7 @@ use Rattle.cli_words.specs.declared.status.Status.{Status}
 use Rattle.cli_words.specs.Printed.{no_memory}
 use Rattle.cli_words.specs.Stream.{Stream}
 use Rattle.byte_streams.specs.Streams.{Input}
-use Rattle.cli_jobs.specs.Runs.{Says}
+use Rattle.tkernel_cli.specs.Runs.{Says}
 use Rattle.tk_watch.specs.declared.view.View.{View}
 use Rattle.tk_watch.specs.Views.{Shows}
 use Rattle.tk_watch.specs.Words.{IsAsked, IsWarranted}

@@ -11,8 +11,8 @@ use Rattle.cli_words.specs.declared.request.Request.{Request}
 use Rattle.cli_words.specs.declared.status.Status.{Status}
 use Rattle.cli_words.specs.declared.status.Status.TheVariants as status
 use Rattle.cli_words.specs.Stream.{Stream}
-use Rattle.cli_jobs.specs.DumpRuns.{silent}
-use Rattle.cli_jobs.specs.Runs.{Says, AreUnlisted, RunsToTheEnd, RunsIntoAFault, first_start, original_of, whole_run, checkpoints_of, status_of_end}
+use Rattle.tkernel_cli.specs.DumpRuns.{silent}
+use Rattle.tkernel_cli.specs.Runs.{Says, AreUnlisted, RunsToTheEnd, RunsIntoAFault, first_start, original_of, whole_run, checkpoints_of, status_of_end}
 use Rattle.tk_watch.specs.declared.view.View.{View}
 use Rattle.tk_watch.specs.declared.view.View.TheVariants.{Lines, State, Memory, Profile}
 use Rattle.tk_watch.specs.NumberedLines.{numbered_lines}

@@ -11,7 +11,7 @@ use Rattle.tk_run.specs.Running.{HasAdvanced, original_from}
 use Rattle.cli_words.specs.declared.status.Status.{Status}
 use Rattle.cli_words.specs.declared.status.Status.TheVariants as status
 use Rattle.cli_words.specs.Stream.{Stream}
-use Rattle.cli_jobs.specs.Runs.{Says, status_of_stop}
+use Rattle.tkernel_cli.specs.Runs.{Says, status_of_stop}
 use Rattle.tk_watch.specs.NumberedLines.{numbered_lines}
 use Rattle.tk_watch.specs.ProfileText.{profile_text, times_at}
 

@@ -1,7 +1,7 @@
 //! The command line of tkwatch as a library: words and an input in, what is shown of a run and a status out.
 //!
 //! A watched run is that of `tkernel run` over the same words and the same input (crates `cli_words`, `cli_requests`, `tk_run`
-//! and `cli_jobs`), and watching changes nothing of it. The first word is a view, which says what is shown:
+//! and `tkernel_cli`), and watching changes nothing of it. The first word is a view, which says what is shown:
 //!
 //! - `lines`: each device line, with the number of the step that wrote it;
 //! - `state`: the program's core, its polls, events and pages, and the interrupts, as the run leaves them;

@@ -9,7 +9,7 @@ ghost use Rattle.tk_run.specs.Booted.{booted as booted_by};
 ghost use Rattle.cli_words.specs.Commands.{AreOptions};
 ghost use Rattle.cli_words.specs.declared.status.Status.TheVariants.{NoMemory as NoMemoryStatus};
 ghost use Rattle.cli_words.specs.Stream.{stream};
-ghost use Rattle.cli_jobs.specs.Runs.{Says, status_of_stop};
+ghost use Rattle.tkernel_cli.specs.Runs.{Says, status_of_stop};
 ghost use Rattle.program_steps.specs.Machines.{flat_of};
 ghost use Rattle.tk_watch.specs.declared.view.View.TheVariants.{Lines, Memory, Profile, State};
 ghost use Rattle.tk_watch.specs.MemoryText.{memory_text};
@@ -22,7 +22,6 @@ use crate::memory::tell_memory;
 use crate::profile::{counted_steps, no_counts, tell_counts};
 use crate::state::{Bounds, tell_state};
 use byte_streams::{Failed, NoMemory, Sink};
-use cli_jobs::{run_silently, say, status_of};
 use cli_words::{Request, RunOptions, Status};
 use hex_image::Image;
 use input_script::Script;
@@ -33,6 +32,7 @@ use printed_text::{NO_MEMORY, stop_line};
 use program_steps::Progress;
 use std::alloc::Global;
 use tk_run::{Machine, Options};
+use tkernel_cli::{run_silently, say, status_of};
 
 /// How a run ended, and after how many steps and checkpoints.
 #[derive(Clone, Copy)]

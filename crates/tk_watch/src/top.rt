@@ -6,7 +6,7 @@ ghost use Rattle.cli_words.specs.declared.request.Request.{Request as RequestVal
 ghost use Rattle.cli_words.specs.declared.status.Status.TheVariants.{Done, NoMemory, Usage};
 ghost use Rattle.byte_streams.specs.Streams.{input_of};
 ghost use Rattle.cli_words.specs.Stream.{stream};
-ghost use Rattle.cli_jobs.specs.Runs.{Says, original_of};
+ghost use Rattle.tkernel_cli.specs.Runs.{Says, original_of};
 ghost use Rattle.tk_watch.specs.declared.view.View.{View};
 ghost use Rattle.tk_watch.specs.Answer.{IsAnswer, IsExact};
 ghost use Rattle.tk_watch.specs.NumberedLines.{TellsNumbered, numbered_lines};
@@ -16,10 +16,10 @@ ghost use Rattle.tk_watch.specs.Words.{AskForHelp, AskToWatch};
 use crate::showing::{show_lines, show_memory, show_profile, show_state};
 use crate::view::View;
 use byte_streams::{Sink, Source};
-use cli_jobs::say;
 use cli_requests::run_job;
 use cli_words::{Job, Request, RunOptions, Status, run_options_of};
 use std::alloc::Global;
+use tkernel_cli::say;
 
 /// What is printed where the words ask for no view.
 const USAGE: &[u8] =

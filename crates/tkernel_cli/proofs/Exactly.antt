@@ -12,7 +12,7 @@ use Rattle.cli_requests.proofs.Judging.{memory_asked}
 use Rattle.cli_requests.proofs.Reasons.{Wanting, Same, why}
 use Rattle.tkernel_cli.specs.declared.top.Exit.{Exit}
 use Rattle.tkernel_cli.specs.Answer.{Does, IsAnswer, IsExact}
-use Rattle.cli_jobs.specs.Jobs.{DoesAlone}
+use Rattle.tkernel_cli.specs.Jobs.{DoesAlone}
 use Rattle.tkernel_cli.specs.TasksRuns.{HasTasksRun}
 
 -- what is done for one program or for none

@@ -1,3 +1,9 @@
--- Lemmas on the runs of several tasks, and on what words and an input ask for.
+-- Lemmas on a whole run, on texts that are put one after another, on the runs of several tasks, and on what words and an input
+-- ask for.
+pub mod Putting
+pub mod RunEnds
+pub mod LostFlash
+pub mod RestartEnds
+mod DoneJobs
 mod TasksEnds
 pub mod Exactly

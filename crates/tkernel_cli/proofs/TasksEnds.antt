@@ -23,10 +23,10 @@ use Rattle.cli_words.specs.declared.status.Status.{Status}
 use Rattle.cli_words.specs.declared.status.Status.TheVariants as status
 use Rattle.cli_words.specs.Commands.{AreTasks}
 use Rattle.cli_words.specs.Stream.{Stream}
-use Rattle.cli_jobs.specs.Runs.{Says, Begins}
+use Rattle.tkernel_cli.specs.Runs.{Says, Begins}
 use Rattle.tkernel_cli.specs.TasksRuns.{AreAtReset, RunsTasks, EachIsAlone, all_told, run_of_task, start_by, start_of, turns_by, worst}
 use Rattle.printed_text.specs.Counts.{tasks_count_text}
-use Rattle.cli_jobs.proofs.Putting.{said_on, begun_on}
+use Rattle.tkernel_cli.proofs.Putting.{said_on, begun_on}
 
 -- what stands of the tasks at boot
 pub record Starts (request : TaskRequest) (start : Tasks) : Type 0 where

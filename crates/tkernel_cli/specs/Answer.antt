@@ -6,7 +6,7 @@ use Rattle.cli_requests.specs.Asking.{IsAsked, IsWarranted}
 use Rattle.cli_words.specs.Printed.{no_memory}
 use Rattle.cli_words.specs.Stream.{Stream}
 use Rattle.byte_streams.specs.Streams.{Input}
-use Rattle.cli_jobs.specs.Jobs.{DoesAlone}
+use Rattle.tkernel_cli.specs.Jobs.{DoesAlone}
 use Rattle.tkernel_cli.specs.declared.top.Exit.{Exit}
 use Rattle.tkernel_cli.specs.TasksRuns.{HasTasksRun}
 

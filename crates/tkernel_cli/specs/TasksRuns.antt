@@ -21,7 +21,7 @@ use Rattle.cli_words.specs.declared.status.Status.{Status}
 use Rattle.cli_words.specs.declared.status.Status.TheVariants as status
 use Rattle.tkernel_cli.specs.declared.top.Exit.{Exit}
 use Rattle.cli_words.specs.Stream.{Stream}
-use Rattle.cli_jobs.specs.Runs.{Says, Begins, status_of_end}
+use Rattle.tkernel_cli.specs.Runs.{Says, Begins, status_of_end}
 use Rattle.cli_words.specs.Status.{number_of}
 use Rattle.printed_text.specs.Counts.{tasks_count_text}
 

@@ -1,7 +1,7 @@
 //! The command line of tkernel as a library: words and an input in, lines and a status out.
 //!
 //! [`tkernel`] is the whole program but for the process around it. The words and the input ask for a job (crate
-//! `cli_requests`), which is done by crate `cli_jobs`, or here where it is several tasks. The words are one of eight commands:
+//! `cli_requests`), which is done here: a line or a text is printed, or programs are run. The words are one of eight commands:
 //!
 //! - `run` reads and judges a program, runs it, and prints its lines;
 //! - `dump` does so without them, and prints the dump of the flash that the run leaves (crate `pool_check`);
@@ -22,10 +22,19 @@
 //! // natural 3 entries 1 pages 1
 //! assert_eq!(rt; exit.status, Status::Done);
 //! ```
+//!
+//! `specs/Answer` is what is answered, `specs/Jobs` what is done for each job, and `specs/Runs`, `specs/DumpRuns`,
+//! `specs/RestartRuns` and `specs/TasksRuns` what holds of a run.
 #![tactic(auto)]
 
+mod dumping;
+mod job;
+mod restarting;
+mod running;
 mod tasking;
 mod top;
 
 pub use cli_words::{Command, RunOptions, Status, TaskOptions, command_of};
+pub use job::say;
+pub use running::{run_silently, status_of};
 pub use top::{Exit, tkernel};

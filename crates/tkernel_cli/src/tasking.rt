@@ -4,21 +4,21 @@ ghost use Rattle.tkernel_cli.specs.Answer.{Does};
 ghost use Rattle.cli_words.specs.Commands.{AreTasks};
 ghost use Rattle.cli_words.specs.declared.status.Status.TheVariants.{Done};
 ghost use Rattle.cli_words.specs.Printed.{no_memory};
-ghost use Rattle.cli_jobs.specs.Runs.{Says};
+ghost use Rattle.tkernel_cli.specs.Runs.{Says};
 ghost use Rattle.cli_words.specs.Stream.{stream};
 ghost use Rattle.tkernel_cli.specs.TasksRuns.{HasTasksRun, status_of_task as status_at, worse as worse_of, worst};
 ghost use Rattle.printed_text.specs.Counts.{tasks_count_text};
 
+use crate::job::say;
 use crate::top::Exit;
 use byte_streams::Sink;
-use cli_jobs::say;
 use cli_words::{Status, TaskRequest};
 use kernel_entry::Stop;
 use printed_text::{NO_MEMORY, task_counts};
 use std::alloc::Global;
 use tk_tasks::{Task, TaskEnd, Tasks};
 
-/// Runs several programs in turn, each to its end, and puts their lines. Not inlined, as the jobs of crate `cli_jobs` aren't.
+/// Runs several programs in turn, each to its end, and puts their lines. Not inlined, as the other jobs aren't.
 #[inline(never)]
 pub(crate) fn run_tasks<K: Sink>(alloc: Global, request: TaskRequest, out: &mut K) -> Exit
     requires possible { AreTasks request }

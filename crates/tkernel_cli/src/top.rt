@@ -4,9 +4,9 @@ ghost use Rattle.tkernel_cli.specs.Answer.{IsAnswer, IsExact};
 ghost use Rattle.byte_streams.specs.Streams.{input_of};
 ghost use Rattle.cli_words.specs.Stream.{stream};
 
+use crate::job::{Outcome, do_job};
 use crate::tasking::run_tasks;
 use byte_streams::{Sink, Source};
-use cli_jobs::{Outcome, do_job};
 use cli_requests::job_of;
 use cli_words::Status;
 use std::alloc::Global;

@@ -14,7 +14,8 @@ use theorem_reader::{
 /// More bytes than an input may have.
 const LONG: usize = 2_097_153;
 
-/// What tests look at of what a call told. Each call stands in a function of its own, so that no test carries its contract.
+/// What tests look at of what a call told. Each call stands in a function of its own, so that no test carries its contract, and
+/// what it told is let go in one place, since the proof goes through all parts of that.
 #[derive(Drop)]
 struct Said {
     status: u8,
@@ -22,7 +23,7 @@ struct Said {
     keeps: &'static str,
 }
 
-fn looked_at<const N: usize>(alloc: Global, told: &Told<N>) -> Result<Said, Fail> {
+fn looked_at<const N: usize>(alloc: Global, told: Told<N>) -> Result<Said, Fail> {
     Ok(Said {
         status: told.status,
         text: told.out.taken().to_vec(alloc)?,
@@ -41,74 +42,74 @@ fn is(said: &Said, status: u8, text: &[u8], keeps: &str) -> bool {
 }
 
 fn run(alloc: Global) -> Result<Said, Fail> {
-    looked_at(alloc, &run_example::<ROOM>(alloc)?)
+    looked_at(alloc, run_example::<ROOM>(alloc)?)
 }
 
 fn run_alone(alloc: Global) -> Result<Said, Fail> {
     let image = Image::from_words(alloc, &[0xE00F, 0xBB0B, 0xCFFF])?;
-    looked_at(alloc, &run_image::<ROOM>(alloc, &image)?)
+    looked_at(alloc, run_image::<ROOM>(alloc, &image)?)
 }
 
 fn dump(alloc: Global) -> Result<Said, Fail> {
-    looked_at(alloc, &dump_example::<20_000>(alloc)?)
+    looked_at(alloc, dump_example::<20_000>(alloc)?)
 }
 
 fn restart(alloc: Global) -> Result<Said, Fail> {
-    looked_at(alloc, &restart_example::<ROOM>(alloc)?)
+    looked_at(alloc, restart_example::<ROOM>(alloc)?)
 }
 
 fn tasks(alloc: Global) -> Result<Said, Fail> {
-    looked_at(alloc, &tasks_example::<ROOM>(alloc)?)
+    looked_at(alloc, tasks_example::<ROOM>(alloc)?)
 }
 
 fn check(alloc: Global) -> Result<Said, Fail> {
-    looked_at(alloc, &check_example::<ROOM>(alloc)?)
+    looked_at(alloc, check_example::<ROOM>(alloc)?)
 }
 
 fn asm(alloc: Global) -> Result<Said, Fail> {
-    looked_at(alloc, &asm_example::<ROOM>(alloc)?)
+    looked_at(alloc, asm_example::<ROOM>(alloc)?)
 }
 
 fn generate(alloc: Global) -> Result<Said, Fail> {
-    looked_at(alloc, &generate_example::<ROOM>(alloc)?)
+    looked_at(alloc, generate_example::<ROOM>(alloc)?)
 }
 
 fn help(alloc: Global) -> Result<Said, Fail> {
-    looked_at(alloc, &help_example::<ROOM>(alloc)?)
+    looked_at(alloc, help_example::<ROOM>(alloc)?)
 }
 
 fn bad_hex(alloc: Global) -> Result<Said, Fail> {
-    looked_at(alloc, &bad_hex_example::<ROOM>(alloc)?)
+    looked_at(alloc, bad_hex_example::<ROOM>(alloc)?)
 }
 
 fn bad_source(alloc: Global) -> Result<Said, Fail> {
-    looked_at(alloc, &bad_source_example::<ROOM>(alloc)?)
+    looked_at(alloc, bad_source_example::<ROOM>(alloc)?)
 }
 
 fn bad_script(alloc: Global) -> Result<Said, Fail> {
-    looked_at(alloc, &bad_script_example::<ROOM>(alloc)?)
+    looked_at(alloc, bad_script_example::<ROOM>(alloc)?)
 }
 
 fn bad_task_script(alloc: Global) -> Result<Said, Fail> {
-    looked_at(alloc, &bad_task_script_example::<ROOM>(alloc)?)
+    looked_at(alloc, bad_task_script_example::<ROOM>(alloc)?)
 }
 
 fn bad_task_image(alloc: Global) -> Result<Said, Fail> {
-    looked_at(alloc, &bad_task_image_example::<ROOM>(alloc)?)
+    looked_at(alloc, bad_task_image_example::<ROOM>(alloc)?)
 }
 
 fn bad_dump(alloc: Global) -> Result<Said, Fail> {
-    looked_at(alloc, &bad_dump_example::<ROOM>(alloc)?)
+    looked_at(alloc, bad_dump_example::<ROOM>(alloc)?)
 }
 
 fn broken(alloc: Global) -> Result<Said, Fail> {
-    looked_at(alloc, &broken_example::<ROOM>(alloc)?)
+    looked_at(alloc, broken_example::<ROOM>(alloc)?)
 }
 
 fn too_long(alloc: Global) -> Result<Said, Fail> {
     let mut text = Vec::new(alloc);
     text.resize(LONG, 0)?;
-    looked_at(alloc, &long_example::<ROOM>(alloc, &text)?)
+    looked_at(alloc, long_example::<ROOM>(alloc, &text)?)
 }
 
 /// The example is the first program with a script that changes nothing.

@@ -2,4 +2,4 @@ use Rattle.heap_frames.specs.Paged.{IsPaged}
 use Rattle.kernel_tests.proofs.guarded_memory.edges_of_the_window.Given as goal
 
 abbrev pub invariant-loop-word : goal.invariant-loop-word
-invariant-loop-word g l = IsPaged l.parts.sram l.parts.swap
+invariant-loop-word g l = IsPaged l.parts.value.sram l.parts.value.swap

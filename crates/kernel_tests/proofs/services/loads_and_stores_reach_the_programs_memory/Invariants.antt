@@ -2,4 +2,4 @@ use Rattle.heap_frames.specs.Paged.{IsPaged}
 use Rattle.kernel_tests.proofs.services.loads_and_stores_reach_the_programs_memory.Given as goal
 
 abbrev pub invariant-loop-at : goal.invariant-loop-at
-invariant-loop-at g l = IsPaged l.k.mote.sram l.k.mote.swap
+invariant-loop-at g l = IsPaged l.k.value.mote.sram l.k.value.mote.swap

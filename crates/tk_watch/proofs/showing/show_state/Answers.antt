@@ -2,7 +2,7 @@ use Rattle.std.proofs.Common.{ℕ, ◌++◌, List, length, inl, subst, arith}
 use Rattle.input_script.specs.declared.input.Event.{Event}
 use Rattle.program_steps.specs.Machines.{flat_of}
 use Rattle.cli_words.specs.Stream.{stream}
-use Rattle.cli_jobs.specs.Runs.{Says, status_of_stop}
+use Rattle.tkernel_cli.specs.Runs.{Says, status_of_stop}
 use Rattle.tk_watch.specs.declared.view.View.TheVariants.{State}
 use Rattle.tk_watch.specs.StateText.{state_text}
 use Rattle.tk_watch.specs.Watching.{kept_end, stop_of}

@@ -3,7 +3,7 @@ use Rattle.printed_text.specs.StopLines.{end_line}
 use Rattle.program_steps.specs.Wholes.{whole}
 use Rattle.tk_run.specs.Running.{original_from}
 use Rattle.cli_words.specs.Stream.{stream}
-use Rattle.cli_jobs.specs.Runs.{Says, status_of_stop}
+use Rattle.tkernel_cli.specs.Runs.{Says, status_of_stop}
 use Rattle.tk_watch.specs.NumberedLines.{numbered_lines}
 use Rattle.tk_watch.specs.Watching.{HasShown, stop_of}
 use Rattle.tk_watch.proofs.Stops.{said_behind}

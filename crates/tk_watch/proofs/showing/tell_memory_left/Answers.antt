@@ -3,7 +3,7 @@ use Rattle.byte_streams.specs.Streams.{IsSent}
 use Rattle.heap_frames.specs.Memory.{vmem}
 use Rattle.program_steps.specs.Machines.{Machine, flat_of}
 use Rattle.cli_words.specs.Stream.{stream}
-use Rattle.cli_jobs.specs.Runs.{status_of_stop}
+use Rattle.tkernel_cli.specs.Runs.{status_of_stop}
 use Rattle.tk_watch.specs.MemoryText.{memory_text}
 use Rattle.tk_watch.specs.Watching.{kept_end, stop_of}
 use Rattle.tk_watch.proofs.Stops.{said_behind, stop_said}

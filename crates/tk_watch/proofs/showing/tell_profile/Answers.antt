@@ -5,8 +5,8 @@ use Rattle.printed_text.specs.StopLines.{end_line}
 use Rattle.program_steps.specs.Wholes.{whole}
 use Rattle.tk_run.specs.Running.{original_from}
 use Rattle.cli_words.specs.Stream.{stream}
-use Rattle.cli_jobs.specs.Runs.{Says, status_of_stop}
-use Rattle.cli_jobs.proofs.Putting.{said_cut}
+use Rattle.tkernel_cli.specs.Runs.{Says, status_of_stop}
+use Rattle.tkernel_cli.proofs.Putting.{said_cut}
 use Rattle.tk_watch.specs.ProfileText.{profile_text, times_at}
 use Rattle.tk_watch.specs.Watching.{stop_of}
 use Rattle.tk_watch.proofs.ProfileLaws.{profile_same}

@@ -2,8 +2,8 @@ use Rattle.std.proofs.Common.{◌++◌, subst}
 use Rattle.byte_streams.specs.Streams.{CutShort, IsSent}
 use Rattle.program_steps.specs.Machines.{flat_of}
 use Rattle.cli_words.specs.Stream.{stream}
-use Rattle.cli_jobs.specs.Runs.{status_of_stop}
-use Rattle.cli_jobs.proofs.Putting.{said_cut}
+use Rattle.tkernel_cli.specs.Runs.{status_of_stop}
+use Rattle.tkernel_cli.proofs.Putting.{said_cut}
 use Rattle.tk_watch.specs.StateText.{state_text}
 use Rattle.tk_watch.specs.Watching.{kept_end, stop_of}
 use Rattle.tk_watch.proofs.Stops.{said_behind, stop_said}
