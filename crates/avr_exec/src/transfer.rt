@@ -2,10 +2,12 @@
 
 ghost use Rattle.std.specs.Prelude.{ℕ, ◌≡◌, ◌≤◌, IfOk, OnErr};
 ghost use Rattle.avr_exec.specs.declared.answer.Answer.{Answer};
-ghost use Rattle.avr_exec.specs.declared.ask.Ask.TheVariants.{PushReturn};
+ghost use Rattle.avr_exec.specs.declared.ask.Ask.TheVariants.{Modify, PushReturn};
 ghost use Rattle.avr_exec.specs.Asks.{load_of, store_of};
-ghost use Rattle.avr_exec.specs.Effects.{called, loaded, stored};
+ghost use Rattle.avr_exec.specs.Effects.{called, loaded, stored, next as next_of};
 ghost use Rattle.avr_isa.specs.Addresses.{wrapping_sum};
+ghost use Rattle.avr_isa.specs.IoTable.{io_address};
+ghost use Rattle.avr_isa.specs.declared.form.Form.TheVariants.{LoadAt, Pop, Push, StoreAt};
 ghost use Rattle.avr_exec.specs.Registers.{register, with_counter, with_register};
 ghost use Rattle.avr_exec.specs.Execution.{answer_of, answered_by, exec_of, finished};
 ghost use Rattle.avr_exec.specs.Kinds.{kind_of, Fetch, Read, Deposit, Probe, Reach};
@@ -18,7 +20,7 @@ use crate::cpu::Cpu;
 use crate::effect::{advance, call, move_pointer, raise_z, return_to, skip};
 use crate::memory::{extended, extended_byte_raising, load, store};
 use crate::stop::BusStop;
-use avr_isa::{Form, Reg, relative};
+use avr_isa::{Form, LowIo, Ptr, Reg, relative};
 
 /// The bit of SREG that enables interrupts.
 const INTERRUPTS: u8 = 7;
@@ -68,6 +70,47 @@ fn store_register<B: Bus>(
     Ok(advance(cpu, pc, words))
 }
 
+/// Brings the byte at a pointer into a register, and moves the pointer.
+#[tactic(auto, unfolding(crate::specs::Execution::exec_of, crate::specs::Execution::answer_of, crate::specs::Asks::ask_of, crate::specs::Effects::finish_of))]
+#[inline(always)]
+fn load_pointed<B: Bus>(
+    cpu: &mut Cpu,
+    bus: &mut B,
+    pc: u16,
+    d: &Reg,
+    pointer: &Ptr,
+) -> Result<u16, BusStop>
+    requires at { pc ≡ cpu.old.pc }
+    requires ready { B.ready bus.old }
+    ensures outcome { (n : ℕ) → finished result cpu.new (B.space bus.new) ≡ exec_of B.calls (LoadAt d.now pointer.now) cpu.old (B.space bus.old) n }
+    ensures tells { IfOk result (λ pc. pc ≡ cpu.new.pc) }
+    ensures stop { OnErr result ((cpu.new ≡ cpu.old) × (B.space bus.new ≡ B.space bus.old)) }
+    ensures lent { B.lent bus.new ≡ B.lent bus.old }
+{
+    let before = cpu.pair(low_register(pointer));
+    let value = load(cpu, bus, target(cpu, pointer))?;
+    cpu.set_byte(d, value);
+    move_pointer(cpu, pointer, before);
+    Ok(advance(cpu, pc, 1))
+}
+
+/// Pops a byte into a register.
+#[tactic(auto, unfolding(crate::specs::Execution::exec_of, crate::specs::Execution::answer_of, crate::specs::Asks::ask_of, crate::specs::Effects::finish_of))]
+#[inline(always)]
+fn pop_register<B: Bus>(cpu: &mut Cpu, bus: &mut B, pc: u16, d: &Reg) -> Result<u16, BusStop>
+    requires at { pc ≡ cpu.old.pc }
+    requires ready { B.ready bus.old }
+    ensures outcome { (n : ℕ) → finished result cpu.new (B.space bus.new) ≡ exec_of B.calls (Pop d.now) cpu.old (B.space bus.old) n }
+    ensures tells { IfOk result (λ pc. pc ≡ cpu.new.pc) }
+    ensures stop { OnErr result ((cpu.new ≡ cpu.old) × (B.space bus.new ≡ B.space bus.old)) }
+    ensures lent { B.lent bus.new ≡ B.lent bus.old }
+{
+    let value = bus.pop(cpu.sp)?;
+    cpu.set_byte(d, value);
+    cpu.sp = cpu.sp.wrapping_add(1);
+    Ok(advance(cpu, pc, 1))
+}
+
 /// An instruction that brings a byte into a register. Tells the new pc.
 #[tactic(auto, unfolding(crate::specs::Kinds::kind_of, crate::specs::Execution::exec_of, crate::specs::Execution::answer_of, crate::specs::Asks::ask_of, crate::specs::Effects::finish_of))]
 #[inline(always)]
@@ -86,25 +129,13 @@ pub(crate) fn fetch<B: Bus>(
     ensures lent { B.lent bus.new ≡ B.lent bus.old }
 {
     match form {
-        Form::LoadOff(d, base, q) => {
-            return load_register(cpu, bus, pc, d, displaced(cpu, base, q), 1);
-        }
-        Form::LoadAt(d, pointer) => {
-            let before = cpu.pair(low_register(pointer));
-            let value = load(cpu, bus, target(cpu, pointer))?;
-            cpu.set_byte(d, value);
-            move_pointer(cpu, pointer, before);
-        }
-        Form::Lds(d, a) => return load_register(cpu, bus, pc, d, *a, 2),
-        Form::InIo(d, a) => return load_register(cpu, bus, pc, d, a.address(), 1),
-        Form::Pop(d) => {
-            let value = bus.pop(cpu.sp)?;
-            cpu.set_byte(d, value);
-            cpu.sp = cpu.sp.wrapping_add(1);
-        }
+        Form::LoadOff(d, base, q) => load_register(cpu, bus, pc, d, displaced(cpu, base, q), 1),
+        Form::LoadAt(d, pointer) => load_pointed(cpu, bus, pc, d, pointer),
+        Form::Lds(d, a) => load_register(cpu, bus, pc, d, *a, 2),
+        Form::InIo(d, a) => load_register(cpu, bus, pc, d, a.address(), 1),
+        Form::Pop(d) => pop_register(cpu, bus, pc, d),
         _ => unreachable!(),
     }
-    Ok(advance(cpu, pc, 1))
 }
 
 /// An instruction that brings a byte of the program into a register. Tells the new pc.
@@ -142,6 +173,69 @@ pub(crate) fn read<B: Bus>(form: &Form, cpu: &mut Cpu, bus: &mut B, pc: u16) -> 
     advance(cpu, pc, 1)
 }
 
+/// Takes the byte in a register to a pointer, and moves the pointer.
+#[tactic(auto, unfolding(crate::specs::Execution::exec_of, crate::specs::Execution::answer_of, crate::specs::Asks::ask_of, crate::specs::Effects::finish_of))]
+#[inline(always)]
+fn store_pointed<B: Bus>(
+    cpu: &mut Cpu,
+    bus: &mut B,
+    pc: u16,
+    pointer: &Ptr,
+    r: &Reg,
+) -> Result<u16, BusStop>
+    requires at { pc ≡ cpu.old.pc }
+    requires ready { B.ready bus.old }
+    ensures outcome { (n : ℕ) → finished result cpu.new (B.space bus.new) ≡ exec_of B.calls (StoreAt pointer.now r.now) cpu.old (B.space bus.old) n }
+    ensures tells { IfOk result (λ pc. pc ≡ cpu.new.pc) }
+    ensures stop { OnErr result ((cpu.new ≡ cpu.old) × (B.space bus.new ≡ B.space bus.old)) }
+    ensures lent { B.lent bus.new ≡ B.lent bus.old }
+{
+    let before = cpu.pair(low_register(pointer));
+    let address = target(cpu, pointer);
+    store(cpu, bus, address, cpu.byte(r))?;
+    move_pointer(cpu, pointer, before);
+    Ok(advance(cpu, pc, 1))
+}
+
+/// Pushes the byte in a register.
+#[tactic(auto, unfolding(crate::specs::Execution::exec_of, crate::specs::Execution::answer_of, crate::specs::Asks::ask_of, crate::specs::Effects::finish_of))]
+#[inline(always)]
+fn push_register<B: Bus>(cpu: &mut Cpu, bus: &mut B, pc: u16, r: &Reg) -> Result<u16, BusStop>
+    requires at { pc ≡ cpu.old.pc }
+    requires ready { B.ready bus.old }
+    ensures outcome { (n : ℕ) → finished result cpu.new (B.space bus.new) ≡ exec_of B.calls (Push r.now) cpu.old (B.space bus.old) n }
+    ensures tells { IfOk result (λ pc. pc ≡ cpu.new.pc) }
+    ensures stop { OnErr result ((cpu.new ≡ cpu.old) × (B.space bus.new ≡ B.space bus.old)) }
+    ensures lent { B.lent bus.new ≡ B.lent bus.old }
+{
+    bus.push(cpu.sp, cpu.byte(r))?;
+    cpu.sp = cpu.sp.wrapping_sub(1);
+    Ok(advance(cpu, pc, 1))
+}
+
+/// Clears and sets bits of an I/O register.
+#[tactic(auto, unfolding(crate::specs::Execution::answer_of))]
+#[inline(always)]
+fn change_bits<B: Bus>(
+    cpu: &mut Cpu,
+    bus: &mut B,
+    pc: u16,
+    a: &LowIo,
+    clear: u8,
+    set: u8,
+) -> Result<u16, BusStop>
+    requires at { pc ≡ cpu.old.pc }
+    requires ready { B.ready bus.old }
+    ensures outcome { finished result cpu.new (B.space bus.new)
+        ≡ answered_by (λ (_ : Answer). next_of cpu.old) (answer_of B.calls (B.space bus.old) (Modify (io_address a.now) clear set)) }
+    ensures tells { IfOk result (λ pc. pc ≡ cpu.new.pc) }
+    ensures stop { OnErr result ((cpu.new ≡ cpu.old) × (B.space bus.new ≡ B.space bus.old)) }
+    ensures lent { B.lent bus.new ≡ B.lent bus.old }
+{
+    bus.modify(a.address(), clear, set)?;
+    Ok(advance(cpu, pc, 1))
+}
+
 /// An instruction that takes a byte elsewhere. Tells the new pc.
 #[tactic(auto, unfolding(crate::specs::Kinds::kind_of, crate::specs::Execution::exec_of, crate::specs::Execution::answer_of, crate::specs::Asks::ask_of, crate::specs::Effects::finish_of))]
 #[inline(always)]
@@ -160,26 +254,15 @@ pub(crate) fn deposit<B: Bus>(
     ensures lent { B.lent bus.new ≡ B.lent bus.old }
 {
     match form {
-        Form::StoreOff(base, q, r) => {
-            return store_register(cpu, bus, pc, displaced(cpu, base, q), r, 1);
-        }
-        Form::StoreAt(pointer, r) => {
-            let before = cpu.pair(low_register(pointer));
-            let address = target(cpu, pointer);
-            store(cpu, bus, address, cpu.byte(r))?;
-            move_pointer(cpu, pointer, before);
-        }
-        Form::Sts(a, r) => return store_register(cpu, bus, pc, *a, r, 2),
-        Form::OutIo(a, r) => return store_register(cpu, bus, pc, a.address(), r, 1),
-        Form::Push(r) => {
-            bus.push(cpu.sp, cpu.byte(r))?;
-            cpu.sp = cpu.sp.wrapping_sub(1);
-        }
-        Form::Cbi(a, b) => bus.modify(a.address(), bit_weight(b.get()), 0)?,
-        Form::Sbi(a, b) => bus.modify(a.address(), 0, bit_weight(b.get()))?,
+        Form::StoreOff(base, q, r) => store_register(cpu, bus, pc, displaced(cpu, base, q), r, 1),
+        Form::StoreAt(pointer, r) => store_pointed(cpu, bus, pc, pointer, r),
+        Form::Sts(a, r) => store_register(cpu, bus, pc, *a, r, 2),
+        Form::OutIo(a, r) => store_register(cpu, bus, pc, a.address(), r, 1),
+        Form::Push(r) => push_register(cpu, bus, pc, r),
+        Form::Cbi(a, b) => change_bits(cpu, bus, pc, a, bit_weight(b.get()), 0),
+        Form::Sbi(a, b) => change_bits(cpu, bus, pc, a, 0, bit_weight(b.get())),
         _ => unreachable!(),
     }
-    Ok(advance(cpu, pc, 1))
 }
 
 /// A skip by a bit of an I/O register. Tells the new pc.

@@ -6,8 +6,9 @@
 //! happen.
 //!
 //! [`StdSource`] and [`StdSink`] are the process's own streams: each of their calls is one call of a [`Reader`] or a
-//! [`Writer`], whose errors they count. [`NullSink`] drops what it takes. Streams in memory, and those that fail where it
-//! is wanted, are in crate `tk_io`, which has all names of this one too.
+//! [`Writer`], whose errors they count; [`program_words`] gives the words that the process was started with. [`NullSink`]
+//! drops what it takes. Streams in memory, and those that fail where it is wanted, are in crate `tk_io`, which has all
+//! names of this one too.
 #![tactic(auto)]
 
 mod edge;
@@ -17,6 +18,7 @@ mod passed;
 mod sink;
 mod source;
 mod standard;
+mod words;
 
 pub use edge::{Reader, Writer};
 pub use failure::{Failed, ReadAll};
@@ -25,3 +27,4 @@ pub use null::NullSink;
 pub use sink::{Sink, put};
 pub use source::{Source, read_all};
 pub use standard::{StdSink, StdSource};
+pub use words::program_words;

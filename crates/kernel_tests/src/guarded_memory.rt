@@ -130,26 +130,52 @@ fn classes(rt: HostRuntime) {
     }
 }
 
+/// STS and LDS bring a value of the address's own there and back.
+fn is_kept(rt: &impl Abort, cpu: &mut Cpu, parts: &mut Parts, a: u16)
+    requires paged { IsPaged parts.old.sram parts.old.swap }
+    ensures paged { IsPaged parts.new.sram parts.new.swap }
+{
+    let value = (a / 16 % 256) as u8;
+    cpu.r[16] = value;
+    cpu.r[17] = 0;
+    execute_silently(rt, cpu, parts, (0x9300, a));
+    is_loaded(rt, cpu, parts, a, value);
+}
+
+/// The instruction that has these words is stopped so.
+fn is_stopped(rt: &impl Abort, cpu: &mut Cpu, parts: &mut Parts, words: (u16, u16), stop: BusStop)
+    requires paged { IsPaged parts.old.sram parts.old.swap }
+    ensures paged { IsPaged parts.new.sram parts.new.swap }
+{
+    assert!(rt; execute(rt, cpu, parts, words) == Err(stop));
+}
+
 /// STS and LDS at each class: three pages of the heap have a slot, and the fourth has none.
 #[test]
 fn loads_and_stores(rt: HostRuntime) -> Result<(), Fail> {
     let mut parts = Box::new(rt.alloc(), parts_at_boot(&rt, 3)?)?;
     let mut cpu = cpu_at_reset();
     for a in [0x0CFF, 0x0D00, 0x10FF, 0x1100, 0x0100] {
-        let value = (a / 16 % 256) as u8;
-        cpu.r[16] = value;
-        cpu.r[17] = 0;
-        execute_silently(&rt, &mut cpu, &mut parts, (0x9300, a));
-        is_loaded(&rt, &mut cpu, &mut parts, a, value);
+        is_kept(&rt, &mut cpu, &mut parts, a);
     }
-    assert!(rt;
-        execute(&rt, &mut cpu, &mut parts, (0x9300, 0x0200)) == Err(BusStop::SwapFull(0x0200))
+    is_stopped(
+        &rt,
+        &mut cpu,
+        &mut parts,
+        (0x9300, 0x0200),
+        BusStop::SwapFull(0x0200),
     );
     cpu.sp = 0x1234;
     for (a, value) in [(0x0010, 0x10), (0x005E, 0x12), (0x0039, 0x77), (0x0200, 0)] {
         is_loaded(&rt, &mut cpu, &mut parts, a, value);
     }
-    assert!(rt; execute(&rt, &mut cpu, &mut parts, (0x9110, 0x003C)) == Err(BusStop::Io(0x003C)));
+    is_stopped(
+        &rt,
+        &mut cpu,
+        &mut parts,
+        (0x9110, 0x003C),
+        BusStop::Io(0x003C),
+    );
     assert!(rt; parts.sram.byte(0x0D00) == 0xD0);
     assert!(rt; parts.sram.byte(0x10FF) == 0x0F);
     assert!(rt; parts.sram.count() == 0);
@@ -186,7 +212,7 @@ fn a_register_of_one_direction(rt: HostRuntime) -> Result<(), Fail> {
     let mut parts = Box::new(rt.alloc(), parts_at_boot(&rt, 0)?)?;
     let mut cpu = cpu_at_reset();
     let pins = (0x9AC8, 0); // SBI PINA, 0
-    assert!(rt; execute(&rt, &mut cpu, &mut parts, pins) == Err(BusStop::Io(0x39)));
+    is_stopped(&rt, &mut cpu, &mut parts, pins, BusStop::Io(0x39));
     assert!(rt; parts.devices.polls() == 0);
     let port = (0x9AD8, 0); // SBI PORTA, 0
     let shown = Line {

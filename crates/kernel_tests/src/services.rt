@@ -257,34 +257,51 @@ fn ends_and_steps_of_the_kernel(rt: HostRuntime) -> Result<(), Fail> {
     Ok(())
 }
 
-/// SLEEP with INT2 enabled goes on behind itself at poll 7, and INT2 is taken before INT5.
-#[test]
-fn an_interrupt_ends_a_sleep(rt: HostRuntime) -> Result<(), Fail> {
-    let mut k = Box::new(rt.alloc(), kernel_at_boot(&rt, 0)?)?;
-    let call = Call {
-        entry: FAULT,
-        at: 8,
-        sp: 0x10FF,
-        sreg: 0x80,
-    };
-    is_served(&rt, &mut k, call, ("asleep", 8, 0), (0x10FF, 0x80, 3));
-    assert!(rt; matches!(taken(&rt, &mut k, 9, 0x10FF), Taken::Nothing));
+/// SLEEP, of a program that has interrupts enabled.
+const SLEEP: Call = Call {
+    entry: FAULT,
+    at: 8,
+    sp: 0x10FF,
+    sreg: 0x80,
+};
+
+/// SLEEP goes on behind itself at poll 7, once INT5 and INT2 are enabled.
+fn wakes_at_poll_7(rt: &impl Abort, k: &mut Kernel)
+    requires paged { IsPaged k.old.mote.sram k.old.mote.swap }
+    ensures paged { IsPaged k.new.mote.sram k.new.mote.swap }
+{
+    is_served(rt, k, SLEEP, ("asleep", 8, 0), (0x10FF, 0x80, 3));
+    assert!(rt; matches!(taken(rt, k, 9, 0x10FF), Taken::Nothing));
     assert!(rt; k.mote.devices.polls() == 0);
     assert!(rt; k.mote.devices.write(0x59, 0x24) == Ok(None));
-    is_served(&rt, &mut k, call, ("woke", 9, 0), (0x10FF, 0x80, 3));
+    is_served(rt, k, SLEEP, ("woke", 9, 0), (0x10FF, 0x80, 3));
     assert!(rt; k.mote.devices.polls() == 7);
     assert!(rt; k.mote.devices.enabled() == 0x24);
+}
+
+/// INT2 is taken before INT5, where the program's stack has room, and its return address is pushed.
+fn takes_the_lower_one(rt: &impl Abort, k: &mut Kernel)
+    requires paged { IsPaged k.old.mote.sram k.old.mote.swap }
+    ensures paged { IsPaged k.new.mote.sram k.new.mote.swap }
+{
     assert!(rt;
         matches!(
-            taken(&rt, &mut k, 9, 0x0D00),
+            taken(rt, k, 9, 0x0D00),
             Taken::Stopped(Stop::Stack(9, 0x0CFF))
         )
     );
-    assert!(rt; left(&k) == (0x0D00, 0x80, 3));
-    assert!(rt; matches!(taken(&rt, &mut k, 0x1234, 0x10FF), Taken::Vector(6)));
-    assert!(rt; left(&k) == (0x10FD, 0x00, 3));
+    assert!(rt; left(k) == (0x0D00, 0x80, 3));
+    assert!(rt; matches!(taken(rt, k, 0x1234, 0x10FF), Taken::Vector(6)));
+    assert!(rt; left(k) == (0x10FD, 0x00, 3));
     assert!(rt; k.mote.sram.byte(0x10FF) == 0x34);
     assert!(rt; k.mote.sram.byte(0x10FE) == 0x12);
+}
+
+#[test]
+fn an_interrupt_ends_a_sleep(rt: HostRuntime) -> Result<(), Fail> {
+    let mut k = Box::new(rt.alloc(), kernel_at_boot(&rt, 0)?)?;
+    wakes_at_poll_7(&rt, &mut k);
+    takes_the_lower_one(&rt, &mut k);
     assert!(rt; k.mote.devices.enabled() == 0x20);
     assert!(rt; matches!(taken(&rt, &mut k, 6, 0x10FD), Taken::Nothing));
     Ok(())
@@ -336,16 +353,30 @@ const ACCESSES: [(u16, u16, u16, Told, u8, u16); 18] = [
     (20, 1, 0, ON, 0, 0),
 ];
 
+/// The access of a row is answered, and leaves, as the row says.
+fn is_accessed(rt: &impl Abort, k: &mut Kernel, access: (u16, u16, u16, Told, u8, u16))
+    requires paged { IsPaged k.old.mote.sram k.old.mote.swap }
+    ensures paged { IsPaged k.new.mote.sram k.new.mote.swap }
+{
+    let (at, pointer, sp, want, r17, sp_after) = access;
+    let answer = told(accessed(rt, k, at, pointer, sp));
+    assert!(rt; answer == want, "{at}");
+    let pc = if want == ON { at.wrapping_add(33) } else { MEM };
+    has_gone_on(rt, k, at, r17, sp_after, pc);
+}
+
+/// An access at an address has left these.
+fn has_gone_on(rt: &impl Abort, k: &Kernel, at: u16, r17: u8, sp: u16, pc: u16) {
+    assert!(rt; left(k) == (sp, 0, 3), "{at}");
+    assert!(rt; k.mote.cpu.r[17] == r17, "{at}");
+    assert!(rt; k.mote.cpu.pc == pc, "{at}");
+}
+
 #[test]
 fn loads_and_stores_reach_the_programs_memory(rt: HostRuntime) -> Result<(), Fail> {
     let mut k = Box::new(rt.alloc(), kernel_at_boot(&rt, 1)?)?;
-    for (at, pointer, sp, want, r17, sp_after) in ACCESSES {
-        let answer = told(accessed(&rt, &mut k, at, pointer, sp));
-        assert!(rt; answer == want, "{at}");
-        assert!(rt; left(&k) == (sp_after, 0, 3), "{at}");
-        let pc = if want == ON { at.wrapping_add(33) } else { MEM };
-        assert!(rt; k.mote.cpu.r[17] == r17, "{at}");
-        assert!(rt; k.mote.cpu.pc == pc, "{at}");
+    for access in ACCESSES {
+        is_accessed(&rt, &mut k, access);
     }
     assert!(rt; k.mote.cpu.r[18] == 0x93);
     assert!(rt; k.mote.cpu.r[20] == 0x93);

@@ -2,10 +2,11 @@
 
 use hex_image::Image;
 use input_script::{Input, ScriptError, ScriptFault};
+use mote_core::Mote;
 use std::alloc::Global;
 use std::process::Abort;
 use std::test::Fail;
-use tk_tasks::{Tasks, misplaced_word, read_scripts, task_image};
+use tk_tasks::{Parked, Tasks, misplaced_word, read_scripts, task_image};
 
 /// The answer to a script of two tasks that is refused.
 fn refusal(rt: &impl Abort, alloc: Global, text: &[u8]) -> Option<ScriptError> {
@@ -131,16 +132,17 @@ fn two_tasks(alloc: Global, words: &[u16]) -> Result<Tasks, Fail> {
     Ok(Tasks::boot(alloc, &image, scripts, 200, 62)?)
 }
 
-#[test]
-fn a_task_comes_back_as_it_was(rt: HostRuntime) -> Result<(), Fail> {
-    let mut tasks = Box::new(rt.alloc(), two_tasks(rt.alloc(), &[0xE00F, 0xCFFF])?)?;
-    assert!(rt; tasks.running == 0);
+/// What the second of two tasks has parked, with the tasks without it.
+fn second_parked(tasks: &mut Tasks) -> Result<Parked, Fail> {
     let second = tasks.tasks.pop().ok_or("there are two tasks")?;
-    assert!(rt; second.at == 0x1000);
-    assert!(rt; second.owed == Some(0x1000));
-    let mut parked = second.parked.ok_or("the second task is parked")?;
-    assert!(rt; parked.low[0] == 200);
-    let mote = &mut tasks.kernel.mote;
+    if (second.at, second.owed) != (0x1000, Some(0x1000)) {
+        return Err("the second task is at its quarter".into());
+    }
+    Ok(second.parked.ok_or("the second task is parked")?)
+}
+
+/// The parts of a task at boot take the place of those of one that has run, and go back.
+fn changes_and_comes_back(rt: &impl Abort, mote: &mut Mote, parked: &mut Parked) {
     mote.cpu.r[0] = 9;
     mote.sram.set(0x0141, 1);
     mote.sram.set(0x0142, 5);
@@ -151,6 +153,16 @@ fn a_task_comes_back_as_it_was(rt: HostRuntime) -> Result<(), Fail> {
     assert!(rt; mote.sram.byte(0x0142) == 5);
     assert!(rt; mote.sram.byte(0x0D00) == 0);
     parked.exchange(mote);
+}
+
+#[test]
+fn a_task_comes_back_as_it_was(rt: HostRuntime) -> Result<(), Fail> {
+    let mut tasks = Box::new(rt.alloc(), two_tasks(rt.alloc(), &[0xE00F, 0xCFFF])?)?;
+    assert!(rt; tasks.running == 0);
+    let mut parked = second_parked(&mut tasks)?;
+    assert!(rt; parked.low[0] == 200);
+    let mote = &mut tasks.kernel.mote;
+    changes_and_comes_back(&rt, mote, &mut parked);
     assert!(rt; mote.cpu.r[0] == 9);
     assert!(rt; mote.sram.byte(0x0141) == 1);
     assert!(rt; mote.sram.byte(0x0D00) == 7);

@@ -39,8 +39,6 @@ pub(crate) fn fast_step(op: &MicroOp, cpu: &mut Cpu, sram: &mut Sram, pc: u16) -
     ensures none { IfNone result ((cpu.new ≡ cpu.old) × (sram.new ≡ sram.old)) }
 {
     match op {
-        MicroOp::Undecoded | MicroOp::Other => None,
-        MicroOp::Nop => next(cpu, pc),
         MicroOp::Movw(d, r) => set_pair(cpu, pc, d.get(), cpu.pair(r.get())),
         MicroOp::Cpc(d, r) => keep_flags(cpu, pc, sbc(cpu.sreg, cpu.byte(d), cpu.byte(r))),
         MicroOp::Sbc(d, r) => keep(cpu, pc, d.get(), sbc(cpu.sreg, cpu.byte(d), cpu.byte(r))),
@@ -48,36 +46,11 @@ pub(crate) fn fast_step(op: &MicroOp, cpu: &mut Cpu, sram: &mut Sram, pc: u16) -
         MicroOp::Cp(d, r) => keep_flags(cpu, pc, sub(cpu.sreg, cpu.byte(d), cpu.byte(r))),
         MicroOp::Sub(d, r) => keep(cpu, pc, d.get(), sub(cpu.sreg, cpu.byte(d), cpu.byte(r))),
         MicroOp::Adc(d, r) => keep(cpu, pc, d.get(), adc(cpu.sreg, cpu.byte(d), cpu.byte(r))),
-        MicroOp::And(d, r) => keep(
-            cpu,
-            pc,
-            d.get(),
-            and_bits(cpu.sreg, cpu.byte(d), cpu.byte(r)),
-        ),
         MicroOp::Eor(d, r) => keep(cpu, pc, d.get(), eor(cpu.sreg, cpu.byte(d), cpu.byte(r))),
-        MicroOp::Or(d, r) => keep(
-            cpu,
-            pc,
-            d.get(),
-            or_bits(cpu.sreg, cpu.byte(d), cpu.byte(r)),
-        ),
         MicroOp::Mov(d, r) => set(cpu, pc, d.get(), cpu.byte(r)),
-        MicroOp::Mul(d, r) => keep_pair(cpu, pc, 0, mul(cpu.sreg, cpu.byte(d), cpu.byte(r))),
         MicroOp::Cpi(d, k) => keep_flags(cpu, pc, sub(cpu.sreg, cpu.register(d.get()), *k)),
         MicroOp::Sbci(d, k) => keep(cpu, pc, d.get(), sbc(cpu.sreg, cpu.register(d.get()), *k)),
         MicroOp::Subi(d, k) => keep(cpu, pc, d.get(), sub(cpu.sreg, cpu.register(d.get()), *k)),
-        MicroOp::Ori(d, k) => keep(
-            cpu,
-            pc,
-            d.get(),
-            or_bits(cpu.sreg, cpu.register(d.get()), *k),
-        ),
-        MicroOp::Andi(d, k) => keep(
-            cpu,
-            pc,
-            d.get(),
-            and_bits(cpu.sreg, cpu.register(d.get()), *k),
-        ),
         MicroOp::Ldi(d, k) => set(cpu, pc, d.get(), *k),
         MicroOp::Adiw(p, k) => keep_pair(
             cpu,
@@ -91,11 +64,6 @@ pub(crate) fn fast_step(op: &MicroOp, cpu: &mut Cpu, sram: &mut Sram, pc: u16) -
             p.get(),
             sbiw(cpu.sreg, cpu.pair(p.get()), k.get()),
         ),
-        MicroOp::Com(d) => keep(cpu, pc, d.get(), com(cpu.sreg, cpu.byte(d))),
-        MicroOp::Neg(d) => keep(cpu, pc, d.get(), neg(cpu.sreg, cpu.byte(d))),
-        MicroOp::Swap(d) => set(cpu, pc, d.get(), swapped(cpu.byte(d))),
-        MicroOp::Inc(d) => keep(cpu, pc, d.get(), inc(cpu.sreg, cpu.byte(d))),
-        MicroOp::Asr(d) => keep(cpu, pc, d.get(), asr(cpu.sreg, cpu.byte(d))),
         MicroOp::Lsr(d) => keep(cpu, pc, d.get(), lsr(cpu.sreg, cpu.byte(d))),
         MicroOp::Ror(d) => keep(cpu, pc, d.get(), ror(cpu.sreg, cpu.byte(d))),
         MicroOp::Dec(d) => keep(cpu, pc, d.get(), dec(cpu.sreg, cpu.byte(d))),
@@ -132,6 +100,54 @@ pub(crate) fn fast_step(op: &MicroOp, cpu: &mut Cpu, sram: &mut Sram, pc: u16) -
             sram.set_return(sp, pc.wrapping_add(2));
             Some(call(cpu, *a))
         }
+        _ => seldom_step(op, cpu, pc),
+    }
+}
+
+/// A micro-operation that is met more seldom; each touches the core's registers alone. None for any other: then nothing is
+/// done. It is apart since a check takes time with the square of a function's length.
+#[tactic(auto, unfolding(avr_ops::specs::MicroOps::form_of, avr_ops::specs::MicroOps::next_size_in, avr_ops::specs::MicroOps::has_form, avr_exec::specs::Execution::exec_of, avr_exec::specs::Execution::answer_of, avr_exec::specs::Asks::ask_of, avr_exec::specs::Effects::finish_of, avr_exec::specs::Arithmetic::two_of, avr_exec::specs::Arithmetic::immediate_of, avr_exec::specs::Arithmetic::one_of))]
+#[inline(always)]
+fn seldom_step(op: &MicroOp, cpu: &mut Cpu, pc: u16) -> Option<u16>
+    requires at { pc ≡ cpu.old.pc }
+    ensures form { IfSome result (λ _. has_form op.now ≡ true) }
+    ensures went { IfSome result (λ _. (sram : List ℕ) (devices : State) (words : List ℕ) (n : ℕ) → exec_of physical_calls (form_of op.now) cpu.old (with_sram_alone sram devices words) (next_size_in op.now n)
+        ≡ Went cpu.new (with_sram_alone sram devices words)) }
+    ensures tells { IfSome result (λ pc. pc ≡ cpu.new.pc) }
+    ensures none { IfNone result (cpu.new ≡ cpu.old) }
+{
+    match op {
+        MicroOp::Nop => next(cpu, pc),
+        MicroOp::And(d, r) => keep(
+            cpu,
+            pc,
+            d.get(),
+            and_bits(cpu.sreg, cpu.byte(d), cpu.byte(r)),
+        ),
+        MicroOp::Or(d, r) => keep(
+            cpu,
+            pc,
+            d.get(),
+            or_bits(cpu.sreg, cpu.byte(d), cpu.byte(r)),
+        ),
+        MicroOp::Mul(d, r) => keep_pair(cpu, pc, 0, mul(cpu.sreg, cpu.byte(d), cpu.byte(r))),
+        MicroOp::Ori(d, k) => keep(
+            cpu,
+            pc,
+            d.get(),
+            or_bits(cpu.sreg, cpu.register(d.get()), *k),
+        ),
+        MicroOp::Andi(d, k) => keep(
+            cpu,
+            pc,
+            d.get(),
+            and_bits(cpu.sreg, cpu.register(d.get()), *k),
+        ),
+        MicroOp::Com(d) => keep(cpu, pc, d.get(), com(cpu.sreg, cpu.byte(d))),
+        MicroOp::Neg(d) => keep(cpu, pc, d.get(), neg(cpu.sreg, cpu.byte(d))),
+        MicroOp::Swap(d) => set(cpu, pc, d.get(), swapped(cpu.byte(d))),
+        MicroOp::Inc(d) => keep(cpu, pc, d.get(), inc(cpu.sreg, cpu.byte(d))),
+        MicroOp::Asr(d) => keep(cpu, pc, d.get(), asr(cpu.sreg, cpu.byte(d))),
         MicroOp::Sbrc(r, b, n) => {
             Some(skip(cpu, pc, !has_bit(cpu.byte(r), b.get()), u16::from(*n)))
         }
@@ -139,6 +155,7 @@ pub(crate) fn fast_step(op: &MicroOp, cpu: &mut Cpu, sram: &mut Sram, pc: u16) -
             Some(skip(cpu, pc, has_bit(cpu.byte(r), b.get()), u16::from(*n)))
         }
         MicroOp::Cpse(d, r, n) => { Some(skip(cpu, pc, cpu.byte(d) == cpu.byte(r), u16::from(*n))) }
+        _ => None,
     }
 }
 

@@ -3,16 +3,20 @@
 ghost use Rattle.std.specs.Prelude.{◌≡◌, ◌<◌, ◌^◌, IfOk};
 
 use flash_model::{Flash, FlashStop, Layout};
+use std::process::Abort;
 use std::test::Fail;
-use tk_io::NoMemory;
 
-/// A flash that holds three words, and whose operations of these numbers fail.
-fn loaded(rt: &HostRuntime, failing: &[u32]) -> Result<Flash, &'static str>
-    ensures ops { IfOk result (λ flash. flash.ops ≡ 0) }
+/// A flash that holds three words, and whose operations of these numbers fail. It is in a box: where a flash itself is let go,
+/// the proof goes through all its parts.
+fn loaded(rt: &HostRuntime, failing: &[u32]) -> Result<Box<Flash>, &'static str>
+    ensures ops { IfOk result (λ flash. flash.value.ops ≡ 0) }
 {
-    match Flash::new(rt.alloc(), &[0xE00F, 0xBB0B, 0xCFFF], failing) {
+    let Ok(flash) = Flash::new(rt.alloc(), &[0xE00F, 0xBB0B, 0xCFFF], failing) else {
+        return Err("memory is ample");
+    };
+    match Box::new(rt.alloc(), flash) {
         Ok(flash) => Ok(flash),
-        Err(NoMemory) => Err("memory is ample"),
+        Err(_) => Err("memory is ample"),
     }
 }
 
@@ -63,6 +67,18 @@ fn five_operations(flash: &mut Flash) -> [Result<(), FlashStop>; 5]
     [first, second, third, fourth, fifth]
 }
 
+/// Of five operations the one of this number is refused, on this page.
+fn one_is_refused(rt: &impl Abort, answers: &[Result<(), FlashStop>; 5], op: u64, page: u16) {
+    for i in 0..5u32 {
+        let expected = if u64::from(i) + 1 == op {
+            Err(FlashStop { op, page })
+        } else {
+            Ok(())
+        };
+        assert!(rt; answers[i as usize] == expected, "{op}");
+    }
+}
+
 /// Each of five operations is refused in turn, and then the others are done as if it hadn't been asked for.
 #[test]
 fn each_operation_may_be_refused(rt: HostRuntime) -> Result<(), Fail> {
@@ -76,16 +92,7 @@ fn each_operation_may_be_refused(rt: HostRuntime) -> Result<(), Fail> {
     ];
     for (op, page, first, second, erases, erases_of_1) in rows {
         let mut flash = loaded(&rt, &[op])?;
-        let answers = five_operations(&mut flash);
-        for i in 0..5u32 {
-            let op = u64::from(op);
-            let expected = if u64::from(i) + 1 == op {
-                Err(FlashStop { op, page })
-            } else {
-                Ok(())
-            };
-            assert!(rt; answers[i as usize] == expected, "{op}");
-        }
+        one_is_refused(&rt, &five_operations(&mut flash), u64::from(op), page);
         assert!(rt;
             (flash.word(0), flash.word(0x0080)) == (first, second),
             "{op}"

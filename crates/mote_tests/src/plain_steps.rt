@@ -10,6 +10,7 @@ use avr_decode::decode;
 use avr_exec::{Ask, asks};
 use avr_isa::{Form, io_access};
 use mote_core::{Line, Mote, Plain, Port};
+use std::process::Abort;
 use std::test::Fail;
 
 /// Whether a byte of SRAM has this data address.
@@ -60,6 +61,26 @@ fn line_of(step: Plain) -> Option<Line> {
     }
 }
 
+/// What the program leaves in registers and SRAM.
+fn has_run(rt: &impl Abort, mote: &Mote) {
+    assert!(rt; (mote.cpu.pc, mote.cpu.sp, mote.cpu.sreg) == (0x1234, 0x011D, 0));
+    assert!(rt;
+        [
+            mote.cpu.r[17],
+            mote.cpu.r[18],
+            mote.cpu.r[19],
+            mote.cpu.r[20]
+        ] == [0x5A, 0x5A, 0x77, 0x0A]
+    );
+    assert!(rt;
+        [
+            mote.sram.byte(0x10FF),
+            mote.sram.byte(0x011E),
+            mote.sram.byte(0x011F)
+        ] == [0x5A, 0x00, 0x10]
+    );
+}
+
 /// A program of eleven steps: what each shows outside, and the registers and the stack at the end.
 #[test]
 fn a_program_in_flash(rt: HostRuntime) -> Result<(), Fail> {
@@ -101,21 +122,6 @@ fn a_program_in_flash(rt: HostRuntime) -> Result<(), Fail> {
         assert!(rt; mote.devices.polls() < 1000);
         assert!(rt; line_of(mote.plain_step()) == *want, "step {step}");
     }
-    assert!(rt; (mote.cpu.pc, mote.cpu.sp, mote.cpu.sreg) == (0x1234, 0x011D, 0));
-    assert!(rt;
-        [
-            mote.cpu.r[17],
-            mote.cpu.r[18],
-            mote.cpu.r[19],
-            mote.cpu.r[20]
-        ] == [0x5A, 0x5A, 0x77, 0x0A]
-    );
-    assert!(rt;
-        [
-            mote.sram.byte(0x10FF),
-            mote.sram.byte(0x011E),
-            mote.sram.byte(0x011F)
-        ] == [0x5A, 0x00, 0x10]
-    );
+    has_run(&rt, &mote);
     Ok(())
 }

@@ -11,6 +11,7 @@ use branch_bridge::{ArriveStop, Moved, Refused, ResolveStop, arrive, resolve};
 use flash_model::{Flash, Layout};
 use page_index::entry;
 use sram_layout::Sram;
+use std::process::Abort;
 use std::test::Fail;
 
 /// RJMP 2; NOP; RJMP 0; RJMP to itself.
@@ -131,30 +132,48 @@ const LEFT: [(Option<u16>, u8); 8] = [
     (Some(128), 1),
 ];
 
+/// The operation of this number was refused, and has left a page torn, if it leaves one, and RING so.
+fn is_refused_at(
+    rt: &impl Abort,
+    flash: &Flash,
+    sram: &Sram,
+    refused: &Refused,
+    op: u32,
+    left: (Option<u16>, u8),
+) {
+    let (torn, ring) = left;
+    assert!(rt; tried_in(refused) == Some(u64::from(op)));
+    assert!(rt; torn_page(refused) == torn);
+    assert!(rt; sram.byte(0x0142) == ring);
+    assert!(rt; flash.ops() == u64::from(op));
+    assert!(rt; flash.refused().is_some());
+    if let Some(page) = torn {
+        assert!(rt; flash.word(page.wrapping_mul(128)) == 0xFFFF);
+    }
+}
+
 #[test]
 fn each_operation_may_be_refused(rt: HostRuntime) -> Result<(), Fail> {
     let layout = small(4, 2);
     for op in 1..9u32 {
         let mut flash = loaded_to_fail(&rt, &layout, &ROUND, &[op])?;
         let mut sram = sram_at_boot(&layout);
-        let refused = match go_round(&mut sram, &mut flash, &layout) {
+        match go_round(&mut sram, &mut flash, &layout) {
             Ok(_) => return Err("no operation is refused".into()),
-            Err(refused) => refused,
-        };
-        let (torn, ring) = LEFT[op as usize - 1];
-        let ArriveStop::Flash { op: tried } = refused.why else {
-            return Err("no operation is refused".into());
-        };
-        assert!(rt; tried == u64::from(op));
-        assert!(rt; torn_page(&refused) == torn);
-        assert!(rt; sram.byte(0x0142) == ring);
-        assert!(rt; flash.ops() == u64::from(op));
-        assert!(rt; flash.refused().is_some());
-        if let Some(page) = torn {
-            assert!(rt; flash.word(page.wrapping_mul(128)) == 0xFFFF);
+            Err(refused) => {
+                is_refused_at(&rt, &flash, &sram, &refused, op, LEFT[op as usize - 1]);
+            }
         }
     }
     Ok(())
+}
+
+/// The number of the operation that was refused, if that is why.
+fn tried_in(refused: &Refused) -> Option<u64> {
+    match refused.why {
+        ArriveStop::Flash { op } => Some(op),
+        ArriveStop::Wild { .. } => None,
+    }
 }
 
 /// The page of a torn page's words, if there is one.

@@ -262,28 +262,39 @@ fn each_operation_is_lost_with_each_content(rt: HostRuntime) -> Result<(), Fail>
     let fresh = run_calls(&rt, b"")?;
     assert!(rt; fresh.ops == SCRIPTS.len() as u64);
     assert!(rt; halted_at(fresh.end).is_some());
-    let made = fresh.pages;
-    let mut wrong = made[0];
-    wrong[127] = 0x1234;
     for script in SCRIPTS {
-        let left = run_calls(&rt, script)?;
-        let pages = left.pages;
-        let place = left.refused.ok_or("no operation is refused")?.min(2);
-        let contents = [
-            [0; 128],
-            [0xFFFF; 128],
-            pages[place],
-            made[0],
-            made[1],
-            made[2],
-            wrong,
-        ];
-        for words in contents {
-            let mut lost = pages;
-            lost[place] = words;
-            let second = run_again(&rt, &CALLS, &lost)?;
-            assert!(rt; halted_at(second.end) == halted_at(fresh.end));
-            assert!(rt; second.out.taken() == fresh.out.taken());
+        each_content_is_survived(&rt, &run_calls(&rt, script)?, &fresh)?;
+    }
+    Ok(())
+}
+
+/// What a page may hold where its operation was refused in a run of the calls, beside a whole run of them.
+fn contents_of(page: [u16; 128], whole: &[[u16; 128]; 3]) -> [[u16; 128]; 7] {
+    let mut wrong = whole[0];
+    wrong[127] = 0x1234;
+    [
+        [0; 128],
+        [0xFFFF; 128],
+        page,
+        whole[0],
+        whole[1],
+        whole[2],
+        wrong,
+    ]
+}
+
+/// Whichever words the page of the refused operation has, a second run does what a whole one did.
+fn each_content_is_survived(rt: &HostRuntime, left: &Gone, whole: &Gone) -> Result<(), Fail> {
+    let place = left.refused.ok_or("no operation is refused")?.min(2);
+    for words in contents_of(left.pages[place], &whole.pages) {
+        let mut lost = left.pages;
+        lost[place] = words;
+        let second = run_again(rt, &CALLS, &lost)?;
+        if halted_at(second.end) != halted_at(whole.end) {
+            return Err("a second run ends elsewhere".into());
+        }
+        if second.out.taken() != whole.out.taken() {
+            return Err("a second run shows other lines".into());
         }
     }
     Ok(())

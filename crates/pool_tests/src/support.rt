@@ -85,24 +85,46 @@ pub(crate) fn moved(
     }
 }
 
-/// A flash that holds the image, and an empty pool.
+/// A flash that holds the image, and an empty pool. It is in a box: where a flash itself is let go, the proof goes through all
+/// its parts.
 pub(crate) fn loaded(
     rt: &HostRuntime,
     layout: &Layout,
     image: &[u16],
-) -> Result<Flash, &'static str>
+) -> Result<Box<Flash>, &'static str>
     requires right { IsRight layout.now }
     requires short { length image.now ≤ 24576 }
     requires long { length image.now ≡ layout.now.image_words }
-    ensures faithful { IfOk result (λ flash. IsFaithful layout.now (image_of layout.now flash.words) flash.words) }
-    ensures image { IfOk result (λ flash. image_of layout.now flash.words ≡ image.now) }
-    ensures fresh { IfOk result (λ flash. flash.ops ≡ 0) }
+    ensures faithful { IfOk result (λ flash. IsFaithful layout.now (image_of layout.now flash.value.words) flash.value.words) }
+    ensures image { IfOk result (λ flash. image_of layout.now flash.value.words ≡ image.now) }
+    ensures fresh { IfOk result (λ flash. flash.value.ops ≡ 0) }
 {
     loaded_to_fail(rt, layout, image, &[])
 }
 
 /// A flash that holds the image and an empty pool, whose operations of these numbers are to fail.
 pub(crate) fn loaded_to_fail(
+    rt: &HostRuntime,
+    layout: &Layout,
+    image: &[u16],
+    failing: &[u32],
+) -> Result<Box<Flash>, &'static str>
+    requires right { IsRight layout.now }
+    requires short { length image.now ≤ 24576 }
+    requires long { length image.now ≡ layout.now.image_words }
+    ensures faithful { IfOk result (λ flash. IsFaithful layout.now (image_of layout.now flash.value.words) flash.value.words) }
+    ensures image { IfOk result (λ flash. image_of layout.now flash.value.words ≡ image.now) }
+    ensures fresh { IfOk result (λ flash. flash.value.ops ≡ 0) }
+{
+    let flash = unboxed(rt, layout, image, failing)?;
+    match Box::new(rt.alloc(), flash) {
+        Ok(flash) => Ok(flash),
+        Err(_) => Err("memory is ample"),
+    }
+}
+
+/// Such a flash before it is put in its box.
+fn unboxed(
     rt: &HostRuntime,
     layout: &Layout,
     image: &[u16],
@@ -123,10 +145,10 @@ pub(crate) fn loaded_to_fail(
 
 /// A flash that holds the loop, with its page in the pool.
 #[tactic(auto, using(nat_page::proofs::FaithfulLaws::faithful_mapped))]
-pub(crate) fn with_loop(rt: &HostRuntime, layout: &Layout) -> Result<Flash, &'static str>
+pub(crate) fn with_loop(rt: &HostRuntime, layout: &Layout) -> Result<Box<Flash>, &'static str>
     requires right { IsRight layout.now }
     requires long { layout.now.image_words ≡ 4 }
-    ensures mapped { IfOk result (λ flash. IsMapped layout.now flash.words) }
+    ensures mapped { IfOk result (λ flash. IsMapped layout.now flash.value.words) }
 {
     let mut flash = loaded(rt, layout, &LOOP)?;
     let mut sram = sram_at_boot(layout);

@@ -10,8 +10,8 @@ mod memory;
 mod slow;
 
 pub use byte_streams::{
-    Failed, NoMemory, NullSink, ReadAll, Reader, Sink, Source, StdSink, StdSource, Writer, put,
-    read_all,
+    Failed, NoMemory, NullSink, ReadAll, Reader, Sink, Source, StdSink, StdSource, Writer,
+    program_words, put, read_all,
 };
 pub use flaky::{FlakySink, FlakySource};
 pub use memory::{MemSink, MemSource};

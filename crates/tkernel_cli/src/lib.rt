@@ -24,7 +24,8 @@
 //! ```
 //!
 //! `specs/Answer` is what is answered, `specs/Jobs` what is done for each job, and `specs/Runs`, `specs/DumpRuns`,
-//! `specs/RestartRuns` and `specs/TasksRuns` what holds of a run.
+//! `specs/RestartRuns` and `specs/TasksRuns` what holds of a run. [`say`], [`run_silently`] and [`status_of`] serve the program
+//! that watches a run, too (crate `tk_watch`).
 #![tactic(auto)]
 
 mod dumping;

@@ -2,41 +2,18 @@
 //! status of the call.
 #![tactic(auto)]
 
-use byte_streams::{StdSink, StdSource};
-use std::env;
-use std::io::{self, ErrorKind};
+use byte_streams::{NoMemory, StdSink, StdSource, program_words};
+use std::io;
 use std::process::ExitCode;
 use tk_watch::{Status, tkwatch};
 
 fn main(rt: HostRuntime) -> ExitCode {
-    let words = match words_of(&rt) {
+    let words = match program_words(&rt) {
         Ok(words) => words,
-        Err(status) => return ExitCode::from(status.number()),
+        Err(NoMemory) => return ExitCode::from(Status::NoMemory.number()),
     };
     let mut input = StdSource::new(rt.reader());
     let mut out = StdSink::new(io::writer(&rt));
     let status = tkwatch(rt.alloc(), &words, &mut input, &mut out);
     ExitCode::from(status.number())
-}
-
-/// The words after the program's name. Where one of them isn't UTF-8 there is one empty word, which is no
-/// command.
-fn words_of(rt: &HostRuntime) -> Result<Vec<String>, Status> {
-    let mut words = Vec::new(rt.alloc());
-    match env::args(rt) {
-        Ok(args) => {
-            for word in args.skip(1) {
-                if words.push(word).is_err() {
-                    return Err(Status::NoMemory);
-                }
-            }
-        }
-        Err(e) if e.kind() == ErrorKind::OutOfMemory => return Err(Status::NoMemory),
-        Err(_) => {
-            if words.push(String::new(rt.alloc())).is_err() {
-                return Err(Status::NoMemory);
-            }
-        }
-    }
-    Ok(words)
 }

@@ -1,5 +1,5 @@
 use Rattle.heap_frames.specs.Paged.{IsPaged}
 use Rattle.kernel_tests.proofs.services.loads_and_stores_reach_the_programs_memory.Given as goal
 
-abbrev pub invariant-loop-at : goal.invariant-loop-at
-invariant-loop-at g l = IsPaged l.k.value.mote.sram l.k.value.mote.swap
+abbrev pub invariant-loop-access : goal.invariant-loop-access
+invariant-loop-access g l = IsPaged l.k.value.mote.sram l.k.value.mote.swap

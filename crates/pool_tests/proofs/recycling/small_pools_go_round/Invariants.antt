@@ -6,7 +6,7 @@ use Rattle.pool_tests.proofs.recycling.small_pools_go_round.Given as goal
 
 abbrev pub invariant-loop-t : goal.invariant-loop-t
 invariant-loop-t g l = record {
-  faithful : IsFaithful l.layout (image_of l.layout l.flash.words) l.flash.words;
+  faithful : IsFaithful l.layout (image_of l.layout l.flash.value.words) l.flash.value.words;
   ring : ring_of l.sram < l.layout.pool_pages;
-  ops : l.flash.ops ≤ 1000 * l.t;
+  ops : l.flash.value.ops ≤ 1000 * l.t;
 }

@@ -2,7 +2,7 @@ use Rattle.std.proofs.Common.{◌≡◌, take, sym, ap, ◌∙◌}
 use Rattle.flash_words.specs.Memory.{Memory, loaded}
 use Rattle.flash_words.proofs.LoadedLaws.{loaded_image}
 use Rattle.nat_page.proofs.FaithfulLaws.{new_flash_held}
-use Rattle.pool_tests.proofs.support.loaded_to_fail.Goals as goal
+use Rattle.pool_tests.proofs.support.unboxed.Goals as goal
 
 pub returns-in-Ok : goal.returns-in-Ok
 returns-in-Ok c =
