@@ -11,7 +11,7 @@ use avr_flags::{
 use avr_isa::{ImmOp, OneOp, ProductOp, TwoOp, WordOp};
 
 /// Keeps a result in register `d`, and SREG.
-pub fn keep_byte(cpu: &mut Cpu, d: u8, outcome: (u8, u8))
+pub(crate) fn keep_byte(cpu: &mut Cpu, d: u8, outcome: (u8, u8))
     requires { d < 32 }
     ensures { cpu.new ≡ with_result cpu.old d outcome }
 {
@@ -20,14 +20,14 @@ pub fn keep_byte(cpu: &mut Cpu, d: u8, outcome: (u8, u8))
 }
 
 /// Keeps SREG alone, after a comparison.
-pub fn compare(cpu: &mut Cpu, outcome: (u8, u8))
+pub(crate) fn compare(cpu: &mut Cpu, outcome: (u8, u8))
     ensures { cpu.new ≡ compared cpu.old outcome }
 {
     cpu.sreg = outcome.1;
 }
 
 /// Keeps a result in a pair, and SREG.
-pub fn keep_word(cpu: &mut Cpu, low: u8, outcome: (u16, u8))
+pub(crate) fn keep_word(cpu: &mut Cpu, low: u8, outcome: (u16, u8))
     requires { low < 31 }
     ensures { cpu.new ≡ with_pair_result cpu.old low outcome }
 {

@@ -3,6 +3,9 @@
 ghost use Rattle.std.specs.Prelude.{◌≡◌, ◌<◌, ◌^◌};
 ghost use Rattle.avr_flags.specs.Status.{has_bit as has_bit_of_weight, with_bit as with_bit_of_weight};
 
+/// The bit of SREG that BST writes and BLD copies: T.
+pub const TRANSFER: u8 = 6;
+
 /// The weight of a bit of a byte.
 pub(crate) fn bit_weight(bit: u8) -> u8
     requires { bit < 8 }
@@ -20,7 +23,7 @@ pub fn has_bit(byte: u8, bit: u8) -> bool
 }
 
 /// A byte with one bit made so.
-pub(crate) fn with_bit(byte: u8, bit: u8, value: bool) -> u8
+pub fn with_bit(byte: u8, bit: u8, value: bool) -> u8
     requires { bit < 8 }
     ensures { result ≡ with_bit_of_weight byte (2 ^ bit) value }
 {

@@ -68,8 +68,9 @@ impl Cpu {
         requires { low < 31 }
         ensures { self.new ≡ with_pair self.old low value }
     {
-        self.set_register(low, (value & 0xFF) as u8);
-        self.set_register(low + 1, (value >> 8) as u8);
+        let first = usize::from(low);
+        self.r[first] = (value & 0xFF) as u8;
+        self.r[first + 1] = (value >> 8) as u8;
     }
 
     /// The byte at a data address that the core answers itself.

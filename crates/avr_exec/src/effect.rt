@@ -10,13 +10,10 @@ ghost use Rattle.avr_exec.specs.Effects.{with_pointer, with_z_raised_if, skip_if
 ghost use Rattle.avr_exec.specs.Kinds.{kind_of, Inner, Turn};
 
 use crate::arithmetic::{keep_word, product};
-use crate::bits::{has_bit, with_bit};
+use crate::bits::{TRANSFER, has_bit, with_bit};
 use crate::cpu::Cpu;
 use avr_flags::muls;
 use avr_isa::{Form, Ptr, relative};
-
-/// The bit of SREG that BST writes and BLD copies.
-const TRANSFER: u8 = 6;
 
 /// Gives a pointer that changes its new value.
 #[tactic(auto, unfolding(crate::specs::Effects::with_pointer))]
@@ -46,7 +43,7 @@ pub fn raise_z(cpu: &mut Cpu, increment: bool, z: u16)
 }
 
 /// Goes to an address, and tells it.
-pub fn go(cpu: &mut Cpu, address: u16) -> u16
+pub(crate) fn go(cpu: &mut Cpu, address: u16) -> u16
     ensures after { cpu.new ≡ with_counter cpu.old address }
     ensures tells { result ≡ cpu.new.pc }
 {
@@ -55,7 +52,7 @@ pub fn go(cpu: &mut Cpu, address: u16) -> u16
 }
 
 /// Moves the pc, which is `pc`, on by some words, and tells it.
-pub fn advance(cpu: &mut Cpu, pc: u16, words: u16) -> u16
+pub(crate) fn advance(cpu: &mut Cpu, pc: u16, words: u16) -> u16
     requires at { pc ≡ cpu.old.pc }
     ensures after { cpu.new ≡ with_counter cpu.old (wrapping_sum cpu.old.pc words) }
     ensures tells { result ≡ cpu.new.pc }
@@ -64,7 +61,7 @@ pub fn advance(cpu: &mut Cpu, pc: u16, words: u16) -> u16
 }
 
 /// Passes over the next instruction, of this many words, where `passed` is true. Tells the new pc.
-pub fn skip(cpu: &mut Cpu, pc: u16, passed: bool, next_size: u16) -> u16
+pub(crate) fn skip(cpu: &mut Cpu, pc: u16, passed: bool, next_size: u16) -> u16
     requires at { pc ≡ cpu.old.pc }
     requires next { next_size < 0xFFFF }
     ensures after { cpu.new ≡ skip_if passed next_size cpu.old }
@@ -75,7 +72,7 @@ pub fn skip(cpu: &mut Cpu, pc: u16, passed: bool, next_size: u16) -> u16
 }
 
 /// Branches by `k` where `taken` is true. Tells the new pc.
-pub fn branch(cpu: &mut Cpu, pc: u16, taken: bool, k: i16) -> u16
+pub(crate) fn branch(cpu: &mut Cpu, pc: u16, taken: bool, k: i16) -> u16
     requires at { pc ≡ cpu.old.pc }
     ensures after { cpu.new ≡ branch_if taken k cpu.old }
     ensures tells { result ≡ cpu.new.pc }
@@ -88,7 +85,7 @@ pub fn branch(cpu: &mut Cpu, pc: u16, taken: bool, k: i16) -> u16
 }
 
 /// Goes to an address, with two bytes pushed, and tells it.
-pub fn call(cpu: &mut Cpu, address: u16) -> u16
+pub(crate) fn call(cpu: &mut Cpu, address: u16) -> u16
     ensures after { cpu.new ≡ called cpu.old address }
     ensures tells { result ≡ cpu.new.pc }
 {

@@ -16,9 +16,9 @@
 //! (`specs/Effects`, `specs/Arithmetic`). `proofs/OneAnswer` and `proofs/OtherPlace` have the laws by which
 //! two executions are compared: over two spaces, and at two places of the program.
 //!
-//! The steps that `exec` is made of which touch the registers alone are public: a result kept in a register
-//! ([`keep_byte`], [`keep_word`], [`compare`]), the pc moved ([`advance`], [`go`], [`branch`], [`skip`], [`call`]), and a pointer
-//! ([`target`], [`low_register`], [`move_pointer`], [`raise_z`]).
+//! Who executes an instruction otherwise finds its parts here: the pointer that it takes an address of ([`target`], [`displaced`],
+//! [`low_register`]) and how that moves ([`move_pointer`], [`raise_z`]), and what it does with bits ([`has_bit`], [`with_bit`],
+//! [`swapped`]).
 #![tactic(auto)]
 
 mod answer;
@@ -34,11 +34,11 @@ mod stop;
 mod transfer;
 
 pub use answer::Answer;
-pub use arithmetic::{compare, keep_byte, keep_word, swapped};
+pub use arithmetic::swapped;
 pub use ask::{Ask, asks, displaced, low_register, target};
-pub use bits::has_bit;
+pub use bits::{TRANSFER, has_bit, with_bit};
 pub use bus::Bus;
 pub use cpu::Cpu;
-pub use effect::{advance, branch, call, go, move_pointer, raise_z, skip};
+pub use effect::{move_pointer, raise_z};
 pub use execution::{exec, exec_at};
 pub use stop::BusStop;

@@ -1,10 +1,10 @@
 -- What the tables of flags hold, and that SREG is put together of what they give.
-use Rattle.std.proofs.Common.{◌≡◌, ℕ, ◌<◌, ◌%◌, ◌==◌, nat_le, Bool, true, false, ◌&&◌, if◌then◌else◌, slice_index_or, bit_and, bit_or, bit_xor, refl, ◌∙◌, arith}
+use Rattle.std.proofs.Common.{◌≡◌, ℕ, ◌<◌, ◌+◌, ◌%◌, ◌==◌, nat_le, Bool, true, false, ◌&&◌, if◌then◌else◌, slice_index_or, bit_and, bit_or, bit_xor, refl, ◌∙◌, arith}
 use Rattle.std.proofs.lemmas.Bool.{agree_below, agree_below_at, and_parts, eqb-true}
 use Rattle.std.proofs.lemmas.Bool.Decides.{nat_tests}
 use Rattle.std.proofs.lemmas.Nat.{and_mask}
 use Rattle.avr_flags.specs.Status.{has_bit, differ, with_bit, with_result_flags, with_arithmetic_flags, carry, zero_flag}
-use Rattle.avr_flags.specs.declared.tables.TheConstants.{OF_RESULT, OF_CARRIES}
+use Rattle.avr_flags.specs.declared.tables.TheConstants.{FLAGS}
 
 -- whether two functions give the same at each index below n
 abbrev same_below : (ℕ → ℕ) → (ℕ → ℕ) → ℕ → Bool
@@ -21,13 +21,13 @@ result_flags value = with_result_flags 0 (nat_le 128 value) (value == 0) false
 abbrev pub carries_flags : ℕ → ℕ
 carries_flags k = with_arithmetic_flags 0 (has_bit k 16) false false (differ (has_bit k 128) (has_bit k 256)) (has_bit k 256)
 
-pub of_result : (value : ℕ) → value < 256 → slice_index_or OF_RESULT value 0 ≡ result_flags value
+pub of_result : (value : ℕ) → value < 256 → slice_index_or FLAGS value 0 ≡ result_flags value
 unfolding with_result_flags
-of_result value lt = same_at (λ k. slice_index_or OF_RESULT k 0) result_flags 256 value refl lt
+of_result value lt = same_at (λ k. slice_index_or FLAGS k 0) result_flags 256 value refl lt
 
-of_nine_bits : (k : ℕ) → k < 512 → slice_index_or OF_CARRIES k 0 ≡ carries_flags k
+of_nine_bits : (k : ℕ) → k < 512 → slice_index_or FLAGS (256 + k) 0 ≡ carries_flags k
 unfolding with_result_flags
-of_nine_bits k lt = same_at (λ k. slice_index_or OF_CARRIES k 0) carries_flags 512 k refl lt
+of_nine_bits k lt = same_at (λ k. slice_index_or FLAGS (256 + k) 0) carries_flags 512 k refl lt
 
 low_bits : (k : ℕ) → carries_flags (k % 512) ≡ carries_flags k
 low_bits k =
@@ -36,7 +36,7 @@ low_bits k =
     let c : has_bit (k % 512) 256 ≡ has_bit k 256 = grind (arith, nat_tests) in
     rw (h, v, c) refl
 
-pub of_carries : (k : ℕ) → slice_index_or OF_CARRIES (bit_and k 511) 0 ≡ carries_flags k
+pub of_carries : (k : ℕ) → slice_index_or FLAGS (256 + bit_and k 511) 0 ≡ carries_flags k
 of_carries k = rw (and_mask k 9) (of_nine_bits (k % 512) (omega arith) ∙ low_bits k)
 
 -- the carries into bits 7 and 8 alone

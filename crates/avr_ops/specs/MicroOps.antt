@@ -10,7 +10,7 @@ use Rattle.avr_isa.specs.declared.operation.OneOp.TheVariants as ones
 use Rattle.avr_isa.specs.declared.operation.Base.TheVariants as bases
 use Rattle.sram_layout.specs.Regions.{whole_sram, is_within}
 use Rattle.avr_ops.specs.declared.micro_op.MicroOp.{MicroOp}
-use Rattle.avr_ops.specs.declared.micro_op.MicroOp.TheVariants.{Undecoded, Other, Nop, Movw, Cpc, Sbc, Add, Cp, Sub, Adc, And, Eor, Or, Mov, Mul, Cpi, Sbci, Subi, Ori, Andi, Ldi, Adiw, Sbiw, Com, Neg, Swap, Inc, Asr, Lsr, Ror, Dec, Brbs, Brbc, Rjmp, Jmp, Lds, Sts, LoadZ, StoreZ, InSreg, OutSreg, Call, Sbrc, Sbrs, Cpse}
+use Rattle.avr_ops.specs.declared.micro_op.MicroOp.TheVariants.{Undecoded, Other, Nop, Movw, Cpc, Sbc, Add, Cp, Sub, Adc, And, Eor, Or, Mov, Mul, Cpi, Sbci, Subi, Ori, Andi, Ldi, Adiw, Sbiw, Com, Neg, Swap, Inc, Asr, Lsr, Ror, Dec, Brbs, Brbc, Rjmp, Jmp, Lds, Sts, LoadZ, StoreZ, InSreg, OutSreg, Call, Sbrc, Sbrs, Cpse, Bld, Bst, Bset, Bclr}
 
 -- it stands for one instruction: the other two do for any
 unfoldable pub has_form : MicroOp → Bool
@@ -65,6 +65,10 @@ form_of (Call a) = forms.Call a
 form_of (Sbrc r b size) = forms.Sbrc r b
 form_of (Sbrs r b size) = forms.Sbrs r b
 form_of (Cpse d r size) = forms.Cpse d r
+form_of (Bld d b) = forms.Bld d b
+form_of (Bst r b) = forms.Bst r b
+form_of (Bset s) = forms.Bset s
+form_of (Bclr s) = forms.Bclr s
 
 -- how many words the next instruction has, by a skip; any other has n, which is told
 unfoldable pub next_size_in : MicroOp → ℕ → ℕ

@@ -42,6 +42,10 @@ impl MicroOp {
             Form::Sbrc(r, b) => MicroOp::Sbrc(*r, *b, next_size as u8),
             Form::Sbrs(r, b) => MicroOp::Sbrs(*r, *b, next_size as u8),
             Form::Cpse(d, r) => MicroOp::Cpse(*d, *r, next_size as u8),
+            Form::Bld(d, b) => MicroOp::Bld(*d, *b),
+            Form::Bst(r, b) => MicroOp::Bst(*r, *b),
+            Form::Bset(s) => MicroOp::Bset(*s),
+            Form::Bclr(s) => MicroOp::Bclr(*s),
             _ => MicroOp::Other,
         }
     }

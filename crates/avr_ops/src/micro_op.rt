@@ -100,4 +100,12 @@ pub enum MicroOp {
     Sbrs(Reg, Bit, u8),
     /// CPSE Rd, Rr
     Cpse(Reg, Reg, u8),
+    /// BLD Rd, b
+    Bld(Reg, Bit),
+    /// BST Rr, b
+    Bst(Reg, Bit),
+    /// BSET s
+    Bset(Bit),
+    /// BCLR s
+    Bclr(Bit),
 }

@@ -3,11 +3,13 @@ use Rattle.std.proofs.Common.{◌≡◌, ℕ, ◌+◌, ◌≤◌, List, ◌++◌
 use Rattle.std.proofs.lemmas.List.{append_cancel_left}
 use Rattle.std.specs.Io.KnownBytes.{Appends, Consumes, IsAtEnd}
 use Rattle.byte_streams.specs.Streams.{Input, Gives, Takes}
+use Rattle.cli_words.specs.declared.command.Command.TheVariants.{Help}
 use Rattle.cli_words.specs.declared.job.Job.{Job}
-use Rattle.cli_words.specs.Printed.{no_memory}
+use Rattle.cli_words.specs.declared.status.Status.{Status}
+use Rattle.cli_words.specs.Printed.{no_memory, usage}
 use Rattle.cli_words.proofs.OneCommand.{one_command}
 use Rattle.cli_requests.specs.Reading.{AsksByText, IsUnread, Limited, most_input}
-use Rattle.cli_requests.specs.Asking.{Wanted, UsageLine, Made, ByText, Asks, AsksFor, Warrants, IsAsked, IsWarranted, HasText, Tells, wanted}
+use Rattle.cli_requests.specs.Asking.{Wanted, UsageLine, Made, ByText, Asks, AsksFor, Warrants, IsAsked, IsWarranted, AskForUsage, HasText, Tells, wanted}
 use Rattle.cli_requests.proofs.OneJob.{IsOne, IsOneRule, one_rule}
 
 -- what a source that told its text gave is that text
@@ -76,3 +78,12 @@ why words before now job whole (inl asked) (inl other) =
 why words before now job whole (inl asked) (inr none) = absurd (none.0 asked.0 asked.1)
 why words before now job whole (inr none) (inl other) = absurd (none.0 other.0 other.1)
 why words before now job whole (inr none) (inr other) = Same (none.1 ∙ sym other.1)
+
+-- where the words ask for the usage line, that is all that is asked for, and nothing is read
+pub usage_asked : (words : List (List ℕ)) (before now : Input) (own : Status) (job : Job) → AskForUsage words own → IsAsked words before now job → (job ≡ usage own) × (now ≡ before)
+usage_asked words before now own job (inl help) (inl asked) =
+    let asks = subst (λ c. Asks c before now job) (one_command words asked.0 Help asked.1 help.0) asked.2 in
+    (asks.0 ∙ ap usage (sym help.1), asks.1)
+usage_asked words before now own job (inl help) (inr none) = absurd (none.0 Help help.0)
+usage_asked words before now own job (inr none) (inl asked) = absurd (none.0 asked.0 asked.1)
+usage_asked words before now own job (inr none) (inr asked) = (asked.1 ∙ ap usage (sym none.1), asked.2)

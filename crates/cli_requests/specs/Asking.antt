@@ -5,6 +5,7 @@ use Rattle.byte_streams.specs.Streams.{Input}
 use Rattle.cli_words.specs.declared.command.Command.{Command}
 use Rattle.cli_words.specs.declared.command.Command.TheVariants.{Help, Run, Dump, Restart, Tasks, Check, Generate, Asm}
 use Rattle.cli_words.specs.declared.job.Job.{Job}
+use Rattle.cli_words.specs.declared.status.Status.{Status}
 use Rattle.cli_words.specs.declared.status.Status.TheVariants as status
 use Rattle.cli_words.specs.Commands.{IsCommand, IsNoCommand}
 use Rattle.cli_words.specs.Printed.{no_memory, usage}
@@ -70,3 +71,7 @@ abbrev pub IsWarranted : List (List ℕ) → Input → Input → Job → Type 0
 IsWarranted words before now job =
     ((command : Command) × IsCommand words command × Warrants (wanted command) before now job)
     ⊎ (IsNoCommand words × (job ≡ usage status.Usage))
+
+-- the words ask for the usage line, with this status: `help`, or words that are no command
+abbrev pub AskForUsage : List (List ℕ) → Status → Type 0
+AskForUsage words own = (IsCommand words Help × (own ≡ status.Done)) ⊎ (IsNoCommand words × (own ≡ status.Usage))

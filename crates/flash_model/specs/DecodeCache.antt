@@ -1,4 +1,4 @@
--- Serves private functions and the contract of `Flash::micro_op`: what is decoded of the words of flash: what each of the first
+-- Serves private functions and the contract of `Flash::micro_ops`: what is decoded of the words of flash: what each of the first
 -- word addresses has, and for every word address the micro-operation of what is decoded there, or none.
 use Rattle.std.specs.Prelude.{ℕ, ◌≡◌, ◌<◌, ◌≤◌, ◌⊎◌, List, length, slice_index_or}
 use Rattle.avr_ops.specs.declared.micro_op.MicroOp.{MicroOp}

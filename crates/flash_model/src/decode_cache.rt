@@ -5,7 +5,7 @@ ghost use Rattle.avr_ops.specs.declared.micro_op.MicroOp.{MicroOp};
 ghost use Rattle.avr_ops.specs.declared.micro_op.MicroOp.TheVariants.{Undecoded};
 ghost use Rattle.flash_words.specs.Pages.{word_count, page_words};
 ghost use Rattle.flash_model.specs.Code.{decoded_at};
-ghost use Rattle.flash_model.specs.DecodeCache.{StandsAt, IsCache, IsCacheBeside, AreDecoded, AreDecodedOutside, AreDecodedBeside, AreMicroOps};
+ghost use Rattle.flash_model.specs.DecodeCache.{IsCache, IsCacheBeside, AreDecoded, AreDecodedOutside, AreDecodedBeside};
 
 use crate::decoded::Decoded;
 use crate::decoded_pairs::DecodedPairs;
@@ -51,13 +51,12 @@ impl DecodeCache {
         self.decoded.get(a as usize)
     }
 
-    /// The micro-operation of what is decoded at a word address, if that was asked for.
+    /// For each word address the micro-operation of what is decoded there, if that was asked for.
     #[inline(always)]
-    pub(crate) fn micro_op(&self, a: u16) -> &MicroOp
-        requires sized { length self.now.micro_ops.items ≡ word_count }
-        ensures stands { (words : List ℕ) → AreMicroOps words self.now.micro_ops.items → StandsAt words a result.now }
+    pub(crate) fn micro_ops(&self) -> &[MicroOp]
+        ensures micro_ops { result.now ≡ self.now.micro_ops.items }
     {
-        &self.micro_ops[a as usize]
+        &self.micro_ops
     }
 
     /// What is decoded at a word address, whose micro-operation is kept from now on.

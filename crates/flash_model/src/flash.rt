@@ -6,7 +6,7 @@ ghost use Rattle.flash_words.specs.Memory.{IsWhole, erased_flash, new_flash};
 ghost use Rattle.flash_words.specs.Layouts.{most_image_words};
 ghost use Rattle.flash_words.specs.Operations.{next_op, fails, left_by_refusal, erased_page, programmed_page, renewed, Erase, Program, perform, refusal_of};
 ghost use Rattle.flash_model.specs.Code.{decoded_at};
-ghost use Rattle.flash_model.specs.DecodeCache.{StandsAt};
+ghost use Rattle.flash_model.specs.DecodeCache.{AreMicroOps};
 ghost use Rattle.flash_words.specs.Jumps.{HasNoJumpInto};
 ghost use Rattle.flash_words.specs.Heads.{head};
 
@@ -97,13 +97,13 @@ impl Flash {
         }
     }
 
-    /// The micro-operation at a word address, for the step that executes it: `Undecoded` until [`Flash::predecode`] was
+    /// For each word address the micro-operation there, for the step that executes it: `Undecoded` until [`Flash::predecode`] was
     /// called there, and again once its words have changed.
     #[inline(always)]
-    pub fn micro_op(&self, a: u16) -> &MicroOp
-        ensures stands { StandsAt self.now.words a result.now }
+    pub fn micro_ops(&self) -> &[MicroOp]
+        ensures all { AreMicroOps self.now.words result.now }
     {
-        self.cache.micro_op(a)
+        self.cache.micro_ops()
     }
 
     /// Decodes at a word address: the instruction that its word begins, with the word behind it (behind the last word comes the

@@ -17,7 +17,7 @@
 //! contracts see of a flash: the record of its words, the counts, the list, the number of operations that were tried,
 //! and the page of the last one that was refused.
 //!
-//! [`Flash::decoded`] gives what is decoded at a word address (`decoded.rt`, `specs/Code.antt`), and [`Flash::micro_op`] the
+//! [`Flash::decoded`] gives what is decoded at a word address (`decoded.rt`, `specs/Code.antt`), and [`Flash::micro_ops`] the
 //! micro-operation of it, which a step is made by. A micro-operation is made when it is first asked for
 //! ([`Flash::predecode`]), so what no step comes to is never decoded. Behind each operation on a page `decode_cache.rt`
 //! forgets those of the words that changed. Pairs of words that were decoded already are not decoded again

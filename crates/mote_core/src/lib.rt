@@ -10,8 +10,8 @@
 //! if let Plain::Wrote(line) = mote.plain_step() { .. } // an OUT to a port, say
 //! ```
 //!
-//! [`Mote::plain_step_into`] is the step of a loop of steps: it goes by the micro-operation that flash has at the pc, where
-//! that touches registers and SRAM alone (`fast_path.rt`, `specs/FastPath`), and else by the instruction.
+//! A loop of steps makes those that touch registers and SRAM alone by [`fast_move`] (`specs/FastPath`), which goes by the
+//! micro-operation that flash has at the pc, and the others by [`Mote::plain_step_into`], which goes by the instruction.
 //!
 //! `specs/Physical` is the data space, `specs/Conditions` says which addresses it has and when a step
 //! may be made, and `specs/Step` what the step is. `proofs/NeverStops` has the law that no step which
@@ -26,5 +26,6 @@ mod fast_path;
 mod mote;
 mod space;
 
+pub use fast_path::fast_move;
 pub use mote::{Mote, Plain};
 pub use mote_devices::{Line, Port};

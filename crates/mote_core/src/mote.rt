@@ -8,7 +8,6 @@ ghost use Rattle.mote_core.specs.Physical.{physical_calls};
 ghost use Rattle.mote_core.specs.Conditions.{is_mapped};
 ghost use Rattle.mote_core.specs.Shown.{line_shown};
 
-use crate::fast_path::fast_step;
 use crate::space::PhysicalSpace;
 use avr_exec::{Cpu, exec_at};
 use avr_isa::Instr;
@@ -121,24 +120,10 @@ impl Mote {
     }
 
     /// Makes the step of [`Mote::plain_step_at`], but tells the new pc alone: the line that the step shows, if any, goes into
-    /// `line`, which else stays. It goes by the micro-operation that flash has at the pc, where the fast path knows that.
-    #[inline(always)]
-    pub fn plain_step_into(&mut self, pc: u16, line: &mut Option<Line>) -> u16
-        requires at { pc ≡ self.old.cpu.pc }
-        requires step { can_step (form_at self.old) self.old.cpu ≡ true }
-        requires room { self.old.devices.polls < 2 ^ 63 }
-        ensures step { IsStepInto self.old line.old self.new line.new }
-        ensures pc { result ≡ self.new.cpu.pc }
-    {
-        match fast_step(self.flash.micro_op(pc), &mut self.cpu, &mut self.sram, pc) {
-            Some(next) => next,
-            None => self.slow_step_into(pc, line),
-        }
-    }
-
-    /// Makes the step by the instruction, whichever it is, with its line into `line`.
+    /// `line`, which else stays. A loop of steps makes one so where [`fast_move`](crate::fast_move) doesn't know the
+    /// micro-operation, which is known there from then on.
     #[inline(never)]
-    fn slow_step_into(&mut self, pc: u16, line: &mut Option<Line>) -> u16
+    pub fn plain_step_into(&mut self, pc: u16, line: &mut Option<Line>) -> u16
         requires at { pc ≡ self.old.cpu.pc }
         requires step { can_step (form_at self.old) self.old.cpu ≡ true }
         requires room { self.old.devices.polls < 2 ^ 63 }

@@ -1,5 +1,7 @@
 -- Serves private functions: what is known of places.
 use Rattle.std.specs.Prelude.{◌≡◌, ◌≢◌, ℕ, ◌+◌, ◌/◌, ◌%◌, ◌<◌, ◌≤◌, List, slice_index_or}
+use Rattle.page_cursor.specs.declared.marks.Mark.{Mark}
+use Rattle.page_cursor.specs.declared.marks.Mark.TheVariants.{Unknown, Quiet, Entry}
 
 -- the mark of each place, and which pages have marks: the first so many of these
 pub record Marking : Type 0 where
@@ -13,6 +15,12 @@ mark_at m place = slice_index_or m.marks place 0
 -- it is noted that the entry of address t begins at the place
 abbrev pub IsNoted : Marking → ℕ → ℕ → Type 0
 IsNoted m place t = mark_at m place ≡ 2 + t
+
+-- what a mark tells of its place
+abbrev pub Tells : Marking → ℕ → Mark → Type 0
+Tells m place Unknown = mark_at m place ≡ 0
+Tells m place Quiet = mark_at m place ≡ 1
+Tells m place (Entry t) = IsNoted m place t
 
 -- nothing is noted
 abbrev pub IsFresh : Marking → Type 0

@@ -4,10 +4,10 @@ ghost use Rattle.std.specs.Prelude.{◌≡◌, ℕ, ◌/◌, ◌<◌, true, fals
 ghost use Rattle.flash_words.specs.Layouts.{IsRight};
 ghost use Rattle.page_index.specs.Maps.{IsPool, IsMap, entry_count};
 ghost use Rattle.page_index.specs.Entries.{IsEntry, IsMapped};
-ghost use Rattle.page_cursor.specs.Marks.{IsNoted, IsQuietIn, KeepsOthers};
+ghost use Rattle.page_cursor.specs.Marks.{IsNoted, IsQuietIn, KeepsOthers, Tells};
 ghost use Rattle.page_cursor.specs.Cursors.{AreNoted, IsCursor, IsCursorAnywhere, IsPassed};
 
-use crate::marks::Marks;
+use crate::marks::{Mark, Marks};
 use flash_model::{Flash, KERNEL_FIRST, Layout, MOST_IMAGE_WORDS, PAGE_WORDS};
 use page_index::{Places, address_at, entries, is_free, is_in_pool, place_at};
 use std::alloc::{AllocError, Global};
@@ -66,6 +66,15 @@ impl Cursor {
         ensures passed { result ≡ true → IsPassed self.entry.now place }
     {
         self.marks.is_quiet(place)
+    }
+
+    /// What is known of a place, a word address of flash.
+    #[inline(always)]
+    pub fn mark(&self, place: usize) -> Mark
+        requires place { place < 65536 }
+        ensures told { Tells self.entry.now.marks place result }
+    {
+        self.marks.mark(place)
     }
 
     /// The original address whose code begins at this place, a word address of flash; None where that

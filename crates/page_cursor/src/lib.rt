@@ -8,3 +8,4 @@ mod cursor;
 mod marks;
 
 pub use cursor::Cursor;
+pub use marks::Mark;

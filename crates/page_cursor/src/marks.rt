@@ -1,7 +1,7 @@
 //! What is known of places, for one state of flash.
 
 ghost use Rattle.std.specs.Prelude.{◌≡◌, ◌≢◌, ◌+◌, ◌/◌, ◌<◌, ◌≤◌, ◌⊎◌, ℕ, true, length, IfSome, slice_set, slice_index_or};
-ghost use Rattle.page_cursor.specs.Marks.{Marking, mark_at, IsNoted, IsFresh, IsQuietIn, IsListed, KeepsOthers};
+ghost use Rattle.page_cursor.specs.Marks.{Marking, mark_at, IsNoted, IsFresh, IsQuietIn, IsListed, KeepsOthers, Tells};
 
 use flash_model::PAGE_WORDS;
 use std::marker::Model;
@@ -23,6 +23,17 @@ const QUIET: u16 = 1;
 
 /// The mark of a place where the entry of the original address 0 begins. Those of other addresses follow.
 const FIRST: u16 = 2;
+
+/// What is known of a place, a word address of flash.
+#[derive(Clone, Copy)]
+pub enum Mark {
+    /// Nothing.
+    Unknown,
+    /// No entry begins there, and it is none of the kernel's words.
+    Quiet,
+    /// The entry of this original address begins there.
+    Entry(u16),
+}
 
 /// For each place what is known of it.
 #[derive(Drop)]
@@ -84,6 +95,19 @@ impl Marks {
         ensures quiet { result ≡ true → mark_at self.now place ≡ 1 }
     {
         self.marks[place as usize] == QUIET
+    }
+
+    /// What is known of the place.
+    #[inline(always)]
+    pub(crate) fn mark(&self, place: usize) -> Mark
+        requires place { place < 65536 }
+        ensures told { Tells self.now place result }
+    {
+        match self.marks[place] {
+            UNKNOWN => Mark::Unknown,
+            QUIET => Mark::Quiet,
+            mark => Mark::Entry(mark - FIRST),
+        }
     }
 
     /// The original address of the entry at the place, if one was noted.

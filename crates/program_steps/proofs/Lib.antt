@@ -5,6 +5,7 @@ pub mod Told
 pub mod Taking
 pub mod Underway
 pub mod Settling
+pub mod Walking
 pub mod ReadyLaws
 pub mod Owning
 mod Laws

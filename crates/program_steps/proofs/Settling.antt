@@ -1,7 +1,7 @@
 -- Where a step led, from what its moves told.
 use Rattle.program_steps.proofs.Awaiting.{awaits_some, awaits_none, some_same}
 use Rattle.step_laws.specs.States.{Awaited}
-use Rattle.std.proofs.Common.{◌≡◌, ℕ, true, false, refl, sym, ap, subst, ◌∙◌}
+use Rattle.std.proofs.Common.{◌≡◌, ℕ, refl, sym, ap, subst, ◌∙◌}
 use Rattle.std.specs.Prelude.{◌≢◌, ◌&&◌, is_some, Option, Some, None}
 use Rattle.page_index.specs.Entries.{IsEntry, IsMapped}
 use Rattle.page_index.proofs.EntryLaws.{one_address}
@@ -40,12 +40,6 @@ settled_as k p (Some t) mapped quiet at =
     (settled_by (whole k p) t at.1 (told_entry (whole k p) t mapped at.0 at.2))
 settled_as k p None mapped quiet halted = settled_halted k p p.owed refl halted
 
--- settling leaves what is owed, and the end
-pub reached_free : (k : Kernel) (p : Progress) (reached : Option ℕ) → IsQuiet (whole k p) → HasReached (whole k p) reached → is_some reached ≡ true
-    → ((settled_at (target reached p.owed) p).owed ≡ None) × ((settled_at (target reached p.owed) p).end ≡ None) × ((settled_at (target reached p.owed) p).due ≡ false)
-reached_free k p (Some t) quiet at is = (at.0, at.1, quiet at.0)
-reached_free k p None quiet at is = absurd (cc)
-
 ended_halted : (k : Kernel) (p : Progress) → IsHalted (whole k p) → p.end ≢ None → p.owed ≡ None
 ended_halted k p (IsHalted.Owes some going) ended = absurd (ended going)
 ended_halted k p (IsHalted.Ended free over) ended = free
@@ -64,7 +58,11 @@ ended_free k p q reached at is ended =
     let rest = rest_settled (target reached p.owed) p in
     ap (λ (x : Progress). x.owed) is ∙ rest.1 ∙ ended_reached k p reached at (λ going. ended (ap (λ (x : Progress). x.end) is ∙ rest.0 ∙ going))
 
--- and so does the line
+-- settling leaves the page that is torn, and the line
+pub torn_settled : (to : Option ℕ) (p : Progress) → (settled_at to p).torn ≡ p.torn
+torn_settled (Some t) p = refl
+torn_settled None p = refl
+
 pub line_settled : (to : Option ℕ) (p : Progress) → (settled_at to p).line ≡ p.line
 line_settled (Some t) p = refl
 line_settled None p = refl

@@ -150,7 +150,7 @@ low_by layout words t a right entry (inr map) =
     let below = right.pool_below_kernel in
     omega arith
 
-place_low : (layout : Layout) (words : List ℕ) (a : ℕ) → IsRight layout → IsMapped layout words → IsPlace layout words a → a < 0xF000
+pub place_low : (layout : Layout) (words : List ℕ) (a : ℕ) → IsRight layout → IsMapped layout words → IsPlace layout words a → a < 0xF000
 place_low layout words a right mapped place = low_by layout words place.0 a right place.1 (mapped.pages place.1.page place.1.pool)
 
 -- where the step is over nothing is left

@@ -75,9 +75,3 @@ underway_by begun was now before after on further free none = record {
 -- .. so at a place that the cursor passes
 pub none_at : (now : Machine) (c : Cursor) (pc : ℕ) → IsCursor now.kernel.layout now.kernel.mote.flash.words c → IsPassed c pc → pc ≡ now.kernel.mote.cpu.pc → (t : ℕ) → ¬ IsEntry now.kernel.layout now.kernel.mote.flash.words t now.kernel.mote.cpu.pc
 none_at now c pc cursor passed at t = subst (λ (v : ℕ). ¬ IsEntry now.kernel.layout now.kernel.mote.flash.words t v) at (none_passed now.kernel.layout now.kernel.mote.flash.words c pc cursor passed t)
-
--- .. and behind a service
-pub underway_served : (begun now new : Machine) (before after : Option Line) (c : Cursor) → IsRight now.kernel.layout → IsUnderway begun now before → HasServed now new before after → 0xF000 ≤ now.kernel.mote.cpu.pc → Halts new false
-    → IsCursor new.kernel.layout new.kernel.mote.flash.words c → IsPassed c new.kernel.mote.cpu.pc → IsUnderway begun new after
-underway_served begun now new before after c right on served high free cursor passed =
-    underway_by begun now new before after on (further_served begun now new before after right on served high) free (none_at new c new.kernel.mote.cpu.pc cursor passed refl)

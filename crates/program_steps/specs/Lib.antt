@@ -6,4 +6,5 @@ pub mod Loop
 pub mod Interrupts
 pub mod Stepping
 pub mod Several
+pub mod Walking
 pub mod Waiting

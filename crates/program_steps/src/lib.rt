@@ -6,6 +6,7 @@ mod interrupts;
 mod moves;
 mod progress;
 mod step;
+mod walk;
 
 pub use arrival::{at_bound, enter, may_enter};
 pub use interrupts::{must_take, take};

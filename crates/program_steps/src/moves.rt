@@ -1,51 +1,19 @@
 //! Moves inside a step: plain steps of the mote, or a service of the kernel.
 
-ghost use Rattle.std.specs.Prelude.{◌≡◌, ◌+◌, ◌<◌, ◌^◌, max, true, false, None, IfSome, IfNone};
+ghost use Rattle.std.specs.Prelude.{◌≡◌, ◌+◌, ◌<◌, ◌≤◌, ◌^◌, max, false, None};
 ghost use Rattle.std.specs.Option.{option_or};
-ghost use Rattle.flash_words.specs.Layouts.{IsRight};
 ghost use Rattle.page_cursor.specs.Cursors.{IsCursor};
 ghost use Rattle.program_steps.specs.Machines.{Machine, state_of, numbers_of};
 ghost use Rattle.program_steps.specs.Loop.{CanPlain, HasPlain, CanServeNow, HasServed, IsUnderway, IsFurther, Halts, is_small, moves_made};
 ghost use Rattle.program_steps.specs.Wholes.{whole, entered};
 
 use crate::progress::Progress;
-use flash_model::KERNEL_FIRST;
 use kernel_entry::{End, Kernel, Owed, Served, resume_at_once, return_at_once, serve_told};
 use mote_devices::Line;
 use page_cursor::Cursor;
 
-/// Moves on from a place where no entry begins, up to one where an entry may begin: by a service, where the pc, which is `pc`,
-/// is the kernel's, and by plain steps. Tells the new pc; None where an arrival is owed now, or the program has stopped.
-#[inline(always)]
-pub(crate) fn more_moves(k: &mut Kernel, p: &mut Progress, cursor: &Cursor, pc: u16) -> Option<u16>
-    requires at { pc ≡ k.old.mote.cpu.pc }
-    requires untorn { p.old.torn ≡ None }
-    requires right { IsRight k.old.layout }
-    requires underway { (begun : Machine) × IsUnderway begun (whole k.old p.old) p.old.line }
-    requires cursor { IsCursor k.old.layout k.old.mote.flash.words cursor.now }
-    ensures further { (begun : Machine) → IsUnderway begun (whole k.old p.old) p.old.line → IsFurther begun (whole k.new p.new) p.new.line }
-    ensures more { moves_made (whole k.old p.old) < moves_made (whole k.new p.new) }
-    ensures on { IfSome result (λ pc. (pc ≡ k.new.mote.cpu.pc) × Halts (whole k.new p.new) false) }
-    ensures over { IfNone result (Halts (whole k.new p.new) true) }
-    ensures flash { k.new.mote.flash ≡ k.old.mote.flash }
-    ensures layout { k.new.layout ≡ k.old.layout }
-    ensures torn { p.new.torn ≡ p.old.torn }
-{
-    if pc < KERNEL_FIRST {
-        return Some(plain_steps(k, p, cursor, pc));
-    }
-    if service(k, p) {
-        return None;
-    }
-    let behind = k.mote.cpu.pc;
-    if !cursor.passes(behind) {
-        return Some(behind);
-    }
-    Some(plain_steps(k, p, cursor, behind))
-}
-
 /// Plain steps from the instruction at the pc on, up to where an entry may begin. Tells the new pc.
-#[inline(always)]
+#[inline(never)]
 pub(crate) fn plain_steps(k: &mut Kernel, p: &mut Progress, cursor: &Cursor, pc: u16) -> u16
     requires at { pc ≡ k.old.mote.cpu.pc }
     requires low { pc < 0xF000 }
@@ -58,6 +26,7 @@ pub(crate) fn plain_steps(k: &mut Kernel, p: &mut Progress, cursor: &Cursor, pc:
     ensures flash { k.new.mote.flash ≡ k.old.mote.flash }
     ensures layout { k.new.layout ≡ k.old.layout }
     ensures torn { p.new.torn ≡ p.old.torn }
+    ensures steps { p.new.steps ≤ p.old.steps }
 {
     let mut pc = pc;
     'steps: loop {
@@ -68,9 +37,9 @@ pub(crate) fn plain_steps(k: &mut Kernel, p: &mut Progress, cursor: &Cursor, pc:
     }
 }
 
-/// One plain step, of the instruction at the pc. Tells the new pc.
+/// One plain step, of the instruction at the pc, whichever it is. Tells the new pc.
 #[inline(always)]
-fn plain(k: &mut Kernel, p: &mut Progress, pc: u16) -> u16
+pub(crate) fn plain(k: &mut Kernel, p: &mut Progress, pc: u16) -> u16
     requires at { pc ≡ k.old.mote.cpu.pc }
     requires can { CanPlain (state_of (whole k.old p.old)) }
     requires small { is_small (numbers_of (whole k.old p.old)) (2 ^ 62) }
@@ -80,6 +49,7 @@ fn plain(k: &mut Kernel, p: &mut Progress, pc: u16) -> u16
     ensures flash { k.new.mote.flash ≡ k.old.mote.flash }
     ensures layout { k.new.layout ≡ k.old.layout }
     ensures torn { p.new.torn ≡ p.old.torn }
+    ensures steps { p.new.steps ≡ p.old.steps }
 {
     p.since += 1;
     k.mote.plain_step_into(pc, &mut p.line)
@@ -87,7 +57,7 @@ fn plain(k: &mut Kernel, p: &mut Progress, pc: u16) -> u16
 
 /// One service of the kernel, at once where it can be. Tells whether an arrival is owed now, or the program has stopped.
 #[inline(never)]
-fn service(k: &mut Kernel, p: &mut Progress) -> bool
+pub(crate) fn service(k: &mut Kernel, p: &mut Progress) -> bool
     requires untorn { p.old.torn ≡ None }
     requires can { CanServeNow (state_of (whole k.old p.old)) }
     requires small { is_small (numbers_of (whole k.old p.old)) (2 ^ 62) }
@@ -96,6 +66,7 @@ fn service(k: &mut Kernel, p: &mut Progress) -> bool
     ensures flash { k.new.mote.flash ≡ k.old.mote.flash }
     ensures layout { k.new.layout ≡ k.old.layout }
     ensures torn { p.new.torn ≡ p.old.torn }
+    ensures steps { p.new.steps ≤ p.old.steps }
 {
     enter(p);
     if resume_at_once(k) {
@@ -137,6 +108,7 @@ fn serve_in_full(k: &mut Kernel, p: &mut Progress) -> bool
     ensures flash { k.new.mote.flash ≡ k.old.mote.flash }
     ensures layout { k.new.layout ≡ k.old.layout }
     ensures torn { p.new.torn ≡ p.old.torn }
+    ensures steps { p.new.steps ≤ p.old.steps }
 {
     let told = serve_told(k);
     match told.0 {

@@ -20,10 +20,8 @@ use Rattle.flash_words.proofs.LayoutLaws.{layout_right}
 use Rattle.nat_page.proofs.FaithfulLaws.{faithful_mapped}
 use Rattle.branch_bridge.specs.declared.through.Arrival.{Arrival as BridgeArrival}
 use Rattle.branch_bridge.specs.Operating.{with_torn}
-use Rattle.branch_bridge.specs.declared.rewriting.Torn.{Torn}
-use Rattle.branch_bridge.specs.Tried.{Tried, IsTorn, IsRefusal, torn_at, number_in, is_listed}
+use Rattle.branch_bridge.specs.Tried.{Tried, number_in, is_listed}
 use Rattle.branch_bridge.specs.Arrivals.{Store, ArrivesFrom, CameThrough, KeptThrough, torn_by, stopped_by, ring_of}
-use Rattle.branch_bridge.proofs.ArrivalLaws.{from_torn}
 use Rattle.branch_bridge.specs.Arrivals as bridge
 use Rattle.program_steps.proofs.Arriving.{Answered, answered}
 use Rattle.kernel_entry.specs.declared.kernel.Kernel.{Kernel}
@@ -47,15 +45,17 @@ use Rattle.step_laws.specs.Numbers.{one_if}
 use Rattle.step_laws.specs.States.{State, end_by, mote_of, after_taking, stops_taking, store_of, with_store, placed, settled_by, arrived}
 use Rattle.step_laws.specs.Walks.{Walk, MakesPlain, MakesArrive, MakesTake}
 use Rattle.program_steps.proofs.Arrived.{after_arrived, pc_in}
-use Rattle.theorem_reader.specs.Acts.{Act, Step, Service, Arrival, Interrupt, IsStep, Relinks, IsNext, IsMade, IsUnmade, Arrives, In, Outside, Refused as RefusedThere, IsArrival, IsInterrupt, Follow}
-use Rattle.theorem_reader.specs.Pools.{pool_from, IsInPool, IsPlaceOf, KeepsCode}
+use Rattle.theorem_reader.specs.Acts.{Act, Step, Service, Arrival, Interrupt, IsStep, Relinks, IsNext, IsMade, Arrives, In, Outside, Refused as RefusedThere, IsArrival, IsInterrupt, Follow}
+use Rattle.theorem_reader.specs.Pools.{pool_from, IsPlaceOf}
 use Rattle.theorem_reader.proofs.Linking.{relinks_by}
 use Rattle.theorem_reader.proofs.NextPage.{pool_pages_of, ring_stays, next_is, anew_from, erased_free}
-use Rattle.theorem_reader.proofs.OtherPages.{Stays as StaysThere, StaysOrLost, lost_in, others_stay, stays_keep}
-use Rattle.theorem_reader.proofs.RefusedPages.{others_or_lost, made_untorn, place_untorn}
-use Rattle.theorem_reader.proofs.Pooling.{Begins, pool_begins, in_pool, blank_word, faithful_is, but_is, place_is, entry_is, place_low}
+use Rattle.theorem_reader.proofs.KeptLinks.{OthersKeep, others_keep, lost_in}
+use Rattle.theorem_reader.proofs.RefusedPages.{made_untorn, place_untorn}
+use Rattle.theorem_reader.proofs.Pooling.{Begins, pool_begins, in_pool, faithful_is, but_is, place_is, entry_is, place_low}
 use Rattle.theorem_reader.proofs.Working.{works_from, few_from, allowed_each}
 use Rattle.theorem_reader.proofs.Serving.{service_is}
+use Rattle.theorem_reader.proofs.PagesLeft.{leaves_from, erases_from}
+use Rattle.theorem_reader.proofs.FarPages.{goes_far}
 
 -- a move as an act between these states
 abbrev pub act_of : Move → State → State → Act
@@ -141,45 +141,6 @@ made_by : (made : Bool) → one_if made ≡ 1 → made ≡ true
 made_by true one = refl
 made_by false one = absurd (omega (arith, one))
 
--- a page that stays or is lost, in the reader's words
-keeps_by : (image before words : List ℕ) (torn : Option Torn) (page : ℕ) → IsRight (layout_of (length image)) → IsFaithful (layout_of (length image)) image before → IsInPool image page → StaysOrLost image before words torn page → IsUnmade before words (lost_in torn) page
-keeps_by image before words torn page right sound inside (inl stays) =
-    let l = layout_of (length image) in
-    let pool = in_pool image page inside in
-    inl (stays_keep l image before words page sound pool stays, λ erased k below. blank_word words page k (stays.free (erased_free l image before page right sound pool erased)) below)
-keeps_by image before words torn page right sound inside (inr lost) = inr (lost.0, λ k below. blank_word words page k lost.1 below)
-
--- pages that an arrival doesn't make
-record OthersKeep (image before after : List ℕ) (arrival : BridgeArrival) : Type 0 where
-  lost : ℕ
-  unrefused : arrival.refused ≡ None → (place : ℕ) → arrival.place ≡ Some place → (page : ℕ) → IsInPool image page → page ≢ place / 128 → KeepsCode before after page
-  unmade : (page : ℕ) → IsInPool image page → (arrival.made ≡ false) ⊎ ((place : ℕ) × (arrival.place ≡ Some place) × (page ≢ place / 128)) → IsUnmade before after lost page
-
-lacks_by : (layout : Layout) (old new : Memory) (stop : Option ResolveStop) → IfSome stop (IsRefusal layout old new) → IfSome (torn_at stop) (IsTorn layout new.words)
-lacks_by layout old new None refusal = tt
-lacks_by layout old new (Some stop) refusal = refusal.torn
-
-others_keep : (image : List ℕ) (old new : Store) (t : ℕ) (stub : Option ℕ) (arrival : BridgeArrival) → IsRight (layout_of (length image)) → image_of (layout_of (length image)) old.flash.words ≡ image → IsFaithful (layout_of (length image)) image old.flash.words
-    → ring_of old.sram < (layout_of (length image)).pool_pages → CameThrough (layout_of (length image)) old.flash.words stub t → ArrivesFrom (layout_of (length image)) old new t stub arrival → KeptThrough (layout_of (length image)) old new t arrival
-    → OthersKeep image old.flash.words new.flash.words arrival
-others_keep image old new t stub arrival right held sound ring came from kept =
-    let l = layout_of (length image) in
-    let before = old.flash.words in
-    let after = new.flash.words in
-    let code = subst (λ i. IsFaithful l i before) (sym held) sound in
-    let stay = others_stay l old new t stub arrival right code ring came from in
-    let lacks = subst (λ (o : Option Torn). IfSome o (IsTorn l after)) (sym (from_torn l old new t stub arrival from)) (lacks_by l old.flash new.flash (stopped_by arrival.refused) kept.tried.refused) in
-    let left = λ (page : ℕ) (inside : IsInPool image page) (which : (arrival.made ≡ false) ⊎ ((place : ℕ) × (arrival.place ≡ Some place) × (page ≢ place / 128))).
-    subst (λ i. StaysOrLost i before after (torn_by arrival.refused) page) held
-    (others_or_lost l old new t page stub arrival right code ring came (kept.tried.size ∙ sound.whole) lacks (in_pool image page inside) from which) in
-    record {
-      lost = lost_in (torn_by arrival.refused);
-      unrefused = λ none place there page inside away. stays_keep l image before after page sound (in_pool image page inside)
-          (subst (λ i. StaysThere i before after page) held (subst (λ r. StaysThere (image_of l before) before (with_torn after (torn_by r)) page) none
-          (stay.2 page (in_pool image page inside) (λ same. away (same ∙ subst (λ p. IfSome p (λ v. stay.0 ≡ v / 128)) there stay.1)))));
-      unmade = λ page inside which. keeps_by image before after (torn_by arrival.refused) page right sound inside (left page inside which);
-    }
-
 -- where none was refused, none that was tried is listed
 unlisted : (layout : Layout) (old new : Memory) (refused : Option Refused) (op : ℕ) → refused ≡ None → Tried layout old new (stopped_by refused) → old.ops < op → op ≤ new.ops → (listed : Bool) → is_listed old op ≡ listed → is_listed old op ≡ false
 unlisted layout old new refused op none tried later most false is = is
@@ -238,14 +199,15 @@ place_made layout old new t stub arrival (bridge.Resolved mid moved s arrives so
 -- what is told of a page that was made
 made_there : (image : List ℕ) (x y : State) (target place : ℕ) (stub : Option ℕ) (store : Store) (arrival : BridgeArrival) → image_of (layout_of (length image)) (mote_of x).flash.words ≡ image → y ≡ arrived x store arrival
     → ArrivesFrom (layout_of (length image)) (store_of x) (store_of y) target stub arrival → IsRight (layout_of (length image)) → IsFaithful (layout_of (length image)) image (mote_of x).flash.words → ring_of (mote_of x).sram < (layout_of (length image)).pool_pages
-    → arrival.made ≡ true → arrival.place ≡ Some place → IsPlaceOf image (mote_of y).flash.words target place → IsMade image target (mote_of x) (mote_of y)
-made_there image x y target place stub store arrival held after from right sound ring made there begins =
+    → CameThrough (layout_of (length image)) (mote_of x).flash.words stub target → arrival.made ≡ true → arrival.place ≡ Some place → IsPlaceOf image (mote_of y).flash.words target place → IsMade image target (mote_of x) (mote_of y)
+made_there image x y target place stub store arrival held after from right sound ring came made there begins =
     let l = layout_of (length image) in
     let pc : (mote_of y).cpu.pc ≡ place = ap (λ (s : State). (mote_of s).cpu.pc) after ∙ pc_in (with_store x store) arrival.place arrival.refused place there in
     record {
       anew = λ v is. anew_from l (store_of x) (store_of y) target stub arrival from made v (entry_is image (mote_of x).flash.words target v is);
       next = subst (λ v. IsNext image (mote_of x) (mote_of y) (v / 128)) (sym pc) (next_is image (mote_of x) (mote_of y) target stub arrival place right held sound ring from made there);
       place = subst (IsPlaceOf image (mote_of y).flash.words target) (sym pc) begins;
+      far = goes_far image (mote_of x) (mote_of y) target place stub arrival right held sound ring came from made there pc;
     }
 
 -- no page was made, or it is another one than this
@@ -262,7 +224,7 @@ unmade_or_other image x y target stub store arrival after from true is_made page
 arrives_by : (image : List ℕ) (x y : State) (target : ℕ) (stub : Option ℕ) (store : Store) (arrival : BridgeArrival) → length image ≤ 24576 → image_of (layout_of (length image)) (mote_of x).flash.words ≡ image
     → y ≡ arrived x store arrival → store ≡ store_of y → ArrivesFrom (layout_of (length image)) (store_of x) (store_of y) target stub arrival → KeptThrough (layout_of (length image)) (store_of x) (store_of y) target arrival
     → Answered (layout_of (length image)) (store_of x) (store_of y) target arrival → (made : Bool) → arrival.made ≡ made → IsRight (layout_of (length image)) → IsFaithful (layout_of (length image)) image (mote_of x).flash.words
-    → CameThrough (layout_of (length image)) (mote_of x).flash.words stub target → OthersKeep image (mote_of x).flash.words (mote_of y).flash.words arrival → ring_of (mote_of x).sram < (layout_of (length image)).pool_pages → Arrives image (is_some y.end) target (one_if made) (mote_of x) (mote_of y)
+    → CameThrough (layout_of (length image)) (mote_of x).flash.words stub target → OthersKeep image target (mote_of x) (mote_of y) arrival → ring_of (mote_of x).sram < (layout_of (length image)).pool_pages → Arrives image (is_some y.end) target (one_if made) (mote_of x) (mote_of y)
 arrives_by image x y target stub store arrival few held after same from kept (Answered.Wild is outside) made is_made right sound came others ring =
     let nothing = beyond_is (layout_of (length image)) (store_of x) (store_of y) target stub arrival outside from in
     Outside (refused_flag x y store arrival after ∙ ap is_some is) outside (ap one_if (sym is_made ∙ nothing.2)) (ap (λ (s : Store). s.flash) nothing.0)
@@ -279,7 +241,7 @@ arrives_by image x y target stub store arrival few held after same from kept (An
       subst (Relinks (mote_of x).flash.words words) (sym pc) (relinks_by l (store_of x) (store_of y) target stub arrival place right (subst (λ i. IsFaithful l i (mote_of x).flash.words) (sym held) sound) came from (is_made ∙ unmade_by made zero) none there),
       ring_stays l (store_of x) (mote_of y) target stub arrival (is_made ∙ unmade_by made zero) place there from,
     ))
-    (λ one. made_there image x y target place stub store arrival held after from right sound ring (is_made ∙ made_by made one) there (subst (IsPlaceOf image words target) pc begins))
+    (λ one. made_there image x y target place stub store arrival held after from right sound ring came (is_made ∙ made_by made one) there (subst (IsPlaceOf image words target) pc begins))
     (λ op later tried. unlisted l (mote_of x).flash (mote_of y).flash arrival.refused op none kept.tried later tried _ refl)
 arrives_by image x y target stub store arrival few held after same from kept (Answered.Failed stop is inside) made is_made right sound came others ring =
     let l = layout_of (length image) in
@@ -289,7 +251,7 @@ arrives_by image x y target stub store arrival few held after same from kept (An
     let code : IsFaithful l image (with_torn words stop.torn) = subst (λ r. IsFaithful l image (with_torn words (torn_by r))) is (subst (λ i. IsFaithful l i (with_torn words (torn_by arrival.refused))) held kept.code) in
     let entered = subst (λ r. IfSome arrival.place (λ v. IsEntry l (with_torn words (torn_by r)) target v)) is kept.entered in
     RefusedThere (refused_flag x y store arrival after ∙ ap is_some is) inside (omega (arith, refusal.later, refusal.last)) (ap (is_listed (mote_of x).flash) (sym refusal.last) ∙ refusal.listed)
-    (but_is image words stop.torn few code refusal.torn) others.lost
+    (but_is image words stop.torn few code refusal.torn) (lost_in (torn_by arrival.refused))
     (λ page pool which. others.unmade page pool (unmade_or_other image x y target stub store arrival after from made is_made page which))
     (place_either image x y target store arrival stop few after is code entered)
     (λ one.
@@ -298,7 +260,7 @@ arrives_by image x y target stub store arrival few held after same from kept (An
     let own = subst (λ i. IsFaithful l i (mote_of x).flash.words) (sym held) sound in
     let untorn = subst (λ r. IfSome (torn_by r) (λ torn. torn.page ≢ there.0 / 128)) is (made_untorn l (store_of x) (store_of y) target stub arrival there.0 right own ring came from makes there.1) in
     let entry = subst (λ p. IfSome p (λ v. IsEntry l (with_torn words stop.torn) target v)) there.1 entered in
-    made_there image x y target there.0 stub store arrival held after from right sound ring makes there.1
+    made_there image x y target there.0 stub store arrival held after from right sound ring came makes there.1
     (place_untorn image words stop.torn target there.0 right (tried.size ∙ sound.whole) refusal.torn (faithful_mapped l image (with_torn words stop.torn) right code) entry untorn))
 
 pub record Arriving (image : List ℕ) (quantum target made ops : ℕ) (x y : State) : Type 0 where
@@ -321,7 +283,11 @@ arrival_is image quantum x y target made ops holds makes =
     let counted = ap (λ (s : Store). s.flash.ops) after.store_is ∙ makes.tried in
     let answer = answered l (store_of x) (store_of y) target makes.owed.stub makes.arrival from in
     let sound = subst (λ i. IsFaithful l i (mote_of x).flash.words) holds.held (subst (λ k. IsFaithful k (image_of k (mote_of x).flash.words) (mote_of x).flash.words) holds.laid makes.can.faithful) in
-    let worked = works_from l (store_of x) (store_of y) target makes.owed.stub makes.arrival right (subst (λ i. IsFaithful l i (mote_of x).flash.words) (sym holds.held) sound) ring came from in
+    let own = subst (λ i. IsFaithful l i (mote_of x).flash.words) (sym holds.held) sound in
+    let worked = works_from l (store_of x) (store_of y) target makes.owed.stub makes.arrival right own ring came from in
+    let leaves = λ (page : ℕ). leaves_from l (store_of x) (store_of y) page target makes.owed.stub makes.arrival right own ring came from in
+    let erases = λ (page : ℕ). erases_from l (store_of x) target (mote_of y).flash makes.arrival page (leaves page) in
+    let pc = λ (place : ℕ) (there : makes.arrival.place ≡ Some place). ap (λ (s : State). (mote_of s).cpu.pc) makes.after ∙ pc_in (with_store x makes.store) makes.arrival.place makes.arrival.refused place there in
     record {
       act = record {
         sound = faithful_is image (mote_of x).flash.words few sound;
@@ -336,6 +302,7 @@ arrival_is image quantum x y target made ops holds makes =
             omega (arith, counted, few_from l (store_of x) (store_of y) target page makes.owed.stub makes.arrival pool (erased_free l image (mote_of x).flash.words page right sound pool erased) from, ap one_if makes.makes));
         most = omega (arith, counted, kept.ops, pool_pages_of image);
         performed = ap (λ (p : Performed). p.memory) worked.is;
+        erased = record { twice = λ page below. (erases page).0; never = λ page below. (erases page).1 };
         registers = after.r;
         status = after.sreg;
         pointer = after.sp;
@@ -346,7 +313,7 @@ arrival_is image quantum x y target made ops holds makes =
         below = λ a low. kept.tried.outside a (λ pool. omega (arith, pool.from, begins.first, low));
         above = λ a high. kept.tried.outside a (λ pool. omega (arith, pool.to, begins.end, high));
         arrives = arrives_by image x y target makes.owed.stub makes.store makes.arrival few holds.held makes.after (sym after.store_is) from kept answer made makes.makes right sound came
-            (others_keep image (store_of x) (store_of y) target makes.owed.stub makes.arrival right holds.held sound ring came from kept) ring;
+            (others_keep image target (mote_of x) (mote_of y) makes.arrival right sound pc leaves) ring;
       };
       holds = record { laid = after.layout ∙ holds.laid; held = kept.image ∙ holds.held; counts = after.quantum ∙ holds.counts };
       over = ended_by image x y target makes.store makes.arrival makes.after kept answer;

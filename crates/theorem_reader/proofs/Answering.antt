@@ -44,8 +44,8 @@ use Rattle.theorem_reader.specs.Runs.{Asked, Asks, AsksGenerate, generated_by, o
 use Rattle.theorem_reader.specs.Wear.{pool_size, IsSpared}
 use Rattle.theorem_reader.proofs.Sparing.{walk_spares, failing_stays, new_unused}
 use Rattle.theorem_reader.specs.Telling.{Fails}
-use Rattle.theorem_reader.specs.Memory.{HasMemory}
-use Rattle.theorem_reader.proofs.Holding.{has_memory}
+use Rattle.theorem_reader.specs.Memory.{HasMemory, HaveSlots}
+use Rattle.theorem_reader.proofs.Holding.{has_memory, have_slots}
 use Rattle.theorem_reader.proofs.Pooling.{faithful_is, but_is}
 use Rattle.theorem_reader.proofs.Booting.{is_boot}
 use Rattle.theorem_reader.proofs.Ending.{own_stop}
@@ -118,6 +118,7 @@ stands_from IsFirst asked flash pages n m begins untried held follows within =
           status = ap (λ (s : Moment). s.now.cpu.sreg) same;
           pointer = ap (λ (s : Moment). s.now.cpu.sp) same;
           memory = subst (HasMemory m.kernel.mote) (ap (λ (s : Moment). s.now.memory) same) (has_memory m.kernel.mote sound.order.paged);
+          slots = subst (HaveSlots m.kernel.mote) (ap (λ (s : Moment). s.now.pages) same) (have_slots m.kernel.mote);
           devices = ap (λ (s : Moment). s.now.devices) same;
         };
         pc = ap (λ (s : Moment). s.now.cpu.pc) same;

@@ -25,10 +25,9 @@ use Rattle.cli_requests.specs.TasksCommand.{Refused, Placed, TasksAsks}
 use Rattle.cli_requests.proofs.Reasons.{all_taken, taken_of}
 use Rattle.tkernel_cli.specs.declared.top.Exit.{Exit}
 use Rattle.tkernel_cli.specs.Answer.{Does}
-use Rattle.printed_text.specs.PlainLines.{usage_line}
 use Rattle.theorem_reader.specs.Calls as calls
 use Rattle.theorem_reader.specs.Calls.{IsWanting}
-use Rattle.theorem_reader.specs.Refusals.{ReadsScript, Runs, Dumps, Restarts, ReadsHex, Scripted, Several, Checks, ReadsText, Program, Source, Helped, Unknown, Usage, TooLong, BadHex, BadScript, BadScripts, BadImage, BadDump, BadSource}
+use Rattle.theorem_reader.specs.Refusals.{ReadsScript, Runs, Dumps, Restarts, ReadsHex, Scripted, Several, Checks, ReadsText, Program, Source, Helped, Unknown, TooLong, BadHex, BadScript, BadScripts, BadImage, BadDump, BadSource}
 use Rattle.theorem_reader.specs.Runs.{Asked, AsksAs}
 use Rattle.theorem_reader.specs.Telling.{Sink, IsRoomy, IsSo}
 use Rattle.theorem_reader.proofs.Doing.{Call, with_room, so_is, so_then, told_how}
@@ -94,7 +93,7 @@ by_text Rule words before now text job reads tells then (inr judged) =
     inl (then (omega (arith, judged.1.short, ap length same)) (subst (λ t. Rule t job) same judged.2))
 
 by_command : (command : Command) (words : List (List ℕ)) (before now : Input) (text : List ℕ) (job : Job) → IsCommand words command → Tells before now text → Asks command before now job → IsCovered words text job
-by_command Help words before now text job is tells asks = inl (calls.Refuse 0 usage_line (Usage (Helped is refl) refl))
+by_command Help words before now text job is tells asks = inl (calls.Tell 0 (Helped is refl))
 by_command (Generate seed) words before now text job is tells asks = inl (calls.Generate seed is)
 by_command (Run options) words before now text job is tells asks =
     by_text (RunAsks options) words before now text job (Program (Scripted (Runs options is))) tells (λ short. script_then Run options words text jobs.Run job (Runs options is) is short calls.Run) asks
@@ -110,7 +109,7 @@ by_command Asm words before now text job is tells asks = by_text AsmAsks words b
 
 by_words : (words : List (List ℕ)) (before now : Input) (text : List ℕ) (job : Job) → Tells before now text → IsAsked words before now job → IsCovered words text job
 by_words words before now text job tells (inl asked) = by_command asked.0 words before now text job asked.1 tells asked.2
-by_words words before now text job tells (inr unknown) = inl (calls.Refuse 4 usage_line (Usage (Unknown unknown.0 refl) refl))
+by_words words before now text job tells (inr unknown) = inl (calls.Tell 4 (Unknown unknown.0 refl))
 
 -- The words alone, where a source may fail. --------------------------------------------------------------
 

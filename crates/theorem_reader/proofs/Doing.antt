@@ -34,7 +34,7 @@ pub so_then : (before now : Stream) (So Then : Sink → Type 0) → ((sink : Sin
 so_then before now So Then f so = (so.0, so.1, f so.0 so.2)
 
 -- the bytes that a new sink took
-taken_is : (before now : Option (List ℕ)) (taken text : List ℕ) → before ≡ Some [] → now ≡ Some taken → Appends before now text → taken ≡ text
+pub taken_is : (before now : Option (List ℕ)) (taken text : List ℕ) → before ≡ Some [] → now ≡ Some taken → Appends before now text → taken ≡ text
 taken_is None now taken text first last appended = absurd (cc)
 taken_is (Some xs) None taken text first last appended = absurd appended
 taken_is (Some xs) (Some ys) taken text first last appended =
@@ -123,7 +123,7 @@ pub told_by : (words : List (List ℕ)) (exit : Exit) (status faults : ℕ) (tak
     → IsSoThen faults So
 told_by words exit status faults taken call job So warranted wanting done =
     so_is words exit status faults taken call So
-    (elim (call.exact job warranted) [
+    (elim (call.exact.done job warranted) [
       | inl none ↦ so_then call.sink call.sink' _ So (λ sink told. wanting sink told none.0.1 none.1) (told_how words exit status faults taken call _ _ none.0.0)
       | inr own ↦ done own
     ])

@@ -24,7 +24,7 @@ use Rattle.nat_page.proofs.UnlinkLaws.{calls_beside, beside_below, links_among, 
 use Rattle.nat_page.proofs.WalkLaws.{own_run}
 use Rattle.tk_restart.specs.declared.sweeping.Kept.{Kept}
 use Rattle.tk_restart.specs.Restarting.{Restarts, worn}
-use Rattle.theorem_reader.specs.Restarts.{IsSamePage}
+use Rattle.theorem_reader.specs.Wear.{IsSamePage}
 
 -- Stubs that call the bridge again. -----------------------------------------------------------------------
 
@@ -84,7 +84,7 @@ where_not true false some is = refl
 where_not false false some is = refl
 
 -- the words of a page that is kept and has stubs that stray
-other_words : (image words words' : List ℕ) (stray : ℕ → ℕ → Bool) (page : ℕ) → length words ≡ 65536 → page < 480 → page_of words' page ≡ page_of (with_calls words (stubs_where stray image words page)) page
+pub other_words : (image words words' : List ℕ) (stray : ℕ → ℕ → Bool) (page : ℕ) → length words ≡ 65536 → page < 480 → page_of words' page ≡ page_of (with_calls words (stubs_where stray image words page)) page
     → size (pieces_in image words page) ≤ 128 → are_some (stubs_where stray image words page) ≡ true → IsSamePage words words' page → ⊥
 other_words image words words' stray page whole low is fits some same =
     let pieces = pieces_in image words page in

@@ -1,19 +1,20 @@
 -- Where the bytes of the program's memory are.
-use Rattle.std.proofs.Common.{◌≡◌, ℕ, ◌/◌, ◌%◌, ◌<◌, true, slice_index, ◌∙◌, arith, None}
+use Rattle.std.proofs.Common.{◌≡◌, ℕ, ◌/◌, ◌%◌, ◌<◌, true, false, List, slice_index, slice_index_or, sym, ◌∙◌, arith, None}
 use Rattle.std.proofs.lemmas.Bool.Decides.{nat_tests}
 use Rattle.sram_layout.specs.Bytes.{byte_at}
 use Rattle.swap_store.specs.Slots.{page_in}
 use Rattle.mote_core.specs.declared.mote.Mote.{Mote}
 use Rattle.std.proofs.lemmas.Bool.{false_from_ne_true}
 use Rattle.flat_machine.specs.Addresses.{is_heap}
-use Rattle.heap_frames.specs.Frames.{frame_of, holds}
+use Rattle.heap_frames.specs.Frames.{frame_of, holds, pages, has_slot, table}
+use Rattle.std.proofs.lemmas.List.FromFn.{get_or-map-range_with_len}
 use Rattle.heap_frames.specs.Memory.{vmem, heap_byte}
 use Rattle.heap_frames.specs.Paged.{IsPaged}
 use Rattle.heap_frames.proofs.FrameLaws as frames
 use Rattle.heap_frames.proofs.HeapBytes.{byte_in_frame, byte_in_slot, byte_of_slot, byte_of_no_slot}
 use Rattle.heap_frames.proofs.LoadLaws.{absent_without_slot}
 use Rattle.heap_frames.proofs.MemoryLaws.{in_window, stack_byte, page_byte, no_byte, length-vmem, vmem_byte}
-use Rattle.theorem_reader.specs.Memory.{Holds, IsHeap, Below, Above, HasMemory}
+use Rattle.theorem_reader.specs.Memory.{Holds, IsHeap, Below, Above, HasMemory, HaveSlots}
 
 heap_at : (a : ℕ) → IsHeap a → (is_heap a ≡ true) × (a < 65536)
 heap_at a (Below from to) = (grind (arith, nat_tests), omega arith)
@@ -55,3 +56,11 @@ has_memory m paged = record {
       let absent = false_from_ne_true _ (λ has. frames.slot_there m.sram (a / 256) has none) in
       page_at m a heap ∙ byte_in_slot m.sram m.swap (a / 256) (a % 256) (absent_without_slot m.sram m.swap (a / 256) paged absent) ∙ byte_of_no_slot m.sram m.swap (a / 256) (a % 256) absent;
 }
+
+page_of_table : (m : List ℕ) (page : ℕ) → page < 256 → slice_index_or (pages m) page false ≡ has_slot m page
+unfolding pages table
+page_of_table m page below = get_or-map-range_with_len (has_slot m) 0 256 page page false below (omega arith)
+
+pub have_slots : (m : Mote) → HaveSlots m (pages m.sram)
+unfolding byte_at
+have_slots m page below = (λ some. page_of_table m.sram page below ∙ frames.slot_held m.sram page some, λ stored. frames.slot_there m.sram page (sym (page_of_table m.sram page below) ∙ stored))

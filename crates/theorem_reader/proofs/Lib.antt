@@ -6,7 +6,13 @@ pub mod Linking
 pub mod OtherPages
 pub mod NextPage
 pub mod Working
+pub mod Rewriting
+pub mod StubWords
+pub mod PagesUnlinked
 pub mod RefusedPages
+pub mod PagesLeft
+pub mod FarPages
+pub mod KeptLinks
 pub mod Serving
 pub mod Acting
 pub mod Bounding
@@ -41,3 +47,8 @@ pub mod ByTable
 pub mod Alone
 pub mod Waiting
 pub mod Covering
+pub mod OneWalk
+pub mod OneRun
+pub mod OneRestart
+pub mod OneAnswer
+pub mod RuledOut

@@ -8,10 +8,10 @@ use Rattle.flat_machine.proofs.MachineLaws.{run_wild, run_spent, run_stops, run_
 use Rattle.theorem_reader.specs.MoreSteps.{LinesStay, EndsStay}
 use Rattle.theorem_reader.specs.Runs.{Asked}
 
-record Longer (fewer more : Run) : Type 0 where
-  lines : List Line
-  behind : more.lines ≡ fewer.lines ++ lines
-  ends : fewer.end ≢ Spent → more ≡ fewer
+pub record Longer (fewer more : Run) : Type 0 where
+  pub lines : List Line
+  pub behind : more.lines ≡ fewer.lines ++ lines
+  pub ends : fewer.end ≢ Spent → more ≡ fewer
 
 same_run : (fewer more : Run) → more ≡ fewer → Longer fewer more
 same_run fewer more is = record { lines = []; behind = ap (λ (r : Run). r.lines) is ∙ sym (append-nil fewer.lines); ends = λ over. is }
@@ -41,7 +41,7 @@ one_longer program m n k true (Ends end) inside is rest = same_run _ _ (run_stop
 one_longer program m n k true (On line later) inside is rest =
     longer_as _ _ _ _ (run_goes program m later n line inside is) (run_goes program m later k line inside is) (behind_line line (run program later n) (run program later k) (rest later))
 
-longer : (program : Program) (n k : ℕ) (m : Moment) → Longer (run program m n) (run program m (n + k))
+pub longer : (program : Program) (n k : ℕ) (m : Moment) → Longer (run program m n) (run program m (n + k))
 longer program zero k m =
     let same : k ≡ zero + k = omega arith in
     subst (λ j. Longer (run program m zero) (run program m j)) same (none_longer program m k (is_inside program m.now.cpu.pc) refl)

@@ -22,11 +22,17 @@ use Rattle.addr_tables.specs.Changes.{Finds, noted, is_in, forgotten_byte, forgo
 use Rattle.addr_tables.proofs.NoteLaws.{rest_noted}
 use Rattle.branch_bridge.specs.Arrivals.{Store, ring_of, turned, recycled_page, Makes, Made, NotMade, Recycles, NotUnlinked, NotErased, Erased, Arrives, Beyond, Found, Free, Full, ArrivesFrom, Stopped, Went, Resolved}
 use Rattle.branch_bridge.proofs.MakeLaws.{ring_kept}
+use Rattle.theorem_reader.specs.Acts as acts
 use Rattle.theorem_reader.specs.Acts.{IsNext, Lowest, InTurn}
 use Rattle.theorem_reader.specs.Pools.{IsErased}
 use Rattle.theorem_reader.specs.Wear.{pool_size}
 use Rattle.theorem_reader.proofs.OtherPages.{made_stays, recycled_stays}
 use Rattle.theorem_reader.proofs.Pooling.{pool_begins, in_pool, from_pool, blank_word}
+
+-- RING, as the reader reads it
+pub ring_is : (m : Mote) → ring_of m.sram ≡ acts.ring_of m
+unfolding byte_at data_word_at
+ring_is m = refl
 
 -- RING stays where a place is noted, and where a page is forgotten
 ring_noted : (old new : List ℕ) (t place : ℕ) → new ≡ noted old t place → ring_of new ≡ ring_of old
@@ -58,14 +64,17 @@ ring_turned : (layout : Layout) (sram : List ℕ) → length sram ≡ byte_count
 ring_turned layout sram long = word_same sram ring_cell ((ring_of sram + 1) % layout.pool_pages) (omega arith) (omega (arith, long))
 
 -- where no page was made
-made_true : (b : Bool) → b ≡ true → b ≡ false → ⊥
+pub made_true : (b : Bool) → b ≡ true → b ≡ false → ⊥
 made_true b made unmade = let e : ◌≡◌ {A = Bool} true false = sym made ∙ unmade in absurd (cc)
 
-makes_none : (layout : Layout) (old new : Store) (page t : ℕ) (again : Bool) (moved : Moved) → Makes layout old new page t again (Ok moved) → moved.made ≡ false → ⊥
-makes_none layout old new page t again moved (Made words place prepared done there is) unmade =
+pub is_made : (layout : Layout) (old new : Store) (page t : ℕ) (again : Bool) (moved : Moved) → Makes layout old new page t again (Ok moved) → moved.made ≡ true
+is_made layout old new page t again moved (Made words place prepared done there is) =
     let e : moved ≡ record { place = place; made = true; recycled = recycled_page again page } = cc in
-    made_true moved.made (ap (λ (m : Moved). m.made) e) unmade
-makes_none layout old new page t again moved (NotMade words place prepared stop done same is) unmade = absurd (cc)
+    ap (λ (m : Moved). m.made) e
+is_made layout old new page t again moved (NotMade words place prepared stop done same is) = absurd (cc)
+
+makes_none : (layout : Layout) (old new : Store) (page t : ℕ) (again : Bool) (moved : Moved) → Makes layout old new page t again (Ok moved) → moved.made ≡ false → ⊥
+makes_none layout old new page t again moved makes unmade = made_true moved.made (is_made layout old new page t again moved makes) unmade
 
 recycles_none : (layout : Layout) (old new : Store) (victim t : ℕ) (moved : Moved) → Recycles layout old new victim t (Ok moved) → moved.made ≡ false → ⊥
 recycles_none layout old new victim t moved (NotUnlinked stop done same is) unmade = absurd (cc)
@@ -132,7 +141,7 @@ next_from layout old new t stub arrival place right code ring (Resolved mid move
     next_after layout old mid new (place / page_words) (ap ring_of kept) there
 
 -- the address had no entry
-missed : (layout : Layout) (words old new : List ℕ) (t : ℕ) → Finds layout words old new t None → (place : ℕ) → ¬ IsEntry layout words t place
+pub missed : (layout : Layout) (words old new : List ℕ) (t : ℕ) → Finds layout words old new t None → (place : ℕ) → ¬ IsEntry layout words t place
 missed layout words old new t (Finds.Hit place there answer is) = absurd (cc)
 missed layout words old new t (Finds.Entered place there entry answer is) = absurd (cc)
 missed layout words old new t (Finds.Missed there none answer is) = none
@@ -176,9 +185,8 @@ by_numbers image before after page right code (First lowest same) =
     same
 by_numbers image before after page right code (Again none is turns) =
     let at : page ≡ (layout_of (length image)).pool_first + ring_of before.sram = is in
-    let ring : ring_of before.sram ≡ slice_index before.sram 0x42 + 256 * slice_index before.sram 0x43 = refl in
     InTurn (λ other inside erased. none other (in_pool image other inside) (erased_free (layout_of (length image)) image before.flash.words other right code (in_pool image other inside) erased))
-    (omega (arith, at, ring, (pool_begins image).first))
+    (omega (arith, at, ring_is before, (pool_begins image).first))
     (turns ∙ ap (λ pages. (ring_of before.sram + 1) % pages) (pool_pages_of image))
 
 pub next_is : (image : List ℕ) (before after : Mote) (t : ℕ) (stub : Option ℕ) (arrival : Arrival) (place : ℕ) → IsRight (layout_of (length image)) → image_of (layout_of (length image)) before.flash.words ≡ image

@@ -1,6 +1,6 @@
 -- Pages of the pool that an arrival doesn't make: each that is free stays free, and each that holds a run holds it still. So
 -- of their words only those of exit stubs change.
-use Rattle.std.proofs.Common.{◌≡◌, ◌≢◌, ℕ, zero, suc, ◌+◌, ◌-◌, ◌*◌, ◌/◌, ◌<◌, ◌≤◌, ◌⊎◌, Bool, true, false, List, [], ◌∷◌, length, Option, Some, None, Ok, Err, arith, refl, sym, ap, ◌∙◌, inl, inr, subst}
+use Rattle.std.proofs.Common.{◌≡◌, ◌≢◌, ℕ, zero, suc, ◌+◌, ◌-◌, ◌*◌, ◌/◌, ◌<◌, ◌≤◌, Bool, true, false, List, [], ◌∷◌, length, Option, Some, None, Ok, Err, arith, refl, sym, ap, ◌∙◌, inl, inr, subst}
 use Rattle.std.specs.Prelude.{◌==◌, if◌then◌else◌, IfSome, Result}
 use Rattle.std.proofs.lemmas.Bool.{cases_eq, cases_lt}
 use Rattle.flash_words.specs.Pages.{page_words, word_count, word_at, page_of, set_page}
@@ -12,9 +12,7 @@ use Rattle.nat_template.specs.declared.piece.Piece.{Piece}
 use Rattle.nat_template.specs.declared.piece.Piece.TheVariants.{Fixed, Link}
 use Rattle.page_index.specs.Maps.{IsPool, IsFree, address_of, entry_count}
 use Rattle.page_index.specs.Entries.{IsEntry}
-use Rattle.page_index.proofs.MapLaws.{free_word}
-use Rattle.page_index.proofs.ChangeLaws.{SamePage, same_back, free_alike, page_left}
-use Rattle.flash_words.proofs.PageLaws.{length-set_page}
+use Rattle.page_index.proofs.ChangeLaws.{SamePage, free_alike}
 use Rattle.page_index.proofs.EntryLaws.{page_of_place}
 use Rattle.page_draft.specs.Standing.{IsLink, jump_word, Stands, size}
 use Rattle.page_draft.specs.CodePages.{page_pieces, page_size, HoldsRun, Anywhere}
@@ -27,31 +25,25 @@ use Rattle.nat_page.specs.Used.{is_used}
 use Rattle.nat_page.specs.Unlinking.{leads_into, with_calls, stubs_into, are_some}
 use Rattle.nat_page.proofs.StayLaws.{held_used, same_run, holds_alike, holds_more}
 use Rattle.nat_page.proofs.KeptLaws.{KeepsRun}
-use Rattle.nat_page.proofs.LinkLaws.{link_room}
 use Rattle.nat_page.proofs.MadeLaws.{makes_other, makes_faithful, makes_first}
 use Rattle.nat_page.proofs.FaithfulLaws.{faithful_mapped}
-use Rattle.nat_page.proofs.RelinkLaws.{holds_relinked, link_placed}
-use Rattle.nat_page.proofs.TwoWords.{length-with_two_words, word_beside_two}
+use Rattle.nat_page.proofs.RelinkLaws.{link_placed}
 use Rattle.nat_page.proofs.UnlinkLaws.{page_of_two, unlinked_page, unlinks}
 use Rattle.nat_page.proofs.WalkLaws.{own_run}
 use Rattle.branch_bridge.specs.declared.arrival.Refused.{Refused}
 use Rattle.branch_bridge.specs.declared.arrival.Moved.{Moved}
-use Rattle.branch_bridge.specs.declared.through.Arrival.{Arrival}
 use Rattle.branch_bridge.specs.declared.rewriting.ResolveStop.{ResolveStop}
 use Rattle.branch_bridge.specs.Operating.{Performed, perform, rewriting, unless_stopped, then_on, mended, with_torn}
-use Rattle.branch_bridge.specs.Resolving.{resolving}
 use Rattle.branch_bridge.specs.Unresolving.{has_stubs_into, unlinking, unresolved, unresolved_in}
-use Rattle.branch_bridge.specs.Arrivals.{Store, ring_of, Makes, Made, NotMade, Recycles, NotUnlinked, NotErased, Erased, Arrives, Beyond, Found, Free, Full, torn_in, turned, ArrivesFrom, Stopped, Went, Resolved, CameThrough, torn_by, to_resolve}
+use Rattle.branch_bridge.specs.Arrivals.{Store, ring_of, Makes, Made, NotMade, Recycles, NotUnlinked, NotErased, Erased, Arrives, Beyond, Found, Free, Full, torn_in, turned, CameThrough, to_resolve}
 use Rattle.addr_tables.specs.Changes.{forgotten}
 use Rattle.branch_bridge.proofs.PerformLaws.{mended_by}
-use Rattle.branch_bridge.proofs.ThroughLaws.{is_to_resolve, mended_is}
+use Rattle.branch_bridge.proofs.ThroughLaws.{is_to_resolve}
 use Rattle.branch_bridge.proofs.UnresolveLaws.{used_rewritten}
 use Rattle.branch_bridge.proofs.UpToLaws.{UpTo, up_to_none, up_to_next}
 use Rattle.branch_bridge.proofs.RecycleLaws.{IsAlone, other_left, victim_free, erased_faithful, erased_image}
 use Rattle.branch_bridge.proofs.MakeLaws.{prepared_makes, by_program, done_words}
 use Rattle.branch_bridge.proofs.PartLaws.{arrives_parted}
-use Rattle.branch_bridge.specs.declared.rewriting.Torn.{Torn}
-use Rattle.branch_bridge.specs.Tried.{IsTorn}
 use Rattle.branch_bridge.proofs.PartLaws.{stubs_used}
 use Rattle.theorem_reader.specs.Pools.{IsExit, KeepsWord, Kept, Exits, KeepsCode}
 
@@ -136,7 +128,7 @@ told_next layout old victim page k p right pool' below told =
       | Some stop ↦ λ some. (λ none. absurd (let never : Some stop ≡ None = none in cc), subst (λ o. Stays image old.words (mended p.memory.words o) page) some told.1)
     ]) refl
 
-told_all : (layout : Layout) (old : Memory) (victim page k : ℕ) → IsRight layout → IsFaithful layout (image_of layout old.words) old.words → IsPool layout page → k ≤ layout.pool_pages
+pub told_all : (layout : Layout) (old : Memory) (victim page k : ℕ) → IsRight layout → IsFaithful layout (image_of layout old.words) old.words → IsPool layout page → k ≤ layout.pool_pages
     → Told layout old victim page k (unresolved (image_of layout old.words) victim layout.pool_first k old)
 told_all layout old victim page zero right code pool below = (λ none. up_to_none layout old victim code, record { free = λ free. free; runs = λ b n holds. holds })
 told_all layout old victim page (suc k) right code pool below =
@@ -233,7 +225,7 @@ recycled_stays layout old new victim t result right code pool (Erased unlinked p
 as_others : (layout : Layout) (old : Memory) (words : List ℕ) (page : ℕ) (place : Option ℕ) → MakesStay layout (image_of layout old.words) old.words words page place → OthersStay layout old words place
 as_others layout old words page place is = record { again = page; here = is.here; whole = is.whole; others = is.others }
 
-arrives_others : (layout : Layout) (old new : Store) (t : ℕ) (result : Result Moved Refused) → IsRight layout → IsFaithful layout (image_of layout old.flash.words) old.flash.words → ring_of old.sram < layout.pool_pages
+pub arrives_others : (layout : Layout) (old new : Store) (t : ℕ) (result : Result Moved Refused) → IsRight layout → IsFaithful layout (image_of layout old.flash.words) old.flash.words → ring_of old.sram < layout.pool_pages
     → Arrives layout old new t result → OthersStay layout old.flash (with_torn new.flash.words (torn_in result)) (place_in result)
 arrives_others layout old new t result right code ring (Beyond out same answer) =
     let P : Result Moved Refused → Type 0 = λ r. OthersStay layout old.flash (with_torn new.flash.words (torn_in r)) (place_in r) in
@@ -256,38 +248,12 @@ arrives_others layout old new t result right code ring (Full inside finds none r
     as_others layout old.flash (with_torn new.flash.words (torn_in result)) victim (place_in result)
     (recycled_stays layout old new victim t result right code (record { from = omega arith; to = omega arith }) recycles)
 
--- a stub is resolved
-relinked_stays : (layout : Layout) (image before words : List ℕ) (s t place page : ℕ) → IsRight layout → length image ≤ 24576 → length words ≡ word_count → IsLinkIn layout image words s t → IsPool layout page
-    → Stays image before words page → Stays image before (with_two_words words s jump_word place) page
-relinked_stays layout image before words s t place page right short whole link pool is =
-    let words' = with_two_words words s jump_word place in
-    let whole' : length words' ≡ word_count = length-with_two_words words s jump_word place ∙ whole in
-    let room = link_room image link.page link.first link.last s t link.holds.fits link.link in
-    let inside : page_words * link.page + page_words ≤ length words = omega (arith, whole, link.pool.to, right.pool_below_kernel) in
-    let here = holds_more (IsEntry layout words) Anywhere image words link.page link.first link.last (λ a v leads. tt) link.holds in
-    elim (cases_eq page link.page) [
-      | inl own ↦ (
-          let P : ℕ → Type 0 = λ p. Stays image before words p → Stays image before words' p in
-          subst P (sym own) (run_stays Anywhere image before words words' link.page link.first link.last short here (holds_relinked Anywhere image words link.page link.first link.last s t jump_word place inside link.link (inr (refl, tt)) here)) is)
-      | inr away ↦ same_stays layout image before words words' page right pool whole whole' (record { word = λ k below. sym (word_beside_two words s (page_words * page + k) jump_word place (λ at. away (omega arith)) (λ at. away (omega arith))) }) is
-    ]
-
 -- the page with the jump in it
 pub page_resolved : (layout : Layout) (image words : List ℕ) (s t place : ℕ) → IsRight layout → length words ≡ word_count → IsLinkIn layout image words s t
     → set_page words (s / page_words) (page_of (with_two_words words s jump_word place) (s / page_words)) ≡ with_two_words words s jump_word place
 page_resolved layout image words s t place right whole link =
     let placed = link_placed layout image words s t jump_word place right whole link in
     ap (set_page words (s / page_words)) (page_of_two words (s / page_words) s jump_word place (omega (arith, whole, placed.low)) refl placed.room) ∙ placed.is
-
-pub resolved_stays : (layout : Layout) (image before : List ℕ) (old : Memory) (s t place page : ℕ) → IsRight layout → length image ≤ 24576 → length old.words ≡ word_count → IsLinkIn layout image old.words s t → IsPool layout page
-    → Stays image before old.words page → (let told = perform old (resolving old.words s place) in Stays image before (mended told.memory.words told.stop) page)
-resolved_stays layout image before old s t place page right short whole link pool is =
-    let words = old.words in
-    let from = s / page_words in
-    let placed = link_placed layout image words s t jump_word place right whole link in
-    let there = page_resolved layout image words s t place right whole link in
-    mended_by (λ w. Stays image before w page) old from (page_of (with_two_words words s jump_word place) from) (omega (arith, whole, placed.low)) is
-    (subst (λ w. Stays image before w page) (sym there) (relinked_stays layout image before words s t place page right short whole link pool is))
 
 -- one that is to be resolved is still where it was
 pub still_linked : (layout : Layout) (old mid : Store) (t s : ℕ) (stub : Option ℕ) (moved : Moved) → IsRight layout → IsFaithful layout (image_of layout old.flash.words) old.flash.words → ring_of old.sram < layout.pool_pages
@@ -297,54 +263,6 @@ still_linked layout old mid t s stub moved right code ring came arrives some =
     let link : IsLinkIn layout (image_of layout old.flash.words) old.flash.words s t = (subst (λ x. CameThrough layout old.flash.words x t) to.same came).link in
     let from : IsLinkFrom layout (image_of layout old.flash.words) old.flash.words (λ a. 0) 0 s t = record { link = link; own = refl } in
     ((arrives_parted layout old mid (λ a. 0) t (Ok moved) right code ring arrives (λ b a l jump. refl)).1 0 s t to.apart from).link
-
--- an arrival, through a stub or through none
-pub others_stay : (layout : Layout) (old new : Store) (t : ℕ) (stub : Option ℕ) (arrival : Arrival) → IsRight layout → IsFaithful layout (image_of layout old.flash.words) old.flash.words → ring_of old.sram < layout.pool_pages
-    → CameThrough layout old.flash.words stub t → ArrivesFrom layout old new t stub arrival
-    → (again : ℕ) × IfSome arrival.place (λ v. again ≡ v / page_words) × ((page : ℕ) → IsPool layout page → page ≢ again → Stays (image_of layout old.flash.words) old.flash.words (with_torn new.flash.words (torn_by arrival.refused)) page)
-others_stay layout old new t stub arrival right code ring came (Stopped refused arrives is) =
-    let left = arrives_others layout old new t (Err refused) right code ring arrives in
-    let P : Arrival → Type 0 = λ a. (again : ℕ) × IfSome a.place (λ v. again ≡ v / page_words) × ((page : ℕ) → IsPool layout page → page ≢ again → Stays (image_of layout old.flash.words) old.flash.words (with_torn new.flash.words (torn_by a.refused)) page) in
-    subst P (sym is) (left.again, tt, left.others)
-others_stay layout old new t stub arrival right code ring came (Went moved arrives nothing is) =
-    let left = arrives_others layout old new t (Ok moved) right code ring arrives in
-    let P : Arrival → Type 0 = λ a. (again : ℕ) × IfSome a.place (λ v. again ≡ v / page_words) × ((page : ℕ) → IsPool layout page → page ≢ again → Stays (image_of layout old.flash.words) old.flash.words (with_torn new.flash.words (torn_by a.refused)) page) in
-    subst P (sym is) (left.again, left.here, left.others)
-others_stay layout old new t stub arrival right code ring came (Resolved mid moved s arrives some stop done same is) =
-    let image = image_of layout old.flash.words in
-    let left = arrives_others layout old mid t (Ok moved) right code ring arrives in
-    let there = still_linked layout old mid t s stub moved right code ring came arrives some in
-    let short : length image ≤ 24576 = omega (arith, code.image_length, right.image_fits) in
-    let P : Arrival → Type 0 = λ a. (again : ℕ) × IfSome a.place (λ v. again ≡ v / page_words) × ((page : ℕ) → IsPool layout page → page ≢ again → Stays image old.flash.words (with_torn new.flash.words (torn_by a.refused)) page) in
-    let Q : ℕ → Performed → Type 0 = λ page p. Stays image old.flash.words (mended p.memory.words p.stop) page in
-    subst P (sym is) (
-      left.again,
-      left.here,
-      λ page pool away.
-          subst (λ w. Stays image old.flash.words w page) (sym (mended_is new.flash.words stop))
-          (subst (Q page) done (resolved_stays layout image old.flash.words mid.flash s t moved.place page right short left.whole there pool (left.others page pool away))),
-    )
-
--- the page that is torn, if any
-abbrev pub lost_in : Option Torn → ℕ
-lost_in None = 0
-lost_in (Some torn) = torn.page
-
--- a page stays, or is torn and free
-abbrev pub StaysOrLost : (image before words : List ℕ) → Option Torn → (page : ℕ) → Type 0
-StaysOrLost image before words torn page = Stays image before words page ⊎ ((page ≡ lost_in torn) × IsFree words page)
-
--- .. in words that lack those of a torn page
-pub torn_stays : (layout : Layout) (image before words : List ℕ) (torn : Option Torn) (page : ℕ) → IsRight layout → length words ≡ word_count → IfSome torn (IsTorn layout words) → IsPool layout page
-    → Stays image before (with_torn words torn) page → StaysOrLost image before words torn page
-torn_stays layout image before words None page right whole lacks pool stay = inl stay
-torn_stays layout image before words (Some torn) page right whole lacks pool stay =
-    let inside : page_words * torn.page + page_words ≤ length words = omega (arith, whole, lacks.pool.to, right.pool_below_kernel) in
-    elim (cases_eq page torn.page) [
-      | inl same ↦ inr (same, subst (IsFree words) (sym same) lacks.blank)
-      | inr apart ↦ inl (same_stays layout image before (set_page words torn.page torn.words) words page right pool (length-set_page words torn.words torn.page lacks.size inside ∙ whole) whole
-          (same_back words (set_page words torn.page torn.words) page (page_left words torn.words torn.page page lacks.size inside apart)) stay)
-    ]
 
 -- Word by word. -------------------------------------------------------------------------------------
 
@@ -376,12 +294,4 @@ pub run_keeps : (image words words' : List ℕ) (page first last : ℕ) → Hold
 run_keeps image words words' page first last old new k below = elim (cases_lt k (page_size image first last)) [
   | inl front ↦ pieces_keep words words' (page_words * page) (page_pieces image first last) old.stands new.stands (128 * page + k) (omega arith) (omega (arith, front))
   | inr behind ↦ Kept (new.rest k behind below ∙ sym (old.rest k behind below))
-]
-
-pub stays_keep : (layout : Layout) (image before words : List ℕ) (page : ℕ) → IsFaithful layout image before → IsPool layout page → Stays image before words page → KeepsCode before words page
-stays_keep layout image before words page code pool stays = elim (code.pages page pool) [
-  | inl free ↦ λ k below. Kept (free_word words page k below (stays.free free) ∙ sym (free_word before page k below free))
-  | inr run ↦ (
-      let holds = holds_more (IsEntry layout before) Anywhere image before page run.first run.last (λ a v leads. tt) run.holds in
-      run_keeps image before words page run.first run.last holds (stays.runs run.first run.last holds))
 ]

@@ -1,122 +1,31 @@
--- Pages that an arrival doesn't make, where an operation on flash may be refused: each stays, or is the one that is torn. A page
--- that is made is never that one.
-use Rattle.std.proofs.Common.{◌≡◌, ◌≢◌, ℕ, ◌+◌, ◌*◌, ◌/◌, ◌<◌, ◌≤◌, ◌⊎◌, inl, inr, Bool, true, false, List, [], ◌∷◌, length, Option, Some, None, Ok, Err, arith, refl, sym, ap, ◌∙◌, subst}
+-- A page that an arrival makes is never the one that is torn.
+use Rattle.std.proofs.Common.{◌≡◌, ◌≢◌, ℕ, ◌+◌, ◌*◌, ◌/◌, ◌<◌, ◌≤◌, Bool, true, false, List, length, Option, Some, None, Ok, arith, refl, sym, ap, ◌∙◌, subst}
 use Rattle.std.specs.Prelude.{if◌then◌else◌, IfSome}
 use Rattle.std.specs.Option.{option_map}
-use Rattle.std.proofs.lemmas.Bool.{cases_eq}
 use Rattle.flash_words.specs.Pages.{page_words, word_count}
 use Rattle.flash_words.specs.Layouts.{IsRight, layout_of, image_of}
 use Rattle.flash_words.specs.declared.layout.Layout.{Layout}
 use Rattle.flash_words.specs.Memory.{Memory}
 use Rattle.flash_words.specs.Operations.{fails, left_by_refusal, erased_page, programmed_page}
-use Rattle.page_index.specs.Maps.{IsPool, IsFree}
 use Rattle.page_index.specs.Entries.{IsEntry, IsMapped}
 use Rattle.page_index.proofs.ChangeLaws.{same_back, page_left, lists_alike, map_alike}
 use Rattle.page_index.proofs.EntryLaws.{page_of_place}
 use Rattle.nat_page.specs.Faithful.{IsFaithful}
 use Rattle.nat_page.specs.Used.{is_used}
 use Rattle.nat_page.proofs.UsedLaws.{free_unused}
-use Rattle.branch_bridge.specs.declared.arrival.Refused.{Refused}
 use Rattle.branch_bridge.specs.declared.arrival.Moved.{Moved}
 use Rattle.branch_bridge.specs.declared.through.Arrival.{Arrival}
 use Rattle.branch_bridge.specs.declared.rewriting.ResolveStop.{ResolveStop}
 use Rattle.branch_bridge.specs.declared.rewriting.Torn.{Torn}
-use Rattle.branch_bridge.specs.Operating.{Erase, Program, Performed, perform, rewriting, lacking, stop_at, mended, with_torn}
+use Rattle.branch_bridge.specs.Operating.{Erase, Program, Performed, perform, rewriting, stop_at, with_torn}
 use Rattle.branch_bridge.specs.Tried.{IsTorn, torn_at}
-use Rattle.branch_bridge.specs.Arrivals.{Store, ring_of, Makes, Made, NotMade, Recycles, NotUnlinked, NotErased, Erased, Arrives, Beyond, Found, Free, Full, refused_by, ArrivesFrom, Stopped, Went, Resolved, CameThrough, torn_by}
+use Rattle.branch_bridge.specs.Arrivals.{Store, ring_of, Recycles, NotUnlinked, NotErased, Erased, Arrives, Beyond, Found, Free, Full, refused_by, ArrivesFrom, Stopped, Went, Resolved, CameThrough, torn_by}
 use Rattle.branch_bridge.proofs.MakeLaws.{makes_told}
-use Rattle.branch_bridge.proofs.RecycleLaws.{victim_free}
-use Rattle.branch_bridge.proofs.ThroughLaws.{is_to_resolve, mended_is}
-use Rattle.program_steps.proofs.Arriving.{same_found}
+use Rattle.branch_bridge.proofs.ThroughLaws.{is_to_resolve}
 use Rattle.theorem_reader.specs.Pools.{IsPlaceOf}
-use Rattle.theorem_reader.proofs.OtherPages.{Stays, StaysOrLost, lost_in, torn_stays, unlinking_stays, unlinked_all, made_stays, recycled_stays, resolved_stays, still_linked, others_stay}
+use Rattle.theorem_reader.proofs.OtherPages.{made_stays, recycled_stays}
 use Rattle.theorem_reader.proofs.Pooling.{place_is, place_listed, map_of}
 use Rattle.theorem_reader.proofs.Working.{link_page}
-
-self_stays : (image before words : List ℕ) (page : ℕ) → words ≡ before → Stays image before words page
-self_stays image before words page same = subst (λ w. Stays image before w page) (sym same) (record { free = λ free. free; runs = λ b n holds. holds })
-
--- a program that is refused changes no word, and tells what its page lacks
-record IsMissed (old new : List ℕ) (torn : Option Torn) (page : ℕ) (again : Bool) : Type 0 where
-  words : List ℕ
-  same : new ≡ old
-  lacks : torn ≡ lacking (Program again page words)
-
-missed_program : (old new : Memory) (page : ℕ) (again : Bool) (words : List ℕ) (stop : ResolveStop) → perform old (Program again page words ∷ []) ≡ record { memory = new; stop = Some stop } → IsMissed old.words new.words stop.torn page again
-missed_program old new page again words stop performed =
-    let refused : Performed = record { memory = left_by_refusal old page; stop = Some (stop_at old (Program again page words)) } in
-    let done : Performed = record { memory = programmed_page old page words; stop = None } in
-    let Test : Bool → Type 0 = λ b. (if b then refused else done) ≡ record { memory = new; stop = Some stop } → IsMissed old.words new.words stop.torn page again in
-    (elim (fails old) as Test [
-      | true ↦ λ is. record { words = words; same = sym (ap (λ (r : Performed). r.memory.words) is); lacks = sym (ap (λ (r : Performed). torn_at r.stop) is) }
-      | false ↦ λ is. absurd (let told : None ≡ Some stop = ap (λ (r : Performed). r.stop) is in cc)
-    ]) performed
-
-missed : (layout : Layout) (old new : Store) (page t : ℕ) (again : Bool) (refused : Refused) → Makes layout old new page t again (Err refused) → IsMissed old.flash.words new.flash.words refused.torn page again
-missed layout old new page t again refused (Made words place prepared performed noted_there answer) = absurd (cc)
-missed layout old new page t again refused (NotMade words place prepared stop performed same answer) =
-    let e : refused ≡ refused_by stop = cc in
-    subst (λ torn. IsMissed old.flash.words new.flash.words torn page again) (sym (ap (λ (r : Refused). r.torn) e)) (missed_program old.flash new.flash page again words stop performed)
-
--- Where no page is made. -----------------------------------------------------------------------------
-
-missed_recycling : (layout : Layout) (old new : Store) (victim t page : ℕ) (refused : Refused) → IsRight layout → IsFaithful layout (image_of layout old.flash.words) old.flash.words → IsPool layout victim
-    → length new.flash.words ≡ word_count → IfSome refused.torn (IsTorn layout new.flash.words) → IsPool layout page → Recycles layout old new victim t (Err refused) → StaysOrLost (image_of layout old.flash.words) old.flash.words new.flash.words refused.torn page
-missed_recycling layout old new victim t page refused right code pool whole lacks pool' (NotUnlinked stop performed same answer) =
-    let e : refused ≡ refused_by stop = cc in
-    torn_stays layout (image_of layout old.flash.words) old.flash.words new.flash.words refused.torn page right whole lacks pool'
-    (subst (λ (r : Refused). Stays (image_of layout old.flash.words) old.flash.words (with_torn new.flash.words r.torn) page) (sym e) (unlinking_stays layout old.flash new.flash victim page (Some stop) right code pool' performed))
-missed_recycling layout old new victim t page refused right code pool whole lacks pool' (NotErased unlinked performed listed left same answer) =
-    inl (subst (λ w. Stays (image_of layout old.flash.words) old.flash.words w page) (sym (ap (λ (m : Memory). m.words) left)) (unlinking_stays layout old.flash unlinked victim page None right code pool' performed))
-missed_recycling layout old new victim t page refused right code pool whole lacks pool' (Erased unlinked performed free makes) = elim (cases_eq page victim) [
-  | inl same ↦ (
-      let is = missed layout _ new victim t true refused makes in
-      let up = unlinked_all layout old.flash unlinked victim right code pool performed in
-      let blank : IsFree new.flash.words victim = subst (λ w. IsFree w victim) (sym is.same) (victim_free layout (image_of layout old.flash.words) unlinked.words victim right up.code pool) in
-      inr (same ∙ sym (ap lost_in is.lacks), subst (IsFree new.flash.words) (sym same) blank))
-  | inr away ↦ torn_stays layout (image_of layout old.flash.words) old.flash.words new.flash.words refused.torn page right whole lacks pool'
-      ((recycled_stays layout old new victim t (Err refused) right code pool (Erased unlinked performed free makes)).others page pool' away)
-]
-
-missed_arrival : (layout : Layout) (old new : Store) (t page : ℕ) (refused : Refused) → IsRight layout → IsFaithful layout (image_of layout old.flash.words) old.flash.words → ring_of old.sram < layout.pool_pages
-    → length new.flash.words ≡ word_count → IfSome refused.torn (IsTorn layout new.flash.words) → IsPool layout page → Arrives layout old new t (Err refused) → StaysOrLost (image_of layout old.flash.words) old.flash.words new.flash.words refused.torn page
-missed_arrival layout old new t page refused right code ring whole lacks pool (Beyond out same answer) =
-    inl (self_stays (image_of layout old.flash.words) old.flash.words new.flash.words page (ap (λ (s : Store). s.flash.words) same))
-missed_arrival layout old new t page refused right code ring whole lacks pool (Found place inside finds same answer) = absurd (cc)
-missed_arrival layout old new t page refused right code ring whole lacks pool (Free free inside finds lowest makes) =
-    inl (self_stays (image_of layout old.flash.words) old.flash.words new.flash.words page (missed layout old new free t false refused makes).same)
-missed_arrival layout old new t page refused right code ring whole lacks pool (Full inside finds none recycles) =
-    missed_recycling layout old new (layout.pool_first + ring_of old.sram) t page refused right code (record { from = omega arith; to = omega arith }) whole lacks pool recycles
-
-unmade_stays : (layout : Layout) (old new : Store) (t page : ℕ) (stub : Option ℕ) (arrival : Arrival) → IsRight layout → IsFaithful layout (image_of layout old.flash.words) old.flash.words → ring_of old.sram < layout.pool_pages
-    → CameThrough layout old.flash.words stub t → length new.flash.words ≡ word_count → IfSome (torn_by arrival.refused) (IsTorn layout new.flash.words) → IsPool layout page → ArrivesFrom layout old new t stub arrival → arrival.made ≡ false
-    → StaysOrLost (image_of layout old.flash.words) old.flash.words new.flash.words (torn_by arrival.refused) page
-unmade_stays layout old new t page stub arrival right code ring came whole lacks pool (Stopped refused arrives is) unmade =
-    let told : torn_by arrival.refused ≡ refused.torn = ap (λ (a : Arrival). torn_by a.refused) is in
-    subst (λ torn. StaysOrLost (image_of layout old.flash.words) old.flash.words new.flash.words torn page) (sym told)
-    (missed_arrival layout old new t page refused right code ring whole (subst (λ torn. IfSome torn (IsTorn layout new.flash.words)) told lacks) pool arrives)
-unmade_stays layout old new t page stub arrival right code ring came whole lacks pool (Went moved arrives nothing is) unmade =
-    inl (self_stays (image_of layout old.flash.words) old.flash.words new.flash.words page (ap (λ (m : Memory). m.words) (same_found layout old new t moved arrives (sym (ap (λ (a : Arrival). a.made) is) ∙ unmade))))
-unmade_stays layout old new t page stub arrival right code ring came whole lacks pool (Resolved mid moved s arrives some stop done same is) unmade =
-    let image = image_of layout old.flash.words in
-    let found = ap (λ (m : Memory). m.words) (same_found layout old mid t moved arrives (sym (ap (λ (a : Arrival). a.made) is) ∙ unmade)) in
-    let there = still_linked layout old mid t s stub moved right code ring came arrives some in
-    let Q : Performed → Type 0 = λ p. Stays image old.flash.words (mended p.memory.words p.stop) page in
-    let stays = subst Q done (resolved_stays layout image old.flash.words mid.flash s t moved.place page right (omega (arith, code.image_length, right.image_fits)) (ap length found ∙ code.whole) there pool (self_stays image old.flash.words mid.flash.words page found)) in
-    let told : mended new.flash.words stop ≡ with_torn new.flash.words (torn_by arrival.refused) = sym (ap (λ (a : Arrival). with_torn new.flash.words (torn_by a.refused)) is ∙ mended_is new.flash.words stop) in
-    torn_stays layout image old.flash.words new.flash.words (torn_by arrival.refused) page right whole lacks pool (subst (λ w. Stays image old.flash.words w page) told stays)
-
--- .. or the page is another one
-pub others_or_lost : (layout : Layout) (old new : Store) (t page : ℕ) (stub : Option ℕ) (arrival : Arrival) → IsRight layout → IsFaithful layout (image_of layout old.flash.words) old.flash.words → ring_of old.sram < layout.pool_pages
-    → CameThrough layout old.flash.words stub t → length new.flash.words ≡ word_count → IfSome (torn_by arrival.refused) (IsTorn layout new.flash.words) → IsPool layout page → ArrivesFrom layout old new t stub arrival
-    → (arrival.made ≡ false) ⊎ ((place : ℕ) × (arrival.place ≡ Some place) × (page ≢ place / page_words)) → StaysOrLost (image_of layout old.flash.words) old.flash.words new.flash.words (torn_by arrival.refused) page
-others_or_lost layout old new t page stub arrival right code ring came whole lacks pool from (inl unmade) = unmade_stays layout old new t page stub arrival right code ring came whole lacks pool from unmade
-others_or_lost layout old new t page stub arrival right code ring came whole lacks pool from (inr other) =
-    let stay = others_stay layout old new t stub arrival right code ring came from in
-    let again : stay.0 ≡ other.0 / page_words = subst (λ p. IfSome p (λ v. stay.0 ≡ v / page_words)) other.1 stay.1 in
-    torn_stays layout (image_of layout old.flash.words) old.flash.words new.flash.words (torn_by arrival.refused) page right whole lacks pool (stay.2 page pool (λ same. other.2 (same ∙ again)))
-
--- The page that is made. -----------------------------------------------------------------------------
 
 -- a page that is rewritten is the torn one, if any is
 rewriting_torn : (m : Memory) (page : ℕ) (words : List ℕ) → IfSome (torn_at (perform m (rewriting page words)).stop) (λ torn. torn.page ≡ page)
@@ -142,7 +51,7 @@ recycled_is layout old new victim t moved (NotErased unlinked performed listed l
 recycled_is layout old new victim t moved (Erased unlinked performed free makes) = makes_told layout _ new victim t true (Ok moved) makes
 
 -- the stub that is resolved behind it isn't in it
-stub_apart : (layout : Layout) (old mid : Store) (t s : ℕ) (moved : Moved) → IsRight layout → IsFaithful layout (image_of layout old.flash.words) old.flash.words → ring_of old.sram < layout.pool_pages
+pub stub_apart : (layout : Layout) (old mid : Store) (t s : ℕ) (moved : Moved) → IsRight layout → IsFaithful layout (image_of layout old.flash.words) old.flash.words → ring_of old.sram < layout.pool_pages
     → is_used old.flash.words (s / page_words) ≡ true → moved.recycled ≢ Some (s / page_words) → Arrives layout old mid t (Ok moved) → moved.made ≡ true → s / page_words ≢ moved.place / page_words
 stub_apart layout old mid t s moved right code ring used apart (Beyond out same answer) made own = absurd (cc)
 stub_apart layout old mid t s moved right code ring used apart (Found place inside finds same answer) made own =
@@ -160,7 +69,7 @@ apart_by : (page place : ℕ) (torn : Option Torn) → page ≢ place / page_wor
 apart_by page place None away there = tt
 apart_by page place (Some torn) away there = λ own. away (sym there ∙ own)
 
-torn_told : (stop : Option ResolveStop) → torn_by (option_map refused_by stop) ≡ torn_at stop
+pub torn_told : (stop : Option ResolveStop) → torn_by (option_map refused_by stop) ≡ torn_at stop
 torn_told None = refl
 torn_told (Some stop) = refl
 

@@ -15,14 +15,18 @@ use Rattle.printed_text.specs.PlainLines.{usage_line}
 use Rattle.printed_text.specs.FaultyLines.{bad_image_text, bad_line_text, hex_word, script_word, dump_word, asm_word}
 use Rattle.cli_words.specs.Status.{number_of}
 use Rattle.byte_streams.specs.Streams.{Input}
-use Rattle.cli_requests.specs.Asking.{Tells, IsWarranted}
+use Rattle.cli_words.specs.declared.job.Job.{Job}
+use Rattle.cli_words.specs.Printed.{usage}
+use Rattle.cli_words.proofs.OneCommand.{one_command}
+use Rattle.cli_requests.specs.Asking.{Asks, IsAsked, Tells, IsWarranted}
 use Rattle.cli_requests.specs.Reading.{Bad, Good}
 use Rattle.cli_requests.specs.TasksCommand.{Refused}
+use Rattle.tkernel_cli.specs.Answer.{Does}
 use Rattle.tkernel_cli.specs.Runs.{Says}
 use Rattle.tkernel_cli.specs.declared.top.Exit.{Exit}
-use Rattle.theorem_reader.specs.Refusals.{ReadsScript, Runs, Dumps, Restarts, ReadsHex, Scripted, Several, Checks, ReadsText, Program, Source, bad_line, IsUsage, Helped, Unknown, IsRefused, Usage, TooLong, BadHex, BadScript, BadScripts, BadImage, BadDump, BadSource, IsSaid, NoMemory, Said, AsksAsm, IsAssembled}
+use Rattle.theorem_reader.specs.Refusals.{ReadsScript, Runs, Dumps, Restarts, ReadsHex, Scripted, Several, Checks, ReadsText, Program, Source, bad_line, IsUsage, Helped, Unknown, IsRefused, HasUsage, TooLong, BadHex, BadScript, BadScripts, BadImage, BadDump, BadSource, IsSaid, NoMemory, Said, AsksAsm, IsAssembled}
 use Rattle.theorem_reader.specs.Texts.{address}
-use Rattle.theorem_reader.proofs.Doing.{IsSoThen, Call, Somehow, so_then, told_how, told_by}
+use Rattle.theorem_reader.proofs.Doing.{IsSoThen, Call, Somehow, so_is, so_then, retold, told_how, told_by}
 
 -- a line that is warranted
 record Warrants (words : List (List ℕ)) (source source' : Input) (own : ℕ) (line : List ℕ) : Type 0 where
@@ -76,12 +80,7 @@ asm_line : (number : ℕ) (fault : AsmFault) → bad_line_text (codes "bad asm l
 unfolding bad_line_text
 asm_line number fault = refl
 
-usage_warranted : (words : List (List ℕ)) (source source' : Input) (own : ℕ) → IsUsage words own → Warrants words source source' own usage_line
-usage_warranted words source source' own (Helped is own_is) = record { status = statuses.Done; items = _; warranted = inl (Help, is, refl); status_is = sym own_is; line_is = refl }
-usage_warranted words source source' own (Unknown none own_is) = record { status = statuses.Usage; items = _; warranted = inr (none, refl); status_is = sym own_is; line_is = refl }
-
 warrants : (words : List (List ℕ)) (source source' : Input) (text : List ℕ) (own : ℕ) (line : List ℕ) → Tells source source' text → IsRefused words text own line → Warrants words source source' own line
-warrants words source source' text own line tells (Usage usage line_is) = subst (Warrants words source source' own) (sym line_is) (usage_warranted words source source' own usage)
 warrants words source source' text own line tells (TooLong reads long own_is line_is) =
     record { status = statuses.BadInput; items = _; warranted = too_long words source source' text tells long reads; status_is = sym own_is; line_is = sym line_is }
 warrants words source source' text own line tells (BadHex reads short number fault bad own_is line_is) =
@@ -112,9 +111,29 @@ warranted_told words exit status faults taken call own line w =
     (told_by words exit status faults taken call _ (λ sink. IsSaid sink (number_of w.status) w.items status taken exit.kept exit.tasks) w.warranted (λ sink told none alone. NoMemory told none alone)
     (λ done. said_how words exit status faults taken call w.status w.items done.0.0 done.0.1 done.1)))
 
+-- the usage line is asked for whether or not there is memory
+record IsUsageOf (own : ℕ) (job : Job) : Type 0 where
+  status : Status
+  status_is : number_of status ≡ own
+  is : job ≡ usage status
+
+usage_asked : (words : List (List ℕ)) (source source' : Input) (own : ℕ) (job : Job) → IsUsage words own → IsAsked words source source' job → IsUsageOf own job
+usage_asked words source source' own job (Helped help own_is) (inl asked) =
+    let asks = subst (λ c. Asks c source source' job) (sym (one_command words Help asked.0 help asked.1)) asked.2 in
+    record { status = statuses.Done; status_is = sym own_is; is = asks.0 }
+usage_asked words source source' own job (Helped help own_is) (inr none) = absurd (none.0 Help help)
+usage_asked words source source' own job (Unknown none own_is) (inl asked) = absurd (none asked.0 asked.1)
+usage_asked words source source' own job (Unknown none own_is) (inr unknown) = record { status = statuses.Usage; status_is = sym own_is; is = unknown.1 }
+
 pub usage_told : (words : List (List ℕ)) (exit : Exit) (status faults : ℕ) (taken : List ℕ) (call : Call words exit status faults taken) (own : ℕ)
-    → IsUsage words own → IsSoThen faults (λ sink. IsSaid sink own usage_line status taken exit.kept exit.tasks)
-usage_told words exit status faults taken call own usage = warranted_told words exit status faults taken call own usage_line (usage_warranted words call.source call.source' own usage)
+    → IsUsage words own → IsSoThen faults (λ sink. HasUsage sink own status taken exit.kept exit.tasks)
+usage_told words exit status faults taken call own usage =
+    let asked = usage_asked words call.source call.source' own call.answer.job usage call.answer.asked in
+    let done = subst (λ j. Does j call.sink call.sink' exit) asked.is call.answer.done in
+    so_is words exit status faults taken call (λ sink. HasUsage sink own status taken exit.kept exit.tasks)
+    (so_then call.sink call.sink' _ (λ sink. HasUsage sink own status taken exit.kept exit.tasks)
+    (λ sink told. record { told = retold sink _ _ _ _ status taken asked.status_is refl told; none = done.0.1; alone = done.1 })
+    (told_how words exit status faults taken call asked.status usage_line done.0.0))
 
 pub refused_told : (words : List (List ℕ)) (exit : Exit) (status faults : ℕ) (taken : List ℕ) (call : Call words exit status faults taken) (text : List ℕ) → Tells call.source call.source' text → (own : ℕ) (line : List ℕ)
     → IsRefused words text own line → IsSoThen faults (λ sink. IsSaid sink own line status taken exit.kept exit.tasks)

@@ -85,9 +85,9 @@ outside_page page a other = elim (cases_lt a (page_words * page)) [
 ]
 
 -- that, and how long it is
-record LostFlash (image : List ℕ) (m : Machine) : Type 0 where
-  is : IsLost image m (lost_flash m).words (lost_flash m).erases
-  size : length (lost_flash m).words ≡ 65536
+pub record LostFlash (image : List ℕ) (m : Machine) : Type 0 where
+  pub is : IsLost image m (lost_flash m).words (lost_flash m).erases
+  pub size : length (lost_flash m).words ≡ 65536
 
 torn_is : (image : List ℕ) (m : Machine) (op page : ℕ) → m.kernel.mote.flash.refused ≡ Some page → m.end ≡ Some (ends.Flash op) → IsPool (layout_of (length image)) page → length m.kernel.mote.flash.words ≡ 65536
     → LostFlash image m
@@ -115,7 +115,7 @@ lost_in_fault : (image : List ℕ) (m : Machine) (op : ℕ) (refused : Option �
 lost_in_fault image m op None is some end pool whole = absurd (some refl)
 lost_in_fault image m op (Some page) is some end pool whole = torn_is image m op page is end pool whole
 
-lost_is : (asked : Asked) (told : Status) (m : Machine) → Runs (request_of asked) silent silent told m → LostFlash asked.image m
+pub lost_is : (asked : Asked) (told : Status) (m : Machine) → Runs (request_of asked) silent silent told m → LostFlash asked.image m
 lost_is asked told m (Runs.Ended unlisted run) =
     let same : (lost_flash m).words ≡ m.kernel.mote.flash.words =
     ap (λ p. (lost_in (refused_in m.end) p (renewed m.kernel.mote.flash)).words) run.unrefused ∙ ap (λ (f : Memory). f.words) (lost_none (refused_in m.end) (renewed m.kernel.mote.flash)) in

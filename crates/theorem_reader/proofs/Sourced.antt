@@ -14,8 +14,7 @@ use Rattle.hex_image.specs.declared.fault.HexFault.TheVariants as hex_faults
 use Rattle.cli_words.specs.declared.command.Command.TheVariants.{Asm, Help}
 use Rattle.cli_words.specs.Commands.{IsCommand}
 use Rattle.cli_words.specs.Options.{nothing}
-use Rattle.theorem_reader.specs.Refusals.{AsksAsm, Helped, IsRefused, Usage, BadHex, BadSource, Scripted, Runs, bad_line}
-use Rattle.printed_text.specs.PlainLines.{usage_line}
+use Rattle.theorem_reader.specs.Refusals.{AsksAsm, Helped, IsUsage, IsRefused, BadHex, BadSource, Scripted, Runs, bad_line}
 use Rattle.theorem_reader.specs.Runs.{example}
 use Rattle.cli_words.proofs.WorkedWords.{without_options}
 
@@ -31,8 +30,8 @@ asm_word = (nothing, ([], (refl, refl)), refl)
 help_word : IsCommand (codes "help" ∷ []) Help
 help_word = (nothing, ([], (refl, refl)), refl)
 
-pub asks_help : IsRefused (codes "help" ∷ []) [] 0 usage_line
-asks_help = Usage (Helped help_word refl) refl
+pub asks_help : IsUsage (codes "help" ∷ []) 0
+asks_help = Helped help_word refl
 
 faultless : fault_of source ≡ None
 unfolding statement_of operation_of found_in operand_of register_of pointer_of number_of offset_of name_of is_name meaning_of is_valid fields_in_range is_undefined size_of

@@ -33,11 +33,11 @@ use Rattle.program_steps.specs.Stepping as stepping
 use Rattle.tk_run.specs.Running.{StandsAfter, StepsTo}
 use Rattle.tk_run.specs.Running as running
 use Rattle.theorem_reader.specs.Acts.{Act, Arrival, Arrives, In, Outside, Refused as RefusedThere, steps_in, services_in}
-use Rattle.theorem_reader.specs.Memory.{HasMemory, HasState}
+use Rattle.theorem_reader.specs.Memory.{HasMemory, HasState, HaveSlots}
 use Rattle.theorem_reader.specs.Pools.{IsPlaceOf}
 use Rattle.theorem_reader.specs.Steps.{EndsThere, AreOwn, AreOfStep, Interrupted, There, Arriving, is_with_kernel, IsBetween, GoByStep, AreUnmade, Nothing, Refused, Stopped, IsByStep}
 use Rattle.theorem_reader.proofs.Acting.{act_of, acts_of, Holds, refusal_end, arrival_is, follow}
-use Rattle.theorem_reader.proofs.Holding.{has_memory}
+use Rattle.theorem_reader.proofs.Holding.{has_memory, have_slots}
 use Rattle.theorem_reader.proofs.Pooling.{place_is}
 use Rattle.theorem_reader.proofs.Stopping.{Asked, inner_free, serve_on, none_owed, no_stop, stop_last, kernel_has, unmade_stops}
 
@@ -125,7 +125,7 @@ none_taken x y z target ops made stops arrives makes =
     (sym (ap (λ (s : State). s.owed) arrives.after) ∙ makes.owes) (sym (ap (λ (s : State). s.end) arrives.after) ∙ makes.going)
 
 -- where control stands, if no arrival is owed
-place_by : (image : List ℕ) (quantum : ℕ) (y : Machine) (t : ℕ) (due : Bool) → Holds image quantum (state_of y) → IsGoing y → (state_of y).owed ≡ None → Reaches (links_in y) t due (state_of y) → IsPlaceOf image y.kernel.mote.flash.words t y.kernel.mote.cpu.pc
+pub place_by : (image : List ℕ) (quantum : ℕ) (y : Machine) (t : ℕ) (due : Bool) → Holds image quantum (state_of y) → IsGoing y → (state_of y).owed ≡ None → Reaches (links_in y) t due (state_of y) → IsPlaceOf image y.kernel.mote.flash.words t y.kernel.mote.cpu.pc
 place_by image quantum y t due holds ready free (Reaches.Placed undue none enters) =
     let l = layout_of (length image) in
     let words = y.kernel.mote.flash.words in
@@ -220,7 +220,7 @@ not_last (Within inner) other moves = refl
 not_last (Arrive t made ops) other moves = refl
 not_last (Take stops) other moves = refl
 
-last_alone : (front moves : List Move) → ends_in_arrive (front ++ moves) ≡ false → ends_in_arrive moves ≡ false
+pub last_alone : (front moves : List Move) → ends_in_arrive (front ++ moves) ≡ false → ends_in_arrive moves ≡ false
 last_alone [] moves none = none
 last_alone (move ∷ front) [] none = refl
 last_alone (move ∷ []) (other ∷ moves) none = sym (not_last move other moves) ∙ none
@@ -237,6 +237,7 @@ state_held at n y stands =
       status = ap (λ (s : Moment). s.now.cpu.sreg) same;
       pointer = ap (λ (s : Moment). s.now.cpu.sp) same;
       memory = subst (HasMemory y.kernel.mote) (ap (λ (s : Moment). s.now.memory) same) (has_memory y.kernel.mote stands.ready.order.paged);
+      slots = subst (HaveSlots y.kernel.mote) (ap (λ (s : Moment). s.now.pages) same) (have_slots y.kernel.mote);
       devices = ap (λ (s : Moment). s.now.devices) same;
     }
 

@@ -37,7 +37,7 @@ use Rattle.theorem_reader.proofs.Serving.{at_an_entry, is_resume, Passed, On, Ov
 abbrev pub IsStop : Option End → Type 0
 IsStop end = (stop : Stop) × (end ≡ Some (ends.Stopped stop))
 
-none_on : (end : Option End) → IsStop end → end ≡ None → ⊥
+pub none_on : (end : Option End) → IsStop end → end ≡ None → ⊥
 none_on end over going = let e : Some (ends.Stopped over.0) ≡ None = sym over.1 ∙ going in absurd (cc)
 
 pub inner_free : (x : State) (inner : Inner) (y : State) → MakesOf false x inner y → (x.owed ≡ None) × (x.end ≡ None)
@@ -62,7 +62,7 @@ behind_serving due (answers.Goto target stub, k) is = refl
 behind_serving due (answers.Woke target, k) is = refl
 behind_serving due (answers.Stopped stop, k) is = absurd (cc)
 
-serve_stops : (x y : State) (line : Option Line) (stops : Bool) → MakesServe x line stops y → stops ≡ true → IsStop y.end
+pub serve_stops : (x y : State) (line : Option Line) (stops : Bool) → MakesServe x line stops y → stops ≡ true → IsStop y.end
 serve_stops x y line stops makes over = subst (λ (s : State). IsStop s.end) (sym makes.result) (after_serving (is_due x.kernel) (served x.kernel) (makes.halts ∙ over))
 
 stops_serve : (x y : State) (line : Option Line) (stops : Bool) → MakesServe x line stops y → IsStop y.end → stops ≡ true
@@ -166,7 +166,7 @@ false_by false never = refl
 unstopped : (x : State) (move : Move) (y : State) → Makes x move y → y.end ≡ None → is_stop (act_of move x y) ≡ false
 unstopped x move y makes going = false_by (is_stop (act_of move x y)) (λ over. none_on y.end (act_stops x move y makes over) going)
 
-stays_over : (x : State) (moves : List Move) (z : State) → Walk x moves z → IsStop x.end → IsStop z.end
+pub stays_over : (x : State) (moves : List Move) (z : State) → Walk x moves z → IsStop x.end → IsStop z.end
 stays_over x [] z walk over = subst (λ (s : State). IsStop s.end) walk over
 stays_over x (move ∷ moves) z walk over = absurd (none_on x.end over (move_goes x move walk.0 walk.1))
 

@@ -58,7 +58,7 @@ use Rattle.tk_run.specs.Running.{StandsAfter}
 use Rattle.cli_words.specs.declared.request.TaskRequest.{TaskRequest}
 use Rattle.tkernel_cli.specs.TasksRuns.{start_by}
 use Rattle.theorem_reader.specs.Acts.{Follow, IsNew, IsBoot, steps_in, services_in, made_in, StopsLast}
-use Rattle.theorem_reader.specs.Memory.{HasMemory, HasState}
+use Rattle.theorem_reader.specs.Memory.{HasMemory, HasState, HaveSlots}
 use Rattle.theorem_reader.specs.Pools.{AreFaithful}
 use Rattle.theorem_reader.specs.Steps.{AreOfStep, is_with_kernel, IsBetween}
 use Rattle.theorem_reader.specs.Stints.{Stint, ComesBack, IsParked, HasPart, Here, Away, AreOfTry, TakeTurns, changes_from, task_end}
@@ -68,7 +68,7 @@ use Rattle.theorem_reader.proofs.Acting.{acts_of, Holds, follow}
 use Rattle.theorem_reader.proofs.Booting.{is_new, is_boot}
 use Rattle.theorem_reader.proofs.Ending.{own_stop}
 use Rattle.theorem_reader.proofs.Bounding.{natural_of, entries_of, pages_of, lines_of_acts}
-use Rattle.theorem_reader.proofs.Holding.{has_memory}
+use Rattle.theorem_reader.proofs.Holding.{has_memory, have_slots}
 use Rattle.theorem_reader.proofs.Pooling.{faithful_is}
 use Rattle.theorem_reader.proofs.Stepwise.{acts_as, step_acts, between_held}
 use Rattle.theorem_reader.proofs.Pacing.{stint_of, stints_of, counts_from_boot, few_from_boot}
@@ -155,6 +155,7 @@ state_held k own pc steps crossings s paged same = record {
   status = ap (λ (z : FlatState). z.cpu.sreg) same;
   pointer = ap (λ (z : FlatState). z.cpu.sp) same;
   memory = subst (HasMemory own) (ap (λ (z : FlatState). z.memory) same) (has_memory own paged);
+  slots = subst (HaveSlots own) (ap (λ (z : FlatState). z.pages) same) (have_slots own);
   devices = ap (λ (z : FlatState). z.devices) same;
 }
 

@@ -1,14 +1,13 @@
 -- What a run that recycles no page erases.
-use Rattle.std.proofs.Common.{◌≡◌, ◌≢◌, ℕ, zero, suc, ◌+◌, ◌-◌, ◌*◌, ◌/◌, ◌%◌, ◌^◌, ◌<◌, ◌≤◌, ◌==◌, Bool, true, false, List, [], ◌∷◌, length, set, get_or, Option, Some, None, refl, sym, ap, ◌∙◌, subst, arith, inl, inr, ◌⊎◌}
-use Rattle.std.specs.Prelude.{Ok, slice_index, slice_set, if◌then◌else◌}
-use Rattle.std.proofs.lemmas.Bool.{cases_eq, cases_lt}
+use Rattle.std.proofs.Common.{◌≡◌, ◌≢◌, ℕ, zero, suc, ◌+◌, ◌-◌, ◌*◌, ◌/◌, ◌%◌, ◌<◌, ◌≤◌, ◌==◌, Bool, true, false, List, [], ◌∷◌, length, Option, Some, None, refl, sym, ap, ◌∙◌, subst, arith, inl, inr}
+use Rattle.std.specs.Prelude.{Ok, slice_index, if◌then◌else◌}
+use Rattle.std.proofs.lemmas.Bool.{cases_eq}
 use Rattle.std.proofs.lemmas.Bool.Decides.{nat_tests}
-use Rattle.std.proofs.Math.Nat.{min-le_left}
 use Rattle.std.proofs.lemmas.List.{get_or-set_other}
 use Rattle.flash_words.specs.declared.layout.Layout.{Layout}
 use Rattle.flash_words.specs.Layouts.{image_of, IsRight}
 use Rattle.flash_words.specs.Memory.{Memory}
-use Rattle.flash_words.specs.Operations.{fails, left_by_refusal, erased_page, programmed_page}
+use Rattle.flash_words.specs.Operations.{fails, left_by_refusal, programmed_page}
 use Rattle.flash_words.specs.Pages.{word_at, page_of, raised}
 use Rattle.flash_words.proofs.PageLaws.{word_in_page, word_out_of_page, page_word, length-page_of}
 use Rattle.page_index.specs.Maps.{IsPool, IsFree}
@@ -26,7 +25,7 @@ use Rattle.nat_page.proofs.TwoWords.{first_of_two, word_beside_two, length-with_
 use Rattle.nat_page.proofs.UsedLaws.{all_used}
 use Rattle.branch_bridge.specs.declared.arrival.Moved.{Moved}
 use Rattle.branch_bridge.specs.declared.through.Arrival.{Arrival}
-use Rattle.branch_bridge.specs.Operating.{Erase, Program, Performed, perform, rewriting, stop_at}
+use Rattle.branch_bridge.specs.Operating.{Program, Performed, perform, stop_at}
 use Rattle.branch_bridge.specs.Resolving.{resolving}
 use Rattle.branch_bridge.specs.Arrivals.{Store, Makes, Arrives, ArrivesFrom, CameThrough}
 use Rattle.branch_bridge.proofs.PerformLaws.{rewriting_done}
@@ -34,6 +33,7 @@ use Rattle.branch_bridge.proofs.ThroughLaws.{is_to_resolve}
 use Rattle.program_steps.proofs.Arriving.{same_found}
 use Rattle.theorem_reader.specs.Wear.{jumps_from, jumps_in, IsSpared}
 use Rattle.theorem_reader.proofs.Linking.{not_stopped}
+use Rattle.theorem_reader.proofs.Rewriting.{rewriting_erases, beside, erased_more}
 
 -- Jumps among words. --------------------------------------------------------------------------------------
 
@@ -82,38 +82,7 @@ spares_self m page below = omega arith
 pub spares_on : (old mid new : Memory) → IsSpared old mid → IsSpared mid new → IsSpared old new
 spares_on old mid new first second page below = omega (arith, first page below, second page below)
 
-beside : (page own k : ℕ) → k < 128 → page ≢ own → (128 * page + k < 128 * own) ⊎ (128 * own + 128 ≤ 128 * page + k)
-beside page own k below apart = elim (cases_lt page own) [
-  | inl less ↦ inl (omega (arith, less, below))
-  | inr more ↦ inr (omega (arith, more, apart))
-]
-
 -- A page in which a stub is resolved. ---------------------------------------------------------------------
-
-raised_most : (n : ℕ) → raised n ≤ n + 1
-raised_most n = min-le_left (n + 1) (2 ^ 32 - 1)
-
-bumped : (xs : List ℕ) (i v : ℕ) → v ≤ get_or xs i 0 + 1 → get_or (set xs i v) i 0 ≤ get_or xs i 0 + 1
-bumped [] i v most = omega arith
-bumped (x ∷ xs) zero v most = most
-bumped (x ∷ xs) (suc i) v most = bumped xs i v most
-
-rewriting_erases : (m m' : Memory) (page : ℕ) (words : List ℕ) → perform m (rewriting page words) ≡ record { memory = m'; stop = None } → m'.erases ≡ slice_set m.erases page (raised (slice_index m.erases page))
-rewriting_erases m m' page words performed =
-    let e = erased_page m page in
-    let refused : Performed = record { memory = left_by_refusal m page; stop = Some (stop_at m (Erase page)) } in
-    let torn : Performed = record { memory = left_by_refusal e page; stop = Some (stop_at e (Program true page words)) } in
-    let done : Performed = record { memory = programmed_page e page words; stop = None } in
-    let Q : Performed → Type 0 = λ r. r ≡ record { memory = m'; stop = None } → m'.erases ≡ slice_set m.erases page (raised (slice_index m.erases page)) in
-    let Inner : Bool → Type 0 = λ b. Q (if b then torn else done) in
-    let Outer : Bool → Type 0 = λ b. Q (if b then refused else (if fails e then torn else done)) in
-    (elim (fails m) as Outer [
-      | true ↦ λ is. absurd (let told : Some (stop_at m (Erase page)) ≡ None = ap (λ (r : Performed). r.stop) is in cc)
-      | false ↦ elim (fails e) as Inner [
-        | true ↦ λ is. absurd (let told : Some (stop_at e (Program true page words)) ≡ None = ap (λ (r : Performed). r.stop) is in cc)
-        | false ↦ λ is. sym (ap (λ (r : Performed). r.memory.erases) is)
-      ]
-    ]) performed
 
 record StubResolved (old new : Memory) (s place : ℕ) : Type 0 where
   whole : length old.words ≡ 65536
@@ -152,7 +121,7 @@ resolved_spares old new s place is page below =
     let words = page_of (with_two_words old.words s jump_word place) own in
     let inside : 128 * own + 128 ≤ length old.words = omega (arith, is.whole, is.low) in
     let long = length-page_of (with_two_words old.words s jump_word place) own (omega (arith, inside, length-with_two_words old.words s jump_word place)) in
-    let erases = rewriting_erases old new own words is.done in
+    let erases = rewriting_erases old new own words inside is.done in
     elim (cases_eq page own) [
       | inl same ↦
           let at : 128 * own + s % 128 ≡ s = omega arith in
@@ -161,7 +130,7 @@ resolved_spares old new s place is page below =
           word_resolved old new s place (s % 128) is (omega (arith, is.room)) ∙ ap (word_at (with_two_words old.words s jump_word place)) at ∙ first_of_two old.words s jump_word place (omega (arith, is.whole, is.low, is.room)) in
           let now : is_jump new.words (128 * own + s % 128) ≡ 1 = ap jump_of here in
           let more = jumps_more old.words new.words (128 * own) 128 (s % 128) (omega (arith, is.room)) was now (λ k less. jump_kept old new s place k is less) in
-          let once : slice_index new.erases own ≤ slice_index old.erases own + 1 = omega (arith, ap (λ es. slice_index es own) erases, bumped old.erases own (raised (slice_index old.erases own)) (raised_most (slice_index old.erases own))) in
+          let once = erased_more old new own erases in
           let There : ℕ → Type 0 = λ p. slice_index new.erases p + jumps_in old.words p ≤ slice_index old.erases p + jumps_in new.words p in
           subst There (sym same) (omega (arith, more, once))
       | inr apart ↦
@@ -173,7 +142,7 @@ resolved_spares old new s place is page below =
 
 -- A page that is made. ------------------------------------------------------------------------------------
 
-programmed_is : (m m' : Memory) (again : Bool) (page : ℕ) (words : List ℕ) → perform m (Program again page words ∷ []) ≡ record { memory = m'; stop = None } → m' ≡ programmed_page m page words
+pub programmed_is : (m m' : Memory) (again : Bool) (page : ℕ) (words : List ℕ) → perform m (Program again page words ∷ []) ≡ record { memory = m'; stop = None } → m' ≡ programmed_page m page words
 programmed_is m m' again page words performed =
     let refused : Performed = record { memory = left_by_refusal m page; stop = Some (stop_at m (Program again page words)) } in
     let done : Performed = record { memory = programmed_page m page words; stop = None } in

@@ -14,13 +14,15 @@ use Rattle.avr_exec.specs.Execution.{exec_of}
 use Rattle.mote_devices.specs.declared.line.Line.{Line}
 use Rattle.mote_devices.specs.State.{State}
 use Rattle.mote_devices.specs.Waking.{wake}
+use Rattle.page_draft.specs.Runs.{address, ends_at}
+use Rattle.page_draft.specs.CodePages.{page_size}
 use Rattle.flash_words.specs.Operations.{is_listed, Operation, Erase, Program, perform}
 use Rattle.mote_core.specs.declared.mote.Mote.{Mote}
 use Rattle.mote_core.specs.Physical.{physical_calls}
 use Rattle.step_laws.specs.Moves.{line_before}
-use Rattle.theorem_reader.specs.Pools.{pool_from, IsInPool, AreFaithful, IsErased, AreFaithfulBut, IsPlaceOf, KeepsCode}
+use Rattle.theorem_reader.specs.Pools.{pool_from, IsInPool, AreFaithful, IsErased, AreFaithfulBut, IsPlaceOf}
 use Rattle.theorem_reader.specs.Memory.{HasMemory}
-use Rattle.theorem_reader.specs.Wear.{pool_size}
+use Rattle.theorem_reader.specs.Wear.{pool_size, ErasesFew}
 
 -- One AVR instruction of the mote in rewritten code. A service of the kernel, in which the program may stop. Each of these two may
 -- write a device line. The arrival of control at an original address, the target, which may be refused; which makes so many pages;
@@ -138,32 +140,74 @@ pub data IsNext (image : List ℕ) (before after : Mote) (page : ℕ) : Type 0 w
   InTurn : ((other : ℕ) → IsInPool image other → ¬ IsErased before.flash.words other) → 128 * page ≡ pool_from image + 128 * ring_of before
       → ring_of after ≡ (ring_of before + 1) % pool_size image → IsNext image before after page
 
+-- Why the page made of the instructions from t on to the one of number `last` goes no further: control never goes on from that one
+-- to the next; or the next one is in another page of 128 words, or outside the image, or has a place in another page already; or
+-- with it the page would have more than 128 words.
+pub data GoesNoFurther (image flash : List ℕ) (page t last : ℕ) : Type 0 where
+  Leads : ends_at image (address image t last) ≡ true → GoesNoFurther image flash page t last
+  Leaves : address image t (suc last) / 128 ≢ t / 128 → GoesNoFurther image flash page t last
+  Beyond : length image ≤ address image t (suc last) → GoesNoFurther image flash page t last
+  Known : (place : ℕ) → place / 128 ≢ page → IsPlaceOf image flash (address image t (suc last)) place → GoesNoFurther image flash page t last
+  Full : 128 < page_size image t (suc last) → GoesNoFurther image flash page t last
+
+-- the page where control is begins with the target, has so many instructions, and goes no further
+pub record GoesFar (image : List ℕ) (target : ℕ) (before after : Mote) : Type 0 where
+  pub last : ℕ
+  pub first : slice_index after.flash.words (128 * (after.cpu.pc / 128) + 2) / 256 ≡ target % 128
+  pub entries : slice_index after.flash.words (128 * (after.cpu.pc / 128) + 1) ≡ suc last
+  pub stops : GoesNoFurther image before.flash.words (after.cpu.pc / 128) target last
+
 -- A page is made for the target, which has no place before. It is the next one, and the one where control is then; there the
--- code of the target begins.
+-- code of the target begins; and it goes on as far as it may.
 pub record IsMade (image : List ℕ) (target : ℕ) (before after : Mote) : Type 0 where
   pub anew : (place : ℕ) → ¬ IsPlaceOf image before.flash.words target place
   pub next : IsNext image before after (after.cpu.pc / 128)
   pub place : IsPlaceOf image after.flash.words target after.cpu.pc
+  pub far : GoesFar image target before after
 
--- A page that isn't made keeps its code, and is erased if it was; or it is this one, which is erased now.
-abbrev pub IsUnmade : (before after : List ℕ) → (lost page : ℕ) → Type 0
-IsUnmade before after lost page = (KeepsCode before after page × (IsErased before page → IsErased after page)) ⊎ ((page ≡ lost) × IsErased after page)
+-- the page that is to be made anew for the target: RING's, where no page of the pool is erased, or has a place of the target
+pub record IsRecycled (image : List ℕ) (target : ℕ) (before : Mote) (page : ℕ) : Type 0 where
+  pub anew : (place : ℕ) → ¬ IsPlaceOf image before.flash.words target place
+  pub full : (other : ℕ) → IsInPool image other → ¬ IsErased before.flash.words other
+  pub turn : 128 * page ≡ pool_from image + 128 * ring_of before
+
+-- these two words stand at that address
+abbrev pub StandAt : (words : List ℕ) → (at first second : ℕ) → Type 0
+StandAt words at first second = (slice_index words at ≡ first) × (slice_index words (at + 1) ≡ second)
+
+-- A word of a page that isn't made: it stays. Or it is one of the first two of an exit stub. That called the kernel at 0xF000, and
+-- jumps to where control is then; or it jumped into the page that is to be made anew, and calls the kernel then.
+pub data KeepsLink (image : List ℕ) (target : ℕ) (before after : Mote) (a : ℕ) : Type 0 where
+  Kept : slice_index after.flash.words a ≡ slice_index before.flash.words a → KeepsLink image target before after a
+  Linked : (s : ℕ) → (a ≡ s) ⊎ (a ≡ s + 1) → StandAt before.flash.words s 0x940E 0xF000 → StandAt after.flash.words s 0x940C after.cpu.pc → KeepsLink image target before after a
+  Unlinked : (s : ℕ) → (a ≡ s) ⊎ (a ≡ s + 1) → slice_index before.flash.words s ≡ 0x940C → IsRecycled image target before (slice_index before.flash.words (s + 1) / 128)
+      → StandAt after.flash.words s 0x940E 0xF000 → KeepsLink image target before after a
+
+-- .. each word of a page
+abbrev pub KeepsLinks : (image : List ℕ) (target : ℕ) (before after : Mote) (page : ℕ) → Type 0
+KeepsLinks image target before after page = (k : ℕ) → k < 128 → KeepsLink image target before after (128 * page + k)
+
+-- A page that isn't made keeps its code and its links, and is erased if it was; or it is this one, which is erased now.
+abbrev pub IsUnmade : (image : List ℕ) (target : ℕ) (before after : Mote) (lost page : ℕ) → Type 0
+IsUnmade image target before after lost page =
+    (KeepsLinks image target before after page × (IsErased before.flash.words page → IsErased after.flash.words page)) ⊎ ((page ≡ lost) × IsErased after.flash.words page)
 
 -- How an arrival ends. Its target is in the image, and control goes on where the code of that begins, in a flash that is
--- faithful. Each page of the pool but the one of that place keeps its code. If a page was made it is that one (`IsMade`); else
--- a link is all that changes of the words of flash (`Relinks`), and RING stays. No operation that is listed to fail was tried.
+-- faithful. Each page of the pool but the one of that place keeps its code and its links (`KeepsLinks`). If a page was made it is
+-- that one (`IsMade`); else a link is all that changes of the words of flash (`Relinks`), and RING stays. No operation that is
+-- listed to fail was tried.
 -- Or the target is outside the image, and it is refused: no page is made, and flash and the pc stay. Or the target is in the
 -- image, and an operation on flash was refused, the last of those that were tried, and listed to fail: flash is faithful, but
--- that a page may lack its words. Each page of the pool but one that was made keeps its code, one at most excepted, which is
--- erased then (`IsUnmade`). The pc stays, or is in the pool: in the page that was made, if any (`IsMade`).
+-- that a page may lack its words. Each page of the pool but one that was made keeps its code and its links, one at most excepted,
+-- which is erased then (`IsUnmade`). The pc stays, or is in the pool: in the page that was made, if any (`IsMade`).
 pub data Arrives (image : List ℕ) (refused : Bool) (target made : ℕ) (before after : Mote) : Type 0 where
   In : refused ≡ false → target < length image → AreFaithful image after.flash.words → IsPlaceOf image after.flash.words target after.cpu.pc
-      → ((page : ℕ) → IsInPool image page → page ≢ after.cpu.pc / 128 → KeepsCode before.flash.words after.flash.words page)
+      → ((page : ℕ) → IsInPool image page → page ≢ after.cpu.pc / 128 → KeepsLinks image target before after page)
       → (made ≡ 0 → Relinks before.flash.words after.flash.words after.cpu.pc × (ring_of after ≡ ring_of before)) → (made ≡ 1 → IsMade image target before after)
       → ((op : ℕ) → before.flash.ops < op → op ≤ after.flash.ops → is_listed before.flash.failing op ≡ false) → Arrives image refused target made before after
   Outside : refused ≡ true → length image ≤ target → made ≡ 0 → after.flash ≡ before.flash → after.cpu.pc ≡ before.cpu.pc → Arrives image refused target made before after
   Refused : refused ≡ true → target < length image → before.flash.ops < after.flash.ops → is_listed before.flash.failing after.flash.ops ≡ true → AreFaithfulBut image after.flash.words
-      → (lost : ℕ) → ((page : ℕ) → IsInPool image page → (made ≡ 0) ⊎ (page ≢ after.cpu.pc / 128) → IsUnmade before.flash.words after.flash.words lost page)
+      → (lost : ℕ) → ((page : ℕ) → IsInPool image page → (made ≡ 0) ⊎ (page ≢ after.cpu.pc / 128) → IsUnmade image target before after lost page)
       → (after.cpu.pc ≡ before.cpu.pc) ⊎ ((pool_from image ≤ after.cpu.pc) × (after.cpu.pc < 0xF000)) → (made ≡ 1 → IsMade image target before after) → Arrives image refused target made before after
 
 -- An operation on a page of the pool: an erase, where the page isn't erased in flash; or a program of 128 words, where it is.
@@ -175,7 +219,8 @@ IsAllowed image flash (Program page words) = IsInPool image page × (length word
 -- flash all words outside the pool. One page is made at most. Flash changes by so many operations, one behind the other up to one
 -- that is refused, if any is: each is to erase a page of the pool that those in front don't leave erased, or to program one that
 -- they do, which has its words then (docs/MOTE.md). A page that is made takes one at least. Where a page of the pool was erased
--- before, there are at most two beside that; and always at most two for each page of the pool, and four.
+-- before, there are at most two beside that; and always at most two for each page of the pool, and four. No page is erased more
+-- than twice, or where its words are the same then (`ErasesFew`).
 pub record IsArrival (image : List ℕ) (refused : Bool) (target made ops : ℕ) (before after : Mote) : Type 0 where
   pub sound : AreFaithful image before.flash.words
   pub page : made ≤ 1
@@ -187,6 +232,7 @@ pub record IsArrival (image : List ℕ) (refused : Bool) (target made ops : ℕ)
   pub few : (page : ℕ) → IsInPool image page → IsErased before.flash.words page → ops ≤ made + 2
   pub most : ops ≤ 2 * pool_size image + 4
   pub performed : (perform before.flash operations).memory ≡ after.flash
+  pub erased : ErasesFew before.flash after.flash
   pub registers : after.cpu.r ≡ before.cpu.r
   pub status : after.cpu.sreg ≡ before.cpu.sreg
   pub pointer : after.cpu.sp ≡ before.cpu.sp
@@ -274,10 +320,6 @@ pub record IsBoot (image failing : List ℕ) (events : List Event) (quantum slot
   pub words : m.flash.words ≡ image ++ replicate (0xF000 - length image) 0xFFFF ++ replicate 0x1000 0x9508
   pub erases : m.flash.erases ≡ replicate 512 0
   pub failing_is : m.flash.failing ≡ failing
-
--- these two words stand at that address
-abbrev pub StandAt : (words : List ℕ) → (at first second : ℕ) → Type 0
-StandAt words at first second = (slice_index words at ≡ first) × (slice_index words (at + 1) ≡ second)
 
 -- What comes of a call of the kernel at 0xF000, as which an exit stub begins. The act behind that service is the arrival at the
 -- address that stands behind the call; the call is in flash still. Unless that arrival is refused, a jump to where control goes on

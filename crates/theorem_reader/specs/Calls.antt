@@ -11,8 +11,8 @@ use Rattle.theorem_reader.specs.Tasks.{AskedTasks, AsksTasks}
 use Rattle.theorem_reader.specs.Telling.{Sink, IsTold}
 use Rattle.theorem_reader.specs.Texts.{no_memory}
 
--- The words and the text ask for one of these. To the last belong `help`, words that are no command, and texts that are refused:
--- they are answered with this status and this line.
+-- The words and the text ask for one of these. The last are texts that are refused, with this status and this line, and words that
+-- are answered with the usage line, and this status.
 pub data IsAsked (words : List (List ℕ)) (text : List ℕ) : Type 0 where
   Run : (asked : Asked) → Asks words text asked → IsAsked words text
   Dump : (asked : Asked) → AsksDump words text asked → IsAsked words text
@@ -22,6 +22,7 @@ pub data IsAsked (words : List (List ℕ)) (text : List ℕ) : Type 0 where
   Assemble : (image : List ℕ) → AsksAsm words text image → IsAsked words text
   Generate : (seed : ℕ) → AsksGenerate words seed → IsAsked words text
   Refuse : (own : ℕ) → (line : List ℕ) → IsRefused words text own line → IsAsked words text
+  Tell : (own : ℕ) → IsUsage words own → IsAsked words text
 
 -- the words are those of a command that reads a text, and memory was wanted, which is all that is told; neither a machine nor
 -- tasks are kept

@@ -20,3 +20,5 @@ pub mod Waiting
 pub mod Examples
 pub mod Refusals
 pub mod Calls
+pub mod Twice
+pub mod RuledOut

@@ -1,6 +1,6 @@
 -- Where the mote keeps the program's data memory of 65,536 bytes. In place of registers and devices, which are told apart, it
 -- has 0. Each page of 256 bytes has a number, its address / 256.
-use Rattle.std.specs.Prelude.{◌≡◌, ◌≢◌, ℕ, ◌+◌, ◌-◌, ◌*◌, ◌/◌, ◌%◌, ◌<◌, ◌≤◌, List, [], length, slice_index, slice_index_or}
+use Rattle.std.specs.Prelude.{◌≡◌, ◌≢◌, ◌↔◌, ℕ, ◌+◌, ◌-◌, ◌*◌, ◌/◌, ◌%◌, ◌<◌, ◌≤◌, Bool, true, false, List, [], length, slice_index, slice_index_or}
 use Rattle.flat_machine.specs.FlatMachine.{FlatState}
 use Rattle.mote_core.specs.declared.mote.Mote.{Mote}
 
@@ -34,10 +34,15 @@ pub record HasMemory (m : Mote) (memory : List ℕ) : Type 0 where
       → slice_index memory a ≡ slice_index (slice_index_or m.swap (slot_of m (a / 256)) []) (a % 256)
   pub untouched : (a : ℕ) → IsHeap a → slot_of m (a / 256) ≡ 0xFF → slice_index memory a ≡ 0
 
+-- just the pages that were stored to have a slot
+abbrev pub HaveSlots : Mote → (stored : List Bool) → Type 0
+HaveSlots m stored = (page : ℕ) → page < 256 → ((slot_of m page ≢ 0xFF) ↔ (slice_index_or stored page false ≡ true))
+
 -- the program stands on its mote where its own machine does, but for its address, and the numbers of its steps and crossings
 pub record HasState (s : FlatState) (m : Mote) : Type 0 where
   pub registers : m.cpu.r ≡ s.cpu.r
   pub status : m.cpu.sreg ≡ s.cpu.sreg
   pub pointer : slice_index m.sram 3 + 256 * slice_index m.sram 4 ≡ s.cpu.sp
   pub memory : HasMemory m s.memory
+  pub slots : HaveSlots m s.pages
   pub devices : m.devices ≡ s.devices

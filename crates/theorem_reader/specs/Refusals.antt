@@ -51,11 +51,10 @@ pub data IsUsage (words : List (List ℕ)) (own : ℕ) : Type 0 where
   Helped : IsCommand words Help → own ≡ 0 → IsUsage words own
   Unknown : IsNoCommand words → own ≡ 4 → IsUsage words own
 
--- Words, or words and a text, that are answered with this status and this line: the usage; a text that is too long; the first
--- faulty line of the HEX text, of the script or the dump behind it, or of a source; and the first word of the image that stands
--- where no program of `tasks` may have one.
+-- Words and a text that are answered with this status and this line: a text that is too long; the first faulty line of the HEX
+-- text, of the script or the dump behind it, or of a source; and the first word of the image that stands where no program of
+-- `tasks` may have one.
 pub data IsRefused (words : List (List ℕ)) (text : List ℕ) (own : ℕ) (line : List ℕ) : Type 0 where
-  Usage : IsUsage words own → line ≡ usage_line → IsRefused words text own line
   TooLong : ReadsText words → 2097152 < length text → own ≡ 3 → line ≡ codes "input too long\n" → IsRefused words text own line
   BadHex : ReadsHex words → length text ≤ 2097152 → (number : ℕ) → (fault : HexFault) → HexBad text number fault
       → own ≡ 3 → line ≡ bad_line (codes "hex") number (hex_word fault) → IsRefused words text own line
@@ -74,6 +73,12 @@ pub data IsRefused (words : List (List ℕ)) (text : List ℕ) (own : ℕ) (line
 pub data IsSaid (sink : Sink) (own : ℕ) (whole : List ℕ) (status : ℕ) (taken : List ℕ) (kept : Option Machine) (tasks : Option KeptTasks) : Type 0 where
   NoMemory : IsTold sink 8 no_memory status taken → kept ≡ None → tasks ≡ None → IsSaid sink own whole status taken kept tasks
   Said : IsTold sink own whole status taken → kept ≡ None → tasks ≡ None → IsSaid sink own whole status taken kept tasks
+
+-- the usage line is told with this status, for which no memory is wanted; neither a machine nor tasks are kept
+pub record HasUsage (sink : Sink) (own status : ℕ) (taken : List ℕ) (kept : Option Machine) (tasks : Option KeptTasks) : Type 0 where
+  pub told : IsTold sink own usage_line status taken
+  pub none : kept ≡ None
+  pub alone : tasks ≡ None
 
 -- the words are `asm`, and the text is a source without a fault, of this image, and isn't too long
 pub record AsksAsm (words : List (List ℕ)) (text image : List ℕ) : Type 0 where

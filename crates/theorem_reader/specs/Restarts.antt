@@ -14,7 +14,7 @@ use Rattle.theorem_reader.specs.Checks.{used_of}
 use Rattle.theorem_reader.specs.Dumps.{HasEnded}
 use Rattle.theorem_reader.specs.Ends.{IsKeptEnd}
 use Rattle.theorem_reader.specs.Runs.{Asked, AsksAs, StandsFrom, IsCutOff, original_of, text_of}
-use Rattle.theorem_reader.specs.Wear.{pool_size, IsSpared}
+use Rattle.theorem_reader.specs.Wear.{pool_size, IsSamePage, IsSpared}
 use Rattle.theorem_reader.specs.Telling.{Sink, Fails, IsTold}
 use Rattle.theorem_reader.specs.Texts.{device_line, end_words, end_status, no_memory}
 
@@ -60,10 +60,6 @@ pub record IsKept (image lost left : List ℕ) (kept : ℕ → Bool) : Type 0 wh
   pub code : (page : ℕ) → IsInPool image page → kept page ≡ true → KeepsCode lost left page
   pub same : (page t : ℕ) → IsInPool image page → kept page ≡ true → (HasAddress left page t ↔ HasAddress lost page t)
   pub erased : (page k : ℕ) → IsInPool image page → kept page ≡ false → k < 128 → slice_index left (128 * page + k) ≡ 0xFFFF
-
--- the page has the same words before and after
-abbrev pub IsSamePage : (before after : List ℕ) → (page : ℕ) → Type 0
-IsSamePage before after page = (k : ℕ) → k < 128 → slice_index after (128 * page + k) ≡ slice_index before (128 * page + k)
 
 -- the line of the restart: how many pages of the pool are used, and how many were dropped
 abbrev pub restart_line : (image lost left : List ℕ) (kept : ℕ → Bool) → List ℕ

@@ -1,5 +1,5 @@
 -- How often the pages of flash are erased.
-use Rattle.std.specs.Prelude.{ℕ, zero, suc, ◌+◌, ◌*◌, ◌<◌, ◌≤◌, ◌==◌, nat_le, if◌then◌else◌, List, length, slice_index}
+use Rattle.std.specs.Prelude.{◌≡◌, ℕ, zero, suc, ◌+◌, ◌*◌, ◌<◌, ◌≤◌, ◌==◌, nat_le, if◌then◌else◌, List, length, slice_index}
 use Rattle.flash_words.specs.Memory.{Memory}
 
 -- how many pages the pool has
@@ -14,6 +14,15 @@ jumps_from words a (suc n) = (if slice_index words (a + n) == 0x940C then 1 else
 -- .. in a page. So begins each stub through which control has gone, and which is a jump since.
 abbrev pub jumps_in : List ℕ → (page : ℕ) → ℕ
 jumps_in words page = jumps_from words (128 * page) 128
+
+-- the page has the same words before and after
+abbrev pub IsSamePage : (before after : List ℕ) → (page : ℕ) → Type 0
+IsSamePage before after page = (k : ℕ) → k < 128 → slice_index after (128 * page + k) ≡ slice_index before (128 * page + k)
+
+-- each page was erased at most twice, and one that has the same words in both never
+pub record ErasesFew (before after : Memory) : Type 0 where
+  pub twice : (page : ℕ) → page < 512 → slice_index after.erases page ≤ slice_index before.erases page + 2
+  pub never : (page : ℕ) → page < 512 → IsSamePage before.words after.words page → slice_index after.erases page ≡ slice_index before.erases page
 
 -- From one flash to the other each page was erased at most once for each such word that it has more.
 abbrev pub IsSpared : (before after : Memory) → Type 0

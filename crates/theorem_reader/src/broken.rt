@@ -3,9 +3,8 @@ ghost use Rattle.std.specs.Prelude.{◌≡◌, ◌↔◌, ◌<◌, ◌≤◌, �
 ghost use Rattle.std.specs.Io.{ReadsAtMost};
 ghost use Rattle.std.specs.Io.KnownBytes.{ReadConsumes, WriteAppends};
 ghost use Rattle.byte_streams.specs.Faults.{HasCause};
-ghost use Rattle.printed_text.specs.PlainLines.{usage_line};
 ghost use Rattle.theorem_reader.specs.Calls.{AreCovered};
-ghost use Rattle.theorem_reader.specs.Refusals.{IsSaid, IsUsage, ReadsText};
+ghost use Rattle.theorem_reader.specs.Refusals.{IsSaid, IsUsage, HasUsage, ReadsText};
 ghost use Rattle.theorem_reader.specs.Runs.{AsksGenerate, generated_by, IsRun};
 ghost use Rattle.theorem_reader.specs.Tasks.{AsksNoTasks};
 ghost use Rattle.theorem_reader.specs.Telling.{BrokenState, FailsBehind, IsSo};
@@ -90,7 +89,7 @@ pub fn run_broken<const ROOM: usize>(
     ensures generate { IfOk result (λ told. (seed : ℕ) → AsksGenerate (map string_bytes words.now) seed
         → IsSo ROOM told.out (λ sink. IsRun sink (generated_by seed) told.status told.out.taken told.kept)) }
     ensures usage { IfOk result (λ told. (own : ℕ) → IsUsage (map string_bytes words.now) own
-        → IsSo ROOM told.out (λ sink. IsSaid sink own usage_line told.status told.out.taken told.kept told.tasks)) }
+        → IsSo ROOM told.out (λ sink. HasUsage sink own told.status told.out.taken told.kept told.tasks)) }
     ensures no_tasks { IfOk result (λ told. AsksNoTasks (map string_bytes words.now) → told.tasks ≡ None) }
     ensures covered { IfOk result (λ told. AreCovered (map string_bytes words.now)) }
 {

@@ -4,15 +4,14 @@ ghost use Rattle.std.specs.Prelude.{◌≡◌, ◌<◌, ℕ, List, [], ◌∷◌
 ghost use Rattle.theorem_reader.specs.Checks.{AsksCheck, IsChecked};
 ghost use Rattle.theorem_reader.specs.Dumps.{IsDumped};
 ghost use Rattle.theorem_reader.specs.Examples.{example_of_tasks, words_of_tasks, erased};
-ghost use Rattle.theorem_reader.specs.Refusals.{AsksAsm, IsAssembled, IsRefused, IsSaid, bad_line};
-ghost use Rattle.printed_text.specs.PlainLines.{usage_line};
+ghost use Rattle.theorem_reader.specs.Refusals.{AsksAsm, IsAssembled, IsRefused, IsSaid, IsUsage, HasUsage, bad_line};
 ghost use Rattle.theorem_reader.specs.Restarts.{IsRestarted};
 ghost use Rattle.theorem_reader.specs.Runs.{IsRun, example, generated_by};
 ghost use Rattle.theorem_reader.specs.Tasks.{AskedTasks, AsksTasks, AreRun};
 ghost use Rattle.theorem_reader.specs.Telling.{IsSo};
 
 use crate::broken::run_broken;
-use crate::reader::{Told, run_text, word_of};
+use crate::reader::{Told, bytes_of, run_text, word_of};
 use std::alloc::Global;
 use tk_io::NoMemory;
 
@@ -92,7 +91,7 @@ pub fn generate_example<const ROOM: usize>(alloc: Global) -> Result<Told<ROOM>, 
 
 /// The usage.
 pub fn help_example<const ROOM: usize>(alloc: Global) -> Result<Told<ROOM>, NoMemory>
-    ensures help { IfOk result (λ told. IsSo ROOM told.out (λ sink. IsSaid sink 0 usage_line told.status told.out.taken told.kept told.tasks)) }
+    ensures help { IfOk result (λ told. IsSo ROOM told.out (λ sink. HasUsage sink 0 told.status told.out.taken told.kept told.tasks)) }
 {
     answer_alone(alloc, "help", &[])
 }
@@ -168,6 +167,8 @@ fn answer_alone<const ROOM: usize>(
         → IsSo ROOM told.out (λ sink. IsAssembled sink image told.status told.out.taken told.kept told.tasks)) }
     ensures refused { IfOk result (λ told. (own : ℕ) (line : List ℕ) → IsRefused (command.now ∷ []) text.now own line
         → IsSo ROOM told.out (λ sink. IsSaid sink own line told.status told.out.taken told.kept told.tasks)) }
+    ensures usage { IfOk result (λ told. (own : ℕ) → IsUsage (command.now ∷ []) own
+        → IsSo ROOM told.out (λ sink. HasUsage sink own told.status told.out.taken told.kept told.tasks)) }
 {
     let bytes = bytes_of(alloc, text)?;
     let word = word_of(alloc, command)?;
@@ -206,11 +207,4 @@ fn answer<const ROOM: usize>(alloc: Global, command: &str) -> Result<Told<ROOM>,
         word_of(alloc, "0")?,
     ];
     run_text(alloc, &words, text)
-}
-
-/// Bytes of an input.
-fn bytes_of(alloc: Global, bytes: &[u8]) -> Result<Vec<u8>, NoMemory>
-    ensures same { IfOk result (λ text. text.items ≡ bytes.now) }
-{
-    Ok(bytes.to_vec(alloc)?)
 }

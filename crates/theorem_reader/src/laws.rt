@@ -1,6 +1,7 @@
 //! Laws of what is told, each as the contract of a function that does nothing.
 ghost use Rattle.theorem_reader.specs.ByCode.{AreDoneByCode, IsDoneByCode, IsDoneByCodeAgain};
 ghost use Rattle.theorem_reader.specs.MoreSteps.{EndsStay, LinesStay};
+ghost use Rattle.theorem_reader.specs.RuledOut.{ActsAreNone, AnswersAgree, MachinesAgree};
 ghost use Rattle.theorem_reader.specs.Waiting.{WaitsForATurnOfEach};
 ghost use Rattle.theorem_reader.specs.Words.{AreReadByTable, AreSizedByTable};
 
@@ -30,4 +31,12 @@ pub fn no_step_without_rewritten_code()
 /// crossings are a multiple of the quantum. So it waits for one turn of each at most, by crossings.
 pub fn a_program_waits_for_a_turn_of_each()
     ensures waits { WaitsForATurnOfEach }
+{}
+
+/// Two answers to the same agree as far as they must, and so do the machines that they keep; and each definition with cases rules
+/// something out. So none of them is so of everything.
+pub fn not_everything_is_an_answer()
+    ensures answers { AnswersAgree }
+    ensures machines { MachinesAgree }
+    ensures acts { ActsAreNone }
 {}

@@ -1,7 +1,7 @@
 //! The theorem of the whole program, held from above: runs over streams in memory, whose contracts say in lists and
 //! numbers what a user relies on. Of the crates below they name little but what the words and texts are, the original program's
-//! machine and the programs in turn, the mote's instruction and operations on flash, types, the form and links of a page, and
-//! the program of a seed: so any other definition there that is weakened, and that they rest on, is refused here.
+//! machine and the programs in turn, the mote's instruction and operations on flash, types, the form and links of a page, its
+//! size, and the program of a seed: so any other definition there that is weakened, and that they rest on, is refused here.
 //!
 //! To read: `specs/Telling` (how a text is told, by a sink with room for it or without, and a source that fails),
 //! `specs/Runs` (what a run leaves; begin at `IsRun`), `specs/Ends` (the end that is kept), `specs/Acts` (what the machine
@@ -11,8 +11,8 @@
 //! lines), `specs/Words` (what words mean); then `specs/Dumps` (the flash that a run leaves), `specs/Restarts` (what is
 //! kept of a flash behind a loss of power), `specs/Tasks` and `specs/Stints` (several programs on one mote),
 //! `specs/Waiting` (how long a program of several waits), `specs/Checks` (what is said of a flash), `specs/Refusals` (words
-//! and texts that are refused, and `asm`), and `specs/Calls` (that these are all). Of the names that stand there and come from
-//! elsewhere:
+//! and texts that are refused, and `asm`), `specs/Calls` (that these are all), `specs/Twice` (what is told again), and
+//! `specs/RuledOut` (what is none of all this). Of the names that stand there and come from elsewhere:
 //!
 //! - `original program events n`: the original program's first n steps, by itself on flat memory of 64 KiB, of which it may
 //!   store to as many pages of 256 bytes as there are slots. Of it: `end`, `lines` (the writes to outputs), and `state`, where
@@ -30,6 +30,8 @@
 //!   `IsFirst`, `IsFirstMisplaced`: the first faulty line, and the first such word.
 //! - `HasForm`, `HasLinks`: what a page of flash must be by itself, and what it owes to the others (docs/LOADER.md). A page of the
 //!   pool is erased, or it has just the words that are fixed there for the image's instructions from one address on, and stubs.
+//! - `address image t i`, `ends_at image a`, `page_size image t i`: where the instruction of number i stands of those from t on,
+//!   that of t being 0; whether control never goes on from the one at a to the next; how many words a page of those up to number i has.
 //! - `layout_of count`: where the pool of an image of so many words begins, and of how many pages it is.
 //! - `Mote`: a modelled ATmega128, that is its core, SRAM, flash, devices, and a swap area beside it. `exec_of` is what an
 //!   instruction does, `the_form` what two words mean (docs/ATMEGA128.md): by `specs/Words`, what the manual's table has.
@@ -51,6 +53,7 @@ mod example;
 mod laws;
 mod reader;
 mod room;
+mod twice;
 
 pub use broken::{BrokenSource, run_broken};
 pub use example::{
@@ -60,7 +63,8 @@ pub use example::{
 };
 pub use laws::{
     a_program_waits_for_a_turn_of_each, more_steps_take_nothing_back,
-    no_step_without_rewritten_code, words_mean_what_the_table_has,
+    no_step_without_rewritten_code, not_everything_is_an_answer, words_mean_what_the_table_has,
 };
 pub use reader::{Told, longest_wait, run_image, run_text};
 pub use room::RoomySink;
+pub use twice::run_twice;

@@ -3,7 +3,7 @@ ghost use Rattle.std.specs.Prelude.{◌≡◌, ◌⊎◌, ◌*◌, ℕ, List, No
 ghost use Rattle.theorem_reader.specs.Calls.{IsAsked, IsWanting};
 ghost use Rattle.theorem_reader.specs.Checks.{AsksCheck, IsChecked};
 ghost use Rattle.theorem_reader.specs.Dumps.{AsksDump, IsDumped};
-ghost use Rattle.theorem_reader.specs.Refusals.{IsRefused, IsSaid, AsksAsm, IsAssembled};
+ghost use Rattle.theorem_reader.specs.Refusals.{IsRefused, IsSaid, AsksAsm, IsAssembled, IsUsage, HasUsage};
 ghost use Rattle.theorem_reader.specs.Restarts.{AsksRestart, IsRestarted};
 ghost use Rattle.theorem_reader.specs.Runs.{Asked, Asks, AsksGenerate, generated_by, IsRun, plainly};
 ghost use Rattle.theorem_reader.specs.Tasks.{AreRun, AskedTasks, AsksNoTasks, AsksTasks};
@@ -53,6 +53,8 @@ pub fn run_text<const ROOM: usize>(
         → IsSo ROOM told.out (λ sink. IsRun sink (generated_by seed) told.status told.out.taken told.kept)) }
     ensures refused { IfOk result (λ told. (own : ℕ) (line : List ℕ) → IsRefused (map string_bytes words.now) text.items own line
         → IsSo ROOM told.out (λ sink. IsSaid sink own line told.status told.out.taken told.kept told.tasks)) }
+    ensures usage { IfOk result (λ told. (own : ℕ) → IsUsage (map string_bytes words.now) own
+        → IsSo ROOM told.out (λ sink. HasUsage sink own told.status told.out.taken told.kept told.tasks)) }
     ensures no_tasks { IfOk result (λ told. AsksNoTasks (map string_bytes words.now) → told.tasks ≡ None) }
     ensures covered { IfOk result (λ told. IsAsked (map string_bytes words.now) text.items
         ⊎ IsSo ROOM told.out (λ sink. IsWanting (map string_bytes words.now) sink told.status told.out.taken told.kept told.tasks)) }
@@ -84,6 +86,13 @@ pub(crate) fn word_of(alloc: Global, text: &str) -> Result<String, NoMemory>
     ensures same { IfOk result (λ word. string_bytes word ≡ text.now) }
 {
     Ok(String::from_str(alloc, text)?)
+}
+
+/// Bytes of an input.
+pub(crate) fn bytes_of(alloc: Global, bytes: &[u8]) -> Result<Vec<u8>, NoMemory>
+    ensures same { IfOk result (λ text. text.items ≡ bytes.now) }
+{
+    Ok(bytes.to_vec(alloc)?)
 }
 
 /// In a run of this quantum at most so many instructions of rewritten code stand in a row without a service (`few` of

@@ -25,15 +25,6 @@ use Rattle.program_steps.proofs.Leading.{last_on, stays_self}
 use Rattle.program_steps.proofs.OneBehindOther.{goes_on_by, let_in}
 use Rattle.tk_run.proofs.RunSoFar.{Ran, IsBetween, HasBegun, unshut_on, none_ran, nothing, begun_between, begun_entered, by_step_begun, steps_on, by_step_stopped, by_step_marked, lines_text_on, ran_still, ran_enter, ran_step, spent_at, wild_at, stop_at}
 
-abbrev pub leads_by : (old new : Machine) (moves : List Move) (lines : List Line) → Goes old new moves lines → (new.end ≡ None → ends_in_arrive moves ≡ false) → old.end ≡ None → old.broken ≡ false → Leads old lines new
-leads_by old new moves lines goes last going whole = record {
-  moves = moves;
-  goes = goes;
-  last = last;
-  ended = λ over. absurd (over going);
-  broken = λ is. absurd (let e : true ≡ false = sym is ∙ whole in cc);
-}
-
 -- the answers
 pub no_end : (m : Machine) (end : End) → m.end ≡ Some end → m.end ≡ None → ⊥
 no_end m end is going = let e : Some end ≡ None = sym is ∙ going in absurd (cc)
@@ -56,7 +47,7 @@ answered : (old new : Machine) (i n : ℕ) (before after : Option (List ℕ)) (e
     → IsByStep (states_of (original_from old)) old new i ran.moves → original_from old i ≡ run_of flat ran.lines (flat_of new) → Answers old new n i ran.lines (Ok end) → (new.steps ≤ 10 ^ 12 → new.kernel.part.shut ≡ false → IsKept new) → HasAdvanced old new n before after (Ok end)
 answered old new i n before after end flat going whole below ran last by_step part answers kept = record {
   lines = ran.lines;
-  leads = leads_by old new ran.moves ran.lines ran.goes last going whole;
+  leads = record { moves = ran.moves; goes = ran.goes; last = last };
   put = ran.put;
   stays = ran.stays;
   broken = ran.broken ∙ whole;
@@ -181,7 +172,7 @@ pub advanced_kept : (m : Machine) (n : ℕ) (known : Option (List ℕ)) (end : E
 unfolding lines_of
 advanced_kept m n known end whole kept = record {
   lines = [];
-  leads = record { moves = []; goes = record { walk = refl; told = refl; numbers = refl }; last = λ e. refl; ended = λ e. (refl, refl); broken = λ e. (refl, refl) };
+  leads = record { moves = []; goes = record { walk = refl; told = refl; numbers = refl }; last = λ e. refl };
   put = appends-nothing known;
   stays = stays_self m;
   broken = whole;
@@ -202,7 +193,7 @@ advanced_cut old now i n e text before after going whole below between cut =
     let none = none_ran (program_of old.kernel) (flat_of now) in
     record {
       lines = ran.lines;
-      leads = leads_by old (record now { broken = true }) ran.moves ran.lines ran.goes (λ f. between.last) going whole;
+      leads = record { moves = ran.moves; goes = ran.goes; last = λ f. between.last };
       put = subst (CutShort before after) ran.put cut;
       stays = record { program = ran.stays.program; layout = ran.stays.layout; quantum = ran.stays.quantum; failing = ran.stays.failing };
       broken = refl;
@@ -262,7 +253,7 @@ advanced_unput old new n end e text before after going whole advanced cut =
     let ran = advanced.ran going in
     record {
       lines = advanced.lines;
-      leads = leads_by old (record new { broken = true }) leads.moves advanced.lines leads.goes leads.last going whole;
+      leads = record { moves = leads.moves; goes = leads.goes; last = leads.last };
       put = subst (CutShort before after) advanced.put cut;
       stays = record { program = advanced.stays.program; layout = advanced.stays.layout; quantum = advanced.stays.quantum; failing = advanced.stays.failing };
       broken = refl;

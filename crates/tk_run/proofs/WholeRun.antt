@@ -22,7 +22,7 @@ use Rattle.byte_streams.specs.declared.failure.Failed.{Failed}
 use Rattle.byte_streams.specs.Streams.{CutShort}
 use Rattle.step_laws.specs.Numbers.{Numbers}
 use Rattle.step_laws.proofs.NumberLaws.{unmoved}
-use Rattle.tk_run.proofs.Advancing.{others_led}
+use Rattle.tk_run.proofs.Advancing.{no_end, others_led}
 use Rattle.program_steps.specs.Machines.{Machine, numbers_of, flat_of}
 use Rattle.program_steps.specs.Ready.{AreTried, IsKept}
 use Rattle.printed_text.specs.DeviceLines.{lines_text}
@@ -49,7 +49,7 @@ began_kept start m lines leads = ap (λ (k : Numbers). k.began) leads.goes.numbe
 -- moves that lead, and write these lines
 leads_as : (x y : Machine) (lines lines' : List Line) → (leads : Leads x lines y) → lines ≡ lines' → (path : Leads x lines' y) × (path.moves ≡ leads.moves)
 leads_as x y lines lines' leads same =
-    (record { moves = leads.moves; goes = record { walk = leads.goes.walk; told = leads.goes.told ∙ same; numbers = leads.goes.numbers }; last = leads.last; ended = leads.ended; broken = leads.broken }, refl)
+    (record { moves = leads.moves; goes = record { walk = leads.goes.walk; told = leads.goes.told ∙ same; numbers = leads.goes.numbers }; last = leads.last }, refl)
 
 -- its moves, step by step, beside another run that has the same steps
 stands_as : (run run' : ℕ → Run) → ((k : ℕ) → run k ≡ run' k) → (n : ℕ) (m : Machine) → StandsAfter (states_of run) n m → StandsAfter (states_of run') n m
@@ -101,14 +101,15 @@ none_refused m tried unfailed (Some page) is = absurd (let fault = tried.refused
 
 -- a whole run
 exact_by : (start : Machine) (own : Program) (run : ℕ → Run) (failing : List ℕ) (n : ℕ) (before after : Option (List ℕ)) (end : End) (m : Machine) → IsStart start own run failing → IsKept m → (advanced : HasAdvanced start m n before after (Ok end))
-    → HasRun start m n advanced.leads.moves advanced.lines (Ok end)
-    → original_from start n ≡ run_of (flat_end end) advanced.lines (flat_of m) → IsKeptEnd (flat_end end) end m.end → ((op : ℕ) → m.end ≡ Some (ends.Flash op) → ⊥) → IsExactRun start own run failing n before after end m
-exact_by start own run failing n before after end m is kept advanced ran whole ends unfailed =
+    → (ran : HasRun start m n advanced.leads.moves advanced.lines (Ok end))
+    → original_from start n ≡ run_of (flat_end end) advanced.lines (flat_of m) → IsKeptEnd (flat_end end) end m.end → (m.end ≡ None → ran.done ≡ n) → ((op : ℕ) → m.end ≡ Some (ends.Flash op) → ⊥) → IsExactRun start own run failing n before after end m
+exact_by start own run failing n before after end m is kept advanced ran whole ends all unfailed =
     let same : run n ≡ run_of (flat_end end) advanced.lines (flat_of m) = sym (is.run_is n) ∙ whole in
     let lines : advanced.lines ≡ (run n).lines = sym (ap (λ (r : Run). r.lines) same) in
     let tried = kept.sound.order.tried in
     record {
       within = omega (arith, ran.steps, is.steps, ran.within);
+      all = λ spent. omega (arith, ran.steps, is.steps, all (subst (λ e. IsKeptEnd e end m.end) (sym (ap (λ (r : Run). r.end) same) ∙ spent) ends));
       put = subst (λ l. Appends before after (lines_text l)) lines advanced.put;
       same = sym (ap (λ (r : Run). r.end) same);
       at = at_of start own run failing n ran.done advanced.lines m is advanced.stays advanced.leads ran.steps ran.by_step lines (sym (ap (λ (r : Run). r.state) same));
@@ -165,12 +166,12 @@ stop_kept _ m is = is
 whole_by : (start : Machine) (own : Program) (run : ℕ → Run) (failing : List ℕ) (n : ℕ) (before after : Option (List ℕ)) (result : Result End Failed) (m : Machine) → IsStart start own run failing → IsKept m → (advanced : HasAdvanced start m n before after result)
     → HasRun start m n advanced.leads.moves advanced.lines result → HasWholeFrom start own run failing n before after result m
 whole_by start own run failing n before after (Ok ends.Spent) m is kept advanced ran =
-    exact_by start own run failing n before after ends.Spent m is kept advanced ran ran.answers.ran ran.answers.ready.going (λ op failed. let e : Some (ends.Flash op) ≡ None = sym failed ∙ ran.answers.ready.going in absurd (cc))
+    exact_by start own run failing n before after ends.Spent m is kept advanced ran ran.answers.ran ran.answers.ready.going (λ e. ran.answers.all) (λ op failed. let e : Some (ends.Flash op) ≡ None = sym failed ∙ ran.answers.ready.going in absurd (cc))
 whole_by start own run failing n before after (Ok (ends.Wild t)) m is kept advanced ran =
-    exact_by start own run failing n before after (ends.Wild t) m is kept advanced ran ran.answers.ran ran.answers.kept (λ op failed. let e : Some (ends.Flash op) ≡ Some (ends.Wild t) = sym failed ∙ ran.answers.kept in absurd (cc))
+    exact_by start own run failing n before after (ends.Wild t) m is kept advanced ran ran.answers.ran ran.answers.kept (λ going. absurd (no_end m (ends.Wild t) ran.answers.kept going)) (λ op failed. let e : Some (ends.Flash op) ≡ Some (ends.Wild t) = sym failed ∙ ran.answers.kept in absurd (cc))
 whole_by start own run failing n before after (Ok (ends.Flash op)) m is kept advanced ran = failed_by start own run failing n before after op m is kept advanced ran
 whole_by start own run failing n before after (Ok (ends.Stopped stop)) m is kept advanced ran =
-    exact_by start own run failing n before after (ends.Stopped stop) m is kept advanced ran ran.answers.ran (stop_kept stop m ran.answers.kept) (λ op failed. let e : Some (ends.Flash op) ≡ Some (ends.Stopped stop) = sym failed ∙ ran.answers.kept in absurd (cc))
+    exact_by start own run failing n before after (ends.Stopped stop) m is kept advanced ran ran.answers.ran (stop_kept stop m ran.answers.kept) (λ going. absurd (no_end m (ends.Stopped stop) ran.answers.kept going)) (λ op failed. let e : Some (ends.Flash op) ≡ Some (ends.Stopped stop) = sym failed ∙ ran.answers.kept in absurd (cc))
 whole_by start own run failing n before after (Err e) m is kept advanced ran = cut_by start own run failing n before after e m is kept advanced ran
 
 -- what `advance` leaves of a machine that has done nothing yet
@@ -190,19 +191,27 @@ started_is image flash script quantum slots pages begun = record {
   run_is = λ n. run_start image flash script quantum slots pages n begun;
 }
 
--- .. of one that has just been booted
+-- one that has just been booted is such a start
+pub booted_is : (image : List ℕ) (script : Schedule) (quantum slots : ℕ) → IsImage image → IsKept (booted image script quantum slots)
+    → IsStart (booted image script quantum slots) (program_at image quantum slots) (original (program_at image quantum slots) script.events) script.failing
+booted_is image script quantum slots is kept = started_is image (new_flash image script.failing) script quantum slots 0 (begun_boot image script is kept.sound.order.whole)
+
 pub whole_run : (image : List ℕ) (script : Schedule) (quantum slots n : ℕ) (before after : Option (List ℕ)) (result : Result End Failed)
     (m : Machine) → IsImage image → IsKept (booted image script quantum slots) → n ≤ 10 ^ 12
     → HasAdvanced (booted image script quantum slots) m n before after result
     → HasWhole image script quantum slots n before after result m
 whole_run image script quantum slots n before after result m is kept bound advanced =
-    run_from_start (booted image script quantum slots) _ _ script.failing n before after result m (started_is image (new_flash image script.failing) script quantum slots 0 (begun_boot image script is kept.sound.order.whole)) kept bound advanced
+    run_from_start (booted image script quantum slots) _ _ script.failing n before after result m (booted_is image script quantum slots is kept) kept bound advanced
 
--- .. and of one over a flash with a faithful pool
+-- .. and one over a flash with a faithful pool
+pub over_is : (image : List ℕ) (flash : Memory) (script : Schedule) (quantum slots : ℕ) → IsFaithful (layout_of (length image)) image flash.words → IsKept (started_over image flash script quantum slots)
+    → IsStart (started_over image flash script quantum slots) (program_at image quantum slots) (original (program_at image quantum slots) script.events) []
+over_is image flash script quantum slots faithful kept =
+    started_is image (renewed flash) script quantum slots (used_pages (layout_of (length image)) flash.words) (begun_over image flash kept.sound.order.whole faithful)
+
 pub run_over : (image : List ℕ) (flash : Memory) (script : Schedule) (quantum slots n : ℕ) (before after : Option (List ℕ)) (result : Result End Failed)
     (m : Machine) → IsFaithful (layout_of (length image)) image flash.words → IsKept (started_over image flash script quantum slots) → n ≤ 10 ^ 12
     → HasAdvanced (started_over image flash script quantum slots) m n before after result
     → HasWholeOver image flash script quantum slots n before after result m
 run_over image flash script quantum slots n before after result m faithful kept bound advanced =
-    run_from_start (started_over image flash script quantum slots) _ _ [] n before after result m
-    (started_is image (renewed flash) script quantum slots (used_pages (layout_of (length image)) flash.words) (begun_over image flash kept.sound.order.whole faithful)) kept bound advanced
+    run_from_start (started_over image flash script quantum slots) _ _ [] n before after result m (over_is image flash script quantum slots faithful kept) kept bound advanced

@@ -17,13 +17,11 @@ use Rattle.program_steps.specs.Stepping.{Goes, Stays, IsFault, IsArrival, AreOwn
 
 -- Moves lead from x to y, and write these lines: they begin with the arrival that x owes, y's numbers are
 -- x's with those of the moves added, and y's end is that of the last move. A machine that goes on doesn't
--- stop behind an arrival, and one that has ended, or is broken, makes no move.
+-- stop behind an arrival.
 pub record Leads (x : Machine) (lines : List Line) (y : Machine) : Type 0 where
   pub moves : List Move
   pub goes : Goes x y moves lines
   pub last : y.end ≡ None → ends_in_arrive moves ≡ false
-  pub ended : x.end ≢ None → (y ≡ x) × (moves ≡ [])
-  pub broken : x.broken ≡ true → (y ≡ x) × (moves ≡ [])
 
 -- the original program's run of at most n steps from where the machine stands
 abbrev pub original_from : Machine → ℕ → Run

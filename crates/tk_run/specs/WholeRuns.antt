@@ -38,10 +38,11 @@ pub record IsAt (start : Machine) (own : Program) (run : ℕ → Run) (steps : �
   pub began : m.began ≡ start.began
   pub others : m.others ≡ start.others
 
--- The run ended as the original program's n steps do, with no more steps done, and all their lines were put. No
--- operation on flash that was tried was to fail.
+-- The run ended as the original program's n steps do, with no more steps done, and with all of them where the program goes on;
+-- and all their lines were put. No operation on flash that was tried was to fail.
 pub record IsExactRun (start : Machine) (own : Program) (run : ℕ → Run) (failing : List ℕ) (n : ℕ) (before after : Option (List ℕ)) (end : End) (m : Machine) : Type 0 where
   pub within : m.steps ≤ n
+  pub all : (run n).end ≡ flat_ends.Spent → m.steps ≡ n
   pub put : Appends before after (lines_text (run n).lines)
   pub same : flat_end end ≡ (run n).end
   pub at : IsAt start own run n m

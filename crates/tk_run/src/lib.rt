@@ -17,7 +17,7 @@
 //! ```
 //!
 //! docs/MACHINE.md has the fields of a machine, the order of a run, and what always holds.
-//! `specs/Ready` is when a machine is sound and ready to go on, `specs/Running` what `advance` says, and
+//! `specs/Ready` of `program_steps` is when a machine is sound and ready to go on, `specs/Running` what `advance` says, and
 //! `specs/WholeRuns` what follows of a whole run from boot.
 #![tactic(auto)]
 

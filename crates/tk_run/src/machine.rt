@@ -219,8 +219,9 @@ impl Machine {
         requires running { self.old.broken ≡ false }
         requires steps { self.old.steps + n ≤ 10 ^ 12 }
         ensures advanced { HasAdvanced self.old self.new n (K.taken out.old) (K.taken out.new) result }
-        // At each 65,536 steps there was a value of the sink that had taken the lines of just the steps up to there.
-        ensures turns { GoOutInTurn K.taken self.old out.old (self.new.steps - self.old.steps) }
+        // At each 65,536 steps there was a value of the sink that had taken the lines of just the steps up to there, and what it
+        // has taken at the end begins with these.
+        ensures turns { GoOutInTurn K.taken self.old out.old out.new (self.new.steps - self.old.steps) }
         ensures cause { HasCause (K.faults out.old) (K.faults out.new) result }
     {
         let mut p = self.progress();

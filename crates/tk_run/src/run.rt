@@ -32,7 +32,7 @@ pub(crate) fn run_on<K: Sink>(
     requires unshut { k.old.part.shut ≡ false }
     ensures advanced { HasAdvanced (whole k.old p.old) (whole k.new p.new) n (K.taken out.old) (K.taken out.new) result }
     ensures others { p.new.others ≡ p.old.others }
-    ensures turns { GoOutInTurn K.taken (whole k.old p.old) out.old (p.new.steps - p.old.steps) }
+    ensures turns { GoOutInTurn K.taken (whole k.old p.old) out.old out.new (p.new.steps - p.old.steps) }
     ensures cause { HasCause (K.faults out.old) (K.faults out.new) result }
 {
     if let Some(end) = p.end {
@@ -62,7 +62,7 @@ fn put_steps<K: Sink>(
     requires steps { p.old.steps + n ≤ 10 ^ 12 }
     requires unshut { k.old.part.shut ≡ false }
     ensures put { HasPut (whole k.old p.old) (whole k.new p.new) n (K.taken out.old) (K.taken out.new) result }
-    ensures turns { GoOutInTurn K.taken (whole k.old p.old) out.old (p.new.steps - p.old.steps) }
+    ensures turns { GoOutInTurn K.taken (whole k.old p.old) out.old out.new (p.new.steps - p.old.steps) }
     ensures cause { HasCause (K.faults out.old) (K.faults out.new) result }
 {
     let mut gathered = Gathered::new();
@@ -88,7 +88,7 @@ fn gathered_steps<K: Sink>(
     requires unshut { k.old.part.shut ≡ false }
     requires empty { gathered.old.items ≡ [] }
     ensures gathered { HasGathered (whole k.old p.old) (whole k.new p.new) n gathered.new.items (K.taken out.old) (K.taken out.new) result }
-    ensures turns { GoOutInTurn K.taken (whole k.old p.old) out.old (p.new.steps - p.old.steps) }
+    ensures turns { GoOutInTurn K.taken (whole k.old p.old) out.old out.new (p.new.steps - p.old.steps) }
     ensures cause { HasCause (K.faults out.old) (K.faults out.new) result }
 {
     match cursor {
@@ -117,7 +117,7 @@ fn all_steps_anew<K: Sink>(
     requires unshut { k.old.part.shut ≡ false }
     requires empty { gathered.old.items ≡ [] }
     ensures gathered { HasGathered (whole k.old p.old) (whole k.new p.new) n gathered.new.items (K.taken out.old) (K.taken out.new) result }
-    ensures turns { GoOutInTurn K.taken (whole k.old p.old) out.old (p.new.steps - p.old.steps) }
+    ensures turns { GoOutInTurn K.taken (whole k.old p.old) out.old out.new (p.new.steps - p.old.steps) }
     ensures cause { HasCause (K.faults out.old) (K.faults out.new) result }
 {
     all_steps(k, p, &mut Cursor::new(), n, gathered, out)
@@ -141,7 +141,7 @@ fn all_steps<K: Sink>(
     requires cursor { IsCursor k.old.layout k.old.mote.flash.words cursor.old }
     requires empty { gathered.old.items ≡ [] }
     ensures gathered { HasGathered (whole k.old p.old) (whole k.new p.new) n gathered.new.items (K.taken out.old) (K.taken out.new) result }
-    ensures turns { GoOutInTurn K.taken (whole k.old p.old) out.old (p.new.steps - p.old.steps) }
+    ensures turns { GoOutInTurn K.taken (whole k.old p.old) out.old out.new (p.new.steps - p.old.steps) }
     ensures cause { HasCause (K.faults out.old) (K.faults out.new) result }
 {
     let mut done = 0;

@@ -7,6 +7,6 @@ pub mod Keeping
 mod Playing
 pub mod Telling
 mod Runs
-mod InTurn
+pub mod InTurn
 pub mod Stints
 pub mod FirstPlayers

@@ -77,6 +77,19 @@ path_still n t (play ∷ plays) new (mid, one, rest) =
     let later = path_still n mid plays new rest in
     omega (arith, less, same, later, ap still step.players)
 
+-- so there are no more than tries that lead as far
+pub path_shortest : (n count : ℕ) (t : Tasks) (plays : List Play) (new : Tasks) → TaskPath n t plays new → (tries count (turns_of n t)).turns ≡ turns_of n new → length plays ≤ count
+unfolding tries
+path_shortest n count t [] new is same = omega arith
+path_shortest n zero t (play ∷ plays) new path same =
+    let stays : still (turns_of n t).players ≡ still (turns_of n new).players = ap (λ (z : Turns). still z.players) same in
+    absurd (omega (arith, stays, path_still n t (play ∷ plays) new path))
+path_shortest n (suc count) t (play ∷ plays) new (mid, one, rest) same =
+    let p = player_of n t t.running one.task in
+    let first = ap (λ (a : After). a.turns) (go_now (turns_of n t) p (tries count) (player_here n t t.running one.task one.here) (ap flat_end_of one.going)) in
+    let later : (tries count (turns_of n mid)).turns ≡ turns_of n new = ap (λ z. (tries count z).turns) one.in_turn ∙ sym first ∙ same in
+    omega (arith, path_shortest n count mid plays new rest later)
+
 -- the running task has ended only where all have
 pub path_ready : (n : ℕ) (t : Tasks) (plays : List Play) (new : Tasks) → TaskPath n t plays new → Ready (turns_of n t) → Ready (turns_of n new)
 path_ready n t [] new is ready = subst (λ z. Ready (turns_of n z)) is ready

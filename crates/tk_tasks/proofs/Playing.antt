@@ -20,7 +20,7 @@ use Rattle.step_laws.specs.StepLaws.{Reaches}
 use Rattle.step_laws.proofs.NumberLaws.{unmoved}
 use Rattle.program_steps.specs.Machines.{Machine, awaited, awaits, state_of, numbers_of, flat_of}
 use Rattle.program_steps.specs.Ready.{IsSound, IsGoing, IsQuiet, IsEnded}
-use Rattle.program_steps.specs.Stepping.{Goes, StepWay, ends_in_arrive, links_in}
+use Rattle.program_steps.specs.Stepping.{Goes, StepWay, links_in}
 use Rattle.program_steps.proofs.Bounds.{bounds_ready}
 use Rattle.program_steps.proofs.Leading.{stays_self}
 use Rattle.program_steps.proofs.OneBehindOther.{GoesOn as StepsOn, goes_on_by as steps_on_by}
@@ -102,7 +102,6 @@ record CanPlay (n : ℕ) (u : Tasks) (task : Task) (m : Machine) (line : Option 
   come : IsCome u task m end
   moves : List Move
   goes : Goes (machine_of u u.running task) m moves (line_before line [])
-  last : ends_in_arrive moves ≡ false
   of_try : AreOfTry task.at moves (machine_end end) (outcome (player_of n u u.running task))
   once_is : once (turns_of n u) (player_of n u u.running task) ≡ record { told = tried_told u.running line end m.steps m.crossings; turns = turned changes (with_player (turns_of n u) (player_by n m end)) }
 
@@ -134,7 +133,6 @@ play_on n u task m line end changes can =
       next = kept_task task m end;
       tried = record {
         goes = subst (λ z. Goes (machine_of u u.running task) z can.moves (lines_told (tried_told u.running line end m.steps m.crossings))) (sym same) (subst (Goes (machine_of u u.running task) m can.moves) (sym lines) can.goes);
-        last = can.last;
         tasks = refl;
         running = refl;
         switches = refl;
@@ -210,7 +208,6 @@ can_rest n u task end before going rest =
       };
       moves = [];
       goes = record { walk = refl; told = refl; numbers = refl };
-      last = refl;
       of_try = subst (AreOfTry task.at [] (machine_end (Some end))) (sym (played_rests n u task end rest)) (nothing_tried (is_own x.kernel.part task.at) ((n - task.steps) == 0) task.at task.at end rest);
       once_is = once_rests n u task end rest;
     }
@@ -284,7 +281,6 @@ can_go n u task m line before going most rest went ready quiet steps is =
       come = come_by u task m line _ went (record { order = ready.order; bounded = bounds_ready m ready; steps = omega arith }) (λ e. (ready, quiet)) (rest_if_ends (checks x m) m.kernel.part m.at (n - m.steps) ∙ sym ready.going);
       moves = went.moves;
       goes = went.goes;
-      last = went.last;
       of_try = subst (AreOfTry task.at went.moves (machine_end (rest_if (checks x m) m.kernel.part m.at (n - m.steps)))) (sym (played_tries n u task (On line (flat_of m)) rest is))
           (record { step = went.of_step; going = rest_if_ends (checks x m) m.kernel.part m.at (n - m.steps) });
       once_is = once_goes n u task m line going rest went.stays.program steps is (checks x m) refl;
@@ -315,7 +311,6 @@ can_stop n u task m line stop before going rest went over kept none steps is sam
       come = come_by u task m line _ went (record { order = over.order; bounded = over.bounded; steps = omega arith }) (λ e. absurd (let bad : Some (ended_by stop) ≡ None = e in cc)) (stop_ends stop ∙ sym kept);
       moves = went.moves;
       goes = subst (λ l. Goes x m went.moves (line_before l [])) none went.goes;
-      last = went.last;
       of_try = subst (AreOfTry task.at went.moves (machine_end (Some (ended_by stop)))) (sym (played_tries n u task (Ends (end_of stop)) rest is))
           (stop_tried stop task.at went.moves (machine_end (Some (ended_by stop))) (record { step = went.of_step; stop = stop; stops = stop_ends stop }));
       once_is = once_stops n u task m stop going rest went.stays.program steps is same;

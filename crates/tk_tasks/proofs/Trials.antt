@@ -1,6 +1,6 @@
 -- A try of the running task, as its machine makes it: an arrival and a step, or an interrupt.
-use Rattle.std.proofs.Common.{◌≡◌, ℕ, zero, suc, ◌+◌, ◌-◌, ◌≤◌, Bool, true, false, cond, List, [], ◌∷◌, ◌++◌, refl, sym, ap, ap₂, ◌∙◌, arith, subst, inl}
-use Rattle.std.specs.Prelude.{◌≢◌, ◌==◌, ◌&&◌, Option, Some, None}
+use Rattle.std.proofs.Common.{◌≡◌, ℕ, zero, suc, ◌+◌, ◌-◌, ◌≤◌, Bool, true, false, cond, [], ◌++◌, refl, sym, ap, ap₂, ◌∙◌, arith, subst, inl}
+use Rattle.std.specs.Prelude.{◌==◌, ◌&&◌, Option, Some, None}
 use Rattle.std.proofs.lemmas.Bool.{and_parts}
 use Rattle.mote_devices.specs.declared.line.Line.{Line}
 use Rattle.flash_words.specs.Operations.{is_listed}
@@ -12,13 +12,13 @@ use Rattle.mote_devices.specs.Waking.{is_enabled}
 use Rattle.kernel_entry.specs.declared.kernel.Owed.{Owed}
 use Rattle.kernel_entry.specs.declared.kernel.End.{End}
 use Rattle.kernel_entry.specs.declared.kernel.End.TheVariants as ends
-use Rattle.step_laws.specs.Moves.{Move, line_before}
+use Rattle.step_laws.specs.Moves.{line_before}
 use Rattle.program_steps.specs.Machines.{Machine, flat_of}
 use Rattle.program_steps.specs.Ready.{IsGoing}
-use Rattle.program_steps.specs.Stepping.{HasStepped, StepWay, HasEntered, IsArrival, Stays, ends_in_arrive}
+use Rattle.program_steps.specs.Stepping.{HasStepped, StepWay, HasEntered, IsArrival, Stays}
 use Rattle.program_steps.specs.Interrupts.{is_wanted_at, is_taken_now}
 use Rattle.program_steps.specs.Several.{Silently, HasDone}
-use Rattle.program_steps.proofs.Leading.{goes_on, last_on, stays_on}
+use Rattle.program_steps.proofs.Leading.{goes_on, stays_on}
 use Rattle.program_steps.proofs.OneBehindOther.{goes_on_by, let_in}
 use Rattle.program_steps.proofs.Waiting.{left_stepped, entered_own}
 use Rattle.parked_tasks.specs.declared.task.TaskEnd.TheVariants.{Spent, Wild}
@@ -28,10 +28,6 @@ use Rattle.task_turns.specs.Checkpoints.{checks_by}
 use Rattle.task_turns.proofs.Crossings.{same_unchecked, taken_counts, undue_unchecked, Passes, pass_on, last_checks}
 
 -- ---- an arrival, and a step
-
-last_by : (ms ns : List Move) → ns ≢ [] → ends_in_arrive (ms ++ ns) ≡ ends_in_arrive ns
-last_by ms [] some = absurd (some refl)
-last_by ms (n ∷ ns) some = last_on ms ns n
 
 next_same : (x m : Machine) (next : Next) → program_of m.kernel ≡ program_of x.kernel → flat_of m ≡ flat_of x → next_of (program_of m.kernel) (flat_of m) ≡ next → next_of (program_of x.kernel) (flat_of x) ≡ next
 next_same x m next program flat is = ap₂ next_of (sym program) (sym flat) ∙ is
@@ -44,7 +40,6 @@ pub went_entered : (x m y : Machine) (line : Option Line) → HasEntered x m Non
 went_entered x m y line entered step = record {
   moves = entered.moves ++ step.moves;
   goes = goes_on x m y entered.moves step.moves [] (line_before line []) entered.goes step.goes;
-  last = last_by entered.moves step.moves step.some ∙ step.last;
   of_step = record { arrival = entered.moves; own = step.moves; parts = refl; arrives = entered.arrives; makes = step.own };
   stays = stays_on x m y entered.stays step.stays;
   broken = step.broken ∙ entered.broken;
@@ -56,7 +51,6 @@ pub went_stepped : (x y : Machine) (line : Option Line) → HasStepped x y line 
 went_stepped x y line step = record {
   moves = step.moves;
   goes = step.goes;
-  last = step.last;
   of_step = record { arrival = []; own = step.moves; parts = refl; arrives = IsArrival.NoArrival refl; makes = step.own };
   stays = step.stays;
   broken = step.broken;

@@ -11,7 +11,7 @@ use Rattle.kernel_entry.specs.declared.kernel.End.{End}
 use Rattle.kernel_entry.specs.declared.kernel.End.TheVariants as ends
 use Rattle.step_laws.specs.Moves.{Move}
 use Rattle.step_laws.specs.Walks.{Walks}
-use Rattle.program_steps.specs.Stepping.{Goes, IsArrival, AreOwn, ends_in_arrive}
+use Rattle.program_steps.specs.Stepping.{Goes, IsArrival, AreOwn}
 use Rattle.parked_tasks.specs.declared.task.Task.{Task}
 use Rattle.line_writer.specs.Pieces.{task_text}
 use Rattle.task_turns.specs.Turns.{Player, Turns, Shown, Wrote, Stops, Told, Played, Over, Gone, played, once, tries, turns, alone, shown_by, own_told, HaveEnded}
@@ -59,11 +59,10 @@ AreOfTry at moves end (Over (Wild pc)) = moves ≡ []
 AreOfTry at moves end (Over _) = AreStopped at moves end
 AreOfTry at moves end (Gone line checkpoint next) = AreMade at moves end
 
--- The running task's machine goes by these moves, of which the last is no arrival. A move counts for this task alone. The other
--- tasks have what they had, and all stay sound.
+-- The running task's machine goes by these moves. A move counts for this task alone. The other tasks have what they had, and all
+-- stay sound.
 pub record IsTry (t : Tasks) (task : Task) (play : Play) (new : Tasks) (next : Task) : Type 0 where
   pub goes : Goes (machine_of t t.running task) (machine_of new t.running next) play.moves (lines_told play.told)
-  pub last : ends_in_arrive play.moves ≡ false
   pub tasks : new.tasks ≡ slice_set t.tasks t.running next
   pub running : new.running ≡ t.running
   pub switches : new.switches ≡ t.switches

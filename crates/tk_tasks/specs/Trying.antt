@@ -11,7 +11,7 @@ use Rattle.kernel_entry.specs.declared.kernel.Owed.{Owed}
 use Rattle.step_laws.specs.Moves.{Move, line_before}
 use Rattle.program_steps.specs.Machines.{Machine}
 use Rattle.program_steps.specs.Ready.{IsGoing}
-use Rattle.program_steps.specs.Stepping.{Goes, Stays, StepWay, HasStepped, ends_in_arrive}
+use Rattle.program_steps.specs.Stepping.{Goes, Stays, StepWay, HasStepped}
 use Rattle.program_steps.specs.Several.{Silently}
 use Rattle.program_steps.specs.Waiting.{IsLeft}
 use Rattle.parked_tasks.specs.declared.task.Task.{Task}
@@ -44,7 +44,6 @@ task_end (ends.Flash op) = Spent
 pub record Went (old new : Machine) (line : Option Line) : Type 0 where
   pub moves : List Move
   pub goes : Goes old new moves (line_before line [])
-  pub last : ends_in_arrive moves ≡ false
   pub of_step : AreAStep old.at moves
   pub stays : Stays old new
   pub broken : new.broken ≡ old.broken

@@ -75,9 +75,9 @@ impl Tasks {
         requires switches { self.old.switches ≡ 0 }
         requires steps { n ≤ 10 ^ 9 }
         ensures run { HasRunTasks n self.old self.new (K.taken out.old) (K.taken out.new) result }
-        // At each 65,536 tries there was a value of the sink that had taken just what the tries up to there tell, whether or not it
-        // failed behind that.
-        ensures turns { WentOutInTurn K.taken n self.old self.new out.old }
+        // At each 65,536 tries there was a value of the sink that had taken just what the tries up to there tell, and what it has taken
+        // at the end begins with that, whether or not it failed behind it.
+        ensures turns { WentOutInTurn K.taken n self.old self.new out.old out.new }
         ensures sound { AreSound self.new }
         ensures cause { HasCause (K.faults out.old) (K.faults out.new) result }
     {
@@ -98,7 +98,7 @@ fn put_plays<K: Sink>(t: &mut Tasks, n: u64, out: &mut K) -> Result<(), Failed>
     requires switches { t.old.switches ≡ 0 }
     requires steps { n ≤ 10 ^ 9 }
     ensures gathered { HaveGathered n t.old t.new [] (K.taken out.old) (K.taken out.new) result }
-    ensures turns { WentOutInTurn K.taken n t.old t.new out.old }
+    ensures turns { WentOutInTurn K.taken n t.old t.new out.old out.new }
     ensures sound { AreSound t.new }
     ensures whole { t.new.broken ≡ false }
     ensures cause { HasCause (K.faults out.old) (K.faults out.new) result }
@@ -122,7 +122,7 @@ fn put_plays_by<K: Sink>(
     requires switches { t.old.switches ≡ 0 }
     requires steps { n ≤ 10 ^ 9 }
     ensures gathered { HaveGathered n t.old t.new [] (K.taken out.old) (K.taken out.new) result }
-    ensures turns { WentOutInTurn K.taken n t.old t.new out.old }
+    ensures turns { WentOutInTurn K.taken n t.old t.new out.old out.new }
     ensures sound { AreSound t.new }
     ensures whole { t.new.broken ≡ false }
     ensures cause { HasCause (K.faults out.old) (K.faults out.new) result }
@@ -147,7 +147,7 @@ fn gathered_plays<K: Sink>(
     requires steps { n ≤ 10 ^ 9 }
     requires empty { gathered.old.items ≡ [] }
     ensures gathered { HaveGathered n t.old t.new gathered.new.items (K.taken out.old) (K.taken out.new) result }
-    ensures turns { WentOutInTurn K.taken n t.old t.new out.old }
+    ensures turns { WentOutInTurn K.taken n t.old t.new out.old out.new }
     ensures sound { AreSound t.new }
     ensures whole { t.new.broken ≡ false }
     ensures cause { HasCause (K.faults out.old) (K.faults out.new) result }
@@ -176,7 +176,7 @@ fn all_plays_anew<K: Sink>(
     requires steps { n ≤ 10 ^ 9 }
     requires empty { gathered.old.items ≡ [] }
     ensures gathered { HaveGathered n t.old t.new gathered.new.items (K.taken out.old) (K.taken out.new) result }
-    ensures turns { WentOutInTurn K.taken n t.old t.new out.old }
+    ensures turns { WentOutInTurn K.taken n t.old t.new out.old out.new }
     ensures sound { AreSound t.new }
     ensures whole { t.new.broken ≡ false }
     ensures cause { HasCause (K.faults out.old) (K.faults out.new) result }
@@ -200,7 +200,7 @@ fn all_plays<K: Sink>(
     requires cursor { IsCursor t.old.kernel.layout t.old.kernel.mote.flash.words cursor.old }
     requires empty { gathered.old.items ≡ [] }
     ensures gathered { HaveGathered n t.old t.new gathered.new.items (K.taken out.old) (K.taken out.new) result }
-    ensures turns { WentOutInTurn K.taken n t.old t.new out.old }
+    ensures turns { WentOutInTurn K.taken n t.old t.new out.old out.new }
     ensures sound { AreSound t.new }
     ensures whole { t.new.broken ≡ false }
     ensures cause { HasCause (K.faults out.old) (K.faults out.new) result }

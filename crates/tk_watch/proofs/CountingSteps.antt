@@ -14,7 +14,11 @@ use Rattle.tk_run.proofs.RunSoFar.{IsBetween, between_start}
 use Rattle.tk_watch.specs.Turning.{HasTurned}
 use Rattle.tk_watch.specs.ProfileText.{begins_at, times_at}
 use Rattle.tk_watch.specs.Watching.{HasCounted}
-use Rattle.tk_watch.proofs.Turns.{HasEnded, gone, ended, bound, left}
+use Rattle.tk_watch.specs.declared.view.View.TheVariants.{Profile}
+use Rattle.tk_watch.proofs.Turns.{AreUntold, HasEnded, gone, ended, bound, left}
+
+profile_untold : (i count : ℕ) → AreUntold Profile i count
+profile_untold i count step from to = tt
 
 -- one step more, which begins at an address
 times_by : (runs : ℕ → Run) (a k : ℕ) (done : Bool) → nat_lt (runs k).state.now.steps (runs (suc k)).state.now.steps ≡ done → done ≡ true
@@ -59,7 +63,7 @@ counted_gone : (old now new : Machine) (i count : ℕ) (line : Option Line) (cou
 counted_gone old now new i count line counts size inside few way turned going some =
     let runs = original_from old in
     let one : i + count ≡ i + 1 = omega (arith, few, some) in
-    let on = gone old now new i count line way.text way.between turned going in
+    let on = gone Profile old now new i count line way.text (profile_untold i count) way.between turned going in
     let between : IsBetween old new (i + 1) (Some []) (Some on.text) = subst (λ k. IsBetween old new k (Some []) (Some on.text)) one on.between in
     let before = left old now i (Some []) (Some way.text) way.between.ran in
     let after = left old new (i + 1) (Some []) (Some on.text) between.ran in
@@ -80,14 +84,14 @@ counted_turned old now new i count line counts size inside few way turned going 
     subst (λ k. IsCountedSoFar old new k (slice_set counts now.at (slice_index counts now.at + 1))) one (counted_gone old now new i count line counts size inside few way turned going some)
 
 -- at an end
-counted_end : (old new : Machine) (i count n : ℕ) (end : End) (counts : List ℕ) → old.steps ≡ 0 → count ≤ 1 → HasEnded old new i count n end → ((a : ℕ) → a < 65536 → slice_index counts a ≡ times_at (original_from old) a i) → HasCounted old new n counts end
+counted_end : (old new : Machine) (i count n : ℕ) (end : End) (counts : List ℕ) → old.steps ≡ 0 → count ≤ 1 → HasEnded Profile old new i count n end → ((a : ℕ) → a < 65536 → slice_index counts a ≡ times_at (original_from old) a i) → HasCounted old new n counts end
 counted_end old new i count n end counts begins few over counted =
     let all : i ≡ new.steps = omega (arith, over.steps, over.one few, begins) in
     record { text = over.text; advanced = over.advanced; counted = λ a low. counted a low ∙ ap (times_at (original_from old) a) all }
 
 pub counted_ended : (old now new : Machine) (i count n : ℕ) (line : Option Line) (end : End) (counts : List ℕ) → old.steps ≡ 0 → old.end ≡ None → old.broken ≡ false → i < n → count ≤ 1 → IsCountedSoFar old now i counts → HasTurned now new count line → new.end ≡ Some end → HasCounted old new n counts end
 counted_ended old now new i count n line end counts begins going whole below few way turned over =
-    counted_end old new i count n end counts begins few (ended old now new i count n line end way.text going whole below (omega (arith, below, few)) way.between turned over) way.counted
+    counted_end old new i count n end counts begins few (ended Profile old now new i count n line end way.text (profile_untold i count) going whole below (omega (arith, below, few)) way.between turned over) way.counted
 
 pub counted_bound : (old now new : Machine) (n : ℕ) (end : End) (counts : List ℕ) → old.steps ≡ 0 → old.end ≡ None → old.broken ≡ false → IsCountedSoFar old now n counts → HasBound now new end → HasCounted old new n counts end
-counted_bound old now new n end counts begins going whole way is = counted_end old new n 1 n end counts begins (omega arith) (bound old now new n end way.text going whole way.between is) way.counted
+counted_bound old now new n end counts begins going whole way is = counted_end old new n 0 n end counts begins (omega arith) (bound Profile old now new n end way.text going whole way.between is) way.counted

@@ -1,6 +1,6 @@
 -- What words and input ask for is what is answered.
 use Rattle.std.proofs.Common.{◌≡◌, ℕ, ◌-◌, ◌<◌, ◌≤◌, List, [], ◌∷◌, length, map, take, drop, String, Global, string_bytes, codes, refl, sym, ap, ◌∙◌, subst, inl, inr, ◌⊎◌, arith}
-use Rattle.std.specs.Prelude.{Some, slice_index_or}
+use Rattle.std.specs.Prelude.{slice_index_or}
 use Rattle.arrayvec.specs.ArrayVec.{ArrayVec}
 use Rattle.cli_words.specs.declared.command.Command.TheVariants.{Run}
 use Rattle.cli_words.specs.declared.command.RunOptions.{RunOptions}
@@ -24,7 +24,8 @@ use Rattle.tk_watch.specs.declared.view.View.{View}
 use Rattle.tk_watch.specs.declared.view.View.TheVariants.{Lines}
 use Rattle.tk_watch.specs.Answer.{Does, IsAnswer, IsExact}
 use Rattle.tk_watch.specs.Views.{Shows}
-use Rattle.tk_watch.specs.Words.{AskForHelp, AskToWatch, IsAsked, IsWarranted, usage, usage_text}
+use Rattle.tk_watch.proofs.ViewWordsLaws.{one_view}
+use Rattle.tk_watch.specs.Words.{AskForHelp, AskForView, AskToWatch, IsAsked, IsWarranted, usage, usage_text}
 
 -- `run` asks for a run or for a line
 abbrev IsRunOrLine : Job → Type 0
@@ -51,10 +52,6 @@ other_job (jobs.Write text) is no_run no_line = is
 
 pub no_other_job : {A : Type 0} (options : RunOptions) (before now : Input) (job : Job) → AsksByText (RunAsks options) before now job → ((request : Request) → job ≡ jobs.Run request → ⊥) → ((own : Status) (line : ArrayVec ℕ) → job ≡ jobs.Print own line → ⊥) → A
 no_other_job options before now job asks no_run no_line = absurd (other_job job (run_or_line options before now job asks) no_run no_line)
-
--- words whose later ones are no options
-pub no_options : (words rest : List (List ℕ)) (word : List ℕ) → words ≡ word ∷ rest → ((options : RunOptions) → ¬ IsCommand (codes "run" ∷ rest) (Run options)) → (view : View) (options : RunOptions) → ¬ AskToWatch words view options
-no_options words rest word cut none view options watch = none options (subst (λ w. AskToWatch w view options) cut watch).1
 
 -- one word
 pub one_word : (words : List (String Global)) (first : String Global) (text : List ℕ) → 1 ≤ length words → length words < 2 → first ≡ slice_index_or words 0 first → text ≡ string_bytes first → map string_bytes words ≡ text ∷ []
@@ -83,19 +80,24 @@ answer_usage words source sink sink' own told unwatched (inl help) said =
 answer_usage words source sink sink' own told unwatched (inr none) said =
     record { view = Lines; job = usage own; asked = inr (inr (record { unwatched = unwatched; helpless = none.0 }, ap usage none.1, refl)); done = said }
 
--- a view is told by its word
+-- a view is told by its words
 same_view : (words : List (List ℕ)) (a b : View) (options options' : RunOptions) → AskToWatch words a options → AskToWatch words b options' → a ≡ b
-same_view [] a b options options' first second = absurd first
-same_view (word ∷ rest) a b options options' first second = let e : Some a ≡ Some b = sym first.0 ∙ second.0 in cc
+same_view words a b options options' first second = (one_view words first.0 second.0 a b first.1 second.1).0
+
+help_alone : (behind : List (List ℕ)) (view : View) → ¬ AskForView (codes "help" ∷ []) behind view
+help_alone behind view (inl ask) = absurd (let e = ask.0 in cc)
+help_alone behind view (inr (inl ask)) = let e = ask.0 in absurd (cc)
+help_alone behind view (inr (inr (inl ask))) = let e = ask.0 in absurd (cc)
+help_alone behind view (inr (inr (inr ask))) = let e = ask.0 in absurd (cc)
 
 no_help : (words : List (List ℕ)) (view : View) (options : RunOptions) → AskForHelp words → ¬ AskToWatch words view options
-no_help words view options help watch = let asked = subst (λ w. AskToWatch w view options) help watch in absurd (let e = asked.0 in cc)
+no_help words view options help watch = help_alone watch.0 view (subst (λ w. AskForView w watch.0 view) help watch.1)
 
 exact_watch : (words : List (List ℕ)) (source source' : Input) (sink sink' : Stream) (view : View) (options options' : RunOptions) (job whole : Job) (told : Status) → AskToWatch words view options → Asks (Run options) source source' job
     → AskToWatch words view options' → Warrants (wanted (Run options')) source source' whole → Does view job sink sink' told → Does view no_memory sink sink' told ⊎ Does view whole sink sink' told
-exact_watch [] source source' sink sink' view options options' job whole told watch asks watch' warrants done = absurd watch
-exact_watch (word ∷ rest) source source' sink sink' view options options' job whole told watch asks watch' warrants done =
-    elim (why (codes "run" ∷ rest) source source' job whole (inl (Run options, watch.1, asks)) (inl (Run options', watch'.1, warrants))) [
+exact_watch words source source' sink sink' view options options' job whole told watch asks watch' warrants done =
+    let same = (one_view words watch'.0 watch.0 view view watch'.1 watch.1).1 in
+    elim (why (codes "run" ∷ watch.0) source source' job whole (inl (Run options, watch.2, asks)) (inl (Run options', subst (λ b. IsCommand (codes "run" ∷ b) (Run options')) same watch'.2, warrants))) [
       | Wanting is ↦ inl (subst (λ j. Does view j sink sink' told) is done)
       | Same is ↦ inr (subst (λ j. Does view j sink sink' told) is done)
     ]

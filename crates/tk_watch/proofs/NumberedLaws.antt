@@ -1,5 +1,5 @@
--- The numbered lines of a run, and of one step more.
-use Rattle.std.proofs.Common.{◌≡◌, ℕ, zero, suc, Bool, true, false, List, [], ◌∷◌, ◌++◌, length, drop, refl, sym, ap, ap₂, ◌∙◌, subst, append_assoc}
+-- The numbered lines of a run are all its lines.
+use Rattle.std.proofs.Common.{◌≡◌, ℕ, zero, suc, Bool, true, false, List, [], ◌∷◌, ◌++◌, length, drop, refl, sym, ap, ◌∙◌, subst, append_assoc}
 use Rattle.std.specs.Prelude.{flat_map, Option, Some, None}
 use Rattle.std.proofs.Math.Seq.{drop-append_seam}
 use Rattle.std.proofs.lemmas.List.{append-nil}
@@ -8,26 +8,12 @@ use Rattle.mote_devices.specs.declared.line.Line.{Line}
 use Rattle.flat_machine.specs.FlatMachine.{Ends, Moment, Next, On, Program, Run, at_front, is_inside, next_of, original, run, with_line}
 use Rattle.flat_machine.proofs.MachineLaws.{run_goes, run_stops, run_wild}
 use Rattle.tk_run.proofs.RunSoFar.{none_ran}
-use Rattle.tk_watch.specs.NumberedLines.{TellsNumbered, lines_behind, numbered_line, numbered_lines}
+use Rattle.tk_watch.specs.NumberedLines.{TellsNumbered, lines_behind, numbered_line}
+use Rattle.tk_watch.specs.StepTexts.{told_text}
+use Rattle.tk_watch.specs.declared.view.View.TheVariants.{Lines}
 
-lines_of_step : (runs : ℕ → Run) (k : ℕ) (more : List Line) → (runs (suc k)).lines ≡ (runs k).lines ++ more → lines_behind runs k ≡ more
+pub lines_of_step : (runs : ℕ → Run) (k : ℕ) (more : List Line) → (runs (suc k)).lines ≡ (runs k).lines ++ more → lines_behind runs k ≡ more
 lines_of_step runs k more grows = ap (drop (length (runs k).lines)) grows ∙ drop-append_seam (runs k).lines more
-
--- behind one step more
-pub numbered_on : (runs : ℕ → Run) (k m : ℕ) (more : List Line) → m ≡ suc k → (runs m).lines ≡ (runs k).lines ++ more → numbered_lines runs m ≡ numbered_lines runs k ++ flat_map (numbered_line m) more
-numbered_on runs k m more is grows =
-    subst (λ j. (runs j).lines ≡ (runs k).lines ++ more → numbered_lines runs j ≡ numbered_lines runs k ++ flat_map (numbered_line j) more) (sym is)
-    (λ g. ap (λ l. numbered_lines runs k ++ flat_map (numbered_line (suc k)) l) (lines_of_step runs k more g)) grows
-
-pub numbered_silent : (runs : ℕ → Run) (k m : ℕ) → m ≡ suc k → (runs m).lines ≡ (runs k).lines → numbered_lines runs m ≡ numbered_lines runs k
-numbered_silent runs k m is same = numbered_on runs k m [] is (same ∙ sym (append-nil (runs k).lines)) ∙ append-nil (numbered_lines runs k)
-
--- the same runs write the same lines
-pub numbered_same : (runs others : ℕ → Run) → ((k : ℕ) → runs k ≡ others k) → (n : ℕ) → numbered_lines runs n ≡ numbered_lines others n
-numbered_same runs others same zero = refl
-numbered_same runs others same (suc k) =
-    let step = ap₂ (λ (a b : Run). drop (length a.lines) b.lines) (same k) (same (suc k)) in
-    ap₂ (λ told lines. told ++ flat_map (numbered_line (suc k)) lines) (numbered_same runs others same k) step
 
 -- Lines are only added. ---------------------------------------------------------------------------------------
 
@@ -66,16 +52,16 @@ both_numbered [] b first second none others = subst (TellsNumbered b) (ap (λ z.
 both_numbered (line ∷ a) b first second (step, rest, is, behind) others =
     (step, rest ++ second, ap (λ z. z ++ second) is ∙ append_assoc (numbered_line step line) rest second, both_numbered a b rest second behind others)
 
-all_numbered : (runs : ℕ → Run) → (runs 0).lines ≡ [] → ((k : ℕ) → Grows (runs k) (runs (suc k))) → (n : ℕ) → TellsNumbered (runs n).lines (numbered_lines runs n)
+all_numbered : (runs : ℕ → Run) → (runs 0).lines ≡ [] → ((k : ℕ) → Grows (runs k) (runs (suc k))) → (n : ℕ) → TellsNumbered (runs n).lines (told_text Lines runs n)
 all_numbered runs none more zero = subst (λ lines. TellsNumbered lines []) (sym none) refl
 all_numbered runs none more (suc k) =
     let grown = more k in
     let behind : lines_behind runs k ≡ grown.0 = lines_of_step runs k grown.0 grown.1 in
-    let both = both_numbered (runs k).lines grown.0 (numbered_lines runs k) (flat_map (numbered_line (suc k)) grown.0) (all_numbered runs none more k) (each_numbered (suc k) grown.0) in
-    let text = ap (λ lines. numbered_lines runs k ++ flat_map (numbered_line (suc k)) lines) (sym behind) in
-    subst (λ t. TellsNumbered (runs (suc k)).lines t) text (subst (λ lines. TellsNumbered lines (numbered_lines runs k ++ flat_map (numbered_line (suc k)) grown.0)) (sym grown.1) both)
+    let both = both_numbered (runs k).lines grown.0 (told_text Lines runs k) (flat_map (numbered_line (suc k)) grown.0) (all_numbered runs none more k) (each_numbered (suc k) grown.0) in
+    let text = ap (λ lines. told_text Lines runs k ++ flat_map (numbered_line (suc k)) lines) (sym behind) in
+    subst (λ t. TellsNumbered (runs (suc k)).lines t) text (subst (λ lines. TellsNumbered lines (told_text Lines runs k ++ flat_map (numbered_line (suc k)) grown.0)) (sym grown.1) both)
 
 -- of the original program
-pub tells_all : (program : Program) (events : List Event) (n : ℕ) → TellsNumbered (original program events n).lines (numbered_lines (original program events) n)
+pub tells_all : (program : Program) (events : List Event) (n : ℕ) → TellsNumbered (original program events n).lines (told_text Lines (original program events) n)
 tells_all program events n =
     all_numbered (original program events) (none_ran program (at_front program events)).0 (λ k. grows program k (at_front program events)) n

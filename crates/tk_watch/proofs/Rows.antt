@@ -11,7 +11,7 @@ pub rows_begin : (row : ℕ → List ℕ) (gathered : List ℕ) (known : Option 
 unfolding rows
 rows_begin row gathered known = subst (λ z. IsSent z gathered known known) (sym (append-nil gathered)) (nothing_sent gathered known)
 
-rows_on : (row : ℕ → List ℕ) (a m : ℕ) → m ≡ suc a → rows row m ≡ rows row a ++ row a
+pub rows_on : (row : ℕ → List ℕ) (a m : ℕ) → m ≡ suc a → rows row m ≡ rows row a ++ row a
 unfolding rows
 rows_on row a m is = ap (rows row) is
 

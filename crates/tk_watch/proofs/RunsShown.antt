@@ -1,32 +1,39 @@
 -- A watched run from boot is a run, and what was said of it is what a view shows.
-use Rattle.std.proofs.Common.{◌≡◌, ℕ, ◌≤◌, List, [], ◌++◌, refl, sym, subst, arith}
-use Rattle.std.specs.Prelude.{◌^◌, Some, None, Ok}
-use Rattle.byte_streams.specs.Streams.{CutShort}
+use Rattle.std.proofs.Common.{◌≡◌, ℕ, ◌≤◌, List, [], ◌++◌, length, append_assoc, refl, sym, ap₂, ◌∙◌, subst, arith, ◌⊎◌, inl, inr}
+use Rattle.std.specs.Prelude.{◌^◌, codes, slice_index, IfOk, MatchResult, Option, Result, Some, None, Ok, Err}
+use Rattle.byte_streams.specs.declared.failure.Failed.{Failed}
+use Rattle.byte_streams.specs.Streams.{CutShort, IsSent}
+use Rattle.byte_streams.proofs.KnownBytes.{nothing_sent}
 use Rattle.hex_image.specs.Image.{IsImage}
 use Rattle.flash_words.specs.Memory.{IsWhole, new_flash}
 use Rattle.kernel_entry.specs.declared.kernel.End.{End}
 use Rattle.program_steps.specs.Machines.{Machine, flat_of}
 use Rattle.program_steps.specs.Ready.{IsKept}
+use Rattle.program_steps.specs.Wholes.{whole}
 use Rattle.tk_run.specs.Running.{HasAdvanced, original_from}
 use Rattle.tk_run.specs.Booted.{booted}
 use Rattle.tk_run.proofs.Advancing.{advanced_whole}
 use Rattle.tk_run.proofs.Booting.{begun_boot, run_start}
 use Rattle.cli_words.specs.declared.request.Request.{Request}
+use Rattle.cli_words.specs.Commands.{AreOptions}
 use Rattle.cli_words.specs.declared.status.Status.{Status}
+use Rattle.cli_words.specs.declared.status.Status.TheVariants.{NoMemory}
 use Rattle.cli_words.specs.Stream.{Stream}
 use Rattle.tkernel_cli.specs.Runs.{Says, original_of, status_of_stop}
 use Rattle.tkernel_cli.proofs.RunEnds.{ran_silently}
 use Rattle.tk_watch.specs.declared.view.View.{View}
-use Rattle.tk_watch.specs.declared.view.View.TheVariants.{Lines, Profile}
-use Rattle.tk_watch.specs.NumberedLines.{numbered_lines}
-use Rattle.tk_watch.specs.ProfileText.{profile_text, times_at}
-use Rattle.tk_watch.specs.Views.{Shows, shown}
-use Rattle.tk_watch.specs.Watching.{HasProfiled, HasShown, kept_end, stop_of}
-use Rattle.tk_watch.proofs.NumberedLaws.{numbered_same}
+use Rattle.tk_watch.specs.declared.view.View.TheVariants.{Profile}
+use Rattle.flat_machine.specs.FlatMachine.{FlatState, Run}
+use Rattle.tk_watch.specs.declared.showing.Start.{Start}
+use Rattle.tk_watch.specs.ProfileText.{times_at}
+use Rattle.tk_watch.specs.StepTexts.{told_text}
+use Rattle.tk_watch.specs.Views.{Shows, left_text, shown}
+use Rattle.tk_watch.specs.Watching.{AreCounted, HasCounted, HasRun, HasShown, HasWatched, IsStart, kept_end, stop_of}
 use Rattle.tk_watch.proofs.ProfileLaws.{profile_same, times_same}
 use Rattle.tk_watch.proofs.Stops.{answers_kept, shows_by}
+use Rattle.tk_watch.proofs.ToldLaws.{none_told, told_same}
 
-abbrev start_of : Request → Machine
+abbrev pub start_of : Request → Machine
 start_of request = booted request.image request.script request.options.quantum request.options.swap
 
 -- from boot the original program runs from reset
@@ -46,18 +53,54 @@ shown_by view request m text said_text end before now told image kept bound adva
     let same = subst (λ e. Says (status_of_stop e) (said_text ++ stop_of e m) before now told) (sym ended) said in
     shows_by view request m runs.0 told before now runs.1 (subst (λ t. Says (status_of_stop (kept_end m.end)) (t ++ stop_of (kept_end m.end) m) before now told) is same)
 
-pub lines_shown : (request : Request) (m : Machine) (before now : Stream) (told : Status) → IsImage request.image → IsKept (start_of request) → request.options.steps ≤ 10 ^ 9
-    → HasShown (start_of request) m request.options.steps before now told → Shows Lines request before now told
-lines_shown request m before now told image kept bound (HasShown.Whole text end advanced said) =
-    let lines = numbered_same (original_from (start_of request)) (original_of request) (from_boot request image kept) m.steps in
-    shown_by Lines request m text (numbered_lines (original_from (start_of request)) m.steps) end before now told image kept bound advanced lines said
-lines_shown request m before now told image kept bound (HasShown.Cut is rose cut) =
-    let lines = numbered_same (original_from (start_of request)) (original_of request) (from_boot request image kept) cut.done in
-    Shows.Cut refl (record { status_is = is; rose = rose; done = cut.done; within = cut.within; put = subst (CutShort before.told now.told) lines cut.put })
+-- a profile's steps were counted, and nothing was told of them
+pub profile_run : (old new : Machine) (n : ℕ) (counts gathered : List ℕ) (known : Option (List ℕ)) (end : End) → gathered ≡ [] → HasCounted old new n counts end → HasRun Profile old new n counts gathered known known (Ok end)
+profile_run old new n counts gathered known end empty counted =
+    (record { text = counted.text; advanced = counted.advanced; sent = subst (λ z. IsSent z gathered known known) (empty ∙ sym (none_told (original_from old) new.steps)) (nothing_sent gathered known) }, counted.counted)
 
-pub profile_shown : (request : Request) (m : Machine) (before now : Stream) (told : Status) → IsImage request.image → IsKept (start_of request) → request.options.steps ≤ 10 ^ 9
-    → HasProfiled (start_of request) m request.options.steps before now told → Shows Profile request before now told
-profile_shown request m before now told image kept bound profiled =
-    let counts = profile_same (λ a. times_at (original_from (start_of request)) a m.steps) (λ a. times_at (original_of request) a m.steps)
-    (λ a below. times_same (original_from (start_of request)) (original_of request) (from_boot request image kept) a m.steps) in
-    shown_by Profile request m profiled.text (profile_text (λ a. times_at (original_from (start_of request)) a m.steps)) profiled.end before now told image kept bound profiled.advanced counts profiled.said
+-- .. and another view counts none
+uncounted : (view : View) (times : ℕ → ℕ) (counts : List ℕ) → (view ≡ Profile → ⊥) → AreCounted view times counts
+uncounted Profile times counts other = absurd (other refl)
+uncounted _ times counts other = tt
+
+pub watched_run : (view : View) (old new : Machine) (n : ℕ) (counts gathered : List ℕ) (before after : Option (List ℕ)) (result : Result End Failed) → (view ≡ Profile → ⊥) → HasWatched view old new n gathered before after result → HasRun view old new n counts gathered before after result
+watched_run view old new n counts gathered before after (Ok end) other told = (told, uncounted view _ counts other)
+watched_run view old new n counts gathered before after (Err e) other cut = cut
+
+-- what a view tells at the end, by other counts that are equal
+pub left_same : (view : View) (slots events : ℕ) (counts : List ℕ) (times : ℕ → ℕ) (operations : ℕ) (s : FlatState) → AreCounted view times counts → left_text view slots events (slice_index counts) operations s ≡ left_text view slots events times operations s
+left_same Profile slots events counts times operations s counted = profile_same (slice_index counts) times counted
+left_same _ slots events counts times operations s counted = refl
+
+-- .. of another run that is the same
+left_of_same : (view : View) (slots events : ℕ) (runs others : ℕ → Run) → ((k : ℕ) → runs k ≡ others k) → (n operations : ℕ) (s : FlatState) → left_text view slots events (λ a. times_at runs a n) operations s ≡ left_text view slots events (λ a. times_at others a n) operations s
+left_of_same Profile slots events runs others same n operations s = profile_same (λ a. times_at runs a n) (λ a. times_at others a n) (λ a below. times_same runs others same a n)
+left_of_same _ slots events runs others same n operations s = refl
+
+pub view_shown : (view : View) (request : Request) (m : Machine) (before now : Stream) (told : Status) → IsImage request.image → IsKept (start_of request) → request.options.steps ≤ 10 ^ 9
+    → HasShown view request.options.swap (length request.script.events) (start_of request) m request.options.steps before now told → Shows view request before now told
+view_shown view request m before now told image kept bound (HasShown.Whole text end advanced said) =
+    let slots = request.options.swap in
+    let events = length request.script.events in
+    let runs = original_from (start_of request) in
+    let own = original_of request in
+    let ops = m.kernel.mote.flash.ops in
+    let shown_of = told_text view runs m.steps ++ left_text view slots events (λ a. times_at runs a m.steps) ops (flat_of m).now in
+    let same = ap₂ (λ a b. a ++ b) (told_same view runs own (from_boot request image kept) m.steps) (left_of_same view slots events runs own (from_boot request image kept) m.steps ops (flat_of m).now) in
+    let parts : told_text view runs m.steps ++ (left_text view slots events (λ a. times_at runs a m.steps) ops (flat_of m).now ++ stop_of end m) ≡ shown_of ++ stop_of end m =
+    sym (append_assoc (told_text view runs m.steps) (left_text view slots events (λ a. times_at runs a m.steps) ops (flat_of m).now) (stop_of end m)) in
+    shown_by view request m text shown_of end before now told image kept bound advanced same (subst (λ t. Says (status_of_stop end) t before now told) parts said)
+view_shown view request m before now told image kept bound (HasShown.Cut is rose cut) =
+    let same = told_same view (original_from (start_of request)) (original_of request) (from_boot request image kept) cut.done in
+    Shows.Cut (record { status_is = is; rose = rose; done = cut.done; within = cut.within; put = subst (CutShort before.told now.told) same cut.put })
+
+-- .. of a machine from boot, if memory served
+pub request_shown : {E : Type 0} (view : View) (request : Request) (begun : Result Start E) (events : ℕ) (before now : Stream) (told : Status) → IsImage request.image → AreOptions request.options → events ≡ length request.script.events
+    → IfOk begun (λ s. whole s.kernel s.progress ≡ start_of request) → IfOk begun (λ s. IsStart (whole s.kernel s.progress) s.counts.items)
+    → MatchResult begun (λ s. (new : Machine) × HasShown view request.options.swap events (whole s.kernel s.progress) new request.options.steps before now told) (λ none. Says NoMemory (codes "no memory\n") before now told)
+    → Shows view request before now told ⊎ Says NoMemory (codes "no memory\n") before now told
+request_shown view request (Ok s) events before now told image options same booted start shown =
+    let counted = subst (λ n. HasShown view request.options.swap n (whole s.kernel s.progress) shown.0 request.options.steps before now told) same shown.1 in
+    inl (view_shown view request shown.0 before now told image (subst IsKept booted start.kept) (omega (arith, options.2))
+    (subst (λ m. HasShown view request.options.swap (length request.script.events) m shown.0 request.options.steps before now told) booted counted))
+request_shown view request (Err e) events before now told image options same booted start shown = inr shown

@@ -102,18 +102,7 @@ said_behind own told before mid now text gathered more sent later said =
     let parts : sent.sent ++ (gathered ++ more) ≡ text ++ more = sym (append_assoc sent.sent gathered more) ∙ ap (λ z. z ++ more) (sym sent.parts) in
     subst (λ t. Says own t before now told) parts (said_on own told before mid now sent.sent (gathered ++ more) sent.appended later said)
 
--- the quantum is the one that was asked for
-pub quantum_asked : (request : Request) (m : Machine) (own : Status) (before now : Stream) → Runs request before now own m → m.kernel.quantum ≡ request.options.quantum
-quantum_asked request m own before now (Runs.Ended unlisted run) = run.follows.at.quantum
-quantum_asked request m own before now (Runs.Failed run) = run.follows.at.quantum
-quantum_asked request m own before now (Runs.Cut cut) = cut.follows.at.quantum
-
--- .. and no more
+-- what was gathered went out, and no more
 pub puts_behind : (result : Result (Unit {0}) Failed) (text gathered : List ℕ) (before mid now : Option (List ℕ)) → IsSent text gathered before mid → Puts mid now result gathered → Puts before now result text
 puts_behind (Ok done) text gathered before mid now first rest = all_on text gathered before mid now first rest
 puts_behind (Err e) text gathered before mid now first rest = rest_cut text gathered before mid now first rest
-
--- the end and the stop line of a machine
-pub stop_said : (end kept : End) (line stop gathered : List ℕ) (told : Status) (mid now : Stream) → end ≡ kept → line ≡ stop → Says (status_of_stop end) (gathered ++ line) mid now told → Says (status_of_stop kept) (gathered ++ stop) mid now told
-stop_said end kept line stop gathered told mid now is same said =
-    subst (λ e. Says (status_of_stop e) (gathered ++ stop) mid now told) is (subst (λ l. Says (status_of_stop end) (gathered ++ l) mid now told) same said)

@@ -1,83 +1,174 @@
--- The lines told so far, some of them gathered.
-use Rattle.std.proofs.Common.{◌≡◌, ℕ, ◌+◌, ◌<◌, ◌≤◌, false, List, [], ◌++◌, sym, ap, ◌∙◌, subst, arith}
-use Rattle.std.specs.Prelude.{flat_map, Option, Some, None}
+-- What was told so far, some of it gathered.
+use Rattle.std.proofs.Common.{◌≡◌, ℕ, ◌+◌, ◌-◌, ◌*◌, ◌%◌, ◌<◌, ◌≤◌, true, false, List, [], ◌++◌, sym, ap, ◌∙◌, subst, arith, inl, inr}
+use Rattle.std.specs.Prelude.{Option, Some, None}
+use Rattle.std.proofs.lemmas.Bool.{cases_lt}
 use Rattle.std.proofs.lemmas.List.{append-nil}
+use Rattle.std.specs.Io.KnownBytes.{Appends}
 use Rattle.byte_streams.specs.Streams.{CutShort, IsSent}
-use Rattle.byte_streams.proofs.KnownBytes.{nothing_sent}
-use Rattle.line_gathering.proofs.Gathered.{sent_on, cut_on}
+use Rattle.byte_streams.proofs.KnownBytes.{appends-nothing}
+use Rattle.line_gathering.specs.Gathering.{turn_steps}
+use Rattle.line_gathering.proofs.Gathered.{all_on, sent_on, cut_on}
 use Rattle.mote_devices.specs.declared.line.Line.{Line}
+use Rattle.flat_machine.specs.FlatMachine.{Moment, On, is_taken, next_of}
 use Rattle.kernel_entry.specs.declared.kernel.End.{End}
+use Rattle.kernel_entry.specs.declared.kernel.End.TheVariants as ends
+use Rattle.kernel_entry.specs.Seen.{program as program_of}
 use Rattle.step_laws.specs.Moves.{line_before}
-use Rattle.program_steps.specs.Machines.{Machine}
+use Rattle.program_steps.specs.Machines.{Machine, flat_of}
 use Rattle.program_steps.specs.Ready.{IsGoing, IsQuiet}
-use Rattle.program_steps.specs.Stepping.{HasBound}
+use Rattle.program_steps.specs.Several.{Silently}
+use Rattle.program_steps.specs.Interrupts.{is_taken_now}
+use Rattle.program_steps.specs.Stepping.{Entering, HasBound, HasEntered, StepWay}
 use Rattle.tk_run.specs.Running.{original_from}
+use Rattle.tk_run.proofs.Advancing.{no_end}
 use Rattle.tk_run.proofs.RunSoFar.{IsBetween, between_start}
+use Rattle.tk_watch.specs.declared.view.View.{View}
+use Rattle.tk_watch.specs.declared.view.View.TheVariants.{Changes}
+use Rattle.tk_watch.specs.Kept.{AreHeld, AreHeldBeside, IsSpared, step_told}
+use Rattle.tk_watch.specs.StepTexts.{front_text, told_text}
 use Rattle.tk_watch.specs.Turning.{HasTurned}
-use Rattle.tk_watch.specs.NumberedLines.{numbered_line, numbered_lines}
-use Rattle.tk_watch.specs.Watching.{HasTold}
-use Rattle.tk_watch.proofs.Turns.{HasEnded, gone, ended, bound}
+use Rattle.tk_watch.specs.Watching.{GoOutInTurn, HadAll, HasTold}
+use Rattle.tk_watch.proofs.ToldLaws.{step_same}
+use Rattle.tk_watch.proofs.Turns.{AreUntold, HasEnded, HasGone, bound, ended, gone, left, refused_end}
 
-pub record IsToldSoFar (old now : Machine) (i : ℕ) (gathered : List ℕ) (before after : Option (List ℕ)) : Type 0 where
+pub record IsToldSoFar (view : View) (old now : Machine) (i : ℕ) (gathered : List ℕ) (before after : Option (List ℕ)) : Type 0 where
   pub text : List ℕ
   pub between : IsBetween old now i (Some []) (Some text)
-  pub sent : IsSent (numbered_lines (original_from old) i) gathered before after
+  pub sent : IsSent (told_text view (original_from old) i) gathered before after
 
-pub told_start : (m : Machine) (gathered : List ℕ) (known : Option (List ℕ)) → IsGoing m → IsQuiet m → gathered ≡ [] → IsToldSoFar m m 0 gathered known known
-told_start m gathered known ready quiet empty = record {
+-- in front of all steps
+front_told : (view : View) (m : Machine) → IsGoing m → IsQuiet m → told_text view (original_from m) 0 ≡ front_text view (flat_of m).now
+front_told view m ready quiet = ap (λ (s : Moment). front_text view s.now) (left m m 0 (Some []) (Some []) (between_start m (Some []) ready quiet).ran)
+
+pub told_start : (view : View) (m : Machine) (gathered rest : List ℕ) (before after : Option (List ℕ)) → IsGoing m → IsQuiet m → gathered ≡ [] → IsSent (gathered ++ front_text view (flat_of m).now) rest before after → IsToldSoFar view m m 0 rest before after
+told_start view m gathered rest before after ready quiet empty sent = record {
   text = [];
   between = between_start m (Some []) ready quiet;
-  sent = subst (λ z. IsSent [] z known known) (sym empty) (nothing_sent [] known);
+  sent = subst (λ z. IsSent z rest before after) (ap (λ g. g ++ front_text view (flat_of m).now) empty ∙ sym (front_told view m ready quiet)) sent;
 }
+
+pub cut_start : (view : View) (m : Machine) (gathered : List ℕ) (before after : Option (List ℕ)) → IsGoing m → IsQuiet m → gathered ≡ [] → CutShort before after (gathered ++ front_text view (flat_of m).now) → CutShort before after (told_text view (original_from m) 0)
+cut_start view m gathered before after ready quiet empty cut = subst (CutShort before after) (ap (λ g. g ++ front_text view (flat_of m).now) empty ∙ sym (front_told view m ready quiet)) cut
 
 -- behind what went out in turn
-pub sent_in_turn : (old now : Machine) (i : ℕ) (gathered left : List ℕ) (before after later : Option (List ℕ)) → IsToldSoFar old now i gathered before after → IsSent (gathered ++ []) left after later → IsToldSoFar old now i left before later
-sent_in_turn old now i gathered left before after later way sent = record {
+pub told_in_turn : (view : View) (old now : Machine) (i : ℕ) (gathered rest : List ℕ) (before after later : Option (List ℕ)) → IsToldSoFar view old now i gathered before after → IsSent (gathered ++ []) rest after later → IsToldSoFar view old now i rest before later
+told_in_turn view old now i gathered rest before after later way sent = record {
   text = way.text;
   between = way.between;
-  sent = subst (λ z. IsSent z left before later) (append-nil (numbered_lines (original_from old) i)) (sent_on (numbered_lines (original_from old) i) gathered [] left before after later way.sent sent);
+  sent = subst (λ z. IsSent z rest before later) (append-nil (told_text view (original_from old) i)) (sent_on (told_text view (original_from old) i) gathered [] rest before after later way.sent sent);
 }
 
-pub cut_in_turn : (old now : Machine) (i : ℕ) (gathered : List ℕ) (before after later : Option (List ℕ)) → IsToldSoFar old now i gathered before after → CutShort after later (gathered ++ []) → CutShort before later (numbered_lines (original_from old) i)
-cut_in_turn old now i gathered before after later way cut =
-    subst (CutShort before later) (append-nil (numbered_lines (original_from old) i)) (cut_on (numbered_lines (original_from old) i) gathered [] before after later way.sent cut)
+pub cut_in_turn : (view : View) (old now : Machine) (i : ℕ) (gathered : List ℕ) (before after later : Option (List ℕ)) → IsToldSoFar view old now i gathered before after → CutShort after later (gathered ++ []) → CutShort before later (told_text view (original_from old) i)
+cut_in_turn view old now i gathered before after later way cut =
+    subst (CutShort before later) (append-nil (told_text view (original_from old) i)) (cut_on (told_text view (original_from old) i) gathered [] before after later way.sent cut)
 
 -- behind a turn
-pub told_gone : (old now new : Machine) (i count : ℕ) (line : Option Line) (gathered left : List ℕ) (before after later : Option (List ℕ)) → IsToldSoFar old now i gathered before after → HasTurned now new count line → new.end ≡ None
-    → IsSent (gathered ++ flat_map (numbered_line (i + count)) (line_before line [])) left after later → IsToldSoFar old new (i + count) left before later
-told_gone old now new i count line gathered left before after later way turned going sent =
-    let runs = original_from old in
-    let on = gone old now new i count line way.text way.between turned going in
-    let more = flat_map (numbered_line (i + count)) (line_before line []) in
-    record {
-      text = on.text;
-      between = on.between;
-      sent = subst (λ z. IsSent z left before later) (sym on.told) (sent_on (numbered_lines runs i) gathered more left before after later way.sent sent);
-    }
+pub turned_on : (view : View) (old now new : Machine) (i count : ℕ) (line : Option Line) (gathered : List ℕ) (before after : Option (List ℕ)) → AreUntold view i count → IsToldSoFar view old now i gathered before after → HasTurned now new count line → new.end ≡ None → HasGone view old now new i (i + count) line
+turned_on view old now new i count line gathered before after untold way turned going = gone view old now new i count line way.text untold way.between turned going
 
-pub cut_gone : (old now new : Machine) (i count : ℕ) (line : Option Line) (gathered : List ℕ) (before after later : Option (List ℕ)) → IsToldSoFar old now i gathered before after → HasTurned now new count line → new.end ≡ None
-    → CutShort after later (gathered ++ flat_map (numbered_line (i + count)) (line_before line [])) → CutShort before later (numbered_lines (original_from old) (i + count))
-cut_gone old now new i count line gathered before after later way turned going cut =
-    let runs = original_from old in
-    let on = gone old now new i count line way.text way.between turned going in
-    let more = flat_map (numbered_line (i + count)) (line_before line []) in
-    subst (CutShort before later) (sym on.told) (cut_on (numbered_lines runs i) gathered more before after later way.sent cut)
+turn_told : (view : View) (old now new : Machine) (i j : ℕ) (line : Option Line) (bytes : List ℕ) → HasGone view old now new i j line → AreHeld view (flat_of now).now.memory bytes
+    → told_text view (original_from old) i ++ step_told view j (line_before line []) (flat_of now).now.cpu.pc bytes (flat_of new).now ≡ told_text view (original_from old) j
+turn_told view old now new i j line bytes on held =
+    ap (λ t. told_text view (original_from old) i ++ t) (step_same view j (line_before line []) (flat_of now).now (flat_of new).now bytes held) ∙ sym on.told
+
+pub told_gone : (view : View) (old now new : Machine) (i j : ℕ) (line : Option Line) (bytes gathered rest : List ℕ) (before after later : Option (List ℕ)) → HasGone view old now new i j line → IsToldSoFar view old now i gathered before after → AreHeld view (flat_of now).now.memory bytes
+    → IsSent (gathered ++ step_told view j (line_before line []) (flat_of now).now.cpu.pc bytes (flat_of new).now) rest after later → IsToldSoFar view old new j rest before later
+told_gone view old now new i j line bytes gathered rest before after later on way held sent = record {
+  text = on.text;
+  between = on.between;
+  sent = subst (λ z. IsSent z rest before later) (turn_told view old now new i j line bytes on held) (sent_on (told_text view (original_from old) i) gathered _ rest before after later way.sent sent);
+}
+
+pub cut_gone : (view : View) (old now new : Machine) (i j : ℕ) (line : Option Line) (bytes gathered : List ℕ) (before after later : Option (List ℕ)) → HasGone view old now new i j line → IsToldSoFar view old now i gathered before after → AreHeld view (flat_of now).now.memory bytes
+    → CutShort after later (gathered ++ step_told view j (line_before line []) (flat_of now).now.cpu.pc bytes (flat_of new).now) → CutShort before later (told_text view (original_from old) j)
+cut_gone view old now new i j line bytes gathered before after later on way held cut =
+    subst (CutShort before later) (turn_told view old now new i j line bytes on held) (cut_on (told_text view (original_from old) i) gathered _ before after later way.sent cut)
 
 -- at an end
-told_end : (old new : Machine) (i count n : ℕ) (end : End) (gathered : List ℕ) (before after : Option (List ℕ)) → old.steps ≡ 0 → HasEnded old new i count n end → IsSent (numbered_lines (original_from old) i) gathered before after → HasTold old new n gathered before after end
-told_end old new i count n end gathered before after begins over sent =
-    let runs = original_from old in
+told_end : (view : View) (old new : Machine) (i count n : ℕ) (end : End) (gathered : List ℕ) (before after : Option (List ℕ)) → old.steps ≡ 0 → HasEnded view old new i count n end → IsSent (told_text view (original_from old) i) gathered before after → HasTold view old new n gathered before after end
+told_end view old new i count n end gathered before after begins over sent =
     let all : over.done ≡ new.steps = omega (arith, over.steps, begins) in
     record {
       text = over.text;
       advanced = over.advanced;
-      sent = subst (λ z. IsSent z gathered before after) (sym over.told ∙ ap (numbered_lines runs) all) sent;
+      sent = subst (λ z. IsSent z gathered before after) (sym over.told ∙ ap (told_text view (original_from old)) all) sent;
     }
 
-pub told_ended : (old now new : Machine) (i count n : ℕ) (line : Option Line) (end : End) (gathered : List ℕ) (before after : Option (List ℕ)) → old.steps ≡ 0 → old.end ≡ None → old.broken ≡ false → i < n → i + count ≤ n → IsToldSoFar old now i gathered before after → HasTurned now new count line → new.end ≡ Some end
-    → HasTold old new n gathered before after end
-told_ended old now new i count n line end gathered before after begins going whole below within way turned over =
-    told_end old new i count n end gathered before after begins (ended old now new i count n line end way.text going whole below within way.between turned over) way.sent
+pub told_ended : (view : View) (old now new : Machine) (i count n : ℕ) (line : Option Line) (end : End) (gathered : List ℕ) (before after : Option (List ℕ)) → AreUntold view i count → old.steps ≡ 0 → old.end ≡ None → old.broken ≡ false → i < n → i + count ≤ n → IsToldSoFar view old now i gathered before after → HasTurned now new count line → new.end ≡ Some end
+    → HasTold view old new n gathered before after end × (new.steps ≤ i + count)
+told_ended view old now new i count n line end gathered before after untold begins going whole below within way turned over =
+    let over' = ended view old now new i count n line end way.text untold going whole below within way.between turned over in
+    (told_end view old new i count n end gathered before after begins over' way.sent, omega (arith, over'.steps, over'.most, begins))
 
-pub told_bound : (old now new : Machine) (n : ℕ) (end : End) (gathered : List ℕ) (before after : Option (List ℕ)) → old.steps ≡ 0 → old.end ≡ None → old.broken ≡ false → IsToldSoFar old now n gathered before after → HasBound now new end → HasTold old new n gathered before after end
-told_bound old now new n end gathered before after begins going whole way is = told_end old new n 1 n end gathered before after begins (bound old now new n end way.text going whole way.between is) way.sent
+pub told_bound : (view : View) (old now new : Machine) (n : ℕ) (end : End) (gathered : List ℕ) (before after : Option (List ℕ)) → old.steps ≡ 0 → old.end ≡ None → old.broken ≡ false → IsToldSoFar view old now n gathered before after → HasBound now new end → HasTold view old new n gathered before after end
+told_bound view old now new n end gathered before after begins going whole way is = told_end view old new n 0 n end gathered before after begins (bound view old now new n end way.text going whole way.between is) way.sent
+
+-- Turns that went out. --------------------------------------------------------------------------------------------
+
+went_out : {K : Type 0} (taken : K → Option (List ℕ)) (view : View) (old now : Machine) (before after : K) (done : ℕ) (gathered : List ℕ) → IsToldSoFar view old now done gathered (taken before) (taken after) → gathered ≡ [] → HadAll taken view old before done
+went_out taken view old now before after done gathered way empty = record {
+  sink = after;
+  put = all_on (told_text view (original_from old) done) gathered (taken before) (taken after) (taken after) way.sent (subst (Appends (taken after) (taken after)) (sym empty) (appends-nothing (taken after)));
+}
+
+-- up to the next
+pub turns_on : {K : Type 0} (taken : K → Option (List ℕ)) (view : View) (old now : Machine) (before after : K) (done : ℕ) (gathered : List ℕ) → GoOutInTurn taken view old before done → IsToldSoFar view old now done gathered (taken before) (taken after)
+    → (done % turn_steps ≡ 0 → gathered ≡ []) → GoOutInTurn taken view old before (done + (turn_steps - done % turn_steps))
+turns_on taken view old now before after done gathered turns way empty turn below =
+    elim (cases_lt (turn_steps * turn) done) [
+      | inl earlier ↦ turns turn earlier
+      | inr later ↦
+          let at : done % 65536 ≡ 0 = omega (arith, below, later) in
+          let is : done ≡ turn_steps * turn = omega (arith, below, later) in
+          subst (HadAll taken view old before) is (went_out taken view old now before after done gathered way (empty at))
+    ]
+
+-- by the count of steps
+pub turns_left : {K : Type 0} (taken : K → Option (List ℕ)) (view : View) (old : Machine) (before : K) (most steps : ℕ) → GoOutInTurn taken view old before most → steps ≤ most → GoOutInTurn taken view old before steps
+turns_left taken view old before most steps turns few turn below = turns turn (omega (arith, below, few))
+
+-- The bytes that are held. ----------------------------------------------------------------------------------------
+
+-- a turn of one step is the next step of the original program
+step_next : (last new : Machine) (line : Option Line) → StepWay last new line → new.end ≡ None → next_of (program_of last.kernel) (flat_of last) ≡ On line (flat_of new)
+step_next last new line (StepWay.On ready quiet steps is) going = is
+step_next last new line (StepWay.Stopped stop over kept none steps is same) going = absurd (no_end new (ends.Stopped stop) kept going)
+
+entered_next : (now mid last new : Machine) (line : Option Line) → HasEntered now mid None → mid ≡ last → next_of (program_of last.kernel) (flat_of last) ≡ On line (flat_of new) → next_of (program_of now.kernel) (flat_of now) ≡ On line (flat_of new)
+entered_next now mid last new line entered same is =
+    ap (λ program. next_of program (flat_of now)) (sym entered.stays.program)
+    ∙ ap (next_of (program_of mid.kernel)) (sym entered.flat)
+    ∙ ap (λ (m : Machine). next_of (program_of m.kernel) (flat_of m)) same
+    ∙ is
+
+alone : (n : ℕ) (mid last : Machine) → n ≡ 0 → Silently n mid last → mid ≡ last
+alone n mid last none silently = subst (λ k. Silently k mid last) none silently
+
+turn_next : (now new : Machine) (count : ℕ) (line : Option Line) → count ≤ 1 → HasTurned now new count line → new.end ≡ None → next_of (program_of now.kernel) (flat_of now) ≡ On line (flat_of new)
+turn_next now new count line few (HasTurned.Interrupted wanted step one none) going =
+    step_next now new None step.way going ∙ ap (λ l. On l (flat_of new)) (sym none)
+turn_next now new count line few (HasTurned.Refused end entered zeros none) going = absurd (no_end new end (refused_end now new end entered.way) going)
+turn_next now new count line few (HasTurned.Stepped mid entered done) going =
+    entered_next now mid done.last new line entered (alone done.earlier mid done.last (omega (arith, done.counted, few)) done.silently) (step_next done.last new line done.step.way going)
+
+-- .. and no interrupt, where none is taken
+entered_untaken : (now mid : Machine) → HasEntered now mid None → Entering now mid None → is_taken (flat_of now) ≡ false
+entered_untaken now mid entered (Entering.In ready none own untaken) = ap is_taken (sym entered.flat) ∙ untaken
+
+turn_untaken : (now new : Machine) (count : ℕ) (line : Option Line) → is_taken_now now ≡ false → HasTurned now new count line → new.end ≡ None → is_taken (flat_of now) ≡ false
+turn_untaken now new count line none (HasTurned.Interrupted wanted step one no_line) going = absurd (let e : true ≡ false = sym wanted ∙ none in cc)
+turn_untaken now new count line none (HasTurned.Refused end entered zeros no_line) going = absurd (no_end new end (refused_end now new end entered.way) going)
+turn_untaken now new count line none (HasTurned.Stepped mid entered done) going = entered_untaken now mid entered entered.way
+
+single : (at count i steps : ℕ) → AreUntold (Changes at count) i steps → steps ≤ 1
+single at count i steps untold = elim (cases_lt 1 steps) [
+  | inl many ↦ absurd (untold (i + 1) (omega arith) (omega (arith, many)))
+  | inr few ↦ few
+]
+
+pub held_beside : (view : View) (now new : Machine) (i count from to : ℕ) (line : Option Line) (bytes : List ℕ) → AreUntold view i count → HasTurned now new count line → new.end ≡ None → IsSpared view now from to → AreHeld view (flat_of now).now.memory bytes
+    → AreHeldBeside view (flat_of new).now.memory from to bytes
+held_beside (Changes at size) now new i count from to line bytes untold turned going spared held =
+    let next = turn_next now new count line (single at size i count untold) turned going in
+    (spared.0, spared.1, λ k below out. let own = spared.2 k below out in held k below ∙ sym (own.1 (turn_untaken now new count line own.0 turned going) line (flat_of new) next))
+held_beside _ now new i count from to line bytes untold turned going spared held = tt

@@ -1,10 +1,10 @@
--- The run so far behind one turn more.
+-- The run so far behind one turn more, and what a view tells of it.
 use Rattle.std.proofs.Common.{◌≡◌, ℕ, zero, suc, ◌+◌, ◌<◌, ◌≤◌, false, List, [], ◌∷◌, ◌++◌, refl, sym, ap, ◌∙◌, subst, arith}
-use Rattle.std.specs.Prelude.{flat_map, Option, Some, None, Ok}
+use Rattle.std.specs.Prelude.{Option, Some, None, Ok}
 use Rattle.std.proofs.lemmas.List.{append-nil}
 use Rattle.byte_streams.proofs.KnownBytes.{appends-nothing}
 use Rattle.mote_devices.specs.declared.line.Line.{Line}
-use Rattle.flat_machine.specs.FlatMachine.{Run, run, with_line}
+use Rattle.flat_machine.specs.FlatMachine.{Moment, Run, run, with_line}
 use Rattle.flat_machine.proofs.MachineLaws.{run_goes}
 use Rattle.kernel_entry.specs.Seen.{program as program_of}
 use Rattle.kernel_entry.specs.declared.kernel.End.{End}
@@ -20,8 +20,10 @@ use Rattle.tk_run.proofs.Advancing.{IsIn, is_in, between_on, no_end, advanced_en
 use Rattle.tk_run.proofs.Gathered.{take_in}
 use Rattle.tk_run.proofs.InTurn.{lines_so_far, bound_counts}
 use Rattle.tk_watch.specs.Turning.{HasTurned}
-use Rattle.tk_watch.specs.NumberedLines.{numbered_line, numbered_lines}
-use Rattle.tk_watch.proofs.NumberedLaws.{numbered_on, numbered_silent}
+use Rattle.tk_watch.specs.declared.view.View.{View}
+use Rattle.tk_watch.specs.Kept.{IsUntold}
+use Rattle.tk_watch.specs.StepTexts.{step_text, told_text}
+use Rattle.tk_watch.proofs.ToldLaws.{beside_same, told_on, told_silent}
 
 -- where the original stands
 pub left : (old now : Machine) (i : ℕ) (before after : Option (List ℕ)) → (ran : Ran old now i before after) → (original_from old i).state ≡ flat_of now
@@ -49,133 +51,152 @@ step_by old now new i line before after now' (StepWay.Stopped stop over kept non
 step_lines : (old now new : Machine) (i : ℕ) (line : Option Line) (before after : Option (List ℕ)) → IsIn old now i before after → HasStepped now new line → new.end ≡ None → (original_from old (i + 1)).lines ≡ (original_from old i).lines ++ line_before line []
 step_lines old now new i line before after now' step going = step_by old now new i line before after now' step.way going
 
--- in the midst of a turn, where no line was written since i steps
-pub record IsSilent (old now : Machine) (i j : ℕ) (text : List ℕ) : Type 0 where
+-- in the midst of a turn of so many steps, since i of which nothing was told
+pub record IsSilent (view : View) (old now : Machine) (i j : ℕ) (text : List ℕ) : Type 0 where
   pub inside : IsIn old now j (Some []) (Some text)
-  pub told : numbered_lines (original_from old) j ≡ numbered_lines (original_from old) i
+  pub told : told_text view (original_from old) j ≡ told_text view (original_from old) i
 
-silent_on : (n : ℕ) (old now last : Machine) (i : ℕ) (text : List ℕ) → Silently n now last → IsIn old now i (Some []) (Some text) → IsSilent old last i (i + n) text
-silent_on zero old now last i text same now' =
+-- nothing is told of the next steps but the last, unless they write a line
+abbrev pub AreUntold : View → (i count : ℕ) → Type 0
+AreUntold view i count = (step : ℕ) → i < step → step < i + count → IsUntold view step
+
+silent_on : (view : View) (n : ℕ) (old now last : Machine) (i count : ℕ) (text : List ℕ) → n < count → AreUntold view i count → Silently n now last → IsIn old now i (Some []) (Some text) → IsSilent view old last i (i + n) text
+silent_on view zero old now last i count text fewer untold same now' =
     let none : i ≡ i + 0 = omega arith in
-    subst (λ k. IsSilent old last i k text) none (record { inside = subst (λ m. IsIn old m i (Some []) (Some text)) same now'; told = refl })
-silent_on (suc n) old now last i text (y, w, earlier, step, followed) now' =
+    subst (λ k. IsSilent view old last i k text) none (record { inside = subst (λ m. IsIn old m i (Some []) (Some text)) same now'; told = refl })
+silent_on view (suc n) old now last i count text fewer untold (y, w, earlier, step, followed) now' =
     let runs = original_from old in
-    let first = silent_on n old now y i text earlier now' in
+    let first = silent_on view n old now y i count text (omega (arith, fewer)) untold earlier now' in
     let more : i + n + 1 ≡ i + suc n = omega arith in
     let next : i + n + 1 ≡ suc (i + n) = omega arith in
     let going = followed.ready.going in
     let grows = step_lines old y w (i + n) None (Some []) (Some text) first.inside step going in
     let between = between_on old y w (i + n) None (Some []) (Some text) (Some text) first.inside step (appends-nothing (Some text)) going in
-    let whole : IsSilent old last i (i + n + 1) text = record {
+    let whole : IsSilent view old last i (i + n + 1) text = record {
       inside = is_in old w last (i + n + 1) (Some []) (Some text) None between followed.entered refl;
-      told = numbered_silent runs (i + n) (i + n + 1) next (grows ∙ append-nil (runs (i + n)).lines) ∙ first.told;
+      told = told_silent view runs (i + n) (i + n + 1) next (untold (i + n + 1) (omega arith) (omega (arith, fewer))) (grows ∙ append-nil (runs (i + n)).lines) ∙ first.told;
     } in
-    subst (λ k. IsSilent old last i k text) more whole
+    subst (λ k. IsSilent view old last i k text) more whole
 
 -- .. of which the last step is still to come
-pub record IsLast (old now new : Machine) (i count : ℕ) (line : Option Line) (text : List ℕ) : Type 0 where
+pub record IsLast (view : View) (old now new : Machine) (i count : ℕ) (line : Option Line) (text : List ℕ) : Type 0 where
   pub last : Machine
   pub at : ℕ
   pub before : count ≡ 1 + at
-  pub silent : IsSilent old last i (i + at) text
+  pub silent : IsSilent view old last i (i + at) text
   pub step : HasStepped last new line
 
-pub last_of : (old now mid new : Machine) (i count : ℕ) (line : Option Line) (text : List ℕ) → IsBetween old now i (Some []) (Some text) → HasEntered now mid None → HasDone mid new count line → IsLast old now new i count line text
-last_of old now mid new i count line text between entered done = record {
+pub last_of : (view : View) (old now mid new : Machine) (i count : ℕ) (line : Option Line) (text : List ℕ) → AreUntold view i count → IsBetween old now i (Some []) (Some text) → HasEntered now mid None → HasDone mid new count line → IsLast view old now new i count line text
+last_of view old now mid new i count line text untold between entered done = record {
   last = done.last;
   at = done.earlier;
   before = omega (arith, done.counted);
-  silent = silent_on done.earlier old mid done.last i text done.silently (is_in old now mid i (Some []) (Some text) None between entered refl);
+  silent = silent_on view done.earlier old mid done.last i count text (omega (arith, done.counted)) untold done.silently (is_in old now mid i (Some []) (Some text) None between entered refl);
   step = done.step;
 }
 
-pub last_taken : (old now new : Machine) (i count : ℕ) (text : List ℕ) → IsIn old now i (Some []) (Some text) → HasStepped now new None → count ≡ 1 → IsLast old now new i count None text
-last_taken old now new i count text now' step one =
+pub last_taken : (view : View) (old now new : Machine) (i count : ℕ) (text : List ℕ) → IsIn old now i (Some []) (Some text) → HasStepped now new None → count ≡ 1 → IsLast view old now new i count None text
+last_taken view old now new i count text now' step one =
     let none : i ≡ i + 0 = omega arith in
-    record { last = now; at = 0; before = omega (arith, one); silent = subst (λ k. IsSilent old now i k text) none (record { inside = now'; told = refl }); step = step }
+    record { last = now; at = 0; before = omega (arith, one); silent = subst (λ k. IsSilent view old now i k text) none (record { inside = now'; told = refl }); step = step }
 
 -- Behind a turn, where the program goes on.
-pub record HasGone (old new : Machine) (i j : ℕ) (line : Option Line) : Type 0 where
+pub record HasGone (view : View) (old now new : Machine) (i j : ℕ) (line : Option Line) : Type 0 where
   pub text : List ℕ
   pub between : IsBetween old new j (Some []) (Some text)
-  pub told : numbered_lines (original_from old) j ≡ numbered_lines (original_from old) i ++ flat_map (numbered_line j) (line_before line [])
+  pub told : told_text view (original_from old) j ≡ told_text view (original_from old) i ++ step_text view j (line_before line []) (flat_of now).now (flat_of new).now
 
-gone_by : (old now new : Machine) (i count : ℕ) (line : Option Line) (text : List ℕ) → IsLast old now new i count line text → new.end ≡ None → HasGone old new i (i + count) line
-gone_by old now new i count line text last going =
+-- the step before the last of a turn
+told_behind : (view : View) (old now new : Machine) (i count at : ℕ) (line : Option Line) (state : Moment) → AreUntold view i count → count ≡ 1 + at → (original_from old i).state ≡ flat_of now → (original_from old (i + at)).state ≡ state
+    → step_text view (i + count) (line_before line []) state.now (flat_of new).now ≡ step_text view (i + count) (line_before line []) (flat_of now).now (flat_of new).now
+told_behind view old now new i count at line state untold before was is =
+    beside_same view (i + count) (line_before line []) state.now (flat_of now).now (flat_of new).now i at (λ step from to. untold step from (omega (arith, before, to)))
+    (λ none. ap (λ (m : Moment). m.now) (sym is ∙ ap (λ k. (original_from old k).state) (let same : i + at ≡ i = omega (arith, none) in same) ∙ was))
+
+gone_by : (view : View) (old now new : Machine) (i count : ℕ) (line : Option Line) (text : List ℕ) → AreUntold view i count → IsBetween old now i (Some []) (Some text) → IsLast view old now new i count line text → new.end ≡ None → HasGone view old now new i (i + count) line
+gone_by view old now new i count line text untold between last going =
     let runs = original_from old in
     let j = i + last.at in
-    let next : j + 1 ≡ suc j = omega arith in
-    let same : j + 1 ≡ i + count = omega (arith, last.before) in
+    let next : i + count ≡ suc j = omega (arith, last.before) in
+    let one : j + 1 ≡ i + count = omega (arith, last.before) in
     let more = lines_text (line_before line []) in
-    let whole : HasGone old new i (j + 1) line = record {
+    let behind : IsBetween old new (i + count) (Some []) (Some (text ++ more)) =
+    subst (λ k. IsBetween old new k (Some []) (Some (text ++ more))) one (between_on old last.last new j line (Some []) (Some text) (Some (text ++ more)) last.silent.inside last.step refl going) in
+    let grows : (runs (i + count)).lines ≡ (runs j).lines ++ line_before line [] =
+    subst (λ k. (runs k).lines ≡ (runs j).lines ++ line_before line []) one (step_lines old last.last new j line (Some []) (Some text) last.silent.inside last.step going) in
+    record {
       text = text ++ more;
-      between = between_on old last.last new j line (Some []) (Some text) (Some (text ++ more)) last.silent.inside last.step refl going;
-      told = numbered_on runs j (j + 1) (line_before line []) next (step_lines old last.last new j line (Some []) (Some text) last.silent.inside last.step going)
-          ∙ ap (λ t. t ++ flat_map (numbered_line (j + 1)) (line_before line [])) last.silent.told;
-    } in
-    subst (λ k. HasGone old new i k line) same whole
+      between = behind;
+      told = told_on view runs j (i + count) (line_before line []) (flat_of new) next grows (left old new (i + count) (Some []) (Some (text ++ more)) behind.ran)
+          ∙ ap (λ t. told_text view runs j ++ t) (told_behind view old now new i count last.at line (runs j).state untold last.before (left old now i (Some []) (Some text) between.ran) refl)
+          ∙ ap (λ t. t ++ step_text view (i + count) (line_before line []) (flat_of now).now (flat_of new).now) last.silent.told;
+    }
 
-refused_end : (now new : Machine) (end : End) → Entering now new (Some end) → new.end ≡ Some end
+pub refused_end : (now new : Machine) (end : End) → Entering now new (Some end) → new.end ≡ Some end
 refused_end now new end (Entering.Out over kept outside) = kept
 refused_end now new end (Entering.Failed op over kept inside fault) = kept
 
-pub gone : (old now new : Machine) (i count : ℕ) (line : Option Line) (text : List ℕ) → IsBetween old now i (Some []) (Some text) → HasTurned now new count line → new.end ≡ None → HasGone old new i (i + count) line
-gone old now new i count line text between (HasTurned.Interrupted wanted step one none) going =
-    subst (λ l. HasGone old new i (i + count) l) (sym none) (gone_by old now new i count None text (last_taken old now new i count text (take_in old now i (Some []) (Some text) between wanted) step one) going)
-gone old now new i count line text between (HasTurned.Refused end entered zeros none) going = absurd (no_end new end (refused_end now new end entered.way) going)
-gone old now new i count line text between (HasTurned.Stepped mid entered done) going = gone_by old now new i count line text (last_of old now mid new i count line text between entered done) going
+pub gone : (view : View) (old now new : Machine) (i count : ℕ) (line : Option Line) (text : List ℕ) → AreUntold view i count → IsBetween old now i (Some []) (Some text) → HasTurned now new count line → new.end ≡ None → HasGone view old now new i (i + count) line
+gone view old now new i count line text untold between (HasTurned.Interrupted wanted step one none) going =
+    subst (λ l. HasGone view old now new i (i + count) l) (sym none) (gone_by view old now new i count None text untold between (last_taken view old now new i count text (take_in old now i (Some []) (Some text) between wanted) step one) going)
+gone view old now new i count line text untold between (HasTurned.Refused end entered zeros none) going = absurd (no_end new end (refused_end now new end entered.way) going)
+gone view old now new i count line text untold between (HasTurned.Stepped mid entered done) going = gone_by view old now new i count line text untold between (last_of view old now mid new i count line text untold between entered done) going
 
--- Behind a turn in which the program ended, with no line more.
-pub record HasEnded (old new : Machine) (i count n : ℕ) (end : End) : Type 0 where
+-- Behind a turn in which the program ended, with nothing told more.
+pub record HasEnded (view : View) (old new : Machine) (i count n : ℕ) (end : End) : Type 0 where
   pub text : List ℕ
   pub advanced : HasAdvanced old new n (Some []) (Some text) (Ok end)
   pub done : ℕ
-  pub steps : new.steps ≡ old.steps + done
+  pub most : done ≤ i + count
   pub one : count ≤ 1 → done ≡ i
-  pub told : numbered_lines (original_from old) done ≡ numbered_lines (original_from old) i
+  pub steps : new.steps ≡ old.steps + done
+  pub told : told_text view (original_from old) done ≡ told_text view (original_from old) i
 
-stopped_by : (old now new : Machine) (i count n : ℕ) (line : Option Line) (end : End) (text : List ℕ) → old.end ≡ None → old.broken ≡ false → i + count ≤ n → (last : IsLast old now new i count line text) → StepWay last.last new line → new.end ≡ Some end → HasEnded old new i count n end
-stopped_by old now new i count n line end text going whole within last (StepWay.On ready quiet steps is) ended = absurd (no_end new end ended ready.going)
-stopped_by old now new i count n line end text going whole within last (StepWay.Stopped stop over kept none steps is same) ended =
+stopped_by : (view : View) (old now new : Machine) (i count n : ℕ) (line : Option Line) (end : End) (text : List ℕ) → old.end ≡ None → old.broken ≡ false → i + count ≤ n → (last : IsLast view old now new i count line text) → StepWay last.last new line → new.end ≡ Some end → HasEnded view old new i count n end
+stopped_by view old now new i count n line end text going whole within last (StepWay.On ready quiet steps is) ended = absurd (no_end new end ended ready.going)
+stopped_by view old now new i count n line end text going whole within last (StepWay.Stopped stop over kept none steps is same) ended =
     let more = lines_text (line_before line []) in
     record {
       text = text ++ more;
       advanced = advanced_stop old last.last new (i + last.at) n line end (Some []) (Some text) (Some (text ++ more)) going whole (omega (arith, last.before, within)) last.silent.inside last.step last.step.way refl ended;
       done = i + last.at;
-      steps = steps ∙ last.silent.inside.ran.steps;
+      most = omega (arith, last.before);
       one = λ few. omega (arith, last.before, few);
+      steps = steps ∙ last.silent.inside.ran.steps;
       told = last.silent.told;
     }
 
-refused_by : (old now new : Machine) (i count n : ℕ) (end other : End) (text : List ℕ) → old.end ≡ None → old.broken ≡ false → i < n → IsBetween old now i (Some []) (Some text) → HasEntered now new (Some other) → new.end ≡ Some end → HasEnded old new i count n end
-refused_by old now new i count n end other text going whole below between entered ended =
+refused_by : (view : View) (old now new : Machine) (i count n : ℕ) (end other : End) (text : List ℕ) → old.end ≡ None → old.broken ≡ false → i < n → IsBetween old now i (Some []) (Some text) → HasEntered now new (Some other) → new.end ≡ Some end → HasEnded view old new i count n end
+refused_by view old now new i count n end other text going whole below between entered ended =
     let same : Some other ≡ Some end = sym (refused_end now new other entered.way) ∙ ended in
     record {
       text = text;
       advanced = advanced_enter old now new i n (Some []) (Some text) (Some other) end going whole below between entered entered.way same;
       done = i;
-      steps = entered.steps ∙ between.ran.steps;
+      most = omega arith;
       one = λ few. refl;
+      steps = entered.steps ∙ between.ran.steps;
       told = refl;
     }
 
-pub ended : (old now new : Machine) (i count n : ℕ) (line : Option Line) (end : End) (text : List ℕ) → old.end ≡ None → old.broken ≡ false → i < n → i + count ≤ n → IsBetween old now i (Some []) (Some text) → HasTurned now new count line → new.end ≡ Some end → HasEnded old new i count n end
-ended old now new i count n line end text going whole below within between (HasTurned.Interrupted wanted step one none) over =
-    let last = last_taken old now new i count text (take_in old now i (Some []) (Some text) between wanted) step one in
-    stopped_by old now new i count n None end text going whole within last last.step.way over
-ended old now new i count n line end text going whole below within between (HasTurned.Refused other entered zeros none) over = refused_by old now new i count n end other text going whole below between entered over
-ended old now new i count n line end text going whole below within between (HasTurned.Stepped mid entered done) over =
-    let last = last_of old now mid new i count line text between entered done in
-    stopped_by old now new i count n line end text going whole within last last.step.way over
+pub ended : (view : View) (old now new : Machine) (i count n : ℕ) (line : Option Line) (end : End) (text : List ℕ) → AreUntold view i count → old.end ≡ None → old.broken ≡ false → i < n → i + count ≤ n → IsBetween old now i (Some []) (Some text) → HasTurned now new count line → new.end ≡ Some end → HasEnded view old new i count n end
+ended view old now new i count n line end text untold going whole below within between (HasTurned.Interrupted wanted step one none) over =
+    let last = last_taken view old now new i count text (take_in old now i (Some []) (Some text) between wanted) step one in
+    stopped_by view old now new i count n None end text going whole within last last.step.way over
+ended view old now new i count n line end text untold going whole below within between (HasTurned.Refused other entered zeros none) over = refused_by view old now new i count n end other text going whole below between entered over
+ended view old now new i count n line end text untold going whole below within between (HasTurned.Stepped mid entered done) over =
+    let last = last_of view old now mid new i count line text untold between entered done in
+    stopped_by view old now new i count n line end text going whole within last last.step.way over
 
 -- Where all steps are done.
-pub bound : (old now new : Machine) (n : ℕ) (end : End) (text : List ℕ) → old.end ≡ None → old.broken ≡ false → IsBetween old now n (Some []) (Some text) → HasBound now new end → HasEnded old new n 1 n end
-bound old now new n end text going whole between is = record {
+pub bound : (view : View) (old now new : Machine) (n : ℕ) (end : End) (text : List ℕ) → old.end ≡ None → old.broken ≡ false → IsBetween old now n (Some []) (Some text) → HasBound now new end → HasEnded view old new n 0 n end
+bound view old now new n end text going whole between is = record {
   text = text;
   advanced = advanced_bound old now new n (Some []) (Some text) end going whole between is;
   done = n;
-  steps = bound_counts now new end is ∙ between.ran.steps;
+  most = omega arith;
   one = λ few. refl;
+  steps = bound_counts now new end is ∙ between.ran.steps;
   told = refl;
 }
 

@@ -1,5 +1,5 @@
 -- The device lines of a run, each with the number of the step that wrote it.
-use Rattle.std.specs.Prelude.{◌≡◌, ℕ, zero, suc, List, [], ◌∷◌, ◌++◌, length, drop, flat_map, codes, decimal}
+use Rattle.std.specs.Prelude.{◌≡◌, ℕ, suc, List, [], ◌∷◌, ◌++◌, length, drop, codes, decimal}
 use Rattle.mote_devices.specs.declared.line.Line.{Line}
 use Rattle.flat_machine.specs.FlatMachine.{Run}
 use Rattle.printed_text.specs.DeviceLines.{device_line_text}
@@ -12,11 +12,6 @@ lines_behind runs k = drop (length (runs k).lines) (runs (suc k)).lines
 -- a device line behind the number of the step that wrote it
 unfoldable pub numbered_line : (step : ℕ) → Line → List ℕ
 numbered_line step line = codes "step " ++ decimal step ++ codes " " ++ device_line_text line
-
--- the lines of the first n steps, each with its step
-abbrev pub numbered_lines : (ℕ → Run) → ℕ → List ℕ
-numbered_lines runs zero = []
-numbered_lines runs (suc k) = numbered_lines runs k ++ flat_map (numbered_line (suc k)) (lines_behind runs k)
 
 -- a text tells just these lines, each behind some number
 abbrev pub TellsNumbered : List Line → List ℕ → Type 0

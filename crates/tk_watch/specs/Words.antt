@@ -11,8 +11,9 @@ use Rattle.byte_streams.specs.Streams.{Input}
 use Rattle.cli_requests.specs.Asking.{Asks, Warrants, wanted}
 use Rattle.tk_watch.specs.declared.view.View.{View}
 use Rattle.tk_watch.specs.declared.view.View.TheVariants.{Lines, State, Memory, Profile}
+use Rattle.tk_watch.specs.ViewWords.{AskWithWords}
 
--- the table of the views: the word of each
+-- the table of the views that are one word
 abbrev pub views : List (List ℕ × View)
 views = (codes "lines", Lines) ∷ (codes "state", State) ∷ (codes "memory", Memory) ∷ (codes "profile", Profile) ∷ []
 
@@ -21,13 +22,17 @@ abbrev pub view_in : List (List ℕ × View) → List ℕ → Option View
 view_in [] word = None
 view_in (row ∷ rows) word = if bytes_eq word row.0 then Some row.1 else view_in rows word
 
--- the words ask for a view of a run with these options, which stand behind the word of the view as they do behind `run`
+-- the words ask for a view, by its own word or with some behind it, and others stand behind
+abbrev pub AskForView : List (List ℕ) → (behind : List (List ℕ)) → View → Type 0
+AskForView [] behind view = ⊥
+AskForView (word ∷ rest) behind view = ((view_in views word ≡ Some view) × (behind ≡ rest)) ⊎ AskWithWords word rest behind view
+
+-- the words ask for a view of a run with these options, which stand behind the words of the view as they do behind `run`
 abbrev pub AskToWatch : List (List ℕ) → View → RunOptions → Type 0
-AskToWatch [] view options = ⊥
-AskToWatch (word ∷ rest) view options = (view_in views word ≡ Some view) × IsCommand (codes "run" ∷ rest) (Run options)
+AskToWatch words view options = (behind : List (List ℕ)) × AskForView words behind view × IsCommand (codes "run" ∷ behind) (Run options)
 
 abbrev pub usage_text : List ℕ
-usage_text = codes "usage: tkwatch lines | state | memory | profile [--steps N] [--quantum Q] [--swap S]\n"
+usage_text = codes "usage: tkwatch lines | state | memory | profile | trace N COUNT | visits 0xPC.. | changes 0xADDR COUNT [--steps N] [--quantum Q] [--swap S]\n"
 
 abbrev pub usage : Status → Job
 usage own = Print own (record { items = usage_text })

@@ -31,7 +31,13 @@ pub(crate) fn no_counts(alloc: Global) -> Result<Vec<u64>, AllocError>
 }
 
 /// Does up to n steps, and counts those that began at each address.
-pub(crate) fn counted_steps(k: &mut Kernel, p: &mut Progress, n: u64, counts: &mut [u64]) -> End
+pub(crate) fn counted_steps(
+    k: &mut Kernel,
+    p: &mut Progress,
+    cursor: &mut Cursor,
+    n: u64,
+    counts: &mut [u64],
+) -> End
     requires going { p.old.end ≡ None }
     requires whole { p.old.broken ≡ false }
     requires ready { IsGoing (whole k.old p.old) }
@@ -44,18 +50,18 @@ pub(crate) fn counted_steps(k: &mut Kernel, p: &mut Progress, n: u64, counts: &m
     ensures counted { HasCounted (whole k.old p.old) (whole k.new p.new) n counts.new result }
     ensures size { length counts.new ≡ 65536 }
 {
-    let mut cursor = Cursor::new();
+    cursor.forget();
     let mut done = 0;
     'turns: while done < n {
         // The read tells the proof that it is an address.
         let _at = p.at;
-        let one = counted_turn(k, p, &mut cursor, counts);
+        let one = counted_turn(k, p, cursor, counts);
         if let Some(end) = p.end {
             return end;
         }
         done += one;
     }
-    at_bound(k, p, &mut cursor)
+    at_bound(k, p, cursor)
 }
 
 /// One turn of at most one step. Where the program goes on behind it, it is counted at the address at which it began.

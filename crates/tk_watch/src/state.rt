@@ -7,15 +7,17 @@ ghost use Rattle.heap_frames.specs.Paged.{IsPaged};
 ghost use Rattle.line_gathering.specs.Gathering.{Gathers};
 ghost use Rattle.mote_devices.specs.State.{stored, mask_address};
 ghost use Rattle.program_steps.specs.Machines.{flat_of};
+ghost use Rattle.program_steps.specs.Wholes.{whole};
 ghost use Rattle.tk_watch.specs.Rows.{rows};
 ghost use Rattle.tk_watch.specs.StateText.{core_text as core_of, counts_text as counts_of, of_all, register_text as register_of, requests_text as requests_of, state_text, taken_of};
 
 use byte_streams::{Failed, Sink};
+use kernel_entry::Kernel;
 use line_gathering::{Gathered, add};
-use line_writer::{Text, push, push_address, push_byte, push_number, whole};
+use line_writer::{Text, push, push_address, push_byte, push_number, whole as whole_text};
 use mote_core::Mote;
 use mote_devices::Devices;
-use tk_run::Machine;
+use program_steps::Progress;
 
 /// How many slots there are, and how many events.
 #[derive(Clone, Copy)]
@@ -27,16 +29,18 @@ pub(crate) struct Bounds {
 /// Gathers the lines of the state of a machine: the core with its registers; the polls, the events and the pages of the heap; then
 /// the interrupts and the operations on flash.
 pub(crate) fn tell_state<K: Sink>(
-    machine: &Machine,
+    k: &Kernel,
+    p: &Progress,
     bounds: Bounds,
     gathered: &mut Gathered,
     out: &mut K,
 ) -> Result<(), Failed>
-    ensures text { Gathers gathered.old.items gathered.new.items (K.taken out.old) (K.taken out.new) result (state_text bounds.slots bounds.events machine.now.kernel.mote.flash.ops (flat_of machine.now).now) }
+    requires paged { IsPaged k.now.mote.sram k.now.mote.swap }
+    ensures text { Gathers gathered.old.items gathered.new.items (K.taken out.old) (K.taken out.new) result (state_text bounds.slots bounds.events k.now.mote.flash.ops (flat_of (whole k.now p.now)).now) }
     ensures cause { HasCause (K.faults out.old) (K.faults out.new) result }
 {
-    let mote = &machine.kernel.mote;
-    let core = core_text(machine.at, mote.sram.vsp(), mote.cpu.sreg);
+    let mote = &k.mote;
+    let core = core_text(p.at, mote.sram.vsp(), mote.cpu.sreg);
     add(&core, gathered, out)?;
     tell_registers_and_counts(mote, bounds, gathered, out)
 }
@@ -104,7 +108,7 @@ fn tell_counts<K: Sink>(
 fn core_text(pc: u16, sp: u16, sreg: u8) -> Text
     ensures text { result.items ≡ core_of pc sp sreg }
 {
-    let mut text = whole(b"pc ");
+    let mut text = whole_text(b"pc ");
     push_address(&mut text, pc);
     push(&mut text, b"\nsp ");
     push_address(&mut text, sp);
@@ -119,7 +123,7 @@ fn core_text(pc: u16, sp: u16, sreg: u8) -> Text
 fn register_text(number: u8, value: u8) -> Text
     ensures text { result.items ≡ register_of number value }
 {
-    let mut text = whole(b"r");
+    let mut text = whole_text(b"r");
     push_number(&mut text, u64::from(number));
     push(&mut text, b" ");
     push_byte(&mut text, value);
@@ -152,7 +156,7 @@ fn events_taken(devices: &Devices, events: usize) -> usize
 fn counts(polls: u64, events: (u64, u64), pages: (u8, u8)) -> Text
     ensures text { result.items ≡ counts_of polls events.0 events.1 pages.0 pages.1 }
 {
-    let mut text = whole(b"polls ");
+    let mut text = whole_text(b"polls ");
     push_number(&mut text, polls);
     push(&mut text, b"\nevents ");
     push_of(&mut text, events.0, events.1);
@@ -178,7 +182,7 @@ fn push_of(text: &mut Text, number: u64, all: u64)
 fn requests_text(enabled: u8, requested: u8, operations: u64) -> Text
     ensures text { result.items ≡ requests_of enabled requested operations }
 {
-    let mut text = whole(b"enabled ");
+    let mut text = whole_text(b"enabled ");
     push_byte(&mut text, enabled);
     push(&mut text, b"\n");
     push(&mut text, b"requested ");

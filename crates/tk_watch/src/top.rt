@@ -8,13 +8,18 @@ ghost use Rattle.byte_streams.specs.Streams.{input_of};
 ghost use Rattle.cli_words.specs.Stream.{stream};
 ghost use Rattle.tkernel_cli.specs.Runs.{Says, original_of};
 ghost use Rattle.tk_watch.specs.declared.view.View.{View};
+ghost use Rattle.tk_watch.specs.declared.view.View.TheVariants.{Lines};
 ghost use Rattle.tk_watch.specs.Answer.{IsAnswer, IsExact};
-ghost use Rattle.tk_watch.specs.NumberedLines.{TellsNumbered, numbered_lines};
+ghost use Rattle.tk_watch.specs.Kept.{IsPossible};
+ghost use Rattle.tk_watch.specs.NumberedLines.{TellsNumbered};
+ghost use Rattle.tk_watch.specs.StepTexts.{told_text};
 ghost use Rattle.tk_watch.specs.Views.{Shows};
 ghost use Rattle.tk_watch.specs.Words.{AskForHelp, AskToWatch};
 
-use crate::showing::{show_lines, show_memory, show_profile, show_state};
+use crate::showing::{show, started};
+use crate::state::Bounds;
 use crate::view::View;
+use crate::words::view_of;
 use byte_streams::{Sink, Source};
 use cli_requests::run_job;
 use cli_words::{Job, Request, RunOptions, Status, run_options_of};
@@ -23,7 +28,7 @@ use tkernel_cli::say;
 
 /// What is printed where the words ask for no view.
 const USAGE: &[u8] =
-    b"usage: tkwatch lines | state | memory | profile [--steps N] [--quantum Q] [--swap S]\n";
+    b"usage: tkwatch lines | state | memory | profile | trace N COUNT | visits 0xPC.. | changes 0xADDR COUNT [--steps N] [--quantum Q] [--swap S]\n";
 
 /// Answers a command line. `words` are those after the program's name: the word of a view, and behind it the options of
 /// `tkernel run`. The program that `input` tells runs as `tkernel run` has it run, and what the view shows of it is put to `out`,
@@ -47,11 +52,11 @@ pub fn tkwatch<S: Source, K: Sink>(
         (stream K.taken K.faults out.old) (stream K.taken K.faults out.new)
         result }
     // What the lines of a run are told by is each line that `run` prints of it, behind a number.
-    ensures lines { (request : RequestValue) (n : ℕ) → TellsNumbered (original_of request n).lines (numbered_lines (original_of request) n) }
+    ensures lines { (request : RequestValue) (n : ℕ) → TellsNumbered (original_of request n).lines (told_text Lines (original_of request) n) }
 {
     match asked(words) {
         Some((view, options)) => match run_job(alloc, options, input) {
-            Job::Run(request) => show(alloc, view, request, out),
+            Job::Run(request) => show_run(alloc, &view, request, out),
             Job::Print(status, line) => say(status, &line, out),
             // `run` asks for no other job.
             _ => Status::Usage,
@@ -64,13 +69,10 @@ pub fn tkwatch<S: Source, K: Sink>(
 fn asked(words: &[String]) -> Option<(View, RunOptions)>
     ensures cases { MatchOption result
         ((view : View) (options : RunOptions) → ¬ AskToWatch (map string_bytes words.now) view options)
-        (λ found. AskToWatch (map string_bytes words.now) found.0 found.1 × AreOptions found.1) }
+        (λ found. AskToWatch (map string_bytes words.now) found.0 found.1 × AreOptions found.1 × IsPossible found.0) }
 {
-    let [word, rest @ ..] = words else {
-        return None;
-    };
-    let view = View::of(word.as_str())?;
-    let options = run_options_of(rest)?;
+    let (view, behind) = view_of(words)?;
+    let options = run_options_of(behind)?;
     Some((view, options))
 }
 
@@ -85,15 +87,21 @@ fn usage_status(words: &[String]) -> Status
 }
 
 /// Runs a request, and puts what a view shows of it.
-fn show<K: Sink>(alloc: Global, view: View, request: Request, out: &mut K) -> Status
-    requires possible { AreOptions request.options }
-    ensures shows { Shows view request (stream K.taken K.faults out.old) (stream K.taken K.faults out.new) result
+fn show_run<K: Sink>(alloc: Global, view: &View, request: Request, out: &mut K) -> Status
+    requires options { AreOptions request.options }
+    requires possible { IsPossible view.now }
+    ensures shows { Shows view.now request (stream K.taken K.faults out.old) (stream K.taken K.faults out.new) result
         ⊎ Says NoMemory (codes "no memory\n") (stream K.taken K.faults out.old) (stream K.taken K.faults out.new) result }
 {
-    match view {
-        View::Lines => show_lines(alloc, request, out),
-        View::State => show_state(alloc, request, out),
-        View::Memory => show_memory(alloc, request, out),
-        View::Profile => show_profile(alloc, request, out),
-    }
+    let Request {
+        image,
+        script,
+        options,
+    } = request;
+    let bounds = Bounds {
+        slots: options.swap,
+        events: script.events().len(),
+    };
+    let begun = started(alloc, &image, script, options);
+    show(view, bounds, begun, options.steps, out)
 }

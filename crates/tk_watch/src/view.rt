@@ -1,9 +1,18 @@
 //! What is shown of a watched run.
-ghost use Rattle.std.specs.Prelude.{◌≡◌};
-ghost use Rattle.tk_watch.specs.Words.{view_in, views};
+
+use arrayvec::ArrayVec;
+
+/// How many places are looked for at most.
+pub const MOST_PLACES: usize = 16;
+
+/// How many bytes are watched at most.
+pub const MOST_BYTES: usize = 64;
+
+/// Word addresses.
+pub type Places = ArrayVec<u16, MOST_PLACES>;
 
 /// What is shown of a watched run.
-#[derive(Clone, Copy)]
+#[derive(Drop)]
 pub enum View {
     /// Each device line, with its step.
     Lines,
@@ -13,19 +22,10 @@ pub enum View {
     Memory,
     /// How many steps began at each address.
     Profile,
-}
-
-impl View {
-    /// The view of this word.
-    pub fn of(word: &str) -> Option<View>
-        ensures view { result ≡ view_in views word.now }
-    {
-        Some(match word {
-            "lines" => View::Lines,
-            "state" => View::State,
-            "memory" => View::Memory,
-            "profile" => View::Profile,
-            _ => return None,
-        })
-    }
+    /// What stands after so many steps, and after each later one, so many times.
+    Trace(u64, u64),
+    /// After which steps the program stands at one of these word addresses.
+    Visits(Places),
+    /// Which of the bytes from a data address on a step changes, so many of them.
+    Changes(u16, u8),
 }

@@ -9,7 +9,7 @@ use Rattle.cli_words.specs.Printed.{no_memory}
 use Rattle.cli_words.specs.Stream.{Stream}
 use Rattle.byte_streams.specs.Streams.{Input}
 use Rattle.cli_requests.proofs.Judging.{memory_asked}
-use Rattle.cli_requests.proofs.Reasons.{Wanting, Same, why}
+use Rattle.cli_requests.proofs.Reasons.{Wanting, Same, why, usage_asked}
 use Rattle.tkernel_cli.specs.declared.top.Exit.{Exit}
 use Rattle.tkernel_cli.specs.Answer.{Does, IsAnswer, IsExact}
 use Rattle.tkernel_cli.specs.Jobs.{DoesAlone}
@@ -37,9 +37,14 @@ answer_tasks words source source' sink sink' job request exit asked is (inl done
 answer_tasks words source source' sink sink' job request exit asked is (inr none) =
     record { job = no_memory; asked = memory_asked words source source' (jobs.Tasks request) tt (subst (IsAsked words source source') is asked); done = none }
 
--- what is asked for is what is warranted, but for want of memory
+-- what is asked for is what is warranted, but for want of memory, which the usage line doesn't want
 pub answer_is_exact : (words : List (List ℕ)) (source source' : Input) (sink sink' : Stream) (exit : Exit) → IsAnswer words source source' sink sink' exit → IsExact words source source' sink sink' exit
-answer_is_exact words source source' sink sink' exit answer whole warranted = elim (why words source source' answer.job whole answer.asked warranted) [
-  | Wanting is ↦ inl (subst (λ j. Does j sink sink' exit) is answer.done)
-  | Same is ↦ inr (subst (λ j. Does j sink sink' exit) is answer.done)
-]
+answer_is_exact words source source' sink sink' exit answer = record {
+  done = λ whole warranted. elim (why words source source' answer.job whole answer.asked warranted) [
+    | Wanting is ↦ inl (subst (λ j. Does j sink sink' exit) is answer.done)
+    | Same is ↦ inr (subst (λ j. Does j sink sink' exit) is answer.done)
+  ];
+  usage = λ own usage.
+      let asked = usage_asked words source source' own answer.job usage answer.asked in
+      (subst (λ j. Does j sink sink' exit) asked.0 answer.done, asked.1);
+}

@@ -1,5 +1,5 @@
--- Lemmas on a whole run, on texts that are put one after another, on the runs of several tasks, and on what words and an input
--- ask for.
+-- Lemmas on a whole run, on texts that are put one after another, on the runs of several tasks, on what words and an input ask
+-- for, and on what stands behind a run.
 pub mod Putting
 pub mod RunEnds
 pub mod LostFlash
@@ -7,3 +7,4 @@ pub mod RestartEnds
 mod DoneJobs
 mod TasksEnds
 pub mod Exactly
+mod GoingOn

@@ -1,5 +1,5 @@
 -- Texts that are put one after another.
-use Rattle.std.proofs.Common.{ℕ, ◌≤◌, List, ◌++◌, take, refl, arith, inl, inr}
+use Rattle.std.proofs.Common.{ℕ, ◌≤◌, List, ◌++◌, take, append_assoc, refl, sym, subst, arith, inl, inr}
 use Rattle.std.specs.Prelude.{Option}
 use Rattle.std.specs.Io.KnownBytes.{Appends}
 use Rattle.byte_streams.specs.Faults.{Rose}
@@ -31,6 +31,11 @@ begun_on own told before mid now lines text put said = elim said [
 -- also where what is behind it is cut short
 pub begun_cut : (before mid now : Option (List ℕ)) (front text : List ℕ) → Appends before mid front → CutShort mid now text → Begins before now front
 begun_cut before mid now front text put cut = (take cut.0 text, appends-both before mid now front (take cut.0 text) put cut.2)
+
+-- and where what is behind it begins with a text
+pub begun_behind : (before mid now : Option (List ℕ)) (front text : List ℕ) → Appends before mid front → Begins mid now text → Begins before now (front ++ text)
+begun_behind before mid now front text put begun =
+    (begun.0, subst (Appends before now) (sym (append_assoc front text begun.0)) (appends-both before mid now front (text ++ begun.0) put begun.1))
 
 -- or behind one that was cut short
 pub said_cut : (own : Status) (before now : Stream) (lines text : List ℕ) → Rose before.faults now.faults → CutShort before.told now.told lines → Says own (lines ++ text) before now status.WriteFault

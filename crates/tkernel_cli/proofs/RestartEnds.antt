@@ -24,7 +24,7 @@ use Rattle.tkernel_cli.specs.DumpRuns.{silent}
 use Rattle.tkernel_cli.specs.RestartRuns.{RunsOver, second_start}
 use Rattle.cli_words.specs.Stream.{Stream}
 use Rattle.tkernel_cli.specs.Runs.{Says, Runs, last_text, status_of_stop}
-use Rattle.tkernel_cli.proofs.RunEnds.{ended_to, until_cut, err_rose}
+use Rattle.tkernel_cli.proofs.RunEnds.{BeginInTurn, ended_to, until_cut, err_rose}
 
 -- a sink that never fails cuts no run short
 never_rose : Rose 0 0 → ⊥
@@ -58,12 +58,12 @@ over_answered request flash line before first mid now told result end m faithful
 pub over_cut : (request : Request) (flash : Memory) (line : List ℕ) (before first now : Stream) (result : Result MachineEnd Failed) (failed : Failed) (m : Machine)
     → IsFaithful (layout_of (length request.image)) request.image flash.words → IsKept (second_start request flash) → request.options.steps ≤ 10 ^ 9
     → Appends before.told first.told line → before.faults ≤ first.faults
-    → HasAdvanced (second_start request flash) m request.options.steps first.told now.told result → result ≡ Err failed → HasCause first.faults now.faults result
+    → HasAdvanced (second_start request flash) m request.options.steps first.told now.told result → result ≡ Err failed → HasCause first.faults now.faults result → BeginInTurn request m first.told now.told
     → RunsOver request flash line before now status.WriteFault m
-over_cut request flash line before first now result failed m faithful kept bound put later advanced is cause =
+over_cut request flash line before first now result failed m faithful kept bound put later advanced is cause turns =
     let run = run_over request.image flash request.script request.options.quantum request.options.swap request.options.steps first.told now.told result m faithful kept (omega arith) advanced in
     RunsOver.Cut (until_cut request (second_start request flash) [] line before first now failed m refl refl put later
-    (subst (λ r. HasWholeOver request.image flash request.script request.options.quantum request.options.swap request.options.steps first.told now.told r m) is run) (err_rose result failed first.faults now.faults is cause.failed))
+    (subst (λ r. HasWholeOver request.image flash request.script request.options.quantum request.options.swap request.options.steps first.told now.told r m) is run) (err_rose result failed first.faults now.faults is cause.failed) turns)
 
 pub held_silent : (request : Request) (ended : Status) (m : Machine) → Runs request silent silent ended m → image_held m.kernel ≡ request.image
 held_silent request ended m runs = ap (λ (p : Program). p.image) (program_silent request ended m runs)

@@ -1,6 +1,6 @@
 -- A whole run, with its last two lines, as the answer tells it.
-use Rattle.std.proofs.Common.{◌≡◌, ℕ, ◌/◌, ◌≤◌, List, [], ◌++◌, append_assoc, refl, sym, ap, ap₂, ◌∙◌, subst, arith, inl}
-use Rattle.std.specs.Prelude.{◌≢◌, None, Result, Ok, Err, OnErr, ◌^◌}
+use Rattle.std.proofs.Common.{◌≡◌, ℕ, ◌*◌, ◌/◌, ◌<◌, ◌≤◌, List, [], ◌++◌, append_assoc, refl, sym, ap, ap₂, ◌∙◌, subst, arith, inl}
+use Rattle.std.specs.Prelude.{◌≢◌, Option, None, Result, Ok, Err, OnErr, ◌^◌}
 use Rattle.std.specs.Io.KnownBytes.{Appends}
 use Rattle.byte_streams.specs.declared.failure.Failed.{Failed}
 use Rattle.byte_streams.specs.Faults.{Rose, HasCause}
@@ -24,8 +24,8 @@ use Rattle.cli_words.specs.declared.status.Status.{Status}
 use Rattle.cli_words.specs.declared.status.Status.TheVariants as status
 use Rattle.tkernel_cli.specs.DumpRuns.{silent}
 use Rattle.cli_words.specs.Stream.{Stream}
-use Rattle.tkernel_cli.specs.Runs.{Says, Runs, RunsToTheEnd, RunsUntilCut, Follows, KeepsEnd, own_program, original_of, first_start, whole_run, checkpoints_of, count_line_of, last_text, run_text, status_of_end, status_of_stop}
-use Rattle.tkernel_cli.proofs.Putting.{rose_on, said_on, begun_on, begun_cut}
+use Rattle.tkernel_cli.specs.Runs.{Says, Begins, Runs, RunsToTheEnd, RunsUntilCut, Follows, KeepsEnd, own_program, original_of, first_start, whole_run, checkpoints_of, count_line_of, last_text, run_text, status_of_end, status_of_stop}
+use Rattle.tkernel_cli.proofs.Putting.{rose_on, said_on, begun_on, begun_cut, begun_behind}
 
 -- the last two lines, by the original's counts
 last_lines : (end : MachineEnd) (m : Machine) (steps crossings quantum : ℕ) → m.steps ≡ steps → m.crossings ≡ crossings → m.kernel.quantum ≡ quantum
@@ -74,6 +74,7 @@ ended request start failing front before first mid now told end m status how beg
       said = said_on (status_of_end r.end) told before first now front _ put earlier behind;
       begun = begun_on (status_of_stop end) told before.told mid now (front ++ lines_text r.lines) _ (appends-both before.told first.told mid.told front (lines_text r.lines) put run.put) said;
       within = run.within;
+      all = run.all;
       end = subst (λ e. KeepsEnd e m) run.same (keeps_end (flat_end end) end m refl run.kept);
       unrefused = run.unrefused;
       follows = follows_by request start request.options.steps m began alone run.ready.sound run.at;
@@ -117,15 +118,20 @@ ended_to request start failing front before first mid now told (ends.Stopped sto
 ended_to request start failing front before first mid now told (ends.Wild t) m began alone put earlier run unfailed later said = ended request start failing front before first mid now told (ends.Wild t) m refl refl began alone put earlier run later said
 ended_to request start failing front before first mid now told (ends.Flash op) m began alone put earlier run unfailed later said = absurd (unfailed op refl)
 
+-- at each turn that the machine went past all lines up to there went out
+abbrev pub BeginInTurn : Request → Machine → (before now : Option (List ℕ)) → Type 0
+BeginInTurn request m before now = (turn : ℕ) → 65536 * turn < m.steps → Begins before now (lines_text (original_of request (65536 * turn)).lines)
+
 -- a run whose line could not be put
 pub until_cut : (request : Request) (start : Machine) (failing front : List ℕ) (before first now : Stream) (failed : Failed) (m : Machine) → start.began ≡ start.pages → start.others ≡ 0 → Appends before.told first.told front → before.faults ≤ first.faults
-    → HasWholeFrom start (own_program request) (original_of request) failing request.options.steps first.told now.told (Err failed) m → Rose first.faults now.faults
+    → HasWholeFrom start (own_program request) (original_of request) failing request.options.steps first.told now.told (Err failed) m → Rose first.faults now.faults → BeginInTurn request m first.told now.told
     → RunsUntilCut request start front before now status.WriteFault m
-until_cut request start failing front before first now failed m began alone put later run rose = record {
+until_cut request start failing front before first now failed m began alone put later run rose turns = record {
   status_is = refl;
   rose = rose_on before.faults first.faults now.faults later rose;
   put = cut_behind before.told first.told now.told front _ put run.put;
   begun = begun_cut before.told first.told now.told front _ put run.put;
+  turns = λ turn below. begun_behind before.told first.told now.told front _ put (turns turn below);
   broken = run.broken;
   over = run.over;
   within = run.within;
@@ -156,11 +162,11 @@ err_rose (Ok end) failed before now is rose = absurd (cc)
 err_rose (Err e) failed before now is rose = rose
 
 pub answered_cut : (request : Request) (before now : Stream) (result : Result MachineEnd Failed) (failed : Failed) (m : Machine) → IsImage request.image → IsKept (booted request.image request.script request.options.quantum request.options.swap) → request.options.steps ≤ 10 ^ 9
-    → HasAdvanced (booted request.image request.script request.options.quantum request.options.swap) m request.options.steps before.told now.told result → result ≡ Err failed → HasCause before.faults now.faults result
+    → HasAdvanced (booted request.image request.script request.options.quantum request.options.swap) m request.options.steps before.told now.told result → result ≡ Err failed → HasCause before.faults now.faults result → BeginInTurn request m before.told now.told
     → Runs request before now status.WriteFault m
-answered_cut request before now result failed m image kept bound advanced is cause =
+answered_cut request before now result failed m image kept bound advanced is cause turns =
     let run = whole_of request.image request.script request.options.quantum request.options.swap request.options.steps before.told now.told result m image kept (omega arith) advanced in
-    Runs.Cut (until_cut request (first_start request) request.script.failing [] before before now failed m refl refl (appends-nothing before.told) (omega arith) (subst (λ r. HasWhole request.image request.script request.options.quantum request.options.swap request.options.steps before.told now.told r m) is run) (err_rose result failed before.faults now.faults is cause.failed))
+    Runs.Cut (until_cut request (first_start request) request.script.failing [] before before now failed m refl refl (appends-nothing before.told) (omega arith) (subst (λ r. HasWhole request.image request.script request.options.quantum request.options.swap request.options.steps before.told now.told r m) is run) (err_rose result failed before.faults now.faults is cause.failed) turns)
 
 -- a run into a sink that takes everything and tells nothing
 pub ran_silently : (request : Request) (result : Result MachineEnd Failed) (m : Machine) → IsImage request.image → IsKept (booted request.image request.script request.options.quantum request.options.swap) → request.options.steps ≤ 10 ^ 9
@@ -169,4 +175,4 @@ pub ran_silently : (request : Request) (result : Result MachineEnd Failed) (m : 
 ran_silently request (Ok end) m image kept bound advanced cause =
     (status_of_stop end, answered request silent silent silent (status_of_stop end) (Ok end) end m image kept bound advanced refl cause (inl (refl, tt)))
 ran_silently request (Err failed) m image kept bound advanced cause =
-    (status.WriteFault, answered_cut request silent silent (Err failed) failed m image kept bound advanced refl cause)
+    (status.WriteFault, answered_cut request silent silent (Err failed) failed m image kept bound advanced refl cause (λ turn below. ([], tt)))

@@ -1,5 +1,5 @@
 -- A run of several programs, with its last line, as the answer tells it.
-use Rattle.std.proofs.Common.{◌≡◌, ℕ, ◌*◌, ◌<◌, ◌≤◌, false, List, [], ◌∷◌, ◌++◌, length, Option, Some, None, refl, sym, ap, ◌∙◌, subst, arith}
+use Rattle.std.proofs.Common.{◌≡◌, ℕ, ◌*◌, ◌<◌, ◌≤◌, true, false, List, [], ◌∷◌, ◌++◌, length, Option, Some, None, refl, sym, ap, ◌∙◌, subst, arith}
 use Rattle.std.specs.Prelude.{Result, Ok, Err, OnErr, slice_get, slice_index_or}
 use Rattle.byte_streams.specs.declared.failure.Failed.{Failed}
 use Rattle.byte_streams.specs.Faults.{Rose}
@@ -12,8 +12,8 @@ use Rattle.task_input.specs.Images.{quarter, IsMisplaced, task_words}
 use Rattle.tk_tasks.specs.Booted.{booted}
 use Rattle.task_turns.specs.Reset.{turns_at_reset}
 use Rattle.tk_tasks.specs.States.{Tasks, AreSound, player_of, turns_of}
-use Rattle.task_turns.specs.Turns.{Told, Turns, alone, at_reset_in, turns}
-use Rattle.tk_tasks.specs.Plays.{AreInTurn, EndsAsAlone, HasRunTasks, HaveRun, TaskPath, counted, told_of, told_text}
+use Rattle.task_turns.specs.Turns.{Told, Turns, alone, at_reset_in, tries, turns}
+use Rattle.tk_tasks.specs.Plays.{Play, AreInTurn, EndsAsAlone, HasRunTasks, HaveRun, TaskPath, counted, told_of, told_text}
 use Rattle.tk_tasks.proofs.Telling.{told_text_on}
 use Rattle.line_gathering.proofs.Gathered.{cut_less}
 use Rattle.task_turns.proofs.OwnPrograms.{program_at, player_at, own_run}
@@ -129,10 +129,15 @@ cut_in_turn : (quantum : ℕ) (before now : Option (List ℕ)) (told rest whole 
 cut_in_turn quantum before now told rest whole is cut =
     subst (CutShort before now) (sym (ap (told_text quantum) is ∙ told_text_on quantum told rest)) (cut_less before now (told_text quantum told) (told_text quantum rest) cut)
 
+-- at each turn in plays that led to these tasks all that was told by then went out
+abbrev pub BeginInTurn : (n : ℕ) → (start t : Tasks) → (before now : Option (List ℕ)) → Type 0
+BeginInTurn n start t before now = (plays : List Play) (last : Tasks) → TaskPath n start plays last → t ≡ counted last true → (turn : ℕ) → 65536 * turn < length plays
+    → Begins before now (told_text start.kernel.quantum (tries (65536 * turn) (turns_of n start)).told)
+
 -- a line could not be put
-pub tasks_cut : (request : TaskRequest) (start t : Tasks) (before now : Stream) (failed : Failed) → Starts request start → HasRunTasks request.options.steps start t before.told now.told (Err failed) → AreSound t → Rose before.faults now.faults
+pub tasks_cut : (request : TaskRequest) (start t : Tasks) (before now : Stream) (failed : Failed) → Starts request start → HasRunTasks request.options.steps start t before.told now.told (Err failed) → AreSound t → Rose before.faults now.faults → BeginInTurn request.options.steps start t before.told now.told
     → RunsTasks request before now status.WriteFault t
-tasks_cut request start t before now failed starts run sound rose =
+tasks_cut request start t before now failed starts run sound rose turns =
     let quantum : start.kernel.quantum ≡ request.options.quantum = ap (λ (s : Tasks). s.kernel.quantum) starts.is ∙ started_quantum request request.scripts in
     let in_turn = subst (λ s. AreInTurn s run.plays (turns_of request.options.steps run.last)) starts.in_turn run.in_turn in
     let put = subst (λ q. CutShort before.told now.told (told_text q (told_of run.plays))) quantum run.put in
@@ -147,6 +152,8 @@ tasks_cut request start t before now failed starts run sound rose =
       in_turn = in_turn;
       put = put;
       front = cut_in_turn request.options.quantum before.told now.told (told_of run.plays) in_turn.rest (all_told request) in_turn.begins put;
+      turns = λ turn below. subst (λ s. Begins before.told now.told (told_text request.options.quantum (tries (65536 * turn) s).told)) starts.in_turn
+          (subst (λ q. Begins before.told now.told (told_text q (tries (65536 * turn) (turns_of request.options.steps start)).told)) quantum (turns run.plays run.last run.path run.counts turn below));
       sound = sound;
     })
 

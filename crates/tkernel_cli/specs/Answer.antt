@@ -2,7 +2,9 @@
 use Rattle.std.specs.Prelude.{◌≡◌, ◌⊎◌, ℕ, List, None}
 use Rattle.cli_words.specs.declared.job.Job.{Job}
 use Rattle.cli_words.specs.declared.job.Job.TheVariants as jobs
-use Rattle.cli_requests.specs.Asking.{IsAsked, IsWarranted}
+use Rattle.cli_words.specs.declared.status.Status.{Status}
+use Rattle.cli_requests.specs.Asking.{IsAsked, IsWarranted, AskForUsage}
+use Rattle.cli_words.specs.Printed as printed
 use Rattle.cli_words.specs.Printed.{no_memory}
 use Rattle.cli_words.specs.Stream.{Stream}
 use Rattle.byte_streams.specs.Streams.{Input}
@@ -22,6 +24,8 @@ pub record IsAnswer (words : List (List ℕ)) (source source' : Input) (sink sin
   pub asked : IsAsked words source source' job
   pub done : Does job sink sink' exit
 
--- The job that is warranted is done, whether or not the sink fails; or the line is told that memory is wanted.
-abbrev pub IsExact : List (List ℕ) → Input → Input → Stream → Stream → Exit → Type 0
-IsExact words source source' sink sink' exit = (job : Job) → IsWarranted words source source' job → Does no_memory sink sink' exit ⊎ Does job sink sink' exit
+-- The job that is warranted is done, whether or not the sink fails; or the line is told that memory is wanted. For the usage line
+-- none is wanted, and nothing is read.
+pub record IsExact (words : List (List ℕ)) (source source' : Input) (sink sink' : Stream) (exit : Exit) : Type 0 where
+  pub done : (job : Job) → IsWarranted words source source' job → Does no_memory sink sink' exit ⊎ Does job sink sink' exit
+  pub usage : (own : Status) → AskForUsage words own → Does (printed.usage own) sink sink' exit × (source' ≡ source)

@@ -5,3 +5,4 @@ pub mod RestartRuns
 pub mod Jobs
 pub mod TasksRuns
 pub mod Answer
+pub mod GoingOn

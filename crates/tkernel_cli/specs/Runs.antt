@@ -101,12 +101,14 @@ KeepsEnd end m = (kept : MachineEnd) × (m.end ≡ Some kept) × (flat_end kept 
 abbrev pub Begins : (before now : Option (List ℕ)) → List ℕ → Type 0
 Begins before now text = (rest : List ℕ) × Appends before now (text ++ rest)
 
--- The run from this start ended as the original program's first steps do, with no more steps done than were asked for; its
--- text was said behind this one, and its device lines went out whole. No operation on flash was refused.
+-- The run from this start ended as the original program's first steps do, with no more steps done than were asked for, and with
+-- all of them where the program goes on; its text was said behind this one, and its device lines went out whole. No operation on
+-- flash was refused.
 pub record RunsToTheEnd (request : Request) (start : Machine) (front : List ℕ) (before now : Stream) (told : Status) (m : Machine) : Type 0 where
   pub said : Says (status_of_end (whole_run request).end) (front ++ ended_text request m) before now told
   pub begun : Begins before.told now.told (front ++ lines_text (whole_run request).lines)
   pub within : m.steps ≤ request.options.steps
+  pub all : (whole_run request).end ≡ Spent → m.steps ≡ request.options.steps
   pub end : KeepsEnd (whole_run request).end m
   pub unrefused : m.kernel.mote.flash.refused ≡ None
   pub follows : Follows request start request.options.steps m
@@ -135,13 +137,15 @@ pub record RunsIntoAFault (request : Request) (before now : Stream) (told : Stat
   pub ready : IsReady m
 
 -- Gathered lines could not be put: what went out begins with this text, and is cut short of the lines up to the step where the
--- machine stands, and it stands where the original program stands after that step. An end that it keeps all the same, but by
--- flash, is that of the original program.
+-- machine stands, and it stands where the original program stands after that step. At each multiple of 65,536 steps before that
+-- all lines up to there had gone out, so behind these it did at most 65,536 steps. An end that it keeps all the same, but by flash,
+-- is that of the original program.
 pub record RunsUntilCut (request : Request) (start : Machine) (front : List ℕ) (before now : Stream) (told : Status) (m : Machine) : Type 0 where
   pub status_is : told ≡ status.WriteFault
   pub rose : Rose before.faults now.faults
   pub put : CutShort before.told now.told (front ++ lines_text (original_of request m.steps).lines)
   pub begun : Begins before.told now.told front
+  pub turns : (turn : ℕ) → 65536 * turn < m.steps → Begins before.told now.told (front ++ lines_text (original_of request (65536 * turn)).lines)
   pub broken : m.broken ≡ true
   pub over : (end : MachineEnd) → m.end ≡ Some end → ((op : ℕ) → end ≢ ends.Flash op) → (whole_run request).end ≡ flat_end end
   pub within : m.steps ≤ request.options.steps

@@ -1,6 +1,6 @@
 -- Several programs that are run in turn on one mote: what was printed, what is kept, and how both follow each program as it
 -- runs alone.
-use Rattle.std.specs.Prelude.{◌≡◌, ℕ, ◌*◌, ◌<◌, ◌++◌, nat_lt, true, false, if◌then◌else◌, List, [], ◌∷◌, slice_get, slice_index_or, Option, Some, None}
+use Rattle.std.specs.Prelude.{◌≡◌, ℕ, ◌*◌, ◌<◌, ◌++◌, nat_lt, true, false, if◌then◌else◌, List, [], ◌∷◌, length, slice_get, slice_index_or, Option, Some, None}
 use Rattle.byte_streams.specs.Faults.{Rose}
 use Rattle.byte_streams.specs.Streams.{CutShort}
 use Rattle.input_script.specs.Script.{Schedule, nothing}
@@ -14,7 +14,7 @@ use Rattle.tk_tasks.specs.Booted.{booted}
 use Rattle.task_turns.specs.Reset.{turns_at_reset}
 use Rattle.tk_tasks.specs.States.{Tasks, AreSound, player_of, turns_of}
 use Rattle.parked_tasks.specs.Ends.{flat_end}
-use Rattle.task_turns.specs.Turns.{Turns, Told, alone, at_reset_in, turns, HaveEnded}
+use Rattle.task_turns.specs.Turns.{Turns, Told, alone, at_reset_in, tries, turns, HaveEnded}
 use Rattle.tk_tasks.specs.Plays.{Play, TaskPath, AreInTurn, EndsAsAlone, counted, told_of, told_text}
 use Rattle.cli_words.specs.declared.request.TaskRequest.{TaskRequest}
 use Rattle.cli_words.specs.declared.status.Status.{Status}
@@ -91,7 +91,8 @@ pub record RunsTasksToTheEnd (request : TaskRequest) (before now : Stream) (told
 
 -- Lines could not be put: what went out is a part, from its front, of what the programs tell in turn. It is cut short of
 -- what was told of the plays that lead to where the tasks stand, and that is where the programs stand in turn after as
--- many tries.
+-- many tries. At each multiple of 65,536 tries before that all that was told by then had gone out, so behind that there were at most
+-- 65,536 tries.
 pub record RunsTasksUntilCut (request : TaskRequest) (before now : Stream) (told : Status) (t : Tasks) : Type 0 where
   pub status_is : told ≡ status.WriteFault
   pub rose : Rose before.faults now.faults
@@ -103,6 +104,7 @@ pub record RunsTasksUntilCut (request : TaskRequest) (before now : Stream) (told
   pub in_turn : AreInTurn (turns_by request) plays (turns_of request.options.steps last)
   pub put : CutShort before.told now.told (told_text request.options.quantum (told_of plays))
   pub front : CutShort before.told now.told (told_text request.options.quantum (all_told request))
+  pub turns : (turn : ℕ) → 65536 * turn < length plays → Begins before.told now.told (told_text request.options.quantum (tries (65536 * turn) (turns_by request)).told)
   pub sound : AreSound t
 
 pub data RunsTasks (request : TaskRequest) (before now : Stream) (told : Status) (t : Tasks) : Type 0 where

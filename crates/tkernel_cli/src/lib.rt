@@ -24,12 +24,13 @@
 //! ```
 //!
 //! `specs/Answer` is what is answered, `specs/Jobs` what is done for each job, and `specs/Runs`, `specs/DumpRuns`,
-//! `specs/RestartRuns` and `specs/TasksRuns` what holds of a run. [`say`], [`run_silently`] and [`status_of`] serve the program
-//! that watches a run, too (crate `tk_watch`).
+//! `specs/RestartRuns` and `specs/TasksRuns` what holds of a run; by [`a_machine_that_is_kept_can_go_on`] (`specs/GoingOn`) it
+//! may be made longer. [`say`] and [`status_of`] serve the program that watches a run, too (crate `tk_watch`).
 #![tactic(auto)]
 
 mod dumping;
 mod job;
+mod laws;
 mod restarting;
 mod running;
 mod tasking;
@@ -37,5 +38,6 @@ mod top;
 
 pub use cli_words::{Command, RunOptions, Status, TaskOptions, command_of};
 pub use job::say;
-pub use running::{run_silently, status_of};
+pub use laws::a_machine_that_is_kept_can_go_on;
+pub use running::status_of;
 pub use top::{Exit, tkernel};

@@ -55,7 +55,7 @@ pub(crate) fn run_request<K: Sink>(alloc: Global, request: Request, out: &mut K)
 
 /// Runs a program to its end; its lines go nowhere.
 #[inline(never)]
-pub fn run_silently(
+pub(crate) fn run_silently(
     alloc: Global,
     image: &Image,
     script: Script,

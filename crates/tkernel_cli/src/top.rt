@@ -59,7 +59,7 @@ pub fn tkernel<S: Source, K: Sink>(
         (stream K.taken K.faults out.old) (stream K.taken K.faults out.new)
         result }
     // The words alone decide, and for a command that reads the text of a source that tells it, or keeps what it gave, and
-    // doesn't fail; or memory is wanted.
+    // doesn't fail; or memory is wanted, but not for the usage line, for which nothing is read.
     ensures exact { IsExact (map string_bytes words.now)
         (input_of S.left S.given S.faults input.old) (input_of S.left S.given S.faults input.new)
         (stream K.taken K.faults out.old) (stream K.taken K.faults out.new)

@@ -1,5 +1,6 @@
 //! Tests of the whole program that no case of crate `tkernel_cases` can make: its words as data, streams that fail or are
-//! slow, and what the machine that a call keeps holds; and of the calls of crate `theorem_reader`.
+//! slow, and what the machine that a call keeps holds; of the calls of crate `theorem_reader`;
+//! and of the views of crate `tk_watch`.
 #![tactic(auto)]
 
 #[cfg(test)]
@@ -20,3 +21,5 @@ mod slow_streams;
 mod stack_instructions;
 #[cfg(test)]
 mod support;
+#[cfg(test)]
+mod views;

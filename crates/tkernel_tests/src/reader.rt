@@ -1,6 +1,6 @@
 //! The calls of crate `theorem_reader`, each once.
 use crate::first_program::LINES;
-use crate::support::ROOM;
+use crate::support::{ROOM, words_of};
 use hex_image::Image;
 use std::alloc::Global;
 use std::test::Fail;
@@ -8,7 +8,7 @@ use theorem_reader::{
     Told, asm_example, bad_dump_example, bad_hex_example, bad_script_example, bad_source_example,
     bad_task_image_example, bad_task_script_example, broken_example, check_example, dump_example,
     generate_example, help_example, long_example, restart_example, run_example, run_image,
-    tasks_example,
+    run_twice, tasks_example,
 };
 
 /// More bytes than an input may have.
@@ -48,6 +48,13 @@ fn run(alloc: Global) -> Result<Said, Fail> {
 fn run_alone(alloc: Global) -> Result<Said, Fail> {
     let image = Image::from_words(alloc, &[0xE00F, 0xBB0B, 0xCFFF])?;
     looked_at(alloc, run_image::<ROOM>(alloc, &image)?)
+}
+
+/// Two calls for the test program of seed 7, where the second sink has room for ten bytes.
+fn twice(alloc: Global) -> Result<(Said, Said), Fail> {
+    let words = words_of(alloc, &["generate", "7"])?;
+    let (one, other) = run_twice::<ROOM, 10>(alloc, &words, b"")?;
+    Ok((looked_at(alloc, one)?, looked_at(alloc, other)?))
 }
 
 fn dump(alloc: Global) -> Result<Said, Fail> {
@@ -145,6 +152,9 @@ fn the_reader_runs_the_program_of_a_seed(rt: HostRuntime) -> Result<(), Fail> {
     let ran = generate(rt.alloc())?;
     assert!(rt; ran.status == 0);
     assert!(rt; ran.text.starts_with(b"PORTA 0xFF\nPORTA 0xE2\n"));
+    let (one, other) = twice(rt.alloc())?;
+    assert!(rt; one.status == 0 && one.text.as_slice() == ran.text.as_slice());
+    assert!(rt; is(&other, 6, b"PORTA 0xFF", "a machine"));
     Ok(())
 }
 

@@ -14,6 +14,7 @@ steps-init c = record {
   layout = refl;
   torn = refl;
   underway = λ begun on. on;
+  steps = omega arith;
   on = omega arith;
 }
 
@@ -45,6 +46,7 @@ returns-then-not-passes c =
       flash = told.flash ∙ at.flash;
       layout = told.layout ∙ at.layout;
       torn = told.torn ∙ at.torn;
+      steps = omega (arith, told.steps, at.steps);
     }
 
 pub steps-smaller : goal.steps-smaller
@@ -78,5 +80,6 @@ steps-preserved c =
       underway = λ begun on. (
           let here = at.underway begun on in
           underway_by begun now new c.steps.p.line c.plain-pc.new.p.line here (further_plain begun now new c.steps.p.line c.plain-pc.new.p.line here told.stepped low) told.free (none_at new c.args.cursor.now c.plain-pc.result cursor passed told.pc));
+      steps = omega (arith, told.steps, at.steps);
       on = omega (arith, at.on, more_plain witness.0 now new c.steps.p.line c.plain-pc.new.p.line (at.underway witness.0 witness.1) told.stepped low);
     }

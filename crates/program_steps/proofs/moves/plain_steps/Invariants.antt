@@ -13,6 +13,7 @@ invariant-steps l = record {
   layout : l.k.layout ≡ l.fn.k.layout;
   torn : l.p.torn ≡ l.fn.p.torn;
   underway : (begun : Machine) → IsUnderway begun (whole l.fn.k l.fn.p) l.fn.p.line → IsUnderway begun (whole l.k l.p) l.p.line;
+  steps : l.p.steps ≤ l.fn.p.steps;
   on : moves_made (whole l.fn.k l.fn.p) ≤ moves_made (whole l.k l.p);
 }
 

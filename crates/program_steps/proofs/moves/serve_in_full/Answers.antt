@@ -1,5 +1,5 @@
 use Rattle.program_steps.proofs.Awaiting.{free_of}
-use Rattle.std.proofs.Common.{refl, sym, ap, ◌∙◌}
+use Rattle.std.proofs.Common.{refl, sym, ap, arith, ◌∙◌}
 use Rattle.program_steps.specs.Wholes.{whole}
 use Rattle.program_steps.specs.Loop.{IsHalted}
 use Rattle.program_steps.proofs.Told.{same_state, served_behind, none_off, is_there}
@@ -22,6 +22,7 @@ returns-in-Resume c =
       flash = leaves.flash;
       layout = leaves.layout;
       torn = refl;
+      steps = omega arith;
     }
 
 pub returns-in-Goto : goal.returns-in-Goto
@@ -38,6 +39,7 @@ returns-in-Goto c =
       flash = leaves.flash;
       layout = leaves.layout;
       torn = refl;
+      steps = omega arith;
     }
 
 pub returns-in-Woke : goal.returns-in-Woke
@@ -54,6 +56,7 @@ returns-in-Woke c =
       flash = leaves.flash;
       layout = leaves.layout;
       torn = refl;
+      steps = omega arith;
     }
 
 pub returns-in-Stopped : goal.returns-in-Stopped
@@ -70,4 +73,5 @@ returns-in-Stopped c =
       flash = leaves.flash;
       layout = leaves.layout;
       torn = refl;
+      steps = omega arith;
     }

@@ -1,5 +1,5 @@
 use Rattle.program_steps.proofs.Awaiting.{free_of}
-use Rattle.std.proofs.Common.{◌≡◌, refl, sym, ap, subst, ◌∙◌}
+use Rattle.std.proofs.Common.{◌≡◌, ◌≤◌, refl, sym, ap, arith, subst, ◌∙◌}
 use Rattle.std.specs.Prelude.{None, IfSome, IfNone}
 use Rattle.kernel_entry.specs.declared.kernel.Kernel.{Kernel}
 use Rattle.kernel_entry.specs.declared.kernel.Served.TheVariants as answers
@@ -8,10 +8,14 @@ use Rattle.kernel_entry.specs.Left.{Leaves}
 use Rattle.kernel_entry.specs.Services.{served, is_due}
 use Rattle.program_steps.specs.declared.progress.Progress.{Progress}
 use Rattle.program_steps.specs.Machines.{state_of}
-use Rattle.program_steps.specs.Wholes.{whole}
+use Rattle.program_steps.specs.Wholes.{whole, entered}
 use Rattle.program_steps.specs.Loop.{CanServeNow, HasServed, IsHalted}
 use Rattle.program_steps.proofs.Told.{same_state, served_behind, none_off, is_there}
 use Rattle.program_steps.proofs.moves.service.Goals as goal
+
+-- the count of steps stays where a service begins
+steps_same : (p q : Progress) → p ≡ entered q → p.steps ≤ q.steps
+steps_same p q is = let same : p.steps ≡ q.steps = ap (λ (x : Progress). x.steps) is in omega (arith, same)
 
 pub enter-requires : goal.enter-requires
 enter-requires c = record { entries = c.requires.small.entries; natural = c.requires.small.natural }
@@ -38,6 +42,7 @@ returns-then-resume_at_once c =
       flash = leaves.flash;
       layout = leaves.layout;
       torn = ap (λ (x : Progress). x.torn) is;
+      steps = steps_same p q is;
     }
 
 pub return_at_once-requires : goal.return_at_once-requires
@@ -66,6 +71,7 @@ returns-in-Some c =
       flash = flash;
       layout = leaves.layout ∙ ap (λ (k : Kernel). k.layout) same;
       torn = torn;
+      steps = steps_same p q entry;
     }
 
 pub serve_in_full-requires : goal.serve_in_full-requires
@@ -89,4 +95,5 @@ returns-in-None c =
       flash = full.ensures.flash ∙ ap (λ (k : Kernel). k.mote.flash) same;
       layout = full.ensures.layout ∙ ap (λ (k : Kernel). k.layout) same;
       torn = full.ensures.torn ∙ ap (λ (x : Progress). x.torn) entry;
+      steps = omega (arith, full.ensures.steps, steps_same c.enter.new.p q entry);
     }

@@ -1,6 +1,6 @@
 use Rattle.std.proofs.Common.{ℕ, List, [], ◌∷◌, ap}
 use Rattle.theorem_reader.specs.Checks.{AsksCheck, IsChecked}
-use Rattle.theorem_reader.specs.Refusals.{AsksAsm, IsAssembled, IsRefused, IsSaid}
+use Rattle.theorem_reader.specs.Refusals.{AsksAsm, IsAssembled, IsRefused, IsSaid, IsUsage, HasUsage}
 use Rattle.theorem_reader.specs.Telling.{IsSo}
 use Rattle.theorem_reader.proofs.Plainly.{told_at}
 use Rattle.theorem_reader.proofs.example.answer_alone.Goals as goal
@@ -15,4 +15,6 @@ returns g c =
           _ _ _ _ words c.in_ok-bytes.ensures.same c.run_text.ensures.asm;
       refused = told_at c.run_text.result (λ words text told. (own : ℕ) (line : List ℕ) → IsRefused words text own line → IsSo g.row.ROOM told.out (λ sink. IsSaid sink own line told.status told.out.taken told.kept told.tasks))
           _ _ _ _ words c.in_ok-bytes.ensures.same c.run_text.ensures.refused;
+      usage = told_at c.run_text.result (λ words text told. (own : ℕ) → IsUsage words own → IsSo g.row.ROOM told.out (λ sink. HasUsage sink own told.status told.out.taken told.kept told.tasks))
+          _ _ _ _ words c.in_ok-bytes.ensures.same c.run_text.ensures.usage;
     }

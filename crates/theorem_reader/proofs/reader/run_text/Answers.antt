@@ -7,7 +7,7 @@ use Rattle.theorem_reader.proofs.Answering.{run_told, generated_told}
 use Rattle.theorem_reader.proofs.Checking.{check_told}
 use Rattle.theorem_reader.proofs.Covering.{covered}
 use Rattle.theorem_reader.proofs.Dumping.{dump_told}
-use Rattle.theorem_reader.proofs.Refusing.{refused_told, asm_told_of}
+use Rattle.theorem_reader.proofs.Refusing.{refused_told, usage_told, asm_told_of}
 use Rattle.theorem_reader.proofs.Restarting.{restart_told}
 use Rattle.theorem_reader.proofs.Sharing.{tasks_told}
 use Rattle.theorem_reader.proofs.reader.run_text.Goals as goal
@@ -27,6 +27,7 @@ returns g c =
       asm = λ image asks. with_room g.row.ROOM _ _ c.keeps_room.ensures.room (asm_told_of _ _ _ _ _ call _ tells image asks);
       generate = λ seed asks. with_room g.row.ROOM _ _ c.keeps_room.ensures.room (generated_told _ _ _ _ _ call seed asks);
       refused = λ own line asks. with_room g.row.ROOM _ _ c.keeps_room.ensures.room (refused_told _ _ _ _ _ call _ tells own line asks);
+      usage = λ own usage. with_room g.row.ROOM _ _ c.keeps_room.ensures.room (usage_told _ _ _ _ _ call own usage);
       no_tasks = no_tasks _ _ _ _ _ call;
       covered = covered g.row.ROOM _ _ _ _ c.keeps_room.ensures.room call _ tells;
     }

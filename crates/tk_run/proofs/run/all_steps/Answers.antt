@@ -12,7 +12,7 @@ use Rattle.tk_run.proofs.RunSoFar.{IsBetween, unshut_on}
 use Rattle.program_steps.proofs.Owning.{open_admits}
 use Rattle.tk_run.proofs.Advancing.{can_step, advanced_enter, is_in, advanced_stop, advanced_bound, advanced_cut, advanced_failed}
 use Rattle.tk_run.proofs.Gathered.{take_in, take_on, under_way, turn_on, turn_cut, last_in, last_below, steps_on}
-use Rattle.tk_run.proofs.InTurn.{turns_on, turns_left, stepped_counts, done_counts, bound_counts}
+use Rattle.tk_run.proofs.InTurn.{turns_later, turns_on, turns_left, stepped_counts, done_counts, bound_counts}
 use Rattle.tk_run.proofs.run.all_steps.Goals as goal
 
 pub steps-init : goal.steps-init
@@ -66,7 +66,7 @@ steps-preserved-then-must_take g c =
     record {
       way = take_on old now (whole c.take.new.k c.take.new.p) c.steps.done c.send_in_turn.new.gathered.items _ _ way (sym c.must_take.ensures.value ∙ c.if-must_take.true) c.take.ensures.stepped (sym c.take.ensures.end ∙ c.in_default.is);
       cursor = cursor_same now (whole c.take.new.k c.take.new.p) c.steps.cursor c.take.ensures.layout c.take.ensures.flash c.steps.invariant.cursor;
-      turns = λ turn below. turns_on g.K.Sink.taken old now c.args.out.now c.send_in_turn.new.out c.steps.done c.send_in_turn.new.gathered.items c.steps.invariant.turns way c.in_ok-send_in_turn.ensures.turn turn (omega (arith, below));
+      turns = λ turn below. turns_on g.K.Sink.taken old now c.args.out.now c.steps.out c.send_in_turn.new.out c.steps.done _ c.send_in_turn.new.gathered.items c.steps.invariant.turns c.in_ok-send_in_turn.ensures.text way c.in_ok-send_in_turn.ensures.turn turn (omega (arith, below));
       within = omega (arith, c.steps-test.true);
       faults = omega (arith, c.steps.invariant.faults, c.in_ok-send_in_turn.ensures.cause.later);
     }
@@ -127,7 +127,9 @@ steps-preserved g c =
     record {
       way = steps_on old mid new c.steps.done c.steps-done.result line way.text c.send_in_turn.new.gathered.items c.gather.new.gathered.items _ _ _ now c.steps-done.ensures.done c.in_default-end.is way.sent c.in_ok-gather.ensures.text;
       cursor = c.steps-done.ensures.cursor;
-      turns = λ turn below. turns_on g.K.Sink.taken old (whole c.steps.k c.steps.p) c.args.out.now c.send_in_turn.new.out c.steps.done c.send_in_turn.new.gathered.items c.steps.invariant.turns way c.in_ok-send_in_turn.ensures.turn turn (omega (arith, below, c.steps-done.ensures.most, c.min.ensures, c.up_to_turn.ensures.value));
+      turns = λ turn below. turns_later g.K.Sink.taken old c.args.out.now c.send_in_turn.new.out c.gather.new.out _
+          (turns_on g.K.Sink.taken old (whole c.steps.k c.steps.p) c.args.out.now c.steps.out c.send_in_turn.new.out c.steps.done _ c.send_in_turn.new.gathered.items c.steps.invariant.turns c.in_ok-send_in_turn.ensures.text way c.in_ok-send_in_turn.ensures.turn)
+          (_, c.in_ok-gather.ensures.text.appended) turn (omega (arith, below, c.steps-done.ensures.most, c.min.ensures, c.up_to_turn.ensures.value));
       within = omega (arith, c.steps-done.ensures.most, c.min.ensures, c.steps.invariant.within);
       faults = omega (arith, c.steps.invariant.faults, c.in_ok-send_in_turn.ensures.cause.later, c.in_ok-gather.ensures.cause.later);
     }
@@ -159,19 +161,19 @@ at_bound-requires-clause-unshut g c = unshut_on (whole c.args.k.now c.args.p.now
 
 pub returns-in_err-send_in_turn-clause-turns : goal.returns-in_err-send_in_turn-clause-turns
 returns-in_err-send_in_turn-clause-turns g c =
-    turns_left g.K.Sink.taken (whole c.args.k.now c.args.p.now) c.args.out.now c.steps.done c.steps.p.steps c.steps.invariant.turns (omega (arith, c.steps.invariant.way.between.ran.steps))
+    turns_left g.K.Sink.taken (whole c.args.k.now c.args.p.now) c.args.out.now c.steps.out c.send_in_turn.new.out c.steps.done c.steps.p.steps c.steps.invariant.turns (_, c.in_err-send_in_turn.ensures.text.2) (omega (arith, c.steps.invariant.way.between.ran.steps))
 
 pub returns-in-Some-enter-clause-turns : goal.returns-in-Some-enter-clause-turns
 returns-in-Some-enter-clause-turns g c =
-    turns_left g.K.Sink.taken (whole c.args.k.now c.args.p.now) c.args.out.now c.steps.done c.enter.new.p.steps c.steps.invariant.turns (omega (arith, c.steps.invariant.way.between.ran.steps, c.enter.ensures.entered.steps))
+    turns_left g.K.Sink.taken (whole c.args.k.now c.args.p.now) c.args.out.now c.steps.out c.send_in_turn.new.out c.steps.done c.enter.new.p.steps c.steps.invariant.turns (_, c.in_ok-send_in_turn.ensures.text.appended) (omega (arith, c.steps.invariant.way.between.ran.steps, c.enter.ensures.entered.steps))
 
 pub returns-in-Some-clause-turns : goal.returns-in-Some-clause-turns
 returns-in-Some-clause-turns g c =
     let old = whole c.args.k.now c.args.p.now in
     let now = whole c.steps.k c.steps.p in
     let way = turn_on old now c.steps.done c.steps.gathered.items c.send_in_turn.new.gathered.items _ _ _ c.steps.invariant.way c.in_ok-send_in_turn.ensures.text in
-    turns_left g.K.Sink.taken old c.args.out.now _ c.take.new.p.steps (turns_on g.K.Sink.taken old now c.args.out.now c.send_in_turn.new.out c.steps.done c.send_in_turn.new.gathered.items c.steps.invariant.turns way c.in_ok-send_in_turn.ensures.turn)
-    (omega (arith, c.steps.invariant.way.between.ran.steps, stepped_counts now (whole c.take.new.k c.take.new.p) None c.take.ensures.stepped))
+    turns_left g.K.Sink.taken old c.args.out.now c.send_in_turn.new.out _ _ c.take.new.p.steps (turns_on g.K.Sink.taken old now c.args.out.now c.steps.out c.send_in_turn.new.out c.steps.done _ c.send_in_turn.new.gathered.items c.steps.invariant.turns c.in_ok-send_in_turn.ensures.text way c.in_ok-send_in_turn.ensures.turn)
+    ([], appends-nothing (g.K.Sink.taken c.send_in_turn.new.out)) (omega (arith, c.steps.invariant.way.between.ran.steps, stepped_counts now (whole c.take.new.k c.take.new.p) None c.take.ensures.stepped))
 
 pub returns-in_err-gather-clause-turns : goal.returns-in_err-gather-clause-turns
 returns-in_err-gather-clause-turns g c =
@@ -180,8 +182,8 @@ returns-in_err-gather-clause-turns g c =
     let new = whole c.steps-done.new.k c.steps-done.new.p in
     let way = turn_on old (whole c.steps.k c.steps.p) c.steps.done c.steps.gathered.items c.send_in_turn.new.gathered.items _ _ _ c.steps.invariant.way c.in_ok-send_in_turn.ensures.text in
     let now = is_in old (whole c.steps.k c.steps.p) mid c.steps.done (Some []) (Some way.text) c.enter.result way.between c.enter.ensures.entered c.in_default-enter.is in
-    turns_left g.K.Sink.taken old c.args.out.now _ c.steps-done.new.p.steps (turns_on g.K.Sink.taken old (whole c.steps.k c.steps.p) c.args.out.now c.send_in_turn.new.out c.steps.done c.send_in_turn.new.gathered.items c.steps.invariant.turns way c.in_ok-send_in_turn.ensures.turn)
-    (omega (arith, done_counts old mid new c.steps.done c.steps-done.result c.steps-done.new.p.line (Some []) (Some way.text) now c.steps-done.ensures.done, c.steps-done.ensures.most, c.min.ensures, c.up_to_turn.ensures.value))
+    turns_left g.K.Sink.taken old c.args.out.now c.send_in_turn.new.out c.gather.new.out _ c.steps-done.new.p.steps (turns_on g.K.Sink.taken old (whole c.steps.k c.steps.p) c.args.out.now c.steps.out c.send_in_turn.new.out c.steps.done _ c.send_in_turn.new.gathered.items c.steps.invariant.turns c.in_ok-send_in_turn.ensures.text way c.in_ok-send_in_turn.ensures.turn)
+    (_, c.in_err-gather.ensures.text.2) (omega (arith, done_counts old mid new c.steps.done c.steps-done.result c.steps-done.new.p.line (Some []) (Some way.text) now c.steps-done.ensures.done, c.steps-done.ensures.most, c.min.ensures, c.up_to_turn.ensures.value))
 
 pub returns-in-Some-end-clause-turns : goal.returns-in-Some-end-clause-turns
 returns-in-Some-end-clause-turns g c =
@@ -190,9 +192,9 @@ returns-in-Some-end-clause-turns g c =
     let new = whole c.steps-done.new.k c.steps-done.new.p in
     let way = turn_on old (whole c.steps.k c.steps.p) c.steps.done c.steps.gathered.items c.send_in_turn.new.gathered.items _ _ _ c.steps.invariant.way c.in_ok-send_in_turn.ensures.text in
     let now = is_in old (whole c.steps.k c.steps.p) mid c.steps.done (Some []) (Some way.text) c.enter.result way.between c.enter.ensures.entered c.in_default-enter.is in
-    turns_left g.K.Sink.taken old c.args.out.now _ c.steps-done.new.p.steps (turns_on g.K.Sink.taken old (whole c.steps.k c.steps.p) c.args.out.now c.send_in_turn.new.out c.steps.done c.send_in_turn.new.gathered.items c.steps.invariant.turns way c.in_ok-send_in_turn.ensures.turn)
-    (omega (arith, done_counts old mid new c.steps.done c.steps-done.result c.steps-done.new.p.line (Some []) (Some way.text) now c.steps-done.ensures.done, c.steps-done.ensures.most, c.min.ensures, c.up_to_turn.ensures.value))
+    turns_left g.K.Sink.taken old c.args.out.now c.send_in_turn.new.out c.gather.new.out _ c.steps-done.new.p.steps (turns_on g.K.Sink.taken old (whole c.steps.k c.steps.p) c.args.out.now c.steps.out c.send_in_turn.new.out c.steps.done _ c.send_in_turn.new.gathered.items c.steps.invariant.turns c.in_ok-send_in_turn.ensures.text way c.in_ok-send_in_turn.ensures.turn)
+    (_, c.in_ok-gather.ensures.text.appended) (omega (arith, done_counts old mid new c.steps.done c.steps-done.result c.steps-done.new.p.line (Some []) (Some way.text) now c.steps-done.ensures.done, c.steps-done.ensures.most, c.min.ensures, c.up_to_turn.ensures.value))
 
 pub returns-clause-turns : goal.returns-clause-turns
 returns-clause-turns g c =
-    turns_left g.K.Sink.taken (whole c.args.k.now c.args.p.now) c.args.out.now c.steps.done c.at_bound.new.p.steps c.steps.invariant.turns (omega (arith, c.steps.invariant.way.between.ran.steps, bound_counts (whole c.steps.k c.steps.p) (whole c.at_bound.new.k c.at_bound.new.p) c.at_bound.result c.at_bound.ensures.bound))
+    turns_left g.K.Sink.taken (whole c.args.k.now c.args.p.now) c.args.out.now c.steps.out c.steps.out c.steps.done c.at_bound.new.p.steps c.steps.invariant.turns ([], appends-nothing (g.K.Sink.taken c.steps.out)) (omega (arith, c.steps.invariant.way.between.ran.steps, bound_counts (whole c.steps.k c.steps.p) (whole c.at_bound.new.k c.at_bound.new.p) c.at_bound.result c.at_bound.ensures.bound))

@@ -9,7 +9,7 @@ abbrev pub invariant-steps : goal.invariant-steps
 invariant-steps g l = record {
   way : IsUnderWay (whole l.fn.k l.fn.p) (whole l.k l.p) l.done l.gathered.items (g.K.Sink.taken l.fn.out) (g.K.Sink.taken l.out);
   cursor : IsCursor l.k.layout l.k.mote.flash.words l.cursor;
-  turns : GoOutInTurn g.K.Sink.taken (whole l.fn.k l.fn.p) l.fn.out l.done;
+  turns : GoOutInTurn g.K.Sink.taken (whole l.fn.k l.fn.p) l.fn.out l.out l.done;
   within : l.done ≤ l.n;
   faults : g.K.Sink.faults l.fn.out ≤ g.K.Sink.faults l.out;
 }

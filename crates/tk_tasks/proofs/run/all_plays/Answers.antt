@@ -1,11 +1,11 @@
-use Rattle.std.proofs.Common.{◌≡◌, ◌++◌, false, true, Bool, refl, sym, ap, ◌∙◌, arith}
+use Rattle.std.proofs.Common.{◌≡◌, ◌++◌, length, take, false, true, Bool, refl, sym, ap, ◌∙◌, arith}
 use Rattle.std.proofs.lemmas.Result.{err_from_is_err_and}
 use Rattle.tk_tasks.specs.States.{Tasks}
-use Rattle.tk_tasks.specs.Plays.{IsPlay}
+use Rattle.tk_tasks.specs.Plays.{IsPlay, told_text}
 use Rattle.tk_tasks.specs.Trying.{tried_told}
 use Rattle.step_laws.proofs.Ways.{walks_on}
 use Rattle.tk_tasks.proofs.Runs.{way_start, way_cut_in_turn, way_on, way_cut, still_less, room_of, quantum_some, all_ended}
-use Rattle.tk_tasks.proofs.InTurn.{told_on_turns, counts_on, went_out_by}
+use Rattle.tk_tasks.proofs.InTurn.{turns_later, told_on_turns, counts_on, went_out_by}
 use Rattle.tk_tasks.proofs.run.all_plays.Goals as goal
 
 pub plays-init : goal.plays-init
@@ -50,8 +50,10 @@ plays-preserved g c =
       quantum = quantum;
       cursor = c.play-shown.ensures.cursor;
       counted = counts_on c.plays.done r.count c.plays.invariant.way.plays c.play-shown.ensures.played.plays c.plays.invariant.counted c.play-shown.ensures.played.counted;
-      turns = told_on_turns g.K.Sink.taken c.args.n c.args.t.now c.plays.t new c.args.out.now c.plays.out c.send_in_turn.new.out c.plays.done r.count c.plays.gathered.items c.send_in_turn.new.gathered.items told c.plays.invariant.way c.plays.invariant.turns c.plays.invariant.counted
-          c.in_ok-send_in_turn.ensures.text c.in_ok-send_in_turn.ensures.turn c.play-shown.ensures.played (omega (arith, c.play-shown.ensures.most, c.up_to_turn.ensures.value));
+      turns = turns_later g.K.Sink.taken c.args.n c.args.t.now c.args.out.now c.send_in_turn.new.out c.put_shown.new.out _
+          (told_on_turns g.K.Sink.taken c.args.n c.args.t.now c.plays.t new c.args.out.now c.plays.out c.send_in_turn.new.out c.plays.done r.count c.plays.gathered.items c.send_in_turn.new.gathered.items told c.plays.invariant.way c.plays.invariant.turns c.plays.invariant.counted
+          c.in_ok-send_in_turn.ensures.text c.in_ok-send_in_turn.ensures.turn c.play-shown.ensures.played (omega (arith, c.play-shown.ensures.most, c.up_to_turn.ensures.value)))
+          (_, c.in_ok-put_shown.ensures.text.appended);
       faults = omega (arith, c.plays.invariant.faults, c.in_ok-send_in_turn.ensures.cause.later, c.in_ok-put_shown.ensures.cause.later);
     }
 
@@ -74,7 +76,8 @@ returns-clause-gathered g c = (
 
 pub returns-in_err-send_in_turn-clause-turns : goal.returns-in_err-send_in_turn-clause-turns
 returns-in_err-send_in_turn-clause-turns g c =
-    went_out_by g.K.Sink.taken c.args.n c.args.t.now c.plays.t c.args.out.now c.plays.invariant.way.plays c.plays.invariant.way.path c.plays.invariant.turns
+    went_out_by g.K.Sink.taken c.args.n c.args.t.now c.plays.t c.args.out.now c.send_in_turn.new.out c.plays.invariant.way.plays c.plays.invariant.way.path
+    (turns_later g.K.Sink.taken c.args.n c.args.t.now c.args.out.now c.plays.out c.send_in_turn.new.out _ c.plays.invariant.turns (_, c.in_err-send_in_turn.ensures.text.2))
 
 pub returns-in_err-put_shown-clause-turns : goal.returns-in_err-put_shown-clause-turns
 returns-in_err-put_shown-clause-turns g c =
@@ -85,8 +88,10 @@ returns-in_err-put_shown-clause-turns g c =
     let played = c.play-shown.ensures.played in
     let turns = told_on_turns g.K.Sink.taken c.args.n c.args.t.now c.plays.t new c.args.out.now c.plays.out c.send_in_turn.new.out c.plays.done r.count c.plays.gathered.items c.send_in_turn.new.gathered.items told way c.plays.invariant.turns c.plays.invariant.counted
     c.in_ok-send_in_turn.ensures.text c.in_ok-send_in_turn.ensures.turn played (omega (arith, c.play-shown.ensures.most, c.up_to_turn.ensures.value)) in
-    went_out_by g.K.Sink.taken c.args.n c.args.t.now new c.args.out.now (way.plays ++ played.plays) (walks_on (IsPlay c.args.n) c.args.t.now c.plays.t new way.plays played.plays way.path played.path) turns
+    went_out_by g.K.Sink.taken c.args.n c.args.t.now new c.args.out.now c.put_shown.new.out (way.plays ++ played.plays) (walks_on (IsPlay c.args.n) c.args.t.now c.plays.t new way.plays played.plays way.path played.path)
+    (turns_later g.K.Sink.taken c.args.n c.args.t.now c.args.out.now c.send_in_turn.new.out c.put_shown.new.out (length (way.plays ++ played.plays)) turns
+    (take c.in_err-put_shown.ensures.text.0 (c.send_in_turn.new.gathered.items ++ told_text c.t.inside.kernel.quantum told), c.in_err-put_shown.ensures.text.2))
 
 pub returns-clause-turns : goal.returns-clause-turns
 returns-clause-turns g c =
-    went_out_by g.K.Sink.taken c.args.n c.args.t.now c.plays.t c.args.out.now c.plays.invariant.way.plays c.plays.invariant.way.path c.plays.invariant.turns
+    went_out_by g.K.Sink.taken c.args.n c.args.t.now c.plays.t c.args.out.now c.plays.out c.plays.invariant.way.plays c.plays.invariant.way.path c.plays.invariant.turns

@@ -16,7 +16,7 @@ invariant-plays g l = record {
   quantum : l.t.kernel.quantum ≡ l.fn.t.kernel.quantum;
   cursor : IsCursor l.t.kernel.layout l.t.kernel.mote.flash.words l.cursor;
   counted : l.done ≡ length way.plays % turn_steps;
-  turns : GoOutInTurn g.K.Sink.taken l.n l.fn.t l.fn.out (length way.plays);
+  turns : GoOutInTurn g.K.Sink.taken l.n l.fn.t l.fn.out l.out (length way.plays);
   faults : g.K.Sink.faults l.fn.out ≤ g.K.Sink.faults l.out;
 }
 

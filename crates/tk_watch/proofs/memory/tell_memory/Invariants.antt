@@ -1,7 +1,6 @@
-use Rattle.std.proofs.Common.{◌-◌, ◌*◌, ◌≡◌, ◌≤◌, ◌++◌}
+use Rattle.std.proofs.Common.{◌-◌, ◌*◌, ◌≤◌, ◌++◌}
 use Rattle.byte_streams.specs.Streams.{IsSent}
 use Rattle.heap_frames.specs.Memory.{vmem}
-use Rattle.heap_frames.specs.Paged.{IsPaged}
 use Rattle.tk_watch.specs.MemoryText.{row_text}
 use Rattle.tk_watch.specs.Rows.{rows}
 use Rattle.tk_watch.proofs.memory.tell_memory.Given as goal
@@ -9,9 +8,7 @@ use Rattle.tk_watch.proofs.memory.tell_memory.Given as goal
 abbrev pub invariant-rows : goal.invariant-rows
 invariant-rows g l = record {
   within : l.row ≤ 4096;
-  paged : IsPaged l.sram l.swap;
-  memory : vmem l.sram l.swap ≡ vmem l.fn.sram l.fn.swap;
-  sent : IsSent (l.fn.gathered.items ++ rows (λ row. row_text (vmem l.fn.sram l.fn.swap) (16 * row)) l.row) l.gathered.items (g.K.Sink.taken l.fn.out) (g.K.Sink.taken l.out);
+  sent : IsSent (l.fn.gathered.items ++ rows (λ row. row_text (vmem l.mote.sram l.mote.swap) (16 * row)) l.row) l.gathered.items (g.K.Sink.taken l.fn.out) (g.K.Sink.taken l.out);
   faults : g.K.Sink.faults l.fn.out ≤ g.K.Sink.faults l.out;
 }
 

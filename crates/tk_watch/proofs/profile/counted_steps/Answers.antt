@@ -10,7 +10,7 @@ use Rattle.tk_watch.proofs.profile.counted_steps.Goals as goal
 pub turns-init : goal.turns-init
 turns-init c = record {
   way = counted_start (whole c.args.k.now c.args.p.now) c.args.counts.now c.requires.ready c.requires.quiet c.requires.zero;
-  cursor = c.new-cursor.ensures.right c.args.k.now.layout c.args.k.now.mote.flash.words;
+  cursor = c.forget.ensures.right c.args.k.now.layout c.args.k.now.mote.flash.words;
   within = omega arith;
   size = c.requires.size;
 }

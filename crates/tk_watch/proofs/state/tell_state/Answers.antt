@@ -4,10 +4,10 @@ use Rattle.std.proofs.lemmas.Result.{err_from_is_err_and}
 use Rattle.byte_streams.specs.Streams.{CutShort, IsSent}
 use Rattle.heap_frames.specs.Frames.{pages}
 use Rattle.kernel_entry.specs.Parts.{virtual_sp}
-use Rattle.line_gathering.specs.Gathering.{Gathers}
 use Rattle.line_gathering.proofs.Gathered.{cut_first, gathers_on}
 use Rattle.mote_devices.specs.State.{stored, mask_address}
 use Rattle.program_steps.specs.Machines.{Machine}
+use Rattle.program_steps.specs.Wholes.{whole}
 use Rattle.tk_watch.specs.Rows.{rows}
 use Rattle.tk_watch.specs.StateText.{core_text, counts_text, register_text, requests_text, taken_of}
 use Rattle.tk_watch.proofs.state.tell_state.Goals as goal
@@ -23,9 +23,8 @@ behind_of slots events m =
 
 pub returns-in_err-add-clause-text : goal.returns-in_err-add-clause-text
 returns-in_err-add-clause-text g c =
-    let inside = c.machine.inside in
-    let m = c.args.machine.now in
-    let core : c.core_text-core.result.items ≡ core_of m = c.core_text-core.ensures.text ∙ ap (λ sp. core_text inside.at sp inside.kernel.mote.cpu.sreg) c.vsp.ensures.value ∙ ap core_of c.machine.view_is in
+    let m = whole c.args.k.now c.args.p.now in
+    let core : c.core_text-core.result.items ≡ core_of m = c.core_text-core.ensures.text ∙ ap (λ sp. core_text m.at sp m.kernel.mote.cpu.sreg) c.vsp.ensures.value in
     let old = c.args.gathered.now.items in
     let before = g.K.Sink.taken c.args.out.now in
     let after = g.K.Sink.taken c.add.new.out in
@@ -34,16 +33,13 @@ returns-in_err-add-clause-text g c =
 
 pub returns-clause-text : goal.returns-clause-text
 returns-clause-text g c =
-    let inside = c.machine.inside in
-    let m = c.args.machine.now in
-    let core : c.core_text-core.result.items ≡ core_of m = c.core_text-core.ensures.text ∙ ap (λ sp. core_text inside.at sp inside.kernel.mote.cpu.sreg) c.vsp.ensures.value ∙ ap core_of c.machine.view_is in
-    let behind = behind_of c.args.bounds.slots c.args.bounds.events in
+    let m = whole c.args.k.now c.args.p.now in
+    let core : c.core_text-core.result.items ≡ core_of m = c.core_text-core.ensures.text ∙ ap (λ sp. core_text m.at sp m.kernel.mote.cpu.sreg) c.vsp.ensures.value in
     let old = c.args.gathered.now.items in
     let mid = c.add.new.gathered.items in
-    let left = c.tell_registers_and_counts.new.gathered.items in
+    let rest = c.tell_registers_and_counts.new.gathered.items in
     let before = g.K.Sink.taken c.args.out.now in
     let after = g.K.Sink.taken c.add.new.out in
     let later = g.K.Sink.taken c.tell_registers_and_counts.new.out in
-    gathers_on c.tell_registers_and_counts.result old mid left (core_of m) (behind m) before after later
-    (subst (λ t. IsSent (old ++ t) mid before after) core c.in_ok-add.ensures.text)
-    (subst (λ x. Gathers mid left after later c.tell_registers_and_counts.result (behind x)) c.machine.view_is c.tell_registers_and_counts.ensures.text)
+    gathers_on c.tell_registers_and_counts.result old mid rest (core_of m) (behind_of c.args.bounds.slots c.args.bounds.events m) before after later
+    (subst (λ t. IsSent (old ++ t) mid before after) core c.in_ok-add.ensures.text) c.tell_registers_and_counts.ensures.text

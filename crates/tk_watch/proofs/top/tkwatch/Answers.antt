@@ -4,7 +4,7 @@ use Rattle.tk_watch.proofs.top.tkwatch.Goals as goal
 
 pub returns-in-Run : goal.returns-in-Run
 returns-in-Run g c =
-    let answer = answer_shown _ _ _ _ _ _ _ _ c.in-Run.request _ c.in-Some.ensures.cases.0 c.run_job.ensures.asks c.in-Run.is c.show.ensures.shows in
+    let answer = answer_shown _ _ _ _ _ _ _ _ c.in-Run.request _ c.in-Some.ensures.cases.0 c.run_job.ensures.asks c.in-Run.is c.show_run.ensures.shows in
     record { answer = answer; exact = answer_is_exact _ _ _ _ _ _ answer; lines = λ request n. tells_all _ request.script.events n }
 
 pub returns-in-Print : goal.returns-in-Print

@@ -1,8 +1,11 @@
-use Rattle.std.proofs.Common.{subst, refl, sym, ◌∙◌, arith}
+use Rattle.std.proofs.Common.{◌-◌, [], subst, refl, sym, ◌∙◌, arith}
 use Rattle.std.specs.Io.KnownBytes.{Appends}
 use Rattle.byte_streams.specs.Streams.{CutShort}
 use Rattle.program_steps.specs.Ready.{IsKept}
+use Rattle.tk_run.specs.InTurn.{GoOutInTurn}
 use Rattle.tk_run.specs.Running.{HasAdvanced}
+use Rattle.tk_run.proofs.InTurn.{begins_in_turn}
+use Rattle.tk_run.proofs.WholeRun.{over_is}
 use Rattle.tkernel_cli.specs.RestartRuns.{RunsOver, second_start}
 use Rattle.cli_words.specs.Stream.{stream}
 use Rattle.printed_text.specs.RestartLines.{restart_text}
@@ -46,6 +49,9 @@ returns-in-Err-advance g c = record {
       let first = stream g.K.Sink.taken g.K.Sink.faults c.put.new.k in
       let now = stream g.K.Sink.taken g.K.Sink.faults c.advance.new.out in
       let advanced = subst (λ n. HasAdvanced (second_start request flash) c.advance.new.self n first.told now.told c.advance.result) (sym steps) (subst (λ m. HasAdvanced m c.advance.new.self c.args.steps first.told now.told c.advance.result) same c.advance.ensures.advanced) in
+      let start = over_is request.image flash request.script request.options.quantum request.options.swap faithful kept in
+      let turns = subst (λ m. GoOutInTurn g.K.Sink.taken m c.put.new.k c.advance.new.out (c.advance.new.self.steps - m.steps)) same c.advance.ensures.turns in
       over_cut request flash (restart_text c.args.told.kept c.args.told.dropped) before first now c.advance.result c.in-Err-advance.field-0 c.advance.new.self
-      faithful kept (omega (arith, steps, c.requires.steps)) put c.in-Ok.ensures.cause.later advanced c.in-Err-advance.is c.advance.ensures.cause;
+      faithful kept (omega (arith, steps, c.requires.steps)) put c.in-Ok.ensures.cause.later advanced c.in-Err-advance.is c.advance.ensures.cause
+      (begins_in_turn g.K.Sink.taken _ _ _ [] c.advance.new.self c.put.new.k c.advance.new.out start turns);
 }

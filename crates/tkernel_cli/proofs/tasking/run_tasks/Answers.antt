@@ -1,5 +1,7 @@
-use Rattle.std.proofs.Common.{inl, refl, subst}
+use Rattle.std.proofs.Common.{ap, inl, refl, subst}
 use Rattle.tk_tasks.specs.Plays.{HasRunTasks}
+use Rattle.tk_tasks.specs.States.{turns_of}
+use Rattle.tk_tasks.proofs.InTurn.{begins_in_turn}
 use Rattle.cli_words.specs.Stream.{Stream}
 use Rattle.tkernel_cli.proofs.TasksEnds.{can_run, starts_at_boot, tasks_ended, tasks_cut, rose_of}
 use Rattle.tkernel_cli.proofs.tasking.run_tasks.Goals.{in-Ok-run, in-Err-run}
@@ -29,7 +31,8 @@ returns g c =
           | in-Err-run w ↦ rw (w.out-is, w.status-is)
               (tasks_cut request c.in-Ok.tasks c.run.new.self before mid w.in-Err-run.field-0 starts
               (subst (λ r. HasRunTasks request.options.steps c.in-Ok.tasks c.run.new.self before.told mid.told r) w.in-Err-run.is c.run.ensures.run) c.run.ensures.sound
-              (rose_of c.run.result w.in-Err-run.field-0 before.faults mid.faults w.in-Err-run.is c.run.ensures.cause.failed))
+              (rose_of c.run.result w.in-Err-run.field-0 before.faults mid.faults w.in-Err-run.is c.run.ensures.cause.failed)
+              (λ plays last path is. begins_in_turn g.K.Sink.taken request.options.steps c.in-Ok.tasks c.run.new.self last c.args.out.now c.run.new.out plays path (ap (turns_of request.options.steps) is) c.run.ensures.turns))
         ];
       });
     }

@@ -23,4 +23,4 @@ pub returns-clause-turns : goal.returns-clause-turns
 returns-clause-turns g c =
     let written : Tasks → Tasks = λ u. record u { broken = c.is_err-self-inside.result; natural = c.all_counts-counts.result.natural; entries = c.all_counts-counts.result.entries } in
     let went = c.put_plays-result.ensures.turns in
-    subst (λ (t : Tasks). WentOutInTurn g.K.Sink.taken c.args.n c.args.self.now t c.args.out.now) (sym (ap written c.self.view_is)) (record { count = went.count; stand = went.stand; turns = went.turns })
+    subst (λ (t : Tasks). WentOutInTurn g.K.Sink.taken c.args.n c.args.self.now t c.args.out.now c.put_plays-result.new.out) (sym (ap written c.self.view_is)) (record { count = went.count; stand = went.stand; turns = went.turns })

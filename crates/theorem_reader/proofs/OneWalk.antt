@@ -1,0 +1,232 @@
+-- From one state walks never part: of two the shorter is the front of the longer. So there is one way through so many steps.
+use Rattle.std.proofs.Common.{◌≡◌, ℕ, zero, suc, ◌+◌, ◌≤◌, Bool, true, false, List, [], ◌∷◌, ◌++◌, map, length, refl, sym, ap, ap₂, ◌∙◌, subst, arith, inl, inr, append-nil}
+use Rattle.std.specs.Prelude.{Some, None}
+use Rattle.flash_words.specs.Layouts.{layout_of, IsRight}
+use Rattle.flat_machine.specs.FlatMachine.{Moment}
+use Rattle.step_laws.specs.Moves.{Inner, Plain, Serve, Move, Begin, Within, Arrive, Take}
+use Rattle.step_laws.specs.Numbers.{Numbers, moved, numbered}
+use Rattle.step_laws.specs.States.{State, Awaited}
+use Rattle.step_laws.specs.StepLaws.{Reaches}
+use Rattle.step_laws.specs.Walks.{Walk, Makes, MakesOf}
+use Rattle.step_laws.proofs.MoveLaws.{one_plain, one_service, one_arrival, one_interrupt, plain_or_service, arrival_or_interrupt, entry_high}
+use Rattle.step_laws.proofs.Ways.{walks_on}
+use Rattle.program_steps.specs.Machines.{Machine, state_of, awaits}
+use Rattle.program_steps.specs.Ready.{IsGoing}
+use Rattle.program_steps.specs.Stepping.{Goes, links_in, IsArrival, NoArrival, OneArrival, AreOwn, Taking, Making, ends_in_arrive}
+use Rattle.tk_run.specs.Running.{StepsTo, IsByStep}
+use Rattle.theorem_reader.proofs.Acting.{Holds, follow}
+use Rattle.theorem_reader.proofs.Pooling.{place_low}
+use Rattle.theorem_reader.proofs.Stepwise.{place_by, last_alone}
+use Rattle.theorem_reader.proofs.Stopping.{IsStop, none_on, serve_stops, stays_over, unmade_stops}
+
+-- Two moves. ----------------------------------------------------------------------------------------------
+
+free_or_owed : {A : Type 0} → (x : State) (w : Awaited) → x.owed ≡ None → x.owed ≡ Some w → A
+free_or_owed x w free owes = absurd (let e : None ≡ Some w = sym free ∙ owes in cc)
+
+true_or_false : {A : Type 0} → ◌≡◌ {A = Bool} true false → A
+true_or_false e = absurd (cc)
+
+one_move : (x y z : State) (m n : Move) → IsRight x.kernel.layout → Makes x m y → Makes x n z → (m ≡ n) × (y ≡ z)
+one_move x y z (Begin line) (Begin line') right one other = let same = one_plain x y z true true line line' one other in (ap (λ l. Begin l) same.1, same.2)
+one_move x y z (Begin line) (Within (Plain line')) right one other = true_or_false (one_plain x y z true false line line' one other).0
+one_move x y z (Begin line) (Within (Serve line' stops)) right one other = absurd (plain_or_service x y z true stops line line' right one other)
+one_move x y z (Begin line) (Arrive target made ops) right one other = free_or_owed x other.owed one.free other.owes
+one_move x y z (Begin line) (Take stops) right one other = free_or_owed x other.owed one.free other.owes
+one_move x y z (Within (Plain line)) (Begin line') right one other = true_or_false (sym (one_plain x y z false true line line' one other).0)
+one_move x y z (Within (Plain line)) (Within (Plain line')) right one other = let same = one_plain x y z false false line line' one other in (ap (λ l. Within (Plain l)) same.1, same.2)
+one_move x y z (Within (Plain line)) (Within (Serve line' stops)) right one other = absurd (plain_or_service x y z false stops line line' right one other)
+one_move x y z (Within (Plain line)) (Arrive target made ops) right one other = free_or_owed x other.owed one.free other.owes
+one_move x y z (Within (Plain line)) (Take stops) right one other = free_or_owed x other.owed one.free other.owes
+one_move x y z (Within (Serve line stops)) (Begin line') right one other = absurd (plain_or_service x z y true stops line' line right other one)
+one_move x y z (Within (Serve line stops)) (Within (Plain line')) right one other = absurd (plain_or_service x z y false stops line' line right other one)
+one_move x y z (Within (Serve line stops)) (Within (Serve line' stops')) right one other =
+    let same = one_service x y z stops stops' line line' one other in
+    (ap₂ (λ l s. Within (Serve l s)) same.0 same.1, same.2)
+one_move x y z (Within (Serve line stops)) (Arrive target made ops) right one other = free_or_owed x other.owed one.free other.owes
+one_move x y z (Within (Serve line stops)) (Take stops') right one other = free_or_owed x other.owed one.free other.owes
+one_move x y z (Arrive target made ops) (Begin line) right one other = free_or_owed x one.owed other.free one.owes
+one_move x y z (Arrive target made ops) (Within (Plain line)) right one other = free_or_owed x one.owed other.free one.owes
+one_move x y z (Arrive target made ops) (Within (Serve line stops)) right one other = free_or_owed x one.owed other.free one.owes
+one_move x y z (Arrive target made ops) (Arrive target' made' ops') right one other =
+    let same = one_arrival x y z target target' ops ops' made made' one other in
+    (ap (λ t. Arrive t made ops) same.0 ∙ ap₂ (λ b k. Arrive target' b k) same.1 same.2, same.3)
+one_move x y z (Arrive target made ops) (Take stops) right one other = absurd (arrival_or_interrupt x y z target ops made stops one other)
+one_move x y z (Take stops) (Begin line) right one other = free_or_owed x one.owed other.free one.owes
+one_move x y z (Take stops) (Within (Plain line)) right one other = free_or_owed x one.owed other.free one.owes
+one_move x y z (Take stops) (Within (Serve line stops')) right one other = free_or_owed x one.owed other.free one.owes
+one_move x y z (Take stops) (Arrive target made ops) right one other = absurd (arrival_or_interrupt x z y target ops made stops other one)
+one_move x y z (Take stops) (Take stops') right one other = let same = one_interrupt x y z stops stops' one other in (ap (λ s. Take s) same.0, same.1)
+
+-- Two walks. ----------------------------------------------------------------------------------------------
+
+pub data Compare (ms ns : List Move) (y z : State) : Type 0 where
+  Behind : (rest : List Move) → ns ≡ ms ++ rest → Walk y rest z → Compare ms ns y z
+  Ahead : (rest : List Move) → ms ≡ ns ++ rest → Walk z rest y → Compare ms ns y z
+
+one_longer : (m : Move) (ms ns : List Move) (y z : State) → Compare ms ns y z → Compare (m ∷ ms) (m ∷ ns) y z
+one_longer m ms ns y z (Behind rest is walk) = Behind rest (ap (λ l. m ∷ l) is) walk
+one_longer m ms ns y z (Ahead rest is walk) = Ahead rest (ap (λ l. m ∷ l) is) walk
+
+pub compare : (image : List ℕ) (quantum : ℕ) (x y z : State) (ms ns : List Move) → IsRight (layout_of (length image)) → Holds image quantum x → Walk x ms y → Walk x ns z → Compare ms ns y z
+compare image quantum x y z [] ns right holds one other = Behind ns refl (subst (λ (s : State). Walk s ns z) one other)
+compare image quantum x y z (m ∷ ms) [] right holds one other = Ahead (m ∷ ms) refl (subst (λ (s : State). Walk s (m ∷ ms) y) other one)
+compare image quantum x y z (m ∷ ms) (n ∷ ns) right holds one other =
+    let same = one_move x one.0 other.0 m n (subst IsRight (sym holds.laid) right) one.1 other.1 in
+    let next = (follow image quantum x (m ∷ []) one.0 (one.0, one.1, refl) holds).holds in
+    let there = subst (λ (s : State). Walk s ns z) (sym same.1) other.2 in
+    subst (λ k. Compare (m ∷ ms) (k ∷ ns) y z) same.0 (one_longer m ms ns y z (compare image quantum one.0 y z ms ns right next one.2 there))
+
+-- no step is taken back where the program doesn't stop by itself
+pub none_back : (x z : State) (rest : List Move) (n : Numbers) → Walk x rest z → (IsStop z.end → ⊥) → n.steps ≤ (numbered rest n).steps
+unfolding moved
+none_back x z [] n walk on = omega arith
+none_back x z (Begin line ∷ rest) n walk on = omega (arith, none_back walk.0 z rest (moved (Begin line) n) walk.2 on)
+none_back x z (Within (Plain line) ∷ rest) n walk on = omega (arith, none_back walk.0 z rest (moved (Within (Plain line)) n) walk.2 on)
+none_back x z (Within (Serve line true) ∷ rest) n walk on = absurd (on (stays_over walk.0 rest z walk.2 (serve_stops x walk.0 line true walk.1 refl)))
+none_back x z (Within (Serve line false) ∷ rest) n walk on = omega (arith, none_back walk.0 z rest (moved (Within (Serve line false)) n) walk.2 on)
+none_back x z (Arrive target made ops ∷ rest) n walk on = omega (arith, none_back walk.0 z rest (moved (Arrive target made ops) n) walk.2 on)
+none_back x z (Take stops ∷ rest) n walk on = omega (arith, none_back walk.0 z rest (moved (Take stops) n) walk.2 on)
+
+-- One step. -----------------------------------------------------------------------------------------------
+
+-- where a step may begin, no move in the midst of one is made
+no_inner : (image : List ℕ) (quantum : ℕ) (m : Machine) (z : State) (inner : Inner) (due : Bool) → Holds image quantum (state_of m) → IsGoing m → MakesOf false (state_of m) inner z
+    → Reaches (links_in m) m.at due (state_of m) → ⊥
+no_inner image quantum m z (Plain line) due holds ready makes (Reaches.Placed undue none enters) = makes.starts (m.at, enters.0)
+no_inner image quantum m z (Plain line) due holds ready makes (Reaches.Owing stub alone owes leads) = free_or_owed (state_of m) _ makes.free owes
+no_inner image quantum m z (Serve line stops) due holds ready makes (Reaches.Placed undue none enters) =
+    let place = place_by image quantum m m.at due holds ready none (Reaches.Placed undue none enters) in
+    let low = (place_low image m.kernel.mote.flash.words m.at m.kernel.mote.cpu.pc place).1 in
+    let high = entry_high m.kernel makes.can in
+    omega (arith, low, high)
+no_inner image quantum m z (Serve line stops) due holds ready makes (Reaches.Owing stub alone owes leads) = free_or_owed (state_of m) _ makes.free owes
+
+-- all are in the midst of a step
+abbrev AreInner : List Move → Type 0
+AreInner [] = Unit {0}
+AreInner (Within inner ∷ moves) = AreInner moves
+AreInner (_ ∷ moves) = ⊥
+
+-- a whole step, and one behind an arrival
+abbrev IsWhole : List Move → Type 0
+IsWhole (Begin line ∷ moves) = AreInner moves
+IsWhole (Take stops ∷ moves) = moves ≡ []
+IsWhole _ = ⊥
+
+abbrev IsStep : List Move → Type 0
+IsStep (Arrive target made ops ∷ moves) = IsWhole moves
+IsStep moves = IsWhole moves
+
+all_inner : (rest : List Inner) → AreInner (map Within rest)
+all_inner [] = tt
+all_inner (inner ∷ rest) = all_inner rest
+
+whole_is : (own : List Move) → AreOwn own → IsWhole own
+whole_is own (Taking stops is) = subst IsWhole (sym is) refl
+whole_is own (Making line rest is few serves) = subst IsWhole (sym is) (all_inner rest)
+
+as_step : (own : List Move) → IsWhole own → IsStep own
+as_step [] whole = absurd whole
+as_step (Begin line ∷ moves) whole = whole
+as_step (Within inner ∷ moves) whole = absurd whole
+as_step (Arrive target made ops ∷ moves) whole = absurd whole
+as_step (Take stops ∷ moves) whole = whole
+
+step_is : (t : ℕ) (arrival own : List Move) → IsArrival t arrival → AreOwn own → IsStep (arrival ++ own)
+step_is t arrival own (NoArrival none) makes = subst (λ a. IsStep (a ++ own)) (sym none) (as_step own (whole_is own makes))
+step_is t arrival own (OneArrival made ops one) makes = subst (λ a. IsStep (a ++ own)) (sym one) (whole_is own makes)
+
+inner_behind : (ms rest : List Move) → AreInner (ms ++ rest) → AreInner rest
+inner_behind [] rest all = all
+inner_behind (Begin line ∷ ms) rest all = absurd all
+inner_behind (Within inner ∷ ms) rest all = inner_behind ms rest all
+inner_behind (Arrive target made ops ∷ ms) rest all = absurd all
+inner_behind (Take stops ∷ ms) rest all = absurd all
+
+whole_behind : (ms rest : List Move) → IsWhole ms → IsWhole (ms ++ rest) → AreInner rest
+whole_behind [] rest one other = absurd one
+whole_behind (Begin line ∷ ms) rest one other = inner_behind ms rest other
+whole_behind (Within inner ∷ ms) rest one other = absurd one
+whole_behind (Arrive target made ops ∷ ms) rest one other = absurd one
+whole_behind (Take stops ∷ ms) rest one other = subst AreInner (sym (sym (ap (λ l. l ++ rest) one) ∙ other)) tt
+
+step_behind : (ms rest : List Move) → IsStep ms → IsStep (ms ++ rest) → AreInner rest
+step_behind [] rest one other = absurd one
+step_behind (Begin line ∷ ms) rest one other = whole_behind (Begin line ∷ ms) rest one other
+step_behind (Within inner ∷ ms) rest one other = absurd one
+step_behind (Arrive target made ops ∷ ms) rest one other = whole_behind ms rest one other
+step_behind (Take stops ∷ ms) rest one other = whole_behind (Take stops ∷ ms) rest one other
+
+none_behind : (image : List ℕ) (quantum : ℕ) (m : Machine) (z : State) (rest : List Move) → Holds image quantum (state_of m) → IsGoing m → AreInner rest → Walk (state_of m) rest z
+    → (rest ≡ []) × (state_of m ≡ z)
+none_behind image quantum m z [] holds ready all walk = (refl, walk)
+none_behind image quantum m z (Begin line ∷ rest) holds ready all walk = absurd all
+none_behind image quantum m z (Within inner ∷ rest) holds ready all walk = absurd (no_inner image quantum m walk.0 inner (awaits m) holds ready walk.1 ready.stands)
+none_behind image quantum m z (Arrive target made ops ∷ rest) holds ready all walk = absurd all
+none_behind image quantum m z (Take stops ∷ rest) holds ready all walk = absurd all
+
+-- Many steps. ---------------------------------------------------------------------------------------------
+
+pub steps_walk : (at : ℕ → Moment) (start : Machine) (n : ℕ) (moves : List Move) (z : Machine) → StepsTo at start n moves z → Walk (state_of start) moves (state_of z)
+steps_walk at start zero moves z (same, none) = subst (λ ms. Walk (state_of start) ms (state_of z)) (sym none) (ap state_of same)
+steps_walk at start (suc n) moves z (y, before, arrival, own, lines, all, steps, stands, arrives, makes, goes) =
+    subst (λ ms. Walk (state_of start) ms (state_of z)) (sym all) (walks_on Makes (state_of start) (state_of y) (state_of z) before (arrival ++ own) (steps_walk at start n before y steps) goes.walk)
+
+-- the same moves lead to the same state
+abbrev pub AreSame : (ms ns : List Move) (y z : Machine) → Type 0
+AreSame ms ns y z = (ms ≡ ns) × (state_of y ≡ state_of z)
+
+pub longer_none : (ms ns rest : List Move) → ns ≡ ms ++ rest → rest ≡ [] → ms ≡ ns
+longer_none ms ns rest is none = sym (is ∙ ap (λ l. ms ++ l) none ∙ append-nil ms)
+
+same_step : (image : List ℕ) (quantum : ℕ) (y z : Machine) (ms ns : List Move) → Holds image quantum (state_of y) → Holds image quantum (state_of z) → IsGoing y → IsGoing z → IsStep ms → IsStep ns
+    → Compare ms ns (state_of y) (state_of z) → AreSame ms ns y z
+same_step image quantum y z ms ns first second ready ready' one other (Behind rest is walk) =
+    let none = none_behind image quantum y (state_of z) rest first ready (step_behind ms rest one (subst IsStep is other)) walk in
+    (longer_none ms ns rest is none.0, none.1)
+same_step image quantum y z ms ns first second ready ready' one other (Ahead rest is walk) =
+    let none = none_behind image quantum z (state_of y) rest second ready' (step_behind ns rest other (subst IsStep is one)) walk in
+    (sym (longer_none ns ms rest is none.0), sym none.1)
+
+pub same_steps : (image : List ℕ) (quantum : ℕ) (at at' : ℕ → Moment) (start : Machine) (n : ℕ) (ms ns : List Move) (y z : Machine) → IsRight (layout_of (length image))
+    → Holds image quantum (state_of start) → IsGoing y → IsGoing z
+    → StepsTo at start n ms y → StepsTo at' start n ns z → AreSame ms ns y z
+same_steps image quantum at at' start zero ms ns y z right holds ready ready' (same, none) (same', none') = (none ∙ sym none', ap state_of (sym same ∙ same'))
+same_steps image quantum at at' start (suc n) ms ns y z right holds ready ready' (w, before, arrival, own, lines, all, steps, stands, arrives, makes, goes) (w', before', arrival', own', lines', all', steps', stands', arrives', makes', goes') =
+    let earlier = same_steps image quantum at at' start n before before' w w' right holds stands.ready stands'.ready steps steps' in
+    let there = (follow image quantum (state_of start) before (state_of w) (steps_walk at start n before w steps) holds).holds in
+    let other = subst (λ (s : State). Walk s (arrival' ++ own') (state_of z)) (sym earlier.1) goes'.walk in
+    let first = (follow image quantum (state_of w) (arrival ++ own) (state_of y) goes.walk there).holds in
+    let second = (follow image quantum (state_of w) (arrival' ++ own') (state_of z) other there).holds in
+    let same = same_step image quantum y z (arrival ++ own) (arrival' ++ own') first second ready ready' (step_is w.at arrival own arrives makes) (step_is w'.at arrival' own' arrives' makes')
+    (compare image quantum (state_of w) (state_of y) (state_of z) (arrival ++ own) (arrival' ++ own') right there goes.walk other) in
+    (all ∙ ap₂ (λ a b. a ++ b) earlier.0 same.0 ∙ sym all', same.1)
+
+-- A run that goes on made nothing behind its last step.
+quiet_behind : (last z : Machine) (arrival behind : List Move) → behind ≡ arrival → IsArrival last.at arrival → (ends_in_arrive behind ≡ false) → behind ≡ []
+quiet_behind last z arrival behind is (NoArrival none) final = is ∙ none
+quiet_behind last z arrival behind is (OneArrival made ops one) final = true_or_false (sym (ap ends_in_arrive (is ∙ one)) ∙ final)
+
+pub record IsStill (at : ℕ → Moment) (start z : Machine) (n : ℕ) (moves : List Move) : Type 0 where
+  pub last : Machine
+  pub ready : IsGoing last
+  pub steps : StepsTo at start n moves last
+  pub state : state_of last ≡ state_of z
+
+pub is_still : (at : ℕ → Moment) (start z : Machine) (n : ℕ) (moves : List Move) → IsByStep at start z n moves → z.end ≡ None → ends_in_arrive moves ≡ false → z.steps ≡ start.steps + n
+    → IsStill at start z n moves
+is_still at start z n moves is going final done =
+    let alone = last_alone is.before is.behind (sym (ap ends_in_arrive is.all) ∙ final) in
+    let of_step = is.of_step in
+    let none : is.behind ≡ [] = elim of_step.makes [
+      | inl nothing ↦ quiet_behind is.last z of_step.arrival is.behind (of_step.parts ∙ ap (λ l. of_step.arrival ++ l) nothing ∙ append-nil of_step.arrival) of_step.arrives alone
+      | inr makes ↦
+          absurd (none_on z.end (unmade_stops at start is.last z n is.before of_step.arrival of_step.own is.lines is.steps is.stands.ready.going of_step.arrives makes (subst (λ ms. Goes is.last z ms is.lines) of_step.parts is.goes) done) going)
+    ] in
+    record {
+      last = is.last;
+      ready = is.stands.ready;
+      steps = subst (λ ms. StepsTo at start n ms is.last) (sym (is.all ∙ ap (λ l. is.before ++ l) none ∙ append-nil is.before)) is.steps;
+      state = subst (λ ms. Walk (state_of is.last) ms (state_of z)) none is.goes.walk;
+    }

@@ -1,0 +1,12 @@
+use Rattle.std.proofs.Common.{subst}
+use Rattle.tk_watch.specs.ViewWords.{AskForChanges}
+use Rattle.tk_watch.proofs.ViewWordsLaws.{changes_first, changes_size}
+use Rattle.tk_watch.proofs.words.changes.Goals as goal
+
+pub returns-in_err-at-clause-cases : goal.returns-in_err-at-clause-cases
+returns-in_err-at-clause-cases c =
+    rw c.from_residual-in_err-at.ensures (λ behind view ask. changes_first _ _ _ behind view c.in_err-at.ensures.cases (subst (λ w. AskForChanges w behind view) c.in_ok-first.ensures.cases ask))
+
+pub returns-in_err-count-clause-cases : goal.returns-in_err-count-clause-cases
+returns-in_err-count-clause-cases c =
+    rw c.from_residual-in_err-count.ensures (λ behind view ask. changes_size _ _ _ behind view c.in_err-count.ensures.cases (subst (λ w. AskForChanges w behind view) c.in_ok-first.ensures.cases ask))
