@@ -6,10 +6,12 @@
 //     ./reference [--watch FOLDER] STEPS QUANTUM HEX-FILE [SCRIPT-FILE]
 //
 // Into the files lines, state, memory and profile of FOLDER it writes what the views of tkwatch are to show before the stop
-// line: of `state` all but how many slots there are, and the operations on flash.
+// line: of `state` all but how many slots there are, and the operations on flash. So it does for each line of FOLDER's file
+// words that has a view with its own words, as "trace 100 5", "visits 0x0000 0x0012" and "changes 0x0103 4".
 //
 // It knows the ends halted, asleep, spent, wild, io and stack, and no bound of pages stored to.
-// It makes no pages, so lines of failing flash in the script say nothing to it.
+// It makes no pages, so lines of failing flash in the script say nothing to it. One step of simavr's core it puts right: a skip
+// over an ADIW or SBIW whose word looks like a JMP or CALL in some of its bits, which that core takes for two words.
 
 #include <limits.h>
 #include <simavr/sim_avr.h>
@@ -56,6 +58,11 @@ static FILE *told_lines;              // each line behind its step, where this i
 static unsigned long steps;           // that were done
 static unsigned long begun[0x10000];  // how many steps began at each word address
 static bool stored[0x100];            // the pages of 256 bytes that were stored to
+static FILE *told_trace, *told_visits, *told_changes; // where these views are asked for
+static unsigned long first_row, row_count;
+static bool is_place[0x10000];
+static unsigned watched_at, watched_count;
+static uint8_t watched[64]; // what stood in the watched bytes behind the step before
 
 // A device register: whether it is read by a poll, read or written at all, and the name of its lines.
 static const struct device {
@@ -250,6 +257,16 @@ static unsigned store_address(const avr_t *avr, unsigned pc) {
     }
 }
 
+// Whether an instruction may skip the next one: CPSE, SBRC, SBRS, SBIC and SBIS.
+static bool is_skip(unsigned word) {
+    return (word & 0xFC00) == 0x1000 || (word & 0xFC08) == 0xFC00 || (word & 0xFD00) == 0x9900;
+}
+
+// Whether it has a second word: LDS, STS, JMP and CALL.
+static bool has_two_words(unsigned word) {
+    return (word & 0xFC0F) == 0x9000 || word == 0x940C || word == 0x940E;
+}
+
 static bool is_heap(unsigned address) {
     return address >= 0x100 && (address < WINDOW_FIRST || address > WINDOW_LAST);
 }
@@ -259,6 +276,9 @@ static void execute(avr_t *avr, unsigned pc) {
     struct core before = core_of(avr);
     unsigned to = store_address(avr, pc);
     avr->pc = word_at(avr, pc) == SLEEP ? avr->pc + 2 : avr_run_one(avr);
+    if (is_skip(word_at(avr, pc)) && avr->pc == 2 * (pc + 3) && !has_two_words(word_at(avr, pc + 1))) {
+        avr->pc -= 2;
+    }
     if (refused >= 0) {
         put_back(avr, &before);
     } else if (is_heap(to)) {
@@ -266,9 +286,50 @@ static void execute(avr_t *avr, unsigned pc) {
     }
 }
 
+static unsigned status_register(const avr_t *avr) {
+    unsigned sreg = 0;
+    for (unsigned i = 0; i < 8; i++) {
+        sreg |= avr->sreg[i] << i;
+    }
+    return sreg;
+}
+
+static void tell_row(const avr_t *avr, FILE *out) {
+    fprintf(out, "step %lu 0x%04X 0x%04X 0x%02X", steps, avr->pc / 2, stack_pointer(avr), status_register(avr));
+    for (unsigned i = 0; i < 32; i++) {
+        fprintf(out, " 0x%02X", avr->data[i]);
+    }
+    fprintf(out, "\n");
+}
+
+// Tells which of the watched bytes the step changed that began at this pc. Registers are no memory.
+static void tell_changes(const avr_t *avr, unsigned pc, FILE *out) {
+    for (unsigned i = 0; i < watched_count; i++) {
+        unsigned address = watched_at + i;
+        if (address >= 0x100 && avr->data[address] != watched[i]) {
+            fprintf(out, "step %lu 0x%04X 0x%04X 0x%02X 0x%02X\n", steps, pc, address, watched[i], avr->data[address]);
+            watched[i] = avr->data[address];
+        }
+    }
+}
+
+// Tells what is asked for behind so many steps, the last of which began at this pc.
+static void tell_step(const avr_t *avr, unsigned pc) {
+    if (told_changes != NULL) {
+        tell_changes(avr, pc, told_changes);
+    }
+    if (told_visits != NULL && is_place[avr->pc / 2]) {
+        fprintf(told_visits, "step %lu 0x%04X\n", steps, avr->pc / 2);
+    }
+    if (told_trace != NULL && steps >= first_row && steps - first_row < row_count) {
+        tell_row(avr, told_trace);
+    }
+}
+
 static void run(avr_t *avr, unsigned image_words, unsigned long bound, unsigned long quantum) {
     unsigned long crossings = 0;
     bool due = false; // a checkpoint, or the end of a sleep, was the last step
+    tell_step(avr, 0);
     for (;;) {
         unsigned pc = avr->pc / 2, word = word_at(avr, pc), next;
         bool interrupts = due && avr->sreg[S_I] && enabled(avr);
@@ -282,6 +343,7 @@ static void run(avr_t *avr, unsigned image_words, unsigned long bound, unsigned 
             due = false;
             begun[pc]++;
             steps++;
+            tell_step(avr, pc);
             continue;
         } else if (!interrupts && word == SLEEP && !wakes(avr)) {
             printf("asleep 0x%04X", pc);
@@ -298,6 +360,7 @@ static void run(avr_t *avr, unsigned image_words, unsigned long bound, unsigned 
                 steps++;
                 crossings += crosses;
                 due = word == SLEEP || (crosses && crossings % quantum == 0);
+                tell_step(avr, pc);
                 continue;
             }
             printf("fault io 0x%04X address 0x%04X", pc, refused);
@@ -318,14 +381,11 @@ static FILE *file_in(const char *folder, const char *name) {
 }
 
 static void tell_state(const avr_t *avr, FILE *out) {
-    unsigned sreg = 0, pages = 0;
-    for (unsigned i = 0; i < 8; i++) {
-        sreg |= avr->sreg[i] << i;
-    }
+    unsigned pages = 0;
     for (unsigned i = 0; i < 0x100; i++) {
         pages += stored[i];
     }
-    fprintf(out, "pc 0x%04X\nsp 0x%04X\nsreg 0x%02X\n", avr->pc / 2, stack_pointer(avr), sreg);
+    fprintf(out, "pc 0x%04X\nsp 0x%04X\nsreg 0x%02X\n", avr->pc / 2, stack_pointer(avr), status_register(avr));
     for (unsigned i = 0; i < 32; i++) {
         fprintf(out, "r%u 0x%02X\n", i, avr->data[i]);
     }
@@ -360,6 +420,24 @@ static void tell_what_is_left(const avr_t *avr, const char *folder) {
     tell_profile(file_in(folder, "profile"));
 }
 
+static void read_words(const char *folder) {
+    char path[PATH_MAX], line[200];
+    snprintf(path, sizeof path, "%s/words", folder);
+    FILE *file = fopen(path, "r");
+    while (file != NULL && fgets(line, sizeof line, file) != NULL) {
+        if (sscanf(line, "trace %lu %lu", &first_row, &row_count) == 2) {
+            told_trace = file_in(folder, "trace");
+        } else if (sscanf(line, "changes %x %u", &watched_at, &watched_count) == 2) {
+            told_changes = file_in(folder, "changes");
+        } else if (strtok(line, " \n") != NULL) {
+            told_visits = file_in(folder, "visits");
+            for (const char *place = strtok(NULL, " \n"); place != NULL; place = strtok(NULL, " \n")) {
+                is_place[strtoul(place, NULL, 16) & 0xFFFF] = true;
+            }
+        }
+    }
+}
+
 static avr_t *mote(void) {
     avr_t *avr = avr_make_mcu_by_name("atmega128");
     avr->ramend = 0xFFFF;
@@ -390,6 +468,7 @@ int main(int count, char **words) {
     const char *folder = count > 2 && strcmp(words[1], "--watch") == 0 ? words[2] : NULL;
     if (folder != NULL) {
         told_lines = file_in(folder, "lines");
+        read_words(folder);
         words += 2;
         count -= 2;
     }
