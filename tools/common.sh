@@ -1,0 +1,98 @@
+# shellcheck shell=sh disable=SC2034,SC2154
+# What the tools have in common: each reads it by `.`. What fails in a tool itself is one line and status 127, which no run has.
+tools=$(dirname -- "$(readlink -f -- "$0")")
+
+fail() {
+    printf '%s: %s\n' "${0##*/}" "$*" >&2
+    exit 127
+}
+
+# For words that the tool doesn't take; $usage says which it does.
+wrong() {
+    echo "$usage" >&2
+    exit 127
+}
+
+# needs COMMAND: whether it can be run.
+needs() {
+    command -v "$1" > /dev/null || fail "$1, of ${2-binutils-avr}, isn't on the path"
+}
+
+# A folder for what is made on the way.
+make_work() {
+    work=$(mktemp -d) || exit 127
+    trap 'rm -rf "$work"' EXIT
+    trap 'exit 127' HUP INT TERM
+}
+
+# wants_elf FILE: whether it is a linked ELF file for AVR, by the first four of its bytes and by those that name its kind and the machine.
+wants_elf() {
+    { [ -f "$1" ] && [ -r "$1" ]; } || fail "$1 can't be read"
+    [ "$(od -A n -t x1 -N 4 -- "$1") $(od -A n -t u1 -j 18 -N 1 -- "$1" 2> /dev/null)" = ' 7f 45 4c 46   83' ] ||
+        fail "$1 is no ELF file for AVR"
+    [ "$(od -A n -t u1 -j 16 -N 1 -- "$1")" = '   2' ] || fail "$1 isn't linked"
+}
+
+# take_view VIEW ROW: keeps standard input in $work/view, and wants it to be the output of `tkwatch VIEW`: rows that match the
+# pattern ROW, and then the stop line.
+take_view() {
+    cat > "$work/view" || fail "standard input can't be read"
+    reason=$(LC_ALL=C awk -v row="$2" '
+        function quoted(line) { gsub(/[^ -~]/, "?", line); return "\"" substr(line, 1, 60) "\"" }
+        NR == 1 && /^.ELF/ { reason = "this is an ELF file"; exit }
+        NR == 1 && /^(bad |input too long|read fault|no memory|usage: )/ {
+            reason = "this run was refused, by " quoted($0) " (tools/why says why)"
+            exit
+        }
+        stopped { reason = "behind the stop line stands " quoted($0); exit }
+        /^[a-z].* steps [0-9]+ checkpoints [0-9]+$/ { stopped = 1; next }
+        $0 !~ row { reason = "its line " NR " is " quoted($0); exit }
+        END {
+            if (!NR) reason = "its input is empty"
+            else if (!reason && !stopped) reason = "there is no stop line at its end"
+            print reason
+        }' "$work/view")
+    [ -z "$reason" ] || fail "$reason, and it reads the output of tkwatch $1"
+}
+
+# The same for the device lines, of which there are some.
+take_lines() {
+    take_view lines '^step [0-9]+ [A-Z0-9]+ 0x[0-9A-F][0-9A-F]$'
+    grep -q '^step ' "$work/view" || fail "there is no device line: the program wrote to no output, or this is another view"
+}
+
+# watched VIEW WORD.. < INPUT: what tkwatch shows; fails where that isn't built, since building it may take long.
+watched() {
+    for built in "$tools"/../crates/tkwatch/out/built/*/tkwatch; do
+        if [ -x "$built" ]; then
+            "$tools/../tkwatch" "$@"
+            return
+        fi
+    done
+    return 1
+}
+
+# rows FILE HEADING: the rows of the first table below this heading of a document, without their head: cells with tabs between, and no
+# backquotes. Of "A/B" it is the first heading B behind A.
+rows() {
+    awk -v headings="$2" '
+        BEGIN { count = split(headings, heading, "/") }
+        $0 == heading[found + 1] && found < count { found++; next }
+        found < count { next }
+        /^\|/ {
+            gsub(/`/, "")
+            gsub(/^\| | \|$/, "")
+            gsub(/ \| /, "\t")
+            if (row++ > 1) print
+            next
+        }
+        row { exit }' "$tools/../docs/$1"
+}
+
+# A function for awk: the number that hexadecimal digits write.
+awk_number='function number(digits,    value, i) {
+    digits = toupper(digits)
+    for (i = 1; i <= length(digits); i++) value = 16 * value + index("0123456789ABCDEF", substr(digits, i, 1)) - 1
+    return value + 0
+}
+'
