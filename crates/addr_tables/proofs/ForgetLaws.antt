@@ -137,3 +137,11 @@ held_outside layout words words' page old new stays (Forgotten.Stayed outside sa
 pub forgets_tables : (layout : Layout) (words words' : List ℕ) (page : ℕ) (old new : List ℕ) → Forgets page old new → StaysOutside layout words words' page → IsTables layout old words → IsTables layout new words'
 forgets_tables layout words words' page old new forgets stays tables =
     all_tables layout new words' (λ k below. held_outside layout words words' page _ _ stays (forgets_entry page k old new below forgets) (tables_all layout old words tables k below))
+
+-- no entry has its place there, and nothing changes
+pub forgets_none : (page : ℕ) (m : List ℕ) → ((k : ℕ) → k < 160 → ¬ IsIn page (entry_at m (entry_cell k))) → Forgets page m m
+forgets_none page m none = record {
+  emptied = λ k b below near is. absurd (none k below is);
+  stays = λ k b below near out. refl;
+  rest = outside_same m;
+}

@@ -1,16 +1,16 @@
 //! The search, and what changes in the tables.
 
-ghost use Rattle.std.specs.Prelude.{◌≡◌, ℕ, ◌/◌, ◌<◌, ◌↔◌, List, length, Some as Just, None as Nothing, IfErr};
+ghost use Rattle.std.specs.Prelude.{◌≡◌, ℕ, ◌/◌, ◌<◌, ◌↔◌, false, List, length, Some as Just, None as Nothing, IfErr};
 ghost use Rattle.std.specs.Result.{result_ok};
 ghost use Rattle.flash_words.specs.Layouts.{IsRight};
 ghost use Rattle.flash_words.specs.declared.layout.Layout.{Layout as LayoutOf};
 ghost use Rattle.sram_layout.specs.Bytes.{byte_count};
-ghost use Rattle.sram_layout.specs.Cells.{aside_cell, way_cell};
+ghost use Rattle.sram_layout.specs.Cells.{aside_cell, way_cell, entry_at};
 ghost use Rattle.page_index.specs.Entries.{IsEntry, IsMapped};
 ghost use Rattle.page_index.specs.Surveys.{IsSurvey};
 ghost use Rattle.addr_tables.specs.Tables.{IsTables};
 ghost use Rattle.addr_tables.specs.Hits.{hit as hit_of, is_of as is_of_test};
-ghost use Rattle.addr_tables.specs.Changes.{is_pair as is_pair_test, is_in as is_in_test, noted_in_set, noted, noted_if, without_entry, forgotten, Finds, Notes, Forgets, HasNoneIn, StaysOutside};
+ghost use Rattle.addr_tables.specs.Changes.{is_pair as is_pair_test, is_in as is_in_test, noted_in_set, noted, noted_if, without_entry, forgotten, Finds, Notes, Forgets, IsIn, entry_cell, HasNoneIn, StaysOutside};
 
 use flash_model::{Flash, Layout, PAGE_WORDS};
 use page_index::{Places, Survey, entry};
@@ -182,6 +182,33 @@ pub fn forget_page(sram: &mut Sram, page: u16)
     ensures erased { (layout : LayoutOf) → (words words' : List ℕ) → StaysOutside layout words words' page
         → IsTables layout sram.old words → IsTables layout sram.new words' }
     ensures size { (length sram.old ≡ byte_count) × (length sram.new ≡ byte_count) }
+{
+    // Mostly none has, and to look at all takes less time than to stop at one.
+    if has_place_in(sram, page) {
+        forget_each(sram, page);
+    }
+}
+
+/// Whether an entry of either table has its place in the page.
+fn has_place_in(sram: &Sram, page: u16) -> bool
+    ensures none { result ≡ false → (k : ℕ) → k < 160 → ¬ IsIn page (entry_at sram.now (entry_cell k)) }
+    ensures size { length sram.now ≡ byte_count }
+{
+    let mut any = false;
+    'asides: for i in 0..ASIDES as u8 {
+        any = any | is_in(sram.aside(i), page);
+    }
+    'sets: for set in 0..SETS as u8 {
+        any = any | is_in(sram.way(set, 0), page) | is_in(sram.way(set, 1), page);
+    }
+    any
+}
+
+/// Empties each such entry, one after the other.
+#[inline(never)]
+fn forget_each(sram: &mut Sram, page: u16)
+    ensures forgets { Forgets page sram.old sram.new }
+    ensures size { length sram.new ≡ byte_count }
 {
     'asides: for i in 0..ASIDES as u8 {
         forget_aside(sram, page, i);

@@ -60,7 +60,8 @@ impl Cpu {
         requires { low < 31 }
         ensures { result ≡ pair_of self.now low }
     {
-        u16::from_le_bytes([self.register(low), self.register(low + 1)])
+        let first = usize::from(low);
+        u16::from_le_bytes([self.r[first], self.r[first + 1]])
     }
 
     /// Writes the pair whose low register has this number.

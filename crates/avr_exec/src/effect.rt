@@ -17,6 +17,7 @@ use avr_isa::{Form, Ptr, relative};
 
 /// Gives a pointer that changes its new value.
 #[tactic(auto, unfolding(crate::specs::Effects::with_pointer))]
+#[inline(always)]
 pub fn move_pointer(cpu: &mut Cpu, pointer: &Ptr, value: u16)
     ensures after { cpu.new ≡ with_pointer cpu.old pointer.now value }
     ensures pc { cpu.new.pc ≡ cpu.old.pc }

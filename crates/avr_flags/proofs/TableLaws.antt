@@ -1,10 +1,11 @@
 -- What the tables of flags hold, and that SREG is put together of what they give.
-use Rattle.std.proofs.Common.{◌≡◌, ℕ, ◌<◌, ◌+◌, ◌%◌, ◌==◌, nat_le, Bool, true, false, ◌&&◌, if◌then◌else◌, slice_index_or, bit_and, bit_or, bit_xor, refl, ◌∙◌, arith}
+use Rattle.std.proofs.Common.{◌≡◌, ℕ, ◌<◌, ◌+◌, ◌%◌, ◌==◌, nat_le, Bool, true, false, ◌&&◌, slice_index_or, bit_and, bit_or, bit_xor, refl, ◌∙◌, arith}
 use Rattle.std.proofs.lemmas.Bool.{agree_below, agree_below_at, and_parts, eqb-true}
 use Rattle.std.proofs.lemmas.Bool.Decides.{nat_tests}
 use Rattle.std.proofs.lemmas.Nat.{and_mask}
 use Rattle.avr_flags.specs.Status.{has_bit, differ, with_bit, with_result_flags, with_arithmetic_flags, carry, zero_flag}
-use Rattle.avr_flags.specs.declared.tables.TheConstants.{FLAGS}
+use Rattle.avr_flags.specs.Sums.{inc_status, dec_status}
+use Rattle.avr_flags.specs.declared.tables.TheConstants.{FLAGS, COUNTED}
 
 -- whether two functions give the same at each index below n
 abbrev same_below : (ℕ → ℕ) → (ℕ → ℕ) → ℕ → Bool
@@ -46,6 +47,15 @@ unfolding with_result_flags
 of_top_carries k lt =
     same_at (λ k. carries_flags (bit_and k 384)) (λ k. with_arithmetic_flags 0 false false false (differ (has_bit k 128) (has_bit k 256)) (has_bit k 256)) 512 k refl lt
 
+-- the flags after INC and DEC of each byte
+pub of_inc : (d : ℕ) → d < 256 → slice_index_or COUNTED d 0 ≡ inc_status 0 d
+unfolding inc_status with_result_flags
+of_inc d lt = same_at (λ k. slice_index_or COUNTED k 0) (inc_status 0) 256 d refl lt
+
+pub of_dec : (d : ℕ) → d < 256 → slice_index_or COUNTED (256 + d) 0 ≡ dec_status 0 d
+unfolding dec_status with_result_flags
+of_dec d lt = same_at (λ k. slice_index_or COUNTED (256 + k) 0) (dec_status 0) 256 d refl lt
+
 -- a test of a flag that holds whether it is set or clear
 abbrev both : (Bool → Bool) → Bool
 both f = f true && f false
@@ -54,9 +64,9 @@ both_at : (f : Bool → Bool) (b : Bool) → both f ≡ true → f b ≡ true
 both_at f true h = (and_parts (f true) (f false) h).0
 both_at f false h = (and_parts (f true) (f false) h).1
 
--- SREG with T, I, H and C kept, from the flags of a result and V
+-- SREG with T, I, H and C kept, and the flags of a result and V from a byte that is else clear
 abbrev of_parts : Bool → Bool → Bool → ℕ → ℕ
-of_parts n z v s = bit_or (bit_and s 225) (bit_xor (with_result_flags 0 n z false) (if v then 24 else 0))
+of_parts n z v s = bit_or (bit_and s 225) (with_result_flags 0 n z v)
 
 abbrev is_result : Bool → Bool → Bool → Bool
 is_result n z v = same_below (of_parts n z v) (λ s. with_result_flags s n z v) 256

@@ -4,13 +4,14 @@ ghost use Rattle.std.specs.Prelude.{◌≡◌};
 ghost use Rattle.avr_flags.specs.Logic.{bitwise_status as status_of_bitwise, shift_status as status_of_shift, and_of, or_of, eor_of, com_of, lsr_of, ror_of, asr_of};
 
 use crate::status::Status;
+use crate::tables::flags_of_result;
 
 /// The flags after a bitwise operation with this result.
 #[tactic(auto, unfolding(crate::specs::Logic::bitwise_status))]
 fn bitwise_status(sreg: u8, value: u8) -> Status
     ensures { result.0 ≡ status_of_bitwise sreg value }
 {
-    Status::new(sreg).with_result(value, false)
+    Status::new(sreg).with_result(flags_of_result(value))
 }
 
 /// SREG after a shift of `d` to the right with this result.

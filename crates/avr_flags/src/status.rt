@@ -1,6 +1,6 @@
 //! The status register as a set of named flags.
 
-ghost use Rattle.std.specs.Prelude.{⊤, ◌≡◌, [], ◌∷◌, codes, IsTrue, ◌<◌, ◌==◌, nat_le, if◌then◌else◌};
+ghost use Rattle.std.specs.Prelude.{⊤, ◌≡◌, [], ◌∷◌, codes, IsTrue, Bool, ◌<◌, ◌==◌, nat_le};
 ghost use Rattle.avr_flags.specs.Status.{is_weight, has_bit, with_bit, differ, carry, with_result_flags, with_arithmetic_flags};
 ghost use Rattle.avr_flags.specs.Sums.{carry_in};
 
@@ -54,17 +54,6 @@ impl Flags for Status {
     }
 }
 
-/// V, and S as for a result that isn't negative.
-fn overflow_flags(overflow: bool) -> u8
-    ensures { result ≡ if overflow then 24 else 0 }
-{
-    if overflow {
-        Status::OVERFLOW.0 + Status::SIGN.0
-    } else {
-        0
-    }
-}
-
 impl Status {
     /// T and I, which no arithmetic touches.
     const KEPT_BY_SUMS: u8 = Status::TRANSFER.0 | Status::INTERRUPTS.0;
@@ -105,12 +94,11 @@ impl Status {
         self
     }
 
-    /// With N and Z as this result tells, V as given, and S made N xor V.
-    pub(crate) fn with_result(self, value: u8, overflow: bool) -> Status
-        ensures { result.0
-            ≡ with_result_flags self.0 (nat_le 128 value) (value == 0) overflow }
+    /// With N, Z, V and S as this byte has them, in which the others are clear.
+    pub(crate) fn with_result(self, flags: u8) -> Status
+        ensures { (n z v : Bool) → flags ≡ with_result_flags 0 n z v → result.0 ≡ with_result_flags self.0 n z v }
     {
-        Status(self.0 & Status::KEPT_BY_RESULTS | flags_of_result(value) ^ overflow_flags(overflow))
+        Status(self.0 & Status::KEPT_BY_RESULTS | flags)
     }
 
     /// With all flags of a sum or a difference, as its carries (`flags_of_carries`) and its result tell.

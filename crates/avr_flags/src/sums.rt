@@ -4,6 +4,7 @@ ghost use Rattle.std.specs.Prelude.{◌≡◌, ◌+◌, ◌%◌, ◌≤◌, ◌=
 ghost use Rattle.avr_flags.specs.Sums.{byte_difference, sum_status, difference_status, add_of, adc_of, sub_of, sbc_of, neg_of, inc_of, dec_of};
 
 use crate::status::Status;
+use crate::tables::{flags_of_dec, flags_of_inc};
 
 /// The sum of two bytes and a carry, and SREG after it.
 fn sum(sreg: u8, d: u8, r: u8, carry: u8) -> (u8, u8)
@@ -74,9 +75,8 @@ pub fn neg(sreg: u8, d: u8) -> (u8, u8)
 pub fn inc(sreg: u8, d: u8) -> (u8, u8)
     ensures outcome { result ≡ inc_of sreg d }
 {
-    let value = d.wrapping_add(1);
-    let status = Status::new(sreg).with_result(value, value == 0x80);
-    (value, status.sreg())
+    let status = Status::new(sreg).with_result(flags_of_inc(d));
+    (d.wrapping_add(1), status.sreg())
 }
 
 /// DEC: a byte less one. C and H stay.
@@ -84,7 +84,6 @@ pub fn inc(sreg: u8, d: u8) -> (u8, u8)
 pub fn dec(sreg: u8, d: u8) -> (u8, u8)
     ensures outcome { result ≡ dec_of sreg d }
 {
-    let value = d.wrapping_sub(1);
-    let status = Status::new(sreg).with_result(value, value == 0x7F);
-    (value, status.sreg())
+    let status = Status::new(sreg).with_result(flags_of_dec(d));
+    (d.wrapping_sub(1), status.sreg())
 }

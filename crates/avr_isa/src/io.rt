@@ -58,6 +58,7 @@ pub enum IoRegister {
 /// How a program may access the I/O register at a data address, and what the register does (ATmega128
 /// datasheet, "Register Summary"). An address that is no register of the profile allows nothing.
 #[tactic(auto, unfolding(crate::specs::IoTable::can_read, crate::specs::IoTable::can_write, crate::specs::IoTable::register_at))]
+#[inline(always)]
 pub fn io_row(a: u16) -> (IoAccess, IoRegister)
     ensures read { result.0.read ≡ can_read a }
     ensures write { result.0.write ≡ can_write a }

@@ -7,18 +7,18 @@ ghost use Rattle.page_index.specs.Maps.{IsPool, IsFree};
 ghost use Rattle.page_index.specs.Entries.{AreKnown};
 ghost use Rattle.nat_page.specs.Faithful.{IsFaithful};
 ghost use Rattle.nat_page.specs.Making.{HasNoEntry, HasNoFree};
-ghost use Rattle.branch_bridge.specs.Operating.{Program, lacking as lacking_of, with_torn};
+ghost use Rattle.branch_bridge.specs.Operating.{with_torn};
 ghost use Rattle.branch_bridge.specs.Tried.{Tried};
 ghost use Rattle.branch_bridge.specs.Arrivals.{KeepsOtherBytes, Makes, Recycles, Arrives, refusal_in, stopped_by, torn_in, ring_of, turned, recycled_page, Kept, made_in, one_if};
 ghost use Rattle.nat_page.specs.Used.{used_pages};
 ghost use Rattle.branch_bridge.specs.declared.arrival.ArriveStop.TheVariants as stops;
 
-use crate::rewriting::Torn;
+use crate::rewriting::{Torn, lacking};
 use crate::unresolving::unresolve;
 use addr_tables::{find_with_hints, forget_page, note};
 use flash_model::{Flash, Layout, PAGE_WORDS};
-use nat_page::prepare_with;
-use page_index::{Places, unmark_offsets};
+use nat_page::{Hints, KeptDraft, KeptDrafts};
+use page_index::unmark_offsets;
 use sram_layout::Sram;
 
 /// Why control can't go on at an original address.
@@ -77,7 +77,7 @@ pub fn arrive(sram: &mut Sram, flash: &mut Flash, layout: &Layout, t: u16) -> Re
     ensures rest { KeepsOtherBytes sram.old sram.new }
     ensures wild { IsErrOf result (record { why = stops.Wild t; torn = Nothing }) ↔ (layout.now.image_words ≤ t) }
 {
-    arrive_with_hints(sram, flash, layout, &mut Places::new(), t)
+    arrive_with_hints(sram, flash, layout, &mut Hints::new(), t)
 }
 
 /// Arrives as [`arrive`] does, with hints at the places of entries: the pool is searched only where neither the tables nor a
@@ -86,7 +86,7 @@ pub fn arrive_with_hints(
     sram: &mut Sram,
     flash: &mut Flash,
     layout: &Layout,
-    places: &mut Places,
+    hints: &mut Hints,
     t: u16,
 ) -> Result<Moved, Refused>
     requires right { IsRight layout.now }
@@ -106,7 +106,7 @@ pub fn arrive_with_hints(
             torn: None,
         });
     }
-    let mut survey = match find_with_hints(sram, flash, layout, places, t) {
+    let mut survey = match find_with_hints(sram, flash, layout, &mut hints.places, t) {
         Ok(place) => {
             return Ok(Moved {
                 place,
@@ -117,8 +117,17 @@ pub fn arrive_with_hints(
         Err(survey) => survey,
     };
     match survey.free {
-        Some(page) => make_page(sram, flash, layout, &survey.known, page, t, false),
-        None => recycle(sram, flash, layout, &mut survey.known, t),
+        Some(page) => make_page(
+            sram,
+            flash,
+            layout,
+            &mut hints.drafts,
+            &survey.known,
+            page,
+            t,
+            false,
+        ),
+        None => recycle(sram, flash, layout, &mut hints.drafts, &mut survey.known, t),
     }
 }
 
@@ -128,6 +137,7 @@ fn recycle(
     sram: &mut Sram,
     flash: &mut Flash,
     layout: &Layout,
+    drafts: &mut KeptDrafts,
     known: &mut [bool; 128],
     t: u16,
 ) -> Result<Moved, Refused>
@@ -166,7 +176,7 @@ fn recycle(
         }
     }
     turn(sram, layout);
-    make_page(sram, flash, layout, known, victim, t, true)
+    make_page(sram, flash, layout, drafts, known, victim, t, true)
 }
 
 /// Makes the page of `t` in this page, which is free, and notes its place. `known` tells which addresses of `t`'s
@@ -175,6 +185,7 @@ fn make_page(
     sram: &mut Sram,
     flash: &mut Flash,
     layout: &Layout,
+    drafts: &mut KeptDrafts,
     known: &[bool; 128],
     page: u16,
     t: u16,
@@ -194,19 +205,22 @@ fn make_page(
     ensures used { used_pages layout.now (with_torn flash.new.words (torn_in result)) ≡ used_pages layout.now flash.old.words + one_if (again || made_in result) }
     ensures rest { KeepsOtherBytes sram.old sram.new }
 {
-    let prepared = prepare_with(flash, layout, known, page, t);
-    match flash.program(page, &prepared.words) {
+    let mut spare = KeptDraft::none();
+    let draft = drafts.draft(&mut spare, flash, layout, known, t);
+    let words = draft.words();
+    let place = PAGE_WORDS * page + draft.front();
+    match flash.program_known(page, words, draft.micro_ops()) {
         Ok(()) => {
-            note(sram, t, prepared.place);
+            note(sram, t, place);
             Ok(Moved {
-                place: prepared.place,
+                place,
                 made: true,
                 recycled: recycled(again, page),
             })
         }
         Err(stop) => Err(Refused {
             why: ArriveStop::Flash { op: stop.op },
-            torn: lacking(again, page, &prepared.words),
+            torn: lacking(again, page, words),
         }),
     }
 }
@@ -216,20 +230,6 @@ fn recycled(again: bool, page: u16) -> Option<u16>
     ensures value { result ≡ recycled_page again page }
 {
     if again { Some(page) } else { None }
-}
-
-/// The page that lacks these words, if it was erased for them.
-fn lacking(again: bool, page: u16, words: &[u16; 128]) -> Option<Torn>
-    ensures value { result ≡ lacking_of (Program again page words.now) }
-{
-    if again {
-        Some(Torn {
-            page,
-            words: *words,
-        })
-    } else {
-        None
-    }
 }
 
 /// Makes RING name the next page.

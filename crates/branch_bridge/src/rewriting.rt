@@ -3,7 +3,7 @@
 ghost use Rattle.std.specs.Prelude.{◌≡◌, ◌+◌, ◌<◌, ◌^◌};
 ghost use Rattle.flash_words.specs.Pages.{page_count};
 ghost use Rattle.flash_words.specs.Memory.{IsWhole};
-ghost use Rattle.branch_bridge.specs.Operating.{perform, rewriting, stop_of};
+ghost use Rattle.branch_bridge.specs.Operating.{Program, perform, rewriting, lacking as lacking_of, stop_of};
 
 use flash_model::Flash;
 
@@ -32,20 +32,25 @@ pub(crate) fn rewrite(flash: &mut Flash, page: u16, words: &[u16; 128]) -> Resul
     ensures performed { perform flash.old (rewriting page words.now) ≡ record { memory = flash.new; stop = stop_of result } }
     ensures whole { IsWhole flash.old × IsWhole flash.new }
 {
-    match flash.erase(page) {
-        Ok(()) => match flash.program(page, words) {
-            Ok(()) => Ok(()),
-            Err(stop) => Err(ResolveStop {
-                op: stop.op,
-                torn: Some(Torn {
-                    page,
-                    words: *words,
-                }),
-            }),
-        },
+    match flash.rewrite(page, words) {
+        Ok(()) => Ok(()),
         Err(stop) => Err(ResolveStop {
             op: stop.op,
-            torn: None,
+            torn: lacking(stop.erased, page, words),
         }),
+    }
+}
+
+/// The page that lacks these words, if it was erased for them.
+pub(crate) fn lacking(again: bool, page: u16, words: &[u16; 128]) -> Option<Torn>
+    ensures value { result ≡ lacking_of (Program again page words.now) }
+{
+    if again {
+        Some(Torn {
+            page,
+            words: *words,
+        })
+    } else {
+        None
     }
 }

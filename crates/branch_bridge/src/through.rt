@@ -16,7 +16,7 @@ use crate::resolving::resolve;
 use crate::rewriting::ResolveStop;
 use addr_tables::note;
 use flash_model::{Flash, Layout, PAGE_WORDS};
-use page_index::Places;
+use nat_page::Hints;
 use sram_layout::Sram;
 
 /// How an arrival went.
@@ -37,7 +37,7 @@ pub fn arrive_through(
     sram: &mut Sram,
     flash: &mut Flash,
     layout: &Layout,
-    places: &mut Places,
+    hints: &mut Hints,
     t: u16,
     stub: Option<u16>,
 ) -> Arrival
@@ -51,7 +51,7 @@ pub fn arrive_through(
     ensures kept { KeptThrough layout.now (record { flash = flash.old; sram = sram.old }) (record { flash = flash.new; sram = sram.new }) t result }
     ensures parts { KeepsParts layout.now (record { flash = flash.old; sram = sram.old }) (record { flash = flash.new; sram = sram.new }) t stub result }
 {
-    let moved = match arrive_with_hints(sram, flash, layout, places, t) {
+    let moved = match arrive_with_hints(sram, flash, layout, hints, t) {
         Ok(moved) => moved,
         Err(refused) => {
             return Arrival {
@@ -62,7 +62,7 @@ pub fn arrive_through(
         }
     };
     if moved.made || stub.is_none() {
-        places.note_page(flash, moved.place / PAGE_WORDS);
+        hints.places.note_page(flash, moved.place / PAGE_WORDS);
     }
     let refused = match to_resolve(moved.recycled, stub) {
         Some(stub) => refusal(resolve(flash, layout, stub, moved.place)),

@@ -1,7 +1,7 @@
 -- What is decoded follows the words: an address that is decoded again or forgotten, and what a page leaves that changed.
-use Rattle.std.proofs.Common.{◌≡◌, ℕ, ◌+◌, ◌-◌, ◌*◌, ◌%◌, ◌<◌, ◌≤◌, ◌⊎◌, List, ◌++◌, length, get_or, take, drop, arith, rules, ◌∙◌, sym, ap, ap₂, subst, inl, inr}
-use Rattle.std.specs.Prelude.{◌≢◌, replicate, slice_set, slice_index_or}
-use Rattle.std.proofs.lemmas.List.{places, length-set, get_or-set_same, get_or-set_other, length-replicate, get_or-replicate, take-replicate}
+use Rattle.std.proofs.Common.{◌≡◌, ℕ, ◌+◌, ◌-◌, ◌*◌, ◌%◌, ◌<◌, ◌≤◌, ◌⊎◌, List, ◌++◌, length, get_or, take, drop, arith, rules, refl, ◌∙◌, sym, ap, ap₂, subst, inl, inr}
+use Rattle.std.specs.Prelude.{◌≢◌, replicate, slice_set, slice_index, slice_index_or}
+use Rattle.std.proofs.lemmas.List.{places, length-take-le, get_or-take, length-set, get_or-set_same, get_or-set_other, length-replicate, get_or-replicate, take-replicate}
 use Rattle.std.proofs.lemmas.Bool.{cases_lt, cases_eq}
 use Rattle.avr_ops.specs.declared.micro_op.MicroOp.{MicroOp}
 use Rattle.avr_ops.specs.declared.micro_op.MicroOp.TheVariants.{Undecoded}
@@ -9,10 +9,10 @@ use Rattle.avr_ops.specs.MicroOps.{CanStandFor}
 use Rattle.avr_ops.proofs.UndecodedLaws.{stands_for_any}
 use Rattle.flash_model.specs.declared.decoded.Decoded.{Decoded}
 use Rattle.flash_model.specs.declared.decode_cache.DecodeCache.{DecodeCache}
-use Rattle.flash_words.specs.Pages.{word_count, page_count, page_words, word_at, set_page}
+use Rattle.flash_words.specs.Pages.{word_count, page_count, page_words, word_at, page_of, set_page}
 use Rattle.flash_model.specs.Code.{behind, decoded_of, decoded_at}
-use Rattle.flash_model.specs.DecodeCache.{HasDecoded, HasMicroOp, StandsAt, IsOutside, IsCache, IsCacheBeside, AreDecoded, AreDecodedOutside, AreDecodedBeside, AreMicroOps, AreMicroOpsOutside, AreMicroOpsBeside}
-use Rattle.flash_words.proofs.PageLaws.{word_out_of_page}
+use Rattle.flash_model.specs.DecodeCache.{HasDecoded, HasMicroOp, StandsAt, IsOutside, IsCache, IsCacheBeside, AreDecoded, AreDecodedOutside, AreDecodedBeside, AreMicroOps, AreMicroOpsOutside, AreMicroOpsBeside, StandForPage}
+use Rattle.flash_words.proofs.PageLaws.{word_in_page, word_out_of_page, page_word}
 
 -- What is decoded at the first addresses. ---------------------------------------------------------
 
@@ -126,6 +126,32 @@ forgotten_part words old from n end h =
       ];
     }
 
+-- a range whose micro-operations are told
+pub told_range : (words : List ℕ) (old new : List MicroOp) (from : ℕ) → from + length new ≤ word_count → ((i : ℕ) (op : MicroOp) → i < length new → StandsAt words (from + i) (slice_index_or new i op)) → AreMicroOps words old → AreMicroOps words (take from old ++ new ++ drop (from + length new) old)
+told_range words old new from end stand h =
+    let n = length new in
+    let inside : from + n ≤ length old = omega (arith, h.sized) in
+    let Stands : ℕ → MicroOp → Type 0 = λ a op. StandsAt words a op in
+    record {
+      sized = length-put from n old new refl inside ∙ h.sized;
+      each = λ a within op. elim (cases_lt a from) [
+        | inl below ↦ subst (Stands a) (sym (put_below from n a old new op refl inside below)) (h.each a within op)
+        | inr start ↦ elim (cases_lt a (from + n)) [
+          | inl before ↦ (
+              let place : from + (a - from) ≡ a = omega arith in
+              let here = subst (λ (b : ℕ). StandsAt words b (slice_index_or new (a - from) op)) place (stand (a - from) op (omega arith)) in
+              subst (Stands a) (sym (put_in from n a old new op refl inside start before)) here)
+          | inr above ↦ subst (Stands a) (sym (put_above from n a old new op refl inside above)) (h.each a within op)
+        ]
+      ];
+    }
+
+-- those of a page's words but the last
+pub told_words : (words : List ℕ) (old told new : List MicroOp) (first : ℕ) → length told ≡ page_words → first + page_words ≤ word_count → ((i : ℕ) (op : MicroOp) → i + 1 < page_words → StandsAt words (first + i) (slice_index_or told i op)) → new ≡ take first old ++ take 127 told ++ drop (first + length (take 127 told)) old → AreMicroOps words old → AreMicroOps words new
+told_words words old told new first size end stand is h =
+    let count : length (take 127 told) ≡ 127 = length-take-le 127 told (omega (arith, size)) in
+    subst (AreMicroOps words) (sym is) (told_range words old (take 127 told) first (omega (arith, count)) (λ i op near. subst (λ (o : MicroOp). StandsAt words (first + i) o) (sym (get_or-take 127 told i op (omega arith))) (stand i op (omega arith))) h)
+
 -- a range in whose place as many of none are put
 pub none_put : (items none : List MicroOp) (from to : ℕ) → from ≤ to → to ≤ from + page_words → none ≡ take (to - from) (replicate page_words Undecoded) → take from items ++ none ++ drop (from + length none) items ≡ take from items ++ replicate (to - from) Undecoded ++ drop to items
 none_put items none from to order few is =
@@ -186,6 +212,41 @@ pub erased_beside : (words new : List ℕ) (cache : DecodeCache) (page : ℕ) �
 erased_beside words new cache page h size few long =
     let inside : page_words * page + page_words ≤ length words = omega (arith, size) in
     cache_beside words (set_page words page new) cache (page_words * page) (page_words * page + page_words) h (λ a out. sym (word_out_of_page words new page a long inside out))
+
+-- a page with its words, whose micro-operations are told
+pub told_page : (words new : List ℕ) (micro_ops : List MicroOp) (page : ℕ) → length words ≡ word_count → page < page_count → length new ≡ page_words → StandForPage new micro_ops → (i : ℕ) (op : MicroOp) → i + 1 < page_words → StandsAt (set_page words page new) (page_words * page + i) (slice_index_or micro_ops i op)
+told_page words new micro_ops page size few long stand i op near =
+    let first = page_words * page in
+    let next : behind (first + i) ≡ first + (i + 1) = omega arith in
+    let one : word_at (set_page words page new) (first + i) ≡ word_at new i = word_in_page words new page (first + i) long (omega arith) (omega arith) (omega arith) ∙ ap (word_at new) (omega arith) in
+    let two : word_at (set_page words page new) (behind (first + i)) ≡ word_at new (i + 1) = ap (word_at (set_page words page new)) next ∙ word_in_page words new page (first + (i + 1)) long (omega arith) (omega arith) (omega arith) ∙ ap (word_at new) (omega arith) in
+    subst (λ (d : Decoded). CanStandFor (slice_index_or micro_ops i op) d.instr d.next_size) (ap₂ decoded_of (sym one) (sym two)) (stand i op near)
+
+-- a word of a page that is the same in the words that the page gets
+word_kept : (words new : List ℕ) (page a : ℕ) → length new ≡ page_words → page_words * page + page_words ≤ length words → page_words * page ≤ a → a < page_words * page + page_words → slice_index (page_of words page) (a - page_words * page) ≡ slice_index new (a - page_words * page) → word_at words a ≡ word_at (set_page words page new) a
+word_kept words new page a long inside above below same =
+    let k = a - page_words * page in
+    let there : page_words * page + k ≡ a = omega arith in
+    ap (word_at words) (sym there) ∙ sym (page_word words page k (omega arith)) ∙ same ∙ sym (word_in_page words new page a long inside above below)
+
+-- a page that gets words which outside of a range are its own
+pub rewritten_beside : (words new : List ℕ) (cache : DecodeCache) (page from to : ℕ) → IsCache words cache → length words ≡ word_count → page < page_count → length new ≡ page_words → to ≤ page_words
+    → ((k : ℕ) → k < from → slice_index (page_of words page) k ≡ slice_index new k)
+    → ((k : ℕ) → to ≤ k → k < page_words → slice_index (page_of words page) k ≡ slice_index new k)
+    → IsCacheBeside (set_page words page new) cache (page_words * page + from) (page_words * page + to)
+rewritten_beside words new cache page from to h size few long within before behind =
+    let first = page_words * page in
+    let inside : first + page_words ≤ length words = omega (arith, size) in
+    cache_beside words (set_page words page new) cache (first + from) (first + to) h (λ a out. elim (cases_lt a first) [
+      | inl below ↦ sym (word_out_of_page words new page a long inside (inl below))
+      | inr start ↦ elim (cases_lt a (first + page_words)) [
+        | inl there ↦ word_kept words new page a long inside start there (elim out [
+          | inl lower ↦ before (a - first) (omega arith)
+          | inr higher ↦ behind (a - first) (omega arith) (omega arith)
+        ])
+        | inr above ↦ sym (word_out_of_page words new page a long inside (inr above))
+      ]
+    ])
 
 -- what stays as it was
 pub decoded_stay : (words : List ℕ) (old new : List Decoded) (from to : ℕ) → new ≡ old → AreDecodedBeside words old from to → AreDecodedBeside words new from to

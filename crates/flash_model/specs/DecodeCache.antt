@@ -1,12 +1,12 @@
--- Serves private functions and the contract of `Flash::micro_ops`: what is decoded of the words of flash: what each of the first
+-- Serves private functions and the contracts of `Flash::micro_ops` and `Flash::program_known`: what is decoded of the words of flash: what each of the first
 -- word addresses has, and for every word address the micro-operation of what is decoded there, or none.
-use Rattle.std.specs.Prelude.{ℕ, ◌≡◌, ◌<◌, ◌≤◌, ◌⊎◌, List, length, slice_index_or}
+use Rattle.std.specs.Prelude.{ℕ, ◌≡◌, ◌+◌, ◌<◌, ◌≤◌, ◌⊎◌, List, length, slice_index_or}
 use Rattle.avr_ops.specs.declared.micro_op.MicroOp.{MicroOp}
 use Rattle.avr_ops.specs.MicroOps.{CanStandFor}
-use Rattle.flash_words.specs.Pages.{word_count}
+use Rattle.flash_words.specs.Pages.{word_count, page_words, word_at}
 use Rattle.flash_model.specs.declared.decoded.Decoded.{Decoded}
 use Rattle.flash_model.specs.declared.decode_cache.DecodeCache.{DecodeCache}
-use Rattle.flash_model.specs.Code.{behind, decoded_at}
+use Rattle.flash_model.specs.Code.{behind, decoded_of, decoded_at}
 
 -- the micro-operation may stand for what is decoded at word address a
 abbrev pub StandsAt : List ℕ → ℕ → MicroOp → Type 0
@@ -53,6 +53,11 @@ pub record AreMicroOpsOutside (words : List ℕ) (micro_ops : List MicroOp) (fro
 pub record AreMicroOpsBeside (words : List ℕ) (micro_ops : List MicroOp) (from to : ℕ) : Type 0 where
   pub sized : length micro_ops ≡ word_count
   pub each : (a : ℕ) → a < word_count → IsOutside a from to → IsOutside (behind a) from to → HasMicroOp words micro_ops a
+
+-- for each of a page's words but the last, whose instruction may have its second word elsewhere, a micro-operation that may stand for it
+abbrev pub StandForPage : List ℕ → List MicroOp → Type 0
+StandForPage words micro_ops = (i : ℕ) (op : MicroOp) → i + 1 < page_words
+    → CanStandFor (slice_index_or micro_ops i op) (decoded_of (word_at words i) (word_at words (i + 1))).instr (decoded_of (word_at words i) (word_at words (i + 1))).next_size
 
 -- all of it is right for these words
 pub record IsCache (words : List ℕ) (cache : DecodeCache) : Type 0 where

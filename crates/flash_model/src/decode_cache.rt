@@ -5,7 +5,7 @@ ghost use Rattle.avr_ops.specs.declared.micro_op.MicroOp.{MicroOp};
 ghost use Rattle.avr_ops.specs.declared.micro_op.MicroOp.TheVariants.{Undecoded};
 ghost use Rattle.flash_words.specs.Pages.{word_count, page_words};
 ghost use Rattle.flash_model.specs.Code.{decoded_at};
-ghost use Rattle.flash_model.specs.DecodeCache.{IsCache, IsCacheBeside, AreDecoded, AreDecodedOutside, AreDecodedBeside};
+ghost use Rattle.flash_model.specs.DecodeCache.{StandsAt, IsCache, IsCacheBeside, AreDecoded, AreDecodedOutside, AreDecodedBeside};
 
 use crate::decoded::Decoded;
 use crate::decoded_pairs::DecodedPairs;
@@ -83,6 +83,16 @@ impl DecodeCache {
         forget(&mut self.micro_ops, (from as u16).wrapping_sub(1));
         forget_range(&mut self.micro_ops, from, to);
         self.renew_decoded(cells, from, to);
+    }
+
+    /// Keeps these micro-operations for the words but the last of the page that begins with this word.
+    pub(crate) fn learn(&mut self, cells: &Cells, first: usize, micro_ops: &[MicroOp; PAGE_WORDS])
+        requires first { first + page_words ≤ word_count }
+        requires stand { (i : ℕ) (op : MicroOp) → i + 1 < page_words → StandsAt cells.now.words (first + i) (slice_index_or micro_ops.now i op) }
+        requires cache { IsCache cells.now.words self.old }
+        ensures cache { IsCache cells.now.words self.new }
+    {
+        put_micro_ops(&mut self.micro_ops, first, &micro_ops[..PAGE_WORDS - 1]);
     }
 
     /// Decodes at the first word addresses again, where they read a word of this range.

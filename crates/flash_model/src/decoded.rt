@@ -2,10 +2,12 @@
 
 ghost use Rattle.std.specs.Prelude.{◌≡◌};
 ghost use Rattle.avr_isa.specs.declared.form.Form.TheVariants.{Nop};
+ghost use Rattle.avr_ops.specs.MicroOps.{CanStandFor};
 ghost use Rattle.flash_model.specs.Code.{decoded_of};
 
 use avr_decode::{decode, size_by_first_word};
 use avr_isa::{Form, Instr};
+use avr_ops::MicroOp;
 
 /// What is decoded at a word address.
 #[derive(Clone, Copy)]
@@ -26,6 +28,14 @@ impl Decoded {
             next_size: size_by_first_word(second),
         }
     }
+}
+
+/// The micro-operation of what these two words begin with.
+pub fn micro_op(first: u16, second: u16) -> MicroOp
+    ensures stands { CanStandFor result (decoded_of first second).instr (decoded_of first second).next_size }
+{
+    let decoded = Decoded::new(first, second);
+    MicroOp::of(&decoded.instr, decoded.next_size)
 }
 
 /// NOP.

@@ -1,15 +1,17 @@
 //! Flash: its words, and what is decoded of them.
 
-ghost use Rattle.std.specs.Prelude.{◌≡◌, ◌≢◌, ℕ, ◌≤◌, ◌<◌, ◌^◌, true, false, [], ◌∷◌, length, OnOk, OnErr, IfOk, IfErr, IfSome, IfNone, slice_index};
+ghost use Rattle.std.specs.Prelude.{◌≡◌, ◌≢◌, ℕ, ◌+◌, ◌≤◌, ◌<◌, ◌^◌, true, false, [], ◌∷◌, length, OnOk, OnErr, IfOk, IfErr, IfSome, IfNone, slice_index};
 ghost use Rattle.flash_words.specs.Pages.{word_count, page_count, word_at, page_of, blank, programmed};
 ghost use Rattle.flash_words.specs.Memory.{IsWhole, erased_flash, new_flash};
 ghost use Rattle.flash_words.specs.Layouts.{most_image_words};
 ghost use Rattle.flash_words.specs.Operations.{next_op, fails, left_by_refusal, erased_page, programmed_page, renewed, Erase, Program, perform, refusal_of};
 ghost use Rattle.flash_model.specs.Code.{decoded_at};
-ghost use Rattle.flash_model.specs.DecodeCache.{AreMicroOps};
+ghost use Rattle.flash_model.specs.DecodeCache.{AreMicroOps, StandForPage};
+ghost use Rattle.flash_model.specs.Rewriting.{rewriting, refusal_in_rewriting};
 ghost use Rattle.flash_words.specs.Jumps.{HasNoJumpInto};
 ghost use Rattle.flash_words.specs.Heads.{head};
 
+use crate::changed_words::{first_changed, last_changed};
 use crate::decode_cache::{DecodeCache, PAGE_WORDS};
 use crate::decoded::Decoded;
 use avr_ops::MicroOp;
@@ -34,6 +36,15 @@ impl Model for Flash {
     ghost view = { λ f. f.cells };
 
     ghost invariant = { λ f. IsWhole f.cells × IsCache f.cells.words f.cache };
+}
+
+/// Why a page was not rewritten.
+#[derive(Clone, Copy, Debug, PartialEq, Eq)]
+pub struct RewriteStop {
+    /// The number of the operation that was refused.
+    pub op: u64,
+    /// Whether the page was erased before it, so that it lacks its words.
+    pub erased: bool,
 }
 
 impl Flash {
@@ -217,5 +228,65 @@ impl Flash {
         let first = PAGE_WORDS * page as usize;
         self.cache.renew(&self.cells, first, first + count);
         Ok(())
+    }
+
+    /// Programs a page that is erased, as [`Flash::program`] does. The micro-operations of its words but the last are told with
+    /// them, so that no step has to make these.
+    pub fn program_known(
+        &mut self,
+        page: u16,
+        words: &[u16; 128],
+        micro_ops: &[MicroOp; 128],
+    ) -> Result<(), FlashStop>
+        requires page { page < page_count }
+        requires room { self.old.ops < 2 ^ 63 }
+        requires erased { page_of self.old.words page ≡ blank }
+        requires micro_ops { StandForPage words.now micro_ops.now }
+        ensures done { OnOk result (self.new ≡ programmed_page self.old page words.now) }
+        ensures free { OnOk result (fails self.old ≡ false) }
+        ensures refused { OnErr result (self.new ≡ left_by_refusal self.old page) }
+        ensures listed { OnErr result (fails self.old ≡ true) }
+        ensures stop { IfErr result (λ stop. stop ≡ record { op = next_op self.old; page = page }) }
+        ensures whole { IsWhole self.old × IsWhole self.new }
+    {
+        self.program(page, words)?;
+        self.cache
+            .learn(&self.cells, PAGE_WORDS * page as usize, micro_ops);
+        Ok(())
+    }
+
+    /// Erases the page and programs it with these words, as [`Flash::erase`] and then [`Flash::program`] do: two operations, of
+    /// which the second isn't tried where the first is refused. What is decoded in front of the first word that changes is kept,
+    /// and behind the last. Not inlined, so that a caller that makes its own answer of this one is.
+    #[inline(never)]
+    pub fn rewrite(&mut self, page: u16, words: &[u16; 128]) -> Result<(), RewriteStop>
+        requires page { page < page_count }
+        requires room { self.old.ops + 1 < 2 ^ 63 }
+        ensures performed { perform self.old (rewriting page words.now) ≡ record { memory = self.new; refusal = refusal_in_rewriting page words.now result } }
+        ensures whole { IsWhole self.old × IsWhole self.new }
+    {
+        let first = PAGE_WORDS * page as usize;
+        let before = self.cells.page(page);
+        let from = first_changed(before, words);
+        let to = last_changed(before, words, from);
+        if let Err(stop) = self.cells.erase(page) {
+            return Err(RewriteStop {
+                op: stop.op,
+                erased: false,
+            });
+        }
+        match self.cells.program(page, words) {
+            Ok(_) => {
+                self.cache.renew(&self.cells, first + from, first + to);
+                Ok(())
+            }
+            Err(stop) => {
+                self.cache.renew(&self.cells, first, first + PAGE_WORDS);
+                Err(RewriteStop {
+                    op: stop.op,
+                    erased: true,
+                })
+            }
+        }
     }
 }

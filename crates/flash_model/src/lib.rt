@@ -20,7 +20,8 @@
 //! [`Flash::decoded`] gives what is decoded at a word address (`decoded.rt`, `specs/Code.antt`), and [`Flash::micro_ops`] the
 //! micro-operation of it, which a step is made by. A micro-operation is made when it is first asked for
 //! ([`Flash::predecode`]), so what no step comes to is never decoded. Behind each operation on a page `decode_cache.rt`
-//! forgets those of the words that changed. Pairs of words that were decoded already are not decoded again
+//! forgets those of the words that changed. [`Flash::rewrite`] erases a page and programs it, and forgets them from the first
+//! word that is another up to the last (`changed_words.rt`). Pairs of words that were decoded already are not decoded again
 //! (`decoded_pairs.rt`). That all this is what the words mean (`specs/DecodeCache.antt`) is an invariant of [`Flash`], and
 //! contracts see the words alone.
 //!
@@ -31,14 +32,15 @@
 //! has the laws of that.
 #![tactic(auto)]
 
+mod changed_words;
 mod decode_cache;
 mod decoded;
 mod decoded_pairs;
 mod flash;
 mod image;
 
-pub use decoded::Decoded;
-pub use flash::Flash;
+pub use decoded::{Decoded, micro_op};
+pub use flash::{Flash, RewriteStop};
 pub use flash_words::{
     BLANK, FIRST_ENTRY, FlashStop, JMP, KERNEL_FIRST, Layout, MOST_ENTRIES, MOST_IMAGE_PAGES,
     MOST_IMAGE_WORDS, PAGE_WORDS, PAGES, RET,

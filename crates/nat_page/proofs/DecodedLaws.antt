@@ -22,7 +22,7 @@ its_own None instr is nop = nop (sym is) ∙ ap (λ f. Some f) is
 its_own (Some f) instr is nop = ap (λ f. Some f) is
 
 -- a word of the image is flash's word at the same address
-same_word : (n a : ℕ) (words : List ℕ) → a < n → a < length words → word (take n words) a ≡ word_at words a
+pub same_word : (n a : ℕ) (words : List ℕ) → a < n → a < length words → word (take n words) a ≡ word_at words a
 same_word n a words below inside = get_or-take n words a 0xFFFF below ∙ get_or_default words a 0xFFFF 0 inside
 
 -- the words of the image are flash's

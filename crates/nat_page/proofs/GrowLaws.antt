@@ -146,7 +146,7 @@ stop_told layout image words pc others (Some next) told none = absurd (none next
 pub drafted : (layout : Layout) (image words : List ℕ) (t others : ℕ) (draft more whole : Draft) (here : Instruction)
     → IsDrafting layout image words t draft here → others ≡ length draft.entries.items + draft.size + here.code_size + 3
     → StopsBehind layout image words here.pc others → Adds draft more here → whole.entries ≡ more.entries
-    → whole.code.items ≡ more.code.items ++ closing_of here → whole.size ≡ more.size + here.closing_size → IsDrafted layout image words t whole
+    → whole.code.items ≡ more.code.items ++ closing_of here → whole.size ≡ more.size + here.closing_size → IsDrafted layout image words t whole here
 unfolding code
 drafted layout image words t others draft more whole here drafting told stops adds entries closed sized =
     let P : ℕ → ℕ → Type 0 = λ pc n. StopsBehind layout image words pc n in
@@ -156,6 +156,8 @@ drafted layout image words t others draft more whole here drafting told stops ad
     record {
       last = last;
       begun = drafting.begun;
+      reached = drafting.reached;
+      read = drafting.read;
       stops = subst (P (address image t last)) (behind layout image words t others draft here drafting told) (subst (λ (pc : ℕ). P pc others) drafting.reached stops);
       entries = ap (λ (e : ArrayVec ℕ). e.items) entries ∙ entries_more image t last draft more here drafting.reached drafting.entries drafting.sized adds;
       code = closed ∙ ap₂ (λ front back. front ++ back) (code_more image t last draft more here drafting.reached drafting.code drafting.read adds) end;
@@ -163,8 +165,8 @@ drafted layout image words t others draft more whole here drafting told stops ad
     }
 
 -- the pieces of the whole draft fit into a page
-pub draft_room : (layout : Layout) (image words : List ℕ) (t : ℕ) (draft : Draft) → IsDrafted layout image words t draft → 2 + length draft.entries.items + draft.size ≤ page_words
-draft_room layout image words t draft drafted =
+pub draft_room : (layout : Layout) (image words : List ℕ) (t : ℕ) (draft : Draft) (here : Instruction) → IsDrafted layout image words t draft here → 2 + length draft.entries.items + draft.size ≤ page_words
+draft_room layout image words t draft here drafted =
     let last = drafted.last in
     let count : length draft.entries.items ≡ suc last = ap length drafted.entries ∙ length-starts image t (suc last) in
     let whole = page_size-is image t last in
@@ -172,8 +174,8 @@ draft_room layout image words t draft drafted =
     let fits = drafted.begun.fits in
     omega (arith, drafted.sized)
 
-pub draft_small : (layout : Layout) (image words : List ℕ) (t : ℕ) (draft : Draft) → IsDrafted layout image words t draft → All (λ entry. entry < 65536 - 128) draft.entries.items
-draft_small layout image words t draft drafted =
+pub draft_small : (layout : Layout) (image words : List ℕ) (t : ℕ) (draft : Draft) (here : Instruction) → IsDrafted layout image words t draft here → All (λ entry. entry < 65536 - 128) draft.entries.items
+draft_small layout image words t draft here drafted =
     let whole = page_size-is image t drafted.last in
     let fits = drafted.begun.fits in
     let P : List ℕ → Type 0 = λ entries. All (λ entry. entry < 65536 - 128) entries in

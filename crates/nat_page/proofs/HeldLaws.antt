@@ -22,7 +22,8 @@ pub record Parts (leads : ℕ → ℕ → Type 0) (image words : List ℕ) (a t 
   pub bodies : Stands leads words (a + (2 + suc last)) (templates image t (suc last))
   pub closing : Stands leads words (a + (2 + suc last + size (templates image t (suc last)))) (closing_at image (address image t last))
 
-map_words-item : (image : List ℕ) (t n i : ℕ) → i < n → get_or (map_words image t n) i 0 ≡ map_word image t n i
+-- an item of the map
+pub map_words-item : (image : List ℕ) (t n i : ℕ) → i < n → get_or (map_words image t n) i 0 ≡ map_word image t n i
 unfolding map_words
 map_words-item image t n i below = get_or-map-range_with_len (λ k. map_word image t n k) 0 n i i 0 below (omega arith)
 

@@ -19,3 +19,5 @@ pub mod WalkLaws
 mod CountLaws
 mod DecodedLaws
 mod OwnLaws
+mod AlikeLaws
+mod KeepLaws

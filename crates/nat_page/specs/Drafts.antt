@@ -59,10 +59,12 @@ pub record IsDrafting (layout : Layout) (image words : List ℕ) (t : ℕ) (draf
   pub code : draft.code.items ≡ templates image t last
   pub sized : draft.size ≡ size (templates image t last)
 
--- the draft has the whole run and its closing
-pub record IsDrafted (layout : Layout) (image words : List ℕ) (t : ℕ) (draft : Draft) : Type 0 where
+-- the draft has the whole run, whose last instruction is this one, and its closing
+pub record IsDrafted (layout : Layout) (image words : List ℕ) (t : ℕ) (draft : Draft) (here : Instruction) : Type 0 where
   pub last : ℕ
   pub begun : IsBegun layout image words t last
+  pub reached : here.pc ≡ address image t last
+  pub read : IsRead image here
   pub stops : StopsBehind layout image words (address image t last) (last + 3 + size (templates image t (suc last)))
   pub entries : draft.entries.items ≡ starts image t (suc last)
   pub sized : draft.size ≡ size (code image t last)

@@ -7,3 +7,4 @@ pub mod Making
 pub mod Used
 pub mod Drafts
 pub mod Unlinking
+pub mod Keeping

@@ -13,14 +13,15 @@ use flash_model::{Flash, Layout, PAGE_WORDS};
 use nat_template::stub_size;
 use page_draft::{Draft, Instruction, read};
 
-/// Gathers the run from `t`, as far as it goes. `known` tells of each address of its original page whether it has an entry.
+/// Gathers the run from `t`, as far as it goes, and tells its last instruction. `known` tells of each address of its original page
+/// whether it has an entry.
 pub(crate) fn draft_run(
     flash: &Flash,
     layout: &Layout,
     known: &[bool; 128],
     t: u16,
     draft: &mut Draft,
-)
+) -> Instruction
     requires right { IsRight layout.now }
     requires known { AreKnown layout.now flash.now.words (t / 128) known.now }
     requires image { length (image_of layout.now flash.now.words) ≡ layout.now.image_words }
@@ -29,7 +30,7 @@ pub(crate) fn draft_run(
     requires entries { draft.old.entries.items ≡ [] }
     requires code { draft.old.code.items ≡ [] }
     requires size { draft.old.size ≡ 0 }
-    ensures drafted { IsDrafted layout.now (image_of layout.now flash.now.words) flash.now.words t draft.new }
+    ensures drafted { IsDrafted layout.now (image_of layout.now flash.now.words) flash.now.words t draft.new result }
 {
     let mut here = read(&FlashImage { flash, layout }, t);
     'run: while let Some(next) = next_in_run(
@@ -44,6 +45,7 @@ pub(crate) fn draft_run(
     }
     draft.add(&here);
     draft.close(&here);
+    here
 }
 
 /// The instruction behind this one, where the run goes on to it. The others have `words` words with the

@@ -26,12 +26,18 @@
 #![tactic(auto)]
 
 mod drafting;
+mod hints;
 mod image;
+mod keeping;
+mod kept_drafts;
 mod making;
 mod unlinking;
 mod using;
 
+pub use hints::Hints;
 pub use image::FlashImage;
+pub use keeping::KeptDraft;
+pub use kept_drafts::KeptDrafts;
 pub use making::{NatStop, Prepared, naturalise, prepare, prepare_with};
 pub use unlinking::{LeadsInto, LinkTest, Unlinked, page_words, without_links};
 pub use using::pages_in_use;

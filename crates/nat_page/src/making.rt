@@ -11,9 +11,8 @@ ghost use Rattle.nat_page.specs.Links.{IsUnresolved};
 ghost use Rattle.nat_page.specs.Used.{used_pages};
 ghost use Rattle.nat_page.specs.Making.{HasNoEntry, IsPrepared, NaturalisesIn};
 
-use crate::drafting::draft_run;
+use crate::keeping::KeptDraft;
 use flash_model::{Flash, Layout, PAGE_WORDS};
-use page_draft::Draft;
 use page_index::known_offsets;
 
 /// Why no page was made.
@@ -105,10 +104,10 @@ pub fn prepare_with(
     ensures only { (words : List ℕ) → (place : ℕ) → IsPrepared layout.now (image_of layout.now flash.now.words) flash.now.words page t words place
         → (words ≡ result.words) × (place ≡ result.place) }
 {
-    let mut draft = Draft::new();
-    draft_run(flash, layout, known, t, &mut draft);
+    let mut draft = KeptDraft::none();
+    draft.make(flash, layout, known, t);
     Prepared {
-        words: draft.words(t),
-        place: PAGE_WORDS * page + 2 + draft.entries.len() as u16,
+        words: *draft.words(),
+        place: PAGE_WORDS * page + draft.front(),
     }
 }

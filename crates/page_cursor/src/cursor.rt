@@ -9,7 +9,8 @@ ghost use Rattle.page_cursor.specs.Cursors.{AreNoted, IsCursor, IsCursorAnywhere
 
 use crate::marks::{Mark, Marks};
 use flash_model::{Flash, KERNEL_FIRST, Layout, MOST_IMAGE_WORDS, PAGE_WORDS};
-use page_index::{Places, address_at, entries, is_free, is_in_pool, place_at};
+use nat_page::Hints;
+use page_index::{address_at, entries, is_free, is_in_pool, place_at};
 use std::alloc::{AllocError, Global};
 
 /// How many addresses an image has at most.
@@ -27,8 +28,8 @@ pub struct Cursor {
     /// For each original address the place of its entry that was read last, in whatever state of flash. What is known of
     /// the place tells whether it is one still.
     placed: [u16; ADDRESSES],
-    /// Where entries of original addresses were seen last, in whatever state of flash.
-    pub places: Places,
+    /// What is remembered for arrivals, in whatever state of flash.
+    pub hints: Hints,
 }
 
 impl Cursor {
@@ -40,7 +41,7 @@ impl Cursor {
         Cursor {
             marks: Marks::new(),
             placed: [0; ADDRESSES],
-            places: Places::new(),
+            hints: Hints::new(),
         }
     }
 
@@ -49,7 +50,8 @@ impl Cursor {
     pub fn boxed(alloc: Global) -> Result<Box<Cursor>, AllocError>
         ensures right { IfOk result (λ cursor. IsCursorAnywhere cursor.value) }
     {
-        let cursor = Box::new(alloc, Cursor::new())?;
+        let mut cursor = Box::new(alloc, Cursor::new())?;
+        cursor.hints.drafts.make_room(alloc);
         Ok(cursor)
     }
 
@@ -149,7 +151,7 @@ impl Cursor {
                 return Some(place);
             }
         }
-        match self.places.hinted(flash, layout, t) {
+        match self.hints.places.hinted(flash, layout, t) {
             None => None,
             Some(listed) => Some(listed.place),
         }

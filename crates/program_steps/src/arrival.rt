@@ -20,8 +20,8 @@ use crate::progress::Progress;
 use branch_bridge::{Arrival, ArriveStop, arrive_at_known_place, arrive_through};
 use flash_model::Flash;
 use kernel_entry::{End, Kernel, Owed};
+use nat_page::Hints;
 use page_cursor::Cursor;
-use page_index::Places;
 
 /// Whether the program may go on where it stands: one that is shut in its part may not outside it, and then ends there
 /// without an arrival.
@@ -81,7 +81,7 @@ fn arrive_renewing_cursor(k: &mut Kernel, p: &mut Progress, cursor: &mut Cursor,
     ensures whole { IsWhole k.new.mote.flash }
     ensures cursor { IsCursor k.new.layout k.new.mote.flash.words cursor.new }
 {
-    let changed = arrive_owed(k, p, &mut cursor.places, owed);
+    let changed = arrive_owed(k, p, &mut cursor.hints, owed);
     keeps_whole(&k.mote.flash);
     forget_if(changed, cursor);
 }
@@ -198,7 +198,7 @@ pub fn at_bound(k: &mut Kernel, p: &mut Progress, cursor: &mut Cursor) -> End
 /// Makes the arrival that is owed. Tells whether flash may have changed. The stub that asked for it leads to its place from
 /// then on. Not inlined, since what it keeps on the stack, with the words of pages, is cleared where it begins.
 #[inline(never)]
-fn arrive_owed(k: &mut Kernel, p: &mut Progress, places: &mut Places, owed: Owed) -> bool
+fn arrive_owed(k: &mut Kernel, p: &mut Progress, hints: &mut Hints, owed: Owed) -> bool
     requires owed { p.old.owed ≡ Some owed }
     requires going { p.old.end ≡ None }
     requires untorn { p.old.torn ≡ None }
@@ -218,7 +218,7 @@ fn arrive_owed(k: &mut Kernel, p: &mut Progress, places: &mut Places, owed: Owed
         &mut k.mote.sram,
         &mut k.mote.flash,
         &k.layout,
-        places,
+        hints,
         owed.target,
         owed.stub,
     );

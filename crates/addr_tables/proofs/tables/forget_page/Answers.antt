@@ -1,40 +1,31 @@
-use Rattle.std.proofs.Common.{◌≡◌, ℕ, List, ◌+◌, ◌*◌, arith, subst}
-use Rattle.addr_tables.specs.Changes.{Forgets}
-use Rattle.addr_tables.proofs.ForgetLaws.{ForgetsFirst, forgets_aside, forgets_way, forgets_all, forgets_gone, forgets_tables}
+use Rattle.addr_tables.proofs.ForgetLaws.{forgets_none, forgets_gone, forgets_tables}
 use Rattle.addr_tables.proofs.ForgottenLaws.{forgets_is}
 use Rattle.addr_tables.proofs.tables.forget_page.Goals as goal
 
-pub asides-preserved : goal.asides-preserved
-asides-preserved c = record {
-  forgets = forgets_aside c.args.page c.asides.i c.args.sram.now c.asides.sram c.forget_aside.new.sram c.forget_aside.ensures.size.0 (omega arith) c.asides.invariant.forgets c.forget_aside.ensures.after;
-  long = λ some. c.forget_aside.ensures.size.1;
-}
-
-pub sets-preserved : goal.sets-preserved
-sets-preserved c =
+pub returns-then-has_place_in : goal.returns-then-has_place_in
+returns-then-has_place_in c =
     let old = c.args.sram.now in
-    let mid = c.forget_way.new.sram in
-    let n = 32 + 2 * c.sets.set in
-    let at : ℕ → List ℕ → Type 0 = λ n m. ForgetsFirst c.args.page n old m in
-    let none : n ≡ n + 0 = omega arith in
-    let one : n + 0 + 1 ≡ n + 1 = omega arith in
-    let two : n + 1 + 1 ≡ 32 + 2 * (c.sets.set + 1) = omega arith in
-    let first = forgets_way c.args.page c.sets.set 0 old c.sets.sram mid c.sets.invariant.long (omega arith) (omega arith) (subst (λ (n : ℕ). at n c.sets.sram) none c.sets.invariant.forgets) c.forget_way.ensures.after in
-    let second = forgets_way c.args.page c.sets.set 1 old mid c.forget_way-in-sets.new.sram c.forget_way.ensures.size.1 (omega arith) (omega arith) (subst (λ (n : ℕ). at n mid) one first) c.forget_way-in-sets.ensures.after in
+    let new = c.forget_each.new.sram in
+    let forgets = c.forget_each.ensures.forgets in
     record {
-      forgets = subst (λ (n : ℕ). at n c.forget_way-in-sets.new.sram) two second;
-      long = c.forget_way-in-sets.ensures.size.1;
+      after = forgets_is c.args.page old new c.forget_each.ensures.size forgets;
+      forgets = forgets;
+      gone = forgets_gone c.args.page old new forgets;
+      tables = λ layout words. forgets_tables layout words words c.args.page old new forgets (λ t v entry outside. entry);
+      erased = λ layout words words'. forgets_tables layout words words' c.args.page old new forgets;
+      size = (c.has_place_in.ensures.size, c.forget_each.ensures.size);
     }
 
-pub returns : goal.returns
-returns c =
+pub returns-else-has_place_in : goal.returns-else-has_place_in
+returns-else-has_place_in c =
     let old = c.args.sram.now in
-    let forgets : Forgets c.args.page old c.sets.sram = forgets_all c.args.page (32 + 2 * c.sets.set) old c.sets.sram (omega arith) c.sets.invariant.forgets in
+    let forgets = forgets_none c.args.page old (c.has_place_in.ensures.none c.if-has_place_in.false) in
+    let size = c.has_place_in.ensures.size in
     record {
-      after = forgets_is c.args.page old c.sets.sram c.sets.invariant.long forgets;
+      after = forgets_is c.args.page old old size forgets;
       forgets = forgets;
-      gone = forgets_gone c.args.page old c.sets.sram forgets;
-      tables = λ layout words. forgets_tables layout words words c.args.page old c.sets.sram forgets (λ t v entry outside. entry);
-      erased = λ layout words words'. forgets_tables layout words words' c.args.page old c.sets.sram forgets;
-      size = (omega (arith, forgets.rest.size, c.sets.invariant.long), c.sets.invariant.long);
+      gone = forgets_gone c.args.page old old forgets;
+      tables = λ layout words. forgets_tables layout words words c.args.page old old forgets (λ t v entry outside. entry);
+      erased = λ layout words words'. forgets_tables layout words words' c.args.page old old forgets;
+      size = (size, size);
     }

@@ -19,7 +19,7 @@ arrive_owed-changed-requires c =
 
 pub returns-clause-cursor : goal.returns-clause-cursor
 returns-clause-cursor c =
-    let cursor : Cursor = record c.args.cursor.now { places = c.arrive_owed-changed.new.places } in
+    let cursor : Cursor = record c.args.cursor.now { hints = c.arrive_owed-changed.new.hints } in
     let known : IsCursor c.args.k.now.layout c.args.k.now.mote.flash.words cursor = c.requires.cursor in
     cursor_kept (whole c.args.k.now c.args.p.now) (whole c.arrive_owed-changed.new.k c.arrive_owed-changed.new.p) c.arrive_owed-changed.result cursor c.forget_if.new.cursor
     c.arrive_owed-changed.ensures.unchanged c.arrive_owed-changed.ensures.arrived c.forget_if.ensures.kept c.forget_if.ensures.forgotten known

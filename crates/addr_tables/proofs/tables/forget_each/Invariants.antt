@@ -1,7 +1,7 @@
 use Rattle.std.proofs.Common.{◌≡◌, ◌+◌, ◌*◌, ◌<◌, length}
 use Rattle.sram_layout.specs.Bytes.{byte_count}
 use Rattle.addr_tables.proofs.ForgetLaws.{ForgetsFirst}
-use Rattle.addr_tables.proofs.tables.forget_page.Given as goal
+use Rattle.addr_tables.proofs.tables.forget_each.Given as goal
 
 abbrev pub invariant-asides : goal.invariant-asides
 invariant-asides l = record { forgets : ForgetsFirst l.page l.i l.fn.sram l.sram; long : 0 < l.i → length l.sram ≡ byte_count }

@@ -1,0 +1,13 @@
+-- Serves the contract of `Flash::rewrite`: a page gets other words, by two operations.
+use Rattle.std.specs.Prelude.{ℕ, if◌then◌else◌, List, [], ◌∷◌, Option, Some, None, Result, Ok, Err}
+use Rattle.flash_words.specs.Operations.{Operation, Erase, Program, Refusal}
+use Rattle.flash_model.specs.declared.flash.RewriteStop.{RewriteStop}
+
+-- a page gets these words
+abbrev pub rewriting : ℕ → List ℕ → List Operation
+rewriting page words = Erase page ∷ Program page words ∷ []
+
+-- what a call that makes both operations tells of a refusal
+abbrev pub refusal_in_rewriting : ℕ → List ℕ → Result Unit RewriteStop → Option Refusal
+refusal_in_rewriting page words (Ok done) = None
+refusal_in_rewriting page words (Err stop) = Some (record { op = stop.op; operation = if stop.erased then Program page words else Erase page })
