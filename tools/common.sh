@@ -25,6 +25,11 @@ make_work() {
     trap 'exit 127' HUP INT TERM
 }
 
+# wants_file FILE: whether it can be read, and is no folder.
+wants_file() {
+    { [ -r "$1" ] && [ ! -d "$1" ]; } || fail "$1 can't be read"
+}
+
 # wants_elf FILE: whether it is a linked ELF file for AVR, by the first four of its bytes and by those that name its kind and the machine.
 wants_elf() {
     { [ -f "$1" ] && [ -r "$1" ]; } || fail "$1 can't be read"
@@ -33,20 +38,38 @@ wants_elf() {
     [ "$(od -A n -t u1 -j 16 -N 1 -- "$1")" = '   2' ] || fail "$1 isn't linked"
 }
 
+# make_hex ELF FILE: makes Intel HEX of it, without the sections that are no program.
+make_hex() {
+    avr-objcopy -O ihex -R .eeprom -R .fuse -R .lock -R .signature -- "$1" "$2" 2> "$work/refusal"
+}
+
+# take_input FILE: keeps standard input there.
+take_input() {
+    cat > "$1" 2> /dev/null || fail "standard input can't be read"
+}
+
 # take_view VIEW ROW: keeps standard input in $work/view, and wants it to be the output of `tkwatch VIEW`: rows that match the
-# pattern ROW, and then the stop line.
+# pattern ROW, whose steps or addresses rise, and then the stop line, which has no fewer steps.
 take_view() {
-    cat > "$work/view" || fail "standard input can't be read"
-    reason=$(LC_ALL=C awk -v row="$2" '
+    take_input "$work/view"
+    reason=$(LC_ALL=C awk -v row="$2" "$awk_number"'
         function quoted(line) { gsub(/[^ -~]/, "?", line); return "\"" substr(line, 1, 60) "\"" }
+        function misplaced() { return "its line " NR " is " quoted($0) ", which can\047t stand behind the line before it" }
+        BEGIN {
+            address = "0x[0-9A-F][0-9A-F][0-9A-F][0-9A-F]"
+            end = "spent|flash fault [0-9]+|(halted|asleep|fault [a-z]+) " address "( address " address ")?"
+            stop = "^(" end ") steps [0-9]+ checkpoints [0-9]+$"
+        }
         NR == 1 && /^.ELF/ { reason = "this is an ELF file"; exit }
         NR == 1 && /^(bad |input too long|read fault|no memory|usage: )/ {
             reason = "this run was refused, by " quoted($0) " (tools/why says why)"
             exit
         }
         stopped { reason = "behind the stop line stands " quoted($0); exit }
-        /^[a-z].* steps [0-9]+ checkpoints [0-9]+$/ { stopped = 1; next }
+        $0 ~ stop { stopped = 1; if (row ~ /step/ && at > $(NF - 2)) reason = misplaced(); next }
         $0 !~ row { reason = "its line " NR " is " quoted($0); exit }
+        { before = at; at = $1 == "step" ? $2 + 0 : number(substr($1, 3)) }
+        NR > 1 && at <= before { reason = misplaced(); exit }
         END {
             if (!NR) reason = "its input is empty"
             else if (!reason && !stopped) reason = "there is no stop line at its end"
@@ -57,7 +80,7 @@ take_view() {
 
 # The same for the device lines, of which there are some.
 take_lines() {
-    take_view lines '^step [0-9]+ [A-Z0-9]+ 0x[0-9A-F][0-9A-F]$'
+    take_view lines '^step [1-9][0-9]* (PORT[A-D]|DDR[A-D]|UART0) 0x[0-9A-F][0-9A-F]$'
     grep -q '^step ' "$work/view" || fail "there is no device line: the program wrote to no output, or this is another view"
 }
 

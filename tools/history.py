@@ -45,7 +45,7 @@ class Program:
         """Wrong options are refused whatever the input is, and others come to it: here it is empty."""
         status, line = self.answer(["lines", *options], os.devnull)
         if status == 4:
-            raise Refused(f"these are no options of run: {shlex.join(options)}")
+            raise Refused(f"run doesn't take these options: {shlex.join(options)}")
         if status != 3:
             raise Refused(f'tkwatch ended by status {status}: "{line}"')
 

@@ -9,17 +9,6 @@ say_if_long() {
     fi
 }
 
-# wants_code_of ELF INPUT NAME: whether the HEX text in front of the input, which has this name, has the file's code. It may be longer;
-# without avr-objcopy, or of what that can't read, nothing is said.
-wants_code_of() {
-    command -v avr-objcopy > /dev/null || return 0
-    sed '/^:00....01/q' "$2" > "$work/code.hex"
-    if avr-objcopy -O binary -R .eeprom -R .fuse -R .lock -R .signature -- "$1" "$work/code" 2> "$work/refusal" &&
-        avr-objcopy -I ihex -O binary -- "$work/code.hex" "$work/given" 2> "$work/refusal"; then
-        cmp -s -n "$(wc -c < "$work/code")" "$work/code" "$work/given" || fail "$1 isn't the program that $3 has"
-    fi
-}
-
 # is_in_frame SP ADDRESS: whether an access to a register's address was one to local variables, since they reach down to there, or
 # around the end of memory; an array has at most 32,767 bytes. A stack pointer of 0 was never set.
 is_in_frame() {

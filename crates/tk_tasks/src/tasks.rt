@@ -36,19 +36,16 @@ pub struct Tasks {
     pub pages: u64,
     /// Changes of the running task.
     pub switches: u64,
-    /// What a run knows of places, on the heap. The type keeps it right for flash as it is.
-    pub(crate) cursor: Box<Cursor>,
+    /// What a run knows of places, on the heap, while none is under way.
+    cursor: Option<Box<Cursor>>,
 }
 
 impl Model for Tasks {
-    ghost use Rattle.page_cursor.specs.Cursors.{IsCursor};
     ghost use Rattle.tk_tasks.specs.States.{Tasks as TasksValue};
 
     ghost Value = { TasksValue };
 
     ghost view = { λ t. record { kernel = t.kernel; running = t.running; stub = t.stub; tasks = t.tasks.items; broken = t.broken; natural = t.natural; entries = t.entries; pages = t.pages; switches = t.switches } };
-
-    ghost invariant = { λ t. IsCursor t.kernel.layout t.kernel.mote.flash.words t.cursor.value };
 }
 
 impl Tasks {
@@ -85,7 +82,20 @@ impl Tasks {
             entries: 0,
             pages: 0,
             switches: 0,
-            cursor,
+            cursor: Some(cursor),
         })
+    }
+    /// Gives away what a run knows of places.
+    pub(crate) fn take_cursor(&mut self) -> Option<Box<Cursor>>
+        ensures same { self.new ≡ self.old }
+    {
+        self.cursor.take()
+    }
+
+    /// Keeps this for what a run knows of places.
+    pub(crate) fn keep_cursor(&mut self, cursor: Option<Box<Cursor>>)
+        ensures same { self.new ≡ self.old }
+    {
+        self.cursor = cursor;
     }
 }

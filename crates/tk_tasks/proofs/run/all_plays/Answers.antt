@@ -14,6 +14,7 @@ plays-init g c = record {
   sound = c.requires.sound;
   whole = c.requires.whole;
   quantum = refl;
+  cursor = c.requires.cursor;
   counted = refl;
   turns = λ turn below. absurd (omega (arith, below));
   faults = omega arith;
@@ -47,6 +48,7 @@ plays-preserved g c =
       sound = c.play-shown.ensures.sound;
       whole = c.play-shown.ensures.whole;
       quantum = quantum;
+      cursor = c.play-shown.ensures.cursor;
       counted = counts_on c.plays.done r.count c.plays.invariant.way.plays c.play-shown.ensures.played.plays c.plays.invariant.counted c.play-shown.ensures.played.counted;
       turns = turns_later g.K.Sink.taken c.args.n c.args.t.now c.args.out.now c.send_in_turn.new.out c.put_shown.new.out _
           (told_on_turns g.K.Sink.taken c.args.n c.args.t.now c.plays.t new c.args.out.now c.plays.out c.send_in_turn.new.out c.plays.done r.count c.plays.gathered.items c.send_in_turn.new.gathered.items told c.plays.invariant.way c.plays.invariant.turns c.plays.invariant.counted

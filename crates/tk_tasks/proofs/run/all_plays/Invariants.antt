@@ -1,5 +1,6 @@
 use Rattle.std.proofs.Common.{◌≡◌, ◌≤◌, ◌%◌, length, false}
 use Rattle.line_gathering.specs.Gathering.{turn_steps}
+use Rattle.page_cursor.specs.Cursors.{IsCursor}
 use Rattle.tk_tasks.specs.States.{AreSound, turns_of}
 use Rattle.tk_tasks.specs.InTurn.{GoOutInTurn}
 use Rattle.tk_tasks.specs.Running.{IsUnderWay}
@@ -13,6 +14,7 @@ invariant-plays g l = record {
   sound : AreSound l.t;
   whole : l.t.broken ≡ false;
   quantum : l.t.kernel.quantum ≡ l.fn.t.kernel.quantum;
+  cursor : IsCursor l.t.kernel.layout l.t.kernel.mote.flash.words l.cursor;
   counted : l.done ≡ length way.plays % turn_steps;
   turns : GoOutInTurn g.K.Sink.taken l.n l.fn.t l.fn.out l.out (length way.plays);
   faults : g.K.Sink.faults l.fn.out ≤ g.K.Sink.faults l.out;

@@ -1,12 +1,10 @@
-use Rattle.tk_tasks.proofs.InTurn.{puts_more, went_later}
-use Rattle.tk_tasks.proofs.Runs.{sent_all}
+use Rattle.std.proofs.Common.{sym, subst}
+use Rattle.tk_tasks.specs.States.{Tasks}
+use Rattle.tk_tasks.specs.InTurn.{WentOutInTurn}
 use Rattle.tk_tasks.proofs.run.put_plays.Goals as goal
-
-pub returns-clause-gathered : goal.returns-clause-gathered
-returns-clause-gathered g c =
-    sent_all c.send.result c.args.n c.args.t.now c.all_plays.new.t c.all_plays.new.gathered.items (g.K.Sink.taken c.args.out.now) (g.K.Sink.taken c.all_plays.new.out) (g.K.Sink.taken c.send.new.out) c.in_ok-all_plays.ensures.gathered c.send.ensures.text
 
 pub returns-clause-turns : goal.returns-clause-turns
 returns-clause-turns g c =
-    went_later g.K.Sink.taken c.args.n c.args.t.now c.all_plays.new.t c.args.out.now c.all_plays.new.out c.send.new.out c.in_ok-all_plays.ensures.turns
-    (puts_more c.send.result (g.K.Sink.taken c.all_plays.new.out) (g.K.Sink.taken c.send.new.out) _ c.send.ensures.text)
+    let by = c.put_plays_by-result in
+    let began = subst (λ (t : Tasks). WentOutInTurn g.K.Sink.taken c.args.n t by.new.t c.args.out.now by.new.out) c.take_cursor-kept.ensures.same by.ensures.turns in
+    subst (λ (t : Tasks). WentOutInTurn g.K.Sink.taken c.args.n c.args.t.now t c.args.out.now by.new.out) (sym c.keep_cursor.ensures.same) began

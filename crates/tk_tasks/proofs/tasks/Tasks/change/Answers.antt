@@ -1,10 +1,7 @@
 use Rattle.std.proofs.Common.{rules, ap, ◌∙◌, sym, subst}
 use Rattle.std.proofs.lemmas.List.{with_items_is, places}
-use Rattle.flash_words.specs.Memory.{Memory}
-use Rattle.flash_words.specs.declared.layout.Layout.{Layout}
 use Rattle.tk_tasks.specs.States.{Tasks, AreSound, turns_of}
 use Rattle.tk_tasks.proofs.Changing.{given_is, kept_is, changed_sound, changed_turns}
-use Rattle.tk_tasks.proofs.Runs.{changed_layout, changed_flash, cursor_on}
 use Rattle.tk_tasks.proofs.tasks.Tasks.change.Goals as goal
 
 pub returns-in-Some-clause-changed : goal.returns-in-Some-clause-changed
@@ -30,11 +27,3 @@ returns-in_default-clause-sound c = subst AreSound (sym (returns-in_default-clau
 
 pub returns-in_default-clause-turns : goal.returns-in_default-clause-turns
 returns-in_default-clause-turns c = λ n. ap (turns_of n) (returns-in_default-clause-changed c) ∙ changed_turns n c.args.self.now c.requires.sound
-
-pub invariant_of-self : goal.invariant_of-self
-invariant_of-self c =
-    let layout : Tasks → Layout = λ u. u.kernel.layout in
-    let flash : Tasks → Memory = λ u. u.kernel.mote.flash in
-    let t = c.args.self.now in
-    let is = returns-in-Some-clause-changed c in
-    cursor_on c.give_on.new.kernel c.self.inside.kernel c.self.inside.cursor.value (ap layout is ∙ changed_layout t ∙ sym (ap layout c.self.view_is)) (ap flash is ∙ changed_flash t ∙ sym (ap flash c.self.view_is)) c.self.invariant

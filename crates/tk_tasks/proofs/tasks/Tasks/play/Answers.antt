@@ -3,7 +3,7 @@ use Rattle.program_steps.specs.Wholes.{whole}
 use Rattle.tk_tasks.specs.States.{Tasks, AreSound}
 use Rattle.tk_tasks.specs.Changes.{changed_tasks, IsFree}
 use Rattle.tk_tasks.specs.Trying.{HasPlayed, finished, tried_told, kept_tasks}
-use Rattle.tk_tasks.proofs.Runs.{begins, tried_on, kept_is, changed_quantum}
+use Rattle.tk_tasks.proofs.Runs.{begins, tried_on, kept_is, changed_layout, changed_flash, changed_quantum, cursor_on}
 use Rattle.tk_tasks.proofs.tasks.Tasks.play.Goals as goal
 
 pub try_on-tried-requires-clause-ready : goal.try_on-tried-requires-clause-ready
@@ -65,6 +65,17 @@ returns-then-tried-clause-quantum c =
     let is = kept_is c.args.self.now (record { kernel = s.kernel; running = s.running; stub = s.stub; tasks = s.tasks.items; broken = s.broken; natural = s.natural; entries = s.entries; pages = s.pages; switches = s.switches }) c.try_on-tried.new.k c.stub_in-self-inside.result c.from.result on.task c.index_mut.result.now c.keep.new.task (whole c.try_on-tried.new.k c.try_on-tried.new.p) r.end c.try_on-tried.new.p.pages
     c.self.view_is refl c.stub_in-self-inside.ensures.value c.from.ensures c.index_mut.ensures.value on.here (c.keep.ensures.kept c.args.self.now) refl in
     ap (λ (u : Tasks). u.kernel.quantum) (c.change.ensures.changed ∙ ap changed_tasks is) ∙ changed_quantum (kept_tasks c.args.self.now on.task (whole c.try_on-tried.new.k c.try_on-tried.new.p) r.end) ∙ on.all.quantum
+
+pub returns-then-tried-clause-cursor : goal.returns-then-tried-clause-cursor
+returns-then-tried-clause-cursor c =
+    let s = c.self.inside in
+    let r = c.try_on-tried.result in
+    let on = tried_on c.args.n c.args.self.now c.self.inside.kernel c.progress-p.result c.saturating_sub-left.result (whole c.try_on-tried.new.k c.try_on-tried.new.p) c.try_on-tried.result c.requires.sound c.requires.whole c.requires.going (ap (λ (u : Tasks). u.kernel) c.self.view_is) c.progress-p.ensures.progress c.requires.steps c.saturating_sub-left.ensures c.try_on-tried.ensures.tried in
+    let is = kept_is c.args.self.now (record { kernel = s.kernel; running = s.running; stub = s.stub; tasks = s.tasks.items; broken = s.broken; natural = s.natural; entries = s.entries; pages = s.pages; switches = s.switches }) c.try_on-tried.new.k c.stub_in-self-inside.result c.from.result on.task c.index_mut.result.now c.keep.new.task (whole c.try_on-tried.new.k c.try_on-tried.new.p) r.end c.try_on-tried.new.p.pages
+    c.self.view_is refl c.stub_in-self-inside.ensures.value c.from.ensures c.index_mut.ensures.value on.here (c.keep.ensures.kept c.args.self.now) refl in
+    let kept = kept_tasks c.args.self.now on.task (whole c.try_on-tried.new.k c.try_on-tried.new.p) r.end in
+    let new = c.change.ensures.changed ∙ ap changed_tasks is in
+    cursor_on c.change.new.self.kernel c.try_on-tried.new.k c.try_on-tried.new.cursor (ap (λ (u : Tasks). u.kernel.layout) new ∙ changed_layout kept) (ap (λ (u : Tasks). u.kernel.mote.flash) new ∙ changed_flash kept) c.try_on-tried.ensures.cursor
 
 pub returns-else-tried-clause-sound : goal.returns-else-tried-clause-sound
 returns-else-tried-clause-sound c =
