@@ -80,8 +80,8 @@ pub fn arrive(sram: &mut Sram, flash: &mut Flash, layout: &Layout, t: u16) -> Re
     arrive_with_hints(sram, flash, layout, &mut Hints::new(), t)
 }
 
-/// Arrives as [`arrive`] does, with hints at the places of entries: the pool is searched only where neither the tables nor a
-/// hint have one.
+/// Arrives as [`arrive`] does, with hints: the pool is searched only where neither the tables nor a hint have the place, and a page
+/// is drafted only where no draft of it is kept.
 pub fn arrive_with_hints(
     sram: &mut Sram,
     flash: &mut Flash,

@@ -2,12 +2,12 @@
 //!
 //! [`arrive`] gives the place where the rewritten code of the address begins. Where no page has it, the page is
 //! made: in the lowest free page of the pool, or else in the one that RING names, which is recycled.
-//! [`arrive_with_hints`] does the same with hints at the places of entries.
+//! [`arrive_with_hints`] does the same with hints at the places of entries, and with drafts that are kept.
 //! [`arrive_through`] is the whole arrival, through a stub that is resolved then; [`arrive_at_known_place`] is the usual
 //! one, through none, at an address whose place is known, which leaves flash as it is.
 //!
 //! ```rust
-//! let arrival = arrive_through(&mut sram, &mut flash, &layout, &mut places, t, Some(stub));
+//! let arrival = arrive_through(&mut sram, &mut flash, &layout, &mut hints, t, Some(stub));
 //! if let Some(place) = arrival.place { /* control goes on there */ }
 //! if let Some(refused) = arrival.refused { /* outside the image, or flash refused an operation */ }
 //! ```

@@ -30,7 +30,7 @@ pub struct Arrival {
     pub refused: Option<Refused>,
 }
 
-/// An arrival where the tables are right, with hints at the places of entries. `stub` is the word address of the call of
+/// An arrival where the tables are right, with hints (see [`arrive_with_hints`]). `stub` is the word address of the call of
 /// the kernel's bridge through which control came, if it came so: that stub is resolved, unless its page was recycled
 /// for the arrival.
 pub fn arrive_through(

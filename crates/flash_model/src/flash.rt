@@ -109,7 +109,7 @@ impl Flash {
     }
 
     /// For each word address the micro-operation there, for the step that executes it: `Undecoded` until [`Flash::predecode`] was
-    /// called there, and again once its words have changed.
+    /// called there, or [`Flash::program_known`] told it, and again once its words have changed.
     #[inline(always)]
     pub fn micro_ops(&self) -> &[MicroOp]
         ensures all { AreMicroOps self.now.words result.now }

@@ -19,7 +19,7 @@
 //!
 //! [`Flash::decoded`] gives what is decoded at a word address (`decoded.rt`, `specs/Code.antt`), and [`Flash::micro_ops`] the
 //! micro-operation of it, which a step is made by. A micro-operation is made when it is first asked for
-//! ([`Flash::predecode`]), so what no step comes to is never decoded. Behind each operation on a page `decode_cache.rt`
+//! ([`Flash::predecode`]), so what no step comes to is never decoded, or told with a page's words ([`Flash::program_known`]). Behind each operation on a page `decode_cache.rt`
 //! forgets those of the words that changed. [`Flash::rewrite`] erases a page and programs it, and forgets them from the first
 //! word that is another up to the last (`changed_words.rt`). Pairs of words that were decoded already are not decoded again
 //! (`decoded_pairs.rt`). That all this is what the words mean (`specs/DecodeCache.antt`) is an invariant of [`Flash`], and

@@ -9,8 +9,9 @@
 //! }
 //! ```
 //!
-//! [`prepare`] and [`prepare_with`] give the words of that page without making it. [`without_links`] gives the words
-//! of a page in which the links that a [`LinkTest`] picks call the kernel's bridge again. [`pages_in_use`] counts the
+//! [`KeptDrafts::draft`] gives the words of that page without making it: those that were drafted for the address before, where they
+//! are the same (`specs/Keeping`), which [`Hints`] has beside the places of entries. [`prepare`] and [`prepare_with`] draft it anew.
+//! [`without_links`] gives the words of a page in which the links that a [`LinkTest`] picks call the kernel's bridge again. [`pages_in_use`] counts the
 //! pages that are used.
 //!
 //! What a run is, what stands in its place, and which words its page has, is told by `page_draft`. `specs/Links`

@@ -38,7 +38,7 @@ pub struct Prepared {
 /// `t`, a word address of flash. The run begins at `t` and goes on as far as it may; its links are calls of
 /// the kernel's bridge.
 ///
-/// This is the plain form: the program calls [`prepare_with`], and programs the page itself.
+/// This is the plain form: the program calls [`KeptDrafts::draft`](crate::KeptDrafts::draft), and programs the page itself.
 pub fn naturalise(flash: &mut Flash, layout: &Layout, page: u16, t: u16) -> Result<u16, NatStop>
     requires right { IsRight layout.now }
     requires code { IsFaithful layout.now (image_of layout.now flash.old.words) flash.old.words }
@@ -67,7 +67,8 @@ pub fn naturalise(flash: &mut Flash, layout: &Layout, page: u16, t: u16) -> Resu
     }
 }
 
-/// The page of `t`, as it would stand in this page of the pool. This is the plain form: the program calls [`prepare_with`].
+/// The page of `t`, as it would stand in this page of the pool. This is the plain form: the program calls
+/// [`KeptDrafts::draft`](crate::KeptDrafts::draft).
 pub fn prepare(flash: &Flash, layout: &Layout, page: u16, t: u16) -> Prepared
     requires right { IsRight layout.now }
     requires code { IsFaithful layout.now (image_of layout.now flash.now.words) flash.now.words }
