@@ -12,3 +12,4 @@ pub mod TriedLaws
 pub mod ArrivalLaws
 pub mod RestLaws
 pub mod PartLaws
+mod EntriesKept

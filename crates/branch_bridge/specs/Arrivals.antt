@@ -1,7 +1,7 @@
 -- Arrivals: what becomes of flash and SRAM, and what is answered, where control arrives at an original address
 -- (docs/LOADER.md, "An arrival"). An operation on flash that is refused ends it: what comes before is done, it and
 -- what comes after is not.
-use Rattle.std.specs.Prelude.{◌≡◌, ◌≢◌, ℕ, ◌+◌, ◌*◌, ◌/◌, ◌%◌, ◌<◌, ◌≤◌, ◌==◌, Bool, true, false, if◌then◌else◌, List, [], ◌∷◌, min, Option, Some, None, Result, Ok, Err, IfOk, IfSome, MatchOption, ⊤}
+use Rattle.std.specs.Prelude.{◌≡◌, ◌≢◌, ◌↔◌, ℕ, ◌+◌, ◌*◌, ◌/◌, ◌%◌, ◌<◌, ◌≤◌, ◌==◌, Bool, true, false, if◌then◌else◌, List, [], ◌∷◌, min, Option, Some, None, Result, Ok, Err, IfOk, IfSome, MatchOption, ⊤}
 use Rattle.sram_layout.specs.Bytes.{data_word_at, with_word}
 use Rattle.sram_layout.specs.Cells.{ring_cell}
 use Rattle.sram_layout.specs.Regions.{place_cells, KeepsOutside}
@@ -124,6 +124,10 @@ made_in (Err refused) = false
 
 abbrev pub one_if : Bool → ℕ
 one_if test = if test then 1 else 0
+
+-- where no page was made each entry stays, and none is new; else so it is at places outside the page that was made
+abbrev pub KeepsEntries : Layout → (old new : List ℕ) → (made : Bool) → (place : ℕ) → Type 0
+KeepsEntries layout old new made place = (t v : ℕ) → (made ≡ true → v / page_words ≢ place / page_words) → (IsEntry layout old t v ↔ IsEntry layout new t v)
 
 -- What an arrival leaves. With the words put in that a torn page lacks, the pool is faithful to the same image, and
 -- right tables are right; where control goes on, right tables give t's entry. RING stays in the pool, and

@@ -1,6 +1,6 @@
 //! One arrival.
 
-ghost use Rattle.std.specs.Prelude.{◌≡◌, ◌+◌, ◌/◌, ◌<◌, ◌≤◌, ◌^◌, ◌↔◌, ◌||◌, min, IsErrOf, length, None as Nothing};
+ghost use Rattle.std.specs.Prelude.{◌≡◌, ◌+◌, ◌/◌, ◌<◌, ◌≤◌, ◌^◌, ◌↔◌, ◌||◌, min, IfOk, IsErrOf, length, None as Nothing};
 ghost use Rattle.sram_layout.specs.Bytes.{byte_count};
 ghost use Rattle.flash_words.specs.Layouts.{IsRight, image_of};
 ghost use Rattle.page_index.specs.Maps.{IsPool, IsFree};
@@ -9,7 +9,7 @@ ghost use Rattle.nat_page.specs.Faithful.{IsFaithful};
 ghost use Rattle.nat_page.specs.Making.{HasNoEntry, HasNoFree};
 ghost use Rattle.branch_bridge.specs.Operating.{with_torn};
 ghost use Rattle.branch_bridge.specs.Tried.{Tried};
-ghost use Rattle.branch_bridge.specs.Arrivals.{KeepsOtherBytes, Makes, Recycles, Arrives, refusal_in, stopped_by, torn_in, ring_of, turned, recycled_page, Kept, made_in, one_if};
+ghost use Rattle.branch_bridge.specs.Arrivals.{KeepsOtherBytes, Makes, Recycles, Arrives, refusal_in, stopped_by, torn_in, ring_of, turned, recycled_page, Kept, KeepsEntries, made_in, one_if};
 ghost use Rattle.nat_page.specs.Used.{used_pages};
 ghost use Rattle.branch_bridge.specs.declared.arrival.ArriveStop.TheVariants as stops;
 
@@ -74,6 +74,8 @@ pub fn arrive(sram: &mut Sram, flash: &mut Flash, layout: &Layout, t: u16) -> Re
     ensures used { used_pages layout.now (with_torn flash.new.words (torn_in result)) ≡ min (used_pages layout.now flash.old.words + one_if (made_in result)) layout.now.pool_pages }
     // A refusal comes where flash refuses an operation, and is of that one.
     ensures tried { Tried layout.now flash.old flash.new (stopped_by (refusal_in result)) }
+    // The entries of other pages stay, and no other page gets one.
+    ensures entries { IfOk result (λ moved. KeepsEntries layout.now flash.old.words flash.new.words moved.made moved.place) }
     ensures rest { KeepsOtherBytes sram.old sram.new }
     ensures wild { IsErrOf result (record { why = stops.Wild t; torn = Nothing }) ↔ (layout.now.image_words ≤ t) }
 {
@@ -97,6 +99,7 @@ pub fn arrive_with_hints(
     ensures kept { Kept layout.now (record { flash = flash.old; sram = sram.old }) (record { flash = flash.new; sram = sram.new }) t result }
     ensures used { used_pages layout.now (with_torn flash.new.words (torn_in result)) ≡ min (used_pages layout.now flash.old.words + one_if (made_in result)) layout.now.pool_pages }
     ensures tried { Tried layout.now flash.old flash.new (stopped_by (refusal_in result)) }
+    ensures entries { IfOk result (λ moved. KeepsEntries layout.now flash.old.words flash.new.words moved.made moved.place) }
     ensures rest { KeepsOtherBytes sram.old sram.new }
     ensures wild { IsErrOf result (record { why = stops.Wild t; torn = Nothing }) ↔ (layout.now.image_words ≤ t) }
 {
@@ -151,6 +154,7 @@ fn recycle(
     requires room { flash.old.ops < 2 ^ 61 }
     ensures recycles { Recycles layout.now (record { flash = flash.old; sram = sram.old }) (record { flash = flash.new; sram = sram.new }) (layout.now.pool_first + ring_of sram.old) t result }
     ensures used { used_pages layout.now (with_torn flash.new.words (torn_in result)) ≡ layout.now.pool_pages }
+    ensures entries { IfOk result (λ moved. KeepsEntries layout.now flash.old.words flash.new.words moved.made moved.place) }
     ensures rest { KeepsOtherBytes sram.old sram.new }
     ensures kept { Kept layout.now (record { flash = flash.old; sram = sram.old }) (record { flash = flash.new; sram = sram.new }) t result }
 {

@@ -1,13 +1,13 @@
 //! An arrival through a stub.
 
-ghost use Rattle.std.specs.Prelude.{◌≡◌, ◌<◌, ◌^◌, None as Nothing};
+ghost use Rattle.std.specs.Prelude.{◌≡◌, ◌<◌, ◌^◌, IfSome, None as Nothing};
 ghost use Rattle.std.specs.Option.{option_map};
 ghost use Rattle.flash_words.specs.Layouts.{IsRight, image_of};
 ghost use Rattle.flash_words.specs.Memory.{Memory};
 ghost use Rattle.flash_words.specs.declared.layout.Layout.{Layout as LayoutOf};
 ghost use Rattle.nat_page.specs.Faithful.{IsFaithful};
 ghost use Rattle.addr_tables.specs.Tables.{IsTables};
-ghost use Rattle.branch_bridge.specs.Arrivals.{ArrivesFrom, CameThrough, KeptThrough, KeepsParts, went_on, ring_of, to_resolve as to_resolve_of, refused_by};
+ghost use Rattle.branch_bridge.specs.Arrivals.{ArrivesFrom, CameThrough, KeptThrough, KeepsParts, KeepsEntries, went_on, ring_of, to_resolve as to_resolve_of, refused_by};
 ghost use Rattle.branch_bridge.specs.KnownPlaces.{IsKnownAt};
 ghost use Rattle.branch_bridge.specs.Operating.{stop_of};
 
@@ -50,6 +50,7 @@ pub fn arrive_through(
     ensures arrives { ArrivesFrom layout.now (record { flash = flash.old; sram = sram.old }) (record { flash = flash.new; sram = sram.new }) t stub result }
     ensures kept { KeptThrough layout.now (record { flash = flash.old; sram = sram.old }) (record { flash = flash.new; sram = sram.new }) t result }
     ensures parts { KeepsParts layout.now (record { flash = flash.old; sram = sram.old }) (record { flash = flash.new; sram = sram.new }) t stub result }
+    ensures entries { result.refused ≡ Nothing → IfSome result.place (λ place. KeepsEntries layout.now flash.old.words flash.new.words result.made place) }
 {
     let moved = match arrive_with_hints(sram, flash, layout, hints, t) {
         Ok(moved) => moved,

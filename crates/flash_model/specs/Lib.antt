@@ -1,4 +1,3 @@
 pub mod Code
 pub mod DecodeCache
 pub mod DecodedPairs
-pub mod Rewriting

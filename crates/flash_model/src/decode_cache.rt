@@ -66,7 +66,9 @@ impl DecodeCache {
         ensures cache { IsCache cells.now.words self.new }
     {
         let decoded = decoded_by(&mut self.pairs, cells, a);
-        self.micro_ops[a as usize] = MicroOp::of(&decoded.instr, decoded.next_size);
+        if let MicroOp::Undecoded = self.micro_ops[a as usize] {
+            self.micro_ops[a as usize] = decoded.micro_op();
+        }
         decoded
     }
 

@@ -1,6 +1,6 @@
 //! What is decoded at a word address.
 
-ghost use Rattle.std.specs.Prelude.{◌≡◌};
+ghost use Rattle.std.specs.Prelude.{◌≡◌, ◌≤◌};
 ghost use Rattle.avr_isa.specs.declared.form.Form.TheVariants.{Nop};
 ghost use Rattle.avr_ops.specs.MicroOps.{CanStandFor};
 ghost use Rattle.flash_model.specs.Code.{decoded_of};
@@ -28,14 +28,22 @@ impl Decoded {
             next_size: size_by_first_word(second),
         }
     }
+
+    /// Its micro-operation. Not inlined, since a step asks for it once at an address.
+    #[inline(never)]
+    pub(crate) fn micro_op(&self) -> MicroOp
+        requires next { (1 ≤ self.now.next_size) × (self.now.next_size ≤ 2) }
+        ensures stands { CanStandFor result self.now.instr self.now.next_size }
+    {
+        MicroOp::of(&self.instr, self.next_size)
+    }
 }
 
 /// The micro-operation of what these two words begin with.
 pub fn micro_op(first: u16, second: u16) -> MicroOp
     ensures stands { CanStandFor result (decoded_of first second).instr (decoded_of first second).next_size }
 {
-    let decoded = Decoded::new(first, second);
-    MicroOp::of(&decoded.instr, decoded.next_size)
+    Decoded::new(first, second).micro_op()
 }
 
 /// NOP.

@@ -1,6 +1,6 @@
 //! Pairs of words that were decoded already.
 
-ghost use Rattle.std.specs.Prelude.{◌≡◌};
+ghost use Rattle.std.specs.Prelude.{◌≡◌, ◌<◌};
 ghost use Rattle.flash_model.specs.Code.{decoded_of};
 
 use crate::decoded::Decoded;
@@ -51,6 +51,17 @@ pub(crate) struct DecodedPairs {
     pairs: Vec<Pair>,
 }
 
+impl Model for DecodedPairs {
+    ghost use Rattle.std.specs.Prelude.{◌≡◌, List, length};
+    ghost use Rattle.flash_model.specs.DecodedPairs.{DecodedPair};
+
+    ghost Value = { List DecodedPair };
+
+    ghost view = { λ kept. kept.pairs.items };
+
+    ghost invariant = { λ kept. length kept.pairs.items ≡ 1024 };
+}
+
 impl DecodedPairs {
     /// Pairs of two words of 0.
     pub(crate) fn new(alloc: Global) -> Result<DecodedPairs, NoMemory> {
@@ -64,21 +75,19 @@ impl DecodedPairs {
     pub(crate) fn decoded(&mut self, first: u16, second: u16) -> Decoded
         ensures value { result ≡ decoded_of first second }
     {
-        match self.pairs.get_mut(place_of(first, second)) {
-            Some(pair) => {
-                if pair.first != first || pair.second != second {
-                    *pair = Pair::new(first, second);
-                }
-                pair.decoded
-            }
-            None => Decoded::new(first, second),
+        let pair = &mut self.pairs[place_of(first, second)];
+        if pair.first != first || pair.second != second {
+            *pair = Pair::new(first, second);
         }
+        pair.decoded
     }
 }
 
 /// The place of two words.
 #[inline(always)]
-fn place_of(first: u16, second: u16) -> usize {
+fn place_of(first: u16, second: u16) -> usize
+    ensures place { result < 1024 }
+{
     let mixed = u32::from(first)
         .wrapping_mul(31421)
         .wrapping_add(u32::from(second).wrapping_mul(6927));

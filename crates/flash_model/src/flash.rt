@@ -7,7 +7,7 @@ ghost use Rattle.flash_words.specs.Layouts.{most_image_words};
 ghost use Rattle.flash_words.specs.Operations.{next_op, fails, left_by_refusal, erased_page, programmed_page, renewed, Erase, Program, perform, refusal_of};
 ghost use Rattle.flash_model.specs.Code.{decoded_at};
 ghost use Rattle.flash_model.specs.DecodeCache.{AreMicroOps, StandForPage};
-ghost use Rattle.flash_model.specs.Rewriting.{rewriting, refusal_in_rewriting};
+ghost use Rattle.flash_words.specs.Rewriting.{rewriting, refusal_in_rewriting};
 ghost use Rattle.flash_words.specs.Jumps.{HasNoJumpInto};
 ghost use Rattle.flash_words.specs.Heads.{head};
 
@@ -15,7 +15,7 @@ use crate::changed_words::{first_changed, last_changed};
 use crate::decode_cache::{DecodeCache, PAGE_WORDS};
 use crate::decoded::Decoded;
 use avr_ops::MicroOp;
-use flash_words::{Cells, FlashStop};
+use flash_words::{Cells, FlashStop, RewriteStop};
 use no_memory::NoMemory;
 use std::alloc::Global;
 use std::marker::Model;
@@ -36,15 +36,6 @@ impl Model for Flash {
     ghost view = { λ f. f.cells };
 
     ghost invariant = { λ f. IsWhole f.cells × IsCache f.cells.words f.cache };
-}
-
-/// Why a page was not rewritten.
-#[derive(Clone, Copy, Debug, PartialEq, Eq)]
-pub struct RewriteStop {
-    /// The number of the operation that was refused.
-    pub op: u64,
-    /// Whether the page was erased before it, so that it lacks its words.
-    pub erased: bool,
 }
 
 impl Flash {
@@ -269,23 +260,16 @@ impl Flash {
         let before = self.cells.page(page);
         let from = first_changed(before, words);
         let to = last_changed(before, words, from);
-        if let Err(stop) = self.cells.erase(page) {
-            return Err(RewriteStop {
-                op: stop.op,
-                erased: false,
-            });
-        }
-        match self.cells.program(page, words) {
-            Ok(_) => {
+        match self.cells.rewrite(page, words, from, to) {
+            Ok(()) => {
                 self.cache.renew(&self.cells, first + from, first + to);
                 Ok(())
             }
             Err(stop) => {
-                self.cache.renew(&self.cells, first, first + PAGE_WORDS);
-                Err(RewriteStop {
-                    op: stop.op,
-                    erased: true,
-                })
+                if stop.erased {
+                    self.cache.renew(&self.cells, first, first + PAGE_WORDS);
+                }
+                Err(stop)
             }
         }
     }

@@ -40,9 +40,9 @@ mod flash;
 mod image;
 
 pub use decoded::{Decoded, micro_op};
-pub use flash::{Flash, RewriteStop};
+pub use flash::Flash;
 pub use flash_words::{
     BLANK, FIRST_ENTRY, FlashStop, JMP, KERNEL_FIRST, Layout, MOST_ENTRIES, MOST_IMAGE_PAGES,
-    MOST_IMAGE_WORDS, PAGE_WORDS, PAGES, RET,
+    MOST_IMAGE_WORDS, PAGE_WORDS, PAGES, RET, RewriteStop,
 };
 pub use image::word_in_image;

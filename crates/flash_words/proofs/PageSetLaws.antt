@@ -18,21 +18,16 @@ the_bit bits i k inside within =
     ap (λ w. bit_at w k == 1) (get_or-set_same bits i (bit_or (slice_index bits i) (1 * 2 ^ k % 2 ^ 64)) 0 inside) ∙ ap (λ b. b == 1) (bit_at_set_same w64 (slice_index bits i) k within)
 
 -- .. and each other, which stays
-each_bit : (bits : List ℕ) (i k j m : ℕ) → i < length bits → k < 64 → (bit_at (slice_index bits j) m == 1) ≡ true → (bit_at (slice_index (with_bit bits i k) j) m == 1) ≡ true
-each_bit bits i k j m inside within is =
+each_bit : (bits : List ℕ) (i k j m : ℕ) → i < length bits → k < 64 → (j ≡ i → m ≢ k) → bit_at (slice_index (with_bit bits i k) j) m ≡ bit_at (slice_index bits j) m
+each_bit bits i k j m inside within apart =
     let word = bit_or (slice_index bits i) (1 * 2 ^ k % 2 ^ 64) in
     elim (cases_eq j i) [
       | inl same ↦
-          elim (cases_eq m k) [
-            | inl here ↦ rw (same, here) (the_bit bits i k inside within)
-            | inr apart ↦
-                ap (λ n. bit_at (slice_index (with_bit bits i k) n) m == 1) same
-                ∙ ap (λ w. bit_at w m == 1) (get_or-set_same bits i word 0 inside)
-                ∙ ap (λ b. b == 1) (bit_at_set_other w64 (slice_index bits i) k within m apart)
-                ∙ ap (λ n. bit_at (slice_index bits n) m == 1) (sym same)
-                ∙ is
-          ]
-      | inr apart ↦ ap (λ w. bit_at w m == 1) (get_or-set_other bits i j word 0 apart) ∙ is
+          ap (λ n. bit_at (slice_index (with_bit bits i k) n) m) same
+          ∙ ap (λ w. bit_at w m) (get_or-set_same bits i word 0 inside)
+          ∙ bit_at_set_other w64 (slice_index bits i) k within m (apart same)
+          ∙ ap (λ n. bit_at (slice_index bits n) m) (sym same)
+      | inr other ↦ ap (λ w. bit_at w m) (get_or-set_other bits i j word 0 other)
     ]
 
 -- the page that is put in
@@ -40,9 +35,19 @@ pub page_added : (set : PageSet) (i page : ℕ) → i ≡ page / 64 % 8 → leng
 page_added set i page is size =
     ap (λ j. bit_at (slice_index (with_bit set.bits i (page % 64)) j) (page % 64) == 1) (sym is) ∙ the_bit set.bits i (page % 64) (omega arith) (omega arith)
 
+-- each other page
+pub page_apart : (set : PageSet) (i page other : ℕ) → i ≡ page / 64 % 8 → length set.bits ≡ 8 → other % 512 ≢ page % 512 → has_page (record { bits = with_bit set.bits i (page % 64) }) other ≡ has_page set other
+page_apart set i page other is size apart = ap (λ b. b == 1) (each_bit set.bits i (page % 64) (other / 64 % 8) (other % 64) (omega arith) (omega arith) (λ same here. apart (omega arith)))
+
 -- each page that was there
 pub page_stays : (set : PageSet) (i page other : ℕ) → i ≡ page / 64 % 8 → length set.bits ≡ 8 → has_page set other ≡ true → has_page (record { bits = with_bit set.bits i (page % 64) }) other ≡ true
-page_stays set i page other is size has = each_bit set.bits i (page % 64) (other / 64 % 8) (other % 64) (omega arith) (omega arith) has
+page_stays set i page other is size has = elim (cases_eq (other % 512) (page % 512)) [
+  | inl same ↦ (
+      let word : other / 64 % 8 ≡ page / 64 % 8 = omega arith in
+      let bit : other % 64 ≡ page % 64 = omega arith in
+      rw (word, bit) (page_added set i page is size))
+  | inr apart ↦ page_apart set i page other is size apart ∙ has
+]
 
 -- the words with a bit cleared
 abbrev without_bit : List ℕ → (i k : ℕ) → List ℕ

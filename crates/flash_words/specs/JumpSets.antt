@@ -1,6 +1,6 @@
 -- Serves private functions: what is kept of the jumps among the words of a page: for each page a set of pages, among which are
 -- those that its jumps lead into; and its sources, among which are all pages whose set it is in.
-use Rattle.std.specs.Prelude.{ℕ, ◌≡◌, ◌≢◌, ◌+◌, ◌/◌, ◌<◌, ◌≤◌, true, List, length, slice_index, slice_index_or}
+use Rattle.std.specs.Prelude.{ℕ, ◌≡◌, ◌≢◌, ◌+◌, ◌-◌, ◌/◌, ◌<◌, ◌≤◌, true, List, length, slice_index, slice_index_or}
 use Rattle.flash_words.specs.Pages.{page_count, page_words, page_of}
 use Rattle.flash_words.specs.declared.page_set.PageSet.{PageSet}
 use Rattle.flash_words.specs.declared.jumps.Jumps.{Jumps}
@@ -47,3 +47,9 @@ pub record AreJumpsBeside (words : List ℕ) (jumps : Jumps) (but : ℕ) : Type 
   pub sized : length jumps.sets.items ≡ page_count
   pub sources : AreSources jumps
   pub each : (page : ℕ) → page < page_count → page ≢ but → HasSet words jumps.sets.items page
+
+-- .. each but one, of which just the jumps have it whose second word is in front of one word, or whose first isn't in front of another
+pub record AreJumpsOutside (words : List ℕ) (jumps : Jumps) (but from to : ℕ) : Type 0 where
+  pub beside : AreJumpsBeside words jumps but
+  pub before : (s : PageSet) → HasJumpsBetween 0 (from - 1) (page_of words but) (slice_index_or jumps.sets.items but s)
+  pub behind : (s : PageSet) → HasJumpsBetween to page_words (page_of words but) (slice_index_or jumps.sets.items but s)

@@ -7,3 +7,4 @@ pub mod Jumps
 pub mod PageSets
 pub mod Heads
 pub mod JumpSets
+pub mod Rewriting

@@ -1,15 +1,16 @@
 //! The words of flash, and the operations on its pages.
 
-ghost use Rattle.std.specs.Prelude.{◌≡◌, ◌≢◌, ℕ, ◌+◌, ◌*◌, ◌≤◌, ◌<◌, ◌^◌, ◌⊎◌, true, false, length, OnOk, OnErr, IfOk, IfErr, IfSome, IfNone, None, slice_index, slice_set};
-ghost use Rattle.flash_words.specs.Operations.{next_op, fails, left_by_refusal, erased_page, programmed_page, renewed};
-ghost use Rattle.flash_words.specs.Pages.{word_count, page_count, page_words, many, word_at, page_of, blank, programmed, raised};
+ghost use Rattle.std.specs.Prelude.{◌≡◌, ◌≢◌, ℕ, ◌+◌, ◌*◌, ◌≤◌, ◌<◌, ◌^◌, ◌⊎◌, true, false, length, OnOk, OnErr, IfOk, IfErr, IfSome, IfNone, None, if◌then◌else◌, slice_index, slice_set};
+ghost use Rattle.flash_words.specs.Operations.{next_op, fails, left_by_refusal, erased_page, programmed_page, renewed, perform};
+ghost use Rattle.flash_words.specs.Pages.{word_count, page_count, page_words, many, word_at, page_of, set_page, blank, programmed, raised};
 ghost use Rattle.flash_words.specs.Layouts.{most_image_words};
 ghost use Rattle.flash_words.specs.Memory.{AreWords, IsWhole, erased_flash, new_flash};
 ghost use Rattle.flash_words.specs.Jumps.{HasNoJumpInto};
 ghost use Rattle.flash_words.specs.JumpSets.{IsBlankFrom};
 ghost use Rattle.flash_words.specs.Heads.{head};
+ghost use Rattle.flash_words.specs.Rewriting.{ChangeBetween, rewriting, refusal_in_rewriting};
 
-use crate::failing::{FlashStop, next_listed};
+use crate::failing::{FlashStop, RewriteStop, next_listed};
 use crate::layout::{BLANK, PAGES};
 use crate::paged_words::{BLOCK_WORDS, PAGE_WORDS, PagedWords};
 use std::alloc::{AllocError, Global};
@@ -193,6 +194,47 @@ impl Cells {
         let count = used_words(&cleared);
         self.words.set(page, &cleared, count);
         Ok(count)
+    }
+
+    /// Erases the page and programs it with these words, as [`Cells::erase`] and then [`Cells::program`] do: two operations, of
+    /// which the second isn't tried where the first is refused. The words are others from one on up to another alone.
+    pub fn rewrite(
+        &mut self,
+        page: u16,
+        words: &[u16; 128],
+        from: usize,
+        to: usize,
+    ) -> Result<(), RewriteStop>
+        requires page { page < page_count }
+        requires room { self.old.ops + 1 < 2 ^ 63 }
+        requires from { from ≤ to }
+        requires to { to ≤ page_words }
+        requires changed { ChangeBetween from to (page_of self.old.words page) words.now }
+        ensures performed { perform self.old (rewriting page words.now) ≡ record { memory = self.new; refusal = refusal_in_rewriting page words.now result } }
+        ensures words { OnOk result (self.new.words ≡ set_page self.old.words page words.now) }
+        ensures torn { IfErr result (λ stop. self.new.words ≡ (if stop.erased then set_page self.old.words page blank else self.old.words)) }
+        ensures whole { IsWhole self.old × IsWhole self.new }
+    {
+        if let Err(stop) = self.begin(page) {
+            return Err(RewriteStop {
+                op: stop.op,
+                erased: false,
+            });
+        }
+        count_erase(&mut self.erases, page);
+        match self.begin(page) {
+            Ok(()) => {
+                self.words.change(page, words, from, to);
+                Ok(())
+            }
+            Err(stop) => {
+                self.words.set(page, &erased(), 0);
+                Err(RewriteStop {
+                    op: stop.op,
+                    erased: true,
+                })
+            }
+        }
     }
 
     /// Numbers the next operation, on this page. It is refused where its number is listed.

@@ -12,6 +12,15 @@ pub struct FlashStop {
     pub page: u16,
 }
 
+/// Why a page was not rewritten.
+#[derive(Clone, Copy, Debug, PartialEq, Eq)]
+pub struct RewriteStop {
+    /// The number of the operation that was refused.
+    pub op: u64,
+    /// Whether the page was erased before it, so that it lacks its words.
+    pub erased: bool,
+}
+
 /// Stands for a number where no operation is to fail any more.
 const NEVER: u64 = u64::MAX;
 

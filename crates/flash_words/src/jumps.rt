@@ -1,10 +1,11 @@
 //! Into which pages the jumps of each page lead, and from which pages jumps lead into each.
 
-ghost use Rattle.std.specs.Prelude.{◌≡◌, ◌≢◌, ℕ, ◌+◌, ◌%◌, ◌≤◌, ◌<◌, true, false, length, List, IfOk, IfSome, IfNone, slice_index};
+ghost use Rattle.std.specs.Prelude.{◌≡◌, ◌≢◌, ℕ, ◌+◌, ◌%◌, ◌≤◌, ◌<◌, true, false, length, List, IfOk, IfSome, IfNone, slice_index, slice_index_or};
 ghost use Rattle.flash_words.specs.Pages.{word_count, page_count, page_words, page_of};
 ghost use Rattle.flash_words.specs.Jumps.{jump_word, HasNoJumpInto};
-ghost use Rattle.flash_words.specs.JumpSets.{IsBlankFrom, HasJumps, HasJumpsBetween, IsSource, AreJumps, AreJumpsBeside};
+ghost use Rattle.flash_words.specs.JumpSets.{IsBlankFrom, HasJumps, HasJumpsBetween, IsSource, AreJumps, AreJumpsBeside, AreJumpsOutside};
 ghost use Rattle.flash_words.specs.PageSets.{has_page};
+ghost use Rattle.flash_words.specs.declared.page_set.PageSet.{PageSet as PageSetOf};
 
 use crate::layout::PAGES;
 use crate::page_set::{self, NO_PAGE, PageSet};
@@ -65,6 +66,52 @@ impl Jumps {
         remove_source_of_each(&mut self.sources, page, &before);
         add_source_of_each(&mut self.sources, page, &set);
         self.sets[page as usize] = set;
+    }
+
+    /// Adds what is kept of a page, which has these words now, and had others from one on up to another alone.
+    pub(crate) fn extend(&mut self, page: u16, words: &[u16; 128], from: usize, to: usize)
+        requires page { page < page_count }
+        requires from { from ≤ to }
+        requires to { to ≤ page_words }
+        requires sized { length self.old.sets.items ≡ page_count }
+        requires sources { length self.old.sources.items ≡ page_count }
+        ensures jumps { (all : List ℕ) → AreJumpsOutside all self.old page from to → page_of all page ≡ words.now → AreJumps all self.new }
+    {
+        'words: for k in from.max(1)..PAGE_WORDS.min(to + 1) {
+            self.look_at(page, words, k);
+        }
+    }
+
+    /// Notes the jump of a page, which has these words, whose second word is this one, if it is one's.
+    fn look_at(&mut self, page: u16, words: &[u16; 128], k: usize)
+        requires page { page < page_count }
+        requires second { 1 ≤ k }
+        requires inside { k < page_words }
+        requires sized { length self.old.sets.items ≡ page_count }
+        requires sources { length self.old.sources.items ≡ page_count }
+        ensures size { length self.new.sets.items ≡ page_count }
+        ensures sources { length self.new.sources.items ≡ page_count }
+        ensures outside { (all : List ℕ) (to : ℕ) → page_of all page ≡ words.now → AreJumpsOutside all self.old page k to → AreJumpsOutside all self.new page (k + 1) to }
+    {
+        if words[k - 1] != JMP {
+            return;
+        }
+        self.note(page, words[k] / PAGE_WORDS as u16);
+    }
+
+    /// Notes that a page has a jump into the target.
+    fn note(&mut self, page: u16, target: u16)
+        requires page { page < page_count }
+        requires target { target < page_count }
+        requires sized { length self.old.sets.items ≡ page_count }
+        requires sources { length self.old.sources.items ≡ page_count }
+        ensures size { length self.new.sets.items ≡ page_count }
+        ensures sources { length self.new.sources.items ≡ page_count }
+        ensures here { (s : PageSetOf) → has_page (slice_index_or self.new.sets.items page s) target ≡ true }
+        ensures kept { (all : List ℕ) (from to : ℕ) → AreJumpsOutside all self.old page from to → AreJumpsOutside all self.new page from to }
+    {
+        self.sets[page as usize].add(target);
+        add_source(&mut self.sources, target, page);
     }
 }
 

@@ -34,7 +34,7 @@ mod page_set;
 mod paged_words;
 
 pub use cells::Cells;
-pub use failing::FlashStop;
+pub use failing::{FlashStop, RewriteStop};
 pub use jumps::JMP;
 pub use layout::{
     BLANK, FIRST_ENTRY, KERNEL_FIRST, Layout, MOST_ENTRIES, MOST_IMAGE_PAGES, MOST_IMAGE_WORDS,

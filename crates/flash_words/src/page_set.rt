@@ -22,6 +22,7 @@ impl PageSet {
     pub(crate) fn add(&mut self, page: u16)
         ensures added { has_page self.new page ≡ true }
         ensures others { (other : ℕ) → has_page self.old other ≡ true → has_page self.new other ≡ true }
+        ensures only { (other : ℕ) → other % 512 ≢ page % 512 → has_page self.new other ≡ has_page self.old other }
     {
         self.bits[word_of(page)] |= 1 << (page % 64);
     }

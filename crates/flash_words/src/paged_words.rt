@@ -7,6 +7,7 @@ ghost use Rattle.flash_words.specs.Layouts.{most_image_words};
 ghost use Rattle.flash_words.specs.Jumps.{HasNoJumpInto};
 ghost use Rattle.flash_words.specs.JumpSets.{IsBlankFrom};
 ghost use Rattle.flash_words.specs.Heads.{head};
+ghost use Rattle.flash_words.specs.Rewriting.{ChangeBetween};
 
 use crate::heads::Heads;
 use crate::jumps::Jumps;
@@ -109,6 +110,22 @@ impl PagedWords {
         put_words(&mut self.words, page, new);
         self.heads.renew(page, first, new[0]);
         self.jumps.renew(page, new, count);
+    }
+
+    /// The page's words become these, which are others from one on up to another alone.
+    pub(crate) fn change(&mut self, page: u16, new: &[u16; 128], from: usize, to: usize)
+        requires page { page < page_count }
+        requires from { from ≤ to }
+        requires to { to ≤ page_words }
+        requires changed { ChangeBetween from to (page_of self.old page) new.now }
+        ensures value { self.new ≡ set_page self.old page new.now }
+        ensures size { length self.new ≡ word_count }
+        ensures fit { AreWords self.new }
+    {
+        let first = self.words[PAGE_WORDS * page as usize];
+        put_words(&mut self.words, page, new);
+        self.heads.renew(page, first, new[0]);
+        self.jumps.extend(page, new, from, to);
     }
 
     /// The lowest page from one on and below another that may have a jump into the target; None where none does.

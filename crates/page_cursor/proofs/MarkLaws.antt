@@ -1,22 +1,22 @@
 -- What is noted of places, and what begins there.
-use Rattle.std.proofs.Common.{◌≡◌, ℕ, ◌+◌, ◌/◌, ◌%◌, ◌<◌, ◌≤◌, List, length, set, get_or-set_other, arith, refl, subst, sym, ap, ◌∙◌, inl, inr}
-use Rattle.std.specs.Prelude.{◌≢◌, ◌⊎◌, Option, Some, None, IfSome, slice_index_or}
+use Rattle.std.proofs.Common.{◌≡◌, ℕ, ◌+◌, ◌-◌, ◌/◌, ◌%◌, ◌<◌, ◌≤◌, Bool, false, List, length, set, get_or-set_other, arith, refl, subst, sym, ap, ◌∙◌, inl, inr}
+use Rattle.std.specs.Prelude.{◌≢◌, ◌↔◌, ◌⊎◌, Option, Some, None, IfSome, slice_index_or}
 use Rattle.std.proofs.lemmas.Grind.{get_or-set_at}
-use Rattle.std.proofs.lemmas.Bool.{cases_eq}
+use Rattle.std.proofs.lemmas.Bool.{cases_eq, true≢false}
 use Rattle.flash_words.specs.declared.layout.Layout.{Layout}
 use Rattle.page_index.specs.Maps.{IsPool, IsMap, entry_count, address_of, place_of}
 use Rattle.page_index.specs.Entries.{Lists, IsEntry, IsMapped}
 use Rattle.page_index.proofs.MapLaws.{lists_entry}
 use Rattle.page_index.proofs.EntryLaws.{page_of_place}
-use Rattle.page_cursor.specs.Marks.{Marking, mark_at, IsNoted, IsFresh, IsQuietIn, KeepsOthers, IsListed, IsCovered}
-use Rattle.page_cursor.specs.Cursors.{AreMarks, AreNoted}
+use Rattle.page_cursor.specs.Marks.{Marking, mark_at, no_entry, with_address, IsQuietAt, IsUnknownAt, StaysAt, IsNoted, IsFresh, IsQuietIn, KeepsOthers, IsListed, IsCovered}
+use Rattle.page_cursor.specs.Cursors.{AreMarks, AreNoted, HaveSameBeside}
 
 -- nothing is noted
 pub fresh_marks : (layout : Layout) (words : List ℕ) (m : Marking) → IsFresh m → AreMarks layout words m
 fresh_marks layout words m fresh = record {
-  quiet = λ t place within is entry. omega (arith, is, fresh place within);
-  low = λ place within is. absurd (omega (arith, is, fresh place within));
-  noted = λ t place within noted. absurd (omega (arith, fresh place within, noted));
+  quiet = λ t place within is entry. true≢false (sym is ∙ (fresh place within).0);
+  low = λ place within is. absurd (true≢false (sym is ∙ (fresh place within).0));
+  noted = λ t place within noted. absurd (omega (arith, (fresh place within).1, noted.0, noted.1));
 }
 
 -- all stays, or all is forgotten
@@ -28,32 +28,58 @@ kept_or_fresh layout words old new either marks = elim either [
 
 -- what is noted of one page is right, and of the others as it was
 marks_by_page : (layout : Layout) (words : List ℕ) (old new : Marking) (page : ℕ) → page < 480 → KeepsOthers old new page → AreMarks layout words old
-    → ((t place : ℕ) → place / 128 ≡ page → mark_at new place ≡ 1 → ¬ IsEntry layout words t place) → ((t place : ℕ) → place / 128 ≡ page → IsNoted new place t → IsEntry layout words t place)
+    → ((t place : ℕ) → place / 128 ≡ page → IsQuietAt new place → ¬ IsEntry layout words t place) → ((t place : ℕ) → place / 128 ≡ page → IsNoted new place t → IsEntry layout words t place)
     → AreMarks layout words new
 marks_by_page layout words old new page below keeps marks quiet noted = record {
-  quiet = λ t place within mark entry. elim (cases_eq (place / 128) page) [
-    | inl same ↦ quiet t place same mark entry
-    | inr apart ↦ marks.quiet t place within (sym (keeps place apart) ∙ mark) entry
+  quiet = λ t place within is entry. elim (cases_eq (place / 128) page) [
+    | inl same ↦ quiet t place same is entry
+    | inr apart ↦ marks.quiet t place within (sym (keeps place apart).0 ∙ is) entry
   ];
-  low = λ place within mark. elim (cases_eq (place / 128) page) [
+  low = λ place within is. elim (cases_eq (place / 128) page) [
     | inl same ↦ omega (arith, same, below)
-    | inr apart ↦ marks.low place within (sym (keeps place apart) ∙ mark)
+    | inr apart ↦ marks.low place within (sym (keeps place apart).0 ∙ is)
   ];
   noted = λ t place within is. elim (cases_eq (place / 128) page) [
     | inl same ↦ noted t place same is
-    | inr apart ↦ marks.noted t place within (sym (keeps place apart) ∙ is)
+    | inr apart ↦ marks.noted t place within (sym (keeps place apart).1 ∙ is.0, is.1)
   ];
 }
 
--- where it is noted that no entry begins, none is noted
-not_both : (m : Marking) (t place : ℕ) → mark_at m place ≡ 1 → IsNoted m place t → ⊥
-not_both m t place quiet noted = omega (arith, quiet, noted)
+-- nothing is noted of a page whose entries may be others
+pub marks_beside : (layout : Layout) (words now : List ℕ) (old new : Marking) (page : ℕ) → HaveSameBeside layout words now page
+    → ((place : ℕ) → place / 128 ≡ page → IsUnknownAt new.quiet new.marks place) → KeepsOthers old new page → AreMarks layout words old → AreMarks layout now new
+marks_beside layout words now old new page same forgotten keeps marks = record {
+  quiet = λ t place within is entry. elim (cases_eq (place / 128) page) [
+    | inl here ↦ true≢false (sym is ∙ (forgotten place here).0)
+    | inr apart ↦ marks.quiet t place within (sym (keeps place apart).0 ∙ is) ((same t place apart).1 entry)
+  ];
+  low = λ place within is. elim (cases_eq (place / 128) page) [
+    | inl here ↦ absurd (true≢false (sym is ∙ (forgotten place here).0))
+    | inr apart ↦ marks.low place within (sym (keeps place apart).0 ∙ is)
+  ];
+  noted = λ t place within is. elim (cases_eq (place / 128) page) [
+    | inl here ↦ absurd (omega (arith, is.0, is.1, (forgotten place here).1))
+    | inr apart ↦ (same t place apart).0 (marks.noted t place within (sym (keeps place apart).1 ∙ is.0, is.1))
+  ];
+}
+
+-- where the entries are the same, so is what is known of them
+pub marks_same : (layout : Layout) (words now : List ℕ) (m : Marking) → ((t place : ℕ) → (IsEntry layout words t place ↔ IsEntry layout now t place)) → AreMarks layout words m → AreMarks layout now m
+marks_same layout words now m same marks = record {
+  quiet = λ t place within is entry. marks.quiet t place within is ((same t place).1 entry);
+  low = marks.low;
+  noted = λ t place within is. (same t place).0 (marks.noted t place within is);
+}
+
+-- where no entry is known, none is noted
+not_noted : (m : Marking) (t place : ℕ) → mark_at m place ≡ no_entry → IsNoted m place t → ⊥
+not_noted m t place none noted = omega (arith, none, noted.0, noted.1)
 
 -- a page without entries
 pub marks_quiet : (layout : Layout) (words : List ℕ) (old new : Marking) (page : ℕ) → page < 480 → KeepsOthers old new page → IsQuietIn new page
     → ((t place : ℕ) → place / 128 ≡ page → ¬ IsEntry layout words t place) → AreMarks layout words old → AreMarks layout words new
 marks_quiet layout words old new page below keeps quiet none marks =
-    marks_by_page layout words old new page below keeps marks (λ t place same mark. none t place same) (λ t place same noted. absurd (not_both new t place (quiet place same) noted))
+    marks_by_page layout words old new page below keeps marks (λ t place same mark. none t place same) (λ t place same noted. absurd (not_noted new t place (quiet place same).1 noted))
 
 -- an entry at a place is of the place's page
 pub own_lists : (layout : Layout) (words : List ℕ) (page t place : ℕ) → IsMapped layout words → place / 128 ≡ page → (entry : IsEntry layout words t place) → Lists words page entry.index t place
@@ -68,12 +94,19 @@ noted_there layout words m page t place mapped read same entry =
     let P : ℕ → ℕ → Type 0 = λ v a. IsNoted m v a in
     subst (λ (a : ℕ). P place a) (sym lists.address) (subst (λ (v : ℕ). P v (address_of words page entry.index)) (sym lists.place) (read.there entry.index lists.listed))
 
+-- it isn't noted that none begins there
+begins_there : (layout : Layout) (words : List ℕ) (m : Marking) (page t place : ℕ) → IsMapped layout words → AreNoted words m page (entry_count words page) → place / 128 ≡ page
+    → IsEntry layout words t place → ¬ IsQuietAt m place
+begins_there layout words m page t place mapped read same entry quiet =
+    let lists = own_lists layout words page t place mapped same entry in
+    read.begins entry.index lists.listed (subst (λ (v : ℕ). IsQuietAt m v) lists.place quiet)
+
 -- a page that was read
 pub marks_read : (layout : Layout) (words : List ℕ) (old new : Marking) (page : ℕ) → page < 480 → IsMapped layout words → IsPool layout page → IsMap words page → KeepsOthers old new page
     → AreNoted words new page (entry_count words page) → AreMarks layout words old → AreMarks layout words new
 marks_read layout words old new page below mapped pool map keeps read marks =
     marks_by_page layout words old new page below keeps marks
-    (λ t place same mark entry. not_both new t place mark (noted_there layout words new page t place mapped read same entry))
+    (λ t place same quiet entry. begins_there layout words new page t place mapped read same entry quiet)
     (λ t place same noted.
     let at = read.noted t place same noted in
     let there = lists_entry words page at.index map at.below in
@@ -83,8 +116,9 @@ marks_read layout words old new page below mapped pool map keeps read marks =
 -- no entry of the page is noted yet
 pub noted_none : (words : List ℕ) (m : Marking) (page : ℕ) → IsQuietIn m page → AreNoted words m page 0
 noted_none words m page quiet = record {
-  noted = λ t place same noted. absurd (not_both m t place (quiet place same) noted);
+  noted = λ t place same noted. absurd (not_noted m t place (quiet place same).1 noted);
   there = λ i below. absurd (omega (arith, below));
+  begins = λ i below. absurd (omega (arith, below));
 }
 
 -- where a place lies, and what is told of its address
@@ -108,56 +142,82 @@ near_page words page i below map listed = (near words page i below map listed).i
 
 -- the marking where one more entry is noted
 abbrev pub with_entry : List ℕ → Marking → ℕ → ℕ → Marking
-with_entry words m page i = record m { marks = set m.marks (place_of words page i) (2 + address_of words page i) }
+with_entry words m page i = with_address m (place_of words page i) (address_of words page i)
+
+-- at another place all is noted that was
+stays_apart : (m : Marking) (place t other : ℕ) → other ≢ place
+    → StaysAt (with_address m place t).quiet (with_address m place t).marks m.quiet m.marks other
+stays_apart m place t other apart = (get_or-set_other m.quiet place other false false apart, get_or-set_other m.marks place other t 0 apart)
+
+-- both lists have all places
+pub record HasPlaces (m : Marking) : Type 0 where
+  pub quiet : length m.quiet ≡ 65536
+  pub marks : length m.marks ≡ 65536
 
 -- the next entry of the page is noted
-pub noted_next : (words : List ℕ) (m new : Marking) (page i : ℕ) → page < 480 → IsMap words page → i < entry_count words page → length m.marks ≡ 65536 → new ≡ with_entry words m page i → AreNoted words m page i → AreNoted words new page (i + 1)
+pub noted_next : (words : List ℕ) (m new : Marking) (page i : ℕ) → page < 480 → IsMap words page → i < entry_count words page → HasPlaces m → new ≡ with_entry words m page i
+    → AreNoted words m page i → AreNoted words new page (i + 1)
 noted_next words m new page i below map listed size is read =
     let at = near words page i below map listed in
     let place = place_of words page i in
-    let mark = 2 + address_of words page i in
-    let here : (v : ℕ) → v ≡ place → mark_at (with_entry words m page i) v ≡ mark = λ v same. get_or-set_at m.marks place v mark 0 same (omega (arith, at.within, size)) in
-    let there : (v : ℕ) → v ≢ place → mark_at (with_entry words m page i) v ≡ mark_at m v = λ v apart. get_or-set_other m.marks place v mark 0 apart in
+    let mark = address_of words page i in
+    let here : (v : ℕ) → v ≡ place → mark_at (with_entry words m page i) v ≡ mark = λ v same. get_or-set_at m.marks place v mark 0 same (omega (arith, at.within, size.marks)) in
+    let begun : slice_index_or (with_entry words m page i).quiet place false ≡ false = get_or-set_at m.quiet place place false false refl (omega (arith, at.within, size.quiet)) in
+    let lower : (j : ℕ) → j < i + 1 → j ≢ i → j < i = λ j under other. omega (arith, under, other) in
+    let apart : (j : ℕ) → j < i → place_of words page j ≢ place = λ j under equal. omega (arith, (map.ascending j i under listed).1, equal) in
     subst (λ n. AreNoted words n page (i + 1)) (sym is) (record {
       noted = λ t v same noted. elim (cases_eq v place) [
-        | inl own ↦ record { index = i; below = omega arith; address = omega (arith, noted, here v own); begins = own }
-        | inr apart ↦ (
-            let before = read.noted t v same (sym (there v apart) ∙ noted) in
+        | inl own ↦ record { index = i; below = omega arith; address = omega (arith, noted.0, here v own); begins = own }
+        | inr other ↦ (
+            let before = read.noted t v same (sym (stays_apart m place mark v other).1 ∙ noted.0, noted.1) in
             record { index = before.index; below = omega (arith, before.below); address = before.address; begins = before.begins })
       ];
       there = λ j under. elim (cases_eq j i) [
         | inl same ↦ (
             let P : ℕ → Type 0 = λ k. IsNoted (with_entry words m page i) (place_of words page k) (address_of words page k) in
-            subst P (sym same) (here place refl))
+            subst P (sym same) (here place refl, omega (arith, at.address)))
         | inr other ↦ (
-            let lower : j < i = omega (arith, under, other) in
-            let apart : place_of words page j ≢ place = λ equal. omega (arith, (map.ascending j i lower listed).1, equal) in
-            there (place_of words page j) apart ∙ read.there j lower)
+            let before = read.there j (lower j under other) in
+            ((stays_apart m place mark (place_of words page j) (apart j (lower j under other))).1 ∙ before.0, before.1))
+      ];
+      begins = λ j under quiet. elim (cases_eq j i) [
+        | inl same ↦ (
+            let P : ℕ → Type 0 = λ k. IsQuietAt (with_entry words m page i) (place_of words page k) in
+            true≢false (sym (subst P same quiet) ∙ begun))
+        | inr other ↦ read.begins j (lower j under other) (sym (stays_apart m place mark (place_of words page j) (apart j (lower j under other))).0 ∙ quiet)
       ];
     })
 
 pub others_next : (words : List ℕ) (old m new : Marking) (page i : ℕ) → page < 480 → IsMap words page → i < entry_count words page → new ≡ with_entry words m page i → KeepsOthers old m page → KeepsOthers old new page
 others_next words old m new page i below map listed is keeps =
     let at = near words page i below map listed in
-    subst (λ n. KeepsOthers old n page) (sym is) (λ place apart. get_or-set_other m.marks (place_of words page i) place (2 + address_of words page i) 0 (λ same. apart (ap (λ v. v / 128) same ∙ at.inside)) ∙ keeps place apart)
+    subst (λ n. KeepsOthers old n page) (sym is) (λ place apart.
+    let stays = stays_apart m (place_of words page i) (address_of words page i) place (λ same. apart (ap (λ v. v / 128) same ∙ at.inside)) in
+    (stays.0 ∙ (keeps place apart).0, stays.1 ∙ (keeps place apart).1))
 
--- each place of the page has a mark
+-- something is noted of each place of the page
 abbrev pub IsKnownIn : Marking → ℕ → Type 0
-IsKnownIn m page = (place : ℕ) → place / 128 ≡ page → mark_at m place ≢ 0
+IsKnownIn m page = (place : ℕ) → place / 128 ≡ page → ¬ IsUnknownAt m.quiet m.marks place
 
-pub known_next : (words : List ℕ) (m new : Marking) (page i : ℕ) → page < 480 → IsMap words page → i < entry_count words page → length m.marks ≡ 65536 → new ≡ with_entry words m page i → IsKnownIn m page → IsKnownIn new page
+pub known_quiet : (m : Marking) (page : ℕ) → IsQuietIn m page → IsKnownIn m page
+known_quiet m page quiet = λ place same unknown. true≢false (sym (quiet place same).0 ∙ unknown.0)
+
+pub known_next : (words : List ℕ) (m new : Marking) (page i : ℕ) → page < 480 → IsMap words page → i < entry_count words page → HasPlaces m → new ≡ with_entry words m page i
+    → IsKnownIn m page → IsKnownIn new page
 known_next words m new page i below map listed size is known =
     let at = near words page i below map listed in
     let own = place_of words page i in
-    let mark = 2 + address_of words page i in
-    subst (λ n. IsKnownIn n page) (sym is) (λ place same none. elim (cases_eq place own) [
-      | inl here ↦ omega (arith, none, get_or-set_at m.marks own place mark 0 here (omega (arith, at.within, size)))
-      | inr apart ↦ known place same (sym (get_or-set_other m.marks own place mark 0 apart) ∙ none)
+    let mark = address_of words page i in
+    subst (λ n. IsKnownIn n page) (sym is) (λ place same unknown. elim (cases_eq place own) [
+      | inl here ↦ omega (arith, unknown.1, at.address, get_or-set_at m.marks own place mark 0 here (omega (arith, at.within, size.marks)))
+      | inr apart ↦ (
+          let stays = stays_apart m own mark place apart in
+          known place same (sym stays.0 ∙ unknown.0, sym stays.1 ∙ unknown.1))
     ])
 
 -- what one change leaves of other pages, and the next
 pub others_both : (old mid new : Marking) (page : ℕ) → KeepsOthers old mid page → KeepsOthers mid new page → KeepsOthers old new page
-others_both old mid new page first second = λ place apart. second place apart ∙ first place apart
+others_both old mid new page first second = λ place apart. ((second place apart).0 ∙ (first place apart).0, (second place apart).1 ∙ (first place apart).1)
 
 -- what is noted at a place begins there
 pub found_noted : (layout : Layout) (words : List ℕ) (m : Marking) (place : ℕ) (found : Option ℕ) → place < 65536 → AreMarks layout words m → IfSome found (λ t. IsNoted m place t) → IfSome found (λ t. IsEntry layout words t place)
@@ -165,61 +225,92 @@ found_noted layout words m place None within marks noted = tt
 found_noted layout words m place (Some t) within marks noted = marks.noted t place within noted
 
 -- the marking, by the place and the address that were read
-pub with_entry_is : (words : List ℕ) (m new : Marking) (page i place address : ℕ) → new ≡ record m { marks = set m.marks place (2 + address) } → place ≡ place_of words page i → address ≡ address_of words page i → new ≡ with_entry words m page i
+pub with_entry_is : (words : List ℕ) (m new : Marking) (page i place address : ℕ) → new ≡ with_address m place address → place ≡ place_of words page i → address ≡ address_of words page i → new ≡ with_entry words m page i
 with_entry_is words m new page i place address is at of =
-    let Marked : ℕ → ℕ → Marking = λ v a. record m { marks = set m.marks v (2 + a) } in
-    is ∙ ap (λ v. Marked v address) at ∙ ap (Marked (place_of words page i)) of
+    is ∙ ap (λ v. with_address m v address) at ∙ ap (with_address m (place_of words page i)) of
 
--- no place has a mark
-pub covered_none : (m : Marking) → IsFresh m → m.count ≤ 512 → IsCovered m
-covered_none m fresh count = record { count = count; pages = λ place within some. absurd (some (fresh place within)) }
+-- where no page more can be listed
+pub covered_full : (m : Marking) → m.room ≡ 0 → IsCovered m
+covered_full m none = record { room = omega (arith, none); pages = λ more place within. absurd (omega (arith, none, more)) }
 
--- a page more has marks
-pub covered_page : (m : Marking) (marks : List ℕ) (page : ℕ) → m.count < 512 → length m.pages ≡ 512 → page < 512 → ((place : ℕ) → place / 128 ≢ page → slice_index_or marks place 0 ≡ mark_at m place) → IsCovered m
-    → IsCovered (record { marks = marks; pages = set m.pages m.count page; count = m.count + 1 })
-covered_page m marks page room size below others covered = record {
-  count = omega arith;
-  pages = λ place within some. elim (cases_eq (place / 128) page) [
-    | inl same ↦ (
-        let there = get_or-set_at m.pages m.count m.count page 0 refl (omega arith) in
-        record { index = m.count; below = omega arith; is = omega (arith, there, same, below) })
-    | inr apart ↦ (
-        let old = covered.pages place within (λ none. some (others place apart ∙ none)) in
-        let other : old.index ≢ m.count = λ same. omega (arith, old.below, same) in
-        record { index = old.index; below = omega (arith, old.below); is = ap (λ p. p % 512) (get_or-set_other m.pages m.count old.index page 0 other) ∙ old.is })
+-- where nothing was noted and all stays, nothing is noted
+unknown_still : (quiet : List Bool) (marks : List ℕ) (old_quiet : List Bool) (old_marks : List ℕ) (place : ℕ) → StaysAt quiet marks old_quiet old_marks place
+    → IsUnknownAt old_quiet old_marks place → IsUnknownAt quiet marks place
+unknown_still quiet marks old_quiet old_marks place stays unknown = (stays.0 ∙ unknown.0, stays.1 ∙ unknown.1)
+
+-- something is noted of a page more
+pub covered_page : (m : Marking) (quiet : List Bool) (marks : List ℕ) (page : ℕ) → 0 < m.room → length m.pages ≡ 512 → page < 512
+    → ((place : ℕ) → place / 128 ≢ page → StaysAt quiet marks m.quiet m.marks place) → IsCovered m
+    → IsCovered (record { quiet = quiet; marks = marks; pages = set m.pages (m.room - 1) page; room = m.room - 1 })
+covered_page m quiet marks page more size below others covered =
+    let at : ℕ = m.room - 1 in
+    let room = covered.room in
+    record {
+      room = omega (arith, room);
+      pages = λ left place within. elim (cases_eq (place / 128) page) [
+        | inl same ↦ (
+            let there = get_or-set_at m.pages at at page 0 refl (omega (arith, size, more, room)) in
+            inl (record { index = at; behind = omega arith; below = omega (arith, more, room); is = omega (arith, there, same, below) }))
+        | inr apart ↦ elim (covered.pages more place within) [
+          | inl old ↦ (
+              let other : old.index ≢ at = λ same. omega (arith, old.behind, more, same) in
+              inl (record { index = old.index; behind = omega (arith, old.behind); below = old.below; is = ap (λ p. p % 512) (get_or-set_other m.pages at old.index page 0 other) ∙ old.is }))
+          | inr unknown ↦ inr (unknown_still quiet marks m.quiet m.marks place (others place apart) unknown)
+        ]
+      ];
+    }
+
+-- nothing is noted of a page any more
+pub covered_less : (m : Marking) (quiet : List Bool) (marks : List ℕ) (page : ℕ) → ((place : ℕ) → place / 128 ≡ page → IsUnknownAt quiet marks place)
+    → ((place : ℕ) → place / 128 ≢ page → StaysAt quiet marks m.quiet m.marks place) → IsCovered m → IsCovered (record m { quiet = quiet; marks = marks })
+covered_less m quiet marks page none others covered = record {
+  room = covered.room;
+  pages = λ more place within. elim (cases_eq (place / 128) page) [
+    | inl here ↦ inr (none place here)
+    | inr apart ↦ elim (covered.pages more place within) [
+      | inl listed ↦ inl listed
+      | inr unknown ↦ inr (unknown_still quiet marks m.quiet m.marks place (others place apart) unknown)
+    ]
   ];
 }
 
--- a place gets another mark
-pub covered_mark : (m : Marking) (place mark : ℕ) → mark_at m place ≢ 0 → IsCovered m → IsCovered (record m { marks = set m.marks place mark })
-covered_mark m place mark known covered = record {
-  count = covered.count;
-  pages = λ other within some. elim (cases_eq other place) [
-    | inl same ↦ covered.pages other within (let P : ℕ → Type 0 = λ v. mark_at m v ≢ 0 in subst P (sym same) known)
-    | inr apart ↦ covered.pages other within (λ none. some (get_or-set_other m.marks place other mark 0 apart ∙ none))
-  ];
-}
+-- an entry is noted at a place of which something is known
+pub covered_address : (m : Marking) (place t : ℕ) → ¬ IsUnknownAt m.quiet m.marks place → IsCovered m → IsCovered (with_address m place t)
+covered_address m place t known covered =
+    let P : ℕ → Type 0 = λ v. IsUnknownAt m.quiet m.marks v in
+    record {
+      room = covered.room;
+      pages = λ more other within. elim (covered.pages more other within) [
+        | inl listed ↦ inl listed
+        | inr unknown ↦ (
+            let new = with_address m place t in
+            let apart : other ≢ place = λ same. known (subst P same unknown) in
+            inr (unknown_still new.quiet new.marks m.quiet m.marks other (stays_apart m place t other apart) unknown))
+      ];
+    }
 
--- of the pages from one on some have marks still
-pub record AreLeft (pages marks : List ℕ) (i count : ℕ) : Type 0 where
-  pub left : (place : ℕ) → place < 65536 → slice_index_or marks place 0 ≢ 0 → (listed : IsListed pages count (place / 128)) × (i ≤ listed.index)
+-- each page of which something is noted still is one of those from one number on
+pub record AreLeft (pages : List ℕ) (quiet : List Bool) (marks : List ℕ) (i : ℕ) : Type 0 where
+  pub left : (place : ℕ) → place < 65536 → IsListed pages i (place / 128) ⊎ IsUnknownAt quiet marks place
 
-pub left_next : (pages old new : List ℕ) (i count : ℕ) → ((place : ℕ) → place / 128 ≡ slice_index_or pages i 0 % 512 → slice_index_or new place 0 ≡ 0)
-    → ((place : ℕ) → place / 128 ≢ slice_index_or pages i 0 % 512 → slice_index_or new place 0 ≡ slice_index_or old place 0) → AreLeft pages old i count → AreLeft pages new (i + 1) count
-left_next pages old new i count cleared others left = record {
-  left = λ place within some. elim (cases_eq (place / 128) (slice_index_or pages i 0 % 512)) [
-    | inl same ↦ absurd (some (cleared place same))
-    | inr apart ↦ (
-        let at = left.left place within (λ none. some (others place apart ∙ none)) in
-        let listed = at.0 in
-        let further : listed.index ≢ i = λ same. apart (sym listed.is ∙ ap (λ k. slice_index_or pages k 0 % 512) same) in
-        (listed, omega (arith, at.1, further)))
+pub left_next : (pages : List ℕ) (quiet : List Bool) (marks : List ℕ) (old_quiet : List Bool) (old_marks : List ℕ) (i : ℕ)
+    → ((place : ℕ) → place / 128 ≡ slice_index_or pages i 0 % 512 → IsUnknownAt quiet marks place)
+    → ((place : ℕ) → place / 128 ≢ slice_index_or pages i 0 % 512 → StaysAt quiet marks old_quiet old_marks place) → AreLeft pages old_quiet old_marks i → AreLeft pages quiet marks (i + 1)
+left_next pages quiet marks old_quiet old_marks i cleared others left = record {
+  left = λ place within. elim (cases_eq (place / 128) (slice_index_or pages i 0 % 512)) [
+    | inl same ↦ inr (cleared place same)
+    | inr apart ↦ elim (left.left place within) [
+      | inl at ↦ (
+          let further : at.index ≢ i = λ same. apart (sym at.is ∙ ap (λ k. slice_index_or pages k 0 % 512) same) in
+          inl (record { index = at.index; behind = omega (arith, at.behind, further); below = at.below; is = at.is }))
+      | inr unknown ↦ inr (unknown_still quiet marks old_quiet old_marks place (others place apart) unknown)
+    ]
   ];
 }
 
 -- none is left
-pub left_none : (pages marks : List ℕ) (count place : ℕ) → AreLeft pages marks count count → place < 65536 → slice_index_or marks place 0 ≡ 0
-left_none pages marks count place left within = elim (cases_eq (slice_index_or marks place 0) 0) [
-  | inl none ↦ none
-  | inr some ↦ absurd (let at = left.left place within some in omega (arith, at.1, at.0.below))
+pub left_none : (pages : List ℕ) (quiet : List Bool) (marks : List ℕ) (i place : ℕ) → 512 ≤ i → AreLeft pages quiet marks i → place < 65536 → IsUnknownAt quiet marks place
+left_none pages quiet marks i place all left within = elim (left.left place within) [
+  | inl at ↦ absurd (omega (arith, all, at.behind, at.below))
+  | inr unknown ↦ unknown
 ]

@@ -1,11 +1,12 @@
 //! The original address of a place, for control that mostly comes where it was before.
 
-ghost use Rattle.std.specs.Prelude.{◌≡◌, ℕ, ◌/◌, ◌<◌, true, false, IfOk, IfSome};
+ghost use Rattle.std.specs.Prelude.{◌≡◌, ℕ, List, ◌/◌, ◌<◌, true, false, IfOk, IfSome};
+ghost use Rattle.flash_words.specs.declared.layout.Layout.{Layout as LayoutOf};
 ghost use Rattle.flash_words.specs.Layouts.{IsRight};
 ghost use Rattle.page_index.specs.Maps.{IsPool, IsMap, entry_count};
 ghost use Rattle.page_index.specs.Entries.{IsEntry, IsMapped};
 ghost use Rattle.page_cursor.specs.Marks.{IsNoted, IsQuietIn, KeepsOthers, Tells};
-ghost use Rattle.page_cursor.specs.Cursors.{AreNoted, IsCursor, IsCursorAnywhere, IsPassed};
+ghost use Rattle.page_cursor.specs.Cursors.{AreNoted, HaveSameBeside, IsCursor, IsCursorAnywhere, IsPassed};
 
 use crate::marks::{Mark, Marks};
 use flash_model::{Flash, KERNEL_FIRST, Layout, MOST_IMAGE_WORDS, PAGE_WORDS};
@@ -18,7 +19,7 @@ const ADDRESSES: usize = MOST_IMAGE_WORDS as usize;
 
 /// For each place whether an entry begins there, and of which address, once control was in its page. [`Cursor::origin`]
 /// answers as [`origin`] does, and reads the map of a page where nothing is known of the place. A cursor is right for one
-/// state of flash; where flash has changed, let it forget.
+/// state of flash; where entries have changed, let it forget.
 ///
 /// [`origin`]: page_index::origin
 #[derive(Drop)]
@@ -38,11 +39,9 @@ impl Cursor {
     pub fn new() -> Cursor
         ensures right { IsCursorAnywhere result }
     {
-        Cursor {
-            marks: Marks::new(),
-            placed: [0; ADDRESSES],
-            hints: Hints::new(),
-        }
+        let mut cursor = Cursor::zeros();
+        cursor.forget();
+        cursor
     }
 
     /// The same on the heap, since it is large. Not inlined, so that it is made there alone.
@@ -50,9 +49,20 @@ impl Cursor {
     pub fn boxed(alloc: Global) -> Result<Box<Cursor>, AllocError>
         ensures right { IfOk result (λ cursor. IsCursorAnywhere cursor.value) }
     {
-        let mut cursor = Box::new(alloc, Cursor::new())?;
+        let mut cursor = Box::new(alloc, Cursor::zeros())?;
+        cursor.forget();
         cursor.hints.drafts.make_room(alloc);
         Ok(cursor)
+    }
+
+    /// A cursor of zeros, which is to forget first: its marks tell of entries that aren't there.
+    #[inline(always)]
+    fn zeros() -> Cursor {
+        Cursor {
+            marks: Marks::zeros(),
+            placed: [0; ADDRESSES],
+            hints: Hints::new(),
+        }
     }
 
     /// Forgets all that it knows of places, in less time than a new one is made.
@@ -60,6 +70,14 @@ impl Cursor {
         ensures right { IsCursorAnywhere self.new }
     {
         self.marks.forget();
+    }
+
+    /// Forgets what it knows of the places of a page, which may have other entries now. Those of other pages stayed.
+    pub fn forget_page(&mut self, page: u16)
+        requires page { page < 512 }
+        ensures right { (layout : LayoutOf) (words new : List ℕ) → HaveSameBeside layout words new page → IsCursor layout words self.old → IsCursor layout new self.new }
+    {
+        self.marks.forget_page(page);
     }
 
     /// Whether it is known that no entry begins at this place, and that it is none of the kernel's words.

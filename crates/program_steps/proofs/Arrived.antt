@@ -1,5 +1,5 @@
 -- What an arrival leaves, whatever it answers.
-use Rattle.std.proofs.Common.{◌≡◌, ℕ, ◌+◌, ◌<◌, ◌≤◌, Bool, true, false, List, length, refl, sym, ap, ap₂, ◌∙◌, arith, subst, inl, inr}
+use Rattle.std.proofs.Common.{◌≡◌, ℕ, ◌+◌, ◌<◌, ◌≤◌, Bool, true, List, length, refl, sym, ap, ap₂, ◌∙◌, arith, subst, inl, inr}
 use Rattle.std.specs.Prelude.{min, Option, Some, None, IfSome}
 use Rattle.std.proofs.lemmas.Bool.{cases_lt}
 use Rattle.flash_words.specs.Memory.{Memory, IsWhole}
@@ -33,8 +33,7 @@ use Rattle.program_steps.specs.Machines.{Machine, awaited, state_of, numbers_of,
 use Rattle.program_steps.specs.Ready.{IsRightPart, HasFault, AreTried, IsGoing, IsInOrder, most_arrivals}
 use Rattle.program_steps.specs.Loop.{HasArrived}
 use Rattle.page_cursor.specs.declared.cursor.Cursor.{Cursor}
-use Rattle.page_cursor.specs.Cursors.{IsCursor, IsCursorAnywhere}
-use Rattle.program_steps.proofs.Told.{cursor_same}
+use Rattle.page_cursor.specs.Cursors.{IsCursor}
 use Rattle.program_steps.proofs.Arriving.{Answered, answered, owed_own}
 use Rattle.program_steps.proofs.Owning.{number_own, admitted_number}
 use Rattle.flat_machine.specs.FlatMachine.{is_own}
@@ -84,13 +83,11 @@ after_by x y store (Some place) (Some refused) is = after_same x y store _ is (r
 pub after_arrived : (x y : State) (store : Store) (arrival : Arrival) → y ≡ arrived x store arrival → After x y store
 after_arrived x y store arrival is = after_by x y store arrival.place arrival.refused is
 
--- where it leaves flash: the cursor that is kept where nothing has changed, and else a new one
-pub cursor_kept : (old new : Machine) (changed : Bool) (before after : Cursor) → (changed ≡ false → new.kernel.mote.flash ≡ old.kernel.mote.flash) → HasArrived old new
-    → (changed ≡ false → after ≡ before) → (changed ≡ true → IsCursorAnywhere after) → IsCursor old.kernel.layout old.kernel.mote.flash.words before → IsCursor new.kernel.layout new.kernel.mote.flash.words after
-cursor_kept old new true before after same arrived kept forgotten cursor = forgotten refl new.kernel.layout new.kernel.mote.flash.words
-cursor_kept old new false before after same arrived kept forgotten cursor =
+-- the cursor, once what was made wrong is forgotten
+pub cursor_kept : (old new : Machine) (after : Cursor) → HasArrived old new → IsCursor old.kernel.layout new.kernel.mote.flash.words after → IsCursor new.kernel.layout new.kernel.mote.flash.words after
+cursor_kept old new after arrived cursor =
     let layout = (after_arrived (state_of old) (state_of new) arrived.makes.store arrived.makes.arrival arrived.makes.after).layout in
-    subst (IsCursor new.kernel.layout new.kernel.mote.flash.words) (sym (kept refl)) (cursor_same old new before layout (same refl) cursor)
+    subst (λ (l : Layout). IsCursor l new.kernel.mote.flash.words after) (sym layout) cursor
 
 after_self : (x y : State) (store : Store) → After x y store → After x y (store_of y)
 after_self x y store after = record { layout = after.layout; part = after.part; quantum = after.quantum; swap = after.swap; devices = after.devices; r = after.r; sreg = after.sreg; sp = after.sp; store_is = refl }

@@ -9,7 +9,7 @@ use Rattle.branch_bridge.specs.declared.arrival.Refused.{Refused}
 use Rattle.branch_bridge.specs.declared.arrival.ArriveStop.TheVariants as refusals
 use Rattle.branch_bridge.specs.declared.rewriting.ResolveStop.{ResolveStop}
 use Rattle.branch_bridge.specs.declared.through.Arrival.{Arrival}
-use Rattle.branch_bridge.specs.Arrivals.{Store, Arrives, ArrivesFrom, Makes, Recycles, CameThrough, KeptThrough, KeepsParts, IsOwnStub, refused_by, recycled_page, to_resolve}
+use Rattle.branch_bridge.specs.Arrivals.{Store, Arrives, ArrivesFrom, Makes, Recycles, CameThrough, KeptThrough, KeepsParts, IsOwnStub, refused_by, recycled_page}
 use Rattle.kernel_entry.specs.declared.kernel.Kernel.{Kernel}
 use Rattle.kernel_entry.specs.declared.kernel.Owed.{Owed}
 use Rattle.step_laws.specs.Moves.{Arrive}
@@ -110,10 +110,6 @@ same_found layout old new t moved (Arrives.Found place inside found same answer)
 same_found layout old new t moved (Arrives.Free page inside missed lowest makes) none = absurd (let e : true ≡ false = sym (unmade layout old new page t false moved makes) ∙ none in cc)
 same_found layout old new t moved (Arrives.Full inside missed full recycles) none = absurd (let e : true ≡ false = sym (made_recycling layout old new _ t moved recycles) ∙ none in cc)
 
-to_none : (recycled : Option ℕ) (s : ℕ) → to_resolve recycled None ≡ Some s → ⊥
-to_none None s is = absurd (cc)
-to_none (Some page) s is = absurd (cc)
-
 -- the states behind it
 placed_by : (k : Kernel) (p : Progress) (store : Store) (place : Option ℕ) (made : Bool) (refused : Option Refused) → p.end ≡ None → p.torn ≡ None
     → state_of (whole (record k { mote = record k.mote { cpu = record k.mote.cpu { pc = unwrap_or place k.mote.cpu.pc }; sram = store.sram; flash = store.flash } }) (after_arrival (record { place = place; made = made; refused = refused }) p))
@@ -161,10 +157,3 @@ has_arrived k p q owed store arrival pc owes going untorn untaken admitted can a
       crossings = rest.2;
       due = rest.3;
     }
-
--- no stub, no page made, no refusal
-pub unchanged : (layout : Layout) (old new : Store) (t : ℕ) (stub : Option ℕ) (arrival : Arrival) → stub ≡ None → arrival.made ≡ false → arrival.refused ≡ None → ArrivesFrom layout old new t stub arrival → new.flash ≡ old.flash
-unchanged layout old new t stub arrival alone none unrefused (ArrivesFrom.Stopped refused arrives is) = absurd (let e : Some refused ≡ None = sym (ap (λ (a : Arrival). a.refused) is) ∙ unrefused in cc)
-unchanged layout old new t stub arrival alone none unrefused (ArrivesFrom.Went moved arrives nothing is) = same_found layout old new t moved arrives (sym (ap (λ (a : Arrival). a.made) is) ∙ none)
-unchanged layout old new t stub arrival alone none unrefused (ArrivesFrom.Resolved mid moved s arrives some stop done same is) =
-    absurd (to_none moved.recycled s (subst (λ x. to_resolve moved.recycled x ≡ Some s) alone some))

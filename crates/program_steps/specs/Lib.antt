@@ -8,3 +8,4 @@ pub mod Stepping
 pub mod Several
 pub mod Walking
 pub mod Waiting
+pub mod Stale

@@ -1,12 +1,13 @@
 //! The arrival that is owed: made before the next step, or refused.
 
-ghost use Rattle.std.specs.Prelude.{◌≡◌, ◌≢◌, ◌<◌, ◌≤◌, ◌^◌, true, false, Some, None};
+ghost use Rattle.std.specs.Prelude.{◌≡◌, ◌≢◌, ℕ, ◌<◌, ◌≤◌, ◌^◌, true, false, List, Some, None, IfSome};
 ghost use Rattle.flash_words.specs.Layouts.{IsRight};
 ghost use Rattle.flash_words.specs.Memory.{IsWhole};
-ghost use Rattle.page_cursor.specs.Cursors.{IsCursor, IsCursorAnywhere};
+ghost use Rattle.flash_words.specs.declared.layout.Layout.{Layout as LayoutOf};
+ghost use Rattle.page_cursor.specs.Cursors.{IsCursor};
 ghost use Rattle.nat_page.specs.Faithful.{IsFaithful};
 ghost use Rattle.addr_tables.specs.Tables.{IsTables};
-ghost use Rattle.branch_bridge.specs.Arrivals.{CameThrough, ring_of};
+ghost use Rattle.branch_bridge.specs.Arrivals.{CameThrough, KeepsEntries, ring_of};
 ghost use Rattle.kernel_entry.specs.Parts.{image_held};
 ghost use Rattle.step_laws.specs.States.{admits, end_by as end_by_of};
 ghost use Rattle.program_steps.specs.Loop.{MayArrive, HasArrived, after_arrival};
@@ -14,11 +15,12 @@ ghost use Rattle.program_steps.specs.Several.{HasFollowed};
 ghost use Rattle.program_steps.specs.Ready.{IsGoing, IsQuiet};
 ghost use Rattle.program_steps.specs.Stepping.{HasEntered, HasBound};
 ghost use Rattle.program_steps.specs.Interrupts.{IsUntaken};
+ghost use Rattle.program_steps.specs.Stale.{IsStale};
 ghost use Rattle.program_steps.specs.Wholes.{whole};
 
 use crate::progress::Progress;
 use branch_bridge::{Arrival, ArriveStop, arrive_at_known_place, arrive_through};
-use flash_model::Flash;
+use flash_model::{Flash, PAGE_WORDS};
 use kernel_entry::{End, Kernel, Owed};
 use nat_page::Hints;
 use page_cursor::Cursor;
@@ -81,9 +83,9 @@ fn arrive_renewing_cursor(k: &mut Kernel, p: &mut Progress, cursor: &mut Cursor,
     ensures whole { IsWhole k.new.mote.flash }
     ensures cursor { IsCursor k.new.layout k.new.mote.flash.words cursor.new }
 {
-    let changed = arrive_owed(k, p, &mut cursor.hints, owed);
+    let stale = arrive_owed(k, p, &mut cursor.hints, owed);
     keeps_whole(&k.mote.flash);
-    forget_if(changed, cursor);
+    forget(cursor, stale);
 }
 
 /// Whether a step may follow the one that was made: it wrote no line, and there are fewer than so many.
@@ -163,13 +165,25 @@ fn arrive_known(k: &mut Kernel, p: &mut Progress, cursor: &mut Cursor, target: u
     }
 }
 
-/// A new cursor where flash may have changed.
-fn forget_if(changed: bool, cursor: &mut Cursor)
-    ensures kept { changed ≡ false → cursor.new ≡ cursor.old }
-    ensures forgotten { changed ≡ true → IsCursorAnywhere cursor.new }
+/// What an arrival may have made wrong of what is known of places.
+#[derive(Clone, Copy)]
+enum Stale {
+    /// Nothing: the entries are what they were.
+    Nothing,
+    /// What is known of the page of this place, which was made.
+    PageOf(u16),
+    /// All of it.
+    Everything,
+}
+
+/// Forgets what an arrival may have made wrong.
+fn forget(cursor: &mut Cursor, stale: Stale)
+    ensures right { (layout : LayoutOf) (old new : List ℕ) → IsStale layout old new stale → IsCursor layout old cursor.old → IsCursor layout new cursor.new }
 {
-    if changed {
-        cursor.forget();
+    match stale {
+        Stale::Nothing => {}
+        Stale::PageOf(place) => cursor.forget_page(place / PAGE_WORDS),
+        Stale::Everything => cursor.forget(),
     }
 }
 
@@ -195,10 +209,10 @@ pub fn at_bound(k: &mut Kernel, p: &mut Progress, cursor: &mut Cursor) -> End
     }
 }
 
-/// Makes the arrival that is owed. Tells whether flash may have changed. The stub that asked for it leads to its place from
-/// then on. Not inlined, since what it keeps on the stack, with the words of pages, is cleared where it begins.
+/// Makes the arrival that is owed. Tells what it may have made wrong of what is known of places. The stub that asked for it leads
+/// to its place from then on. Not inlined, since what it keeps on the stack, with the words of pages, is cleared where it begins.
 #[inline(never)]
-fn arrive_owed(k: &mut Kernel, p: &mut Progress, hints: &mut Hints, owed: Owed) -> bool
+fn arrive_owed(k: &mut Kernel, p: &mut Progress, hints: &mut Hints, owed: Owed) -> Stale
     requires owed { p.old.owed ≡ Some owed }
     requires going { p.old.end ≡ None }
     requires untorn { p.old.torn ≡ None }
@@ -212,7 +226,7 @@ fn arrive_owed(k: &mut Kernel, p: &mut Progress, hints: &mut Hints, owed: Owed) 
     requires room { k.old.mote.flash.ops < 2 ^ 61 }
     requires few { p.old.pages < 2 ^ 62 }
     ensures arrived { HasArrived (whole k.old p.old) (whole k.new p.new) }
-    ensures unchanged { result ≡ false → k.new.mote.flash ≡ k.old.mote.flash }
+    ensures stale { IsStale k.old.layout k.old.mote.flash.words k.new.mote.flash.words result }
 {
     let arrival = arrive_through(
         &mut k.mote.sram,
@@ -224,14 +238,24 @@ fn arrive_owed(k: &mut Kernel, p: &mut Progress, hints: &mut Hints, owed: Owed) 
     );
     k.mote.cpu.pc = arrival.place.unwrap_or(k.mote.cpu.pc);
     note_arrival(p, &arrival);
-    may_have_changed(owed.stub, &arrival)
+    stale_behind(&arrival)
 }
 
-/// Whether an arrival through this stub may have changed flash.
-fn may_have_changed(stub: Option<u16>, arrival: &Arrival) -> bool
-    ensures neither { result ≡ false → (stub ≡ None) × (arrival.now.made ≡ false) × (arrival.now.refused ≡ None) }
+/// What an arrival may have made wrong: one that made a page changed no other page's entries, and one that made none changed none.
+fn stale_behind(arrival: &Arrival) -> Stale
+    ensures stale { (layout : LayoutOf) (old new : List ℕ) → (arrival.now.refused ≡ None → IfSome arrival.now.place (λ place. KeepsEntries layout old new arrival.now.made place)) → IsStale layout old new result }
 {
-    stub.is_some() || arrival.made || arrival.refused.is_some()
+    if arrival.refused.is_some() {
+        return Stale::Everything;
+    }
+    let place = match arrival.place {
+        None => return Stale::Everything,
+        Some(place) => place,
+    };
+    if !arrival.made {
+        return Stale::Nothing;
+    }
+    Stale::PageOf(place)
 }
 
 /// Takes down what an arrival made, and how it was refused.

@@ -11,6 +11,7 @@ use Rattle.addr_tables.proofs.FindLaws.{HasNone, found_none, found_right, found_
 use Rattle.addr_tables.specs.Changes.{noted}
 use Rattle.addr_tables.proofs.NoteLaws.{rest_noted}
 use Rattle.branch_bridge.proofs.MakeLaws.{ring_kept}
+use Rattle.branch_bridge.proofs.EntriesKept.{entries_made}
 use Rattle.branch_bridge.proofs.SurveyLaws.{surveyed_free, surveyed_full}
 use Rattle.branch_bridge.specs.Arrivals.{Store, Arrives, Makes, Recycles, Kept, Found, Free, Full, ring_of, torn_in, made_in, one_if}
 use Rattle.branch_bridge.proofs.ArrivalLaws.{tried_made, tried_recycled, only_wild}
@@ -54,6 +55,9 @@ returns-in-Ok-clause-kept c =
       ring = λ below. (let same = ap ring_of (found_noted layout words c.args.sram.now c.find_with_hints.new.sram c.args.t c.in-Ok.place c.in-Ok.ensures.finds) in let kept = ring_kept c.args.sram.now (noted c.args.sram.now c.args.t c.in-Ok.place) (rest_noted c.args.sram.now c.args.t c.in-Ok.place) in omega (arith, same, kept));
       stubs = λ s to apart stub. stub;
     }
+
+pub returns-in-Ok-clause-entries : goal.returns-in-Ok-clause-entries
+returns-in-Ok-clause-entries c = λ t v away. (λ entry. entry, λ entry. entry)
 
 pub make_page-requires-clause-unknown : goal.make_page-requires-clause-unknown
 make_page-requires-clause-unknown c =
@@ -124,6 +128,7 @@ returns-in-Some c =
     record {
       arrives = arrives;
       used = is ∙ fits (used_pages layout words + one) layout.pool_pages (omega (arith, is, used_pages-most layout (with_torn new.flash.words (torn_in result))));
+      entries = entries_made layout words (store found) new page c.args.t false result c.requires.right c.requires.code lowest.pool lowest.free (λ a v away entry. entry) (λ a v entry. entry) c.make_page.ensures.makes;
       tried = tried_made layout (store found) new page c.args.t false result c.requires.right c.requires.code.whole lowest.pool lowest.free c.make_page.ensures.makes;
       rest = subst (λ m. KeepsOtherBytes m new.sram) none.left c.make_page.ensures.rest;
       kept = subst (λ m. Kept layout (store m) new c.args.t result) none.left c.make_page.ensures.kept;
@@ -147,6 +152,7 @@ returns-in-None c =
     record {
       arrives = arrives;
       used = c.recycle.ensures.used ∙ at_least (used_pages layout words) (one_if (made_in result)) layout.pool_pages all;
+      entries = c.recycle.ensures.entries;
       tried = tried_recycled layout (store found) new (layout.pool_first + ring_of found) c.args.t result c.requires.right c.requires.code.whole (record { from = omega arith; to = omega (arith, c.requires.ring, same) }) c.recycle.ensures.recycles;
       rest = subst (λ m. KeepsOtherBytes m new.sram) none.left c.recycle.ensures.rest;
       kept = subst (λ m. Kept layout (store m) new c.args.t result) none.left c.recycle.ensures.kept;

@@ -17,6 +17,7 @@ use Rattle.branch_bridge.specs.declared.arrival.ArriveStop.TheVariants.{Flash}
 use Rattle.branch_bridge.specs.Arrivals.{Store, Makes, Recycles, NotUnlinked, NotErased, Erased, turned}
 use Rattle.branch_bridge.proofs.ErasedLaws.{IsEmptied, emptied, known_left, emptied_kept}
 use Rattle.branch_bridge.proofs.MakeLaws.{ring_kept, makes_told, makes_ops}
+use Rattle.branch_bridge.proofs.EntriesKept.{entries_made}
 use Rattle.branch_bridge.specs.Arrivals.{KeepsOtherBytes}
 use Rattle.sram_layout.proofs.RegionLaws.{outside_same, outside_then}
 use Rattle.branch_bridge.proofs.RestLaws.{others_rest, others_turned}
@@ -87,6 +88,7 @@ returns-in-Err-erase c =
           ap (used_pages layout) words
           ∙ used_among-same old.flash.words unlinked.words layout.pool_first layout.pool_pages (λ page low high. c.in-Ok.ensures.uses page)
           ∙ all_used layout old.flash.words (faithful_mapped layout image old.flash.words c.requires.right c.requires.code) c.requires.full;
+      entries = tt;
       rest = others_rest old.sram new.sram rest;
       kept = record {
         code = subst (IsFaithful layout image) (sym words) c.in-Ok.ensures.code;
@@ -129,5 +131,7 @@ returns c =
           ∙ before;
       recycles = subst P c.ring.ensures.value (Erased unlinked c.in-Ok.ensures.performed c.in-Ok-erase.ensures.free made);
       kept = emptied_kept layout old.flash unlinked c.erase.new.self victim c.args.t old.sram forgot c.turn.new.sram new result empty c.in-Ok.ensures.entries (λ stays tables. c.forget_page.ensures.erased layout unlinked.words c.erase.new.self.words stays tables) c.turn.ensures.after c.requires.right c.forget_page.ensures.size.1 c.in-Ok.ensures.stubs (makes_told layout _ new victim c.args.t true result makes) (omega (arith, makes_ops layout _ new victim c.args.t true result makes, ap (λ (m : Memory). m.ops) c.in-Ok-erase.ensures.done, c.unresolve.ensures.ops)) c.make_page.ensures.kept;
+      entries = entries_made layout old.flash.words (record { flash = c.erase.new.self; sram = c.turn.new.sram }) new victim c.args.t true result c.requires.right empty.code pool empty.free
+          (λ a v away entry. empty.stays a v (c.in-Ok.ensures.entries a v entry) away) empty.before makes;
       rest = outside_then (others_rest old.sram forgot c.forget_page.ensures.forgets.rest) (outside_then (subst (KeepsOtherBytes forgot) (sym c.turn.ensures.after) (others_turned layout forgot)) c.make_page.ensures.rest);
     }

@@ -26,6 +26,7 @@ returns-in-Err c =
     let kept = c.in-Err.ensures.kept in
     record {
       arrives = arrives;
+      entries = λ unrefused. absurd (let e : Some c.in-Err.refused ≡ None = unrefused in cc);
       parts = λ part parted own. (arrives_parted layout old new part c.args.t (Err c.in-Err.refused) c.requires.right c.requires.code c.requires.ring c.in-Err.ensures.arrives parted).0;
       kept = record {
         used = c.in-Err.ensures.used;
@@ -74,6 +75,11 @@ returns-in-Some c =
     let image = image_of layout old.flash.words in
     let s = c.in-Some.stub in
     record {
+      entries = λ unrefused a v away.
+          let at : left ≡ words = ap (λ r. with_torn words (torn_by r)) unrefused in
+          let both = c.in-Ok.ensures.entries a v away in
+          let Entry : List ℕ → Type 0 = λ w. IsEntry layout w a v in
+          (λ e. subst Entry at (entry a v (both.0 e)), λ e. both.1 ((c.resolve.ensures.entries a v).1 (subst Entry (sym at ∙ is) e)));
       parts = λ part parted own.
           let to_own : IsToResolve c.in-Ok.moved.recycled c.args.stub s = is_to_resolve c.in-Ok.moved.recycled c.args.stub s (sym c.to_resolve.ensures.value ∙ c.in-Some.is) in
           let stub : IsUnresolved layout image old.flash.words s c.args.t = subst (λ stub. CameThrough layout old.flash.words stub c.args.t) to_own.same c.requires.stub in
@@ -110,6 +116,7 @@ returns-in-None c =
     let kept = c.in-Ok.ensures.kept in
     record {
       arrives = arrives;
+      entries = λ unrefused. c.in-Ok.ensures.entries;
       parts = λ part parted own. (arrives_parted layout old new part c.args.t (Ok c.in-Ok.moved) c.requires.right c.requires.code c.requires.ring c.in-Ok.ensures.arrives parted).0;
       kept = record {
         used = c.in-Ok.ensures.used;

@@ -1,6 +1,4 @@
 use Rattle.std.proofs.Common.{ap, ◌∙◌}
-use Rattle.page_cursor.specs.Cursors.{IsCursor}
-use Rattle.page_cursor.specs.declared.cursor.Cursor.{Cursor}
 use Rattle.step_laws.specs.States.{admits}
 use Rattle.program_steps.specs.Wholes.{whole}
 use Rattle.program_steps.proofs.Arriving.{owed_came}
@@ -9,8 +7,8 @@ use Rattle.program_steps.proofs.Laws.{faithful_going, tables_going}
 use Rattle.program_steps.proofs.Arrived.{owed_at, cursor_kept}
 use Rattle.program_steps.proofs.arrival.arrive_renewing_cursor.Goals as goal
 
-pub arrive_owed-changed-requires : goal.arrive_owed-changed-requires
-arrive_owed-changed-requires c =
+pub arrive_owed-stale-requires : goal.arrive_owed-stale-requires
+arrive_owed-stale-requires c =
     let m = whole c.args.k.now c.args.p.now in
     let may = c.requires.may in
     let ready = may.ready in
@@ -19,7 +17,7 @@ arrive_owed-changed-requires c =
 
 pub returns-clause-cursor : goal.returns-clause-cursor
 returns-clause-cursor c =
-    let cursor : Cursor = record c.args.cursor.now { hints = c.arrive_owed-changed.new.hints } in
-    let known : IsCursor c.args.k.now.layout c.args.k.now.mote.flash.words cursor = c.requires.cursor in
-    cursor_kept (whole c.args.k.now c.args.p.now) (whole c.arrive_owed-changed.new.k c.arrive_owed-changed.new.p) c.arrive_owed-changed.result cursor c.forget_if.new.cursor
-    c.arrive_owed-changed.ensures.unchanged c.arrive_owed-changed.ensures.arrived c.forget_if.ensures.kept c.forget_if.ensures.forgotten known
+    let old = whole c.args.k.now c.args.p.now in
+    let new = whole c.arrive_owed-stale.new.k c.arrive_owed-stale.new.p in
+    cursor_kept old new c.forget.new.cursor c.arrive_owed-stale.ensures.arrived
+    (c.forget.ensures.right c.args.k.now.layout c.args.k.now.mote.flash.words c.arrive_owed-stale.new.k.mote.flash.words c.arrive_owed-stale.ensures.stale c.requires.cursor)

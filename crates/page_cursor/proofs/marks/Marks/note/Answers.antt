@@ -1,8 +1,11 @@
 use Rattle.std.proofs.Common.{sym, subst}
-use Rattle.std.specs.Prelude.{◌≢◌}
-use Rattle.page_cursor.specs.Marks.{Marking, mark_at}
-use Rattle.page_cursor.proofs.MarkLaws.{covered_mark}
+use Rattle.page_cursor.specs.Marks.{Marking, IsUnknownAt}
+use Rattle.page_cursor.proofs.MarkLaws.{covered_address}
 use Rattle.page_cursor.proofs.marks.Marks.note.Goals as goal
 
 pub invariant_of-self : goal.invariant_of-self
-invariant_of-self c = covered_mark (record { marks = c.self.inside.marks; pages = c.self.inside.pages; count = c.self.inside.count }) c.args.place _ (subst (λ (m : Marking). mark_at m c.args.place ≢ 0) (sym c.self.view_is) c.requires.known) c.self.invariant
+invariant_of-self c =
+    let inside = c.self.inside in
+    let before : Marking = record { quiet = inside.quiet; marks = inside.marks; pages = inside.pages; room = inside.room } in
+    let known = subst (λ (m : Marking). ¬ IsUnknownAt m.quiet m.marks c.args.place) (sym c.self.view_is) c.requires.known in
+    covered_address before c.args.place _ known c.self.invariant

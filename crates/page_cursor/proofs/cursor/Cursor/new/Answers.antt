@@ -1,5 +1,0 @@
-use Rattle.page_cursor.proofs.MarkLaws.{fresh_marks}
-use Rattle.page_cursor.proofs.cursor.Cursor.new.Goals as goal
-
-pub returns : goal.returns
-returns c = record { right = λ layout words. fresh_marks layout words _ c.new.ensures.fresh }
