@@ -1,13 +1,12 @@
 -- Parts of a line.
-use Rattle.std.proofs.Common.{◌≡◌, ℕ, ◌+◌, ◌-◌, ◌<◌, ◌≤◌, get_or, drop, Bool, true, false, cond, eqb, List, [], ◌∷◌, ◌++◌, length, take, arith, ap, refl, sym, ◌∙◌, lt-ltb, le-ltb}
-use Rattle.std.specs.Prelude.{◌&&◌, not, map, position, bytes_eq, Some, None}
-use Rattle.std.specs.List.{list_all, list_any, position_or_len}
-use Rattle.std.specs.Borrow.{Bor}
-use Rattle.std.proofs.lemmas.List.{length-map, take-append-drop, drop_more, drop_all}
+use Rattle.std.proofs.Common.{◌≡◌, ℕ, ◌+◌, ◌-◌, ◌≤◌, get_or, drop, Bool, true, false, cond, eqb, List, [], ◌∷◌, ◌++◌, length, take, arith, ap, refl, sym, ◌∙◌}
+use Rattle.std.specs.Prelude.{◌&&◌}
+use Rattle.std.specs.List.{list_all, list_any}
+use Rattle.std.proofs.lemmas.List.{take-append-drop, drop_more, drop_all}
 use Rattle.std.proofs.lemmas.Bool.Decides.{nat_tests}
 use Rattle.std.proofs.lemmas.Bool.{ne_eqb}
 use Rattle.line_reader.specs.Cutting.{Lacks}
-use Rattle.avr_asm.specs.Cuts.{is_blank, before, behind, skip_end, index_of, front_word, behind_word}
+use Rattle.avr_asm.specs.Cuts.{is_blank, before, behind, skip_end, front_word, behind_word}
 
 like : (byte : ℕ) → eqb byte byte ≡ true
 like byte = grind (arith, nat_tests)
@@ -63,31 +62,6 @@ skip_blank_last text some blank = sym (ap skip_end (last_off text some) ∙ skip
 
 pub keep_last : (text : List ℕ) → 1 ≤ length text → is_blank (get_or text (length text - 1) 0) ≡ false → text ≡ skip_end text
 keep_last text some shown = sym (ap skip_end (last_off text some) ∙ keep_end (take (length text - 1) text) _ shown ∙ sym (last_off text some))
-
--- the index of a name among names that are borrowed
-prefix_len-now : (names : List (Bor (List ℕ))) (text : List ℕ) → position_or_len (λ name. bytes_eq name text) (map (λ name. name.now) names) ≡ position_or_len (λ (name : Bor (List ℕ)). bytes_eq name.now text) names
-prefix_len-now [] text = refl
-prefix_len-now (name ∷ names) text = ap (λ n. cond (not (bytes_eq name.now text)) (1 + n) 0) (prefix_len-now names text)
-
-pub index_of-now : (names : List (Bor (List ℕ))) (text : List ℕ) → position (λ (name : Bor (List ℕ)). bytes_eq name.now text) names ≡ index_of (map (λ name. name.now) names) text
-index_of-now names text = rw (prefix_len-now names text, length-map names (λ (name : Bor (List ℕ)). name.now)) refl
-
--- the first position where a test passes, by what is left from there on, and none
-pub index_here : (names : List (Bor (List ℕ))) (text : List ℕ) (i : ℕ) (d : Bor (List ℕ)) → i < length names
-    → i + position_or_len (λ (name : Bor (List ℕ)). bytes_eq name.now text) (drop i names) ≡ position_or_len (λ (name : Bor (List ℕ)). bytes_eq name.now text) names
-    → bytes_eq (get_or names i d).now text ≡ true → Some i ≡ index_of (map (λ name. name.now) names) text
-index_here names text i d inside left passes =
-    let test = λ (name : Bor (List ℕ)). bytes_eq name.now text in
-    let here : position_or_len test (drop i names) ≡ 0 = ap (position_or_len test) (drop_more names i d inside) ∙ rw passes refl in
-    let first : position_or_len test names ≡ i = omega (arith, left, here) in
-    rw (first, lt-ltb i (length names) inside) refl ∙ index_of-now names text
-
-pub index_nowhere : (names : List (Bor (List ℕ))) (text : List ℕ) (i : ℕ) → length names ≤ i
-    → i + position_or_len (λ (name : Bor (List ℕ)). bytes_eq name.now text) (drop i names) ≡ position_or_len (λ (name : Bor (List ℕ)). bytes_eq name.now text) names
-    → None ≡ index_of (map (λ name. name.now) names) text
-index_nowhere names text i outside left =
-    let test = λ (name : Bor (List ℕ)). bytes_eq name.now text in
-    rw (le-ltb (position_or_len test names) (length names) (omega (arith, left, outside))) refl ∙ index_of-now names text
 
 -- the first word of a text
 word_take : (blank : Bool) (b : ℕ) (text : List ℕ) → take (length (front_word text)) text ≡ front_word text → take (length (cond blank [] (b ∷ front_word text))) (b ∷ text) ≡ cond blank [] (b ∷ front_word text)

@@ -8,6 +8,7 @@ use Rattle.avr_asm.specs.declared.line.Line.{Line}
 use Rattle.line_reader.specs.Cutting.{Lacks}
 use Rattle.avr_asm.specs.Cuts.{before, behind, trimmed}
 use Rattle.avr_asm.specs.SourceLines.{behind_label, code_of, label_text, line_of, with_label, IsNamed}
+use Rattle.avr_asm.specs.Operands.{name_of}
 use Rattle.avr_asm.proofs.CutLaws.{before_cut, behind_cut, some_cut, none_lacking}
 
 -- the label of a line with a colon is what stands before the colon
@@ -23,13 +24,13 @@ unnamed line (Ok l) none = subst (λ (label : Option (ArrayVec ℕ)). IsNamed li
 unnamed line (Err fault) none = tt
 
 by_label : Bool → List ℕ → Result Line AsmFault
-by_label colon code = cond colon (with_label (before 58 code) (trimmed (behind 58 code))) (behind_label None code)
+by_label colon code = cond colon (with_label (name_of (before 58 code)) (trimmed (behind 58 code))) (behind_label None code)
 
-pub labelled : (line code front rest : List ℕ) → code ≡ code_of line → Lacks 58 front → code ≡ front ++ 58 ∷ rest → with_label front (trimmed rest) ≡ line_of line
+pub labelled : (line code front rest : List ℕ) → code ≡ code_of line → Lacks 58 front → code ≡ front ++ 58 ∷ rest → with_label (name_of front) (trimmed rest) ≡ line_of line
 unfolding by_label
 labelled line code front rest is lacks cut =
     let whole : code_of line ≡ front ++ 58 ∷ rest = sym is ∙ cut in
-    let there : by_label true (front ++ 58 ∷ rest) ≡ with_label front (trimmed rest) = ap₂ (λ name text. with_label name (trimmed text)) (before_cut 58 front rest lacks) (behind_cut 58 front rest lacks) in
+    let there : by_label true (front ++ 58 ∷ rest) ≡ with_label (name_of front) (trimmed rest) = ap₂ (λ name text. with_label (name_of name) (trimmed text)) (before_cut 58 front rest lacks) (behind_cut 58 front rest lacks) in
     sym (ap (λ text. by_label (list_any (λ b. eqb b 58) text) text) whole ∙ ap (λ colon. by_label colon (front ++ 58 ∷ rest)) (some_cut 58 front rest lacks) ∙ there)
 
 pub unlabelled : (line code : List ℕ) → code ≡ code_of line → Lacks 58 code → behind_label None code ≡ line_of line

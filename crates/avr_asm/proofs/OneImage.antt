@@ -2,6 +2,7 @@
 use Rattle.std.proofs.Common.{◌≡◌, ℕ, ◌+◌, ◌<◌, ◌≤◌, List, [], ◌∷◌, length, drop, ap₂, refl, subst, sym, ◌∙◌, arith}
 use Rattle.std.specs.Prelude.{None, Some, Option, Result, Ok, Err, MatchOption}
 use Rattle.std.specs.Bool.{⊤}
+use Rattle.std.specs.Result.{IsOkAnd}
 use Rattle.std.proofs.lemmas.List.{drop_more, drop_all}
 use Rattle.std.proofs.lemmas.Option.{get_or_from_slice_get, slice_get_within}
 use Rattle.line_reader.specs.Lines.{lines_of}
@@ -15,7 +16,7 @@ use Rattle.avr_asm.specs.declared.statement.Statement.{Statement}
 use Rattle.avr_asm.specs.declared.statement.Statement.TheVariants.{Ready, To, Word}
 use Rattle.avr_asm.specs.SourceLines.{line_of}
 use Rattle.avr_asm.specs.Addresses.{Label, Place, start, after, behind_line, words_of_statement}
-use Rattle.avr_asm.specs.AsmText.{AreLines, AsmText, IsInstruction, IsJump, IsLine, IsStatement, labels_of}
+use Rattle.avr_asm.specs.AsmText.{AreLines, AsmText, IsInstruction, IsStatement, labels_of}
 use Rattle.avr_asm.specs.Targets.{jump_of}
 use Rattle.avr_asm.proofs.SizeLaws.{jump_words}
 use Rattle.avr_asm.proofs.WordLaws.{size_by, words_by}
@@ -46,7 +47,7 @@ instruction_step a b at form is_a is_b rest =
     (row_a.opcode ∙ sym row_b.opcode) row_a.address row_b.address
     (subst (λ n. SameFrom a b (at + n)) size rest)
 
-jump_step : (a b : List ℕ) (at size : ℕ) (jump : Result Form AsmFault) → ((form : Form) → jump ≡ Ok form → size_of form ≡ size) → IsJump a at jump → IsJump b at jump → SameFrom a b (at + size) → SameFrom a b at
+jump_step : (a b : List ℕ) (at size : ℕ) (jump : Result Form AsmFault) → ((form : Form) → jump ≡ Ok form → size_of form ≡ size) → IsOkAnd jump (IsInstruction a at) → IsOkAnd jump (IsInstruction b at) → SameFrom a b (at + size) → SameFrom a b at
 jump_step a b at size (Ok form) sized is_a is_b rest = instruction_step a b at form is_a is_b (subst (λ n. SameFrom a b (at + n)) (sym (sized form refl)) rest)
 jump_step a b at size (Err fault) sized is_a is_b rest = absurd is_a
 
@@ -61,7 +62,7 @@ statement_step labels a b at (Some (Ready form)) is_a is_b rest = instruction_st
 statement_step labels a b at (Some (To kind target)) is_a is_b rest =
     jump_step a b at _ (jump_of labels at kind target) (λ form is. jump_words labels at kind target form is) is_a is_b rest
 
-line_step : (labels : List Label) (a b : List ℕ) (place : Place) (line : Result Line AsmFault) → IsLine labels a place.at line → IsLine labels b place.at line
+line_step : (labels : List Label) (a b : List ℕ) (place : Place) (line : Result Line AsmFault) → IsOkAnd line (λ said. IsStatement labels a place.at said.statement) → IsOkAnd line (λ said. IsStatement labels b place.at said.statement)
     → SameFrom a b (behind_line place line).at → SameFrom a b place.at
 line_step labels a b place (Ok line) is_a is_b rest = statement_step labels a b place.at line.statement is_a is_b rest
 line_step labels a b place (Err fault) is_a is_b rest = absurd is_a

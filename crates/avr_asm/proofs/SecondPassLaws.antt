@@ -1,6 +1,7 @@
 -- The second pass: its start, one line more, and the end.
 use Rattle.std.proofs.Common.{◌≡◌, ℕ, ◌+◌, ◌≤◌, List, [], ◌∷◌, ◌++◌, length, ap, refl, subst, sym, ◌∙◌, arith}
 use Rattle.std.specs.Prelude.{None, Some, Option, Result, Ok}
+use Rattle.std.specs.Result.{IsOkAnd}
 use Rattle.std.proofs.lemmas.List.{append_assoc, append-nil}
 use Rattle.line_reader.specs.Lines.{lines_of}
 use Rattle.avr_asm.specs.declared.fault.AsmFault.{AsmFault}
@@ -12,7 +13,7 @@ use Rattle.avr_isa.proofs.Laws.{size_of-range}
 use Rattle.avr_asm.specs.SourceLines.{line_of}
 use Rattle.avr_asm.specs.Addresses.{Label, Place, start, after, after_all, behind_line, words_of_statement}
 use Rattle.avr_asm.specs.Targets.{fault_of_line, target_faults}
-use Rattle.avr_asm.specs.AsmText.{AreLines, IsLine, first_fault, labels_of}
+use Rattle.avr_asm.specs.AsmText.{AreLines, IsStatement, first_fault, labels_of}
 use Rattle.avr_asm.specs.Passes.{IsAssembled, IsLineAdded, IsSecondPart}
 
 -- the place behind a line that was added
@@ -44,9 +45,9 @@ second_part_more text line rest behind number old new part cut has =
       ends = sym (ap (after_all place) cut) ∙ part.ends;
       onward = λ more others.
           let joined : old ++ (has.added.code ++ more) ≡ new ++ more = sym (append_assoc old has.added.code more) ∙ ap (λ w. w ++ more) (sym has.added.joined) in
-          let stands : IsLine labels (new ++ more) place.at (line_of line) =
-          subst (λ (r : Result Line AsmFault). IsLine labels (new ++ more) place.at r) (sym has.line_is)
-          (subst (λ at. IsLine labels (new ++ more) at (Ok has.line)) part.at_is (has.added.stands more)) in
+          let stands : IsOkAnd (line_of line) (λ said. IsStatement labels (new ++ more) place.at said.statement) =
+          subst (λ (r : Result Line AsmFault). IsOkAnd r (λ said. IsStatement labels (new ++ more) place.at said.statement)) (sym has.line_is)
+          (subst (λ at. IsStatement labels (new ++ more) at has.line.statement) part.at_is (has.added.stands more)) in
           let from_here : AreLines labels (new ++ more) place (lines_of rest) = subst (AreLines labels (new ++ more) place) (sym cut) (stands, others) in
           subst (λ w. AreLines labels w start (lines_of text)) joined
           (part.onward (has.added.code ++ more) (subst (λ w. AreLines labels w place (lines_of rest)) (sym joined) from_here));

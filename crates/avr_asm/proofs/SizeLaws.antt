@@ -1,19 +1,20 @@
 -- The words of a jump are those that its statement has.
 use Rattle.std.proofs.Common.{◌≡◌, ℕ, ◌+◌, Bool, true, false, cond, List, ◌++◌, length, ap, refl, subst, sym, ◌∙◌}
-use Rattle.std.specs.Prelude.{ℤ, None, Some, Option, Result, Ok}
+use Rattle.std.specs.Prelude.{ℤ, None, Some, Option, Result, Ok, Err}
+use Rattle.std.specs.Result.{IsOkAnd, result_err}
 use Rattle.avr_isa.specs.declared.form.Form.{Form}
 use Rattle.avr_isa.specs.declared.form.Form.TheVariants as forms
 use Rattle.avr_isa.specs.Instruction.{is_valid, size_of}
 use Rattle.avr_asm.specs.declared.fault.AsmFault.{AsmFault}
+use Rattle.avr_asm.specs.declared.fault.AsmFault.TheVariants.{Reach}
 use Rattle.avr_asm.specs.declared.mnemonic.Jump.{Jump}
 use Rattle.avr_asm.specs.declared.mnemonic.Jump.TheVariants.{If, Rjmp, Rcall, Jmp, Call}
 use Rattle.avr_asm.specs.declared.statement.Statement.TheVariants.{To}
 use Rattle.avr_asm.specs.declared.statement.Target.{Target}
 use Rattle.avr_asm.specs.declared.statement.Target.TheVariants as targets
 use Rattle.avr_asm.specs.Addresses.{Label, address_of, words_of_statement}
-use Rattle.avr_asm.specs.Statements.{valid_form}
-use Rattle.avr_asm.specs.Targets.{distance, fault_of_result, in_reach, jump_of, jump_to, jump_to_label}
-use Rattle.avr_asm.specs.AsmText.{IsJump}
+use Rattle.avr_asm.specs.Targets.{distance, in_reach, jump_of, jump_to, jump_to_label}
+use Rattle.avr_asm.specs.AsmText.{IsInstruction}
 use Rattle.avr_asm.specs.Passes.{IsAdded, IsAddedInstruction}
 
 abbrev okay : Form → Result Form AsmFault
@@ -23,11 +24,11 @@ ok_same : (a b : Form) → okay a ≡ okay b → a ≡ b
 ok_same a b same = cc
 
 -- a form that is in reach is the one that was made
-reached_if : (valid : Bool) (made form : Form) → in_reach (cond valid (Some made) None) ≡ Ok form → made ≡ form
+reached_if : (valid : Bool) (made form : Form) → cond valid (okay made) (Err Reach) ≡ Ok form → made ≡ form
 reached_if true made form is = ok_same made form is
 reached_if false made form is = absurd (cc)
 
-reached : (made form : Form) → in_reach (valid_form made) ≡ Ok form → size_of form ≡ size_of made
+reached : (made form : Form) → in_reach made ≡ Ok form → size_of form ≡ size_of made
 reached made form is = sym (ap size_of (reached_if (is_valid made) made form is))
 
 -- how many words the jumps have
@@ -73,6 +74,6 @@ jump_added labels jump target form old new is added = record {
   code = added.code;
   joined = added.joined;
   size = added.size ∙ ap (λ n. length old + n) (jump_words labels (length old) jump target form is);
-  stands = λ more. subst (IsJump (new ++ more) (length old)) (sym is) (added.stands more);
-  sound = ap fault_of_result is;
+  stands = λ more. subst (λ made. IsOkAnd made (IsInstruction (new ++ more) (length old))) (sym is) (added.stands more);
+  sound = ap result_err is;
 }

@@ -11,9 +11,9 @@ use Rattle.avr_asm.specs.declared.fault.AsmFault.{AsmFault}
 use Rattle.avr_asm.specs.declared.line.Line.{Line}
 use Rattle.avr_asm.specs.declared.statement.Statement.{Statement}
 use Rattle.avr_asm.specs.declared.statement.Statement.TheVariants.{Ready, To, Word}
-use Rattle.avr_asm.specs.Mnemonics.{found_in, operation_of}
+use Rattle.avr_asm.specs.Mnemonics.{operation_of}
 use Rattle.avr_asm.specs.Numbers.{number_of}
-use Rattle.avr_asm.specs.Operands.{is_name, name_of, offset_of, operand_of, pointer_of, register_of}
+use Rattle.avr_asm.specs.Operands.{is_name, name_of, operand_of, pointer_of, register_of}
 use Rattle.avr_asm.specs.SourceLines.{line_of, statement_of}
 use Rattle.avr_asm.specs.Statements.{meaning_of}
 use Rattle.avr_asm.specs.Targets.{jump_of}
@@ -56,7 +56,7 @@ bare : AreWords (
     ∷ (codes "cli\nlpm\nelpm", 0x94F8 ∷ 0x95C8 ∷ 0x95D8 ∷ [])
     ∷ []
     )
-unfolding words_of words_of_line words_of_statement words_of_jump words_of_form second_of statement_of operation_of found_in operand_of register_of pointer_of number_of offset_of name_of is_name meaning_of is_valid fields_in_range is_undefined first_word second_word
+unfolding words_of words_of_line words_of_statement words_of_jump words_of_form second_of statement_of operation_of operand_of register_of pointer_of number_of name_of is_name meaning_of is_valid fields_in_range is_undefined first_word second_word
 bare = refl
 
 -- of two registers of r0 to r31
@@ -75,7 +75,7 @@ two_registers_all : AreWords (
     ∷ (codes "mul r0, r31\nmul r31, r0", 0x9E0F ∷ 0x9DF0 ∷ [])
     ∷ []
     )
-unfolding words_of words_of_line words_of_statement words_of_jump words_of_form second_of statement_of operation_of found_in operand_of register_of pointer_of number_of offset_of name_of is_name meaning_of is_valid fields_in_range is_undefined first_word second_word
+unfolding words_of words_of_line words_of_statement words_of_jump words_of_form second_of statement_of operation_of operand_of register_of pointer_of number_of name_of is_name meaning_of is_valid fields_in_range is_undefined first_word second_word
 two_registers_all = refl
 
 -- of two registers of fewer
@@ -88,7 +88,7 @@ two_registers_some : AreWords (
     ∷ (codes "fmulsu r16, r23\nfmulsu r23, r16", 0x038F ∷ 0x03F8 ∷ [])
     ∷ []
     )
-unfolding words_of words_of_line words_of_statement words_of_jump words_of_form second_of statement_of operation_of found_in operand_of register_of pointer_of number_of offset_of name_of is_name meaning_of is_valid fields_in_range is_undefined first_word second_word
+unfolding words_of words_of_line words_of_statement words_of_jump words_of_form second_of statement_of operation_of operand_of register_of pointer_of number_of name_of is_name meaning_of is_valid fields_in_range is_undefined first_word second_word
 two_registers_some = refl
 
 -- of a register and a constant
@@ -103,7 +103,7 @@ constants : AreWords (
     ∷ (codes "sbiw r24, 63\nsbiw r30, 0", 0x97CF ∷ 0x9730 ∷ [])
     ∷ []
     )
-unfolding words_of words_of_line words_of_statement words_of_jump words_of_form second_of statement_of operation_of found_in operand_of register_of pointer_of number_of offset_of name_of is_name meaning_of is_valid fields_in_range is_undefined first_word second_word
+unfolding words_of words_of_line words_of_statement words_of_jump words_of_form second_of statement_of operation_of operand_of register_of pointer_of number_of name_of is_name meaning_of is_valid fields_in_range is_undefined first_word second_word
 constants = refl
 
 -- of one register
@@ -120,7 +120,7 @@ one_register : AreWords (
     ∷ (codes "pop r0\npop r31", 0x900F ∷ 0x91FF ∷ [])
     ∷ []
     )
-unfolding words_of words_of_line words_of_statement words_of_jump words_of_form second_of statement_of operation_of found_in operand_of register_of pointer_of number_of offset_of name_of is_name meaning_of is_valid fields_in_range is_undefined first_word second_word
+unfolding words_of words_of_line words_of_statement words_of_jump words_of_form second_of statement_of operation_of operand_of register_of pointer_of number_of name_of is_name meaning_of is_valid fields_in_range is_undefined first_word second_word
 one_register = refl
 
 -- of each register
@@ -131,7 +131,7 @@ registers : AreWords (
     ∷ (codes "push r24\npush r25\npush r26\npush r27\npush r28\npush r29\npush r30\npush r31", 0x938F ∷ 0x939F ∷ 0x93AF ∷ 0x93BF ∷ 0x93CF ∷ 0x93DF ∷ 0x93EF ∷ 0x93FF ∷ [])
     ∷ []
     )
-unfolding words_of words_of_line words_of_statement words_of_jump words_of_form second_of statement_of operation_of found_in operand_of register_of pointer_of number_of offset_of name_of is_name meaning_of is_valid fields_in_range is_undefined first_word second_word
+unfolding words_of words_of_line words_of_statement words_of_jump words_of_form second_of statement_of operation_of operand_of register_of pointer_of number_of name_of is_name meaning_of is_valid fields_in_range is_undefined first_word second_word
 registers = refl
 
 -- LD through each pointer
@@ -147,7 +147,7 @@ loads : AreWords (
     ∷ (codes "ld r0, -Z\nld r29, -Z", 0x9002 ∷ 0x91D2 ∷ [])
     ∷ []
     )
-unfolding words_of words_of_line words_of_statement words_of_jump words_of_form second_of statement_of operation_of found_in operand_of register_of pointer_of number_of offset_of name_of is_name meaning_of is_valid fields_in_range is_undefined first_word second_word
+unfolding words_of words_of_line words_of_statement words_of_jump words_of_form second_of statement_of operation_of operand_of register_of pointer_of number_of name_of is_name meaning_of is_valid fields_in_range is_undefined first_word second_word
 loads = refl
 
 -- ST through each pointer
@@ -163,7 +163,7 @@ stores : AreWords (
     ∷ (codes "st -Z, r0\nst -Z, r29", 0x9202 ∷ 0x93D2 ∷ [])
     ∷ []
     )
-unfolding words_of words_of_line words_of_statement words_of_jump words_of_form second_of statement_of operation_of found_in operand_of register_of pointer_of number_of offset_of name_of is_name meaning_of is_valid fields_in_range is_undefined first_word second_word
+unfolding words_of words_of_line words_of_statement words_of_jump words_of_form second_of statement_of operation_of operand_of register_of pointer_of number_of name_of is_name meaning_of is_valid fields_in_range is_undefined first_word second_word
 stores = refl
 
 -- with a displacement
@@ -174,7 +174,7 @@ displaced : AreWords (
     ∷ (codes "std Z+63, r0\nstd Z+0, r31", 0xAE07 ∷ 0x83F0 ∷ [])
     ∷ []
     )
-unfolding words_of words_of_line words_of_statement words_of_jump words_of_form second_of statement_of operation_of found_in operand_of register_of pointer_of number_of offset_of name_of is_name meaning_of is_valid fields_in_range is_undefined first_word second_word
+unfolding words_of words_of_line words_of_statement words_of_jump words_of_form second_of statement_of operation_of operand_of register_of pointer_of number_of name_of is_name meaning_of is_valid fields_in_range is_undefined first_word second_word
 displaced = refl
 
 -- of a register and an address, an I/O field, or a place in the program
@@ -189,7 +189,7 @@ addresses : AreWords (
     ∷ (codes "elpm r0, Z+\nelpm r29, Z+", 0x9007 ∷ 0x91D7 ∷ [])
     ∷ []
     )
-unfolding words_of words_of_line words_of_statement words_of_jump words_of_form second_of statement_of operation_of found_in operand_of register_of pointer_of number_of offset_of name_of is_name meaning_of is_valid fields_in_range is_undefined first_word second_word
+unfolding words_of words_of_line words_of_statement words_of_jump words_of_form second_of statement_of operation_of operand_of register_of pointer_of number_of name_of is_name meaning_of is_valid fields_in_range is_undefined first_word second_word
 addresses = refl
 
 -- of a bit
@@ -206,7 +206,7 @@ bits : AreWords (
     ∷ (codes "bclr 0\nbclr 7", 0x9488 ∷ 0x94F8 ∷ [])
     ∷ []
     )
-unfolding words_of words_of_line words_of_statement words_of_jump words_of_form second_of statement_of operation_of found_in operand_of register_of pointer_of number_of offset_of name_of is_name meaning_of is_valid fields_in_range is_undefined first_word second_word
+unfolding words_of words_of_line words_of_statement words_of_jump words_of_form second_of statement_of operation_of operand_of register_of pointer_of number_of name_of is_name meaning_of is_valid fields_in_range is_undefined first_word second_word
 bits = refl
 
 -- of a flag and a target
@@ -219,7 +219,7 @@ branches : AreWords (
     ∷ (codes "brsh 2112\nbrsh 1985", 0xF5F8 ∷ 0xF600 ∷ [])
     ∷ []
     )
-unfolding words_of words_of_line words_of_statement words_of_jump words_of_form second_of statement_of operation_of found_in operand_of register_of pointer_of number_of offset_of name_of is_name meaning_of is_valid fields_in_range is_undefined first_word second_word
+unfolding words_of words_of_line words_of_statement words_of_jump words_of_form second_of statement_of operation_of operand_of register_of pointer_of number_of name_of is_name meaning_of is_valid fields_in_range is_undefined first_word second_word
 branches = refl
 
 -- of a target, and words as they are
@@ -232,5 +232,5 @@ jumps : AreWords (
     ∷ (codes ".dw 0x1234", 0x1234 ∷ [])
     ∷ []
     )
-unfolding words_of words_of_line words_of_statement words_of_jump words_of_form second_of statement_of operation_of found_in operand_of register_of pointer_of number_of offset_of name_of is_name meaning_of is_valid fields_in_range is_undefined first_word second_word
+unfolding words_of words_of_line words_of_statement words_of_jump words_of_form second_of statement_of operation_of operand_of register_of pointer_of number_of name_of is_name meaning_of is_valid fields_in_range is_undefined first_word second_word
 jumps = refl

@@ -6,9 +6,9 @@ use Rattle.avr_asm.specs.declared.fault.AsmFault.{AsmFault}
 use Rattle.avr_asm.specs.declared.fault.AsmFault.TheVariants.{Form, Mnemonic, Range, Twice, TooLarge, Label, Reach}
 use Rattle.avr_asm.specs.Addresses.{Place, fault_at}
 use Rattle.avr_asm.specs.AsmText.{fault_of, labels_of}
-use Rattle.avr_asm.specs.Mnemonics.{found_in, operation_of}
+use Rattle.avr_asm.specs.Mnemonics.{operation_of}
 use Rattle.avr_asm.specs.Numbers.{number_of}
-use Rattle.avr_asm.specs.Operands.{is_name, name_of, offset_of, operand_of, pointer_of, register_of}
+use Rattle.avr_asm.specs.Operands.{is_name, name_of, operand_of, pointer_of, register_of}
 use Rattle.avr_asm.specs.SourceLines.{statement_of}
 use Rattle.avr_asm.specs.Statements.{meaning_of}
 
@@ -46,7 +46,7 @@ sound : AreFaults (
     ∷ (codes "brbs 7, 0", None)
     ∷ []
     )
-unfolding statement_of operation_of found_in operand_of register_of pointer_of number_of offset_of name_of is_name meaning_of is_valid fields_in_range is_undefined size_of
+unfolding statement_of operation_of operand_of register_of pointer_of number_of name_of is_name meaning_of is_valid fields_in_range is_undefined size_of
 sound = refl
 
 -- faults of form
@@ -88,7 +88,7 @@ form : AreFaults (
     ∷ (codes ". dw 1", Some (1, Form))
     ∷ []
     )
-unfolding statement_of operation_of found_in operand_of register_of pointer_of number_of offset_of name_of is_name meaning_of is_valid fields_in_range is_undefined size_of
+unfolding statement_of operation_of operand_of register_of pointer_of number_of name_of is_name meaning_of is_valid fields_in_range is_undefined size_of
 form = refl
 
 -- unknown mnemonics
@@ -101,7 +101,7 @@ mnemonic : AreFaults (
     ∷ (codes "a: nops", Some (1, Mnemonic))
     ∷ []
     )
-unfolding statement_of operation_of found_in operand_of register_of pointer_of number_of offset_of name_of is_name meaning_of is_valid fields_in_range is_undefined size_of
+unfolding statement_of operation_of operand_of register_of pointer_of number_of name_of is_name meaning_of is_valid fields_in_range is_undefined size_of
 mnemonic = refl
 
 -- operands outside their fields
@@ -131,7 +131,7 @@ range : AreFaults (
     ∷ (codes ".dw 9999999999", Some (1, Range))
     ∷ []
     )
-unfolding statement_of operation_of found_in operand_of register_of pointer_of number_of offset_of name_of is_name meaning_of is_valid fields_in_range is_undefined size_of
+unfolding statement_of operation_of operand_of register_of pointer_of number_of name_of is_name meaning_of is_valid fields_in_range is_undefined size_of
 range = refl
 
 -- labels that were there before, and targets
@@ -154,7 +154,7 @@ behind : AreFaults (
     ∷ (codes "nop\nrjmp far\nbrne 100", Some (2, Label))
     ∷ []
     )
-unfolding statement_of operation_of found_in operand_of register_of pointer_of number_of offset_of name_of is_name meaning_of is_valid fields_in_range is_undefined size_of
+unfolding statement_of operation_of operand_of register_of pointer_of number_of name_of is_name meaning_of is_valid fields_in_range is_undefined size_of
 behind = refl
 
 -- a name of 64 bytes, and one of 65
@@ -162,12 +162,12 @@ name_64 : List ℕ
 name_64 = replicate 63 97 ++ codes "_"
 
 longest : AreFaults ((name_64 ++ codes ":", None) ∷ (name_64 ++ codes "a:", Some (1, Form)) ∷ (codes "rjmp a" ++ name_64, Some (1, Form)) ∷ [])
-unfolding name_64 statement_of operation_of found_in operand_of register_of pointer_of number_of offset_of name_of is_name meaning_of is_valid fields_in_range is_undefined size_of
+unfolding name_64 statement_of operation_of operand_of register_of pointer_of number_of name_of is_name meaning_of is_valid fields_in_range is_undefined size_of
 longest = refl
 
 -- labels have addresses of words, a label behind the last statement the number of words
 labels : labels_of (codes "a: nop\nb: call a\n.dw 1\nc:") ≡ (codes "c", 4) ∷ (codes "b", 1) ∷ (codes "a", 0) ∷ []
-unfolding statement_of operation_of found_in operand_of register_of pointer_of number_of offset_of name_of is_name meaning_of is_valid fields_in_range is_undefined size_of
+unfolding statement_of operation_of operand_of register_of pointer_of number_of name_of is_name meaning_of is_valid fields_in_range is_undefined size_of
 labels = refl
 
 -- the last words of an image, and what comes behind them
@@ -179,5 +179,5 @@ behind_last = record { at = 24576; labels = (codes "a", 7) ∷ [] }
 
 last_lines : fault_at before_last (codes "nop") ∷ fault_at before_last (codes "jmp 0") ∷ fault_at behind_last (codes "b:") ∷ fault_at behind_last (codes "nop") ∷ fault_at behind_last (codes "a: nop") ∷ fault_at behind_last (codes "nops") ∷ []
     ≡ None ∷ Some TooLarge ∷ None ∷ Some TooLarge ∷ Some Twice ∷ Some Mnemonic ∷ []
-unfolding before_last behind_last statement_of operation_of found_in operand_of register_of pointer_of number_of offset_of name_of is_name meaning_of is_valid fields_in_range is_undefined size_of
+unfolding before_last behind_last statement_of operation_of operand_of register_of pointer_of number_of name_of is_name meaning_of is_valid fields_in_range is_undefined size_of
 last_lines = refl

@@ -1,6 +1,7 @@
 -- What is wrong with a text, and which words a text without a fault has.
-use Rattle.std.specs.Prelude.{◌≡◌, ℕ, ◌+◌, ◌≤◌, List, [], ◌∷◌, length, slice_get, Option, Some, None, Result, Ok, Err}
+use Rattle.std.specs.Prelude.{◌≡◌, ℕ, ◌+◌, ◌≤◌, List, [], ◌∷◌, length, slice_get, Option, Some, None}
 use Rattle.std.specs.Option.{option_or}
+use Rattle.std.specs.Result.{IsOkAnd}
 use Rattle.line_reader.specs.Lines.{lines_of}
 use Rattle.avr_isa.specs.declared.form.Form.{Form}
 use Rattle.avr_isa.specs.Encoding.{IsDecoded}
@@ -9,7 +10,6 @@ use Rattle.avr_isa.specs.Instruction.{size_of}
 use Rattle.avr_asm.specs.declared.fault.AsmFault.{AsmFault}
 use Rattle.avr_asm.specs.declared.fault.AsmError.{AsmError}
 use Rattle.avr_asm.specs.declared.fault.AsmError.TheVariants.{Bad, NoMemory}
-use Rattle.avr_asm.specs.declared.line.Line.{Line}
 use Rattle.avr_asm.specs.declared.statement.Statement.{Statement}
 use Rattle.avr_asm.specs.declared.statement.Statement.TheVariants.{Ready, To, Word}
 use Rattle.avr_asm.specs.SourceLines.{line_of}
@@ -37,25 +37,18 @@ pub record IsInstruction (words : List ℕ) (at : ℕ) (form : Form) : Type 0 wh
   pub inside : at + size_of form ≤ length words
   pub decoded : IsDecoded (word words at) (word words (at + 1)) (Some form)
 
-abbrev pub IsJump : (words : List ℕ) → ℕ → Result Form AsmFault → Type 0
-IsJump words at (Ok form) = IsInstruction words at form
-IsJump words at (Err fault) = ⊥
-
 -- a statement stands at an address
 abbrev pub IsStatement : List Label → (words : List ℕ) → ℕ → Option Statement → Type 0
 IsStatement labels words at None = Unit {0}
 IsStatement labels words at (Some (Ready form)) = IsInstruction words at form
-IsStatement labels words at (Some (To jump target)) = IsJump words at (jump_of labels at jump target)
+IsStatement labels words at (Some (To jump target)) = IsOkAnd (jump_of labels at jump target) (IsInstruction words at)
 IsStatement labels words at (Some (Word n)) = slice_get words at ≡ Some n
-
-abbrev pub IsLine : List Label → (words : List ℕ) → ℕ → Result Line AsmFault → Type 0
-IsLine labels words at (Ok line) = IsStatement labels words at line.statement
-IsLine labels words at (Err fault) = ⊥
 
 -- each statement of the lines from a place on stands behind the one before, and there are no other words
 abbrev pub AreLines : List Label → (words : List ℕ) → Place → List (List ℕ) → Type 0
 AreLines labels words place [] = length words ≡ place.at
-AreLines labels words place (line ∷ lines) = IsLine labels words place.at (line_of line) × AreLines labels words (after place line) lines
+AreLines labels words place (line ∷ lines) =
+    IsOkAnd (line_of line) (λ said. IsStatement labels words place.at said.statement) × AreLines labels words (after place line) lines
 
 -- The words of a text: each instruction's words decode to the instruction that the table gives for its line, where
 -- names stand for the addresses of labels; statements stand one behind another from word 0 on.

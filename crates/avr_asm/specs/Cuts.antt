@@ -1,5 +1,5 @@
 -- Parts of a line.
-use Rattle.std.specs.Prelude.{ℕ, ◌==◌, ◌||◌, Bool, if◌then◌else◌, List, [], ◌∷◌, Option, bytes_eq, position}
+use Rattle.std.specs.Prelude.{ℕ, ◌==◌, ◌||◌, Bool, if◌then◌else◌, List, [], ◌∷◌, Option, option_map, bytes_eq, find}
 use Rattle.std.specs.List.{list_all}
 
 -- a space (32) or a tab (9)
@@ -40,6 +40,6 @@ abbrev pub behind_word : List ℕ → List ℕ
 behind_word [] = []
 behind_word (b ∷ text) = if is_blank b then b ∷ text else behind_word text
 
--- the index of a text in a list of names
-abbrev pub index_of : List (List ℕ) → List ℕ → Option ℕ
-index_of names text = position (λ name. bytes_eq name text) names
+-- what stands beside a text in a table
+abbrev pub found_in : {A : Type 0} → List (List ℕ × A) → List ℕ → Option A
+found_in rows text = option_map (λ row. row.1) (find (λ row. bytes_eq row.0 text) rows)

@@ -1,5 +1,5 @@
 -- What a statement means: the instruction, the jump or the word that its mnemonic and its operands make.
-use Rattle.std.specs.Prelude.{ℕ, Bool, true, false, ◌&&◌, if◌then◌else◌, Option, Some, None, Result, Ok, Err}
+use Rattle.std.specs.Prelude.{Bool, true, false, ◌&&◌, if◌then◌else◌, Result, Ok, Err}
 use Rattle.avr_isa.specs.declared.form.Form.{Form}
 use Rattle.avr_isa.specs.declared.form.Form.TheVariants as forms
 use Rattle.avr_isa.specs.declared.operation.Base.TheVariants.{Z}
@@ -9,25 +9,10 @@ use Rattle.avr_asm.specs.declared.fault.AsmFault.{AsmFault}
 use Rattle.avr_asm.specs.declared.fault.AsmFault.TheVariants as faults
 use Rattle.avr_asm.specs.declared.mnemonic.Operation.{Operation}
 use Rattle.avr_asm.specs.declared.mnemonic.Operation.TheVariants as operations
-use Rattle.avr_asm.specs.declared.mnemonic.Bare.{Bare}
-use Rattle.avr_asm.specs.declared.mnemonic.Bare.TheVariants as bares
-use Rattle.avr_asm.specs.declared.mnemonic.OneRegister.{OneRegister}
-use Rattle.avr_asm.specs.declared.mnemonic.OneRegister.TheVariants.{One as Plain, Push, Pop}
-use Rattle.avr_asm.specs.declared.mnemonic.TwoRegisters.{TwoRegisters}
-use Rattle.avr_asm.specs.declared.mnemonic.TwoRegisters.TheVariants.{Movw, Muls, Cpse, Product, Two as Usual}
-use Rattle.avr_asm.specs.declared.mnemonic.RegisterAndNumber.{RegisterAndNumber}
-use Rattle.avr_asm.specs.declared.mnemonic.RegisterAndNumber.TheVariants as numbered
-use Rattle.avr_asm.specs.declared.mnemonic.BitOp.TheVariants.{Bld, Bst, Sbrc, Sbrs}
-use Rattle.avr_asm.specs.declared.mnemonic.NumberAndRegister.{NumberAndRegister}
-use Rattle.avr_asm.specs.declared.mnemonic.NumberAndRegister.TheVariants.{Sts, Out}
-use Rattle.avr_asm.specs.declared.mnemonic.TwoNumbers.{TwoNumbers}
-use Rattle.avr_asm.specs.declared.mnemonic.TwoNumbers.TheVariants.{Cbi, Sbi, Sbic, Sbis}
-use Rattle.avr_asm.specs.declared.mnemonic.Jump.{Jump}
 use Rattle.avr_asm.specs.declared.mnemonic.Jump.TheVariants.{If}
 use Rattle.avr_asm.specs.declared.operand.Operand.TheVariants.{Register, Number, Pointer, Displaced, Name}
 use Rattle.avr_asm.specs.declared.operand.Operands.{Operands}
 use Rattle.avr_asm.specs.declared.operand.Operands.TheVariants.{Zero, One, Two}
-use Rattle.avr_asm.specs.declared.operand.Pointer.{Pointer as PointerKind}
 use Rattle.avr_asm.specs.declared.operand.Pointer.TheVariants.{At as Through, Alone}
 use Rattle.avr_asm.specs.declared.statement.Statement.{Statement}
 use Rattle.avr_asm.specs.declared.statement.Statement.TheVariants.{Ready, To, Word}
@@ -36,169 +21,62 @@ use Rattle.avr_asm.specs.declared.statement.Target.TheVariants.{At, Label}
 abbrev pub Meaning : Type 0
 Meaning = Result Statement AsmFault
 
--- a form that is an instruction: each operand is in its field, and the pair is defined
-abbrev pub valid_form : Form → Option Form
-valid_form form = if is_valid form then Some form else None
+-- a statement whose numbers have to be in their ranges
+abbrev pub in_range : Bool → Statement → Meaning
+in_range are_in statement = if are_in then Ok statement else Err faults.Range
 
--- an instruction, where there is one
-abbrev pub ready : Option Form → Meaning
-ready (Some form) = Ok (Ready form)
-ready None = Err faults.Range
+-- an instruction, where each operand is in its field, and the pair is defined
+abbrev pub ready : Form → Meaning
+ready form = in_range (is_valid form) (Ready form)
 
--- The instructions by their operands. --------------------------------------------------------------
-
-abbrev pub two_registers : TwoRegisters → ℕ → ℕ → Form
-two_registers Movw d r = forms.Movw d r
-two_registers Muls d r = forms.Muls d r
-two_registers Cpse d r = forms.Cpse d r
-two_registers (Product op) d r = forms.Product op d r
-two_registers (Usual op) d r = forms.Two op d r
-
-abbrev pub bare : Bare → Form
-bare bares.Nop = forms.Nop
-bare bares.Ret = forms.Ret
-bare bares.Reti = forms.Reti
-bare bares.Ijmp = forms.Ijmp
-bare bares.Icall = forms.Icall
-bare bares.Sleep = forms.Sleep
-bare bares.Break = forms.Break
-bare bares.Wdr = forms.Wdr
-bare bares.Spm = forms.Spm
-
-abbrev pub one_register : OneRegister → ℕ → Form
-one_register (Plain op) d = forms.One op d
-one_register Push r = forms.Push r
-one_register Pop d = forms.Pop d
-
--- Y and Z alone have displacement 0
-abbrev pub load : ℕ → PointerKind → Form
-load d (Through pointer) = forms.LoadAt d pointer
-load d (Alone base) = forms.LoadOff d base 0
-
-abbrev pub store : PointerKind → ℕ → Form
-store (Through pointer) r = forms.StoreAt pointer r
-store (Alone base) r = forms.StoreOff base 0 r
-
-abbrev pub register_and_number : RegisterAndNumber → ℕ → ℕ → Form
-register_and_number (numbered.Imm op) d k = forms.Imm op d k
-register_and_number (numbered.Word op) p k = forms.Word op p k
-register_and_number numbered.Lds d a = forms.Lds d a
-register_and_number numbered.In d a = forms.InIo d a
-register_and_number (numbered.Bit Bld) d b = forms.Bld d b
-register_and_number (numbered.Bit Bst) d b = forms.Bst d b
-register_and_number (numbered.Bit Sbrc) r b = forms.Sbrc r b
-register_and_number (numbered.Bit Sbrs) r b = forms.Sbrs r b
-
-abbrev pub number_and_register : NumberAndRegister → ℕ → ℕ → Form
-number_and_register Sts a r = forms.Sts a r
-number_and_register Out a r = forms.OutIo a r
-
-abbrev pub two_numbers : TwoNumbers → ℕ → ℕ → Form
-two_numbers Cbi a b = forms.Cbi a b
-two_numbers Sbi a b = forms.Sbi a b
-two_numbers Sbic a b = forms.Sbic a b
-two_numbers Sbis a b = forms.Sbis a b
-
--- BSET or BCLR
-abbrev pub flag : Bool → ℕ → Form
-flag true s = forms.Bset s
-flag false s = forms.Bclr s
-
--- LPM or ELPM, without operands and with them
-abbrev pub load_program : Bool → Form
-load_program false = forms.Lpm0
-load_program true = forms.Elpm0
-
-abbrev pub load_program_to : Bool → ℕ → Bool → Form
-load_program_to false d increment = forms.Lpm d increment
-load_program_to true d increment = forms.Elpm d increment
-
--- The kinds of operands. ---------------------------------------------------------------------------
-
-abbrev pub without_operands : Form → Operands → Meaning
-without_operands form Zero = ready (valid_form form)
-without_operands form _ = Err faults.Form
-
-abbrev pub of_one_register : OneRegister → Operands → Meaning
-of_one_register op (One (Register d)) = ready (valid_form (one_register op d))
-of_one_register op _ = Err faults.Form
-
-abbrev pub of_two_registers : TwoRegisters → Operands → Meaning
-of_two_registers op (Two (Register d) (Register r)) = ready (valid_form (two_registers op d r))
-of_two_registers op _ = Err faults.Form
-
-abbrev pub of_register_and_number : RegisterAndNumber → Operands → Meaning
-of_register_and_number op (Two (Register d) (Number n)) = ready (valid_form (register_and_number op d n))
-of_register_and_number op _ = Err faults.Form
-
-abbrev pub of_number_and_register : NumberAndRegister → Operands → Meaning
-of_number_and_register op (Two (Number a) (Register r)) = ready (valid_form (number_and_register op a r))
-of_number_and_register op _ = Err faults.Form
-
-abbrev pub of_two_numbers : TwoNumbers → Operands → Meaning
-of_two_numbers op (Two (Number a) (Number b)) = ready (valid_form (two_numbers op a b))
-of_two_numbers op _ = Err faults.Form
-
-abbrev pub of_flag : Bool → Operands → Meaning
-of_flag set (One (Number s)) = ready (valid_form (flag set s))
-of_flag set _ = Err faults.Form
-
-abbrev pub of_load : Operands → Meaning
-of_load (Two (Register d) (Pointer pointer)) = ready (valid_form (load d pointer))
-of_load _ = Err faults.Form
-
-abbrev pub of_store : Operands → Meaning
-of_store (Two (Pointer pointer) (Register r)) = ready (valid_form (store pointer r))
-of_store _ = Err faults.Form
-
-abbrev pub of_displaced_load : Operands → Meaning
-of_displaced_load (Two (Register d) (Displaced base q)) = ready (valid_form (forms.LoadOff d base q))
-of_displaced_load _ = Err faults.Form
-
-abbrev pub of_displaced_store : Operands → Meaning
-of_displaced_store (Two (Displaced base q) (Register r)) = ready (valid_form (forms.StoreOff base q r))
-of_displaced_store _ = Err faults.Form
-
--- none, or a register and Z or Z+
-abbrev pub of_program : Bool → Operands → Meaning
-of_program extended Zero = ready (valid_form (load_program extended))
-of_program extended (Two (Register d) (Pointer (Alone Z))) = ready (valid_form (load_program_to extended d false))
-of_program extended (Two (Register d) (Pointer (Through ZInc))) = ready (valid_form (load_program_to extended d true))
-of_program extended _ = Err faults.Form
-
--- a target is a name, or a word address
-abbrev pub of_target : Jump → Operands → Meaning
-of_target kind (One (Name name)) = Ok (To kind (Label name))
-of_target kind (One (Number a)) = if is_address a then Ok (To kind (At a)) else Err faults.Range
-of_target kind _ = Err faults.Form
-
--- a flag's number and a target
-abbrev pub of_flag_and_target : Bool → Operands → Meaning
-of_flag_and_target set (Two (Number s) (Name name)) = if is_bit s then Ok (To (If set s) (Label name)) else Err faults.Range
-of_flag_and_target set (Two (Number s) (Number a)) = if is_bit s && is_address a then Ok (To (If set s) (At a)) else Err faults.Range
-of_flag_and_target set _ = Err faults.Form
-
--- a word has 16 bits
-abbrev pub of_word : Operands → Meaning
-of_word (One (Number n)) = if is_address n then Ok (Word n) else Err faults.Range
-of_word _ = Err faults.Form
-
--- The right side of the table. ---------------------------------------------------------------------
-
+-- The right side of the table: what a mnemonic stands for, the operands that it may have, and what it then means. Y and Z
+-- alone have displacement 0; a target is a name, or a word address; a word has 16 bits.
 unfoldable pub meaning_of : Operation → Operands → Meaning
-meaning_of (operations.Bare op) operands = without_operands (bare op) operands
-meaning_of (operations.OneFlag set s) operands = without_operands (flag set s) operands
-meaning_of (operations.LoadProgram extended) operands = of_program extended operands
-meaning_of (operations.OneRegister op) operands = of_one_register op operands
-meaning_of (operations.TwoRegisters op) operands = of_two_registers op operands
-meaning_of (operations.RegisterAndNumber op) operands = of_register_and_number op operands
-meaning_of (operations.NumberAndRegister op) operands = of_number_and_register op operands
-meaning_of (operations.TwoNumbers op) operands = of_two_numbers op operands
-meaning_of (operations.Flag set) operands = of_flag set operands
-meaning_of operations.Ld operands = of_load operands
-meaning_of operations.St operands = of_store operands
-meaning_of operations.Ldd operands = of_displaced_load operands
-meaning_of operations.Std operands = of_displaced_store operands
-meaning_of (operations.Jump kind) operands = of_target kind operands
-meaning_of (operations.Branch set) operands = of_flag_and_target set operands
-meaning_of operations.Data operands = of_word operands
+meaning_of operations.Nop Zero = ready forms.Nop
+meaning_of operations.Ret Zero = ready forms.Ret
+meaning_of operations.Reti Zero = ready forms.Reti
+meaning_of operations.Ijmp Zero = ready forms.Ijmp
+meaning_of operations.Icall Zero = ready forms.Icall
+meaning_of operations.Sleep Zero = ready forms.Sleep
+meaning_of operations.Break Zero = ready forms.Break
+meaning_of operations.Wdr Zero = ready forms.Wdr
+meaning_of operations.Spm Zero = ready forms.Spm
+meaning_of (operations.OneFlag set s) Zero = ready (if set then forms.Bset s else forms.Bclr s)
+meaning_of (operations.Flag set) (One (Number s)) = ready (if set then forms.Bset s else forms.Bclr s)
+meaning_of (operations.LoadProgram extended) Zero = ready (if extended then forms.Elpm0 else forms.Lpm0)
+meaning_of (operations.LoadProgram extended) (Two (Register d) (Pointer (Alone Z))) = ready (if extended then forms.Elpm d false else forms.Lpm d false)
+meaning_of (operations.LoadProgram extended) (Two (Register d) (Pointer (Through ZInc))) = ready (if extended then forms.Elpm d true else forms.Lpm d true)
+meaning_of (operations.One op) (One (Register d)) = ready (forms.One op d)
+meaning_of operations.Push (One (Register r)) = ready (forms.Push r)
+meaning_of operations.Pop (One (Register d)) = ready (forms.Pop d)
+meaning_of operations.Movw (Two (Register d) (Register r)) = ready (forms.Movw d r)
+meaning_of operations.Muls (Two (Register d) (Register r)) = ready (forms.Muls d r)
+meaning_of operations.Cpse (Two (Register d) (Register r)) = ready (forms.Cpse d r)
+meaning_of (operations.Product op) (Two (Register d) (Register r)) = ready (forms.Product op d r)
+meaning_of (operations.Two op) (Two (Register d) (Register r)) = ready (forms.Two op d r)
+meaning_of (operations.Imm op) (Two (Register d) (Number k)) = ready (forms.Imm op d k)
+meaning_of (operations.Word op) (Two (Register p) (Number k)) = ready (forms.Word op p k)
+meaning_of operations.Lds (Two (Register d) (Number a)) = ready (forms.Lds d a)
+meaning_of operations.Sts (Two (Number a) (Register r)) = ready (forms.Sts a r)
+meaning_of operations.In (Two (Register d) (Number a)) = ready (forms.InIo d a)
+meaning_of operations.Out (Two (Number a) (Register r)) = ready (forms.OutIo a r)
+meaning_of operations.Bld (Two (Register d) (Number b)) = ready (forms.Bld d b)
+meaning_of operations.Bst (Two (Register d) (Number b)) = ready (forms.Bst d b)
+meaning_of operations.Sbrc (Two (Register r) (Number b)) = ready (forms.Sbrc r b)
+meaning_of operations.Sbrs (Two (Register r) (Number b)) = ready (forms.Sbrs r b)
+meaning_of operations.Cbi (Two (Number a) (Number b)) = ready (forms.Cbi a b)
+meaning_of operations.Sbi (Two (Number a) (Number b)) = ready (forms.Sbi a b)
+meaning_of operations.Sbic (Two (Number a) (Number b)) = ready (forms.Sbic a b)
+meaning_of operations.Sbis (Two (Number a) (Number b)) = ready (forms.Sbis a b)
+meaning_of operations.Ld (Two (Register d) (Pointer (Through pointer))) = ready (forms.LoadAt d pointer)
+meaning_of operations.Ld (Two (Register d) (Pointer (Alone base))) = ready (forms.LoadOff d base 0)
+meaning_of operations.St (Two (Pointer (Through pointer)) (Register r)) = ready (forms.StoreAt pointer r)
+meaning_of operations.St (Two (Pointer (Alone base)) (Register r)) = ready (forms.StoreOff base 0 r)
+meaning_of operations.Ldd (Two (Register d) (Displaced base q)) = ready (forms.LoadOff d base q)
+meaning_of operations.Std (Two (Displaced base q) (Register r)) = ready (forms.StoreOff base q r)
+meaning_of (operations.Jump kind) (One (Name name)) = Ok (To kind (Label name))
+meaning_of (operations.Jump kind) (One (Number a)) = in_range (is_address a) (To kind (At a))
+meaning_of (operations.Branch set) (Two (Number s) (Name name)) = in_range (is_bit s) (To (If set s) (Label name))
+meaning_of (operations.Branch set) (Two (Number s) (Number a)) = in_range (is_bit s && is_address a) (To (If set s) (At a))
+meaning_of operations.Data (One (Number n)) = in_range (is_address n) (Word n)
+meaning_of _ _ = Err faults.Form

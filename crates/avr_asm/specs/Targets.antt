@@ -1,7 +1,9 @@
 -- Where jumps lead, once all labels are known.
-use Rattle.std.specs.Prelude.{ℕ, ℤ, pos, ◌-ℤ◌, ◌+◌, true, false, List, [], ◌∷◌, Option, Some, None, Result, Ok, Err}
+use Rattle.std.specs.Prelude.{ℕ, ℤ, pos, ◌-ℤ◌, ◌+◌, true, false, if◌then◌else◌, List, [], ◌∷◌, Option, Some, None, Result, Ok, Err}
+use Rattle.std.specs.Result.{result_err}
 use Rattle.avr_isa.specs.declared.form.Form.{Form}
 use Rattle.avr_isa.specs.declared.form.Form.TheVariants as forms
+use Rattle.avr_isa.specs.Instruction.{is_valid}
 use Rattle.avr_asm.specs.declared.fault.AsmFault.{AsmFault}
 use Rattle.avr_asm.specs.declared.fault.AsmFault.TheVariants as faults
 use Rattle.avr_asm.specs.declared.line.Line.{Line}
@@ -12,25 +14,24 @@ use Rattle.avr_asm.specs.declared.statement.Statement.TheVariants.{To}
 use Rattle.avr_asm.specs.declared.statement.Target.{Target}
 use Rattle.avr_asm.specs.declared.statement.Target.TheVariants as targets
 use Rattle.avr_asm.specs.SourceLines.{line_of}
-use Rattle.avr_asm.specs.Statements.{valid_form}
 use Rattle.avr_asm.specs.Addresses.{Label, Place, address_of, after}
 
 -- from the word behind the one at pc to the target, as whole numbers: nothing wraps
 abbrev pub distance : ℕ → ℕ → ℤ
 distance pc target = pos target -ℤ pos (pc + 1)
 
--- the jump at pc to an address, where its field holds the distance
-abbrev pub jump_to : Jump → ℕ → ℕ → Option Form
-jump_to (If true s) pc target = valid_form (forms.Brbs s (distance pc target))
-jump_to (If false s) pc target = valid_form (forms.Brbc s (distance pc target))
-jump_to Rjmp pc target = valid_form (forms.Rjmp (distance pc target))
-jump_to Rcall pc target = valid_form (forms.Rcall (distance pc target))
-jump_to Jmp pc target = valid_form (forms.Jmp target)
-jump_to Call pc target = valid_form (forms.Call target)
+-- the jump at pc to an address
+abbrev pub jump_to : Jump → ℕ → ℕ → Form
+jump_to (If true s) pc target = forms.Brbs s (distance pc target)
+jump_to (If false s) pc target = forms.Brbc s (distance pc target)
+jump_to Rjmp pc target = forms.Rjmp (distance pc target)
+jump_to Rcall pc target = forms.Rcall (distance pc target)
+jump_to Jmp pc target = forms.Jmp target
+jump_to Call pc target = forms.Call target
 
-abbrev pub in_reach : Option Form → Result Form AsmFault
-in_reach (Some form) = Ok form
-in_reach None = Err faults.Reach
+-- a jump whose field holds its distance
+abbrev pub in_reach : Form → Result Form AsmFault
+in_reach jump = if is_valid jump then Ok jump else Err faults.Reach
 
 -- the jump to a label's address, where there is that label
 abbrev pub jump_to_label : Jump → ℕ → Option ℕ → Result Form AsmFault
@@ -42,12 +43,8 @@ jump_of labels pc kind (targets.At address) = in_reach (jump_to kind pc address)
 jump_of labels pc kind (targets.Label name) = jump_to_label kind pc (address_of labels name.items)
 
 -- What is wrong with a statement at pc, where all labels are known: the last two faults.
-abbrev pub fault_of_result : Result Form AsmFault → Option AsmFault
-fault_of_result (Ok form) = None
-fault_of_result (Err fault) = Some fault
-
 abbrev pub fault_of_statement : List Label → ℕ → Option Statement → Option AsmFault
-fault_of_statement labels pc (Some (To kind target)) = fault_of_result (jump_of labels pc kind target)
+fault_of_statement labels pc (Some (To kind target)) = result_err (jump_of labels pc kind target)
 fault_of_statement labels pc _ = None
 
 -- and with a line, which keeps a fault of its own

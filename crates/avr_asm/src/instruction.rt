@@ -1,16 +1,22 @@
-//! Instructions made of operands that are numbers: none where an operand is outside its field, or where the manual
-//! leaves the instruction undefined with these registers.
+//! Instructions by the kinds of their operands. Of other mnemonics such operands are a fault of form; one outside its
+//! field, and registers that leave the instruction undefined, a fault of range.
 
-ghost use Rattle.std.specs.Prelude.{◌≡◌, ◌<◌, SomeIff};
+ghost use Rattle.std.specs.Prelude.{◌≡◌, ◌<◌, SomeIff, true, if◌then◌else◌};
+ghost use Rattle.avr_isa.specs.Instruction.{is_valid};
 ghost use Rattle.avr_isa.specs.declared.form.Form.TheVariants as forms;
-ghost use Rattle.avr_asm.specs.declared.mnemonic.RegisterAndNumber.TheVariants as numbered;
-ghost use Rattle.avr_asm.specs.Statements.{bare as bare_of, flag as flag_of, load as load_of, load_program as load_program_of, load_program_to as load_program_to_of, number_and_register as number_and_register_of, one_register as one_register_of, register_and_number as register_and_number_of, store as store_of, two_numbers as two_numbers_of, two_registers as two_registers_of, valid_form};
+ghost use Rattle.avr_asm.specs.declared.mnemonic.Operation.TheVariants as operations;
+ghost use Rattle.avr_asm.specs.declared.operand.Operand.TheVariants.{Register, Number, Pointer as ByPointer, Displaced, Name as Named};
+ghost use Rattle.avr_asm.specs.declared.operand.Operands.TheVariants.{Zero, One, Two};
+ghost use Rattle.avr_asm.specs.Statements.{meaning_of, ready as ready_of};
 
-use crate::mnemonic::{
-    Bare, BitOp, NumberAndRegister, OneRegister, RegisterAndNumber, TwoNumbers, TwoRegisters,
-};
+use crate::fault::AsmFault;
+use crate::mnemonic::{Jump, Operation};
+use crate::name::Name;
 use crate::operand::Pointer;
-use avr_isa::{Base, Bit, EvenReg, Form, HighReg, Instr, IoAddr, LowIo, MidReg, PairReg, Reg, Six};
+use crate::statement::{Statement, Target};
+use avr_isa::{
+    Base, Bit, EvenReg, Form, HighReg, Instr, IoAddr, LowIo, MidReg, PairReg, Ptr, Reg, Six,
+};
 
 /// A number as a byte.
 fn byte(n: u64) -> Option<u8>
@@ -57,252 +63,350 @@ fn low_io(n: u64) -> Option<LowIo>
 /// The instruction of a form whose operands are in their fields: none at the undefined pairs.
 #[tactic(auto, unfolding(avr_isa::specs::Instruction::is_valid))]
 pub(crate) fn defined(form: Form) -> Option<Instr>
-    ensures value { result ≡ valid_form form }
+    ensures value { SomeIff result (is_valid form ≡ true) form }
 {
     Instr::new(form)
 }
 
-pub(crate) fn bare(op: Bare) -> Option<Instr>
-    ensures value { result ≡ valid_form (bare_of op) }
+/// The instruction of a form as a statement.
+fn ready(form: Form) -> Result<Statement, AsmFault>
+    ensures value { result ≡ ready_of form }
 {
-    let form = match op {
-        Bare::Nop => Form::Nop,
-        Bare::Ret => Form::Ret,
-        Bare::Reti => Form::Reti,
-        Bare::Ijmp => Form::Ijmp,
-        Bare::Icall => Form::Icall,
-        Bare::Sleep => Form::Sleep,
-        Bare::Break => Form::Break,
-        Bare::Wdr => Form::Wdr,
-        Bare::Spm => Form::Spm,
-    };
-    defined(form)
-}
-
-#[tactic(auto, unfolding(avr_isa::specs::Instruction::is_valid, avr_isa::specs::Instruction::fields_in_range))]
-pub(crate) fn two_registers(op: TwoRegisters, d: u8, r: u8) -> Option<Instr>
-    ensures value { result ≡ valid_form (two_registers_of op d r) }
-{
-    let form = match op {
-        TwoRegisters::Movw => {
-            let (Some(d), Some(r)) = (EvenReg::new(d), EvenReg::new(r)) else {
-                return None;
-            };
-            Form::Movw(d, r)
-        }
-        TwoRegisters::Muls => {
-            let (Some(d), Some(r)) = (HighReg::new(d), HighReg::new(r)) else {
-                return None;
-            };
-            Form::Muls(d, r)
-        }
-        TwoRegisters::Product(op) => {
-            let (Some(d), Some(r)) = (MidReg::new(d), MidReg::new(r)) else {
-                return None;
-            };
-            Form::Product(op, d, r)
-        }
-        TwoRegisters::Cpse => {
-            let (Some(d), Some(r)) = (Reg::new(d), Reg::new(r)) else {
-                return None;
-            };
-            Form::Cpse(d, r)
-        }
-        TwoRegisters::Two(op) => {
-            let (Some(d), Some(r)) = (Reg::new(d), Reg::new(r)) else {
-                return None;
-            };
-            Form::Two(op, d, r)
-        }
-    };
-    defined(form)
-}
-
-#[tactic(auto, unfolding(avr_isa::specs::Instruction::is_valid, avr_isa::specs::Instruction::fields_in_range))]
-pub(crate) fn one_register(op: OneRegister, d: u8) -> Option<Instr>
-    ensures value { result ≡ valid_form (one_register_of op d) }
-{
-    let Some(d) = Reg::new(d) else {
-        return None;
-    };
-    let form = match op {
-        OneRegister::One(op) => Form::One(op, d),
-        OneRegister::Push => Form::Push(d),
-        OneRegister::Pop => Form::Pop(d),
-    };
-    defined(form)
-}
-
-#[tactic(auto, unfolding(avr_isa::specs::Instruction::is_valid, avr_isa::specs::Instruction::fields_in_range))]
-fn register_and_bit(op: BitOp, d: u8, n: u64) -> Option<Instr>
-    ensures value { result ≡ valid_form (register_and_number_of (numbered.Bit op) d n) }
-{
-    let (Some(r), Some(b)) = (Reg::new(d), bit(n)) else {
-        return None;
-    };
-    let form = match op {
-        BitOp::Bld => Form::Bld(r, b),
-        BitOp::Bst => Form::Bst(r, b),
-        BitOp::Sbrc => Form::Sbrc(r, b),
-        BitOp::Sbrs => Form::Sbrs(r, b),
-    };
-    defined(form)
-}
-
-#[tactic(auto, unfolding(avr_isa::specs::Instruction::is_valid, avr_isa::specs::Instruction::fields_in_range))]
-pub(crate) fn register_and_number(op: RegisterAndNumber, d: u8, n: u64) -> Option<Instr>
-    ensures value { result ≡ valid_form (register_and_number_of op d n) }
-{
-    let form = match op {
-        RegisterAndNumber::Imm(op) => {
-            let (Some(d), Some(n)) = (HighReg::new(d), byte(n)) else {
-                return None;
-            };
-            Form::Imm(op, d, n)
-        }
-        RegisterAndNumber::Word(op) => {
-            let (Some(d), Some(n)) = (PairReg::new(d), six_bits(n)) else {
-                return None;
-            };
-            Form::Word(op, d, n)
-        }
-        RegisterAndNumber::Lds => {
-            let (Some(d), Some(n)) = (Reg::new(d), address(n)) else {
-                return None;
-            };
-            Form::Lds(d, n)
-        }
-        RegisterAndNumber::In => {
-            let (Some(d), Some(n)) = (Reg::new(d), io_address(n)) else {
-                return None;
-            };
-            Form::InIo(d, n)
-        }
-        RegisterAndNumber::Bit(op) => return register_and_bit(op, d, n),
-    };
-    defined(form)
-}
-
-#[tactic(auto, unfolding(avr_isa::specs::Instruction::is_valid, avr_isa::specs::Instruction::fields_in_range))]
-pub(crate) fn number_and_register(op: NumberAndRegister, a: u64, r: u8) -> Option<Instr>
-    ensures value { result ≡ valid_form (number_and_register_of op a r) }
-{
-    let Some(r) = Reg::new(r) else {
-        return None;
-    };
-    let form = match op {
-        NumberAndRegister::Sts => match address(a) {
-            Some(a) => Form::Sts(a, r),
-            None => return None,
-        },
-        NumberAndRegister::Out => match io_address(a) {
-            Some(a) => Form::OutIo(a, r),
-            None => return None,
-        },
-    };
-    defined(form)
-}
-
-#[tactic(auto, unfolding(avr_isa::specs::Instruction::is_valid, avr_isa::specs::Instruction::fields_in_range))]
-pub(crate) fn two_numbers(op: TwoNumbers, a: u64, b: u64) -> Option<Instr>
-    ensures value { result ≡ valid_form (two_numbers_of op a b) }
-{
-    let (Some(a), Some(b)) = (low_io(a), bit(b)) else {
-        return None;
-    };
-    let form = match op {
-        TwoNumbers::Cbi => Form::Cbi(a, b),
-        TwoNumbers::Sbi => Form::Sbi(a, b),
-        TwoNumbers::Sbic => Form::Sbic(a, b),
-        TwoNumbers::Sbis => Form::Sbis(a, b),
-    };
-    defined(form)
-}
-
-#[tactic(auto, unfolding(avr_isa::specs::Instruction::is_valid, avr_isa::specs::Instruction::fields_in_range))]
-pub(crate) fn load(d: u8, pointer: Pointer) -> Option<Instr>
-    ensures value { result ≡ valid_form (load_of d pointer) }
-{
-    let Some(d) = Reg::new(d) else {
-        return None;
-    };
-    let form = match pointer {
-        Pointer::At(pointer) => Form::LoadAt(d, pointer),
-        Pointer::Alone(base) => match Six::new(0) {
-            Some(q) => Form::LoadOff(d, base, q),
-            None => return None,
-        },
-    };
-    defined(form)
-}
-
-#[tactic(auto, unfolding(avr_isa::specs::Instruction::is_valid, avr_isa::specs::Instruction::fields_in_range))]
-pub(crate) fn store(pointer: Pointer, r: u8) -> Option<Instr>
-    ensures value { result ≡ valid_form (store_of pointer r) }
-{
-    let Some(r) = Reg::new(r) else {
-        return None;
-    };
-    let form = match pointer {
-        Pointer::At(pointer) => Form::StoreAt(pointer, r),
-        Pointer::Alone(base) => match Six::new(0) {
-            Some(q) => Form::StoreOff(base, q, r),
-            None => return None,
-        },
-    };
-    defined(form)
-}
-
-#[tactic(auto, unfolding(avr_isa::specs::Instruction::is_valid, avr_isa::specs::Instruction::fields_in_range))]
-pub(crate) fn displaced_load(d: u8, base: Base, q: u64) -> Option<Instr>
-    ensures value { result ≡ valid_form (forms.LoadOff d base q) }
-{
-    match (Reg::new(d), six_bits(q)) {
-        (Some(d), Some(q)) => defined(Form::LoadOff(d, base, q)),
-        _ => None,
+    match defined(form) {
+        Some(instr) => Ok(Statement::Ready(instr)),
+        None => Err(AsmFault::Range),
     }
 }
 
-#[tactic(auto, unfolding(avr_isa::specs::Instruction::is_valid, avr_isa::specs::Instruction::fields_in_range))]
-pub(crate) fn displaced_store(base: Base, q: u64, r: u8) -> Option<Instr>
-    ensures value { result ≡ valid_form (forms.StoreOff base q r) }
+/// Without operands.
+#[tactic(auto, unfolding(crate::specs::Statements::meaning_of, avr_isa::specs::Instruction::is_valid, avr_isa::specs::Instruction::fields_in_range))]
+pub(crate) fn of_none(operation: Operation) -> Result<Statement, AsmFault>
+    ensures value { result ≡ meaning_of operation Zero }
 {
-    match (six_bits(q), Reg::new(r)) {
-        (Some(q), Some(r)) => defined(Form::StoreOff(base, q, r)),
-        _ => None,
-    }
+    let form = match operation {
+        Operation::Nop => Form::Nop,
+        Operation::Ret => Form::Ret,
+        Operation::Reti => Form::Reti,
+        Operation::Ijmp => Form::Ijmp,
+        Operation::Icall => Form::Icall,
+        Operation::Sleep => Form::Sleep,
+        Operation::Break => Form::Break,
+        Operation::Wdr => Form::Wdr,
+        Operation::Spm => Form::Spm,
+        Operation::OneFlag(set, s) => return flag(set, u64::from(s)),
+        Operation::LoadProgram(true) => Form::Elpm0,
+        Operation::LoadProgram(false) => Form::Lpm0,
+        _ => return Err(AsmFault::Form),
+    };
+    ready(form)
 }
 
 /// BSET, or BCLR.
 #[tactic(auto, unfolding(avr_isa::specs::Instruction::is_valid, avr_isa::specs::Instruction::fields_in_range))]
-pub(crate) fn flag(set: bool, s: u64) -> Option<Instr>
-    ensures value { result ≡ valid_form (flag_of set s) }
+fn flag(set: bool, s: u64) -> Result<Statement, AsmFault>
+    ensures value { result ≡ ready_of (if set then forms.Bset s else forms.Bclr s) }
 {
     let Some(s) = bit(s) else {
-        return None;
+        return Err(AsmFault::Range);
     };
-    defined(if set { Form::Bset(s) } else { Form::Bclr(s) })
+    ready(if set { Form::Bset(s) } else { Form::Bclr(s) })
 }
 
-/// LPM or ELPM without operands.
-#[tactic(auto, unfolding(avr_isa::specs::Instruction::is_valid, avr_isa::specs::Instruction::fields_in_range))]
-pub(crate) fn load_program(extended: bool) -> Option<Instr>
-    ensures value { result ≡ valid_form (load_program_of extended) }
+/// Of a register.
+#[tactic(auto, unfolding(crate::specs::Statements::meaning_of, avr_isa::specs::Instruction::is_valid, avr_isa::specs::Instruction::fields_in_range))]
+pub(crate) fn of_register(operation: Operation, d: u8) -> Result<Statement, AsmFault>
+    ensures value { result ≡ meaning_of operation (One (Register d)) }
 {
-    defined(if extended { Form::Elpm0 } else { Form::Lpm0 })
+    let form = match (operation, Reg::new(d)) {
+        (Operation::One(op), Some(d)) => Form::One(op, d),
+        (Operation::Push, Some(d)) => Form::Push(d),
+        (Operation::Pop, Some(d)) => Form::Pop(d),
+        (Operation::One(_) | Operation::Push | Operation::Pop, None) => return Err(AsmFault::Range),
+        _ => return Err(AsmFault::Form),
+    };
+    ready(form)
+}
+
+/// Of two registers.
+#[tactic(auto, unfolding(crate::specs::Statements::meaning_of, avr_isa::specs::Instruction::is_valid, avr_isa::specs::Instruction::fields_in_range))]
+pub(crate) fn of_two_registers(operation: Operation, d: u8, r: u8) -> Result<Statement, AsmFault>
+    ensures value { result ≡ meaning_of operation (Two (Register d) (Register r)) }
+{
+    let form = match operation {
+        Operation::Movw => match (EvenReg::new(d), EvenReg::new(r)) {
+            (Some(d), Some(r)) => Form::Movw(d, r),
+            _ => return Err(AsmFault::Range),
+        },
+        Operation::Muls => match (HighReg::new(d), HighReg::new(r)) {
+            (Some(d), Some(r)) => Form::Muls(d, r),
+            _ => return Err(AsmFault::Range),
+        },
+        Operation::Cpse => match (Reg::new(d), Reg::new(r)) {
+            (Some(d), Some(r)) => Form::Cpse(d, r),
+            _ => return Err(AsmFault::Range),
+        },
+        Operation::Product(op) => match (MidReg::new(d), MidReg::new(r)) {
+            (Some(d), Some(r)) => Form::Product(op, d, r),
+            _ => return Err(AsmFault::Range),
+        },
+        Operation::Two(op) => match (Reg::new(d), Reg::new(r)) {
+            (Some(d), Some(r)) => Form::Two(op, d, r),
+            _ => return Err(AsmFault::Range),
+        },
+        _ => return Err(AsmFault::Form),
+    };
+    ready(form)
+}
+
+/// Of a register and a number: a constant, a data address, an I/O field or a bit.
+#[tactic(auto, unfolding(crate::specs::Statements::meaning_of, avr_isa::specs::Instruction::is_valid, avr_isa::specs::Instruction::fields_in_range))]
+pub(crate) fn of_register_and_number(
+    operation: Operation,
+    d: u8,
+    n: u64,
+) -> Result<Statement, AsmFault>
+    ensures value { result ≡ meaning_of operation (Two (Register d) (Number n)) }
+{
+    let form = match operation {
+        Operation::Imm(op) => match (HighReg::new(d), byte(n)) {
+            (Some(d), Some(k)) => Form::Imm(op, d, k),
+            _ => return Err(AsmFault::Range),
+        },
+        Operation::Word(op) => match (PairReg::new(d), six_bits(n)) {
+            (Some(p), Some(k)) => Form::Word(op, p, k),
+            _ => return Err(AsmFault::Range),
+        },
+        Operation::Lds => match (Reg::new(d), address(n)) {
+            (Some(d), Some(a)) => Form::Lds(d, a),
+            _ => return Err(AsmFault::Range),
+        },
+        Operation::In => match (Reg::new(d), io_address(n)) {
+            (Some(d), Some(a)) => Form::InIo(d, a),
+            _ => return Err(AsmFault::Range),
+        },
+        Operation::Bld => match (Reg::new(d), bit(n)) {
+            (Some(r), Some(b)) => Form::Bld(r, b),
+            _ => return Err(AsmFault::Range),
+        },
+        Operation::Bst => match (Reg::new(d), bit(n)) {
+            (Some(r), Some(b)) => Form::Bst(r, b),
+            _ => return Err(AsmFault::Range),
+        },
+        Operation::Sbrc => match (Reg::new(d), bit(n)) {
+            (Some(r), Some(b)) => Form::Sbrc(r, b),
+            _ => return Err(AsmFault::Range),
+        },
+        Operation::Sbrs => match (Reg::new(d), bit(n)) {
+            (Some(r), Some(b)) => Form::Sbrs(r, b),
+            _ => return Err(AsmFault::Range),
+        },
+        _ => return Err(AsmFault::Form),
+    };
+    ready(form)
+}
+
+/// Of a number and a register: a data address or an I/O field.
+#[tactic(auto, unfolding(crate::specs::Statements::meaning_of, avr_isa::specs::Instruction::is_valid, avr_isa::specs::Instruction::fields_in_range))]
+pub(crate) fn of_number_and_register(
+    operation: Operation,
+    a: u64,
+    r: u8,
+) -> Result<Statement, AsmFault>
+    ensures value { result ≡ meaning_of operation (Two (Number a) (Register r)) }
+{
+    let form = match operation {
+        Operation::Sts => match (address(a), Reg::new(r)) {
+            (Some(a), Some(r)) => Form::Sts(a, r),
+            _ => return Err(AsmFault::Range),
+        },
+        Operation::Out => match (io_address(a), Reg::new(r)) {
+            (Some(a), Some(r)) => Form::OutIo(a, r),
+            _ => return Err(AsmFault::Range),
+        },
+        _ => return Err(AsmFault::Form),
+    };
+    ready(form)
+}
+
+/// Of two numbers: an I/O field and a bit, or a flag's and a target.
+#[tactic(auto, unfolding(crate::specs::Statements::meaning_of, avr_isa::specs::Instruction::is_valid, avr_isa::specs::Instruction::fields_in_range))]
+pub(crate) fn of_two_numbers(operation: Operation, a: u64, b: u64) -> Result<Statement, AsmFault>
+    ensures value { result ≡ meaning_of operation (Two (Number a) (Number b)) }
+{
+    let form = match operation {
+        Operation::Branch(set) => return branch_to(set, a, b),
+        Operation::Cbi => match (low_io(a), bit(b)) {
+            (Some(a), Some(b)) => Form::Cbi(a, b),
+            _ => return Err(AsmFault::Range),
+        },
+        Operation::Sbi => match (low_io(a), bit(b)) {
+            (Some(a), Some(b)) => Form::Sbi(a, b),
+            _ => return Err(AsmFault::Range),
+        },
+        Operation::Sbic => match (low_io(a), bit(b)) {
+            (Some(a), Some(b)) => Form::Sbic(a, b),
+            _ => return Err(AsmFault::Range),
+        },
+        Operation::Sbis => match (low_io(a), bit(b)) {
+            (Some(a), Some(b)) => Form::Sbis(a, b),
+            _ => return Err(AsmFault::Range),
+        },
+        _ => return Err(AsmFault::Form),
+    };
+    ready(form)
+}
+
+/// BRBS or BRBC to an address.
+#[tactic(auto, unfolding(crate::specs::Statements::meaning_of))]
+fn branch_to(set: bool, s: u64, a: u64) -> Result<Statement, AsmFault>
+    ensures value { result ≡ meaning_of (operations.Branch set) (Two (Number s) (Number a)) }
+{
+    match address(a) {
+        Some(a) if s < 8 => Ok(Statement::To(Jump::If(set, s as u8), Target::At(a))),
+        _ => Err(AsmFault::Range),
+    }
+}
+
+/// Of a number: a flag's, a target or a word.
+#[tactic(auto, unfolding(crate::specs::Statements::meaning_of))]
+pub(crate) fn of_number(operation: Operation, n: u64) -> Result<Statement, AsmFault>
+    ensures value { result ≡ meaning_of operation (One (Number n)) }
+{
+    match (operation, address(n)) {
+        (Operation::Flag(set), _) => flag(set, n),
+        (Operation::Jump(jump), Some(a)) => Ok(Statement::To(jump, Target::At(a))),
+        (Operation::Data, Some(word)) => Ok(Statement::Word(word)),
+        (Operation::Jump(_) | Operation::Data, None) => Err(AsmFault::Range),
+        _ => Err(AsmFault::Form),
+    }
+}
+
+/// Of a name, which is a target.
+#[tactic(auto, unfolding(crate::specs::Statements::meaning_of))]
+pub(crate) fn of_name(operation: Operation, name: Name) -> Result<Statement, AsmFault>
+    ensures value { result ≡ meaning_of operation (One (Named name)) }
+{
+    match operation {
+        Operation::Jump(jump) => Ok(Statement::To(jump, Target::Label(name))),
+        _ => Err(AsmFault::Form),
+    }
+}
+
+/// Of a flag's number and a name, which is a target.
+#[tactic(auto, unfolding(crate::specs::Statements::meaning_of))]
+pub(crate) fn of_number_and_name(
+    operation: Operation,
+    s: u64,
+    name: Name,
+) -> Result<Statement, AsmFault>
+    ensures value { result ≡ meaning_of operation (Two (Number s) (Named name)) }
+{
+    match operation {
+        Operation::Branch(set) if s < 8 => Ok(Statement::To(
+            Jump::If(set, s as u8),
+            Target::Label(name),
+        )),
+        Operation::Branch(_) => Err(AsmFault::Range),
+        _ => Err(AsmFault::Form),
+    }
+}
+
+/// Of a register and a pointer.
+#[tactic(auto, unfolding(crate::specs::Statements::meaning_of))]
+pub(crate) fn of_register_and_pointer(
+    operation: Operation,
+    d: u8,
+    pointer: Pointer,
+) -> Result<Statement, AsmFault>
+    ensures value { result ≡ meaning_of operation (Two (Register d) (ByPointer pointer)) }
+{
+    match operation {
+        Operation::Ld => load(d, pointer),
+        Operation::LoadProgram(extended) => match pointer {
+            Pointer::Alone(Base::Z) => load_program(extended, d, false),
+            Pointer::At(Ptr::ZInc) => load_program(extended, d, true),
+            _ => Err(AsmFault::Form),
+        },
+        _ => Err(AsmFault::Form),
+    }
+}
+
+/// LD.
+#[tactic(auto, unfolding(crate::specs::Statements::meaning_of, avr_isa::specs::Instruction::is_valid, avr_isa::specs::Instruction::fields_in_range))]
+fn load(d: u8, pointer: Pointer) -> Result<Statement, AsmFault>
+    ensures value { result ≡ meaning_of operations.Ld (Two (Register d) (ByPointer pointer)) }
+{
+    let form = match (pointer, Reg::new(d), Six::new(0)) {
+        (Pointer::At(pointer), Some(d), _) => Form::LoadAt(d, pointer),
+        (Pointer::Alone(base), Some(d), Some(q)) => Form::LoadOff(d, base, q),
+        _ => return Err(AsmFault::Range),
+    };
+    ready(form)
 }
 
 /// LPM or ELPM with operands.
 #[tactic(auto, unfolding(avr_isa::specs::Instruction::is_valid, avr_isa::specs::Instruction::fields_in_range))]
-pub(crate) fn load_program_to(extended: bool, d: u8, increment: bool) -> Option<Instr>
-    ensures value { result ≡ valid_form (load_program_to_of extended d increment) }
+fn load_program(extended: bool, d: u8, increment: bool) -> Result<Statement, AsmFault>
+    ensures value { result ≡ ready_of (if extended then forms.Elpm d increment else forms.Lpm d increment) }
 {
     let Some(d) = Reg::new(d) else {
-        return None;
+        return Err(AsmFault::Range);
     };
-    defined(if extended {
+    ready(if extended {
         Form::Elpm(d, increment)
     } else {
         Form::Lpm(d, increment)
     })
+}
+
+/// Of a pointer and a register.
+#[tactic(auto, unfolding(crate::specs::Statements::meaning_of, avr_isa::specs::Instruction::is_valid, avr_isa::specs::Instruction::fields_in_range))]
+pub(crate) fn of_pointer_and_register(
+    operation: Operation,
+    pointer: Pointer,
+    r: u8,
+) -> Result<Statement, AsmFault>
+    ensures value { result ≡ meaning_of operation (Two (ByPointer pointer) (Register r)) }
+{
+    let form = match (operation, pointer, Reg::new(r), Six::new(0)) {
+        (Operation::St, Pointer::At(pointer), Some(r), _) => Form::StoreAt(pointer, r),
+        (Operation::St, Pointer::Alone(base), Some(r), Some(q)) => Form::StoreOff(base, q, r),
+        (Operation::St, _, _, _) => return Err(AsmFault::Range),
+        _ => return Err(AsmFault::Form),
+    };
+    ready(form)
+}
+
+/// Of a register and a displacement.
+#[tactic(auto, unfolding(crate::specs::Statements::meaning_of, avr_isa::specs::Instruction::is_valid, avr_isa::specs::Instruction::fields_in_range))]
+pub(crate) fn of_register_and_displacement(
+    operation: Operation,
+    d: u8,
+    base: Base,
+    q: u64,
+) -> Result<Statement, AsmFault>
+    ensures value { result ≡ meaning_of operation (Two (Register d) (Displaced base q)) }
+{
+    match (operation, Reg::new(d), six_bits(q)) {
+        (Operation::Ldd, Some(d), Some(q)) => ready(Form::LoadOff(d, base, q)),
+        (Operation::Ldd, _, _) => Err(AsmFault::Range),
+        _ => Err(AsmFault::Form),
+    }
+}
+
+/// Of a displacement and a register.
+#[tactic(auto, unfolding(crate::specs::Statements::meaning_of, avr_isa::specs::Instruction::is_valid, avr_isa::specs::Instruction::fields_in_range))]
+pub(crate) fn of_displacement_and_register(
+    operation: Operation,
+    base: Base,
+    q: u64,
+    r: u8,
+) -> Result<Statement, AsmFault>
+    ensures value { result ≡ meaning_of operation (Two (Displaced base q) (Register r)) }
+{
+    match (operation, six_bits(q), Reg::new(r)) {
+        (Operation::Std, Some(q), Some(r)) => ready(Form::StoreOff(base, q, r)),
+        (Operation::Std, _, _) => Err(AsmFault::Range),
+        _ => Err(AsmFault::Form),
+    }
 }

@@ -8,12 +8,12 @@
 //! A line has a label, a statement, both or nothing, and maybe a comment; `docs/ASSEMBLER.md` has the grammar and
 //! the table of mnemonics. [`assemble`] gives the image of a text, or the first faulty line and its fault.
 //!
-//! `specs/` goes from bytes to the image. `Cuts`, `Numbers` and `Operands` read a line's parts; `Mnemonics` is the
-//! table's left side, which is the code's own, and `Statements` its right side: what a mnemonic and its operands
-//! mean; `SourceLines` puts a line together. `Addresses` goes over the lines: where statements and labels stand,
-//! and what is wrong with a line behind those before it. `Targets` says where a jump leads, and `AsmText` which
-//! texts have a fault and which words the others have. [`one_image`] is a law of these definitions, for callers' proofs. `proofs/WorkedRows.antt` holds each row of the table
-//! against words that another assembler made.
+//! `specs/` goes from bytes to the image. `Cuts`, `Numbers` and `Operands` read a line's parts; `Mnemonics` finds a name
+//! in the table, which is the code's own, and `Statements` says what it means with which operands; `SourceLines` puts a
+//! line together. `Addresses` goes over the lines: where statements and labels stand, and what is wrong with a line
+//! behind those before it. `Targets` says where a jump leads, and `AsmText` which texts have a fault and which words the
+//! others have. [`one_image`] is a law of these definitions, for callers' proofs. `proofs/WorkedRows.antt` holds each
+//! row of the table against words that another assembler made.
 #![tactic(auto)]
 
 mod assembling;

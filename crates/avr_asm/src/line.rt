@@ -1,8 +1,10 @@
 //! One line of a source.
 
 ghost use Rattle.std.specs.Prelude.{◌≡◌, IfOk, IfSome};
-ghost use Rattle.avr_asm.specs.SourceLines.{behind_label as behind_label_of, is_mnemonic as is_mnemonic_test, is_small, line_of, statement_of, IsNamed, with_label as with_label_of};
+ghost use Rattle.avr_asm.specs.SourceLines.{behind_label as behind_label_of, is_mnemonic as is_mnemonic_test, line_of, statement_of, IsNamed, with_label as with_label_of};
+ghost use Rattle.avr_asm.specs.Operands.{name_of};
 ghost use Rattle.std.specs.List.{list_all};
+ghost use Rattle.std.specs.Char.{is_ascii_lowercase};
 
 use crate::fault::AsmFault;
 use crate::name::{Name, name_in};
@@ -34,7 +36,7 @@ pub(crate) fn line_in(line: &[u8]) -> Result<Line, AsmFault>
 
 /// A line with a label.
 fn with_label(label: &[u8], text: &[u8]) -> Result<Line, AsmFault>
-    ensures value { result ≡ with_label_of label.now text.now }
+    ensures value { result ≡ with_label_of (name_of label.now) text.now }
     ensures named { IfOk result (λ l. IfSome l.label (λ name. name.items ≡ label.now)) }
 {
     match name_in(label) {
@@ -94,7 +96,7 @@ fn is_mnemonic(text: &[u8]) -> bool
 
 /// Whether all are lower-case letters.
 fn are_small(text: &[u8]) -> bool
-    ensures value { result ≡ list_all is_small text.now }
+    ensures value { result ≡ list_all is_ascii_lowercase text.now }
 {
     let mut rest = text;
     while let [first, behind @ ..] = rest {

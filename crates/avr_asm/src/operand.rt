@@ -1,11 +1,11 @@
 //! Operands as they are written.
 
 ghost use Rattle.std.specs.Prelude.{◌≡◌};
-ghost use Rattle.avr_asm.specs.Operands.{displaced_of, offset_of, operand_of, operands_of, pointer_of, register_of, with_operand};
+ghost use Rattle.avr_asm.specs.Operands.{number_behind as number_behind_of, operand_of, operands_of, pointer_of, register_of, with_operand};
 
 use crate::name::{Name, name_in};
 use crate::number::number_in;
-use crate::text::{index_in, trimmed};
+use crate::text::{found_in, trimmed};
 use avr_isa::{Base, Ptr};
 use line_reader::split_once;
 
@@ -39,27 +39,53 @@ pub(crate) enum Operands {
     More,
 }
 
-/// The registers, in order.
-pub(crate) const REGISTERS: [&str; 32] = [
-    "r0", "r1", "r2", "r3", "r4", "r5", "r6", "r7", "r8", "r9", "r10", "r11", "r12", "r13", "r14",
-    "r15", "r16", "r17", "r18", "r19", "r20", "r21", "r22", "r23", "r24", "r25", "r26", "r27",
-    "r28", "r29", "r30", "r31",
+/// The registers, and the number of each.
+pub(crate) const REGISTERS: [(&str, u8); 32] = [
+    ("r0", 0),
+    ("r1", 1),
+    ("r2", 2),
+    ("r3", 3),
+    ("r4", 4),
+    ("r5", 5),
+    ("r6", 6),
+    ("r7", 7),
+    ("r8", 8),
+    ("r9", 9),
+    ("r10", 10),
+    ("r11", 11),
+    ("r12", 12),
+    ("r13", 13),
+    ("r14", 14),
+    ("r15", 15),
+    ("r16", 16),
+    ("r17", 17),
+    ("r18", 18),
+    ("r19", 19),
+    ("r20", 20),
+    ("r21", 21),
+    ("r22", 22),
+    ("r23", 23),
+    ("r24", 24),
+    ("r25", 25),
+    ("r26", 26),
+    ("r27", 27),
+    ("r28", 28),
+    ("r29", 29),
+    ("r30", 30),
+    ("r31", 31),
 ];
 
 /// How each pointer is written.
-pub(crate) const SPELLINGS: [&str; 9] = ["X", "X+", "-X", "Y", "Y+", "-Y", "Z", "Z+", "-Z"];
-
-/// The pointers, in the order of their spellings.
-pub(crate) const POINTERS: [Pointer; 9] = [
-    Pointer::At(Ptr::X),
-    Pointer::At(Ptr::XInc),
-    Pointer::At(Ptr::XDec),
-    Pointer::Alone(Base::Y),
-    Pointer::At(Ptr::YInc),
-    Pointer::At(Ptr::YDec),
-    Pointer::Alone(Base::Z),
-    Pointer::At(Ptr::ZInc),
-    Pointer::At(Ptr::ZDec),
+pub(crate) const POINTERS: [(&str, Pointer); 9] = [
+    ("X", Pointer::At(Ptr::X)),
+    ("X+", Pointer::At(Ptr::XInc)),
+    ("-X", Pointer::At(Ptr::XDec)),
+    ("Y", Pointer::Alone(Base::Y)),
+    ("Y+", Pointer::At(Ptr::YInc)),
+    ("-Y", Pointer::At(Ptr::YDec)),
+    ("Z", Pointer::Alone(Base::Z)),
+    ("Z+", Pointer::At(Ptr::ZInc)),
+    ("-Z", Pointer::At(Ptr::ZDec)),
 ];
 
 /// The number of the register that a text names.
@@ -67,10 +93,7 @@ pub(crate) const POINTERS: [Pointer; 9] = [
 pub(crate) fn register_in(text: &[u8]) -> Option<u8>
     ensures value { result ≡ register_of text.now }
 {
-    match index_in(&REGISTERS, text) {
-        Some(index) => Some(index as u8),
-        None => None,
-    }
+    found_in(&REGISTERS, text)
 }
 
 /// The pointer that a text writes.
@@ -78,34 +101,17 @@ pub(crate) fn register_in(text: &[u8]) -> Option<u8>
 pub(crate) fn pointer_in(text: &[u8]) -> Option<Pointer>
     ensures value { result ≡ pointer_of text.now }
 {
-    match index_in(&SPELLINGS, text) {
-        Some(index) => Some(POINTERS[index]),
-        None => None,
-    }
+    found_in(&POINTERS, text)
 }
 
-/// The base and the displacement that `Y+` or `Z+` and a number write.
-#[tactic(auto, unfolding(crate::specs::Operands::offset_of))]
-fn offset_in(text: &[u8]) -> Option<(Base, u64)>
-    ensures value { result ≡ offset_of text.now }
-{
-    match displaced(Base::Y, b"Y+", text) {
-        Some(found) => Some(found),
-        None => displaced(Base::Z, b"Z+", text),
-    }
-}
-
-/// The displacement that a number writes behind this front.
-fn displaced(base: Base, front: &[u8], text: &[u8]) -> Option<(Base, u64)>
-    ensures value { result ≡ displaced_of base front.now text.now }
+/// The number behind this front of a text.
+fn number_behind(front: &[u8], text: &[u8]) -> Option<u64>
+    ensures value { result ≡ number_behind_of front.now text.now }
 {
     if !text.starts_with(front) {
         return None;
     }
-    match number_in(&text[front.len()..]) {
-        Some(q) => Some((base, q)),
-        None => None,
-    }
+    number_in(&text[front.len()..])
 }
 
 /// The operand that a text writes.
@@ -122,8 +128,11 @@ fn operand_in(text: &[u8]) -> Option<Operand>
     if let Some(number) = number_in(text) {
         return Some(Operand::Number(number));
     }
-    if let Some((base, q)) = offset_in(text) {
-        return Some(Operand::Displaced(base, q));
+    if let Some(q) = number_behind(b"Y+", text) {
+        return Some(Operand::Displaced(Base::Y, q));
+    }
+    if let Some(q) = number_behind(b"Z+", text) {
+        return Some(Operand::Displaced(Base::Z, q));
     }
     match name_in(text) {
         Some(name) => Some(Operand::Name(name)),

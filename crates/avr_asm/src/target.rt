@@ -22,7 +22,7 @@ pub(crate) fn jump_in(
     ensures value { (list : List Label) → HasLabels labels.now list → result ≡ jump_of list pc jump target.now }
 {
     match target {
-        Target::At(address) => in_reach(jump_to(jump, pc, u32::from(*address))),
+        Target::At(address) => jump_to(jump, pc, u32::from(*address)),
         Target::Label(name) => jump_to_label(jump, pc, labels.find(name)),
     }
 }
@@ -32,28 +32,29 @@ fn jump_to_label(jump: Jump, pc: u32, address: Option<u32>) -> Result<Instr, Asm
 {
     match address {
         None => Err(AsmFault::Label),
-        Some(address) => in_reach(jump_to(jump, pc, address)),
+        Some(address) => jump_to(jump, pc, address),
     }
 }
 
-fn in_reach(jump: Option<Instr>) -> Result<Instr, AsmFault>
+/// A jump whose field holds its distance.
+fn in_reach(jump: Form) -> Result<Instr, AsmFault>
     ensures value { result ≡ in_reach_of jump }
 {
-    match jump {
+    match defined(jump) {
         Some(jump) => Ok(jump),
         None => Err(AsmFault::Reach),
     }
 }
 
-/// The jump at `pc` to an address, where its field holds the distance.
+/// The jump at `pc` to an address.
 #[tactic(auto, unfolding(avr_isa::specs::Instruction::is_valid, avr_isa::specs::Instruction::fields_in_range))]
-fn jump_to(jump: Jump, pc: u32, target: u32) -> Option<Instr>
-    ensures value { result ≡ jump_to_of jump pc target }
+fn jump_to(jump: Jump, pc: u32, target: u32) -> Result<Instr, AsmFault>
+    ensures value { result ≡ in_reach_of (jump_to_of jump pc target) }
 {
     let form = match jump {
         Jump::If(set, s) => {
             let (Some(s), Some(k)) = (Bit::new(s), branch_distance(pc, target)) else {
-                return None;
+                return Err(AsmFault::Reach);
             };
             if set {
                 Form::Brbs(s, k)
@@ -63,22 +64,22 @@ fn jump_to(jump: Jump, pc: u32, target: u32) -> Option<Instr>
         }
         Jump::Rjmp => match jump_distance(pc, target) {
             Some(k) => Form::Rjmp(k),
-            None => return None,
+            None => return Err(AsmFault::Reach),
         },
         Jump::Rcall => match jump_distance(pc, target) {
             Some(k) => Form::Rcall(k),
-            None => return None,
+            None => return Err(AsmFault::Reach),
         },
         Jump::Jmp => match address(u64::from(target)) {
             Some(a) => Form::Jmp(a),
-            None => return None,
+            None => return Err(AsmFault::Reach),
         },
         Jump::Call => match address(u64::from(target)) {
             Some(a) => Form::Call(a),
-            None => return None,
+            None => return Err(AsmFault::Reach),
         },
     };
-    defined(form)
+    in_reach(form)
 }
 
 /// The distance as the field of a branch.

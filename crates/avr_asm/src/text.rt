@@ -1,7 +1,7 @@
 //! Parts of a line.
 
-ghost use Rattle.std.specs.Prelude.{◌≡◌, ◌<◌, ◌≤◌, length, map, IfSome};
-ghost use Rattle.avr_asm.specs.Cuts.{is_blank as is_blank_test, before, skip_front, skip_end, trimmed as trimmed_of, index_of, front_word as front_word_of, behind_word};
+ghost use Rattle.std.specs.Prelude.{◌≡◌, ◌≤◌, length, map};
+ghost use Rattle.avr_asm.specs.Cuts.{is_blank as is_blank_test, before, skip_front, skip_end, trimmed as trimmed_of, found_in as found_beside, front_word as front_word_of, behind_word};
 
 use line_reader::split_once;
 
@@ -57,15 +57,16 @@ fn without_end(text: &[u8]) -> &[u8]
     rest
 }
 
-/// The index of a text in a list of names.
-pub(crate) fn index_in(names: &[&str], text: &[u8]) -> Option<usize>
-    ensures value { result ≡ index_of (map (λ name. name.now) names.now) text.now }
-    ensures bound { IfSome result (λ index. index < length names.now) }
+/// What stands beside a text in a table.
+pub(crate) fn found_in<A: Copy>(rows: &[(&str, A)], text: &[u8]) -> Option<A>
+    ensures value { result ≡ found_beside (map (λ row. (row.0.now, row.1)) rows.now) text.now }
 {
-    for (i, name) in names.iter().enumerate() {
+    let mut rest = rows;
+    while let [(name, meaning), behind @ ..] = rest {
         if name.as_bytes() == text {
-            return Some(i);
+            return Some(*meaning);
         }
+        rest = behind;
     }
     None
 }

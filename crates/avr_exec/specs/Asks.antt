@@ -7,7 +7,7 @@ use Rattle.avr_isa.specs.declared.form.Form.TheVariants.{LoadOff, StoreOff, Load
 use Rattle.avr_isa.specs.declared.operation.Base.{Base}
 use Rattle.avr_isa.specs.declared.operation.Base.TheVariants.{Y, Z}
 use Rattle.avr_isa.specs.declared.operation.Ptr.{Ptr}
-use Rattle.avr_isa.specs.declared.operation.Ptr.TheVariants.{ZInc, ZDec, YInc, YDec, X, XInc, XDec}
+use Rattle.avr_isa.specs.declared.operation.Ptr.TheVariants.{ZDec, YDec, XDec}
 use Rattle.avr_isa.specs.Instruction.{low_register}
 pub use Rattle.avr_isa.specs.IoTable.{io_address}
 use Rattle.avr_exec.specs.declared.cpu.Cpu.{Cpu}
@@ -34,10 +34,7 @@ unfoldable pub pointed : Ptr → ℕ → ℕ
 pointed ZDec value = wrapping_difference value 1
 pointed YDec value = wrapping_difference value 1
 pointed XDec value = wrapping_difference value 1
-pointed ZInc value = value
-pointed YInc value = value
-pointed XInc value = value
-pointed X value = value
+pointed _ value = value
 
 -- the data address of a pointer
 abbrev pub target : Cpu → Ptr → ℕ

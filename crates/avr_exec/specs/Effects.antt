@@ -2,14 +2,14 @@
 -- AVR Instruction Set Manual, "Operation" and "Program Counter" of each instruction.
 use Rattle.std.specs.Prelude.{ℕ, Bool, true, false, not, ◌+◌, ◌^◌, ◌==◌, if◌then◌else◌, ℤ}
 use Rattle.avr_isa.specs.declared.form.Form.{Form}
-use Rattle.avr_isa.specs.declared.form.Form.TheVariants.{Nop, Movw, Muls, Product, Two, Cpse, Imm, Word, One, LoadOff, StoreOff, LoadAt, StoreAt, Lds, Sts, Pop, Push, Lpm0, Elpm0, Lpm, Elpm, InIo, OutIo, Cbi, Sbic, Sbi, Sbis, Bld, Bst, Sbrc, Sbrs, Bset, Bclr, Brbs, Brbc, Rjmp, Rcall, Jmp, Call, Ijmp, Icall, Ret, Reti, Sleep, Break, Wdr, Spm}
+use Rattle.avr_isa.specs.declared.form.Form.TheVariants.{Movw, Muls, Product, Two, Cpse, Imm, Word, One, LoadOff, StoreOff, LoadAt, StoreAt, Lds, Sts, Pop, Push, Lpm0, Elpm0, Lpm, Elpm, InIo, OutIo, Sbic, Sbis, Bld, Bst, Sbrc, Sbrs, Bset, Bclr, Brbs, Brbc, Rjmp, Rcall, Jmp, Call, Ijmp, Icall, Ret, Reti, Sleep, Spm}
 use Rattle.avr_isa.specs.declared.operation.Ptr.{Ptr}
 use Rattle.avr_isa.specs.declared.operation.Ptr.TheVariants.{ZInc, ZDec, YInc, YDec, X, XInc, XDec}
 use Rattle.avr_flags.specs.Status.{has_bit, with_bit, transfer, interrupts}
 use Rattle.avr_flags.specs.Products.{muls_of}
 use Rattle.avr_exec.specs.declared.cpu.Cpu.{Cpu}
 use Rattle.avr_exec.specs.declared.answer.Answer.{Answer}
-use Rattle.avr_exec.specs.declared.answer.Answer.TheVariants.{Done, Byte, Address}
+use Rattle.avr_exec.specs.declared.answer.Answer.TheVariants.{Byte, Address}
 use Rattle.avr_isa.specs.Addresses.{wrapping_sum, wrapping_difference, relative}
 use Rattle.avr_exec.specs.Registers.{register, with_register, pair, with_pair, with_status, with_stack, with_counter, is_own, own_byte, with_own_byte}
 use Rattle.avr_exec.specs.Asks.{displaced, target, pointer_value}
@@ -18,14 +18,12 @@ use Rattle.avr_exec.specs.Arithmetic.{with_pair_result, two_of, immediate_of, wo
 
 -- the byte of an answer, and the address of an answer
 abbrev pub byte_of : Answer → ℕ
-byte_of Done = 0
 byte_of (Byte v) = v
-byte_of (Address a) = 0
+byte_of _ = 0
 
 abbrev pub address_of : Answer → ℕ
-address_of Done = 0
-address_of (Byte v) = 0
 address_of (Address a) = a
+address_of _ = 0
 
 -- the byte loaded from a data address: the core's own, or the bus's answer
 unfoldable pub loaded : Cpu → ℕ → Answer → ℕ
@@ -72,9 +70,8 @@ called cpu a = with_counter (with_stack cpu (wrapping_difference cpu.sp 2)) a
 abbrev pub returned : Cpu → ℕ → Cpu
 returned cpu a = with_counter (with_stack cpu (wrapping_sum cpu.sp 2)) a
 
--- the registers after each instruction; SLEEP and SPM aren't executed
+-- The registers after each instruction: those not named change the pc alone. SLEEP and SPM aren't executed.
 unfoldable pub finish_of : Form → Cpu → ℕ → Answer → Cpu
-finish_of Nop cpu n answer = next cpu
 finish_of (Movw d r) cpu n answer = next (with_pair cpu d (pair cpu r))
 finish_of (Muls d r) cpu n answer = next (with_pair_result cpu 0 (muls_of cpu.sreg (register cpu d) (register cpu r)))
 finish_of (Product op d r) cpu n answer = next (product_of op cpu d r)
@@ -97,8 +94,6 @@ finish_of (Lpm d inc) cpu n answer = next (with_z_raised_if (with_register cpu d
 finish_of (Elpm d inc) cpu n answer = next (with_z_raised_if (with_register cpu d (byte_of answer)) inc (pair cpu 30))
 finish_of (InIo d a) cpu n answer = next (with_register cpu d (loaded cpu (io_address a) answer))
 finish_of (OutIo a r) cpu n answer = next (stored cpu (io_address a) (register cpu r))
-finish_of (Cbi a b) cpu n answer = next cpu
-finish_of (Sbi a b) cpu n answer = next cpu
 finish_of (Sbic a b) cpu n answer = skip_if (not (has_bit (loaded cpu (io_address a) answer) (2 ^ b))) n cpu
 finish_of (Sbis a b) cpu n answer = skip_if (has_bit (loaded cpu (io_address a) answer) (2 ^ b)) n cpu
 finish_of (Bld d b) cpu n answer = next (with_register cpu d (with_bit (register cpu d) (2 ^ b) (has_bit cpu.sreg transfer)))
@@ -118,6 +113,5 @@ finish_of Icall cpu n answer = called cpu (pair cpu 30)
 finish_of Ret cpu n answer = returned cpu (address_of answer)
 finish_of Reti cpu n answer = with_status (returned cpu (address_of answer)) (with_bit cpu.sreg interrupts true)
 finish_of Sleep cpu n answer = cpu
-finish_of Break cpu n answer = next cpu
-finish_of Wdr cpu n answer = next cpu
 finish_of Spm cpu n answer = cpu
+finish_of _ cpu n answer = next cpu

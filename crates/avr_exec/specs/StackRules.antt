@@ -14,16 +14,16 @@ pub record StackRule (Space : Type 0) : Type 0 where
   pub stop : ℕ → BusStop
 
 -- a byte pushed at sp
-abbrev pub push_on : {Space : Type 0} → StackRule Space → Space → ℕ → ℕ → Outcome Space (Unit {0})
+unfoldable pub push_on : {Space : Type 0} → StackRule Space → Space → ℕ → ℕ → Outcome Space (Unit {0})
 push_on stack s sp v = if stack.holds sp then Went tt (stack.with_byte s sp v) else Stopped (stack.stop sp)
 
 -- the byte above sp popped
-abbrev pub pop_from : {Space : Type 0} → StackRule Space → Space → ℕ → Outcome Space ℕ
+unfoldable pub pop_from : {Space : Type 0} → StackRule Space → Space → ℕ → Outcome Space ℕ
 pop_from stack s sp =
     if stack.holds (wrapping_sum sp 1) then Went (stack.byte s (wrapping_sum sp 1)) s else Stopped (stack.stop (wrapping_sum sp 1))
 
 -- a return address pushed: its low byte at sp, then its high byte below
-abbrev pub push_return_on : {Space : Type 0} → StackRule Space → Space → ℕ → ℕ → Outcome Space (Unit {0})
+unfoldable pub push_return_on : {Space : Type 0} → StackRule Space → Space → ℕ → ℕ → Outcome Space (Unit {0})
 push_return_on stack s sp ret =
     if stack.holds sp then
     if stack.holds (wrapping_difference sp 1) then Went tt (stack.with_byte (stack.with_byte s sp (ret % 256)) (wrapping_difference sp 1) (ret / 256))
@@ -31,7 +31,7 @@ push_return_on stack s sp ret =
     else Stopped (stack.stop sp)
 
 -- a return address popped: its high byte from sp + 1, then its low byte from sp + 2
-abbrev pub pop_return_from : {Space : Type 0} → StackRule Space → Space → ℕ → Outcome Space ℕ
+unfoldable pub pop_return_from : {Space : Type 0} → StackRule Space → Space → ℕ → Outcome Space ℕ
 pop_return_from stack s sp =
     if stack.holds (wrapping_sum sp 1) then
     if stack.holds (wrapping_sum sp 2) then Went (stack.byte s (wrapping_sum sp 1) * 256 + stack.byte s (wrapping_sum sp 2)) s

@@ -4,7 +4,7 @@ use Rattle.input_script.specs.Script.{nothing}
 use Rattle.program_generator.specs.Generated.{generated}
 use Rattle.cli_words.specs.declared.job.Job.{Job}
 use Rattle.cli_words.specs.declared.job.Job.TheVariants.{Run}
-use Rattle.cli_words.specs.Commands.{default_options}
+use Rattle.cli_words.specs.Options.{default_options}
 
 -- the run of a seed
 abbrev pub generated_run : ℕ → Job

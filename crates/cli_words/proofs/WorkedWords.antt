@@ -4,8 +4,8 @@ use Rattle.std.specs.Prelude.{Option}
 use Rattle.cli_words.specs.declared.command.Command.TheVariants.{Run}
 use Rattle.cli_words.specs.declared.command.RunOptions.{RunOptions}
 use Rattle.cli_words.specs.declared.table.Parameter.TheVariants.{Steps, Quantum, Swap}
-use Rattle.cli_words.specs.Commands.{IsCommand, default_options, run_numbers}
-use Rattle.cli_words.specs.Options.{AreValues, Choose, nothing, run_rows}
+use Rattle.cli_words.specs.Commands.{IsCommand, run_numbers}
+use Rattle.cli_words.specs.Options.{AreValues, Choose, default_options, nothing, run_rows}
 
 abbrev pub options : RunOptions
 options = record { steps = 100; quantum = 7; swap = 0 }
@@ -54,7 +54,7 @@ values_are = (
 )
 
 pub with_options : IsCommand (codes "run" ∷ rest) (Run options)
-with_options = (chosen, said, (options, values_are, refl))
+with_options = (refl, (chosen, said, values_are))
 
 -- the word alone
 default_values : AreValues run_rows nothing (run_numbers default_options)
@@ -73,4 +73,4 @@ default_values = (
 )
 
 pub without_options : IsCommand (codes "run" ∷ []) (Run default_options)
-without_options = (nothing, ([], (refl, refl)), (default_options, default_values, refl))
+without_options = (refl, (nothing, ([], (refl, refl)), default_values))

@@ -1,9 +1,6 @@
 -- What command lines ask for.
-use Rattle.std.specs.Prelude.{◌≡◌, ℕ, ◌≤◌, List, [], ◌∷◌, length, All, Option, Some, None, bytes_eq, codes, if◌then◌else◌}
-use Rattle.cli_words.specs.declared.table.Aim.{Aim}
-use Rattle.cli_words.specs.declared.table.Aim.TheVariants as aims
-use Rattle.cli_words.specs.declared.table.Signature.{Signature}
-use Rattle.cli_words.specs.declared.table.Signature.TheVariants as signatures
+use Rattle.std.specs.Prelude.{◌≡◌, ℕ, ◌≤◌, List, [], ◌∷◌, length, All, Option, codes}
+use Rattle.cli_words.specs.declared.table.Row.{Row}
 use Rattle.cli_words.specs.declared.command.Command.{Command}
 use Rattle.cli_words.specs.declared.command.RunOptions.{RunOptions}
 use Rattle.cli_words.specs.declared.command.TaskOptions.{TaskOptions}
@@ -12,59 +9,29 @@ use Rattle.cli_words.specs.declared.job.Job.{Job}
 use Rattle.cli_words.specs.declared.job.Job.TheVariants as jobs
 use Rattle.cli_words.specs.declared.request.TaskRequest.{TaskRequest}
 use Rattle.task_input.specs.Images.{IsMisplaced}
-use Rattle.cli_words.specs.Options.{AreValues, Choose, nothing, rows_of, run_rows, seed_rows, tasks_rows}
+use Rattle.cli_words.specs.Options.{AreValues, Choose, nothing, run_rows, seed_rows, tasks_rows}
 
--- the command that runs one program for this
-abbrev pub command_for : Aim → RunOptions → Command
-command_for aims.Run options = Run options
-command_for aims.Dump options = Dump options
-command_for aims.Restart options = Restart options
-
--- The table of the commands: the word of each, and its signature, which tells what stands behind the word.
-abbrev pub commands : List (List ℕ × Signature)
-commands =
-    (codes "help", signatures.Plain Help)
-    ∷ (codes "run", signatures.Run aims.Run)
-    ∷ (codes "dump", signatures.Run aims.Dump)
-    ∷ (codes "restart", signatures.Run aims.Restart)
-    ∷ (codes "tasks", signatures.Tasks)
-    ∷ (codes "check", signatures.Plain Check)
-    ∷ (codes "generate", signatures.Generate)
-    ∷ (codes "asm", signatures.Plain Asm)
-    ∷ []
-
--- the signature of the command that has this word
-abbrev pub signature_in : List (List ℕ × Signature) → List ℕ → Option Signature
-signature_in [] word = None
-signature_in (row ∷ rows) word = if bytes_eq word row.0 then Some row.1 else signature_in rows word
-
--- the options of a run where the words give none
-abbrev pub default_options : RunOptions
-default_options = record { steps = 1000000; quantum = 255; swap = 128 }
-
--- the numbers of options, in the order of their rows
+-- the numbers of the options of a run, in the order of their rows
 abbrev pub run_numbers : RunOptions → List ℕ
 run_numbers options = options.steps ∷ options.quantum ∷ options.swap ∷ []
 
-abbrev pub tasks_numbers : TaskOptions → List ℕ
-tasks_numbers options = options.count ∷ options.steps ∷ options.quantum ∷ options.swap ∷ []
+-- The table of the commands: the word of each, what it takes, and the values of that.
+abbrev pub entry_of : Command → List ℕ × List Row × List ℕ
+entry_of Help = (codes "help", [], [])
+entry_of (Run options) = (codes "run", run_rows, run_numbers options)
+entry_of (Dump options) = (codes "dump", run_rows, run_numbers options)
+entry_of (Restart options) = (codes "restart", run_rows, run_numbers options)
+entry_of (Tasks options) = (codes "tasks", tasks_rows, options.count ∷ options.steps ∷ options.quantum ∷ options.swap ∷ [])
+entry_of Check = (codes "check", [], [])
+entry_of (Generate seed) = (codes "generate", seed_rows, seed ∷ [])
+entry_of Asm = (codes "asm", [], [])
 
--- the command that these chosen numbers make
-abbrev pub Makes : Signature → (chosen : List (Option ℕ)) → Command → Type 0
-Makes (signatures.Plain own) chosen command = command ≡ own
-Makes (signatures.Run aim) chosen command = (options : RunOptions) × AreValues run_rows chosen (run_numbers options) × (command ≡ command_for aim options)
-Makes signatures.Tasks chosen command = (options : TaskOptions) × AreValues tasks_rows chosen (tasks_numbers options) × (command ≡ Tasks options)
-Makes signatures.Generate chosen command = (seed : ℕ) × AreValues seed_rows chosen (seed ∷ []) × (command ≡ Generate seed)
-
--- the words behind the first choose the numbers of this command, whose signature it is
-abbrev pub StandsBehind : Option Signature → (rest : List (List ℕ)) → Command → Type 0
-StandsBehind None rest command = ⊥
-StandsBehind (Some signature) rest command = (chosen : List (Option ℕ)) × Choose (rows_of signature) rest nothing chosen × Makes signature chosen command
-
--- the words are this command
+-- the words are this command: its own word, and behind it words that choose its values
 abbrev pub IsCommand : List (List ℕ) → Command → Type 0
 IsCommand [] command = ⊥
-IsCommand (word ∷ rest) command = StandsBehind (signature_in commands word) rest command
+IsCommand (word ∷ rest) command =
+    (word ≡ (entry_of command).0)
+    × ((chosen : List (Option ℕ)) × Choose (entry_of command).1 rest nothing chosen × AreValues (entry_of command).1 chosen (entry_of command).2)
 
 -- the words are no command
 abbrev pub IsNoCommand : List (List ℕ) → Type 0
@@ -83,11 +50,6 @@ IsPossible (Dump options) = AreOptions options
 IsPossible (Restart options) = AreOptions options
 IsPossible (Tasks options) = AreTaskOptions options
 IsPossible _ = Unit {0}
-
--- .. and one that takes no numbers has such a signature
-abbrev pub IsPossibleOf : Signature → Type 0
-IsPossibleOf (signatures.Plain own) = IsPossible own
-IsPossibleOf _ = Unit {0}
 
 -- a job that runs a program
 abbrev pub RunsAProgram : Job → Type 0

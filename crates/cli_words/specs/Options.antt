@@ -1,11 +1,10 @@
 -- The words of a command line, this project's own grammar (docs/FORMATS.md): a command, and behind it its
 -- numbers in any order, each at most once. A number with a name stands in the word behind the name, or
 -- behind `=` in the same one.
-use Rattle.std.specs.Prelude.{◌≡◌, ℕ, ◌≤◌, ◌⊎◌, ◌==◌, if◌then◌else◌, List, [], ◌∷◌, ◌++◌, codes, slice_get, slice_set, slice_index_or, map, Option, Some, None, IsSome}
+use Rattle.std.specs.Prelude.{◌≡◌, ℕ, ◌≤◌, ◌⊎◌, ◌==◌, List, [], ◌∷◌, ◌++◌, codes, slice_get, slice_set, slice_index_or, map, find, Option, Some, None, IsSome}
 use Rattle.std.specs.Option.{option_or}
 use Rattle.input_script.specs.Grammar.{IsNumber}
-use Rattle.cli_words.specs.declared.table.Signature.{Signature}
-use Rattle.cli_words.specs.declared.table.Signature.TheVariants as signatures
+use Rattle.cli_words.specs.declared.command.RunOptions.{RunOptions}
 use Rattle.cli_words.specs.declared.table.Parameter.{Parameter}
 use Rattle.cli_words.specs.declared.table.Parameter.TheVariants.{Seed, Count, Steps, Quantum, Swap}
 use Rattle.cli_words.specs.declared.table.Row.{Row}
@@ -30,19 +29,23 @@ place_of Quantum = 2
 place_of Swap = 3
 place_of Count = 4
 
+-- the options of a run where the words give none
+abbrev pub default_options : RunOptions
+default_options = record { steps = 1000000; quantum = 255; swap = 128 }
+
 -- What a command takes: each parameter with its least and its greatest value, and the one that it has
 -- where the words give none. This is what both `run` and `tasks` take, with as many swap slots at most, and
 -- with these where the words give none
 abbrev pub shared_rows : (most_swap default_swap : ℕ) → List Row
 shared_rows most_swap default_swap =
-    record { parameter = Steps; least = 0; most = 1000000000; default = Some 1000000 }
-    ∷ record { parameter = Quantum; least = 1; most = 255; default = Some 255 }
+    record { parameter = Steps; least = 0; most = 1000000000; default = Some default_options.steps }
+    ∷ record { parameter = Quantum; least = 1; most = 255; default = Some default_options.quantum }
     ∷ record { parameter = Swap; least = 0; most = most_swap; default = Some default_swap }
     ∷ []
 
 -- this a command that runs a program
 abbrev pub run_rows : List Row
-run_rows = shared_rows 251 128
+run_rows = shared_rows 251 default_options.swap
 
 -- this one that runs several, which share the swap
 abbrev pub tasks_rows : List Row
@@ -52,17 +55,9 @@ tasks_rows = record { parameter = Count; least = 1; most = 4; default = None } �
 abbrev pub seed_rows : List Row
 seed_rows = record { parameter = Seed; least = 0; most = 4294967295; default = None } ∷ []
 
--- and this each command, by its signature
-abbrev pub rows_of : Signature → List Row
-rows_of (signatures.Plain own) = []
-rows_of (signatures.Run aim) = run_rows
-rows_of signatures.Tasks = tasks_rows
-rows_of signatures.Generate = seed_rows
-
 -- the row of a parameter
 abbrev pub row_in : List Row → Parameter → Option Row
-row_in [] parameter = None
-row_in (row ∷ rows) parameter = if place_of row.parameter == place_of parameter then Some row else row_in rows parameter
+row_in rows parameter = find (λ row. place_of row.parameter == place_of parameter) rows
 
 -- the first words write these digits, with the name that they have, and the rest stands behind them
 abbrev pub IsWritten : Option (List ℕ) → (digits : List ℕ) → (words rest : List (List ℕ)) → Type 0

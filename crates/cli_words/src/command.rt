@@ -1,13 +1,12 @@
 //! What a command line asks for.
-ghost use Rattle.std.specs.Prelude.{ℕ, List, ◌∷◌, codes, map, string_bytes, MatchOption, IfSome};
-ghost use Rattle.cli_words.specs.declared.command.Command.{Command};
-ghost use Rattle.cli_words.specs.declared.command.Command.TheVariants.{Run};
+ghost use Rattle.std.specs.Prelude.{◌≡◌, ℕ, List, [], ◌∷◌, codes, map, string_bytes, MatchOption, IfSome};
+ghost use Rattle.cli_words.specs.declared.command.Command.TheVariants.{Run, Tasks};
 ghost use Rattle.cli_words.specs.declared.command.RunOptions.{RunOptions};
-ghost use Rattle.cli_words.specs.Commands.{AreOptions, AreTaskOptions, IsCommand, IsNoCommand, IsPossible, IsPossibleOf, Makes, run_numbers, tasks_numbers};
-ghost use Rattle.cli_words.specs.Options.{AreValues, run_rows, tasks_rows};
+ghost use Rattle.cli_words.specs.Commands.{AreOptions, AreTaskOptions, IsCommand, IsNoCommand, IsPossible, entry_of, run_numbers};
+ghost use Rattle.cli_words.specs.Options.{AreValues, run_rows, seed_rows, tasks_rows};
 
 use crate::options::{Chosen, chosen_in};
-use crate::table::{Aim, Parameter, Signature};
+use crate::table::{Parameter, SOME_TASKS};
 
 /// What a command line asks for.
 #[derive(Clone, Copy)]
@@ -69,9 +68,9 @@ pub fn command_of(words: &[String]) -> Option<Command>
     let [word, rest @ ..] = words else {
         return None;
     };
-    let signature = Signature::of(word.as_str())?;
-    let chosen = chosen_in(signature, rest)?;
-    command_with(signature, chosen)
+    let kind = Command::named(word.as_str())?;
+    let chosen = chosen_in(kind, rest)?;
+    command_with(kind, chosen)
 }
 
 /// The options of a run that these words choose, as they do behind `run`; None where they don't.
@@ -81,26 +80,26 @@ pub fn run_options_of(words: &[String]) -> Option<RunOptions>
         (λ options. IsCommand (codes "run" ∷ map string_bytes words.now) (Run options)) }
     ensures possible { IfSome result AreOptions }
 {
-    let chosen = chosen_in(Signature::Run(Aim::Run), words)?;
+    let chosen = chosen_in(Command::Run(DEFAULT_OPTIONS), words)?;
     run_options(chosen)
 }
 
-/// The command of this signature with these numbers.
-fn command_with(signature: Signature, chosen: Chosen) -> Option<Command>
-    requires possible { IsPossibleOf signature }
+/// The command of a kind with these numbers.
+fn command_with(kind: Command, chosen: Chosen) -> Option<Command>
     ensures cases { MatchOption result
-        ((command : Command) → ¬ Makes signature chosen.values command)
-        (Makes signature chosen.values) }
+        ((values : List ℕ) → ¬ AreValues (entry_of kind).1 chosen.values values)
+        (λ command. ((entry_of command).0 ≡ (entry_of kind).0) × AreValues (entry_of command).1 chosen.values (entry_of command).2) }
     ensures possible { IfSome result IsPossible }
 {
-    Some(match signature {
-        Signature::Plain(command) => command,
-        Signature::Run(aim) => aim.command(run_options(chosen)?),
-        Signature::Tasks => Command::Tasks(task_options(chosen)?),
-        Signature::Generate => {
-            let seed = chosen.value(Signature::Generate, Parameter::Seed)?;
-            Command::Generate(seed as u32)
-        }
+    Some(match kind {
+        Command::Run(_) => Command::Run(run_options(chosen)?),
+        Command::Dump(_) => Command::Dump(run_options(chosen)?),
+        Command::Restart(_) => Command::Restart(run_options(chosen)?),
+        Command::Tasks(_) => Command::Tasks(task_options(chosen)?),
+        Command::Generate(_) => Command::Generate(seed_of(chosen)?),
+        Command::Help => Command::Help,
+        Command::Check => Command::Check,
+        Command::Asm => Command::Asm,
     })
 }
 
@@ -111,10 +110,11 @@ fn run_options(chosen: Chosen) -> Option<RunOptions>
         (λ options. AreValues run_rows chosen.values (run_numbers options)) }
     ensures possible { IfSome result AreOptions }
 {
+    let kind = Command::Run(DEFAULT_OPTIONS);
     Some(RunOptions {
-        steps: chosen.value(Signature::Run(Aim::Run), Parameter::Steps)?,
-        quantum: chosen.value(Signature::Run(Aim::Run), Parameter::Quantum)? as u8,
-        swap: chosen.value(Signature::Run(Aim::Run), Parameter::Swap)? as u8,
+        steps: chosen.value(kind, Parameter::Steps)?,
+        quantum: chosen.value(kind, Parameter::Quantum)? as u8,
+        swap: chosen.value(kind, Parameter::Swap)? as u8,
     })
 }
 
@@ -122,13 +122,23 @@ fn run_options(chosen: Chosen) -> Option<RunOptions>
 fn task_options(chosen: Chosen) -> Option<TaskOptions>
     ensures cases { MatchOption result
         ((values : List ℕ) → ¬ AreValues tasks_rows chosen.values values)
-        (λ options. AreValues tasks_rows chosen.values (tasks_numbers options)) }
+        (λ options. AreValues tasks_rows chosen.values (entry_of (Tasks options)).2) }
     ensures possible { IfSome result AreTaskOptions }
 {
+    let kind = Command::Tasks(SOME_TASKS);
     Some(TaskOptions {
-        count: chosen.value(Signature::Tasks, Parameter::Count)? as u8,
-        steps: chosen.value(Signature::Tasks, Parameter::Steps)?,
-        quantum: chosen.value(Signature::Tasks, Parameter::Quantum)? as u8,
-        swap: chosen.value(Signature::Tasks, Parameter::Swap)? as u8,
+        count: chosen.value(kind, Parameter::Count)? as u8,
+        steps: chosen.value(kind, Parameter::Steps)?,
+        quantum: chosen.value(kind, Parameter::Quantum)? as u8,
+        swap: chosen.value(kind, Parameter::Swap)? as u8,
     })
+}
+
+/// Which test program is run.
+fn seed_of(chosen: Chosen) -> Option<u32>
+    ensures cases { MatchOption result
+        ((values : List ℕ) → ¬ AreValues seed_rows chosen.values values)
+        (λ seed. AreValues seed_rows chosen.values (seed ∷ [])) }
+{
+    Some(chosen.value(Command::Generate(0), Parameter::Seed)? as u32)
 }

@@ -2,10 +2,12 @@
 ghost use Rattle.std.specs.Prelude.{◌≡◌, ◌≢◌, ℕ, ◌<◌, ◌≤◌, List, length, map, string_bytes, MatchOption, IfSome, IsSomeAnd, Option, Some, None, option_map, slice_get, slice_set};
 ghost use Rattle.input_script.specs.Grammar.{IsNumber};
 ghost use Rattle.cli_words.specs.declared.options.Choice.{Choice};
-ghost use Rattle.cli_words.specs.Options.{BeginsWith, Choose, IsValue, name_of, nothing, parameters, place_of, row_in, rows_of};
+ghost use Rattle.cli_words.specs.Options.{BeginsWith, Choose, IsValue, name_of, nothing, parameters, place_of, row_in};
+ghost use Rattle.cli_words.specs.Commands.{entry_of};
 ghost use Rattle.cli_words.specs.OptionReading.{behind, first_named, number_in, value_at};
 
-use crate::table::{PARAMETER_COUNT, PARAMETERS, Parameter, Signature};
+use crate::command::Command;
+use crate::table::{PARAMETER_COUNT, PARAMETERS, Parameter};
 
 /// A parameter with a number for it.
 #[derive(Clone, Copy)]
@@ -89,30 +91,30 @@ fn number(text: &str) -> Option<u64>
 }
 
 /// The choice that the first words make, of a parameter that the command has, and the words behind it.
-fn first_choice(signature: Signature, words: &[String]) -> Option<(Choice, &[String])>
+fn first_choice(kind: Command, words: &[String]) -> Option<(Choice, &[String])>
     ensures cases { MatchOption result
-        ((choice : Choice) (rest : List (List ℕ)) → ¬ BeginsWith (rows_of signature) choice (map string_bytes words.now) rest)
-        (λ found. BeginsWith (rows_of signature) found.0 (map string_bytes words.now) (map string_bytes found.1.now)) }
+        ((choice : Choice) (rest : List (List ℕ)) → ¬ BeginsWith (entry_of kind).1 choice (map string_bytes words.now) rest)
+        (λ found. BeginsWith (entry_of kind).1 found.0 (map string_bytes words.now) (map string_bytes found.1.now)) }
     ensures shorter { IfSome result (λ found. length found.1.now < length words.now) }
 {
     let (parameter, digits, rest) = first_number(words)?;
     let value = number(digits)?;
-    signature.row(parameter)?;
+    kind.row(parameter)?;
     Some((Choice { parameter, value }, rest))
 }
 
 /// The numbers that all these words choose for a command.
-pub(crate) fn chosen_in(signature: Signature, words: &[String]) -> Option<Chosen>
+pub(crate) fn chosen_in(kind: Command, words: &[String]) -> Option<Chosen>
     ensures cases { MatchOption result
-        ((after : List (Option ℕ)) → ¬ Choose (rows_of signature) (map string_bytes words.now) nothing after)
-        (λ chosen. Choose (rows_of signature) (map string_bytes words.now) nothing chosen.values) }
+        ((after : List (Option ℕ)) → ¬ Choose (entry_of kind).1 (map string_bytes words.now) nothing after)
+        (λ chosen. Choose (entry_of kind).1 (map string_bytes words.now) nothing chosen.values) }
 {
     let mut chosen = Chosen {
         values: [None; PARAMETER_COUNT],
     };
     let mut rest = words;
     while !rest.is_empty() {
-        let (choice, behind) = first_choice(signature, rest)?;
+        let (choice, behind) = first_choice(kind, rest)?;
         chosen = chosen.with(choice)?;
         rest = behind;
     }
@@ -137,12 +139,12 @@ impl Chosen {
     }
 
     /// The value of a command's parameter: the chosen one, or else the default, and in its range.
-    pub fn value(self, signature: Signature, parameter: Parameter) -> Option<u64>
+    pub fn value(self, kind: Command, parameter: Parameter) -> Option<u64>
         ensures cases { MatchOption result
-            ((value : ℕ) → ¬ IsSomeAnd (row_in (rows_of signature) parameter) (λ row. IsValue self.values row value))
-            (λ value. IsSomeAnd (row_in (rows_of signature) parameter) (λ row. IsValue self.values row value)) }
+            ((value : ℕ) → ¬ IsSomeAnd (row_in (entry_of kind).1 parameter) (λ row. IsValue self.values row value))
+            (λ value. IsSomeAnd (row_in (entry_of kind).1 parameter) (λ row. IsValue self.values row value)) }
     {
-        let row = signature.row(parameter)?;
+        let row = kind.row(parameter)?;
         let value = self.values[row.parameter.place()].or(row.default)?;
         if row.least <= value && value <= row.most {
             Some(value)

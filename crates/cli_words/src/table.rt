@@ -1,33 +1,10 @@
 //! The commands and the numbers that each of them takes, as a table.
-ghost use Rattle.std.specs.Prelude.{◌≡◌, ◌<◌, IfSome, option_map};
-ghost use Rattle.cli_words.specs.Commands.{AreOptions, IsPossible, IsPossibleOf, command_for, commands, signature_in};
-ghost use Rattle.cli_words.specs.Options.{name_of, place_of, row_in, rows_of, shared_rows};
+ghost use Rattle.std.specs.Prelude.{◌≡◌, ◌≢◌, ◌<◌, MatchOption, option_map};
+ghost use Rattle.cli_words.specs.declared.command.Command.{Command};
+ghost use Rattle.cli_words.specs.Commands.{entry_of};
+ghost use Rattle.cli_words.specs.Options.{name_of, place_of, row_in, shared_rows};
 
-use crate::command::{Command, RunOptions};
-
-/// What a program is run for.
-#[derive(Clone, Copy)]
-pub(crate) enum Aim {
-    /// Its lines.
-    Run,
-    /// The flash that it leaves.
-    Dump,
-    /// A second run, over what is kept of that flash behind a loss of power.
-    Restart,
-}
-
-/// What stands behind a command's word.
-#[derive(Clone, Copy)]
-pub(crate) enum Signature {
-    /// Nothing: the word is the whole command.
-    Plain(Command),
-    /// The options of a run.
-    Run(Aim),
-    /// The options of a run of several programs.
-    Tasks,
-    /// Which test program is run.
-    Generate,
-}
+use crate::command::{Command, DEFAULT_OPTIONS, TaskOptions};
 
 /// A number that a command takes.
 #[derive(Clone, Copy)]
@@ -66,52 +43,46 @@ pub(crate) struct Row {
     pub default: Option<u64>,
 }
 
-impl Signature {
-    /// The signature of the command of this word.
-    pub fn of(word: &str) -> Option<Signature>
-        ensures signature { result ≡ signature_in commands word.now }
-        ensures possible { IfSome result IsPossibleOf }
+/// Some options of a run of several programs.
+pub(crate) const SOME_TASKS: TaskOptions = TaskOptions {
+    count: 1,
+    steps: 0,
+    quantum: 1,
+    swap: 0,
+};
+
+impl Command {
+    /// The command of this word, with some numbers.
+    pub(crate) fn named(word: &str) -> Option<Command>
+        ensures named { MatchOption result ((command : Command) → word.now ≢ (entry_of command).0) (λ command. word.now ≡ (entry_of command).0) }
     {
         Some(match word {
-            "help" => Signature::Plain(Command::Help),
-            "run" => Signature::Run(Aim::Run),
-            "dump" => Signature::Run(Aim::Dump),
-            "restart" => Signature::Run(Aim::Restart),
-            "tasks" => Signature::Tasks,
-            "check" => Signature::Plain(Command::Check),
-            "generate" => Signature::Generate,
-            "asm" => Signature::Plain(Command::Asm),
+            "help" => Command::Help,
+            "run" => Command::Run(DEFAULT_OPTIONS),
+            "dump" => Command::Dump(DEFAULT_OPTIONS),
+            "restart" => Command::Restart(DEFAULT_OPTIONS),
+            "tasks" => Command::Tasks(SOME_TASKS),
+            "check" => Command::Check,
+            "generate" => Command::Generate(0),
+            "asm" => Command::Asm,
             _ => return None,
         })
     }
 
     /// What the command takes for a parameter, if it has it.
-    pub fn row(self, parameter: Parameter) -> Option<Row>
-        ensures row { result ≡ row_in (rows_of self) parameter }
+    pub(crate) fn row(self, parameter: Parameter) -> Option<Row>
+        ensures row { result ≡ row_in (entry_of self).1 parameter }
     {
         match (self, parameter) {
-            (Signature::Run(_), _) => shared_row(parameter, 251, 128),
-            (Signature::Tasks, Parameter::Count) => Some(Row::new(parameter, 1, 4, None)),
-            (Signature::Tasks, _) => shared_row(parameter, 62, 32),
-            (Signature::Generate, Parameter::Seed) => {
+            (Command::Run(_) | Command::Dump(_) | Command::Restart(_), _) => {
+                shared_row(parameter, 251, u64::from(DEFAULT_OPTIONS.swap))
+            }
+            (Command::Tasks(_), Parameter::Count) => Some(Row::new(parameter, 1, 4, None)),
+            (Command::Tasks(_), _) => shared_row(parameter, 62, 32),
+            (Command::Generate(_), Parameter::Seed) => {
                 Some(Row::new(parameter, 0, 4_294_967_295, None))
             }
             _ => None,
-        }
-    }
-}
-
-impl Aim {
-    /// The command that runs one program for this.
-    pub fn command(self, options: RunOptions) -> Command
-        requires possible { AreOptions options }
-        ensures value { result ≡ command_for self options }
-        ensures possible { IsPossible result }
-    {
-        match self {
-            Aim::Run => Command::Run(options),
-            Aim::Dump => Command::Dump(options),
-            Aim::Restart => Command::Restart(options),
         }
     }
 }
@@ -121,8 +92,18 @@ fn shared_row(parameter: Parameter, most_swap: u64, default_swap: u64) -> Option
     ensures row { result ≡ row_in (shared_rows most_swap default_swap) parameter }
 {
     match parameter {
-        Parameter::Steps => Some(Row::new(parameter, 0, 1_000_000_000, Some(1_000_000))),
-        Parameter::Quantum => Some(Row::new(parameter, 1, 255, Some(255))),
+        Parameter::Steps => Some(Row::new(
+            parameter,
+            0,
+            1_000_000_000,
+            Some(DEFAULT_OPTIONS.steps),
+        )),
+        Parameter::Quantum => Some(Row::new(
+            parameter,
+            1,
+            255,
+            Some(u64::from(DEFAULT_OPTIONS.quantum)),
+        )),
         Parameter::Swap => Some(Row::new(parameter, 0, most_swap, Some(default_swap))),
         _ => None,
     }

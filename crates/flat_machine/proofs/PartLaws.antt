@@ -17,19 +17,17 @@ use Rattle.avr_exec.specs.declared.answer.Answer.TheVariants.{Byte, Done, Addres
 use Rattle.avr_exec.specs.declared.stop.BusStop.TheVariants.{Stack as StackStop, SwapFull as FullStop}
 use Rattle.avr_isa.specs.Addresses.{wrapping_sum, wrapping_difference}
 use Rattle.avr_exec.specs.Spaces.{Outcome, Went, Stopped}
+use Rattle.avr_exec.specs.StackRules.{push_on, pop_from, push_return_on, pop_return_from}
 use Rattle.avr_exec.specs.Asks.{ask_of}
 use Rattle.avr_exec.specs.Likeness.{over}
 use Rattle.avr_exec.specs.Execution.{answered_by, answer_of, exec_of, is_executed, extended, rampz_raised}
 use Rattle.avr_exec.proofs.OneAnswer.{exec_alike}
-use Rattle.flat_machine.specs.Addresses.{is_stack}
+use Rattle.flat_machine.specs.Addresses.{is_stack, is_heap}
 use Rattle.mote_devices.specs.declared.line.Line.{Line}
 use Rattle.mote_devices.specs.State.{stored, rampz_address}
 use Rattle.mote_devices.specs.Accesses.{Asked, Gave, Refused, read, write, modify as modify_device}
-use Rattle.flat_machine.specs.declared.address.AddrClass.{AddrClass}
-use Rattle.flat_machine.specs.declared.address.AddrClass.TheVariants.{Register, Cpu as CpuClass, Io, Stack, Heap}
 use Rattle.flat_machine.specs.declared.part.Part.{Part}
-use Rattle.flat_machine.specs.Classes.{class_of}
-use Rattle.flat_machine.specs.FlatSpace.{FlatSpace, flat_calls, load, store, modify, push, pop, push_return, pop_return, load_in, store_in, from_device, to_device, has_page, has_room, with_page, with_memory, memory_byte}
+use Rattle.flat_machine.specs.FlatSpace.{FlatSpace, flat_calls, flat_stack, store_to_heap, from_device, to_device, has_page, has_room, with_page, with_memory, memory_byte}
 use Rattle.flat_machine.proofs.MachineLaws.{form_tried}
 use Rattle.flat_machine.specs.FlatMachine.{Program, FlatState, Moment, Run, Stops, Halted, Wild, Next, Ends, On, is_own, is_inside, word_asked, if_foreign, foreign_word, read_or_executed, tried, tried_form, executed, stepped, space_of, next_size, jumps_to_itself, next_of, next_by, is_taken, interrupted, interrupted_by, lowest, followed, with_line, ended, run}
 use Rattle.flat_machine.specs.Masked.{masked_from, masked, alone, IsFramed}
@@ -50,23 +48,12 @@ to_alike : (other : List ℕ) (s : FlatSpace) (a : ℕ) (asked : Asked (Option L
 to_alike other s a (Gave v next) = refl
 to_alike other s a Refused = refl
 
-load_alike : (other : List ℕ) (s : FlatSpace) (a : ℕ) (c : AddrClass) → Alike other (load_in c s a) (load_in c (with_image other s) a)
-load_alike other s a Stack = refl
-load_alike other s a Heap = refl
-load_alike other s a Register = from_alike other s a (read s.devices a)
-load_alike other s a CpuClass = from_alike other s a (read s.devices a)
-load_alike other s a Io = from_alike other s a (read s.devices a)
-
 either_alike : {A : Type 0} (other : List ℕ) (b : Bool) (o o' p p' : Outcome FlatSpace A) → Alike other o o' → Alike other p p' → Alike other (cond b o p) (cond b o' p')
 either_alike other true o o' p p' h k = h
 either_alike other false o o' p p' h k = k
 
-store_alike : (other : List ℕ) (s : FlatSpace) (a v : ℕ) (c : AddrClass) → Alike other (store_in c s a v) (store_in c (with_image other s) a v)
-store_alike other s a v Stack = refl
-store_alike other s a v Heap = either_alike other (has_page s a || has_room s) (Went tt (with_memory (with_page s a) a v)) _ (Stopped (FullStop a)) _ refl refl
-store_alike other s a v Register = to_alike other s a (write s.devices a v)
-store_alike other s a v CpuClass = to_alike other s a (write s.devices a v)
-store_alike other s a v Io = to_alike other s a (write s.devices a v)
+heap_alike : (other : List ℕ) (s : FlatSpace) (a v : ℕ) → Alike other (store_to_heap s a v) (store_to_heap (with_image other s) a v)
+heap_alike other s a v = either_alike other (has_page s a || has_room s) (Went tt (with_memory (with_page s a) a v)) _ (Stopped (FullStop a)) _ refl refl
 
 -- what is read of the program is the same
 abbrev pub ReadsAlike : (image other : List ℕ) → FlatSpace → Ask → Type 0
@@ -80,19 +67,28 @@ told_alike other f (Went answer next) o' same = ap (answered_by f) same
 told_alike other f (Stopped stop) o' same = ap (answered_by f) same
 
 answers_alike : (other : List ℕ) (s : FlatSpace) (ask : Ask) → ReadsAlike s.image other s ask → Alike other (answer_of flat_calls s ask) (answer_of flat_calls (with_image other s) ask)
-unfolding answer_of load store modify push pop push_return pop_return
+unfolding answer_of push_on pop_from push_return_on pop_return_from
 answers_alike other s asks.Nothing reads = refl
-answers_alike other s (asks.Load a) reads = told_alike other Byte (load_in (class_of a) s a) _ (load_alike other s a (class_of a))
-answers_alike other s (asks.Store a v) reads = told_alike other (λ _. Done) (store_in (class_of a) s a v) _ (store_alike other s a v (class_of a))
+answers_alike other s (asks.Load a) reads =
+    told_alike other Byte (flat_calls.load s a) _
+    (either_alike other (is_stack a || is_heap a) (Went (memory_byte s a) s) _ (from_device s a (read s.devices a)) _ refl (from_alike other s a (read s.devices a)))
+answers_alike other s (asks.Store a v) reads =
+    told_alike other (λ _. Done) (flat_calls.store s a v) _
+    (either_alike other (is_stack a) (Went tt (with_memory s a v)) _ _ _ refl
+    (either_alike other (is_heap a) (store_to_heap s a v) _ (to_device s a (write s.devices a v)) _ (heap_alike other s a v) (to_alike other s a (write s.devices a v))))
 answers_alike other s (asks.Modify a clear set) reads = told_alike other (λ _. Done) (to_device s a (modify_device s.devices a clear set)) _ (to_alike other s a (modify_device s.devices a clear set))
-answers_alike other s (asks.PushByte sp v) reads = told_alike other (λ _. Done) (push s sp v) _ (either_alike other (is_stack sp) (Went tt (with_memory s sp v)) _ (Stopped (StackStop sp)) _ refl refl)
-answers_alike other s (asks.PopByte sp) reads = told_alike other Byte (pop s sp) _ (either_alike other (is_stack (wrapping_sum sp 1)) (Went (memory_byte s (wrapping_sum sp 1)) s) _ (Stopped (StackStop (wrapping_sum sp 1))) _ refl refl)
+answers_alike other s (asks.PushByte sp v) reads =
+    told_alike other (λ _. Done) (push_on flat_stack s sp v) _
+    (either_alike other (is_stack sp) (Went tt (with_memory s sp v)) _ (Stopped (StackStop sp)) _ refl refl)
+answers_alike other s (asks.PopByte sp) reads =
+    told_alike other Byte (pop_from flat_stack s sp) _
+    (either_alike other (is_stack (wrapping_sum sp 1)) (Went (memory_byte s (wrapping_sum sp 1)) s) _ (Stopped (StackStop (wrapping_sum sp 1))) _ refl refl)
 answers_alike other s (asks.PushReturn sp ret) reads =
-    told_alike other (λ _. Done) (push_return s sp ret) _
+    told_alike other (λ _. Done) (push_return_on flat_stack s sp ret) _
     (either_alike other (is_stack sp) _ _ (Stopped (StackStop sp)) _
     (either_alike other (is_stack (wrapping_difference sp 1)) (Went tt (with_memory (with_memory s sp (ret % 256)) (wrapping_difference sp 1) (ret / 256))) _ (Stopped (StackStop (wrapping_difference sp 1))) _ refl refl) refl)
 answers_alike other s (asks.PopReturn sp) reads =
-    told_alike other Address (pop_return s sp) _
+    told_alike other Address (pop_return_from flat_stack s sp) _
     (either_alike other (is_stack (wrapping_sum sp 1)) _ _ (Stopped (StackStop (wrapping_sum sp 1))) _
     (either_alike other (is_stack (wrapping_sum sp 2)) (Went (memory_byte s (wrapping_sum sp 1) * 256 + memory_byte s (wrapping_sum sp 2)) s) _ (Stopped (StackStop (wrapping_sum sp 2))) _ refl refl) refl)
 answers_alike other s (asks.Program z) reads = ap (λ v. Went (Byte v) (with_image other s)) reads
@@ -211,8 +207,8 @@ masked_tried program s framed here =
     ]
 
 -- an interrupt reads no word of the program
-pushed_alike : (other : List ℕ) (s : FlatSpace) (sp ret : ℕ) → Alike other (push_return s sp ret) (push_return (with_image other s) sp ret)
-unfolding push_return
+pushed_alike : (other : List ℕ) (s : FlatSpace) (sp ret : ℕ) → Alike other (push_return_on flat_stack s sp ret) (push_return_on flat_stack (with_image other s) sp ret)
+unfolding push_return_on
 pushed_alike other s sp ret =
     either_alike other (is_stack sp) _ _ (Stopped (StackStop sp)) _
     (either_alike other (is_stack (wrapping_difference sp 1)) (Went tt (with_memory (with_memory s sp (ret % 256)) (wrapping_difference sp 1) (ret / 256))) _ (Stopped (StackStop (wrapping_difference sp 1))) _ refl refl) refl
@@ -225,7 +221,8 @@ masked_interrupted : (program : Program) (s : FlatState) → interrupted (alone 
 masked_interrupted program s =
     let other = masked program.part program.image in
     let k = lowest (enabled s.devices) in
-    ap (interrupted_by program.part s k) (pushed_alike other (space_of program s) s.cpu.sp s.cpu.pc) ∙ interrupted_over program.part other s k (push_return (space_of program s) s.cpu.sp s.cpu.pc)
+    ap (interrupted_by program.part s k) (pushed_alike other (space_of program s) s.cpu.sp s.cpu.pc)
+    ∙ interrupted_over program.part other s k (push_return_on flat_stack (space_of program s) s.cpu.sp s.cpu.pc)
 
 masked_next : (program : Program) (m : Moment) → IsFramed program.part program.image → is_inside program m.now.cpu.pc ≡ true → next_of (alone program) m ≡ next_of program m
 unfolding next_of

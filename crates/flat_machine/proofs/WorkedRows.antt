@@ -13,8 +13,7 @@ use Rattle.mote_devices.specs.declared.line.Line.{Line}
 use Rattle.mote_devices.specs.declared.line.Port.TheVariants.{PortA}
 use Rattle.base_laws.specs.Lists.{many}
 use Rattle.mote_devices.specs.Accesses.{write, read}
-use Rattle.flat_machine.specs.Classes.{class_of}
-use Rattle.flat_machine.specs.FlatSpace.{load, store, push, pop, push_return, pop_return}
+use Rattle.avr_exec.specs.StackRules.{push_on, pop_from, push_return_on, pop_return_from}
 use Rattle.flat_machine.specs.FlatMachine.{Program, whole_part, End, Spent, Wild, Illegal, SelfProgram, Asleep, Halted, Io, Stack, SwapFull, Run, original, run, next_of, tried, no_pages}
 
 -- a program of these words that may store to as many pages
@@ -78,7 +77,7 @@ record Rows : Type 0 where
 rows : Rows
 unfolding run next_of tried the_form is_long two_word_form one_word_form if_defined defined_form is_undefined load_form store_form io_form form_1001
     transfer_form register_or_pair_form one_register_form flag_or_plain_form plain_form exec_of answer_of ask_of finish_of immediate_of load_of
-    store_of pointed loaded stored with_pointer own_byte with_own_byte many no_pages class_of load store push pop push_return pop_return read write
+    store_of pointed loaded stored with_pointer own_byte with_own_byte many no_pages push_on pop_from push_return_on pop_return_from read write
     can_read can_write register_at relative
 rows = record {
   first = refl;

@@ -17,6 +17,7 @@ use Rattle.avr_exec.specs.declared.stop.BusStop.{BusStop}
 use Rattle.avr_exec.specs.declared.stop.BusStop.TheVariants.{Io as IoStop, Stack as StackStop, SwapFull as FullStop}
 use Rattle.avr_isa.specs.Addresses.{wrapping_sum, wrapping_difference, relative}
 use Rattle.avr_exec.specs.Spaces.{Outcome, Went, Stopped}
+use Rattle.avr_exec.specs.StackRules.{push_return_on}
 use Rattle.avr_exec.specs.Asks.{ask_of}
 use Rattle.avr_exec.specs.Execution.{exec_of, extended}
 use Rattle.mote_devices.specs.declared.line.Line.{Line}
@@ -24,7 +25,7 @@ use Rattle.base_laws.specs.Lists.{zeros}
 use Rattle.mote_devices.specs.State.{State, at_reset as devices_at_reset, stored, rampz_address}
 use Rattle.mote_devices.specs.Waking.{enabled, is_enabled, with_taken, wake}
 use Rattle.flat_machine.specs.declared.part.Part.{Part}
-use Rattle.flat_machine.specs.FlatSpace.{FlatSpace, flat_calls, push_return}
+use Rattle.flat_machine.specs.FlatSpace.{FlatSpace, flat_calls, flat_stack}
 
 -- all of an image is a program's own part
 abbrev pub whole_part : List ℕ → Part
@@ -219,7 +220,7 @@ interrupted_by part s k (Went done space) = On None (record {
 
 -- the one with the least number
 abbrev pub interrupted : Program → FlatState → Next
-interrupted program s = interrupted_by program.part s (lowest (enabled s.devices)) (push_return (space_of program s) s.cpu.sp s.cpu.pc)
+interrupted program s = interrupted_by program.part s (lowest (enabled s.devices)) (push_return_on flat_stack (space_of program s) s.cpu.sp s.cpu.pc)
 
 -- a step is a checkpoint where it is a crossing, and the crossings are then a multiple of the quantum
 abbrev pub is_checkpoint : ℕ → FlatState → FlatState → Bool

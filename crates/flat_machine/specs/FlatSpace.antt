@@ -5,13 +5,10 @@ use Rattle.avr_isa.specs.Image.{byte}
 use Rattle.avr_exec.specs.declared.stop.BusStop.TheVariants.{Io, Stack as StackStop, SwapFull as FullStop}
 use Rattle.avr_exec.specs.Spaces.{Outcome, Went, Stopped, Calls}
 use Rattle.avr_exec.specs.StackRules.{StackRule, push_on, pop_from, push_return_on, pop_return_from}
-use Rattle.flat_machine.specs.Addresses.{is_stack}
+use Rattle.flat_machine.specs.Addresses.{is_stack, is_heap}
 use Rattle.mote_devices.specs.declared.line.Line.{Line}
 use Rattle.mote_devices.specs.State.{State, stored, with_stored, rampz_address}
-use Rattle.mote_devices.specs.Accesses.{Asked, answered_or, read, write, modify as modify_device}
-use Rattle.flat_machine.specs.declared.address.AddrClass.{AddrClass}
-use Rattle.flat_machine.specs.declared.address.AddrClass.TheVariants.{Stack, Heap}
-use Rattle.flat_machine.specs.Classes.{class_of}
+use Rattle.mote_devices.specs.Accesses.{Asked, answered_or, read, write, modify}
 
 -- A byte for each data address, of which those from 0x0100 on are used; the devices; which pages of the
 -- heap were stored to, and how many may be; the program's words; and what the last write of a device
@@ -49,60 +46,27 @@ from_device s a asked = answered_or (Stopped (Io a)) (λ v next. Went v (record 
 abbrev pub to_device : FlatSpace → ℕ → Asked (Option Line) → Outcome FlatSpace (Unit {0})
 to_device s a asked = answered_or (Stopped (Io a)) (λ line next. Went tt (record s { devices = next; line = line })) asked
 
--- A load: from memory, or else from the devices, which refuse where a program may not read. The core
--- answers its own addresses, and never asks for them here.
-abbrev pub load_in : AddrClass → FlatSpace → ℕ → Outcome FlatSpace ℕ
-load_in Stack s a = Went (memory_byte s a) s
-load_in Heap s a = Went (memory_byte s a) s
-load_in _ s a = from_device s a (read s.devices a)
-
-unfoldable pub load : FlatSpace → ℕ → Outcome FlatSpace ℕ
-load s a = load_in (class_of a) s a
-
 -- a store to the heap: the page was stored to before, or joins where one more may
 abbrev pub store_to_heap : FlatSpace → ℕ → ℕ → Outcome FlatSpace (Unit {0})
 store_to_heap s a v =
     if has_page s a || has_room s then Went tt (with_memory (with_page s a) a v) else Stopped (FullStop a)
 
--- a store: to memory, or else to the devices, which refuse where a program may not write
-abbrev pub store_in : AddrClass → FlatSpace → ℕ → ℕ → Outcome FlatSpace (Unit {0})
-store_in Stack s a v = Went tt (with_memory s a v)
-store_in Heap s a v = store_to_heap s a v
-store_in _ s a v = to_device s a (write s.devices a v)
-
-unfoldable pub store : FlatSpace → ℕ → ℕ → Outcome FlatSpace (Unit {0})
-store s a v = store_in (class_of a) s a v
-
--- a read and a write in one, of a register of the devices
-unfoldable pub modify : FlatSpace → ℕ → ℕ → ℕ → Outcome FlatSpace (Unit {0})
-modify s a clear set = to_device s a (modify_device s.devices a clear set)
-
 -- the stack keeps to its window
 abbrev pub flat_stack : StackRule FlatSpace
 flat_stack = record { holds = λ a. is_stack a; byte = λ s a. memory_byte s a; with_byte = λ s a v. with_memory s a v; stop = λ a. StackStop a }
 
-unfoldable pub push : FlatSpace → ℕ → ℕ → Outcome FlatSpace (Unit {0})
-push s sp v = push_on flat_stack s sp v
-
-unfoldable pub pop : FlatSpace → ℕ → Outcome FlatSpace ℕ
-pop s sp = pop_from flat_stack s sp
-
-unfoldable pub push_return : FlatSpace → ℕ → ℕ → Outcome FlatSpace (Unit {0})
-push_return s sp ret = push_return_on flat_stack s sp ret
-
-unfoldable pub pop_return : FlatSpace → ℕ → Outcome FlatSpace ℕ
-pop_return s sp = pop_return_from flat_stack s sp
-
--- the space as a bus's calls
+-- The space as a bus's calls. A load and a store reach memory in the stack window and in the heap, and else the devices, which
+-- refuse where a program may not read or write; `modify` reads a register of the devices and writes it in one. The core answers
+-- its own addresses, and never asks for them here.
 abbrev pub flat_calls : Calls FlatSpace
 flat_calls = record {
-  load = load;
-  store = store;
-  modify = modify;
-  push = push;
-  pop = pop;
-  push_ret = push_return;
-  pop_ret = pop_return;
+  load = λ s a. if is_stack a || is_heap a then Went (memory_byte s a) s else from_device s a (read s.devices a);
+  store = λ s a v. if is_stack a then Went tt (with_memory s a v) else if is_heap a then store_to_heap s a v else to_device s a (write s.devices a v);
+  modify = λ s a clear set. to_device s a (modify s.devices a clear set);
+  push = push_on flat_stack;
+  pop = pop_from flat_stack;
+  push_ret = push_return_on flat_stack;
+  pop_ret = pop_return_from flat_stack;
   rampz = λ s. stored s.devices rampz_address;
   set_rampz = λ s v. record s { devices = with_stored s.devices rampz_address v };
   flash_byte = λ s a. byte s.image a;

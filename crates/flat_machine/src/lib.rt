@@ -7,8 +7,9 @@
 //! and a run with its end. It reaches the devices' registers, and knows no SRAM, no swap area, no flash and no kernel.
 //!
 //! Laws for the layers above: `proofs/MachineLaws` (a try in each case, and what a run does first), `proofs/ClassLaws`
-//! (what an address of each class is), `proofs/ReadLaws` (which instructions read words of the program), and
-//! `proofs/PartLaws` (a program that is shut in a part runs as over its own words alone, `specs/Masked`).
+//! (what an address of each class is, and what flat memory answers there), `proofs/ReadLaws` (which instructions read words
+//! of the program), and `proofs/PartLaws` (a program that is shut in a part runs as over its own words alone,
+//! `specs/Masked`).
 #![tactic(auto)]
 
 mod address;

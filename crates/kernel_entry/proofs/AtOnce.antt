@@ -21,6 +21,7 @@ use Rattle.avr_exec.specs.Asks.{ask_of, load_of, store_of, displaced, target, po
 use Rattle.avr_exec.specs.Effects.{finish_of, loaded, stored, byte_of, with_pointer, with_z_raised_if}
 use Rattle.avr_exec.specs.Execution.{exec_of, answer_of, answered_by}
 use Rattle.avr_exec.specs.Registers.{register, with_register, pair, with_stack, with_counter, own_byte, with_own_byte}
+use Rattle.avr_exec.specs.StackRules.{push_on, pop_from}
 use Rattle.avr_exec.specs.Spaces.{Went, Stopped}
 use Rattle.sram_layout.specs.Bytes.{byte_at, with_byte, with_word}
 use Rattle.sram_layout.specs.Cells.{vsp_cell}
@@ -212,7 +213,7 @@ st_is k left p r cpu paged hit after moved =
 pub pop_is : (k next : Kernel) (d : ℕ) → is_stack (wrapping_sum (virtual_sp k) 1) ≡ true
     → next ≡ put_back k (with_stack (with_register (core_of k 0) d (byte_at k.mote.sram (wrapping_sum (virtual_sp k) 1))) (wrapping_sum (virtual_sp k) 1)) (memory_of k)
     → WentOn k (forms.Pop d) (wrapping_sum (descriptor k) 1) next
-unfolding executed exec_of answer_of ask_of finish_of pop
+unfolding executed exec_of answer_of ask_of finish_of pop pop_from
 pop_is k next d held after =
     let above = wrapping_sum (virtual_sp k) 1 in
     on_by k (forms.Pop d) _ next _ after
@@ -221,7 +222,7 @@ pop_is k next d held after =
 pub push_is : (k next : Kernel) (r : ℕ) → is_stack (virtual_sp k) ≡ true
     → next ≡ put_back k (with_stack (core_of k 0) (wrapping_difference (virtual_sp k) 1)) (memory_of (with_sram k (with_byte k.mote.sram (virtual_sp k) (register k.mote.cpu r))))
     → WentOn k (forms.Push r) (wrapping_sum (descriptor k) 1) next
-unfolding executed exec_of answer_of ask_of finish_of push
+unfolding executed exec_of answer_of ask_of finish_of push push_on
 push_is k next r held after =
     let sp = virtual_sp k in
     on_by k (forms.Push r) _ next _ after

@@ -27,7 +27,8 @@ use Rattle.nat_template.specs.declared.shapes.TemplateShape.TheVariants.{Native,
 use Rattle.nat_template.specs.Shapes.{shape_of, shape_of_form, is_stack_pointer, can_modify}
 use Rattle.flat_machine.specs.declared.address.AddrClass.TheVariants.{Io}
 use Rattle.flat_machine.specs.Classes.{class_of}
-use Rattle.flat_machine.specs.FlatSpace.{FlatSpace, flat_calls, load, store, modify, load_in, store_in, from_device, to_device}
+use Rattle.flat_machine.proofs.ClassLaws.{load_in, store_in, load_by_class, store_by_class}
+use Rattle.flat_machine.specs.FlatSpace.{FlatSpace, flat_calls, from_device, to_device}
 use Rattle.flat_machine.specs.FlatMachine.{slept as slept_at}
 use Rattle.flat_machine.specs.FlatMachine.{Stops, Io as IoEnd, tried, stepped, next_size, jumps_to_itself}
 use Rattle.flat_machine.proofs.MachineLaws.{tried_illegal, tried_spm, tried_sleep, tried_step}
@@ -45,17 +46,17 @@ unfolding class_of
 io_class a low own = grind (arith, nat_tests)
 
 refused_load : (s : FlatSpace) (a : ℕ) → a < 256 → is_own a ≡ false → can_read a ≡ false → answer_of flat_calls s (load_of a) ≡ Stopped (IoStop a)
-unfolding answer_of load load_of
+unfolding answer_of load_of
 refused_load s a low own can =
     ap (λ b. answer_of flat_calls s (cond b Nothing (Load a))) own
-    ∙ ap (λ c. answered_by Byte (load_in c s a)) (io_class a low own)
+    ∙ ap (answered_by Byte) (load_by_class s a ∙ ap (λ c. load_in c s a) (io_class a low own))
     ∙ ap (λ o. answered_by Byte (from_device s a o)) (read_refused s.devices a can)
 
 refused_store : (s : FlatSpace) (a v : ℕ) → a < 256 → is_own a ≡ false → can_write a ≡ false → answer_of flat_calls s (store_of a v) ≡ Stopped (IoStop a)
-unfolding answer_of store store_of
+unfolding answer_of store_of
 refused_store s a v low own can =
     ap (λ b. answer_of flat_calls s (cond b Nothing (Store a v))) own
-    ∙ ap (λ c. answered_by {A = Unit {0}} (λ _. Done) (store_in c s a v)) (io_class a low own)
+    ∙ ap (answered_by {A = Unit {0}} (λ _. Done)) (store_by_class s a v ∙ ap (λ c. store_in c s a v) (io_class a low own))
     ∙ ap (λ o. answered_by {A = Unit {0}} (λ _. Done) (to_device s a o)) (write_refused s.devices a v can)
 
 pub reads_not : (r w : Bool) → w ≡ true → r && w ≡ false → r ≡ false
@@ -69,7 +70,7 @@ modify_refused s a clear set true w can =
 modify_refused s a clear set false w can = ap (λ b. if b then written_back (read s a) a clear set else Refused) w
 
 refused_modify : (s : FlatSpace) (a clear set : ℕ) → can_modify a ≡ false → answer_of flat_calls s (Modify a clear set) ≡ Stopped (IoStop a)
-unfolding answer_of modify
+unfolding answer_of
 refused_modify s a clear set can = ap (λ o. answered_by {A = Unit {0}} (λ _. Done) (to_device s a o)) (modify_refused s.devices a clear set (can_write a) refl can)
 
 -- the fields of a valid instruction; of SPL, SPH and SREG, which the core answers itself, none faults

@@ -6,6 +6,7 @@ use Rattle.std.proofs.lemmas.Bool.Decides.{nat_tests}
 use Rattle.std.proofs.lemmas.Bool.{and_right}
 use Rattle.avr_flags.specs.Status.{has_bit, with_bit, interrupts}
 use Rattle.avr_isa.specs.Addresses.{wrapping_difference}
+use Rattle.avr_exec.specs.StackRules.{push_return_on}
 use Rattle.avr_exec.specs.Spaces.{Outcome, Went, Stopped}
 use Rattle.avr_exec.specs.Likeness.{over, Leaves}
 use Rattle.avr_exec.specs.declared.stop.BusStop.{BusStop}
@@ -46,7 +47,7 @@ two_kept true false g next high low same = tt
 two_kept false c g next high low same = tt
 
 pub push_devices : (g : Guarded) (sp ret : ℕ) → SameDevices g (push_return g sp ret)
-unfolding push_return
+unfolding push_return push_return_on
 push_devices g sp ret = two_kept (is_stack sp) (is_stack (wrapping_difference sp 1)) g _ _ _ refl
 
 -- what an answer says of the original program's next step

@@ -12,6 +12,7 @@ use Rattle.avr_exec.specs.Effects.{finish_of}
 use Rattle.avr_exec.specs.declared.answer.Answer.TheVariants.{Done, Address}
 use Rattle.avr_exec.specs.Execution.{exec_of, answer_of, answered_by}
 use Rattle.avr_isa.specs.Addresses.{wrapping_sum, wrapping_difference, relative}
+use Rattle.avr_exec.specs.StackRules.{push_return_on, pop_return_from}
 use Rattle.avr_exec.specs.Spaces.{Outcome, Went, Stopped}
 use Rattle.avr_exec.specs.Likeness.{over, moved, Leaves as LeavesSpace}
 use Rattle.avr_exec.proofs.OtherPlace.{exec_moved}
@@ -22,7 +23,7 @@ use Rattle.flat_machine.specs.Addresses.{is_stack}
 use Rattle.heap_frames.specs.Paged.{IsPaged}
 use Rattle.nat_template.specs.declared.shapes.TemplateShape.TheVariants.{Mem, Call, Ret, Ind, SelfJump}
 use Rattle.nat_template.specs.Shapes.{shape_of_form}
-use Rattle.flat_machine.specs.FlatSpace.{FlatSpace, flat_calls, push_return, pop_return, with_memory}
+use Rattle.flat_machine.specs.FlatSpace.{FlatSpace, flat_calls, flat_stack, with_memory}
 use Rattle.flat_machine.specs.FlatMachine.{next_size}
 use Rattle.mem_guard.specs.Guarded.{Guarded, flat_of}
 use Rattle.mem_guard.proofs.Alike.{executed_alike}
@@ -120,8 +121,8 @@ line_pushed true true s next sp below low high done is = let same : next ≡ wit
 line_pushed true false s next sp below low high done is = absurd (cc)
 line_pushed false c s next sp below low high done is = absurd (cc)
 
-line_after_push : (s next : FlatSpace) (sp ret : ℕ) (done : Unit {0}) → push_return s sp ret ≡ Went done next → next.line ≡ s.line
-unfolding push_return
+line_after_push : (s next : FlatSpace) (sp ret : ℕ) (done : Unit {0}) → push_return_on flat_stack s sp ret ≡ Went done next → next.line ≡ s.line
+unfolding push_return_on
 line_after_push s next sp ret done is = line_pushed (is_stack sp) (is_stack (wrapping_difference sp 1)) s next sp (wrapping_difference sp 1) (ret % 256) (ret / 256) done is
 
 -- the core behind a call, or a call through Z, whose return address was pushed
@@ -129,7 +130,8 @@ abbrev pub after_push : Kernel → ℕ → Outcome FlatSpace (Unit {0}) → Outc
 after_push k to (Went done space) = Went (record (core_of k (descriptor k)) { sp = wrapping_difference (virtual_sp k) 2; pc = to }) space
 after_push k to (Stopped stop) = Stopped stop
 
-pushed_by : (k new : Kernel) (result : Served) (ask : Ask) (to ret : ℕ) (p : Outcome FlatSpace (Unit {0})) → push_return (space_of k) (virtual_sp k) ret ≡ p → ResumedBy k result new ask (after_push k to p) → PushedBy k result new p
+pushed_by : (k new : Kernel) (result : Served) (ask : Ask) (to ret : ℕ) (p : Outcome FlatSpace (Unit {0}))
+    → push_return_on flat_stack (space_of k) (virtual_sp k) ret ≡ p → ResumedBy k result new ask (after_push k to p) → PushedBy k result new p
 pushed_by k new result ask to ret (Went done space) is row = record {
   answer = row.0.answer ∙ ap (λ line. Served.Resume line) (line_after_push (space_of k) space (virtual_sp k) ret done is);
   pc = row.0.pc;
@@ -142,27 +144,28 @@ twice : (k : Kernel) (to : ℕ) (p : Outcome FlatSpace (Unit {0})) → answered_
 twice k to (Went done space) = refl
 twice k to (Stopped stop) = refl
 
-call_near : (k : Kernel) (d : ℤ) → flatly k (forms.Rcall d) ≡ after_push k (relative (descriptor k) d) (push_return (space_of k) (virtual_sp k) (wrapping_sum (descriptor k) 1))
+call_near : (k : Kernel) (d : ℤ) → flatly k (forms.Rcall d) ≡ after_push k (relative (descriptor k) d) (push_return_on flat_stack (space_of k) (virtual_sp k) (wrapping_sum (descriptor k) 1))
 unfolding exec_of ask_of answer_of finish_of
-call_near k d = twice k (relative (descriptor k) d) (push_return (space_of k) (virtual_sp k) (wrapping_sum (descriptor k) 1))
+call_near k d = twice k (relative (descriptor k) d) (push_return_on flat_stack (space_of k) (virtual_sp k) (wrapping_sum (descriptor k) 1))
 
-call_far : (k : Kernel) (a : ℕ) → flatly k (forms.Call a) ≡ after_push k a (push_return (space_of k) (virtual_sp k) (wrapping_sum (descriptor k) 2))
+call_far : (k : Kernel) (a : ℕ) → flatly k (forms.Call a) ≡ after_push k a (push_return_on flat_stack (space_of k) (virtual_sp k) (wrapping_sum (descriptor k) 2))
 unfolding exec_of ask_of answer_of finish_of
-call_far k a = twice k a (push_return (space_of k) (virtual_sp k) (wrapping_sum (descriptor k) 2))
+call_far k a = twice k a (push_return_on flat_stack (space_of k) (virtual_sp k) (wrapping_sum (descriptor k) 2))
 
-call_through : (k : Kernel) → flatly k forms.Icall ≡ after_push k (z_of k) (push_return (space_of k) (virtual_sp k) (wrapping_sum (descriptor k) 1))
+call_through : (k : Kernel) → flatly k forms.Icall ≡ after_push k (z_of k) (push_return_on flat_stack (space_of k) (virtual_sp k) (wrapping_sum (descriptor k) 1))
 unfolding exec_of ask_of answer_of finish_of
-call_through k = twice k (z_of k) (push_return (space_of k) (virtual_sp k) (wrapping_sum (descriptor k) 1))
+call_through k = twice k (z_of k) (push_return_on flat_stack (space_of k) (virtual_sp k) (wrapping_sum (descriptor k) 1))
 
-pushed_as : (k new : Kernel) (result : Served) (ask : Ask) (to ret : ℕ) (o : Outcome FlatSpace Cpu) → o ≡ after_push k to (push_return (space_of k) (virtual_sp k) ret) → ResumedBy k result new ask o
-    → PushedBy k result new (push_return (space_of k) (virtual_sp k) ret)
+pushed_as : (k new : Kernel) (result : Served) (ask : Ask) (to ret : ℕ) (o : Outcome FlatSpace Cpu)
+    → o ≡ after_push k to (push_return_on flat_stack (space_of k) (virtual_sp k) ret) → ResumedBy k result new ask o
+    → PushedBy k result new (push_return_on flat_stack (space_of k) (virtual_sp k) ret)
 pushed_as k new result ask to ret o is row =
-    pushed_by k new result ask to ret (push_return (space_of k) (virtual_sp k) ret) refl (let P : Outcome FlatSpace Cpu → Type 0 = λ x. ResumedBy k result new ask x in subst P is row)
+    pushed_by k new result ask to ret (push_return_on flat_stack (space_of k) (virtual_sp k) ret) refl (let P : Outcome FlatSpace Cpu → Type 0 = λ x. ResumedBy k result new ask x in subst P is row)
 
 -- PUSHRET
 abbrev PushRow : Kernel → Kernel → Served → Form → Type 0
 PushRow k new result form = shape_of_form (descriptor k) form ≡ Call → ResumedBy k result new (ask_of form (core_of k (descriptor k))) (flatly k form)
-    → PushedBy k result new (push_return (space_of k) (virtual_sp k) (wrapping_sum (descriptor k) (size_of form)))
+    → PushedBy k result new (push_return_on flat_stack (space_of k) (virtual_sp k) (wrapping_sum (descriptor k) (size_of form)))
 
 pub pushed_row : (k new : Kernel) (result : Served) (form : Form) → is_service_jump (shape_of_form (descriptor k) form) ≡ true → PushRow k new result form
 unfolding shape_of_form size_of
@@ -182,14 +185,14 @@ popped_by k new result form (Went target space) row ends =
 popped_by k new result form (Stopped stop) row ends = row
 
 abbrev PopRow : Kernel → Kernel → Served → Form → Type 0
-PopRow k new result form = shape_of_form (descriptor k) form ≡ Ret → WentBy k result new (flatly k form) → PoppedBy k result new form (pop_return (space_of k) (virtual_sp k))
+PopRow k new result form = shape_of_form (descriptor k) form ≡ Ret → WentBy k result new (flatly k form) → PoppedBy k result new form (pop_return_from flat_stack (space_of k) (virtual_sp k))
 
 pub popped_row : (k new : Kernel) (result : Served) (form : Form) → is_service_jump (shape_of_form (descriptor k) form) ≡ true → PopRow k new result form
 unfolding shape_of_form exec_of ask_of answer_of finish_of
 popped_row k new result form is =
     by_service_jump (PopRow k new result) (λ d shape row. absurd (cc)) (λ a shape row. absurd (cc))
-    (λ shape row. popped_by k new result forms.Ret (pop_return (space_of k) (virtual_sp k)) row (λ target. refl))
-    (λ shape row. popped_by k new result forms.Reti (pop_return (space_of k) (virtual_sp k)) row (λ target. refl))
+    (λ shape row. popped_by k new result forms.Ret (pop_return_from flat_stack (space_of k) (virtual_sp k)) row (λ target. refl))
+    (λ shape row. popped_by k new result forms.Reti (pop_return_from flat_stack (space_of k) (virtual_sp k)) row (λ target. refl))
     (λ shape row. absurd (cc)) (λ shape row. absurd (cc)) (descriptor k) form is
 
 -- IND
@@ -212,7 +215,7 @@ unfolding shape_of_form
 through_row k new result form is =
     by_service_jump (ThroughRow k new result) (λ d shape row. absurd (cc)) (λ a shape row. absurd (cc)) (λ shape row. absurd (cc)) (λ shape row. absurd (cc))
     (λ shape row. jump_through k new result row)
-    (λ shape row. through_call k new result (flatly k forms.Icall) (push_return (space_of k) (virtual_sp k) (wrapping_sum (descriptor k) 1)) (call_through k) row)
+    (λ shape row. through_call k new result (flatly k forms.Icall) (push_return_on flat_stack (space_of k) (virtual_sp k) (wrapping_sum (descriptor k) 1)) (call_through k) row)
     (descriptor k) form is
 
 -- SELF

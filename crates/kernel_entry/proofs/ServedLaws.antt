@@ -3,6 +3,7 @@ use Rattle.std.proofs.Common.{◌≡◌, ℕ, Bool, true, false, cond, List, len
 use Rattle.std.specs.Prelude.{◌≢◌, Some, not, ◌&&◌, ◌==◌, if◌then◌else◌}
 use Rattle.avr_isa.specs.declared.form.Form.{Form}
 use Rattle.avr_flags.specs.Status.{has_bit, interrupts}
+use Rattle.avr_exec.specs.StackRules.{push_return_on, pop_return_from}
 use Rattle.avr_exec.specs.declared.cpu.Cpu.{Cpu}
 use Rattle.avr_exec.specs.declared.ask.Ask.{Ask}
 use Rattle.avr_exec.specs.Asks.{ask_of}
@@ -37,7 +38,7 @@ use Rattle.kernel_entry.specs.Parts.{return_address, descriptor, instruction, me
 use Rattle.avr_isa.specs.Instruction.{size_of}
 use Rattle.avr_isa.specs.Addresses.{wrapping_sum}
 use Rattle.heap_frames.specs.SamePaging.{SamePaging}
-use Rattle.flat_machine.specs.FlatSpace.{push_return, pop_return}
+use Rattle.flat_machine.specs.FlatSpace.{flat_stack}
 use Rattle.kernel_entry.specs.Services.{bridged, faulted, foreign_in, foreign_read, read_by, accessed, executed, execution, execution_by, if_instruction, resumed_by, resumed, gone_by, gone, halted, halted_or_gone, quantum_ended, fault_of, is_sleep, slept, slept_by, woken, served, served_at}
 use Rattle.kernel_entry.specs.Conditions.{CanServe, CanExecute, IsCalled, shape_behind, executes}
 use Rattle.kernel_entry.specs.Seen.{View, view_of, space_of, program, state_at}
@@ -146,7 +147,8 @@ push_row k can here =
     record {
       form = form;
       is = s.called.is;
-      does = along (λ result new. PushedBy k result new (push_return (space_of k) (virtual_sp k) (wrapping_sum (descriptor k) (size_of form)))) (served k) e (resumes_at k form push_return_entry here refl s.called.is)
+      does = along (λ result new. PushedBy k result new (push_return_on flat_stack (space_of k) (virtual_sp k) (wrapping_sum (descriptor k) (size_of form)))) (served k) e
+          (resumes_at k form push_return_entry here refl s.called.is)
           (pushed_row k e.1 e.0 form (ap is_service_jump s.shaped) s.shaped (resumes_row k form s.called.can.paged));
     }
 
@@ -159,7 +161,7 @@ return_row k can here =
     record {
       form = form;
       is = s.called.is;
-      does = along (λ result new. PoppedBy k result new form (pop_return (space_of k) (virtual_sp k))) (served k) e (goes_at k form return_entry here refl s.called.is)
+      does = along (λ result new. PoppedBy k result new form (pop_return_from flat_stack (space_of k) (virtual_sp k))) (served k) e (goes_at k form return_entry here refl s.called.is)
           (popped_row k e.1 e.0 form (ap is_service_jump s.shaped) s.shaped (goes_row k form s.called.can.paged));
     }
 

@@ -2,6 +2,7 @@
 use Rattle.std.proofs.Common.{◌≡◌, ℕ, Bool, true, false, cond, refl, sym, ap, ap₂, subst, ◌∙◌}
 use Rattle.std.specs.Prelude.{Some, None}
 use Rattle.avr_isa.specs.Addresses.{wrapping_difference}
+use Rattle.avr_exec.specs.StackRules.{push_return_on}
 use Rattle.avr_exec.specs.Spaces.{Outcome, Went, Stopped}
 use Rattle.avr_exec.specs.declared.stop.BusStop.TheVariants as bus
 use Rattle.flat_machine.specs.Addresses.{is_stack}
@@ -73,7 +74,7 @@ is_taken k target o on is =
 -- the two bytes, each in the window or outside
 push_by : (g : Guarded) (sp ret : ℕ) (b c : Bool) → is_stack sp ≡ b → is_stack (wrapping_difference sp 1) ≡ c
     → push_return g sp ret ≡ cond b (cond c (Went tt (record g { sram = with_address g.sram sp ret })) (Stopped (bus.Stack (wrapping_difference sp 1)))) (Stopped (bus.Stack sp))
-unfolding push_return
+unfolding push_return push_return_on
 push_by g sp ret b c first second =
     ap₂ (λ x y. cond x (cond y (Went tt (record g { sram = with_address g.sram sp ret })) (Stopped (bus.Stack (wrapping_difference sp 1)))) (Stopped (bus.Stack sp))) first second
 

@@ -9,6 +9,7 @@ use Rattle.avr_flags.specs.Status.{has_bit, with_bit, interrupts}
 use Rattle.avr_exec.specs.declared.cpu.Cpu.{Cpu}
 use Rattle.avr_isa.specs.Addresses.{wrapping_sum, wrapping_difference}
 use Rattle.avr_exec.specs.Registers.{pair, with_stack, with_status}
+use Rattle.avr_exec.specs.StackRules.{push_return_on, pop_return_from}
 use Rattle.avr_exec.specs.Spaces.{Outcome, Went, Stopped}
 use Rattle.avr_exec.specs.Asks.{ask_of}
 use Rattle.avr_exec.specs.Execution.{exec_of}
@@ -17,7 +18,7 @@ use Rattle.mote_devices.specs.State.{State}
 use Rattle.mote_devices.specs.Waking.{wake}
 use Rattle.sram_layout.specs.Bytes.{byte_at}
 use Rattle.sram_layout.specs.Cells.{count_cell, r24_cell, sreg_cell}
-use Rattle.flat_machine.specs.FlatSpace.{FlatSpace, flat_calls, push_return, pop_return}
+use Rattle.flat_machine.specs.FlatSpace.{FlatSpace, flat_calls, flat_stack}
 use Rattle.flat_machine.specs.FlatMachine.{next_size, tried, Goes as GoesOn, Stops, Wakes}
 use Rattle.preempt_count.specs.Counting.{count_over}
 use Rattle.kernel_entry.specs.declared.kernel.Kernel.{Kernel}
@@ -93,7 +94,7 @@ PushedBy old result new (Stopped stop) = HasStopped old result new (stop_of (des
 pub record PushesReturn (old : Kernel) (result : Served) (new : Kernel) : Type 0 where
   pub form : Form
   pub is : instruction old ≡ Some form
-  pub does : PushedBy old result new (push_return (space_of old) (virtual_sp old) (wrapping_sum (descriptor old) (size_of form)))
+  pub does : PushedBy old result new (push_return_on flat_stack (space_of old) (virtual_sp old) (wrapping_sum (descriptor old) (size_of form)))
 
 -- RET: the return address is popped, and RETI sets the flag I
 abbrev pub status_after : Form → ℕ → ℕ
@@ -108,7 +109,7 @@ PoppedBy old result new form (Stopped stop) = HasStopped old result new (stop_of
 pub record Returns (old : Kernel) (result : Served) (new : Kernel) : Type 0 where
   pub form : Form
   pub is : instruction old ≡ Some form
-  pub does : PoppedBy old result new form (pop_return (space_of old) (virtual_sp old))
+  pub does : PoppedBy old result new form (pop_return_from flat_stack (space_of old) (virtual_sp old))
 
 -- IND: control goes to the address in Z; ICALL pushes the address behind it first
 abbrev pub z_of : Kernel → ℕ
@@ -119,7 +120,7 @@ CalledBy old result new (Went done space) = Goes old result new (view_by (with_s
 CalledBy old result new (Stopped stop) = HasStopped old result new (stop_of (descriptor old) stop)
 
 abbrev pub GoneThrough : Kernel → Served → Kernel → Form → Type 0
-GoneThrough old result new forms.Icall = CalledBy old result new (push_return (space_of old) (virtual_sp old) (wrapping_sum (descriptor old) 1))
+GoneThrough old result new forms.Icall = CalledBy old result new (push_return_on flat_stack (space_of old) (virtual_sp old) (wrapping_sum (descriptor old) 1))
 GoneThrough old result new _ = Goes old result new (view_of old) (z_of old)
 
 pub record GoesThrough (old : Kernel) (result : Served) (new : Kernel) : Type 0 where

@@ -370,7 +370,7 @@ fn store_register(k: &mut Kernel, a: u16, r: &Reg) -> bool
 
 /// The return address above the program's stack pointer, popped, where both of its bytes are in the stack window; else nothing
 /// is done.
-#[tactic(auto, unfolding(mem_guard::specs::Guarded::pop_return))]
+#[tactic(auto, unfolding(mem_guard::specs::Guarded::pop_return, avr_exec::specs::StackRules::pop_return_from))]
 #[inline(always)]
 fn pop_in_window(k: &mut Kernel) -> Option<u16>
     ensures popped { IfSome result (λ pc. pop_return (memory_of k.old) (virtual_sp k.old) ≡ Went pc (memory_of k.old)) }
@@ -394,7 +394,7 @@ fn pop_in_window(k: &mut Kernel) -> Option<u16>
 
 /// A return address pushed at the program's stack pointer, where both of its bytes are in the stack window. Tells whether they
 /// are; else nothing is done.
-#[tactic(auto, unfolding(mem_guard::specs::Guarded::push_return))]
+#[tactic(auto, unfolding(mem_guard::specs::Guarded::push_return, avr_exec::specs::StackRules::push_return_on))]
 #[inline(always)]
 fn push_in_window(k: &mut Kernel, behind: u16) -> bool
     ensures pushed { result ≡ true → push_return (memory_of k.old) (virtual_sp k.old) behind ≡ Went tt (memory_of (with_sram k.old (with_address k.old.mote.sram (virtual_sp k.old) behind))) }

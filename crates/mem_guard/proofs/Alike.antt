@@ -8,6 +8,7 @@ use Rattle.avr_exec.specs.declared.ask.Ask.TheVariants.{Nothing, Load as LoadAsk
 use Rattle.avr_exec.specs.declared.stop.BusStop.TheVariants.{Stack as StackStop, SwapFull as FullStop}
 use Rattle.avr_isa.specs.Addresses.{wrapping_sum, wrapping_difference}
 use Rattle.avr_exec.specs.Spaces.{Outcome, Went, Stopped}
+use Rattle.avr_exec.specs.StackRules.{push_on, pop_from, push_return_on, pop_return_from}
 use Rattle.avr_exec.specs.Asks.{ask_of}
 use Rattle.avr_exec.specs.Execution.{answered_by, answer_of, exec_of}
 use Rattle.avr_exec.specs.Likeness.{over}
@@ -24,11 +25,10 @@ use Rattle.mote_devices.specs.Accesses.{Asked, Gave, Refused, read, write, modif
 use Rattle.flat_machine.specs.declared.address.AddrClass.{AddrClass}
 use Rattle.flat_machine.specs.declared.address.AddrClass.TheVariants.{Stack, Heap}
 use Rattle.flat_machine.specs.Classes.{class_of}
-use Rattle.flat_machine.specs.FlatSpace.{FlatSpace, with_memory, with_page, store_to_heap, flat_calls}
-use Rattle.flat_machine.specs.FlatSpace.{load as flat_load, store as flat_store, modify as flat_modify, push as flat_push, pop as flat_pop, push_return as flat_push_return, pop_return as flat_pop_return}
-use Rattle.flat_machine.specs.FlatSpace.{load_in as flat_load_in, store_in as flat_store_in, from_device as flat_from_device, to_device as flat_to_device}
+use Rattle.flat_machine.specs.FlatSpace.{FlatSpace, with_memory, with_page, store_to_heap, flat_stack, flat_calls}
+use Rattle.flat_machine.specs.FlatSpace.{from_device as flat_from_device, to_device as flat_to_device}
 use Rattle.mem_guard.specs.Guarded.{Guarded, flat_of, heap_of, with_sram, from_device, to_device, to_heap, load_in, store_in, load, store, modify, push, pop, push_return, pop_return, guarded_calls}
-use Rattle.flat_machine.proofs.ClassLaws.{class_stack, class_heap}
+use Rattle.flat_machine.proofs.ClassLaws.{class_stack, class_heap, load_in as flat_load_in, store_in as flat_store_in, load_by_class, store_by_class}
 use Rattle.mem_guard.proofs.HeapLaws.{stack_read, stack_write, stack_pages, stack_paged, stored_some, stored_none}
 
 -- the same answer told in other words
@@ -69,9 +69,9 @@ loads Heap g a is paged =
     (same_flat (vmem g.sram g.swap) (vmem r.1.sram r.1.swap) (pages g.sram) (pages r.1.sram) (length g.swap) (length r.1.swap) (flat_of g) (sym done.memory) (sym done.pages) (sym done.count))
 loads _ g a is paged = device_reads g a (read g.devices a)
 
-pub load_alike : (g : Guarded) (a : ℕ) → IsPaged g.sram g.swap → flat_load (flat_of g) a ≡ over flat_of (load g a)
-unfolding load flat_load
-load_alike g a paged = loads (class_of a) g a refl paged
+pub load_alike : (g : Guarded) (a : ℕ) → IsPaged g.sram g.swap → flat_calls.load (flat_of g) a ≡ over flat_of (load g a)
+unfolding load
+load_alike g a paged = load_by_class (flat_of g) a ∙ loads (class_of a) g a refl paged
 
 -- a store
 heap_stores : (g : Guarded) (a v : ℕ) (stored : Option Store) → heap_store (heap_of g) a v ≡ stored → is_heap a ≡ true → IsPaged g.sram g.swap
@@ -89,12 +89,12 @@ stores Stack g a v is paged = ap (Went tt) (sym (flat_with_sram g a v paged (cla
 stores Heap g a v is paged = heap_stores g a v (heap_store (heap_of g) a v) refl (class_heap a is) paged
 stores _ g a v is paged = device_writes g a (write g.devices a v)
 
-pub store_alike : (g : Guarded) (a v : ℕ) → IsPaged g.sram g.swap → flat_store (flat_of g) a v ≡ over flat_of (store g a v)
-unfolding store flat_store
-store_alike g a v paged = stores (class_of a) g a v refl paged
+pub store_alike : (g : Guarded) (a v : ℕ) → IsPaged g.sram g.swap → flat_calls.store (flat_of g) a v ≡ over flat_of (store g a v)
+unfolding store
+store_alike g a v paged = store_by_class (flat_of g) a v ∙ stores (class_of a) g a v refl paged
 
-pub modify_alike : (g : Guarded) (a clear set : ℕ) → flat_modify (flat_of g) a clear set ≡ over flat_of (modify g a clear set)
-unfolding modify flat_modify
+pub modify_alike : (g : Guarded) (a clear set : ℕ) → flat_calls.modify (flat_of g) a clear set ≡ over flat_of (modify g a clear set)
+unfolding modify
 modify_alike g a clear set = device_writes g a (modify_device g.devices a clear set)
 
 -- the stack
@@ -103,8 +103,8 @@ pushes : (b : Bool) (g : Guarded) (sp v : ℕ) → is_stack sp ≡ b → IsPaged
 pushes true g sp v is paged = ap (Went tt) (sym (flat_with_sram g sp v paged is))
 pushes false g sp v is paged = refl
 
-pub push_alike : (g : Guarded) (sp v : ℕ) → IsPaged g.sram g.swap → flat_push (flat_of g) sp v ≡ over flat_of (push g sp v)
-unfolding push flat_push
+pub push_alike : (g : Guarded) (sp v : ℕ) → IsPaged g.sram g.swap → push_on flat_stack (flat_of g) sp v ≡ over flat_of (push g sp v)
+unfolding push push_on
 push_alike g sp v paged = pushes (is_stack sp) g sp v refl paged
 
 pops : (b : Bool) (g : Guarded) (a : ℕ) → is_stack a ≡ b → IsPaged g.sram g.swap
@@ -112,8 +112,8 @@ pops : (b : Bool) (g : Guarded) (a : ℕ) → is_stack a ≡ b → IsPaged g.sra
 pops true g a is paged = ap (λ v. Went v (flat_of g)) (stack_read g.sram g.swap a is)
 pops false g a is paged = refl
 
-pub pop_alike : (g : Guarded) (sp : ℕ) → IsPaged g.sram g.swap → flat_pop (flat_of g) sp ≡ over flat_of (pop g sp)
-unfolding pop flat_pop
+pub pop_alike : (g : Guarded) (sp : ℕ) → IsPaged g.sram g.swap → pop_from flat_stack (flat_of g) sp ≡ over flat_of (pop g sp)
+unfolding pop pop_from
 pop_alike g sp paged = pops (is_stack (wrapping_sum sp 1)) g (wrapping_sum sp 1) refl paged
 
 two_pushes : (b c : Bool) (g : Guarded) (a below low high : ℕ) → is_stack a ≡ b → is_stack below ≡ c → IsPaged g.sram g.swap
@@ -126,8 +126,8 @@ two_pushes true true g a below low high is is' paged =
 two_pushes true false g a below low high is is' paged = refl
 two_pushes false c g a below low high is is' paged = refl
 
-pub push_return_alike : (g : Guarded) (sp ret : ℕ) → IsPaged g.sram g.swap → flat_push_return (flat_of g) sp ret ≡ over flat_of (push_return g sp ret)
-unfolding push_return flat_push_return
+pub push_return_alike : (g : Guarded) (sp ret : ℕ) → IsPaged g.sram g.swap → push_return_on flat_stack (flat_of g) sp ret ≡ over flat_of (push_return g sp ret)
+unfolding push_return push_return_on
 push_return_alike g sp ret paged = two_pushes (is_stack sp) (is_stack (wrapping_difference sp 1)) g sp (wrapping_difference sp 1) (ret % 256) (ret / 256) refl refl paged
 
 two_pops : (b c : Bool) (g : Guarded) (high low : ℕ) → is_stack high ≡ b → is_stack low ≡ c → IsPaged g.sram g.swap
@@ -138,8 +138,8 @@ two_pops true true g high low is is' paged =
 two_pops true false g high low is is' paged = refl
 two_pops false c g high low is is' paged = refl
 
-pub pop_return_alike : (g : Guarded) (sp : ℕ) → IsPaged g.sram g.swap → flat_pop_return (flat_of g) sp ≡ over flat_of (pop_return g sp)
-unfolding pop_return flat_pop_return
+pub pop_return_alike : (g : Guarded) (sp : ℕ) → IsPaged g.sram g.swap → pop_return_from flat_stack (flat_of g) sp ≡ over flat_of (pop_return g sp)
+unfolding pop_return pop_return_from
 pop_return_alike g sp paged = two_pops (is_stack (wrapping_sum sp 1)) (is_stack (wrapping_sum sp 2)) g (wrapping_sum sp 1) (wrapping_sum sp 2) refl refl paged
 
 -- whatever is asked, the guarded space answers as flat memory does

@@ -8,6 +8,7 @@ use Rattle.avr_exec.specs.declared.ask.Ask.{Ask}
 use Rattle.avr_exec.specs.declared.ask.Ask.TheVariants.{Nothing, Load as LoadAsk, Store as StoreAsk, Modify, PushByte, PopByte, PushReturn, PopReturn, Program, ExtendedProgram, ExtendedProgramRaising}
 use Rattle.avr_exec.specs.declared.stop.BusStop.TheVariants.{Stack as StackStop}
 use Rattle.avr_isa.specs.Addresses.{wrapping_sum, wrapping_difference}
+use Rattle.avr_exec.specs.StackRules.{push_on, pop_from, push_return_on, pop_return_from}
 use Rattle.avr_exec.specs.Spaces.{Went, Stopped}
 use Rattle.avr_exec.specs.Asks.{ask_of}
 use Rattle.avr_exec.specs.Execution.{answer_of, exec_of}
@@ -147,7 +148,7 @@ pushes true g sp v is paged = (stack_kept g sp v paged is, stack_keeps_heap g sp
 pushes false g sp v is paged = tt
 
 pub push_leaves_kept : (g : Guarded) (sp v : ℕ) → IsPaged g.sram g.swap → Leaves (λ next. IsKept g next × KeepsHeap g next) (push g sp v)
-unfolding push
+unfolding push push_on
 push_leaves_kept g sp v paged = pushes (is_stack sp) g sp v refl paged
 
 pops : (b : Bool) (g : Guarded) (a v : ℕ) → IsPaged g.sram g.swap → Leaves (λ next. IsKept g next × KeepsHeap g next) (cond b (Went v g) (Stopped (StackStop a)))
@@ -155,7 +156,7 @@ pops true g a v paged = (kept_same g paged, keeps_heap g)
 pops false g a v paged = tt
 
 pub pop_leaves_kept : (g : Guarded) (sp : ℕ) → IsPaged g.sram g.swap → Leaves (λ next. IsKept g next × KeepsHeap g next) (pop g sp)
-unfolding pop
+unfolding pop pop_from
 pop_leaves_kept g sp paged = pops (is_stack (wrapping_sum sp 1)) g (wrapping_sum sp 1) (byte_at g.sram (wrapping_sum sp 1)) paged
 
 two_pushes : (b c : Bool) (g : Guarded) (a below low high : ℕ) → is_stack a ≡ b → is_stack below ≡ c → IsPaged g.sram g.swap
@@ -170,7 +171,7 @@ two_pushes true false g a below low high is is' paged = tt
 two_pushes false c g a below low high is is' paged = tt
 
 pub push_return_leaves_kept : (g : Guarded) (sp ret : ℕ) → IsPaged g.sram g.swap → Leaves (λ next. IsKept g next × KeepsHeap g next) (push_return g sp ret)
-unfolding push_return
+unfolding push_return push_return_on
 push_return_leaves_kept g sp ret paged = two_pushes (is_stack sp) (is_stack (wrapping_difference sp 1)) g sp (wrapping_difference sp 1) (ret % 256) (ret / 256) refl refl paged
 
 two_pops : (b c : Bool) (g : Guarded) (high low v : ℕ) → IsPaged g.sram g.swap
@@ -180,7 +181,7 @@ two_pops true false g high low v paged = tt
 two_pops false c g high low v paged = tt
 
 pub pop_return_leaves_kept : (g : Guarded) (sp : ℕ) → IsPaged g.sram g.swap → Leaves (λ next. IsKept g next × KeepsHeap g next) (pop_return g sp)
-unfolding pop_return
+unfolding pop_return pop_return_from
 pop_return_leaves_kept g sp paged = two_pops (is_stack (wrapping_sum sp 1)) (is_stack (wrapping_sum sp 2)) g (wrapping_sum sp 1) (wrapping_sum sp 2) _ paged
 
 -- whatever is asked, the answer leaves the mote's parts so

@@ -10,6 +10,7 @@ use Rattle.avr_exec.specs.declared.stop.BusStop.{BusStop}
 use Rattle.avr_exec.specs.declared.stop.BusStop.TheVariants.{Stack as StackStop}
 use Rattle.avr_isa.specs.Addresses.{wrapping_sum, wrapping_difference}
 use Rattle.avr_exec.specs.Registers.{is_own}
+use Rattle.avr_exec.specs.StackRules.{push_on, pop_from, push_return_on, pop_return_from}
 use Rattle.avr_exec.specs.Spaces.{Went, Stopped}
 use Rattle.avr_exec.specs.Asks.{ask_of, load_of}
 use Rattle.avr_isa.specs.IoTable.{io_address}
@@ -76,20 +77,20 @@ both true c g next answer stop stop' same = one c g next answer stop same
 both false c g next answer stop stop' same = tt
 
 pub push_line : (g : Guarded) (sp v : ℕ) → Leaves (LineAfter g (PushByte sp v)) (push g sp v)
-unfolding push
+unfolding push push_on
 push_line g sp v = one _ g _ _ _ refl
 
 pub pop_line : (g : Guarded) (sp : ℕ) → Leaves (LineAfter g (PopByte sp)) (pop g sp)
-unfolding pop
+unfolding pop pop_from
 pop_line g sp = one _ g _ _ _ refl
 
 pub push_return_line : (g : Guarded) (sp ret : ℕ) → Leaves (LineAfter g (PushReturn sp ret)) (push_return g sp ret)
-unfolding push_return
+unfolding push_return push_return_on
 push_return_line g sp ret =
     both {A = Unit {0}} (is_stack sp) (is_stack (wrapping_difference sp 1)) g (with_sram (with_sram g sp (ret % 256)) (wrapping_difference sp 1) (ret / 256)) tt (StackStop (wrapping_difference sp 1)) (StackStop sp) refl
 
 pub pop_return_line : (g : Guarded) (sp : ℕ) → Leaves (LineAfter g (PopReturn sp)) (pop_return g sp)
-unfolding pop_return
+unfolding pop_return pop_return_from
 pop_return_line g sp =
     both (is_stack (wrapping_sum sp 1)) (is_stack (wrapping_sum sp 2)) g g (byte_at g.sram (wrapping_sum sp 1) * 256 + byte_at g.sram (wrapping_sum sp 2)) (StackStop (wrapping_sum sp 2)) (StackStop (wrapping_sum sp 1)) refl
 

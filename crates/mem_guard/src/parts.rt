@@ -82,7 +82,7 @@ impl VirtualBus<'_> {
     }
 
     /// A byte pushed at `sp`.
-    #[tactic(auto, unfolding(crate::specs::Guarded::push))]
+    #[tactic(auto, unfolding(crate::specs::Guarded::push, avr_exec::specs::StackRules::push_on))]
     pub(crate) fn push_byte(&mut self, sp: u16, v: u8) -> Result<(), BusStop>
         ensures answer { outcome_of result (guarded_of self.new) ≡ push (guarded_of self.old) sp v }
         ensures stop { OnErr result (guarded_of self.new ≡ guarded_of self.old) }
@@ -96,7 +96,7 @@ impl VirtualBus<'_> {
     }
 
     /// The byte above `sp`.
-    #[tactic(auto, unfolding(crate::specs::Guarded::pop))]
+    #[tactic(auto, unfolding(crate::specs::Guarded::pop, avr_exec::specs::StackRules::pop_from))]
     pub(crate) fn pop_byte(&mut self, sp: u16) -> Result<u8, BusStop>
         ensures answer { outcome_of result (guarded_of self.new) ≡ pop (guarded_of self.old) sp }
         ensures stop { OnErr result (guarded_of self.new ≡ guarded_of self.old) }
@@ -110,7 +110,7 @@ impl VirtualBus<'_> {
     }
 
     /// A return address pushed: its low byte at `sp`, then its high byte below.
-    #[tactic(auto, unfolding(crate::specs::Guarded::push_return))]
+    #[tactic(auto, unfolding(crate::specs::Guarded::push_return, avr_exec::specs::StackRules::push_return_on))]
     pub(crate) fn push_return(&mut self, sp: u16, ret: u16) -> Result<(), BusStop>
         ensures answer { outcome_of result (guarded_of self.new) ≡ push_return (guarded_of self.old) sp ret }
         ensures stop { OnErr result (guarded_of self.new ≡ guarded_of self.old) }
@@ -129,7 +129,7 @@ impl VirtualBus<'_> {
     }
 
     /// A return address popped: its high byte from `sp + 1`, then its low byte from `sp + 2`.
-    #[tactic(auto, unfolding(crate::specs::Guarded::pop_return))]
+    #[tactic(auto, unfolding(crate::specs::Guarded::pop_return, avr_exec::specs::StackRules::pop_return_from))]
     pub(crate) fn pop_return(&mut self, sp: u16) -> Result<u16, BusStop>
         ensures answer { outcome_of result (guarded_of self.new) ≡ pop_return (guarded_of self.old) sp }
         ensures stop { OnErr result (guarded_of self.new ≡ guarded_of self.old) }

@@ -25,7 +25,7 @@ impl Bus for VirtualBus<'_> {
     ghost use Rattle.std.specs.Prelude.{◌≡◌, ◌≤◌, false, OnOk, OnErr};
     ghost use Rattle.avr_exec.specs.Registers.{is_own};
     ghost use Rattle.avr_exec.specs.Spaces.{outcome_of};
-    ghost use Rattle.flat_machine.specs.FlatSpace.{load as flat_load, store as flat_store, modify as flat_modify, push as flat_push, pop as flat_pop, push_return as flat_push_return, pop_return as flat_pop_return};
+    ghost use Rattle.flat_machine.specs.FlatSpace.{flat_calls};
     ghost use Rattle.mem_guard.specs.Guarded.{Guarded, guarded_calls, load as load_of, store as store_of, modify as modify_of, push as push_of, pop as pop_of, push_return as push_return_of, pop_return as pop_return_of};
     ghost use Rattle.mem_guard.specs.Bus.{guarded_of, seen_of, Lent, lent_of};
     ghost use Rattle.mem_guard.specs.Left.{IsKept, HeapAfter};
@@ -51,7 +51,7 @@ impl Bus for VirtualBus<'_> {
         ensures answer { outcome_of result (guarded_of self.new) ≡ load_of (guarded_of self.old) a }
         ensures stop { OnErr result (guarded_of self.new ≡ guarded_of self.old) }
         ensures lent { lent_of self.new ≡ lent_of self.old }
-        ensures flat { outcome_of result (seen_of self.new) ≡ flat_load (seen_of self.old) a }
+        ensures flat { outcome_of result (seen_of self.new) ≡ flat_calls.load (seen_of self.old) a }
         ensures kept { IsKept (guarded_of self.old) (guarded_of self.new) }
         ensures heap { OnOk result (HeapAfter (guarded_of self.old) (LoadAsk a) (guarded_of self.new)) }
     {
@@ -65,7 +65,7 @@ impl Bus for VirtualBus<'_> {
         ensures answer { outcome_of result (guarded_of self.new) ≡ store_of (guarded_of self.old) a v }
         ensures stop { OnErr result (guarded_of self.new ≡ guarded_of self.old) }
         ensures lent { lent_of self.new ≡ lent_of self.old }
-        ensures flat { outcome_of result (seen_of self.new) ≡ flat_store (seen_of self.old) a v }
+        ensures flat { outcome_of result (seen_of self.new) ≡ flat_calls.store (seen_of self.old) a v }
         ensures kept { IsKept (guarded_of self.old) (guarded_of self.new) }
         ensures heap { OnOk result (HeapAfter (guarded_of self.old) (StoreAsk a v) (guarded_of self.new)) }
     {
@@ -79,7 +79,7 @@ impl Bus for VirtualBus<'_> {
         ensures answer { outcome_of result (guarded_of self.new) ≡ modify_of (guarded_of self.old) a clear set }
         ensures stop { OnErr result (guarded_of self.new ≡ guarded_of self.old) }
         ensures lent { lent_of self.new ≡ lent_of self.old }
-        ensures flat { outcome_of result (seen_of self.new) ≡ flat_modify (seen_of self.old) a clear set }
+        ensures flat { outcome_of result (seen_of self.new) ≡ flat_calls.modify (seen_of self.old) a clear set }
         ensures kept { IsKept (guarded_of self.old) (guarded_of self.new) }
         ensures heap { OnOk result (HeapAfter (guarded_of self.old) (Modify a clear set) (guarded_of self.new)) }
     {
@@ -91,7 +91,7 @@ impl Bus for VirtualBus<'_> {
         ensures answer { outcome_of result (guarded_of self.new) ≡ push_of (guarded_of self.old) sp v }
         ensures stop { OnErr result (guarded_of self.new ≡ guarded_of self.old) }
         ensures lent { lent_of self.new ≡ lent_of self.old }
-        ensures flat { outcome_of result (seen_of self.new) ≡ flat_push (seen_of self.old) sp v }
+        ensures flat { outcome_of result (seen_of self.new) ≡ flat_calls.push (seen_of self.old) sp v }
         ensures kept { IsKept (guarded_of self.old) (guarded_of self.new) }
         ensures heap { OnOk result (HeapAfter (guarded_of self.old) (PushByte sp v) (guarded_of self.new)) }
     {
@@ -103,7 +103,7 @@ impl Bus for VirtualBus<'_> {
         ensures answer { outcome_of result (guarded_of self.new) ≡ pop_of (guarded_of self.old) sp }
         ensures stop { OnErr result (guarded_of self.new ≡ guarded_of self.old) }
         ensures lent { lent_of self.new ≡ lent_of self.old }
-        ensures flat { outcome_of result (seen_of self.new) ≡ flat_pop (seen_of self.old) sp }
+        ensures flat { outcome_of result (seen_of self.new) ≡ flat_calls.pop (seen_of self.old) sp }
         ensures kept { IsKept (guarded_of self.old) (guarded_of self.new) }
         ensures heap { OnOk result (HeapAfter (guarded_of self.old) (PopByte sp) (guarded_of self.new)) }
     {
@@ -115,7 +115,7 @@ impl Bus for VirtualBus<'_> {
         ensures answer { outcome_of result (guarded_of self.new) ≡ push_return_of (guarded_of self.old) sp ret }
         ensures stop { OnErr result (guarded_of self.new ≡ guarded_of self.old) }
         ensures lent { lent_of self.new ≡ lent_of self.old }
-        ensures flat { outcome_of result (seen_of self.new) ≡ flat_push_return (seen_of self.old) sp ret }
+        ensures flat { outcome_of result (seen_of self.new) ≡ flat_calls.push_ret (seen_of self.old) sp ret }
         ensures kept { IsKept (guarded_of self.old) (guarded_of self.new) }
         ensures heap { OnOk result (HeapAfter (guarded_of self.old) (PushReturn sp ret) (guarded_of self.new)) }
     {
@@ -127,7 +127,7 @@ impl Bus for VirtualBus<'_> {
         ensures answer { outcome_of result (guarded_of self.new) ≡ pop_return_of (guarded_of self.old) sp }
         ensures stop { OnErr result (guarded_of self.new ≡ guarded_of self.old) }
         ensures lent { lent_of self.new ≡ lent_of self.old }
-        ensures flat { outcome_of result (seen_of self.new) ≡ flat_pop_return (seen_of self.old) sp }
+        ensures flat { outcome_of result (seen_of self.new) ≡ flat_calls.pop_ret (seen_of self.old) sp }
         ensures kept { IsKept (guarded_of self.old) (guarded_of self.new) }
         ensures heap { OnOk result (HeapAfter (guarded_of self.old) (PopReturn sp) (guarded_of self.new)) }
     {

@@ -11,6 +11,7 @@ use Rattle.avr_exec.specs.declared.stop.BusStop.{BusStop}
 use Rattle.avr_exec.specs.declared.stop.BusStop.TheVariants.{Io}
 use Rattle.avr_isa.specs.Addresses.{wrapping_sum, wrapping_difference}
 use Rattle.avr_exec.specs.Spaces.{Outcome, Went, Stopped}
+use Rattle.avr_exec.specs.StackRules.{push_on, pop_from, push_return_on, pop_return_from}
 use Rattle.avr_exec.specs.Asks.{ask_of}
 use Rattle.avr_exec.specs.Execution.{answered_by, answer_of, exec_of}
 use Rattle.avr_exec.specs.Likeness.{IsWent}
@@ -18,7 +19,7 @@ use Rattle.avr_exec.proofs.OneAnswer.{exec_never_stops}
 use Rattle.sram_layout.specs.Bytes.{byte_at}
 use Rattle.mote_devices.specs.Accesses.{read, write, modify as modify_device}
 use Rattle.mote_devices.proofs.AccessLaws.{read_allowed, write_allowed, modify_allowed}
-use Rattle.mote_core.specs.Physical.{Physical, is_sram, with_sram, from_device, to_device, load, store, modify, push, pop, push_return, pop_return, physical_calls}
+use Rattle.mote_core.specs.Physical.{Physical, is_sram, with_sram, from_device, to_device, physical_calls}
 use Rattle.mote_core.specs.Conditions.{is_mapped}
 
 device_reads : (s : Physical) (a : ℕ) → can_read a ≡ true → IsWent (answered_by Byte (from_device s a (read s.devices a)))
@@ -61,7 +62,7 @@ pop_return_went false c s value high low mapped = absurd (cc)
 
 -- what is asked of the space and mapped gets an answer
 pub never_stops : (s : Physical) (ask : Ask) → is_mapped ask ≡ true → IsWent (answer_of physical_calls s ask)
-unfolding is_mapped answer_of load store modify push pop push_return pop_return
+unfolding is_mapped answer_of push_on pop_from push_return_on pop_return_from
 never_stops s Nothing mapped = tt
 never_stops s (Load a) mapped = load_went (is_sram a) s a mapped
 never_stops s (Store a v) mapped = store_went (is_sram a) s a v mapped

@@ -13,11 +13,12 @@ use Rattle.avr_exec.specs.Registers.{is_own, own_byte, with_own_byte, with_count
 use Rattle.avr_exec.specs.Asks.{ask_of, load_of, store_of}
 use Rattle.avr_exec.specs.Effects.{finish_of, loaded, stored}
 use Rattle.avr_exec.specs.Execution.{answered_by, answer_of, is_executed}
+use Rattle.avr_exec.specs.StackRules.{push_return_on}
 use Rattle.avr_exec.specs.Spaces.{Went as WentOn}
 use Rattle.sram_layout.specs.Bytes.{byte_at, with_byte}
 use Rattle.sram_layout.specs.Regions.{stack_window}
 use Rattle.mote_core.specs.declared.mote.Mote.{Mote}
-use Rattle.mote_core.specs.Physical.{Physical, is_sram, with_sram, from_device, to_device, load, store, push_return, physical_calls}
+use Rattle.mote_core.specs.Physical.{Physical, is_sram, with_sram, from_device, to_device, physical_calls}
 use Rattle.mote_devices.specs.Accesses.{read, write}
 use Rattle.avr_isa.specs.IoTable.{can_read, can_write}
 use Rattle.mote_core.specs.Conditions.{is_mapped}
@@ -42,7 +43,7 @@ unfolding load_of is_mapped
 load_mapped a ram = ap (λ b. is_mapped (cond b Nothing (Load a))) (sram_not_own a ram) ∙ ap (λ b. b || can_read a) ram
 
 load_answered : (space : Physical) (a : ℕ) → is_sram a ≡ true → answer_of physical_calls space (load_of a) ≡ WentOn (Byte (byte_at space.sram a)) space
-unfolding load_of answer_of load
+unfolding load_of answer_of
 load_answered space a ram =
     ap (λ b. answer_of physical_calls space (cond b Nothing (Load a))) (sram_not_own a ram)
     ∙ ap (λ b. answered_by Byte (cond b (WentOn (byte_at space.sram a) space) (from_device space a (read space.devices a)))) ram
@@ -56,7 +57,7 @@ unfolding store_of is_mapped
 store_mapped a v ram = ap (λ b. is_mapped (cond b Nothing (Store a v))) (sram_not_own a ram) ∙ ap (λ b. b || can_write a) ram
 
 store_answered : (space : Physical) (a v : ℕ) → is_sram a ≡ true → answer_of physical_calls space (store_of a v) ≡ WentOn Done (with_sram space a v)
-unfolding store_of answer_of store
+unfolding store_of answer_of
 store_answered space a v ram =
     ap (λ b. answer_of physical_calls space (cond b Nothing (Store a v))) (sram_not_own a ram)
     ∙ ap (λ b. answered_by (λ (_ : Unit {0}). Done) (cond b (WentOn tt (with_sram space a v)) (to_device space a (write space.devices a v)))) ram
@@ -118,7 +119,7 @@ unfolding is_mapped
 call_mapped ret = refl
 
 call_answered : (space : Physical) (ret : ℕ) → answer_of physical_calls space (PushReturn 0x011F ret) ≡ WentOn Done (record space { sram = with_byte (with_byte space.sram 0x011F (ret % 256)) 0x011E (ret / 256) })
-unfolding answer_of push_return
+unfolding answer_of push_return_on
 call_answered space ret = refl
 
 pub quiet_call : (m : Mote) (r : List ℕ) (s pc : ℕ) (sram : List ℕ) (target : ℕ) → flash_form m pc ≡ Some (Call target) → m.cpu.sp ≡ 0x011F → pc + 2 < 65536

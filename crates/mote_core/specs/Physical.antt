@@ -9,7 +9,7 @@ use Rattle.sram_layout.specs.Bytes.{byte_at, with_byte}
 use Rattle.sram_layout.specs.Regions.{whole_sram, is_within}
 use Rattle.mote_devices.specs.declared.line.Line.{Line}
 use Rattle.mote_devices.specs.State.{State, stored, with_stored, rampz_address}
-use Rattle.mote_devices.specs.Accesses.{Asked, answered_or, read, write, modify as modify_device}
+use Rattle.mote_devices.specs.Accesses.{Asked, answered_or, read, write, modify}
 
 -- the bytes of SRAM, the devices, the words of flash, and what the last write of a device showed outside
 pub record Physical : Type 0 where
@@ -33,51 +33,26 @@ from_device s a asked = answered_or (Stopped (Io a)) (λ v next. Went v (record 
 abbrev pub to_device : Physical → ℕ → Asked (Option Line) → Outcome Physical (Unit {0})
 to_device s a asked = answered_or (Stopped (Io a)) (λ line next. Went tt (record s { devices = next; line = line })) asked
 
--- the devices refuse every address at which they have no register
-unfoldable pub load : Physical → ℕ → Outcome Physical ℕ
-load s a = if is_sram a then Went (byte_at s.sram a) s else from_device s a (read s.devices a)
-
-unfoldable pub store : Physical → ℕ → ℕ → Outcome Physical (Unit {0})
-store s a v = if is_sram a then Went tt (with_sram s a v) else to_device s a (write s.devices a v)
-
-unfoldable pub modify : Physical → ℕ → ℕ → ℕ → Outcome Physical (Unit {0})
-modify s a clear set = to_device s a (modify_device s.devices a clear set)
-
 -- the stack keeps to SRAM
 abbrev pub physical_stack : StackRule Physical
 physical_stack = record { holds = λ a. is_sram a; byte = λ s a. byte_at s.sram a; with_byte = λ s a v. with_sram s a v; stop = λ a. Io a }
-
-unfoldable pub push : Physical → ℕ → ℕ → Outcome Physical (Unit {0})
-push s sp v = push_on physical_stack s sp v
-
-unfoldable pub pop : Physical → ℕ → Outcome Physical ℕ
-pop s sp = pop_from physical_stack s sp
-
-unfoldable pub push_return : Physical → ℕ → ℕ → Outcome Physical (Unit {0})
-push_return s sp ret = push_return_on physical_stack s sp ret
-
-unfoldable pub pop_return : Physical → ℕ → Outcome Physical ℕ
-pop_return s sp = pop_return_from physical_stack s sp
 
 -- the high or the low byte of a word
 abbrev pub half_of : ℕ → Bool → ℕ
 half_of w high = if high then w / 256 else w % 256
 
--- the byte at a byte address of flash, the low byte of a word first; a byte address has 17 bits
-unfoldable pub flash_byte : Physical → ℕ → ℕ
-flash_byte s a = half_of (word_at s.words (a / 2 % 65536)) (a % 2 == 1)
-
--- the space as a bus's calls
+-- The space as a bus's calls. The devices refuse every address at which they have no register. A byte address of flash has
+-- 17 bits, and the low byte of a word comes first.
 abbrev pub physical_calls : Calls Physical
 physical_calls = record {
-  load = load;
-  store = store;
-  modify = modify;
-  push = push;
-  pop = pop;
-  push_ret = push_return;
-  pop_ret = pop_return;
+  load = λ s a. if is_sram a then Went (byte_at s.sram a) s else from_device s a (read s.devices a);
+  store = λ s a v. if is_sram a then Went tt (with_sram s a v) else to_device s a (write s.devices a v);
+  modify = λ s a clear set. to_device s a (modify s.devices a clear set);
+  push = push_on physical_stack;
+  pop = pop_from physical_stack;
+  push_ret = push_return_on physical_stack;
+  pop_ret = pop_return_from physical_stack;
   rampz = λ s. stored s.devices rampz_address;
   set_rampz = λ s v. record s { devices = with_stored s.devices rampz_address v };
-  flash_byte = flash_byte;
+  flash_byte = λ s a. half_of (word_at s.words (a / 2 % 65536)) (a % 2 == 1);
 }

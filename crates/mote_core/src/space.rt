@@ -36,7 +36,6 @@ impl Bus for PhysicalSpace<'_> {
 
     ghost ready = { λ b. b.devices.now.polls < 2 ^ 63 };
 
-    #[tactic(auto, unfolding(crate::specs::Physical::load))]
     #[inline(always)]
     fn load(&mut self, a: u16) -> Result<u8, BusStop> {
         if Sram::has(a) {
@@ -46,7 +45,6 @@ impl Bus for PhysicalSpace<'_> {
         }
     }
 
-    #[tactic(auto, unfolding(crate::specs::Physical::store))]
     #[inline(always)]
     fn store(&mut self, a: u16, v: u8) -> Result<(), BusStop> {
         if Sram::has(a) {
@@ -57,13 +55,12 @@ impl Bus for PhysicalSpace<'_> {
         Ok(())
     }
 
-    #[tactic(auto, unfolding(crate::specs::Physical::modify))]
     fn modify(&mut self, a: u16, clear: u8, set: u8) -> Result<(), BusStop> {
         self.line = self.devices.modify(a, clear, set).map_err(stop_of)?;
         Ok(())
     }
 
-    #[tactic(auto, unfolding(crate::specs::Physical::push))]
+    #[tactic(auto, unfolding(avr_exec::specs::StackRules::push_on))]
     #[inline(always)]
     fn push(&mut self, sp: u16, v: u8) -> Result<(), BusStop> {
         if !Sram::has(sp) {
@@ -73,7 +70,7 @@ impl Bus for PhysicalSpace<'_> {
         Ok(())
     }
 
-    #[tactic(auto, unfolding(crate::specs::Physical::pop))]
+    #[tactic(auto, unfolding(avr_exec::specs::StackRules::pop_from))]
     #[inline(always)]
     fn pop(&mut self, sp: u16) -> Result<u8, BusStop> {
         let a = sp.wrapping_add(1);
@@ -83,7 +80,7 @@ impl Bus for PhysicalSpace<'_> {
         Ok(self.sram.byte(a))
     }
 
-    #[tactic(auto, unfolding(crate::specs::Physical::push_return))]
+    #[tactic(auto, unfolding(avr_exec::specs::StackRules::push_return_on))]
     #[inline(always)]
     fn push_ret(&mut self, sp: u16, ret: u16) -> Result<(), BusStop> {
         let below = sp.wrapping_sub(1);
@@ -97,7 +94,7 @@ impl Bus for PhysicalSpace<'_> {
         Ok(())
     }
 
-    #[tactic(auto, unfolding(crate::specs::Physical::pop_return))]
+    #[tactic(auto, unfolding(avr_exec::specs::StackRules::pop_return_from))]
     #[inline(always)]
     fn pop_ret(&mut self, sp: u16) -> Result<u16, BusStop> {
         let high = sp.wrapping_add(1);
@@ -119,7 +116,6 @@ impl Bus for PhysicalSpace<'_> {
         self.devices.set_rampz(v);
     }
 
-    #[tactic(auto, unfolding(crate::specs::Physical::flash_byte))]
     fn flash_byte(&self, a: u32) -> u8 {
         let word = self.flash.word((a / 2 % 0x1_0000) as u16);
         byte_of(word, a % 2 == 1)

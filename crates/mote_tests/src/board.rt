@@ -76,6 +76,7 @@ impl Bus for Board<'_> {
         Ok(())
     }
 
+    #[tactic(auto, unfolding(avr_exec::specs::StackRules::push_on))]
     fn push(&mut self, sp: u16, v: u8) -> Result<(), BusStop> {
         if sp < 320 {
             self.memory.bytes[sp as usize] = v;
@@ -85,6 +86,7 @@ impl Bus for Board<'_> {
         }
     }
 
+    #[tactic(auto, unfolding(avr_exec::specs::StackRules::pop_from))]
     fn pop(&mut self, sp: u16) -> Result<u8, BusStop> {
         let a = sp.wrapping_add(1);
         if a < 320 {
@@ -94,6 +96,7 @@ impl Bus for Board<'_> {
         }
     }
 
+    #[tactic(auto, unfolding(avr_exec::specs::StackRules::push_return_on))]
     fn push_ret(&mut self, sp: u16, ret: u16) -> Result<(), BusStop> {
         let below = sp.wrapping_sub(1);
         if sp >= 320 {
@@ -107,6 +110,7 @@ impl Bus for Board<'_> {
         Ok(())
     }
 
+    #[tactic(auto, unfolding(avr_exec::specs::StackRules::pop_return_from))]
     fn pop_ret(&mut self, sp: u16) -> Result<u16, BusStop> {
         let high = sp.wrapping_add(1);
         let low = sp.wrapping_add(2);

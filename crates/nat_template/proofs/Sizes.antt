@@ -1,23 +1,24 @@
 -- How many words stubs and templates have.
-use Rattle.std.proofs.Common.{◌≡◌, ◌<◌, ◌≤◌, ◌+◌, ℕ, Bool, true, false, cond, List, refl, length, take, get_or, subst, arith}
+use Rattle.std.proofs.Common.{◌≡◌, ◌<◌, ◌≤◌, ◌+◌, ℕ, Bool, true, false, cond, List, [], ◌∷◌, refl, length, take, get_or, subst, arith}
 use Rattle.std.specs.Prelude.{◌==◌, Option, Some}
 use Rattle.std.proofs.lemmas.List.Folds.{length-flat_map-take}
 use Rattle.avr_isa.specs.Crossing.{is_crossing}
+use Rattle.avr_isa.specs.Addresses.{wrapping_sum}
 use Rattle.avr_isa.specs.declared.form.Form.{Form}
 use Rattle.avr_isa.specs.declared.form.Form.TheVariants as forms
 use Rattle.avr_isa.specs.Instruction.{size_of}
 use Rattle.nat_template.specs.declared.piece.Piece.{Piece}
-use Rattle.nat_template.specs.declared.piece.Piece.TheVariants.{Fixed}
+use Rattle.nat_template.specs.declared.piece.Piece.TheVariants.{Fixed, Link}
 use Rattle.nat_template.specs.declared.shapes.TemplateShape.{TemplateShape}
 use Rattle.nat_template.specs.declared.shapes.TemplateShape.TheVariants.{Native, Mem, Jump, Branch, Skip, Call, Ret, Ind, SelfJump, Fault}
 use Rattle.nat_template.specs.Shapes.{shape_of_form}
-use Rattle.nat_template.specs.Stubs.{stub, crossing_stub, plain_stub, words_of, words_of_piece}
-use Rattle.nat_template.specs.Templates.{template_by, target_of, skip_target, inline, mem_or, mem_pieces, is_z}
+use Rattle.nat_template.specs.Stubs.{stub, crossing_stub, words_of, words_of_piece}
+use Rattle.nat_template.specs.Templates.{template_by, target_of, inline, mem_or, mem_pieces, is_z}
 use Rattle.nat_template.specs.Inline.{push_forms, pop_forms, load_forms, store_forms}
 use Rattle.avr_isa.specs.Encoding.{second_word}
 use Rattle.avr_isa.specs.declared.operation.Base.TheVariants.{Y}
 
-size_by : (to : ℕ) (crosses : Bool) → length (words_of (cond crosses (crossing_stub to) (plain_stub to))) ≡ cond crosses 22 3
+size_by : (to : ℕ) (crosses : Bool) → length (words_of (cond crosses (crossing_stub to) (Link to ∷ []))) ≡ cond crosses 22 3
 unfolding second_word
 size_by to true = refl
 size_by to false = refl
@@ -74,7 +75,7 @@ template_size Native pc first form next_size = (omega arith, omega arith)
 template_size Mem pc first form next_size = mem_size pc form
 template_size Jump pc first form next_size = let b = stub_bound pc (target_of pc form) in (omega arith, omega arith)
 template_size Branch pc first form next_size = let b = stub_bound pc (target_of pc form) in (omega arith, omega arith)
-template_size Skip pc first form next_size = let b = stub_bound pc (skip_target pc next_size) in (omega arith, omega arith)
+template_size Skip pc first form next_size = let b = stub_bound pc (wrapping_sum pc (1 + next_size)) in (omega arith, omega arith)
 template_size Call pc first form next_size = let b = stub_bound pc (target_of pc form) in (omega arith, omega arith)
 template_size Ret pc first form next_size = (omega arith, omega arith)
 template_size Ind pc first form next_size = (omega arith, omega arith)

@@ -1,13 +1,13 @@
 -- Inline templates: instructions in the place of a call of MEM, for an address in the stack window 0x0D00 to
 -- 0x10FF; every other address is left to the call (docs/LOADER.md, "Inline templates").
-use Rattle.std.specs.Prelude.{ℕ, pos, ◌+◌, List, [], ◌∷◌, ◌++◌}
+use Rattle.std.specs.Prelude.{ℕ, pos, ◌+◌, List, [], ◌∷◌, ◌++◌, length}
 use Rattle.avr_isa.specs.declared.form.Form.{Form}
 use Rattle.avr_isa.specs.declared.form.Form.TheVariants.{Movw, Imm, Word, LoadOff, StoreOff, Lds, Sts, InIo, OutIo, Brbs, Brbc, Rjmp, Call}
 use Rattle.avr_isa.specs.declared.operation.ImmOp.TheVariants.{Cpi}
 use Rattle.avr_isa.specs.declared.operation.WordOp.TheVariants.{Adiw, Sbiw}
 use Rattle.avr_isa.specs.declared.operation.Base.TheVariants.{Z}
 use Rattle.sram_layout.specs.Cells.{sreg_cell, vsp_cell, z_cell}
-use Rattle.nat_template.specs.Words.{width_of_forms, sreg_field}
+use Rattle.nat_template.specs.Words.{words_of_forms, sreg_field}
 use Rattle.nat_template.specs.Stubs.{mem_entry}
 
 -- The parts. --------------------------------------------------------------------------------------
@@ -38,13 +38,11 @@ trap = restore ++ Call mem_entry ∷ []
 
 -- Z and SREG back, and RJMP over the trap and the pc behind it
 abbrev pub back : List Form
-back = restore ++ Rjmp (pos (width_of_forms trap + 1)) ∷ []
+back = restore ++ Rjmp (pos (length (words_of_forms trap) + 1)) ∷ []
 
 -- the guard, whose branches lead to the trap; what is done inside the window; the trap
 abbrev pub guarded : List Form → List Form
-guarded access =
-    let inside = access ++ back in
-    let n = width_of_forms inside in guard (2 + n) n ++ inside ++ trap
+guarded access = let n = length (words_of_forms (access ++ back)) in guard (2 + n) n ++ access ++ back ++ trap
 
 -- The templates, but for the pc at the end. -------------------------------------------------------
 

@@ -23,7 +23,7 @@ can_modify a = can_read a && can_write a
 abbrev pub jump_shape : ℕ → ℕ → TemplateShape
 jump_shape pc target = if target == pc then SelfJump else Jump
 
--- the shape of the instruction at the pc, with a line for each form
+-- the shape of the instruction at the pc, with a row for each form that doesn't always stand as it is
 unfoldable pub shape_of_form : ℕ → Form → TemplateShape
 shape_of_form pc (forms.LoadOff d base q) = Mem
 shape_of_form pc (forms.StoreOff base q r) = Mem
@@ -58,20 +58,7 @@ shape_of_form pc forms.Ijmp = Ind
 shape_of_form pc forms.Icall = Ind
 shape_of_form pc forms.Sleep = Fault
 shape_of_form pc forms.Spm = Fault
-shape_of_form pc forms.Nop = Native
-shape_of_form pc (forms.Movw d r) = Native
-shape_of_form pc (forms.Muls d r) = Native
-shape_of_form pc (forms.Product op d r) = Native
-shape_of_form pc (forms.Two op d r) = Native
-shape_of_form pc (forms.Imm op d k) = Native
-shape_of_form pc (forms.Word op d k) = Native
-shape_of_form pc (forms.One op d) = Native
-shape_of_form pc (forms.Bld d b) = Native
-shape_of_form pc (forms.Bst d b) = Native
-shape_of_form pc (forms.Bset s) = Native
-shape_of_form pc (forms.Bclr s) = Native
-shape_of_form pc forms.Break = Native
-shape_of_form pc forms.Wdr = Native
+shape_of_form pc _ = Native
 
 -- no instruction faults
 abbrev pub shape_of : ℕ → Option Form → TemplateShape

@@ -64,12 +64,9 @@ count_down =
     Sts r24_cell 24 ∷ InIo 24 sreg_field ∷ Sts sreg_cell 24 ∷ Lds 24 count_cell ∷ One Dec 24 ∷ Sts count_cell 24
     ∷ Brbs 1 (pos 8) ∷ Lds 24 sreg_cell ∷ OutIo sreg_field 24 ∷ Lds 24 r24_cell ∷ []
 
-abbrev pub plain_stub : ℕ → List Piece
-plain_stub target = Link target ∷ []
-
 abbrev pub crossing_stub : ℕ → List Piece
 crossing_stub target = map (λ word. Fixed word) (words_of_forms count_down) ++ Link target ∷ service quantum_entry target
 
--- the stub for the step from an address to another
+-- the stub for the step from an address to another: a link alone, unless that is a crossing
 unfoldable pub stub : ℕ → ℕ → List Piece
-stub from to = if is_crossing from to then crossing_stub to else plain_stub to
+stub from to = if is_crossing from to then crossing_stub to else Link to ∷ []

@@ -24,9 +24,9 @@ target_of pc (Some (forms.Jmp a)) = a
 target_of pc (Some (forms.Call a)) = a
 target_of pc _ = pc
 
--- RJMP over what follows (AVR Instruction Set Manual, "RJMP")
-abbrev pub jump_over : List Piece → Piece
-jump_over pieces = Fixed (0xC000 + length (words_of pieces))
+-- a word that passes over the next one, which is RJMP over these pieces (AVR Instruction Set Manual, "RJMP")
+abbrev pub passing : ℕ → List Piece → List Piece
+passing word pieces = Fixed word ∷ Fixed (0xC000 + length (words_of pieces)) ∷ pieces
 
 -- the same branch, over the one word behind it
 abbrev pub short_branch : Option Form → ℕ
@@ -34,21 +34,13 @@ short_branch (Some (forms.Brbs s k)) = first_word (forms.Brbs s (pos 1))
 short_branch (Some (forms.Brbc s k)) = first_word (forms.Brbc s (pos 1))
 short_branch _ = 0
 
--- where a skip leads: behind the next instruction, which has this many words
-abbrev pub skip_target : ℕ → ℕ → ℕ
-skip_target pc next_size = wrapping_sum pc (1 + next_size)
-
 -- r30 and r31, which an inline template uses itself
 abbrev pub is_z : ℕ → Bool
 is_z r = (r == 30) || (r == 31)
 
--- these words, and the pc behind them
-abbrev pub with_pc : List ℕ → ℕ → List Piece
-with_pc words pc = map (λ word. Fixed word) words ++ Fixed pc ∷ []
-
 -- instructions, of which the last calls MEM, and the pc behind them
 abbrev pub inline : List Form → ℕ → List Piece
-inline forms pc = with_pc (words_of_forms forms) pc
+inline forms pc = map (λ word. Fixed word) (words_of_forms forms) ++ Fixed pc ∷ []
 
 -- a call of MEM alone, or these instructions in its place
 abbrev pub mem_or : Bool → List Form → ℕ → List Piece
@@ -62,15 +54,13 @@ mem_pieces pc (Some (forms.LoadOff d Y q)) = mem_or (is_z d) (load_forms d q) pc
 mem_pieces pc (Some (forms.StoreOff Y q r)) = mem_or (is_z r) (store_forms q r) pc
 mem_pieces pc _ = service mem_entry pc
 
--- by the shape: the first word of the instruction, where it stays; its target; how many words the next has
+-- by the shape: the first word of the instruction, where it stays; its target; how many words the next has, behind which a skip leads
 unfoldable pub template_by : TemplateShape → (pc first : ℕ) (form : Option Form) (next_size : ℕ) → List Piece
 template_by Native pc first form next_size = Fixed first ∷ []
 template_by Mem pc first form next_size = mem_pieces pc form
 template_by Jump pc first form next_size = stub pc (target_of pc form)
-template_by Branch pc first form next_size =
-    let way = stub pc (target_of pc form) in Fixed (short_branch form) ∷ jump_over way ∷ way
-template_by Skip pc first form next_size =
-    let way = stub pc (skip_target pc next_size) in Fixed first ∷ jump_over way ∷ way
+template_by Branch pc first form next_size = passing (short_branch form) (stub pc (target_of pc form))
+template_by Skip pc first form next_size = passing first (stub pc (wrapping_sum pc (1 + next_size)))
 template_by Call pc first form next_size = service push_return_entry pc ++ stub pc (target_of pc form)
 template_by Ret pc first form next_size = service return_entry pc
 template_by Ind pc first form next_size = service indirect_entry pc

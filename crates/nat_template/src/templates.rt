@@ -1,10 +1,10 @@
 //! The template of an instruction, in pieces and in words.
-ghost use Rattle.std.specs.Prelude.{◌≡◌, ℕ, ◌≤◌, ◌++◌, ◌∷◌, [], if◌then◌else◌, length};
+ghost use Rattle.std.specs.Prelude.{◌≡◌, ℕ, ◌≤◌, ◌++◌, ◌∷◌, [], if◌then◌else◌, length, map};
 ghost use Rattle.std.specs.Option.{option_map};
 ghost use Rattle.arrayvec.specs.ArrayVec.{array_vec_len};
 ghost use Rattle.avr_decode.specs.Decoding.{the_form};
 ghost use Rattle.nat_template.specs.Stubs.{mem_entry, service as service_of, stub as stub_of, words_of};
-ghost use Rattle.nat_template.specs.Templates.{is_z as is_z_test, jump_over, mem_pieces, short_branch as short_branch_of, target_of, template_by, template_of, with_pc as with_pc_of};
+ghost use Rattle.nat_template.specs.Templates.{is_z as is_z_test, mem_pieces, passing, short_branch as short_branch_of, target_of, template_by, template_of};
 
 use crate::entries::{FAULT, INDIRECT, MEM, PUSH_RETURN, RETURN, SELF};
 use crate::inline::{load_words, pop_words, push_words, store_words};
@@ -126,7 +126,7 @@ fn mem(pc: u16, instr: Option<&Instr>) -> ArrayVec<Piece, 40>
 /// These words, which use Z, or a call of the kernel where the register is one of Z's.
 fn inline_or_mem(register: Reg, words: &[u16], pc: u16) -> ArrayVec<Piece, 40>
     requires room { length words.now ≤ 38 }
-    ensures pieces { result.items ≡ if is_z_test register then service_of mem_entry pc else with_pc_of words.now pc }
+    ensures pieces { result.items ≡ if is_z_test register then service_of mem_entry pc else map (λ word. Piece.Fixed word) words.now ++ Piece.Fixed pc ∷ [] }
 {
     if is_z(register) {
         call_of(MEM, pc)
@@ -145,7 +145,7 @@ fn is_z(register: Reg) -> bool
 /// These words, and the pc behind them.
 fn with_pc(words: &[u16], pc: u16) -> ArrayVec<Piece, 40>
     requires room { length words.now ≤ 38 }
-    ensures pieces { result.items ≡ with_pc_of words.now pc }
+    ensures pieces { result.items ≡ map (λ word. Piece.Fixed word) words.now ++ Piece.Fixed pc ∷ [] }
 {
     let mut pieces = ArrayVec::new();
     for word in words {
@@ -202,7 +202,7 @@ fn behind(front: ArrayVec<Piece, 40>, from: u16, to: u16) -> ArrayVec<Piece, 40>
 /// A word that passes over one word, which is a jump over the stub behind it.
 #[tactic(auto, using(crate::proofs::Sizes::stub_size))]
 fn passed_over(word: u16, from: u16, to: u16) -> ArrayVec<Piece, 40>
-    ensures pieces { result.items ≡ Piece.Fixed word ∷ jump_over (stub_of from to) ∷ stub_of from to }
+    ensures pieces { result.items ≡ passing word (stub_of from to) }
 {
     let mut pieces = one(word);
     pieces.push(Piece::Fixed(0xC000 + stub_size(from, to)));

@@ -1,5 +1,5 @@
 -- A branch on a bit of SREG.
-use Rattle.std.proofs.Common.{◌%◌, ℕ, ◌≡◌, ◌+◌, ◌==◌, ◌∷◌, ◌∙◌, Bool, true, false, List, refl, sym, ap, ap₂, arith, subst, IsTrue, MatchOption}
+use Rattle.std.proofs.Common.{◌%◌, ℕ, ◌≡◌, ◌+◌, ◌==◌, ◌∙◌, Bool, true, false, List, refl, sym, ap, ap₂, arith, subst, IsTrue, MatchOption}
 use Rattle.std.specs.Prelude.{⊤, ℤ, ◌^◌, if◌then◌else◌, ◌&&◌, Option, Some, None, not, nat_lt, pos}
 use Rattle.avr_isa.specs.Image.{word}
 use Rattle.avr_isa.specs.Encoding.{first_word, second_word}
@@ -22,10 +22,9 @@ use Rattle.flash_words.specs.Pages.{word_at}
 use Rattle.mote_core.specs.Step.{form_at as form_at_mote, next_size as mote_next_size}
 use Rattle.nat_template.specs.declared.shapes.TemplateShape.TheVariants.{Native, Jump, Branch, Skip, SelfJump, Fault}
 use Rattle.nat_template.specs.declared.piece.Piece.{Piece}
-use Rattle.nat_template.specs.declared.piece.Piece.TheVariants.{Fixed}
 use Rattle.nat_template.specs.Shapes.{shape_of_form, is_stack_pointer, can_modify}
 use Rattle.nat_template.specs.Stubs.{stub}
-use Rattle.nat_template.specs.Templates.{template_by, target_of, jump_over, short_branch}
+use Rattle.nat_template.specs.Templates.{template_by, target_of, passing, short_branch}
 use Rattle.page_draft.specs.Standing.{Stands}
 use Rattle.page_draft.specs.Runs.{shape_at, template_at, size_at, next_of, is_closed}
 use Rattle.flat_machine.specs.FlatMachine.{next_size, jumps_to_itself}
@@ -62,8 +61,9 @@ branch_by links x a v form short far t s shape is one target first valid none ru
     let inside = s.code.inside in
     let short' = setting_short x s.ready.bounded.right in
     let instr : instruction_at image a ≡ Some form = is in
-    let template : template_at image a ≡ Fixed (first_word short) ∷ jump_over (stub a t) ∷ stub a t =
-    ap (λ s. template_by s a (word image a) (instruction_at image a) (size_at image (a + 1))) shape ∙ ap (λ f. Fixed (short_branch f) ∷ jump_over (stub a (target_of a f)) ∷ stub a (target_of a f)) is ∙ ap₂ (λ w t. Fixed w ∷ jump_over (stub a t) ∷ stub a t) first target in
+    let template : template_at image a ≡ passing (first_word short) (stub a t) =
+    ap (λ s. template_by s a (word image a) (instruction_at image a) (size_at image (a + 1))) shape
+    ∙ ap (λ f. passing (short_branch f) (stub a (target_of a f))) is ∙ ap₂ (λ w t. passing w (stub a t)) first target in
     let P : List Piece → Type 0 = λ pieces. Stands links.enters words v pieces in
     let stands = subst P template s.code.template in
     let row = stretch_of links k.layout image words a v s.ready.bounded.right s.code in

@@ -13,7 +13,8 @@ use Rattle.sram_layout.specs.Bytes.{byte_at, with_byte}
 use Rattle.sram_layout.proofs.Laws.{byte_same, byte_other, length-with_byte}
 use Rattle.sram_layout.specs.Cells.{count_cell, r24_cell, sreg_cell}
 use Rattle.nat_template.specs.Words.{words_of_forms}
-use Rattle.nat_template.specs.Stubs.{count_down, plain_stub, call_word}
+use Rattle.nat_template.specs.declared.piece.Piece.TheVariants.{Link}
+use Rattle.nat_template.specs.Stubs.{count_down, call_word}
 use Rattle.page_draft.specs.Standing.{Stands}
 use Rattle.nat_page.specs.Links.{EachLink}
 use Rattle.mote_core.specs.declared.mote.Mote.{Mote}
@@ -42,8 +43,8 @@ count_words_are = refl
 pub record CrossingStub (links : Links) (layout : Layout) (words : List ℕ) (w t : ℕ) : Type 0 where
   pub row : IsStretch layout words w 22
   pub fixed : (k : ℕ) → k < 16 → word_at words (w + k) ≡ get_or count_words k 0
-  pub stands : Stands links.enters words (w + 16) (plain_stub t)
-  pub marks : EachLink links.marks (w + 16) (plain_stub t)
+  pub stands : Stands links.enters words (w + 16) (Link t ∷ [])
+  pub marks : EachLink links.marks (w + 16) (Link t ∷ [])
   pub call : word_at words (w + 19) ≡ call_word
   pub entry : word_at words (w + 20) ≡ 0xF002
   pub last : word_at words (w + 21) ≡ t

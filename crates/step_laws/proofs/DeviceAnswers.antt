@@ -14,7 +14,7 @@ use Rattle.mote_devices.specs.Registers.{is_polled}
 use Rattle.mote_devices.specs.State.{State, polled}
 use Rattle.mote_devices.specs.Accesses.{Gave, read, write, modify, value_of, after_value, after_write, line_written, written_byte}
 use Rattle.mote_devices.proofs.AccessLaws.{can_read_below, can_write_below, read_allowed, write_allowed, modify_allowed, Afterwards, polls_after_read, polls_after_write, polls_after_modify}
-use Rattle.mote_core.specs.Physical.{Physical, is_sram, with_sram, load as physical_load, store as physical_store, modify as physical_modify, from_device as physical_from, to_device as physical_to}
+use Rattle.mote_core.specs.Physical.{Physical, is_sram, with_sram, physical_calls, from_device as physical_from, to_device as physical_to}
 use Rattle.mote_core.specs.Conditions.{is_device_ask}
 use Rattle.flat_machine.specs.Classes.{class_of}
 use Rattle.flat_machine.proofs.ClassLaws.{chosen, low_stack, low_heap}
@@ -47,12 +47,10 @@ store_low : (g : Guarded) (a v : ℕ) → a < 256 → guarded_store g a v ≡ to
 unfolding guarded_store class_of
 store_low g a v low = store_by (nat_lt a 0x20) (nat_le 0x5D a && nat_le a 0x5F) (is_stack a) (is_heap a) g a v (low_stack a low) (low_heap a low)
 
-physical_load_low : (s : Physical) (a : ℕ) → a < 256 → physical_load s a ≡ physical_from s a (read s.devices a)
-unfolding physical_load
+physical_load_low : (s : Physical) (a : ℕ) → a < 256 → physical_calls.load s a ≡ physical_from s a (read s.devices a)
 physical_load_low s a low = ap (λ b. cond b (Went (byte_at s.sram a) s) (physical_from s a (read s.devices a))) (no_sram a low)
 
-physical_store_low : (s : Physical) (a v : ℕ) → a < 256 → physical_store s a v ≡ physical_to s a (write s.devices a v)
-unfolding physical_store
+physical_store_low : (s : Physical) (a v : ℕ) → a < 256 → physical_calls.store s a v ≡ physical_to s a (write s.devices a v)
 physical_store_low s a v low = ap (λ b. cond b (Went tt (with_sram s a v)) (physical_to s a (write s.devices a v))) (no_sram a low)
 
 -- what a read gives, and the devices after it
@@ -75,7 +73,7 @@ modified s a clear set reads writes = modify_allowed s a clear set reads writes 
 
 -- so and_parts spaces answer alike
 pub answers_alike : (words : List ℕ) (g : Guarded) (ask : Ask) → is_device_ask ask ≡ true → AnswersAlike words g ask
-unfolding answer_of is_device_ask guarded_modify physical_modify
+unfolding answer_of is_device_ask guarded_modify
 answers_alike words g Nothing can = record { answer = Done; devices = g.devices; line = g.line; guarded = refl; physical = refl; polls = omega arith }
 answers_alike words g (Load a) can =
     let low : a < 256 = can_read_below a can in

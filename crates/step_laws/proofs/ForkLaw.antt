@@ -16,7 +16,7 @@ use Rattle.mote_core.specs.Step.{form_at as form_at_mote, IsPlainStep}
 use Rattle.nat_template.specs.declared.piece.Piece.{Piece}
 use Rattle.nat_template.specs.declared.piece.Piece.TheVariants.{Fixed}
 use Rattle.nat_template.specs.Stubs.{stub}
-use Rattle.nat_template.specs.Templates.{jump_over}
+use Rattle.nat_template.specs.Templates.{passing}
 use Rattle.nat_template.proofs.Sizes.{stub_size, stub_bound}
 use Rattle.page_draft.specs.Standing.{Stands, size}
 use Rattle.page_draft.specs.Runs.{shape_at, template_at, next_of, is_closed}
@@ -124,7 +124,7 @@ step_on links y p t c crosses first on =
 
 -- both ways
 pub fork_law : (links : Links) (x : State) (a v t : ℕ) (far : Bool) (first : ℕ) → IsSetting links x a v → is_closed (shape_at (image_held x.kernel) a) ≡ true
-    → template_at (image_held x.kernel) a ≡ Fixed first ∷ jump_over (stub a t) ∷ stub a t
+    → template_at (image_held x.kernel) a ≡ passing first (stub a t)
     → Forks x.kernel a (if far then t else next_of (image_held x.kernel) a) (if far then v + 2 else v + 1) → StepLaw links x a
 fork_law links x a v t true first s closed template f =
     let k = x.kernel in
@@ -133,12 +133,12 @@ fork_law links x a v t true first s closed template f =
     let way = stub a t in
     let y = with_mote x (at_place (mote_of x) (v + 2) f.devices) in
     let bound = stub_bound a t in
-    let two : size (template_at image a) ≡ 2 + size way = omega (arith, ap size template, size-cons (Fixed first) (jump_over way ∷ way), size-cons (jump_over way) way) in
+    let two : size (template_at image a) ≡ 2 + size way = omega (arith, ap size template, size-cons (Fixed first) (Fixed (0xC000 + size way) ∷ way), size-cons (Fixed (0xC000 + size way)) way) in
     let row : IsStretch k.layout words v (2 + size way) = subst (IsStretch k.layout words v) two (stretch_of links k.layout image words a v s.ready.bounded.right s.code) in
     let there : v + 1 + 1 ≡ v + 2 = omega arith in
-    let stands : Stands links.enters words v (Fixed first ∷ jump_over way ∷ way) = subst (Stands links.enters words v) template s.code.template in
+    let stands : Stands links.enters words v (passing first way) = subst (Stands links.enters words v) template s.code.template in
     let stands' : Stands links.enters words (v + 2) way = subst (λ (w : ℕ). Stands links.enters words w way) there stands.1.1 in
-    let marks : EachLink links.marks v (Fixed first ∷ jump_over way ∷ way) = subst (λ (pieces : List Piece). EachLink links.marks v pieces) template s.code.linked in
+    let marks : EachLink links.marks v (passing first way) = subst (λ (pieces : List Piece). EachLink links.marks v pieces) template s.code.linked in
     let marks' : EachLink links.marks (v + 2) way = subst (λ (w : ℕ). EachLink links.marks w way) there marks in
     let polls = f.polls in
     let room = s.ready.bounded.polls in
@@ -154,10 +154,10 @@ fork_law links x a v t false first s closed template f =
     let way = stub a t in
     let y = with_mote x (at_place (mote_of x) (v + 1) f.devices) in
     let bound = stub_bound a t in
-    let two : size (template_at image a) ≡ 2 + size way = omega (arith, ap size template, size-cons (Fixed first) (jump_over way ∷ way), size-cons (jump_over way) way) in
+    let two : size (template_at image a) ≡ 2 + size way = omega (arith, ap size template, size-cons (Fixed first) (Fixed (0xC000 + size way) ∷ way), size-cons (Fixed (0xC000 + size way)) way) in
     let row : IsStretch k.layout words v (2 + size way) = subst (IsStretch k.layout words v) two (stretch_of links k.layout image words a v s.ready.bounded.right s.code) in
     let low = row.low in
-    let stands : Stands links.enters words v (Fixed first ∷ jump_over way ∷ way) = subst (Stands links.enters words v) template s.code.template in
+    let stands : Stands links.enters words v (passing first way) = subst (Stands links.enters words v) template s.code.template in
     let polls = f.polls in
     let room = s.ready.bounded.polls in
     let fit = s.ready.idle in

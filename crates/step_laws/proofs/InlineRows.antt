@@ -1,6 +1,7 @@
 -- The instructions of an inline template where its words stand in flash.
 use Rattle.std.proofs.Common.{◌≡◌, ℕ, ◌+◌, ◌%◌, ◌<◌, List, [], ◌∷◌, ◌++◌, length, map, arith, refl, ap, sym, subst, ◌∙◌}
 use Rattle.std.specs.Prelude.{Option, Some, None, IsTrue, MatchOption, ⊤}
+use Rattle.std.specs.Option.{option_to_list}
 use Rattle.std.proofs.lemmas.List.{length-append}
 use Rattle.avr_isa.specs.declared.form.Form.{Form}
 use Rattle.avr_isa.specs.Encoding.{first_word, second_word, IsRow}
@@ -10,7 +11,7 @@ use Rattle.avr_isa.specs.Addresses.{wrapping_sum}
 use Rattle.flash_words.specs.Pages.{word_at}
 use Rattle.nat_template.specs.declared.piece.Piece.{Piece}
 use Rattle.nat_template.specs.declared.piece.Piece.TheVariants.{Fixed}
-use Rattle.nat_template.specs.Words.{second_words, words_of_form, words_of_forms, width_of}
+use Rattle.nat_template.specs.Words.{words_of_form, words_of_forms, width_of}
 use Rattle.nat_template.specs.Templates.{inline}
 use Rattle.page_draft.specs.Standing.{Stands}
 use Rattle.inline_laws.specs.Rows.{Row}
@@ -33,7 +34,7 @@ stand_split words a (x ∷ xs) ys all =
     let there : a + 1 + length xs ≡ a + length (x ∷ xs) = omega arith in
     ((all.0, rest.0), subst P there rest.1)
 
-row_by : (form : Form) (words : List ℕ) (a : ℕ) (second : Option ℕ) → second_word form ≡ second → a + 1 < 65536 → Stand words a (first_word form ∷ second_words second) → IsRow form (word_at words a) (word_at words (wrapping_sum a 1))
+row_by : (form : Form) (words : List ℕ) (a : ℕ) (second : Option ℕ) → second_word form ≡ second → a + 1 < 65536 → Stand words a (first_word form ∷ option_to_list second) → IsRow form (word_at words a) (word_at words (wrapping_sum a 1))
 row_by form words a None is room stands = record {
   opcode = stands.0;
   address = let P : Option ℕ → Type 0 = λ s. MatchOption s ⊤ (λ w. word_at words (wrapping_sum a 1) ≡ w) in subst P (sym is) tt;
@@ -51,7 +52,7 @@ row_stands words a [] room valid stands = tt
 row_stands words a (form ∷ forms) room valid stands =
     let two = stand_split words a (words_of_form form) (words_of_forms forms) stands in
     let here : a + 1 < 65536 = omega arith in
-    let more : a + width_of form + length (words_of_forms forms) + 1 < 65536 = omega (arith, length-append (second_words (second_word form)) (words_of_forms forms)) in
+    let more : a + width_of form + length (words_of_forms forms) + 1 < 65536 = omega (arith, length-append (option_to_list (second_word form)) (words_of_forms forms)) in
     (the_form_only form (word_at words a) (word_at words (wrapping_sum a 1)) valid.0 (row_by form words a (second_word form) refl here two.0), row_stands words (a + width_of form) forms more valid.1 two.1)
 
 -- from the pieces of an inline template; behind them stands the pc

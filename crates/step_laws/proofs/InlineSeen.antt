@@ -14,6 +14,7 @@ use Rattle.avr_exec.specs.Registers.{is_own, own_byte, with_own_byte, with_count
 use Rattle.avr_exec.specs.Asks.{ask_of, load_of, store_of}
 use Rattle.avr_exec.specs.Effects.{finish_of, loaded, stored}
 use Rattle.avr_exec.specs.Execution.{answered_by, answer_of}
+use Rattle.avr_exec.specs.StackRules.{push_on, pop_from}
 use Rattle.avr_exec.specs.Spaces.{Went as WentOn, Stopped as StoppedOn}
 use Rattle.avr_exec.proofs.OneAnswer.{exec_went}
 use Rattle.sram_layout.specs.Bytes.{byte_at, with_byte, data_word_at}
@@ -37,11 +38,11 @@ use Rattle.inline_laws.specs.InlineWays.{from_frame, above_pointer}
 
 -- what the program's memory answers at an address of the window
 pushed_there : (g : Guarded) (sp v : ℕ) → is_stack sp ≡ true → answer_of guarded_calls g (PushByte sp v) ≡ WentOn Done (with_sram g sp v)
-unfolding answer_of push
+unfolding answer_of push push_on
 pushed_there g sp v stack = ap (λ b. answered_by (λ (_ : Unit {0}). Done) (cond b (WentOn tt (with_sram g sp v)) (StoppedOn (StackStop sp)))) stack
 
 popped_there : (g : Guarded) (sp : ℕ) → is_stack (wrapping_sum sp 1) ≡ true → answer_of guarded_calls g (PopByte sp) ≡ WentOn (Byte (byte_at g.sram (wrapping_sum sp 1))) g
-unfolding answer_of pop
+unfolding answer_of pop pop_from
 popped_there g sp stack = ap (λ b. answered_by Byte (cond b (WentOn (byte_at g.sram (wrapping_sum sp 1)) g) (StoppedOn (StackStop (wrapping_sum sp 1))))) stack
 
 not_low : (a : ℕ) → 0x0D00 ≤ a → nat_lt a 0x20 ≡ false

@@ -5,7 +5,7 @@ use Rattle.avr_isa.specs.declared.form.Form.TheVariants as forms
 use Rattle.flash_words.specs.Pages.{word_at}
 use Rattle.sram_layout.specs.Bytes.{byte_at}
 use Rattle.sram_layout.specs.Cells.{count_cell}
-use Rattle.nat_template.specs.Stubs.{plain_stub}
+use Rattle.nat_template.specs.declared.piece.Piece.TheVariants.{Link}
 use Rattle.page_draft.specs.Standing.{Stands, jump_word}
 use Rattle.mote_core.specs.declared.mote.Mote.{Mote}
 use Rattle.step_laws.specs.States.{Begins, InPool, State, mote_of, with_mote}
@@ -32,7 +32,7 @@ same_bridged : (m : Mote) (ret p : ℕ) → SameProgram m (record m { cpu = reco
 same_bridged m ret p = record { registers = refl; status = refl; top = refl; size = pushed_size m.sram ret; bytes = λ b low apart apart'. pushed_kept m.sram ret b (omega arith) apart apart'; flash = refl; devices = refl; swap = refl }
 
 -- one plain move, and behind it at most the service BRIDGE
-pub link_law : (links : Links) (x : State) (w t : ℕ) (b : Bool) → IsRunning x → IsStretch x.kernel.layout (mote_of x).flash.words w 3 → Stands links.enters (mote_of x).flash.words w (plain_stub t) → EachLink links.marks w (plain_stub t) → IsIdle x.kernel → (mote_of x).cpu.pc ≡ w
+pub link_law : (links : Links) (x : State) (w t : ℕ) (b : Bool) → IsRunning x → IsStretch x.kernel.layout (mote_of x).flash.words w 3 → Stands links.enters (mote_of x).flash.words w (Link t ∷ []) → EachLink links.marks w (Link t ∷ []) → IsIdle x.kernel → (mote_of x).cpu.pc ≡ w
     → Begins x.kernel.layout (mote_of x).flash.words w b → (way : Way links x b t (byte_at (mote_of x).sram count_cell) false) × (count_plain way.rest ≡ 0)
 unfolding lines_of
 link_law links x w t b free row stands marks fit is starts =

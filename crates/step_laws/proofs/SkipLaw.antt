@@ -1,5 +1,5 @@
 -- A skip.
-use Rattle.std.proofs.Common.{◌%◌, ℕ, ◌≡◌, ◌+◌, ◌∷◌, ◌∙◌, Bool, true, false, cond, List, refl, sym, ap, ap₂, arith, subst}
+use Rattle.std.proofs.Common.{◌%◌, ℕ, ◌≡◌, ◌+◌, ◌∙◌, Bool, true, false, cond, List, refl, sym, ap, ap₂, arith, subst}
 use Rattle.std.specs.Prelude.{if◌then◌else◌, ◌&&◌, Some, None, not}
 use Rattle.std.specs.Option.{option_map}
 use Rattle.avr_isa.specs.Crossing.{is_crossing}
@@ -23,9 +23,8 @@ use Rattle.mote_core.specs.Conditions.{can_step, is_device_ask}
 use Rattle.mote_core.specs.Step.{form_at as form_at_mote, next_size as mote_next_size, space_of, stepped}
 use Rattle.nat_template.specs.declared.shapes.TemplateShape.TheVariants.{Skip}
 use Rattle.nat_template.specs.declared.piece.Piece.{Piece}
-use Rattle.nat_template.specs.declared.piece.Piece.TheVariants.{Fixed}
 use Rattle.nat_template.specs.Stubs.{stub}
-use Rattle.nat_template.specs.Templates.{template_by, jump_over, skip_target}
+use Rattle.nat_template.specs.Templates.{template_by, passing}
 use Rattle.nat_template.proofs.Sizes.{stub_size}
 use Rattle.page_draft.specs.Standing.{Stands}
 use Rattle.page_draft.specs.Runs.{shape_at, template_at, size_at, next_of, is_closed}
@@ -64,8 +63,8 @@ skip_by links x a v form s shape is skips =
     let inside = s.code.inside in
     let short' = setting_short x s.ready.bounded.right in
     let instr : instruction_at image a ≡ Some form = is in
-    let t = skip_target a (size_at image (a + 1)) in
-    let template : template_at image a ≡ Fixed (word image a) ∷ jump_over (stub a t) ∷ stub a t = ap (λ s. template_by s a (word image a) (instruction_at image a) (size_at image (a + 1))) shape in
+    let t = wrapping_sum a (1 + size_at image (a + 1)) in
+    let template : template_at image a ≡ passing (word image a) (stub a t) = ap (λ s. template_by s a (word image a) (instruction_at image a) (size_at image (a + 1))) shape in
     let P : List Piece → Type 0 = λ pieces. Stands links.enters words v pieces in
     let stands = subst P template s.code.template in
     let row = stretch_of links k.layout image words a v s.ready.bounded.right s.code in

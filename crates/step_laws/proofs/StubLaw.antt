@@ -1,5 +1,5 @@
 -- The way through any stub, from where it stands.
-use Rattle.std.proofs.Common.{ℕ, ◌≡◌, ◌+◌, ◌∷◌, ◌∙◌, Bool, true, false, List, get_or, map, refl, ap, arith}
+use Rattle.std.proofs.Common.{ℕ, ◌≡◌, ◌+◌, ◌∷◌, ◌∙◌, Bool, true, false, List, [], get_or, map, refl, ap, arith}
 use Rattle.std.specs.Prelude.{if◌then◌else◌}
 use Rattle.avr_isa.specs.Crossing.{is_crossing}
 use Rattle.avr_isa.specs.Encoding.{second_word}
@@ -9,7 +9,7 @@ use Rattle.sram_layout.specs.Bytes.{byte_at}
 use Rattle.sram_layout.specs.Cells.{count_cell}
 use Rattle.nat_template.specs.declared.piece.Piece.TheVariants.{Fixed, Link}
 use Rattle.nat_template.specs.Words.{words_of_forms}
-use Rattle.nat_template.specs.Stubs.{count_down, call_word, stub, crossing_stub, plain_stub, service, quantum_entry}
+use Rattle.nat_template.specs.Stubs.{count_down, call_word, stub, crossing_stub, service, quantum_entry}
 use Rattle.page_draft.specs.Standing.{Stands, size}
 use Rattle.page_draft.proofs.PieceLaws.{stands_split, stands_fixed}
 use Rattle.preempt_count.specs.Counting.{count_after, count_over}
@@ -42,9 +42,9 @@ crossing_parts links layout words w t row stands marks =
     }
 
 stub_by : (links : Links) (x : State) (from t w : ℕ) (b c : Bool) → is_crossing from t ≡ c → IsRunning x
-    → IsStretch x.kernel.layout (mote_of x).flash.words w (size (if c then crossing_stub t else plain_stub t))
-    → Stands links.enters (mote_of x).flash.words w (if c then crossing_stub t else plain_stub t)
-    → EachLink links.marks w (if c then crossing_stub t else plain_stub t) → IsIdle x.kernel → (mote_of x).cpu.pc ≡ w
+    → IsStretch x.kernel.layout (mote_of x).flash.words w (size (if c then crossing_stub t else Link t ∷ []))
+    → Stands links.enters (mote_of x).flash.words w (if c then crossing_stub t else Link t ∷ [])
+    → EachLink links.marks w (if c then crossing_stub t else Link t ∷ []) → IsIdle x.kernel → (mote_of x).cpu.pc ≡ w
     → Begins x.kernel.layout (mote_of x).flash.words w b → Way links x b t (if c then count_after x.kernel.quantum (byte_at (mote_of x).sram count_cell) else byte_at (mote_of x).sram count_cell) c
 unfolding second_word
 stub_by links x from t w b true crosses free row stands marks fit is starts = crossing_law links x w t b free (crossing_parts links x.kernel.layout (mote_of x).flash.words w t row stands marks) fit is starts

@@ -12,10 +12,11 @@ use Rattle.avr_isa.specs.Crossing.{is_crossing}
 use Rattle.avr_decode.specs.Program.{instruction_at}
 use Rattle.avr_flags.specs.Status.{has_bit, interrupts}
 use Rattle.avr_exec.specs.declared.cpu.Cpu.{Cpu}
+use Rattle.avr_exec.specs.StackRules.{push_return_on}
 use Rattle.avr_exec.specs.Spaces.{Outcome, Went, Stopped}
 use Rattle.avr_exec.specs.Execution.{exec_of, is_executed}
 use Rattle.flat_machine.specs.declared.part.Part.{Part}
-use Rattle.flat_machine.specs.FlatSpace.{FlatSpace, flat_calls, push_return}
+use Rattle.flat_machine.specs.FlatSpace.{FlatSpace, flat_calls, flat_stack}
 use Rattle.flat_machine.specs.FlatMachine.{Program, FlatState, Moment, Tried, Stops, Goes, Wakes, Halted, Asleep, Next, Ends, On, tried, tried_form, executed, stepped, slept, slept_by, read_or_executed, foreign_word, space_of, next_size, jumps_to_itself, next_of, next_by, is_taken, interrupted, interrupted_by, lowest}
 use Rattle.flat_machine.proofs.MachineLaws.{form_tried}
 use Rattle.task_turns.specs.Checkpoints.{checks_by}
@@ -105,7 +106,8 @@ interrupted_counts part s k (Stopped stop) line m is = absurd (cc)
 interrupted_counts part s k (Went done space) line m is = sym (ap (λ (next : Next). (moment_or m next).now.crossings) is)
 
 taken_by : (program : Program) (m : Moment) (b : Bool) (line : Option Line) (new : Moment) → b ≡ true → cond b (interrupted program m.now) (next_by program.quantum m.now (tried program m.now)) ≡ On line new → new.now.crossings ≡ m.now.crossings
-taken_by program m true line new taken is = interrupted_counts program.part m.now (lowest (enabled m.now.devices)) (push_return (space_of program m.now) m.now.cpu.sp m.now.cpu.pc) line new is
+taken_by program m true line new taken is =
+    interrupted_counts program.part m.now (lowest (enabled m.now.devices)) (push_return_on flat_stack (space_of program m.now) m.now.cpu.sp m.now.cpu.pc) line new is
 taken_by program m false line new taken is = absurd (cc)
 
 -- an interrupt is no crossing

@@ -17,8 +17,7 @@ use Rattle.mote_devices.specs.Inputs.{unreceived, at_poll}
 use Rattle.mote_devices.specs.Waking.{wake}
 use Rattle.base_laws.specs.Lists.{many}
 use Rattle.mote_devices.specs.Accesses.{write, read}
-use Rattle.flat_machine.specs.Classes.{class_of}
-use Rattle.flat_machine.specs.FlatSpace.{load, store, push, pop, push_return, pop_return}
+use Rattle.avr_exec.specs.StackRules.{push_on, pop_from, push_return_on, pop_return_from}
 use Rattle.flat_machine.specs.FlatMachine.{Program, Halted, run, next_of, tried, no_pages}
 use Rattle.task_turns.specs.Turns.{Player, Wrote, Stops, tries, turns, at_reset_in, from_start}
 
@@ -56,7 +55,7 @@ unfolding tries run next_of tried the_form is_long two_word_form one_word_form i
     form_0001 form_0010 displaced_form load_form store_form plain_form flag_or_plain_form one_register_form register_or_pair_form io_bit_form
     transfer_form form_1001 io_form register_bit_form form_1111 exec_of answer_of ask_of finish_of two_of immediate_of word_of one_of load_of store_of
     pointed loaded stored with_pointer own_byte with_own_byte bitwise_status with_result_flags sum_status difference_status inc_status dec_status many
-    no_pages class_of load store push pop push_return pop_return read write can_read can_write register_at relative unreceived at_poll wake
+    no_pages push_on pop_from push_return_on pop_return_from read write can_read can_write register_at relative unreceived at_poll wake
 rows = record {
   one_after_other = refl;
   one_switch = refl;

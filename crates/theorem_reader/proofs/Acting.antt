@@ -1,9 +1,11 @@
 -- The acts of a walk, and what each of them is.
-use Rattle.std.proofs.Common.{◌≡◌, ◌≢◌, ℕ, ◌/◌, ◌≤◌, Bool, true, false, nat_le, if◌then◌else◌, ◌%◌, ◌-◌, slice_index, cond, List, [], ◌∷◌, length, Option, Some, None, refl, sym, ap, ◌∙◌, subst, arith, ◌⊎◌, ◌<◌, inl, inr}
+use Rattle.std.proofs.Common.{◌≡◌, ◌≢◌, ℕ, ◌/◌, ◌≤◌, Bool, true, false, nat_le, if◌then◌else◌, ◌%◌, ◌-◌, slice_index, cond, List, [], ◌∷◌, length, Option, Some, None, refl, sym, ap, ◌∙◌, subst}
+use Rattle.std.proofs.Common.{arith, ◌⊎◌, ◌<◌, inl, inr}
 use Rattle.sram_layout.specs.Bytes.{byte_at, with_byte}
 use Rattle.flash_words.specs.declared.layout.Layout.{Layout}
 use Rattle.flash_words.specs.Layouts.{layout_of, image_of, IsRight}
 use Rattle.mote_devices.specs.declared.line.Line.{Line}
+use Rattle.mote_core.specs.declared.mote.Mote.{Mote}
 use Rattle.mote_core.specs.Step.{stepped}
 use Rattle.mote_core.specs.Shown.{line_shown}
 use Rattle.std.specs.Prelude.{IfSome, is_some, Result, Ok, Err}
@@ -42,11 +44,13 @@ use Rattle.kernel_entry.proofs.ServedLaws.{served_leaves}
 use Rattle.step_laws.proofs.ServiceMoves.{kernel_served}
 use Rattle.step_laws.specs.Moves.{Plain, Serve, Move, Begin, Within, Arrive, Take}
 use Rattle.step_laws.specs.Numbers.{one_if}
-use Rattle.step_laws.specs.States.{State, end_by, mote_of, after_taking, stops_taking, store_of, with_store, placed, settled_by, arrived}
+use Rattle.step_laws.specs.States.{State, end_by, mote_of, stops_taking, store_of, with_store, placed, settled_by, arrived}
 use Rattle.step_laws.specs.Walks.{Walk, MakesPlain, MakesArrive, MakesTake}
 use Rattle.program_steps.proofs.Arrived.{after_arrived, pc_in}
+use Rattle.tk_run.proofs.OneWalk.{kernel_taken}
 use Rattle.theorem_reader.specs.Acts.{Act, Step, Service, Arrival, Interrupt, IsStep, Relinks, IsNext, IsMade, Arrives, In, Outside, Refused as RefusedThere, IsArrival, IsInterrupt, Follow}
 use Rattle.theorem_reader.specs.Pools.{pool_from, IsPlaceOf}
+use Rattle.theorem_reader.proofs.Motes.{one_core, one_mote}
 use Rattle.theorem_reader.proofs.Linking.{relinks_by}
 use Rattle.theorem_reader.proofs.NextPage.{pool_pages_of, ring_stays, next_is, anew_from, erased_free}
 use Rattle.theorem_reader.proofs.KeptLinks.{OthersKeep, others_keep, lost_in}
@@ -78,8 +82,7 @@ step_is from x y begins line pool makes =
       high = omega (arith, pool.end, makes.pool.to);
       flash = makes.step.flash;
       swap = makes.step.swap;
-      cells = λ a low high. makes.kept.below a low (omega arith);
-      tables = λ a low high. makes.kept.above a low (omega arith);
+      cells = (λ a low high. makes.kept.below a low (omega arith), λ a low high. makes.kept.above a low (omega arith));
       executed = makes.step.executed;
     } in
     subst (λ (s : State). IsStep from line (mote_of x) (mote_of s)) (sym makes.result) (subst (λ (l : Option Line). IsStep from l (mote_of x) next) makes.written is)
@@ -98,14 +101,17 @@ pool_of : (image : List ℕ) (quantum : ℕ) (x : State) → Holds image quantum
 pool_of image quantum x holds = subst (Begins (pool_from image)) (sym holds.laid) (pool_begins image)
 
 -- outside the image nothing is done
-beyond_by : (layout : Layout) (old new : Store) (t : ℕ) (result : Result Moved Refused) → layout.image_words ≤ t → bridge.Arrives layout old new t result → (new ≡ old) × ((moved : Moved) → result ≡ Ok moved → ⊥)
+beyond_by : (layout : Layout) (old new : Store) (t : ℕ) (result : Result Moved Refused) → layout.image_words ≤ t → bridge.Arrives layout old new t result
+    → (new ≡ old) × ((moved : Moved) → result ≡ Ok moved → ⊥)
 beyond_by layout old new t result outside (bridge.Beyond out same answer) = (same, λ moved is. (let e : Err (record { why = refusals.Wild t; torn = None }) ≡ Ok moved = sym answer ∙ is in cc))
 beyond_by layout old new t result outside (bridge.Found place inside found same answer) = absurd (omega (arith, outside, inside))
 beyond_by layout old new t result outside (bridge.Free page inside missed lowest makes) = absurd (omega (arith, outside, inside))
 beyond_by layout old new t result outside (bridge.Full inside missed full recycles) = absurd (omega (arith, outside, inside))
 
-pub beyond_is : (layout : Layout) (old new : Store) (t : ℕ) (stub : Option ℕ) (arrival : BridgeArrival) → layout.image_words ≤ t → ArrivesFrom layout old new t stub arrival → (new ≡ old) × (arrival.place ≡ None) × (arrival.made ≡ false)
-beyond_is layout old new t stub arrival outside (bridge.Stopped refused arrives is) = ((beyond_by layout old new t _ outside arrives).0, ap (λ (a : BridgeArrival). a.place) is, ap (λ (a : BridgeArrival). a.made) is)
+pub beyond_is : (layout : Layout) (old new : Store) (t : ℕ) (stub : Option ℕ) (arrival : BridgeArrival) → layout.image_words ≤ t → ArrivesFrom layout old new t stub arrival
+    → (new ≡ old) × (arrival.place ≡ None) × (arrival.made ≡ false)
+beyond_is layout old new t stub arrival outside (bridge.Stopped refused arrives is) =
+    ((beyond_by layout old new t _ outside arrives).0, ap (λ (a : BridgeArrival). a.place) is, ap (λ (a : BridgeArrival). a.made) is)
 beyond_is layout old new t stub arrival outside (bridge.Went moved arrives none is) = absurd ((beyond_by layout old new t _ outside arrives).1 moved refl)
 beyond_is layout old new t stub arrival outside (bridge.Resolved mid moved s arrives some stop done same is) = absurd ((beyond_by layout old mid t _ outside arrives).1 moved refl)
 
@@ -116,7 +122,8 @@ pc_unplaced x None None is = refl
 pc_unplaced x None (Some refused) is = refl
 
 -- a refused arrival leaves the pc, or in the pool
-place_by : (image words : List ℕ) (x y : State) (target : ℕ) (store : Store) (place : Option ℕ) (refused : Option Refused) → length image ≤ 24576 → y ≡ settled_by (placed (with_store x store) place) refused
+place_by : (image words : List ℕ) (x y : State) (target : ℕ) (store : Store) (place : Option ℕ) (refused : Option Refused) → length image ≤ 24576
+    → y ≡ settled_by (placed (with_store x store) place) refused
     → IsFaithful (layout_of (length image)) image words → IfSome place (IsEntry (layout_of (length image)) words target)
     → ((mote_of y).cpu.pc ≡ (mote_of x).cpu.pc) ⊎ ((pool_from image ≤ (mote_of y).cpu.pc) × ((mote_of y).cpu.pc < 0xF000))
 place_by image words x y target store None refused few after code entered =
@@ -127,8 +134,10 @@ place_by image words x y target store (Some place) refused few after code entere
     let low = place_low image words target place (place_is image words target place (faithful_mapped l image words (layout_right (length image) few) code) entered) in
     inr (omega (arith, pc, low.0), omega (arith, pc, low.1))
 
-place_either : (image : List ℕ) (x y : State) (target : ℕ) (store : Store) (arrival : BridgeArrival) (stop : ResolveStop) → length image ≤ 24576 → y ≡ arrived x store arrival → arrival.refused ≡ Some (bridge.refused_by stop)
-    → IsFaithful (layout_of (length image)) image (with_torn (mote_of y).flash.words stop.torn) → IfSome arrival.place (λ v. IsEntry (layout_of (length image)) (with_torn (mote_of y).flash.words stop.torn) target v)
+place_either : (image : List ℕ) (x y : State) (target : ℕ) (store : Store) (arrival : BridgeArrival) (stop : ResolveStop) → length image ≤ 24576 → y ≡ arrived x store arrival
+    → arrival.refused ≡ Some (bridge.refused_by stop)
+    → IsFaithful (layout_of (length image)) image (with_torn (mote_of y).flash.words stop.torn)
+    → IfSome arrival.place (λ v. IsEntry (layout_of (length image)) (with_torn (mote_of y).flash.words stop.torn) target v)
     → ((mote_of y).cpu.pc ≡ (mote_of x).cpu.pc) ⊎ ((pool_from image ≤ (mote_of y).cpu.pc) × ((mote_of y).cpu.pc < 0xF000))
 place_either image x y target store arrival stop few after is code entered =
     place_by image (with_torn (mote_of y).flash.words stop.torn) x y target store arrival.place arrival.refused few after code entered
@@ -142,14 +151,16 @@ made_by true one = refl
 made_by false one = absurd (omega (arith, one))
 
 -- where none was refused, none that was tried is listed
-unlisted : (layout : Layout) (old new : Memory) (refused : Option Refused) (op : ℕ) → refused ≡ None → Tried layout old new (stopped_by refused) → old.ops < op → op ≤ new.ops → (listed : Bool) → is_listed old op ≡ listed → is_listed old op ≡ false
+unlisted : (layout : Layout) (old new : Memory) (refused : Option Refused) (op : ℕ) → refused ≡ None → Tried layout old new (stopped_by refused) → old.ops < op → op ≤ new.ops → (listed : Bool)
+    → is_listed old op ≡ listed → is_listed old op ≡ false
 unlisted layout old new refused op none tried later most false is = is
 unlisted layout old new refused op none tried later most true is =
     absurd (let e : None ≡ Some op = sym (ap (λ (r : Option Refused). number_in (stopped_by r)) none) ∙ tried.only op later most is in cc)
 
 -- where control is behind one that was not refused
 in_place : (image : List ℕ) (x y : State) (target place : ℕ) (store : Store) (arrival : BridgeArrival) → length image ≤ 24576 → image_of (layout_of (length image)) (mote_of x).flash.words ≡ image
-    → y ≡ arrived x store arrival → KeptThrough (layout_of (length image)) (store_of x) (store_of y) target arrival → arrival.place ≡ Some place → arrival.refused ≡ None → IsPlaceOf image (mote_of y).flash.words target (mote_of y).cpu.pc
+    → y ≡ arrived x store arrival → KeptThrough (layout_of (length image)) (store_of x) (store_of y) target arrival → arrival.place ≡ Some place → arrival.refused ≡ None
+    → IsPlaceOf image (mote_of y).flash.words target (mote_of y).cpu.pc
 in_place image x y target place store arrival few held after kept there none =
     let l = layout_of (length image) in
     let words = (mote_of y).flash.words in
@@ -174,7 +185,8 @@ settled_end x refused found is = ap (λ r. (settled_by x r).end) is
 abbrev pub refusal_end : (image : List ℕ) (target ops : ℕ) → End
 refusal_end image target ops = if nat_le (length image) target then ends.Wild target else ends.Flash ops
 
-ended_by : (image : List ℕ) (x y : State) (target : ℕ) (store : Store) (arrival : BridgeArrival) → y ≡ arrived x store arrival → KeptThrough (layout_of (length image)) (store_of x) (store_of y) target arrival
+ended_by : (image : List ℕ) (x y : State) (target : ℕ) (store : Store) (arrival : BridgeArrival) → y ≡ arrived x store arrival
+    → KeptThrough (layout_of (length image)) (store_of x) (store_of y) target arrival
     → Answered (layout_of (length image)) (store_of x) (store_of y) target arrival → is_some y.end ≡ true → y.end ≡ Some (refusal_end image target (mote_of y).flash.ops)
 ended_by image x y target store arrival after kept (Answered.Wild is outside) over =
     let out : nat_le (length image) target ≡ true = grind (arith, nat_tests, outside) in
@@ -191,28 +203,34 @@ ended_by image x y target store arrival after kept (Answered.In place there none
     absurd (let e : ◌≡◌ {A = Bool} true false = sym over ∙ refused_flag x y store arrival after ∙ ap is_some none in cc)
 
 -- where a page was made, a place is known
-place_made : (layout : Layout) (old new : Store) (t : ℕ) (stub : Option ℕ) (arrival : BridgeArrival) → ArrivesFrom layout old new t stub arrival → arrival.made ≡ true → (place : ℕ) × (arrival.place ≡ Some place)
+place_made : (layout : Layout) (old new : Store) (t : ℕ) (stub : Option ℕ) (arrival : BridgeArrival) → ArrivesFrom layout old new t stub arrival → arrival.made ≡ true
+    → (place : ℕ) × (arrival.place ≡ Some place)
 place_made layout old new t stub arrival (bridge.Stopped refused arrives is) made = absurd (let e : ◌≡◌ {A = Bool} true false = sym made ∙ ap (λ (a : BridgeArrival). a.made) is in cc)
 place_made layout old new t stub arrival (bridge.Went moved arrives none is) made = (moved.place, ap (λ (a : BridgeArrival). a.place) is)
 place_made layout old new t stub arrival (bridge.Resolved mid moved s arrives some stop done same is) made = (moved.place, ap (λ (a : BridgeArrival). a.place) is)
 
 -- what is told of a page that was made
-made_there : (image : List ℕ) (x y : State) (target place : ℕ) (stub : Option ℕ) (store : Store) (arrival : BridgeArrival) → image_of (layout_of (length image)) (mote_of x).flash.words ≡ image → y ≡ arrived x store arrival
-    → ArrivesFrom (layout_of (length image)) (store_of x) (store_of y) target stub arrival → IsRight (layout_of (length image)) → IsFaithful (layout_of (length image)) image (mote_of x).flash.words → ring_of (mote_of x).sram < (layout_of (length image)).pool_pages
-    → CameThrough (layout_of (length image)) (mote_of x).flash.words stub target → arrival.made ≡ true → arrival.place ≡ Some place → IsPlaceOf image (mote_of y).flash.words target place → IsMade image target (mote_of x) (mote_of y)
+made_there : (image : List ℕ) (x y : State) (target place : ℕ) (stub : Option ℕ) (store : Store) (arrival : BridgeArrival) → image_of (layout_of (length image)) (mote_of x).flash.words ≡ image
+    → y ≡ arrived x store arrival
+    → ArrivesFrom (layout_of (length image)) (store_of x) (store_of y) target stub arrival → IsRight (layout_of (length image)) → IsFaithful (layout_of (length image)) image (mote_of x).flash.words
+    → ring_of (mote_of x).sram < (layout_of (length image)).pool_pages
+    → CameThrough (layout_of (length image)) (mote_of x).flash.words stub target → arrival.made ≡ true → arrival.place ≡ Some place → IsPlaceOf image (mote_of y).flash.words target place
+    → IsMade image target (mote_of x) (mote_of y)
 made_there image x y target place stub store arrival held after from right sound ring came made there begins =
     let l = layout_of (length image) in
     let pc : (mote_of y).cpu.pc ≡ place = ap (λ (s : State). (mote_of s).cpu.pc) after ∙ pc_in (with_store x store) arrival.place arrival.refused place there in
-    record {
-      anew = λ v is. anew_from l (store_of x) (store_of y) target stub arrival from made v (entry_is image (mote_of x).flash.words target v is);
-      next = subst (λ v. IsNext image (mote_of x) (mote_of y) (v / 128)) (sym pc) (next_is image (mote_of x) (mote_of y) target stub arrival place right held sound ring from made there);
-      place = subst (IsPlaceOf image (mote_of y).flash.words target) (sym pc) begins;
-      far = goes_far image (mote_of x) (mote_of y) target place stub arrival right held sound ring came from made there pc;
-    }
+    let anew : (v : ℕ) → ¬ IsPlaceOf image (mote_of x).flash.words target v =
+    λ v is. anew_from l (store_of x) (store_of y) target stub arrival from made v (entry_is image (mote_of x).flash.words target v is) in
+    goes_far image (mote_of x) (mote_of y) target place stub arrival right held sound ring came from made there pc anew
+    (subst (λ v. IsNext image target (mote_of x) (mote_of y) (v / 128)) (sym pc)
+    (next_is image (mote_of x) (mote_of y) target stub arrival place right held sound ring anew from made there))
+    (subst (IsPlaceOf image (mote_of y).flash.words target) (sym pc) begins)
 
 -- no page was made, or it is another one than this
-unmade_or_other : (image : List ℕ) (x y : State) (target : ℕ) (stub : Option ℕ) (store : Store) (arrival : BridgeArrival) → y ≡ arrived x store arrival → ArrivesFrom (layout_of (length image)) (store_of x) (store_of y) target stub arrival
-    → (made : Bool) → arrival.made ≡ made → (page : ℕ) → (one_if made ≡ 0) ⊎ (page ≢ (mote_of y).cpu.pc / 128) → (arrival.made ≡ false) ⊎ ((place : ℕ) × (arrival.place ≡ Some place) × (page ≢ place / 128))
+unmade_or_other : (image : List ℕ) (x y : State) (target : ℕ) (stub : Option ℕ) (store : Store) (arrival : BridgeArrival) → y ≡ arrived x store arrival
+    → ArrivesFrom (layout_of (length image)) (store_of x) (store_of y) target stub arrival
+    → (made : Bool) → arrival.made ≡ made → (page : ℕ) → (one_if made ≡ 0) ⊎ (page ≢ (mote_of y).cpu.pc / 128)
+    → (arrival.made ≡ false) ⊎ ((place : ℕ) × (arrival.place ≡ Some place) × (page ≢ place / 128))
 unmade_or_other image x y target stub store arrival after from false is_made page which = inl is_made
 unmade_or_other image x y target stub store arrival after from true is_made page (inl zero) = absurd (omega (arith, zero))
 unmade_or_other image x y target stub store arrival after from true is_made page (inr away) =
@@ -221,10 +239,14 @@ unmade_or_other image x y target stub store arrival after from true is_made page
     inr (there.0, there.1, λ same. away (same ∙ ap (λ v. v / 128) (sym pc)))
 
 -- how it ended
-arrives_by : (image : List ℕ) (x y : State) (target : ℕ) (stub : Option ℕ) (store : Store) (arrival : BridgeArrival) → length image ≤ 24576 → image_of (layout_of (length image)) (mote_of x).flash.words ≡ image
-    → y ≡ arrived x store arrival → store ≡ store_of y → ArrivesFrom (layout_of (length image)) (store_of x) (store_of y) target stub arrival → KeptThrough (layout_of (length image)) (store_of x) (store_of y) target arrival
-    → Answered (layout_of (length image)) (store_of x) (store_of y) target arrival → (made : Bool) → arrival.made ≡ made → IsRight (layout_of (length image)) → IsFaithful (layout_of (length image)) image (mote_of x).flash.words
-    → CameThrough (layout_of (length image)) (mote_of x).flash.words stub target → OthersKeep image target (mote_of x) (mote_of y) arrival → ring_of (mote_of x).sram < (layout_of (length image)).pool_pages → Arrives image (is_some y.end) target (one_if made) (mote_of x) (mote_of y)
+arrives_by : (image : List ℕ) (x y : State) (target : ℕ) (stub : Option ℕ) (store : Store) (arrival : BridgeArrival) → length image ≤ 24576
+    → image_of (layout_of (length image)) (mote_of x).flash.words ≡ image
+    → y ≡ arrived x store arrival → store ≡ store_of y → ArrivesFrom (layout_of (length image)) (store_of x) (store_of y) target stub arrival
+    → KeptThrough (layout_of (length image)) (store_of x) (store_of y) target arrival
+    → Answered (layout_of (length image)) (store_of x) (store_of y) target arrival → (made : Bool) → arrival.made ≡ made → IsRight (layout_of (length image))
+    → IsFaithful (layout_of (length image)) image (mote_of x).flash.words
+    → CameThrough (layout_of (length image)) (mote_of x).flash.words stub target → OthersKeep image target (mote_of x) (mote_of y) arrival
+    → ring_of (mote_of x).sram < (layout_of (length image)).pool_pages → Arrives image (is_some y.end) target (one_if made) (mote_of x) (mote_of y)
 arrives_by image x y target stub store arrival few held after same from kept (Answered.Wild is outside) made is_made right sound came others ring =
     let nothing = beyond_is (layout_of (length image)) (store_of x) (store_of y) target stub arrival outside from in
     Outside (refused_flag x y store arrival after ∙ ap is_some is) outside (ap one_if (sym is_made ∙ nothing.2)) (ap (λ (s : Store). s.flash) nothing.0)
@@ -238,7 +260,9 @@ arrives_by image x y target stub store arrival few held after same from kept (An
     In (refused_flag x y store arrival after ∙ ap is_some none) inside (faithful_is image words few code) begins
     (λ page pool away. others.unrefused none place there page pool (λ is. away (is ∙ ap (λ v. v / 128) (sym pc))))
     (λ zero. (
-      subst (Relinks (mote_of x).flash.words words) (sym pc) (relinks_by l (store_of x) (store_of y) target stub arrival place right (subst (λ i. IsFaithful l i (mote_of x).flash.words) (sym held) sound) came from (is_made ∙ unmade_by made zero) none there),
+      subst (Relinks (mote_of x).flash.words words) (sym pc)
+          (relinks_by l (store_of x) (store_of y) target stub arrival place right (subst (λ i. IsFaithful l i (mote_of x).flash.words) (sym held) sound) came from
+          (is_made ∙ unmade_by made zero) none there),
       ring_stays l (store_of x) (mote_of y) target stub arrival (is_made ∙ unmade_by made zero) place there from,
     ))
     (λ one. made_there image x y target place stub store arrival held after from right sound ring came (is_made ∙ made_by made one) there (subst (IsPlaceOf image words target) pc begins))
@@ -248,7 +272,8 @@ arrives_by image x y target stub store arrival few held after same from kept (An
     let words = (mote_of y).flash.words in
     let tried : Tried l (mote_of x).flash (mote_of y).flash (Some stop) = subst (λ r. Tried l (mote_of x).flash (mote_of y).flash (stopped_by r)) is kept.tried in
     let refusal = tried.refused in
-    let code : IsFaithful l image (with_torn words stop.torn) = subst (λ r. IsFaithful l image (with_torn words (torn_by r))) is (subst (λ i. IsFaithful l i (with_torn words (torn_by arrival.refused))) held kept.code) in
+    let code : IsFaithful l image (with_torn words stop.torn) = subst (λ r. IsFaithful l image (with_torn words (torn_by r))) is
+    (subst (λ i. IsFaithful l i (with_torn words (torn_by arrival.refused))) held kept.code) in
     let entered = subst (λ r. IfSome arrival.place (λ v. IsEntry l (with_torn words (torn_by r)) target v)) is kept.entered in
     RefusedThere (refused_flag x y store arrival after ∙ ap is_some is) inside (omega (arith, refusal.later, refusal.last)) (ap (is_listed (mote_of x).flash) (sym refusal.last) ∙ refusal.listed)
     (but_is image words stop.torn few code refusal.torn) (lost_in (torn_by arrival.refused))
@@ -268,7 +293,8 @@ pub record Arriving (image : List ℕ) (quantum target made ops : ℕ) (x y : St
   pub holds : Holds image quantum y
   pub over : is_some y.end ≡ true → y.end ≡ Some (refusal_end image target (mote_of y).flash.ops)
 
-pub arrival_is : (image : List ℕ) (quantum : ℕ) (x y : State) (target : ℕ) (made : Bool) (ops : ℕ) → Holds image quantum x → MakesArrive x target made ops y → Arriving image quantum target (one_if made) ops x y
+pub arrival_is : (image : List ℕ) (quantum : ℕ) (x y : State) (target : ℕ) (made : Bool) (ops : ℕ) → Holds image quantum x → MakesArrive x target made ops y
+    → Arriving image quantum target (one_if made) ops x y
 unfolding byte_at
 arrival_is image quantum x y target made ops holds makes =
     let l = layout_of (length image) in
@@ -277,8 +303,10 @@ arrival_is image quantum x y target made ops holds makes =
     let right = subst IsRight holds.laid makes.can.right in
     let came = subst (λ k. CameThrough k (mote_of x).flash.words makes.owed.stub target) holds.laid makes.can.came in
     let few = right.image_fits in
-    let from = subst (λ (s : Store). ArrivesFrom l (store_of x) s target makes.owed.stub makes.arrival) (sym after.store_is) (subst (λ k. ArrivesFrom k (store_of x) makes.store target makes.owed.stub makes.arrival) holds.laid makes.arrives) in
-    let kept = subst (λ (s : Store). KeptThrough l (store_of x) s target makes.arrival) (sym after.store_is) (subst (λ k. KeptThrough k (store_of x) makes.store target makes.arrival) holds.laid makes.kept) in
+    let from = subst (λ (s : Store). ArrivesFrom l (store_of x) s target makes.owed.stub makes.arrival) (sym after.store_is)
+    (subst (λ k. ArrivesFrom k (store_of x) makes.store target makes.owed.stub makes.arrival) holds.laid makes.arrives) in
+    let kept = subst (λ (s : Store). KeptThrough l (store_of x) s target makes.arrival) (sym after.store_is)
+    (subst (λ k. KeptThrough k (store_of x) makes.store target makes.arrival) holds.laid makes.kept) in
     let ring = subst (λ (k : Layout). ring_of (mote_of x).sram < k.pool_pages) holds.laid makes.can.ring in
     let counted = ap (λ (s : Store). s.flash.ops) after.store_is ∙ makes.tried in
     let answer = answered l (store_of x) (store_of y) target makes.owed.stub makes.arrival from in
@@ -287,7 +315,8 @@ arrival_is image quantum x y target made ops holds makes =
     let worked = works_from l (store_of x) (store_of y) target makes.owed.stub makes.arrival right own ring came from in
     let leaves = λ (page : ℕ). leaves_from l (store_of x) (store_of y) page target makes.owed.stub makes.arrival right own ring came from in
     let erases = λ (page : ℕ). erases_from l (store_of x) target (mote_of y).flash makes.arrival page (leaves page) in
-    let pc = λ (place : ℕ) (there : makes.arrival.place ≡ Some place). ap (λ (s : State). (mote_of s).cpu.pc) makes.after ∙ pc_in (with_store x makes.store) makes.arrival.place makes.arrival.refused place there in
+    let pc = λ (place : ℕ) (there : makes.arrival.place ≡ Some place). ap (λ (s : State). (mote_of s).cpu.pc) makes.after
+    ∙ pc_in (with_store x makes.store) makes.arrival.place makes.arrival.refused place there in
     record {
       act = record {
         sound = faithful_is image (mote_of x).flash.words few sound;
@@ -296,22 +325,27 @@ arrival_is image quantum x y target made ops holds makes =
         operations = worked.operations;
         tried = omega (arith, counted, worked.counted);
         counted = counted;
-        allowed = λ done behind operation split. allowed_each image (mote_of x).flash worked.operations done behind operation worked.suit (ap (λ (p : Performed). p.memory.ops) worked.is ∙ worked.counted) split;
+        allowed = λ done behind operation split. allowed_each image (mote_of x).flash worked.operations done behind operation worked.suit
+            (ap (λ (p : Performed). p.memory.ops) worked.is ∙ worked.counted) split;
         few = λ page inside erased. (
             let pool = in_pool image page inside in
-            omega (arith, counted, few_from l (store_of x) (store_of y) target page makes.owed.stub makes.arrival pool (erased_free l image (mote_of x).flash.words page right sound pool erased) from, ap one_if makes.makes));
+            omega (
+              arith,
+              counted,
+              few_from l (store_of x) (store_of y) target page makes.owed.stub makes.arrival pool (erased_free l image (mote_of x).flash.words page right sound pool erased) from,
+              ap one_if makes.makes,
+            ));
         most = omega (arith, counted, kept.ops, pool_pages_of image);
         performed = ap (λ (p : Performed). p.memory) worked.is;
         erased = record { twice = λ page below. (erases page).0; never = λ page below. (erases page).1 };
-        registers = after.r;
-        status = after.sreg;
-        pointer = after.sp;
-        devices = after.devices;
-        swap = after.swap;
+        stays = one_mote (mote_of y) (record (mote_of x) { cpu = record (mote_of x).cpu { pc = (mote_of y).cpu.pc }; sram = (mote_of y).sram; flash = (mote_of y).flash })
+            (one_core (mote_of y).cpu (mote_of x).cpu after.r after.sreg after.sp) refl refl after.devices after.swap;
         low = λ a low high. kept.rest.rest a low (inl (omega (arith, high)));
         high = λ a low. kept.rest.rest a (omega (arith, low)) (inr low);
-        below = λ a low. kept.tried.outside a (λ pool. omega (arith, pool.from, begins.first, low));
-        above = λ a high. kept.tried.outside a (λ pool. omega (arith, pool.to, begins.end, high));
+        outside = λ a out. kept.tried.outside a (λ pool. elim out [
+          | inl low ↦ omega (arith, pool.from, begins.first, low)
+          | inr high ↦ omega (arith, pool.to, begins.end, high)
+        ]);
         arrives = arrives_by image x y target makes.owed.stub makes.store makes.arrival few holds.held makes.after (sym after.store_is) from kept answer made makes.makes right sound came
             (others_keep image target (mote_of x) (mote_of y) makes.arrival right sound pc leaves) ring;
       };
@@ -320,13 +354,15 @@ arrival_is image quantum x y target made ops holds makes =
     }
 
 -- two bytes inside the stack window
-inside_by : (sp : ℕ) (b c : Bool) → is_stack sp ≡ b → is_stack (wrapping_difference sp 1) ≡ c → cond b (cond c None (Some (wrapping_difference sp 1))) (Some sp) ≡ None → (is_stack sp ≡ true) × (is_stack (wrapping_difference sp 1) ≡ true)
+inside_by : (sp : ℕ) (b c : Bool) → is_stack sp ≡ b → is_stack (wrapping_difference sp 1) ≡ c → cond b (cond c None (Some (wrapping_difference sp 1))) (Some sp) ≡ None
+    → (is_stack sp ≡ true) × (is_stack (wrapping_difference sp 1) ≡ true)
 inside_by sp true true first second none = (first, second)
 inside_by sp true false first second none = absurd (cc)
 inside_by sp false c first second none = absurd (cc)
 
 -- what an interrupt that was taken leaves of the kernel's bytes
-byte_stays : (k : Kernel) (n target a : ℕ) → interrupts.first_outside (virtual_sp k) ≡ None → 0x0100 ≤ a → a ≤ 0x0CFF → a ≢ 0x0103 → a ≢ 0x0104 → byte_at (interrupts.after_taking k n target).mote.sram a ≡ byte_at k.mote.sram a
+byte_stays : (k : Kernel) (n target a : ℕ) → interrupts.first_outside (virtual_sp k) ≡ None → 0x0100 ≤ a → a ≤ 0x0CFF → a ≢ 0x0103 → a ≢ 0x0104
+    → byte_at (interrupts.after_taking k n target).mote.sram a ≡ byte_at k.mote.sram a
 byte_stays k n target a inside low high first second =
     let sp = virtual_sp k in
     let both = inside_by sp (is_stack sp) (is_stack (wrapping_difference sp 1)) refl refl inside in
@@ -347,10 +383,11 @@ kept_same k new stops same = record {
   quantum = ap (λ (x : Kernel). x.quantum) same;
   mote = record {
     stopped = λ over. ap (λ (x : Kernel). x.mote) same;
-    core = subst (λ (x : Kernel). x.mote.cpu ≡ record k.mote.cpu { sreg = x.mote.cpu.sreg }) (sym same) refl;
-    flash = ap (λ (x : Kernel). x.mote.flash) same;
-    swap = ap (λ (x : Kernel). x.mote.swap) same;
-    cells = λ a low high first second. ap (λ (x : Kernel). slice_index x.mote.sram (a - 0x0100)) same;
+    stays = subst (λ (x : Kernel). x.mote ≡ record k.mote { cpu = record k.mote.cpu { sreg = x.mote.cpu.sreg }; sram = x.mote.sram; devices = x.mote.devices }) (sym same) refl;
+    cells = (
+      λ a low high. ap (λ (x : Kernel). slice_index x.mote.sram (a - 0x0100)) same,
+      λ a low high. ap (λ (x : Kernel). slice_index x.mote.sram (a - 0x0100)) same,
+    );
   };
 }
 
@@ -361,10 +398,11 @@ kept_taken k n target inside = record {
   quantum = refl;
   mote = record {
     stopped = λ over. absurd (let e : ◌≡◌ {A = Bool} false true = over in cc);
-    core = refl;
-    flash = refl;
-    swap = refl;
-    cells = λ a low high first second. byte_stays k n target a inside low high first second;
+    stays = refl;
+    cells = (
+      λ a low high. byte_stays k n target a inside low (omega (arith, high)) (λ e. omega (arith, e, high)) (λ e. omega (arith, e, high)),
+      λ a low high. byte_stays k n target a inside (omega (arith, low)) high (λ e. omega (arith, e, low)) (λ e. omega (arith, e, low)),
+    );
   };
 }
 
@@ -374,20 +412,22 @@ kept_by k new target (taken.Stopped stop) row = kept_same k new true (row.stays 
 kept_by k new target (taken.Vector place) row =
     subst (λ (n : Kernel). KeptBy k n false) (sym (row.taken place refl)) (kept_taken k _ target ((row.vector place).0 refl).1)
 
-kernel_taken : (x : State) (p : Taken × Kernel) → (after_taking x p).kernel ≡ p.1
-kernel_taken x (taken.Nothing, k) = refl
-kernel_taken x (taken.Vector v, k) = refl
-kernel_taken x (taken.Stopped stop, k) = refl
-
 pub taken_keeps : (x y : State) (stops : Bool) → MakesTake x stops y → KeptBy x.kernel y.kernel stops
 taken_keeps x y stops makes =
     let target = makes.owed.target in
     let p = interrupts.taken x.kernel target in
-    subst (λ (n : Kernel). KeptBy x.kernel n stops) (sym (ap (λ (s : State). s.kernel) makes.result ∙ kernel_taken x p)) (subst (KeptBy x.kernel p.1) makes.halts (kept_by x.kernel p.1 target p.0 (taking_row x.kernel target p.0 p.1 refl makes.paged)))
+    subst (λ (n : Kernel). KeptBy x.kernel n stops) (sym (ap (λ (s : State). s.kernel) makes.result ∙ kernel_taken x p))
+    (subst (KeptBy x.kernel p.1) makes.halts (kept_by x.kernel p.1 target p.0 (taking_row x.kernel target p.0 p.1 refl makes.paged)))
 
 -- where flash, the layout and the quantum stay
-holds_still : (image : List ℕ) (quantum : ℕ) (x y : State) → Holds image quantum x → y.kernel.layout ≡ x.kernel.layout → y.kernel.quantum ≡ x.kernel.quantum → (mote_of y).flash ≡ (mote_of x).flash → Holds image quantum y
-holds_still image quantum x y holds layout same flash = record { laid = layout ∙ holds.laid; counts = same ∙ holds.counts; held = ap (λ (f : Memory). image_of (layout_of (length image)) f.words) flash ∙ holds.held }
+holds_still : (image : List ℕ) (quantum : ℕ) (x y : State) → Holds image quantum x → y.kernel.layout ≡ x.kernel.layout → y.kernel.quantum ≡ x.kernel.quantum → (mote_of y).flash ≡ (mote_of x).flash
+    → Holds image quantum y
+holds_still image quantum x y holds layout same flash = record {
+  laid = layout ∙ holds.laid;
+  counts = same ∙ holds.counts;
+  held = ap (λ (f : Memory). image_of (layout_of (length image)) f.words) flash
+      ∙ holds.held;
+}
 
 -- each act of a walk is one, and the image stays
 pub record Following (image : List ℕ) (quantum : ℕ) (x : State) (moves : List Move) (z : State) (walk : Walk x moves z) : Type 0 where
@@ -398,26 +438,33 @@ pub follow : (image : List ℕ) (quantum : ℕ) (x : State) (moves : List Move) 
 follow image quantum x [] z walk holds = record { follow = ap mote_of walk; holds = subst (Holds image quantum) walk holds }
 follow image quantum x (Begin line ∷ moves) z walk holds =
     let y = walk.0 in
-    let next = holds_still image quantum x y holds (ap (λ (s : State). s.kernel.layout) walk.1.result) (ap (λ (s : State). s.kernel.quantum) walk.1.result) (ap (λ (s : State). (mote_of s).flash) walk.1.result ∙ walk.1.step.flash) in
+    let next = holds_still image quantum x y holds (ap (λ (s : State). s.kernel.layout) walk.1.result) (ap (λ (s : State). s.kernel.quantum) walk.1.result)
+    (ap (λ (s : State). (mote_of s).flash) walk.1.result ∙ walk.1.step.flash) in
     let rest = follow image quantum y moves z walk.2 next in
     record { follow = (refl, step_is (pool_from image) x y true line (pool_of image quantum x holds) walk.1, rest.follow); holds = rest.holds }
 follow image quantum x (Within (Plain line) ∷ moves) z walk holds =
     let y = walk.0 in
-    let next = holds_still image quantum x y holds (ap (λ (s : State). s.kernel.layout) walk.1.result) (ap (λ (s : State). s.kernel.quantum) walk.1.result) (ap (λ (s : State). (mote_of s).flash) walk.1.result ∙ walk.1.step.flash) in
+    let next = holds_still image quantum x y holds (ap (λ (s : State). s.kernel.layout) walk.1.result) (ap (λ (s : State). s.kernel.quantum) walk.1.result)
+    (ap (λ (s : State). (mote_of s).flash) walk.1.result ∙ walk.1.step.flash) in
     let rest = follow image quantum y moves z walk.2 next in
     record { follow = (refl, step_is (pool_from image) x y false line (pool_of image quantum x holds) walk.1, rest.follow); holds = rest.holds }
 follow image quantum x (Within (Serve line stops) ∷ moves) z walk holds =
     let y = walk.0 in
     let leaves = served_leaves x.kernel walk.1.can in
     let same = kernel_served x y line stops walk.1 in
-    let next = holds_still image quantum x y holds (ap (λ (k : Kernel). k.layout) same ∙ leaves.layout) (ap (λ (k : Kernel). k.quantum) same ∙ leaves.quantum) (ap (λ (k : Kernel). k.mote.flash) same ∙ leaves.flash) in
+    let next = holds_still image quantum x y holds (ap (λ (k : Kernel). k.layout) same ∙ leaves.layout) (ap (λ (k : Kernel). k.quantum) same ∙ leaves.quantum)
+    (ap (λ (k : Kernel). k.mote.flash) same ∙ leaves.flash) in
     let rest = follow image quantum y moves z walk.2 next in
-    record { follow = (refl, service_is image quantum x y line stops (ap (λ (l : Layout). image_of l (mote_of x).flash.words) holds.laid ∙ holds.held) holds.counts walk.1, rest.follow); holds = rest.holds }
+    record {
+      follow = (refl, service_is image quantum x y line stops (ap (λ (l : Layout). image_of l (mote_of x).flash.words) holds.laid ∙ holds.held) holds.counts walk.1, rest.follow);
+      holds =
+          rest.holds;
+    }
 follow image quantum x (Arrive target made ops ∷ moves) z walk holds =
     let one = arrival_is image quantum x walk.0 target made ops holds walk.1 in
     let rest = follow image quantum walk.0 moves z walk.2 one.holds in
     record { follow = (refl, one.act, rest.follow); holds = rest.holds }
 follow image quantum x (Take stops ∷ moves) z walk holds =
     let keeps = taken_keeps x walk.0 stops walk.1 in
-    let rest = follow image quantum walk.0 moves z walk.2 (holds_still image quantum x walk.0 holds keeps.layout keeps.quantum keeps.mote.flash) in
+    let rest = follow image quantum walk.0 moves z walk.2 (holds_still image quantum x walk.0 holds keeps.layout keeps.quantum (ap (λ (m : Mote). m.flash) keeps.mote.stays)) in
     record { follow = (refl, keeps.mote, rest.follow); holds = rest.holds }

@@ -35,7 +35,8 @@ keeps_none (jobs.Dump request) sink sink' exit one done = done.1
 keeps_none (jobs.Restart request script) sink sink' exit one done = done.1
 keeps_none (jobs.Write output) sink sink' exit one done = done.1
 
-judged : {V : Type 0} (part : List ℕ) (Is : V → Type 0) (IsBad : ℕ → List ℕ → Type 0) (Then : V → Job → Type 0) (job : Job) → ((value : V) → Then value job → IsOfOne job) → IsJudged V part Is IsBad Then job → IsOfOne job
+judged : {V : Type 0} (part : List ℕ) (Is : V → Type 0) (IsBad : ℕ → List ℕ → Type 0) (Then : V → Job → Type 0) (job : Job) → ((value : V) → Then value job → IsOfOne job)
+    → IsJudged V part Is IsBad Then job → IsOfOne job
 judged part Is IsBad Then job one (Bad line word bad is) = subst IsOfOne (sym is) tt
 judged part Is IsBad Then job one (Good value is then) = one value then
 
@@ -52,7 +53,8 @@ by_command : (command : Command) (before now : Input) (job : Job) → ((options 
 by_command Help before now job other asks = subst IsOfOne (sym asks.0) tt
 by_command (Run options) before now job other asks = by_text (RunAsks options) before now job (λ text. requested options text jobs.Run job (λ request. tt)) asks
 by_command (Dump options) before now job other asks = by_text (DumpAsks options) before now job (λ text. requested options text jobs.Dump job (λ request. tt)) asks
-by_command (Restart options) before now job other asks = by_text (RestartAsks options) before now job (λ text. requested options text (λ request. jobs.Restart request request.script) job (λ request. tt)) asks
+by_command (Restart options) before now job other asks = by_text (RestartAsks options) before now job
+    (λ text. requested options text (λ request. jobs.Restart request request.script) job (λ request. tt)) asks
 by_command (Tasks options) before now job other asks = absurd (other options refl)
 by_command Check before now job other asks = by_text CheckAsks before now job (λ text. judged _ _ _ _ job (λ hex. judged _ _ _ _ job (λ words is. subst IsOfOne (sym is.2) tt))) asks
 by_command (Generate seed) before now job other asks = elim asks.0 [ inl is ↦ subst IsOfOne (sym is) tt | inr is ↦ subst IsOfOne (sym is) tt ]

@@ -1,7 +1,6 @@
 -- What is answered, in lists and numbers.
-use Rattle.std.proofs.Common.{◌≡◌, ◌≢◌, true, false, take, length, ℕ, false, ◌+◌, ◌*◌, ◌≤◌, List, [], Option, Some, None, refl, sym, ap, ◌∙◌, subst, arith, zero-add, inl, inr}
-use Rattle.sram_layout.specs.Bytes.{byte_at, data_word_at}
-use Rattle.std.specs.Prelude.{IfSome}
+use Rattle.std.proofs.Common.{◌≡◌, ◌≢◌, false, take, length, ℕ, false, ◌+◌, ◌*◌, ◌≤◌, List, [], ◌++◌, Option, Some, None, refl, sym, ap, ap₂, ◌∙◌, subst, arith, zero-add, inl, inr}
+use Rattle.std.specs.Prelude.{IfSome, codes, decimal, flat_map}
 use Rattle.std.proofs.lemmas.Bool.{false_from_ne_true}
 use Rattle.flash_words.specs.Memory.{Memory, new_flash}
 use Rattle.flash_words.specs.Layouts.{layout_of, IsRight}
@@ -36,19 +35,20 @@ use Rattle.tkernel_cli.specs.declared.top.Exit.{Exit}
 use Rattle.cli_requests.specs.Asking.{IsWarranted, Tells}
 use Rattle.cli_requests.specs.Reading.{Good}
 use Rattle.cli_words.specs.Stream.{Stream}
-use Rattle.tkernel_cli.specs.Runs.{KeepsEnd, Runs, RunsToTheEnd, RunsIntoAFault, Follows, AreUnlisted, first_start}
-use Rattle.theorem_reader.specs.Acts.{HasActs, IsBoot, made_in}
-use Rattle.theorem_reader.specs.Pools.{AreFaithful, AreFaithfulBut}
+use Rattle.tkernel_cli.specs.Runs.{KeepsEnd, Runs, RunsToTheEnd, RunsIntoAFault, RunsUntilCut, Follows, AreUnlisted, first_start, ended_text}
+use Rattle.theorem_reader.specs.Acts.{HasActs, made_in}
+use Rattle.theorem_reader.specs.Pools.{pool_size, AreFaithful, AreFaithfulBut}
 use Rattle.theorem_reader.specs.Ends.{end_of, IsKeptEnd}
-use Rattle.theorem_reader.specs.Runs.{Asked, Asks, AsksGenerate, generated_by, options_of, original_of, StandsFrom, Stands, EndsWell, EndsInAFault, IsCutOff, IsRun, NoMemory, Ended, Failed, Cut}
-use Rattle.theorem_reader.specs.Wear.{pool_size, IsSpared}
+use Rattle.theorem_reader.specs.Runs.{Asked, Asks, AsksGenerate, generated_by, options_of, original_of, last_lines, Start, boot_of, Stands, EndsWell, EndsInAFault, IsCutShort, ToTheEnd, IsRun}
+use Rattle.theorem_reader.specs.Runs.{NoMemory, Ended}
+use Rattle.theorem_reader.specs.Runs.{Failed, Cut}
+use Rattle.theorem_reader.specs.Wear.{IsSpared}
 use Rattle.theorem_reader.proofs.Sparing.{walk_spares, failing_stays, new_unused}
 use Rattle.theorem_reader.specs.Telling.{Fails}
-use Rattle.theorem_reader.specs.Memory.{HasMemory, HaveSlots}
-use Rattle.theorem_reader.proofs.Holding.{has_memory, have_slots}
+use Rattle.theorem_reader.specs.Texts.{device_line}
+use Rattle.theorem_reader.proofs.Holding.{has_state}
 use Rattle.theorem_reader.proofs.Pooling.{faithful_is, but_is}
 use Rattle.theorem_reader.proofs.Booting.{is_boot}
-use Rattle.theorem_reader.proofs.Ending.{own_stop}
 use Rattle.theorem_reader.proofs.Acting.{acts_of, Holds, follow}
 use Rattle.theorem_reader.proofs.Linked.{are_linked}
 use Rattle.theorem_reader.proofs.Stepwise.{paced}
@@ -67,8 +67,10 @@ request_of asked = record { image = asked.image; script = script_of asked; optio
 abbrev pub start_of : Asked → Memory → (pages : ℕ) → Machine
 start_of asked flash pages = started asked.image flash (script_of asked) asked.quantum asked.slots pages
 
-has_acts : (IsFirst : Mote → Type 0) (asked : Asked) (flash : Memory) (pages : ℕ) (lines : List Line) (m : Machine) → IsFirst (start_of asked flash pages).kernel.mote → take (length asked.image) flash.words ≡ asked.image
-    → (path : Leads (start_of asked flash pages) lines m) → Walk (state_of (start_of asked flash pages)) path.moves (state_of m) → m.longest ≤ 5120 * asked.quantum → HasActs IsFirst pages asked.image asked.quantum m.natural m.entries m.pages lines m.kernel.mote
+has_acts : (IsFirst : Mote → Type 0) (asked : Asked) (flash : Memory) (pages : ℕ) (lines : List Line) (m : Machine) → IsFirst (start_of asked flash pages).kernel.mote
+    → take (length asked.image) flash.words ≡ asked.image
+    → (path : Leads (start_of asked flash pages) lines m) → Walk (state_of (start_of asked flash pages)) path.moves (state_of m) → m.longest ≤ 5120 * asked.quantum
+    → HasActs IsFirst pages asked.image asked.quantum m.natural m.entries m.pages lines m.kernel.mote
 has_acts IsFirst asked flash pages lines m begins held path walk bound =
     let x = state_of (start_of asked flash pages) in
     let moves = path.moves in
@@ -99,28 +101,31 @@ layout_same image m sound held =
     let order = sound.order in
     order.layout ∙ ap layout_of (sym order.faithful.image_length ∙ ap length held)
 
+-- how such a machine began
+pub record IsBegun (began : Start) (asked : Asked) (flash : Memory) : Type 0 where
+  pub first : began.IsFirst (start_of asked flash began.pages).kernel.mote
+  pub untried : flash.ops ≡ 0
+  pub held : take (length asked.image) flash.words ≡ asked.image
+  pub used : began.pages ≡ used_pages (layout_of (length asked.image)) flash.words
+
 -- where moves lead from such a start
-pub stands_from : (IsFirst : Mote → Type 0) (asked : Asked) (flash : Memory) (pages n : ℕ) (m : Machine) → IsFirst (start_of asked flash pages).kernel.mote → flash.ops ≡ 0 → take (length asked.image) flash.words ≡ asked.image
-    → Follows (request_of asked) (start_of asked flash pages) n m → m.steps ≤ asked.steps
-    → (at : StandsFrom IsFirst pages asked (original_of asked n) m) × (at.acts.first ≡ (start_of asked flash pages).kernel.mote)
-unfolding data_word_at byte_at has_acts
-stands_from IsFirst asked flash pages n m begins untried held follows within =
-    let start = start_of asked flash pages in
+stands_from : (began : Start) (asked : Asked) (flash : Memory) (n : ℕ) (m : Machine) → IsBegun began asked flash → Follows (request_of asked) (start_of asked flash began.pages) n m
+    → m.steps ≤ asked.steps
+    → (at : Stands began asked (original_of asked n) m) × (at.acts.first ≡ (start_of asked flash began.pages).kernel.mote)
+unfolding has_acts
+stands_from began asked flash n m begun follows within =
+    let start = start_of asked flash began.pages in
+    let held = begun.held in
+    let untried = begun.untried in
     let at = follows.at in
     let path = at.path in
     let same = at.state in
     let sound = follows.sound in
-    let pace = paced asked.image asked.quantum (states_of (original_of asked)) start m.steps path.moves m (record { laid = refl; held = held; counts = refl }) (λ w owes. refl) at.by_step path.last (sym (zero-add m.steps)) in
-    let acts = has_acts IsFirst asked flash pages (original_of asked n).lines m begins held path pace.walk (subst (λ q. m.longest ≤ 5120 * q) at.quantum follows.longest) in (
+    let pace = paced asked.image asked.quantum (states_of (original_of asked)) start m.steps path.moves m (record { laid = refl; held = held; counts = refl }) (λ w owes. refl) at.by_step path.last
+    (sym (zero-add m.steps)) in
+    let acts = has_acts began.IsFirst asked flash began.pages (original_of asked n).lines m begun.first held path pace.walk (subst (λ q. m.longest ≤ 5120 * q) at.quantum follows.longest) in (
       record {
-        state = record {
-          registers = ap (λ (s : Moment). s.now.cpu.r) same;
-          status = ap (λ (s : Moment). s.now.cpu.sreg) same;
-          pointer = ap (λ (s : Moment). s.now.cpu.sp) same;
-          memory = subst (HasMemory m.kernel.mote) (ap (λ (s : Moment). s.now.memory) same) (has_memory m.kernel.mote sound.order.paged);
-          slots = subst (HaveSlots m.kernel.mote) (ap (λ (s : Moment). s.now.pages) same) (have_slots m.kernel.mote);
-          devices = ap (λ (s : Moment). s.now.devices) same;
-        };
+        state = has_state m.kernel m.kernel.mote m.at m.steps m.crossings (original_of asked n).state.now sound.order.paged (ap (λ (s : Moment). s.now) same);
         pc = ap (λ (s : Moment). s.now.cpu.pc) same;
         steps = ap (λ (s : Moment). s.now.steps) same;
         crossings = ap (λ (s : Moment). s.now.crossings) same;
@@ -129,7 +134,7 @@ stands_from IsFirst asked flash pages n m begins untried held follows within =
         slots = ap (λ (p : Program). p.page_limit) at.program;
         quantum = at.quantum;
         most_steps = within;
-        most_operations = omega (arith, sound.bounded.ops, runs_alone asked flash pages n m path);
+        most_operations = omega (arith, sound.bounded.ops, runs_alone asked flash began.pages n m path);
         most_pages = follows.pages;
         acts = acts;
         by_step = pace.by_step;
@@ -139,16 +144,10 @@ stands_from IsFirst asked flash pages n m begins untried held follows within =
       refl,
     )
 
-stands : (asked : Asked) (n : ℕ) (m : Machine) → Follows (request_of asked) (first_start (request_of asked)) n m → m.steps ≤ asked.steps
-    → (at : Stands asked (original_of asked n) m) × (at.acts.first ≡ (first_start (request_of asked)).kernel.mote)
-stands asked n m follows within =
-    stands_from (IsBoot asked.image asked.failing asked.events asked.quantum asked.slots) asked (new_flash asked.image asked.failing) 0 n m (is_boot asked.image asked.failing asked.events asked.quantum asked.slots) refl (loaded_image asked.image)
-    follows within
-
 -- the end that is kept
 own_end : (end : MachineEnd) → flat_end end ≡ end_of end
 own_end ends.Spent = refl
-own_end (ends.Stopped stop) = own_stop stop
+own_end (ends.Stopped stop) = refl
 own_end (ends.Wild t) = refl
 own_end (ends.Flash op) = refl
 
@@ -200,7 +199,8 @@ lacking_of asked m sound held =
     let order = sound.order in
     let l = layout_of (length asked.image) in
     let laid = layout_same asked.image m sound held in
-    let code : IsFaithful l asked.image (mended_words m.kernel m.torn) = subst (λ i. IsFaithful l i (mended_words m.kernel m.torn)) held (subst (λ k. IsFaithful k (image_held m.kernel) (mended_words m.kernel m.torn)) laid order.faithful) in
+    let code : IsFaithful l asked.image (mended_words m.kernel m.torn) = subst (λ i. IsFaithful l i (mended_words m.kernel m.torn)) held
+    (subst (λ k. IsFaithful k (image_held m.kernel) (mended_words m.kernel m.torn)) laid order.faithful) in
     let few = (subst IsRight laid order.right).image_fits in
     but_is asked.image m.kernel.mote.flash.words m.torn few code (torn_by_order m.torn l m (subst (λ k. IfSome m.torn (λ t. IsTorn k m.kernel.mote.flash.words t × HasFault m)) laid order.tried.torn))
 
@@ -210,33 +210,27 @@ whole_of asked m sound held unfailed =
     let l = layout_of (length asked.image) in
     let laid = layout_same asked.image m sound held in
     let untorn = never_torn m m.torn unfailed order.tried.torn in
-    let code : IsFaithful l asked.image (mended_words m.kernel m.torn) = subst (λ i. IsFaithful l i (mended_words m.kernel m.torn)) held (subst (λ k. IsFaithful k (image_held m.kernel) (mended_words m.kernel m.torn)) laid order.faithful) in
+    let code : IsFaithful l asked.image (mended_words m.kernel m.torn) = subst (λ i. IsFaithful l i (mended_words m.kernel m.torn)) held
+    (subst (λ k. IsFaithful k (image_held m.kernel) (mended_words m.kernel m.torn)) laid order.faithful) in
     let few = (subst IsRight laid order.right).image_fits in
     faithful_is asked.image m.kernel.mote.flash.words few (subst (λ t. IsFaithful l asked.image (with_torn m.kernel.mote.flash.words t)) untorn code)
 
 -- how often pages were erased, where so many are used at the start
 pub spared : (asked : Asked) (flash : Memory) (pages n : ℕ) (m : Machine) → take (length asked.image) flash.words ≡ asked.image → pages ≡ used_pages (layout_of (length asked.image)) flash.words
-    → ((op : ℕ) → 1 ≤ op → op ≤ m.kernel.mote.flash.ops → is_listed flash.failing op ≡ false) → Follows (request_of asked) (start_of asked flash pages) n m → m.pages ≤ pool_size asked.image → IsSpared flash m.kernel.mote.flash
+    → ((op : ℕ) → 1 ≤ op → op ≤ m.kernel.mote.flash.ops → is_listed flash.failing op ≡ false) → Follows (request_of asked) (start_of asked flash pages) n m → m.pages ≤ pool_size asked.image
+    → IsSpared flash m.kernel.mote.flash
 spared asked flash pages n m held used unlisted follows fits =
     let start = start_of asked flash pages in
     let path = follows.at.path in
     let laid : Holds asked.image asked.quantum (state_of start) = record { laid = refl; held = held; counts = refl } in
     let pace = paced asked.image asked.quantum (states_of (original_of asked)) start m.steps path.moves m laid (λ w owes. refl) follows.at.by_step path.last (sym (zero-add m.steps)) in
-    let made : m.pages ≡ pages + made_in (acts_of (state_of start) path.moves (state_of m) pace.walk) = ap (λ (k : Numbers). k.pages) path.goes.numbers ∙ pages_of (state_of start) path.moves (state_of m) pace.walk (numbers_of start) in
+    let made : m.pages ≡ pages + made_in (acts_of (state_of start) path.moves (state_of m) pace.walk) = ap (λ (k : Numbers). k.pages) path.goes.numbers
+    ∙ pages_of (state_of start) path.moves (state_of m) pace.walk (numbers_of start) in
     walk_spares asked.image asked.quantum (state_of start) path.moves (state_of m) pace.walk laid (omega (arith, made, fits, used), unlisted)
 
-unused_at_boot : (asked : Asked) (n : ℕ) (m : Machine) → Follows (request_of asked) (first_start (request_of asked)) n m → 0 ≡ used_pages (layout_of (length asked.image)) (new_flash asked.image asked.failing).words
-unused_at_boot asked n m follows =
-    let held : image_held m.kernel ≡ asked.image = ap (λ (p : Program). p.image) follows.at.program in
-    sym (new_unused asked.image asked.failing (subst IsRight (layout_same asked.image m follows.sound held) follows.sound.order.right))
-
--- .. from boot, where none is
-spared_from_boot : (asked : Asked) (n : ℕ) (m : Machine) → Follows (request_of asked) (first_start (request_of asked)) n m → AreUnlisted (request_of asked) m → m.pages ≤ pool_size asked.image → IsSpared (new_flash asked.image asked.failing) m.kernel.mote.flash
-spared_from_boot asked n m follows unlisted fits =
-    spared asked (new_flash asked.image asked.failing) 0 n m (loaded_image asked.image) (unused_at_boot asked n m follows) unlisted follows fits
-
 -- .. of a machine whose device lines could not be put
-unlisted_by : (asked : Asked) (flash : Memory) (pages n : ℕ) (m : Machine) → take (length asked.image) flash.words ≡ asked.image → Follows (request_of asked) (start_of asked flash pages) n m → ((op : ℕ) → m.end ≢ Some (ends.Flash op))
+unlisted_by : (asked : Asked) (flash : Memory) (pages n : ℕ) (m : Machine) → take (length asked.image) flash.words ≡ asked.image → Follows (request_of asked) (start_of asked flash pages) n m
+    → ((op : ℕ) → m.end ≢ Some (ends.Flash op))
     → (op : ℕ) → 1 ≤ op → op ≤ m.kernel.mote.flash.ops → is_listed flash.failing op ≡ false
 unlisted_by asked flash pages n m held follows unfailed op low high =
     let start = start_of asked flash pages in
@@ -244,90 +238,135 @@ unlisted_by asked flash pages n m held follows unfailed op low high =
     let stays = failing_stays asked.image asked.quantum (state_of start) path.moves (state_of m) path.goes.walk (record { laid = refl; held = held; counts = refl }) in
     false_from_ne_true (is_listed flash.failing op) (λ there. unfailed op (follows.sound.order.tried.listed op low high (ap (λ failing. is_listed failing op) stays ∙ there)))
 
-pub cut_off : (asked : Asked) (flash : Memory) (pages : ℕ) (m : Machine) → take (length asked.image) flash.words ≡ asked.image → pages ≡ used_pages (layout_of (length asked.image)) flash.words → Follows (request_of asked) (start_of asked flash pages) m.steps m → m.broken ≡ true
-    → ((end : MachineEnd) → m.end ≡ Some end → ((op : ℕ) → end ≢ ends.Flash op) → (original_of asked asked.steps).end ≡ flat_end end) → IsCutOff asked (start_of asked flash pages).kernel.mote m
-cut_off asked flash pages m held used follows broken over =
-    let image : image_held m.kernel ≡ asked.image = ap (λ (p : Program). p.image) follows.at.program in
-    record {
-      broken = broken;
-      over = λ end is other. sym (own_end end) ∙ sym (over end is other);
-      lacking = lacking_of asked m follows.sound image;
-      faithful = whole_of asked m follows.sound image;
-      wear = λ unfailed fits. spared asked flash pages m.steps m held used (unlisted_by asked flash pages m.steps m held follows unfailed) follows fits;
-    }
-
-pub ends_well : (asked : Asked) (before now : Stream) (told : Status) (m : Machine)
-    → AreUnlisted (request_of asked) m → RunsToTheEnd (request_of asked) (first_start (request_of asked)) [] before now told m → EndsWell asked m
-ends_well asked before now told m unlisted run =
-    let there = stands asked asked.steps m run.follows run.within in
+-- and how it ended
+pub ends_well : (began : Start) (asked : Asked) (flash : Memory) (front : List ℕ) (before now : Stream) (told : Status) (m : Machine) → IsBegun began asked flash
+    → ((op : ℕ) → 1 ≤ op → op ≤ m.kernel.mote.flash.ops → is_listed flash.failing op ≡ false)
+    → RunsToTheEnd (request_of asked) (start_of asked flash began.pages) front before now told m → EndsWell began asked m
+ends_well began asked flash front before now told m begun unlisted run =
+    let there = stands_from began asked flash asked.steps m begun run.follows run.within in
     record {
       stands = there.0;
       end = kept_end _ m run.end;
       unbroken = run.unbroken;
-      none_failed = unlisted;
-      wear = λ fits. subst (λ (first : Mote). IsSpared first.flash m.kernel.mote.flash) (sym there.1) (spared_from_boot asked asked.steps m run.follows unlisted fits);
-      faithful = whole_of asked m run.follows.sound (ap (λ (p : Program). p.image) run.follows.at.program) (λ op. no_fault _ m op run.end);
+      unrefused = run.unrefused;
+      none_failed = λ op low high. ap (λ (first : Mote). is_listed first.flash.failing op) there.1 ∙ unlisted op low high;
+      flash = record {
+        wear = λ fits.
+            subst (λ (first : Mote). IsSpared first.flash m.kernel.mote.flash) (sym there.1)
+            (spared asked flash began.pages asked.steps m begun.held begun.used unlisted run.follows fits);
+        faithful = whole_of asked m run.follows.sound (ap (λ (p : Program). p.image) run.follows.at.program) (λ op. no_fault _ m op run.end);
+      };
     }
 
+pub to_the_end : (began : Start) (asked : Asked) (flash : Memory) (front : List ℕ) (words : List (List ℕ)) (exit : Exit) (status faults : ℕ) (taken : List ℕ)
+    (call : Call words exit status faults taken) (m : Machine) → IsBegun began asked flash → front ≡ began.front
+    → ((op : ℕ) → 1 ≤ op → op ≤ m.kernel.mote.flash.ops → is_listed flash.failing op ≡ false)
+    → RunsToTheEnd (request_of asked) (start_of asked flash began.pages) front call.sink call.sink' exit.status m
+    → Somehow call.sink call.sink' (λ sink. ToTheEnd began sink asked status taken m)
+to_the_end began asked flash front words exit status faults taken call m begun same unlisted run =
+    let r = original_of asked asked.steps in
+    so_then call.sink call.sink' _ (λ sink. ToTheEnd began sink asked status taken m) (λ sink told. record {
+      told = (
+        retold sink _ _ _ _ status taken (status_same r.end) (ap (λ f. f ++ ended_text (request_of asked) m) same ∙ ended_same began.front r asked.quantum m) told,
+        past_by words exit status faults taken call _ _ (ap₂ (λ a b. a ++ b) same (lines_same r.lines)) run.begun,
+      );
+      run = ends_well began asked flash front call.sink call.sink' exit.status m begun unlisted run;
+    }) (told_how words exit status faults taken call _ _ run.said)
+
+pub cut_short : (began : Start) (asked : Asked) (flash : Memory) (front : List ℕ) (words : List (List ℕ)) (exit : Exit) (status faults : ℕ) (taken : List ℕ)
+    (call : Call words exit status faults taken) (m : Machine) → IsBegun began asked flash → front ≡ began.front
+    → RunsUntilCut (request_of asked) (start_of asked flash began.pages) front call.sink call.sink' exit.status m → IsCutShort began asked status taken m
+cut_short began asked flash front words exit status faults taken call m begun same run =
+    let follows = run.follows in
+    let there = stands_from began asked flash m.steps m begun follows run.within in
+    let image : image_held m.kernel ≡ asked.image = ap (λ (p : Program). p.image) follows.at.program in
+    record {
+      told = (
+        retold Fails 6 6 _ _ status taken refl (ap₂ (λ a b. a ++ b) same (lines_same (original_of asked m.steps).lines)) (cut_by words exit status faults taken call _ run.status_is run.put),
+        past_by words exit status faults taken call _ _ same run.begun,
+      );
+      stands = there.0;
+      broken = run.broken;
+      over = λ end is other. sym (own_end end) ∙ sym (run.over end is other);
+      lacking = lacking_of asked m follows.sound image;
+      flash = λ unfailed. record {
+        wear = λ fits.
+            subst (λ (first : Mote). IsSpared first.flash m.kernel.mote.flash) (sym there.1)
+            (spared asked flash began.pages m.steps m begun.held begun.used (unlisted_by asked flash began.pages m.steps m begun.held follows unfailed) follows fits);
+        faithful = whole_of asked m follows.sound image unfailed;
+      };
+    }
+
+-- From boot. ----------------------------------------------------------------------------------------------
+
+is_boot_of : (asked : Asked) (n : ℕ) (m : Machine) → Follows (request_of asked) (first_start (request_of asked)) n m → IsBegun (boot_of asked) asked (new_flash asked.image asked.failing)
+is_boot_of asked n m follows =
+    let held : image_held m.kernel ≡ asked.image = ap (λ (p : Program). p.image) follows.at.program in
+    record {
+      first = is_boot asked.image asked.failing asked.events asked.quantum asked.slots;
+      untried = refl;
+      held = loaded_image asked.image;
+      used = sym (new_unused asked.image asked.failing (subst IsRight (layout_same asked.image m follows.sound held) follows.sound.order.right));
+    }
+
+pub ends_well_from_boot : (asked : Asked) (before now : Stream) (told : Status) (m : Machine) → AreUnlisted (request_of asked) m
+    → RunsToTheEnd (request_of asked) (first_start (request_of asked)) [] before now told m → EndsWell (boot_of asked) asked m
+ends_well_from_boot asked before now told m unlisted run =
+    ends_well (boot_of asked) asked (new_flash asked.image asked.failing) [] before now told m (is_boot_of asked asked.steps m run.follows) unlisted run
+
 pub ends_in_a_fault : (asked : Asked) (before now : Stream) (told : Status) (m : Machine)
-    → (run : RunsIntoAFault (request_of asked) before now told m) → EndsInAFault asked run.op m
-ends_in_a_fault asked before now told m run = record {
-  stands = (stands asked m.steps m run.follows (omega (arith, run.fewer))).0;
-  fewer = run.fewer;
-  going = run.spent;
-  last = sym run.last;
-  listed = run.listed;
-  first = run.first;
-  end = run.end;
-  unbroken = run.unbroken;
-  faithful = lacking_of asked m run.follows.sound (ap (λ (p : Program). p.image) run.follows.at.program);
-}
+    → (run : RunsIntoAFault (request_of asked) before now told m) → EndsInAFault (boot_of asked) asked m
+ends_in_a_fault asked before now told m run =
+    let flash = new_flash asked.image asked.failing in
+    let there = stands_from (boot_of asked) asked flash m.steps m (is_boot_of asked m.steps m run.follows) run.follows (omega (arith, run.fewer)) in
+    record {
+      stands = there.0;
+      fewer = run.fewer;
+      going = run.spent;
+      listed = ap (λ (first : Mote). is_listed first.flash.failing m.kernel.mote.flash.ops) there.1 ∙ ap (is_listed asked.failing) (sym run.last) ∙ run.listed;
+      first = λ op low less. ap (λ (first : Mote). is_listed first.flash.failing op) there.1 ∙ run.first op low (omega (arith, less, run.last));
+      end = run.end ∙ ap (λ op. Some (ends.Flash op)) run.last;
+      unbroken = run.unbroken;
+      faithful = lacking_of asked m run.follows.sound (ap (λ (p : Program). p.image) run.follows.at.program);
+    }
 
 ran : (asked : Asked) (words : List (List ℕ)) (exit : Exit) (status faults : ℕ) (taken : List ℕ) (call : Call words exit status faults taken) (m : Machine) → exit.kept ≡ Some m
     → Runs (request_of asked) call.sink call.sink' exit.status m
-    → Somehow call.sink call.sink' (λ sink. IsRun sink asked status taken exit.kept)
+    → Somehow call.sink call.sink' (λ sink. IsRun (boot_of asked) sink asked status taken exit.kept)
 ran asked words exit status faults taken call m kept (Runs.Ended unlisted run) =
-    let r = original_of asked asked.steps in
-    so_then call.sink call.sink' _ (λ sink. IsRun sink asked status taken exit.kept) (λ sink told. Ended m kept (record {
-      told = retold sink _ _ _ _ status taken (status_same r.end) (ended_same r asked.quantum m) told;
-      past = past_by words exit status faults taken call _ _ (lines_same r.lines) run.begun;
-      run = ends_well asked call.sink call.sink' exit.status m unlisted run;
-    })) (told_how words exit status faults taken call _ _ run.said)
+    let flash = new_flash asked.image asked.failing in
+    so_then call.sink call.sink' _ (λ sink. IsRun (boot_of asked) sink asked status taken exit.kept) (λ sink run. Ended m kept run)
+    (to_the_end (boot_of asked) asked flash [] words exit status faults taken call m (is_boot_of asked asked.steps m run.follows) refl unlisted run)
 ran asked words exit status faults taken call m kept (Runs.Failed run) =
     let r = original_of asked m.steps in
-    so_then call.sink call.sink' _ (λ sink. IsRun sink asked status taken exit.kept) (λ sink told. Failed m kept (record {
-      op = run.op;
-      told = retold sink 9 9 _ _ status taken refl (failed_same r run.op asked.quantum m (ap (λ (s : Moment). s.now.steps) run.follows.at.state)) told;
-      past = past_by words exit status faults taken call _ _ (lines_same r.lines) run.begun;
+    so_then call.sink call.sink' _ (λ sink. IsRun (boot_of asked) sink asked status taken exit.kept) (λ sink told. Failed m kept (record {
+      told = (
+        retold sink 9 9 _ _ status taken refl (failed_same r run.op asked.quantum m (ap (λ (s : Moment). s.now.steps) run.follows.at.state)
+            ∙ ap (λ op. flat_map device_line r.lines ++ last_lines r (codes "flash fault " ++ decimal op) asked.quantum m) run.last) told,
+        past_by words exit status faults taken call _ _ (lines_same r.lines) run.begun,
+      );
       run = ends_in_a_fault asked call.sink call.sink' exit.status m run;
     })) (told_how words exit status faults taken call _ _ run.said)
 ran asked words exit status faults taken call m kept (Runs.Cut run) =
-    let there = stands asked m.steps m run.follows run.within in (
-      Fails,
-      run.rose,
-      Cut m kept refl (record {
-        told = retold Fails 6 6 _ _ status taken refl (lines_same (original_of asked m.steps).lines) (cut_by words exit status faults taken call _ run.status_is run.put);
-        stands = there.0;
-        left = subst (λ (first : Mote). IsCutOff asked first m) (sym there.1)
-            (cut_off asked (new_flash asked.image asked.failing) 0 m (loaded_image asked.image) (unused_at_boot asked m.steps m run.follows) run.follows run.broken run.over);
-      }),
-    )
+    let flash = new_flash asked.image asked.failing in
+    (Fails, run.rose, Cut m kept refl (cut_short (boot_of asked) asked flash [] words exit status faults taken call m (is_boot_of asked m.steps m run.follows) refl run))
 
 -- a run that is warranted, whatever asked for it
 pub run_of : (words : List (List ℕ)) (exit : Exit) (status faults : ℕ) (taken : List ℕ) (call : Call words exit status faults taken) (asked : Asked)
     → IsWarranted words call.source call.source' (jobs.Run (request_of asked))
-    → IsSoThen faults (λ sink. IsRun sink asked status taken exit.kept)
+    → IsSoThen faults (λ sink. IsRun (boot_of asked) sink asked status taken exit.kept)
 run_of words exit status faults taken call asked warranted =
-    told_by words exit status faults taken call _ (λ sink. IsRun sink asked status taken exit.kept) warranted (λ sink told none alone. NoMemory told none)
+    told_by words exit status faults taken call _ (λ sink. IsRun (boot_of asked) sink asked status taken exit.kept) warranted (λ sink told none alone. NoMemory told none)
     (λ done. ran asked words exit status faults taken call done.0.machine done.0.kept done.0.runs)
 
-pub run_told : (words : List (List ℕ)) (exit : Exit) (status faults : ℕ) (taken : List ℕ) (call : Call words exit status faults taken) (text : List ℕ) → Tells call.source call.source' text → (asked : Asked)
-    → Asks words text asked → IsSoThen faults (λ sink. IsRun sink asked status taken exit.kept)
+pub run_told : (words : List (List ℕ)) (exit : Exit) (status faults : ℕ) (taken : List ℕ) (call : Call words exit status faults taken) (text : List ℕ) → Tells call.source call.source' text
+    → (asked : Asked)
+    → Asks words text asked → IsSoThen faults (λ sink. IsRun (boot_of asked) sink asked status taken exit.kept)
 run_told words exit status faults taken call text tells asked asks =
     run_of words exit status faults taken call asked
-    (inl (RunCommand (options_of asked), asks.command, (text, tells, inr (asks.input.short, Good (asked.image, asks.input.position) asks.input.hex (Good (script_of asked) asks.input.script refl)))))
+    (inl (RunCommand (options_of asked), asks.command, (text, tells, inr (asks.front.short, Good (asked.image, asks.front.position) asks.front.hex (Good (script_of asked) asks.script refl)))))
 
 -- .. of a seed
 pub generated_told : (words : List (List ℕ)) (exit : Exit) (status faults : ℕ) (taken : List ℕ) (call : Call words exit status faults taken) (seed : ℕ)
-    → AsksGenerate words seed → IsSoThen faults (λ sink. IsRun sink (generated_by seed) status taken exit.kept)
+    → AsksGenerate words seed → IsSoThen faults (λ sink. IsRun (boot_of (generated_by seed)) sink (generated_by seed) status taken exit.kept)
 generated_told words exit status faults taken call seed asks = run_of words exit status faults taken call (generated_by seed) (inl (Generate seed, asks, refl))

@@ -31,7 +31,8 @@ some_owed None stub due some = absurd (some refl)
 some_owed (Some target) stub due some = (record { target = target; stub = stub; due = due }, refl)
 
 -- of the one that is stepped
-pub asked_before : (n : ℕ) (t new : Tasks) (play : Play) (motes : List Mote) (left : Mote) → (one : IsPlay n t play new) → AreLeft t motes left → AllAsked t motes → Asked (state_of (machine_of t t.running one.task))
+pub asked_before : (n : ℕ) (t new : Tasks) (play : Play) (motes : List Mote) (left : Mote) → (one : IsPlay n t play new) → AreLeft t motes left → AllAsked t motes
+    → Asked (state_of (machine_of t t.running one.task))
 asked_before n t new play motes left one are all w owes =
     let y = machine_of t t.running one.task in
     let had = are.each t.running one.task one.here in
@@ -40,7 +41,8 @@ asked_before n t new play motes left one are all w owes =
     kernel_same had.own y.kernel.mote pc (all t.running one.task had.own one.here had.there one.going (owed_some one.task.owed _ one.task.due w owes))
 
 -- behind its moves
-asked_tried : (n : ℕ) (t new : Tasks) (play : Play) (motes : List Mote) (left : Mote) → (one : IsPlay n t play new) → AreLeft t motes left → AllAsked t motes → AllAsked one.mid (slice_set motes t.running one.mid.kernel.mote)
+asked_tried : (n : ℕ) (t new : Tasks) (play : Play) (motes : List Mote) (left : Mote) → (one : IsPlay n t play new) → AreLeft t motes left → AllAsked t motes
+    → AllAsked one.mid (slice_set motes t.running one.mid.kernel.mote)
 asked_tried n t new play motes left one are all i task own there mote going owes =
     let r = t.running in
     let m = one.mid.kernel.mote in
@@ -65,7 +67,8 @@ asked_given t next parked motes given all i task own there mote going owes =
     let u = given_by t next (Some parked) in
     elim (cases_eq i next) [
       | inl same ↦
-          let its : record given.first { parked = None } ≡ task = here_is u.tasks next (record given.first { parked = None }) task (first_of t next parked given) (ap (slice_get u.tasks) (sym same) ∙ there) in
+          let its : record given.first { parked = None } ≡ task = here_is u.tasks next (record given.first { parked = None }) task (first_of t next parked given)
+          (ap (slice_get u.tasks) (sym same) ∙ there) in
           all next given.first own given.waits (ap (slice_get motes) (sym same) ∙ mote) (ap (λ (x : Task). x.end) its ∙ going) (subst (λ (x : Task). x.owed ≢ None) (sym its) owes)
       | inr apart ↦ elim (cases_eq i t.running) [
         | inl same ↦
@@ -76,18 +79,23 @@ asked_given t next parked motes given all i task own there mote going owes =
       ]
     ]
 
-asked_to : (t : Tasks) (last : Task) (motes : List Mote) (found : Option ℕ) → AreSound t → slice_get t.tasks t.running ≡ Some last → next_task t ≡ found → AllAsked t motes → AllAsked (given_to t (next_task t)) motes
+asked_to : (t : Tasks) (last : Task) (motes : List Mote) (found : Option ℕ) → AreSound t → slice_get t.tasks t.running ≡ Some last → next_task t ≡ found → AllAsked t motes
+    → AllAsked (given_to t (next_task t)) motes
 asked_to t last motes None sound runs is all = subst (λ (u : Tasks). AllAsked u motes) (sym (ap (given_to t) is)) all
 asked_to t last motes (Some next) sound runs is all =
     let changed = has_changed t next last sound runs is in
     subst (λ (u : Tasks). AllAsked u motes) (sym changed.is) (asked_given t next changed.parked motes changed.given all)
 
-asked_on : (n : ℕ) (t new : Tasks) (play : Play) (motes : List Mote) (left : Mote) (changes : Bool) → (one : IsPlay n t play new) → AreLeft t motes left → AllAsked t motes → GoesOn changes one.mid new → AllAsked new (slice_set motes t.running one.mid.kernel.mote)
+asked_on : (n : ℕ) (t new : Tasks) (play : Play) (motes : List Mote) (left : Mote) (changes : Bool) → (one : IsPlay n t play new) → AreLeft t motes left → AllAsked t motes → GoesOn changes one.mid new
+    → AllAsked new (slice_set motes t.running one.mid.kernel.mote)
 asked_on n t new play motes left false one are all is = subst (λ (u : Tasks). AllAsked u (slice_set motes t.running one.mid.kernel.mote)) (sym is) (asked_tried n t new play motes left one are all)
 asked_on n t new play motes left true one are all is =
     let mid = one.mid in
-    let runs : slice_get mid.tasks mid.running ≡ Some one.next = ap (slice_get mid.tasks) one.tried.running ∙ ap (λ l. slice_get l t.running) one.tried.tasks ∙ set_same t.tasks t.running one.task one.next one.here in
-    subst (λ (u : Tasks). AllAsked u (slice_set motes t.running mid.kernel.mote)) (sym is) (asked_to mid one.next (slice_set motes t.running mid.kernel.mote) (next_task mid) one.tried.sound runs refl (asked_tried n t new play motes left one are all))
+    let runs : slice_get mid.tasks mid.running ≡ Some one.next = ap (slice_get mid.tasks) one.tried.running ∙ ap (λ l. slice_get l t.running) one.tried.tasks
+    ∙ set_same t.tasks t.running one.task one.next one.here in
+    subst (λ (u : Tasks). AllAsked u (slice_set motes t.running mid.kernel.mote)) (sym is)
+    (asked_to mid one.next (slice_set motes t.running mid.kernel.mote) (next_task mid) one.tried.sound runs refl (asked_tried n t new play motes left one are all))
 
-pub asked_behind : (n : ℕ) (t new : Tasks) (play : Play) (motes : List Mote) (left : Mote) → (one : IsPlay n t play new) → AreLeft t motes left → AllAsked t motes → AllAsked new (slice_set motes t.running one.mid.kernel.mote)
+pub asked_behind : (n : ℕ) (t new : Tasks) (play : Play) (motes : List Mote) (left : Mote) → (one : IsPlay n t play new) → AreLeft t motes left → AllAsked t motes
+    → AllAsked new (slice_set motes t.running one.mid.kernel.mote)
 asked_behind n t new play motes left one are all = asked_on n t new play motes left play.changes one are all one.behind

@@ -43,4 +43,4 @@ is_new flash events quantum slots ops refused = record {
 
 pub is_boot : (image failing : List ℕ) (events : List Event) (quantum slots : ℕ) → IsBoot image failing events quantum slots (mote_over (new_flash image failing) events quantum slots)
 unfolding loaded many
-is_boot image failing events quantum slots = record { new = is_new (new_flash image failing) events quantum slots refl refl; words = refl; erases = refl; failing_is = refl }
+is_boot image failing events quantum slots = record { new = is_new (new_flash image failing) events quantum slots refl refl; flash = refl }

@@ -72,7 +72,8 @@ rises since longest (Interrupt stops before after ∷ acts) = rises since longes
 
 stretch : (k since longest : ℕ) (between back : List Act) → services_in between ≡ 0 → k ≤ since → k ≤ longest → k + steps_in between ≤ longest_in since longest (between ++ back)
 stretch k since longest [] back none below most = omega (arith, rises since longest back, most)
-stretch k since longest (Step line before after ∷ between) back none below most = omega (arith, stretch (k + 1) (since + 1) (max longest (since + 1)) between back none (omega (arith, below)) (omega (arith, below, most)))
+stretch k since longest (Step line before after ∷ between) back none below most =
+    omega (arith, stretch (k + 1) (since + 1) (max longest (since + 1)) between back none (omega (arith, below)) (omega (arith, below, most)))
 stretch k since longest (Service line stops before after ∷ between) back none below most = absurd (omega (arith, none))
 stretch k since longest (Arrival refused target made ops before after ∷ between) back none below most = stretch k since longest between back none below most
 stretch k since longest (Interrupt stops before after ∷ between) back none below most = stretch k since longest between back none below most

@@ -48,14 +48,16 @@ of_text text image flash position job hex dump (Good value good asks) =
 -- what is done for want of memory, or for a verdict
 pub data Answers (image flash : List ℕ) (sink sink' : Stream) (exit : Exit) : Type 0 where
   Wanting : Does no_memory sink sink' exit → Answers image flash sink sink' exit
-  Verdicts : (verdict : Verdict) → IsVerdict (layout_of (length image)) image flash verdict → Says (verdict_status verdict) (verdict_text verdict) sink sink' exit.status → exit.kept ≡ None → Answers image flash sink sink' exit
+  Verdicts : (verdict : Verdict) → IsVerdict (layout_of (length image)) image flash verdict → Says (verdict_status verdict) (verdict_text verdict) sink sink' exit.status → exit.kept ≡ None
+      → Answers image flash sink sink' exit
 
 line_told : (image flash : List ℕ) (sink sink' : Stream) (exit : Exit) (job : Job) → Does job sink sink' exit → IsLine image flash job → Answers image flash sink sink' exit
 line_told image flash sink sink' exit job done line =
     let own = subst (λ j. Does j sink sink' exit) line.line done in
     Verdicts line.verdict line.is own.0.0 own.0.1
 
-by_source : (image flash text : List ℕ) (position : ℕ) (source source' : Input) (sink sink' : Stream) (exit : Exit) (job : Job) → Tells source source' text → length text ≤ most_input → HexText text image position → IsDump (drop position text) flash
+by_source : (image flash text : List ℕ) (position : ℕ) (source source' : Input) (sink sink' : Stream) (exit : Exit) (job : Job) → Tells source source' text → length text ≤ most_input
+    → HexText text image position → IsDump (drop position text) flash
     → Does job sink sink' exit → AsksByText CheckAsks source source' job → Answers image flash sink sink' exit
 by_source image flash text position source source' sink sink' exit job tells short hex dump done (inl (IsUnread.ReadFault is rose taken)) = absurd (tells.read rose)
 by_source image flash text position source source' sink sink' exit job tells short hex dump done (inl (IsUnread.TooLong is taken)) =
@@ -66,7 +68,8 @@ by_source image flash text position source source' sink sink' exit job tells sho
     let same = all_taken source source' text judged.0 tells.told gave.taken gave.end in
     line_told image flash sink sink' exit job done (of_text text image flash position job hex dump (subst (λ t. CheckAsks t job) same judged.2))
 
-pub check_answers : (words : List (List ℕ)) (image flash text : List ℕ) (position : ℕ) (source source' : Input) (sink sink' : Stream) (exit : Exit) → IsCommand words Check → Tells source source' text → length text ≤ most_input → HexText text image position → IsDump (drop position text) flash
+pub check_answers : (words : List (List ℕ)) (image flash text : List ℕ) (position : ℕ) (source source' : Input) (sink sink' : Stream) (exit : Exit) → IsCommand words Check → Tells source source' text
+    → length text ≤ most_input → HexText text image position → IsDump (drop position text) flash
     → IsAnswer words source source' sink sink' exit → Answers image flash sink sink' exit
 check_answers words image flash text position source source' sink sink' exit is tells short hex dump answer = elim answer.asked [
   | inl asked ↦

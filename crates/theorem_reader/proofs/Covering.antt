@@ -27,7 +27,8 @@ use Rattle.tkernel_cli.specs.declared.top.Exit.{Exit}
 use Rattle.tkernel_cli.specs.Answer.{Does}
 use Rattle.theorem_reader.specs.Calls as calls
 use Rattle.theorem_reader.specs.Calls.{IsWanting}
-use Rattle.theorem_reader.specs.Refusals.{ReadsScript, Runs, Dumps, Restarts, ReadsHex, Scripted, Several, Checks, ReadsText, Program, Source, Helped, Unknown, TooLong, BadHex, BadScript, BadScripts, BadImage, BadDump, BadSource}
+use Rattle.theorem_reader.specs.Refusals.{ReadsScript, Runs, Dumps, Restarts, ReadsHex, Scripted, Several, Checks, ReadsText, Program, Source, Helped, Unknown, TooLong, BadHex, BadScript}
+use Rattle.theorem_reader.specs.Refusals.{BadScripts, BadImage, BadDump, BadSource}
 use Rattle.theorem_reader.specs.Runs.{Asked, AsksAs}
 use Rattle.theorem_reader.specs.Telling.{Sink, IsRoomy, IsSo}
 use Rattle.theorem_reader.proofs.Doing.{Call, with_room, so_is, so_then, told_how}
@@ -38,7 +39,7 @@ use Rattle.theorem_reader.proofs.Doing.{Call, with_room, so_is, so_then, told_ho
 hex_then : (words : List (List ℕ)) (text : List ℕ) (Then : List ℕ × ℕ → Job → Type 0) (job : Job) → ReadsHex words → length text ≤ 2097152
     → ((hex : List ℕ × ℕ) → HexText text hex.0 hex.1 → Then hex job → calls.IsAsked words text)
     → IsJudged (List ℕ × ℕ) hex_part (λ hex. HexText text hex.0 hex.1) (λ line word. (fault : HexFault) × HexBad text line fault × (word ≡ hex_word fault)) Then job → calls.IsAsked words text
-hex_then words text Then job reads short then (Bad number word bad is) = calls.Refuse 3 _ (BadHex reads short number bad.0 bad.1 refl refl)
+hex_then words text Then job reads short then (Bad number word bad is) = calls.Refuse _ (BadHex reads short number bad.0 bad.1 refl)
 hex_then words text Then job reads short then (Good hex is asks) = then hex is asks
 
 -- .. and a script of one program
@@ -46,20 +47,21 @@ script_then : (kind : RunOptions → Command) (options : RunOptions) (words : Li
     → length text ≤ 2097152 → ((asked : Asked) → AsksAs kind words text asked → calls.IsAsked words text) → RequestThen options text asked job → calls.IsAsked words text
 script_then kind options words text asked job reads command short then =
     hex_then words text _ job (Scripted reads) short (λ hex read script. elim script [
-      | Bad number word bad is ↦ calls.Refuse 3 _ (BadScript reads short hex.0 hex.1 read number bad.0 bad.1 refl refl)
+      | Bad number word bad is ↦ calls.Refuse _ (BadScript reads hex.0 (record { position = hex.1; hex = read; short = short }) number bad.0 bad.1 refl)
       | Good schedule good is ↦ then (record { image = hex.0; events = schedule.events; failing = schedule.failing; steps = options.steps; quantum = options.quantum; slots = options.swap })
-          (record { command = command; input = record { position = hex.1; hex = read; script = good; short = short } })
+          (record { command = command; front = record { position = hex.1; hex = read; short = short }; script = good })
     ])
 
 -- .. of several
-tasks_then : (options : TaskOptions) (words : List (List ℕ)) (text : List ℕ) (job : Job) → IsCommand words (Tasks options) → length text ≤ 2097152 → TasksAsks options text job → calls.IsAsked words text
+tasks_then : (options : TaskOptions) (words : List (List ℕ)) (text : List ℕ) (job : Job) → IsCommand words (Tasks options) → length text ≤ 2097152 → TasksAsks options text job
+    → calls.IsAsked words text
 tasks_then options words text job command short =
     hex_then words text _ job (Several options command) short (λ hex read script. elim script [
-      | Bad number word bad is ↦ calls.Refuse 3 _ (BadScripts options command short hex.0 hex.1 read number bad.0 bad.1 refl refl)
+      | Bad number word bad is ↦ calls.Refuse _ (BadScripts options command hex.0 (record { position = hex.1; hex = read; short = short }) number bad.0 bad.1 refl)
       | Good scripts good placed ↦ elim placed [
-        | Refused a first is ↦ calls.Refuse 3 _ (BadImage options command short hex.0 hex.1 read scripts good a first refl refl)
+        | Refused a first is ↦ calls.Refuse _ (BadImage options command hex.0 (record { position = hex.1; hex = read; short = short }) scripts good a first refl)
         | Placed none is ↦ calls.Several (record { image = hex.0; scripts = scripts; count = options.count; steps = options.steps; quantum = options.quantum; slots = options.swap })
-            (record { command = command; position = hex.1; hex = read; scripts = good; placed = none; short = short })
+            (record { command = command; front = record { position = hex.1; hex = read; short = short }; scripts = good; placed = none })
       ]
     ])
 
@@ -67,13 +69,13 @@ tasks_then options words text job command short =
 check_then : (words : List (List ℕ)) (text : List ℕ) (job : Job) → IsCommand words Check → length text ≤ 2097152 → CheckAsks text job → calls.IsAsked words text
 check_then words text job command short =
     hex_then words text _ job (Checks command) short (λ hex read dump. elim dump [
-      | Bad number word bad is ↦ calls.Refuse 3 _ (BadDump command short hex.0 hex.1 read number bad.0 bad.1 refl refl)
-      | Good flash good is ↦ calls.Check hex.0 flash (record { command = command; position = hex.1; hex = read; dump = good; short = short })
+      | Bad number word bad is ↦ calls.Refuse _ (BadDump command hex.0 (record { position = hex.1; hex = read; short = short }) number bad.0 bad.1 refl)
+      | Good flash good is ↦ calls.Check hex.0 flash (record { command = command; front = record { position = hex.1; hex = read; short = short }; dump = good })
     ])
 
 -- a source
 asm_then : (words : List (List ℕ)) (text : List ℕ) (job : Job) → IsCommand words Asm → length text ≤ 2097152 → AsmAsks text job → calls.IsAsked words text
-asm_then words text job command short (Bad number word bad is) = calls.Refuse 3 _ (BadSource command short number bad.0 bad.1 refl refl)
+asm_then words text job command short (Bad number word bad is) = calls.Refuse _ (BadSource command short number bad.0 bad.1 refl)
 asm_then words text job command short (Good image good is) = calls.Assemble image (record { command = command; short = short; faultless = good.0; source = good.1 })
 
 -- A command. ----------------------------------------------------------------------------------------------
@@ -87,18 +89,21 @@ by_text : (Rule : List ℕ → Job → Type 0) (words : List (List ℕ)) (before
 by_text Rule words before now text job reads tells then (inl (IsUnread.ReadFault is rose taken)) = absurd (tells.read rose)
 by_text Rule words before now text job reads tells then (inl (IsUnread.NoMemory is taken)) = inr (reads, is)
 by_text Rule words before now text job reads tells then (inl (IsUnread.TooLong is taken)) =
-    inl (calls.Refuse 3 _ (TooLong reads (omega (arith, taken_of before now text 2097153 tells.told taken)) refl refl))
+    inl (calls.Refuse _ (TooLong reads (omega (arith, taken_of before now text 2097153 tells.told taken)) refl))
 by_text Rule words before now text job reads tells then (inr judged) =
     let same = all_taken before now text judged.0 tells.told judged.1.taken judged.1.end in
     inl (then (omega (arith, judged.1.short, ap length same)) (subst (λ t. Rule t job) same judged.2))
 
-by_command : (command : Command) (words : List (List ℕ)) (before now : Input) (text : List ℕ) (job : Job) → IsCommand words command → Tells before now text → Asks command before now job → IsCovered words text job
+by_command : (command : Command) (words : List (List ℕ)) (before now : Input) (text : List ℕ) (job : Job) → IsCommand words command → Tells before now text → Asks command before now job
+    → IsCovered words text job
 by_command Help words before now text job is tells asks = inl (calls.Tell 0 (Helped is refl))
 by_command (Generate seed) words before now text job is tells asks = inl (calls.Generate seed is)
 by_command (Run options) words before now text job is tells asks =
-    by_text (RunAsks options) words before now text job (Program (Scripted (Runs options is))) tells (λ short. script_then Run options words text jobs.Run job (Runs options is) is short calls.Run) asks
+    by_text (RunAsks options) words before now text job (Program (Scripted (Runs options is))) tells (λ short. script_then Run options words text jobs.Run job (Runs options is) is short calls.Run)
+    asks
 by_command (Dump options) words before now text job is tells asks =
-    by_text (DumpAsks options) words before now text job (Program (Scripted (Dumps options is))) tells (λ short. script_then Dump options words text jobs.Dump job (Dumps options is) is short calls.Dump) asks
+    by_text (DumpAsks options) words before now text job (Program (Scripted (Dumps options is))) tells
+    (λ short. script_then Dump options words text jobs.Dump job (Dumps options is) is short calls.Dump) asks
 by_command (Restart options) words before now text job is tells asks =
     by_text (RestartAsks options) words before now text job (Program (Scripted (Restarts options is))) tells
     (λ short. script_then Restart options words text (λ request. jobs.Restart request request.script) job (Restarts options is) is short calls.Restart) asks
@@ -129,7 +134,8 @@ words_covered words before now job (inr unknown) = calls.Tells 4 (Unknown unknow
 
 -- A call. -------------------------------------------------------------------------------------------------
 
-pub covered : (room : ℕ) (out : SinkState) (words : List (List ℕ)) (exit : Exit) (status : ℕ) → IsRoomy room out → (call : Call words exit status out.faults out.taken) (text : List ℕ) → Tells call.source call.source' text
+pub covered : (room : ℕ) (out : SinkState) (words : List (List ℕ)) (exit : Exit) (status : ℕ) → IsRoomy room out → (call : Call words exit status out.faults out.taken) (text : List ℕ)
+    → Tells call.source call.source' text
     → calls.IsAsked words text ⊎ IsSo room out (λ sink. IsWanting words sink status out.taken exit.kept exit.tasks)
 covered room out words exit status roomy call text tells = elim (by_words words call.source call.source' text call.answer.job tells call.answer.asked) [
   | inl asked ↦ inl asked
@@ -137,5 +143,5 @@ covered room out words exit status roomy call text tells = elim (by_words words 
       let done = subst (λ j. Does j call.sink call.sink' exit) none.1 call.answer.done in
       let So : Sink → Type 0 = λ sink. IsWanting words sink status out.taken exit.kept exit.tasks in
       inr (with_room room out So roomy (so_is words exit status out.faults out.taken call So
-      (so_then call.sink call.sink' _ So (λ sink told. record { reads = none.0; told = told; none = done.0.1; alone = done.1 }) (told_how words exit status out.faults out.taken call _ _ done.0.0))))
+      (so_then call.sink call.sink' _ So (λ sink told. (none.0, told, done.0.1, done.1)) (told_how words exit status out.faults out.taken call _ _ done.0.0))))
 ]

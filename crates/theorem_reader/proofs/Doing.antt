@@ -65,7 +65,8 @@ pub record Call (words : List (List ℕ)) (exit : Exit) (status faults : ℕ) (t
   pub exact : IsExact words source source' sink sink' exit
 
 abbrev pub call_of : (words : List (List ℕ)) (exit : Exit) (status : ℕ) (taken : List ℕ) (source source' : Input) (sink sink' : Stream) → sink.told ≡ Some [] → sink.faults ≡ 0
-    → sink'.told ≡ Some taken → status ≡ number_of exit.status → IsAnswer words source source' sink sink' exit → IsExact words source source' sink sink' exit → Call words exit status sink'.faults taken
+    → sink'.told ≡ Some taken → status ≡ number_of exit.status → IsAnswer words source source' sink sink' exit → IsExact words source source' sink sink' exit
+    → Call words exit status sink'.faults taken
 call_of words exit status taken source source' sink sink' empty sound last number answer exact = record {
   source = source;
   source' = source';
@@ -89,11 +90,13 @@ cut_by words exit status faults taken call whole is put = (
 )
 
 -- a text that went out whole, in other words
-pub past_by : (words : List (List ℕ)) (exit : Exit) (status faults : ℕ) (taken : List ℕ) (call : Call words exit status faults taken) (text text' : List ℕ) → text ≡ text' → Begins call.sink.told call.sink'.told text → length text' ≤ length taken
+pub past_by : (words : List (List ℕ)) (exit : Exit) (status faults : ℕ) (taken : List ℕ) (call : Call words exit status faults taken) (text text' : List ℕ) → text ≡ text'
+    → Begins call.sink.told call.sink'.told text → length text' ≤ length taken
 past_by words exit status faults taken call text text' same begun = subst (λ t. length t ≤ length taken) same (begun_is call.sink.told call.sink'.told taken text call.empty call.taken_is begun)
 
 -- the same text and status, told
-pub retold : (sink : Sink) (own own' : ℕ) (whole whole' : List ℕ) (status : ℕ) (taken : List ℕ) → own ≡ own' → whole ≡ whole' → IsTold sink own whole status taken → IsTold sink own' whole' status taken
+pub retold : (sink : Sink) (own own' : ℕ) (whole whole' : List ℕ) (status : ℕ) (taken : List ℕ) → own ≡ own' → whole ≡ whole' → IsTold sink own whole status taken
+    → IsTold sink own' whole' status taken
 retold Serves own own' whole whole' status taken number text told = (told.0 ∙ number, told.1 ∙ text)
 retold Fails own own' whole whole' status taken number text told = (told.0, subst (IsFront taken) text told.1)
 
@@ -111,7 +114,8 @@ pub data IsSoThen (faults : ℕ) (So : Sink → Type 0) : Type 0 where
   Failed : 1 ≤ faults → So Fails → IsSoThen faults So
 
 -- what is so of its sink
-pub so_is : (words : List (List ℕ)) (exit : Exit) (status faults : ℕ) (taken : List ℕ) (call : Call words exit status faults taken) (So : Sink → Type 0) → Somehow call.sink call.sink' So → IsSoThen faults So
+pub so_is : (words : List (List ℕ)) (exit : Exit) (status faults : ℕ) (taken : List ℕ) (call : Call words exit status faults taken) (So : Sink → Type 0) → Somehow call.sink call.sink' So
+    → IsSoThen faults So
 so_is words exit status faults taken call So (Serves, went, so) = Served so
 so_is words exit status faults taken call So (Fails, rose, so) = Failed (omega (arith, call.sound, call.faults_are, rose)) so
 
@@ -119,7 +123,8 @@ so_is words exit status faults taken call So (Fails, rose, so) = Failed (omega (
 
 -- what a call tells whose words and text ask for this job
 pub told_by : (words : List (List ℕ)) (exit : Exit) (status faults : ℕ) (taken : List ℕ) (call : Call words exit status faults taken) (job : Job) (So : Sink → Type 0)
-    → IsWarranted words call.source call.source' job → ((sink : Sink) → IsTold sink 8 no_memory status taken → exit.kept ≡ None → exit.tasks ≡ None → So sink) → (Does job call.sink call.sink' exit → Somehow call.sink call.sink' So)
+    → IsWarranted words call.source call.source' job → ((sink : Sink) → IsTold sink 8 no_memory status taken → exit.kept ≡ None → exit.tasks ≡ None → So sink)
+    → (Does job call.sink call.sink' exit → Somehow call.sink call.sink' So)
     → IsSoThen faults So
 told_by words exit status faults taken call job So warranted wanting done =
     so_is words exit status faults taken call So

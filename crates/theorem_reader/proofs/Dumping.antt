@@ -16,11 +16,12 @@ use Rattle.tkernel_cli.specs.DumpRuns.{HasDumped, silent}
 use Rattle.theorem_reader.specs.Runs.{Asked, options_of}
 use Rattle.theorem_reader.specs.Dumps.{AsksDump, page_text, dump_text, HasEnded, Well, InAFault, IsDumped, NoMemory, Unwritten, Dumped}
 use Rattle.theorem_reader.specs.Telling.{Sink}
-use Rattle.theorem_reader.proofs.Answering.{script_of, request_of, ends_well, ends_in_a_fault}
+use Rattle.theorem_reader.proofs.Answering.{script_of, request_of, ends_well_from_boot, ends_in_a_fault}
 use Rattle.theorem_reader.proofs.Doing.{IsSoThen, Call, Somehow, not_risen, so_then, retold, told_how, told_by}
 
 -- one page more
-page_more : (b : Bool) (line : List ℕ) (others : List (List ℕ)) (text : List ℕ) → flat_map fed others ≡ text → flat_map fed ((if b then [] else line ∷ []) ++ others) ≡ (if b then [] else fed line) ++ text
+page_more : (b : Bool) (line : List ℕ) (others : List (List ℕ)) (text : List ℕ) → flat_map fed others ≡ text
+    → flat_map fed ((if b then [] else line ∷ []) ++ others) ≡ (if b then [] else fed line) ++ text
 page_more true line others text same = same
 page_more false line others text same = ap (λ t. fed line ++ t) same
 
@@ -35,8 +36,8 @@ dump_same flash = pages_same flash (range_with_len 0 512)
 
 pub has_ended : (asked : Asked) (told : Status) (m : Machine)
     → Runs (request_of asked) silent silent told m → HasEnded asked m
-has_ended asked told m (Runs.Ended unlisted run) = Well (ends_well asked silent silent told m unlisted run)
-has_ended asked told m (Runs.Failed run) = InAFault run.op (ends_in_a_fault asked silent silent told m run)
+has_ended asked told m (Runs.Ended unlisted run) = Well (ends_well_from_boot asked silent silent told m unlisted run)
+has_ended asked told m (Runs.Failed run) = InAFault (ends_in_a_fault asked silent silent told m run)
 has_ended asked told m (Runs.Cut run) = absurd (not_risen 0 0 refl refl run.rose)
 
 dumped : (asked : Asked) (words : List (List ℕ)) (exit : Exit) (status faults : ℕ) (taken : List ℕ) (call : Call words exit status faults taken)
@@ -45,13 +46,15 @@ dumped asked words exit status faults taken call done =
     let ended = has_ended asked done.ended done.machine done.runs in
     let So : Sink → Type 0 = λ sink. IsDumped sink asked status taken exit.kept in
     elim done.said [
-      | inl said ↦ so_then call.sink call.sink' _ So (λ sink told. Dumped done.machine done.kept ended (retold sink 0 0 _ _ status taken refl (dump_same done.machine.kernel.mote.flash.words) told)) (told_how words exit status faults taken call _ _ said)
+      | inl said ↦ so_then call.sink call.sink' _ So (λ sink told. Dumped done.machine done.kept ended (retold sink 0 0 _ _ status taken refl (dump_same done.machine.kernel.mote.flash.words) told))
+          (told_how words exit status faults taken call _ _ said)
       | inr none ↦ so_then call.sink call.sink' _ So (λ sink told. Unwritten done.machine done.kept ended told) (told_how words exit status faults taken call _ _ none)
     ]
 
-pub dump_told : (words : List (List ℕ)) (exit : Exit) (status faults : ℕ) (taken : List ℕ) (call : Call words exit status faults taken) (text : List ℕ) → Tells call.source call.source' text → (asked : Asked)
+pub dump_told : (words : List (List ℕ)) (exit : Exit) (status faults : ℕ) (taken : List ℕ) (call : Call words exit status faults taken) (text : List ℕ) → Tells call.source call.source' text
+    → (asked : Asked)
     → AsksDump words text asked → IsSoThen faults (λ sink. IsDumped sink asked status taken exit.kept)
 dump_told words exit status faults taken call text tells asked asks =
     told_by words exit status faults taken call (jobs.Dump (request_of asked)) (λ sink. IsDumped sink asked status taken exit.kept)
-    (inl (Dump (options_of asked), asks.command, (text, tells, inr (asks.input.short, Good (asked.image, asks.input.position) asks.input.hex (Good (script_of asked) asks.input.script refl)))))
+    (inl (Dump (options_of asked), asks.command, (text, tells, inr (asks.front.short, Good (asked.image, asks.front.position) asks.front.hex (Good (script_of asked) asks.script refl)))))
     (λ sink told none alone. NoMemory told none) (λ done. dumped asked words exit status faults taken call done.0)

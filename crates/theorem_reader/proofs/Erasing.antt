@@ -51,7 +51,8 @@ changed_by words test a (Link t ∷ pieces) inside some =
       | true ↦ λ is any.
           let was : word_at words a ≡ jump_word = eqb-true _ _ (and_parts (word_at words a == jump_word) (test t (word_at words (a + 1))) is).0 in
           let now : word_at (with_calls words (a ∷ stubs)) a ≡ call_word =
-          calls_beside (with_two_words words a call_word bridge_entry) stubs a (beside_below (a + 3) (a + 3 + size pieces) a stubs (omega arith) (links_among words test (a + 3) pieces)) ∙ first_of_two words a call_word bridge_entry (omega (arith, inside, long)) in
+          calls_beside (with_two_words words a call_word bridge_entry) stubs a (beside_below (a + 3) (a + 3 + size pieces) a stubs (omega arith) (links_among words test (a + 3) pieces))
+          ∙ first_of_two words a call_word bridge_entry (omega (arith, inside, long)) in
           record { at = a; low = omega arith; high = omega (arith, long); apart = λ same. omega (arith, same, was, now) }
       | false ↦ λ is any.
           let one = changed_by words test (a + 3) pieces (omega (arith, inside, long)) any in
@@ -84,7 +85,8 @@ where_not true false some is = refl
 where_not false false some is = refl
 
 -- the words of a page that is kept and has stubs that stray
-pub other_words : (image words words' : List ℕ) (stray : ℕ → ℕ → Bool) (page : ℕ) → length words ≡ 65536 → page < 480 → page_of words' page ≡ page_of (with_calls words (stubs_where stray image words page)) page
+pub other_words : (image words words' : List ℕ) (stray : ℕ → ℕ → Bool) (page : ℕ) → length words ≡ 65536 → page < 480
+    → page_of words' page ≡ page_of (with_calls words (stubs_where stray image words page)) page
     → size (pieces_in image words page) ≤ 128 → are_some (stubs_where stray image words page) ≡ true → IsSamePage words words' page → ⊥
 other_words image words words' stray page whole low is fits some same =
     let pieces = pieces_in image words page in
@@ -99,7 +101,8 @@ other_words image words words' stray page whole low is fits some same =
 turned_out : (layout : Layout) (image : List ℕ) (old new : Memory) (told : Kept) (page : ℕ) → Restarts layout image old new told → (IsPool layout page → ⊥) → Turned old new page
 turned_out layout image old new told page restarts out = Same (same_words old.words new.words page (restarts.keeps.outside page out)) (restarts.other_erases page out)
 
-turned_in : (layout : Layout) (image : List ℕ) (old new : Memory) (told : Kept) (page : ℕ) → IsRight layout → length old.words ≡ 65536 → Restarts layout image old new told → IsPool layout page → Turned old new page
+turned_in : (layout : Layout) (image : List ℕ) (old new : Memory) (told : Kept) (page : ℕ) → IsRight layout → length old.words ≡ 65536 → Restarts layout image old new told → IsPool layout page
+    → Turned old new page
 turned_in layout image old new told page right whole restarts pool =
     let keeps = restarts.keeps in
     let stray = restarts.stray in
@@ -116,7 +119,8 @@ turned_in layout image old new told page right whole restarts pool =
           let own = keeps.keeps page pool is in
           let code = ((keeps.are page pool).0 is).code in
           elim (one_or_other (are_some stubs)) [
-            | inl some ↦ Other (other_words image old.words new.words stray page whole low own (own_run Anywhere image old.words page code.first code.last code.holds).holds.fits some) (by ∙ ap (λ b. worn b count) (test ∙ some))
+            | inl some ↦ Other (other_words image old.words new.words stray page whole low own (own_run Anywhere image old.words page code.first code.last code.holds).holds.fits some)
+                (by ∙ ap (λ b. worn b count) (test ∙ some))
             | inr none ↦ Same (same_words old.words new.words page (own ∙ ap (λ w. page_of w page) (no_stubs old.words stubs none))) (by ∙ ap (λ b. worn b count) (test ∙ none))
           ])
       | inr not_kept ↦ (

@@ -14,7 +14,7 @@ use Rattle.pool_check.proofs.CheckedLaws.{outside}
 use Rattle.task_input.specs.Images.{IsMisplaced, IsApart}
 use Rattle.task_input.specs.Scripts.{Schedules}
 use Rattle.cli_words.specs.declared.command.Command.TheVariants.{Dump, Restart, Tasks, Check, Generate}
-use Rattle.cli_words.specs.Commands.{IsCommand, tasks_numbers}
+use Rattle.cli_words.specs.Commands.{IsCommand, entry_of}
 use Rattle.cli_words.specs.Options.{AreValues, seed_rows, tasks_rows}
 use Rattle.cli_words.specs.Options as options
 use Rattle.theorem_reader.specs.Checks.{AsksCheck}
@@ -22,7 +22,7 @@ use Rattle.theorem_reader.specs.Dumps.{AsksDump}
 use Rattle.theorem_reader.specs.Examples.{example_of_tasks, words_of_tasks, erased}
 use Rattle.theorem_reader.specs.Restarts.{AsksRestart}
 use Rattle.theorem_reader.specs.Tasks.{AsksTasks, tasks_options_of}
-use Rattle.theorem_reader.specs.Runs.{Asks, AsksGenerate, IsTextOf, example, options_of}
+use Rattle.theorem_reader.specs.Runs.{Asks, AsksGenerate, HasHex, example, options_of}
 use Rattle.theorem_reader.proofs.Plainly.{no_script}
 
 -- the text
@@ -44,16 +44,16 @@ hex : HexText text example.image 36
 unfolding hex_on_literals
 hex = record { before = 1; ends = refl; lines = before_end; different = sound.different; small = sound.small; image = refl; cut = refl }
 
-in_text : IsTextOf text example
-in_text = record { position = 36; hex = hex; script = three_lines; short = omega arith }
+abbrev in_front : HasHex text example.image
+in_front = record { position = 36; hex = hex; short = omega arith }
 
 -- The options, and what a command that takes them is then. ------------------------------------------------
 
 dumps : IsCommand (codes "dump" ∷ rest) (Dump (options_of example))
-dumps = (chosen, said, (options_of example, values_are, refl))
+dumps = (refl, (chosen, said, values_are))
 
 restarts : IsCommand (codes "restart" ∷ rest) (Restart (options_of example))
-restarts = (chosen, said, (options_of example, values_are, refl))
+restarts = (refl, (chosen, said, values_are))
 
 -- the words of the call, whose first is a command
 pub record AreWords (command : List ℕ) (words : List (List ℕ)) (bytes : List ℕ) : Type 0 where
@@ -61,15 +61,16 @@ pub record AreWords (command : List ℕ) (words : List (List ℕ)) (bytes : List
   pub bytes_are : bytes ≡ text
 
 pub asks_run : (words : List (List ℕ)) (bytes : List ℕ) → AreWords (codes "run") words bytes → Asks words bytes example
-asks_run words bytes are = rw (are.words_are, are.bytes_are) (record { command = with_options; input = in_text })
+asks_run words bytes are = rw (are.words_are, are.bytes_are) (record { command = with_options; front = in_front; script = three_lines })
 
 pub asks_dump : (words : List (List ℕ)) (bytes : List ℕ) → AreWords (codes "dump") words bytes → AsksDump words bytes example
-asks_dump words bytes are = rw (are.words_are, are.bytes_are) (record { command = dumps; input = in_text })
+asks_dump words bytes are = rw (are.words_are, are.bytes_are) (record { command = dumps; front = in_front; script = three_lines })
 
 pub asks_restart : (words : List (List ℕ)) (bytes : List ℕ) → AreWords (codes "restart") words bytes → AsksRestart words bytes example
-asks_restart words bytes are = rw (are.words_are, are.bytes_are) (record { command = restarts; input = in_text })
+asks_restart words bytes are = rw (are.words_are, are.bytes_are) (record { command = restarts; front = in_front; script = three_lines })
 
-pub are_words : (command a b c d e f bytes : List ℕ) → a ≡ command → b ≡ codes "--steps" → c ≡ codes "100" → d ≡ codes "--quantum=7" → e ≡ codes "--swap" → f ≡ codes "0" → bytes ≡ text → AreWords command (a ∷ b ∷ c ∷ d ∷ e ∷ f ∷ []) bytes
+pub are_words : (command a b c d e f bytes : List ℕ) → a ≡ command → b ≡ codes "--steps" → c ≡ codes "100" → d ≡ codes "--quantum=7" → e ≡ codes "--swap" → f ≡ codes "0" → bytes ≡ text
+    → AreWords command (a ∷ b ∷ c ∷ d ∷ e ∷ f ∷ []) bytes
 are_words command a b c d e f bytes first second third fourth fifth sixth same = rw (first, second, third, fourth, fifth, sixth, same) (record { words_are = refl; bytes_are = refl })
 
 -- The HEX text alone. -------------------------------------------------------------------------------------
@@ -86,7 +87,7 @@ abbrev head : {A : Type 0} → (list : List A) → (list ≡ [] → ⊥) → A
 head [] some = absurd (some refl)
 head (x ∷ list) some = x
 
-tasks_values : AreValues tasks_rows (slice_set options.nothing 4 (Some 1)) (tasks_numbers (tasks_options_of example_of_tasks))
+tasks_values : AreValues tasks_rows (slice_set options.nothing 4 (Some 1)) (entry_of (Tasks (tasks_options_of example_of_tasks))).2
 tasks_values = (
   1,
   1000000 ∷ 255 ∷ 32 ∷ [],
@@ -109,12 +110,15 @@ tasks_values = (
 
 pub tasks_command : IsCommand (codes "tasks" ∷ codes "--tasks" ∷ codes "1" ∷ []) (Tasks (tasks_options_of example_of_tasks))
 tasks_command = (
-  slice_set options.nothing 4 (Some 1),
+  refl,
   (
-    record { parameter = (head tasks_rows (λ e. cc)).parameter; value = 1 } ∷ [],
-    ([], record { digits = codes "1"; written = inl refl; number = record { digits = (omega arith, tt); some = omega arith; most = omega arith; value = refl }; has = refl }, refl, (refl, refl)),
+    slice_set options.nothing 4 (Some 1),
+    (
+      record { parameter = (head tasks_rows (λ e. cc)).parameter; value = 1 } ∷ [],
+      ([], record { digits = codes "1"; written = inl refl; number = record { digits = (omega arith, tt); some = omega arith; most = omega arith; value = refl }; has = refl }, refl, (refl, refl)),
+    ),
+    tasks_values,
   ),
-  (tasks_options_of example_of_tasks, tasks_values, refl),
 )
 
 far : (a : ℕ) → IsApart 1 a → 3 ≤ a
@@ -133,29 +137,32 @@ pub schedules : Schedules 1 [] (nothing ∷ [])
 schedules = record { forms = λ k d below. absurd (omega (arith, below)); each_task = refl; read = λ task below. no_events task }
 
 pub asks_tasks : AsksTasks words_of_tasks hex_text example_of_tasks
-asks_tasks = record { command = tasks_command; position = 36; hex = hex_alone; scripts = schedules; placed = placed; short = omega arith }
+asks_tasks = record { command = tasks_command; front = record { position = 36; hex = hex_alone; short = omega arith }; scripts = schedules; placed = placed }
 
 pub words_are : (a b c : List ℕ) → a ≡ codes "tasks" → b ≡ codes "--tasks" → c ≡ codes "1" → a ∷ b ∷ c ∷ [] ≡ words_of_tasks
 words_are a b c first second third = rw (first, second, third) refl
 
 pub check_command : IsCommand (codes "check" ∷ []) Check
-check_command = (options.nothing, ([], (refl, refl)), refl)
+check_command = (refl, (options.nothing, ([], (refl, refl)), refl))
 
 pub asks_check : AsksCheck (codes "check" ∷ []) hex_text example.image erased
 unfolding many
-asks_check = record { command = check_command; position = 36; hex = hex_alone; dump = record { sound = tt; words_are = refl }; short = omega arith }
+asks_check = record { command = check_command; front = record { position = 36; hex = hex_alone; short = omega arith }; dump = record { sound = tt; words_are = refl } }
 
 abbrev pub words_of_generate : List (List ℕ)
 words_of_generate = codes "generate" ∷ codes "7" ∷ []
 
 generate_command : IsCommand words_of_generate (Generate 7)
 generate_command = (
-  slice_set options.nothing 0 (Some 7),
+  refl,
   (
-    record { parameter = (head seed_rows (λ e. cc)).parameter; value = 7 } ∷ [],
-    ([], record { digits = codes "7"; written = refl; number = record { digits = (omega arith, tt); some = omega arith; most = omega arith; value = refl }; has = refl }, refl, (refl, refl)),
+    slice_set options.nothing 0 (Some 7),
+    (
+      record { parameter = (head seed_rows (λ e. cc)).parameter; value = 7 } ∷ [],
+      ([], record { digits = codes "7"; written = refl; number = record { digits = (omega arith, tt); some = omega arith; most = omega arith; value = refl }; has = refl }, refl, (refl, refl)),
+    ),
+    (7, [], refl, record { is = refl; least = omega arith; most = omega arith }, refl),
   ),
-  (7, (7, [], refl, record { is = refl; least = omega arith; most = omega arith }, refl), refl),
 )
 
 pub asks_generate : AsksGenerate words_of_generate 7

@@ -24,12 +24,14 @@ use Rattle.nat_page.proofs.TwoWords.{length-with_two_words}
 use Rattle.addr_tables.specs.Changes.{forgotten}
 use Rattle.branch_bridge.specs.declared.arrival.Moved.{Moved}
 use Rattle.branch_bridge.specs.declared.through.Arrival.{Arrival}
-use Rattle.branch_bridge.specs.Arrivals.{Store, CameThrough, ring_of, turned, Makes, Made, NotMade, Recycles, NotUnlinked, NotErased, Erased, Arrives, Beyond, Found, Free, Full, ArrivesFrom, Stopped, Went, Resolved}
+use Rattle.branch_bridge.specs.Arrivals.{Store, CameThrough, ring_of, turned, Makes, Made, NotMade, Recycles, NotUnlinked, NotErased, Erased, Arrives, Beyond, Found, Free, Full, ArrivesFrom}
+use Rattle.branch_bridge.specs.Arrivals.{Stopped, Went, Resolved}
 use Rattle.branch_bridge.proofs.MakeLaws.{prepared_makes, done_words}
 use Rattle.branch_bridge.proofs.RecycleLaws.{IsAlone, victim_free, erased_faithful, erased_image, entry_before}
 use Rattle.branch_bridge.proofs.ThroughLaws.{is_to_resolve}
 use Rattle.theorem_reader.specs.Acts as acts
-use Rattle.theorem_reader.specs.Acts.{GoesNoFurther, GoesFar}
+use Rattle.theorem_reader.specs.Acts.{GoesNoFurther, IsNext, IsMade}
+use Rattle.theorem_reader.specs.Pools.{IsPlaceOf}
 use Rattle.theorem_reader.proofs.NextPage.{made_true}
 use Rattle.theorem_reader.proofs.OtherPages.{arrives_others, unlinked_all, still_linked}
 use Rattle.theorem_reader.proofs.PagesLeft.{made_here}
@@ -161,11 +163,15 @@ pub goes_far : (image : List ℕ) (before after : Mote) (t place : ℕ) (stub : 
     → image_of (layout_of (length image)) before.flash.words ≡ image
     → IsFaithful (layout_of (length image)) image before.flash.words → ring_of before.sram < (layout_of (length image)).pool_pages → CameThrough (layout_of (length image)) before.flash.words stub t
     → ArrivesFrom (layout_of (length image)) (record { flash = before.flash; sram = before.sram }) (record { flash = after.flash; sram = after.sram }) t stub arrival
-    → arrival.made ≡ true → arrival.place ≡ Some place → after.cpu.pc ≡ place → GoesFar image t before after
-goes_far image before after t place stub arrival right held code ring came from made there pc =
+    → arrival.made ≡ true → arrival.place ≡ Some place → after.cpu.pc ≡ place → ((v : ℕ) → ¬ IsPlaceOf image before.flash.words t v)
+    → IsNext image t before after (after.cpu.pc / 128) → IsPlaceOf image after.flash.words t after.cpu.pc → IsMade image t before after
+goes_far image before after t place stub arrival right held code ring came from made there pc anew next begins =
     let begun : IsBegun image (record { flash = before.flash; sram = before.sram }) = record { right = right; held = held; code = code; ring = ring } in
     let far = far_from image (record { flash = before.flash; sram = before.sram }) (record { flash = after.flash; sram = after.sram }) t place stub arrival begun came from made there in
     record {
+      anew = anew;
+      next = next;
+      place = begins;
       last = far.last;
       first = ap (λ v. slice_index after.flash.words (128 * (v / 128) + 2) / 256) pc ∙ offset_held Anywhere image after.flash.words (place / page_words) t far.last 0 far.holds (omega arith);
       entries = ap (λ v. slice_index after.flash.words (128 * (v / 128) + 1)) pc ∙ count_held Anywhere image after.flash.words (place / page_words) t far.last far.holds;

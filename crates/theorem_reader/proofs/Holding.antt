@@ -1,11 +1,12 @@
 -- Where the bytes of the program's memory are.
-use Rattle.std.proofs.Common.{◌≡◌, ℕ, ◌/◌, ◌%◌, ◌<◌, true, false, List, slice_index, slice_index_or, sym, ◌∙◌, arith, None}
+use Rattle.std.proofs.Common.{◌≡◌, ℕ, ◌/◌, ◌%◌, ◌<◌, true, false, List, slice_index, slice_index_or, sym, ap, subst, ◌∙◌, arith, None}
 use Rattle.std.proofs.lemmas.Bool.Decides.{nat_tests}
-use Rattle.sram_layout.specs.Bytes.{byte_at}
+use Rattle.sram_layout.specs.Bytes.{byte_at, data_word_at}
 use Rattle.swap_store.specs.Slots.{page_in}
 use Rattle.mote_core.specs.declared.mote.Mote.{Mote}
 use Rattle.std.proofs.lemmas.Bool.{false_from_ne_true}
 use Rattle.flat_machine.specs.Addresses.{is_heap}
+use Rattle.flat_machine.specs.FlatMachine.{FlatState}
 use Rattle.heap_frames.specs.Frames.{frame_of, holds, pages, has_slot, table}
 use Rattle.std.proofs.lemmas.List.FromFn.{get_or-map-range_with_len}
 use Rattle.heap_frames.specs.Memory.{vmem, heap_byte}
@@ -14,7 +15,9 @@ use Rattle.heap_frames.proofs.FrameLaws as frames
 use Rattle.heap_frames.proofs.HeapBytes.{byte_in_frame, byte_in_slot, byte_of_slot, byte_of_no_slot}
 use Rattle.heap_frames.proofs.LoadLaws.{absent_without_slot}
 use Rattle.heap_frames.proofs.MemoryLaws.{in_window, stack_byte, page_byte, no_byte, length-vmem, vmem_byte}
-use Rattle.theorem_reader.specs.Memory.{Holds, IsHeap, Below, Above, HasMemory, HaveSlots}
+use Rattle.kernel_entry.specs.declared.kernel.Kernel.{Kernel}
+use Rattle.kernel_entry.specs.Seen.{state_at}
+use Rattle.theorem_reader.specs.Memory.{core_at, Holds, IsHeap, Below, Above, HasMemory, HaveSlots, HasState}
 
 heap_at : (a : ℕ) → IsHeap a → (is_heap a ≡ true) × (a < 65536)
 heap_at a (Below from to) = (grind (arith, nat_tests), omega arith)
@@ -51,7 +54,8 @@ has_memory m paged = record {
   registers = λ a below. vmem_byte m.sram m.swap a (omega (arith, below)) ∙ no_byte m.sram m.swap a (grind (arith, nat_tests)) (grind (arith, nat_tests));
   window = λ a from to. vmem_byte m.sram m.swap a (omega (arith, to)) ∙ stack_byte m.sram m.swap a (in_window a from (omega arith));
   framed = λ a frame heap held. page_at m a heap ∙ byte_in_frame m.sram m.swap (a / 256) (a % 256) frame (frames.paged_frame m.sram m.swap (a / 256) frame paged (frame_is m (a / 256) frame held));
-  swapped = λ a heap none some. page_at m a heap ∙ byte_in_slot m.sram m.swap (a / 256) (a % 256) (unheld m (a / 256) none) ∙ byte_of_slot m.sram m.swap (a / 256) (a % 256) (frames.slot_held m.sram (a / 256) some);
+  swapped = λ a heap none some. page_at m a heap ∙ byte_in_slot m.sram m.swap (a / 256) (a % 256) (unheld m (a / 256) none) ∙ byte_of_slot m.sram m.swap (a / 256) (a % 256)
+      (frames.slot_held m.sram (a / 256) some);
   untouched = λ a heap none.
       let absent = false_from_ne_true _ (λ has. frames.slot_there m.sram (a / 256) has none) in
       page_at m a heap ∙ byte_in_slot m.sram m.swap (a / 256) (a % 256) (absent_without_slot m.sram m.swap (a / 256) paged absent) ∙ byte_of_no_slot m.sram m.swap (a / 256) (a % 256) absent;
@@ -61,6 +65,16 @@ page_of_table : (m : List ℕ) (page : ℕ) → page < 256 → slice_index_or (p
 unfolding pages table
 page_of_table m page below = get_or-map-range_with_len (has_slot m) 0 256 page page false below (omega arith)
 
-pub have_slots : (m : Mote) → HaveSlots m (pages m.sram)
+have_slots : (m : Mote) → HaveSlots m (pages m.sram)
 unfolding byte_at
 have_slots m page below = (λ some. page_of_table m.sram page below ∙ frames.slot_held m.sram page some, λ stored. frames.slot_there m.sram page (sym (page_of_table m.sram page below) ∙ stored))
+
+-- where the program stands on a mote, by its own machine there
+pub has_state : (k : Kernel) (m : Mote) (pc steps crossings : ℕ) (s : FlatState) → IsPaged m.sram m.swap → state_at (record k { mote = m }) pc steps crossings ≡ s → HasState s m
+unfolding data_word_at byte_at
+has_state k m pc steps crossings s paged same = record {
+  core = ap (λ (z : FlatState). core_at m z.cpu.pc) (sym same) ∙ ap (λ (z : FlatState). z.cpu) same;
+  memory = subst (HasMemory m) (ap (λ (z : FlatState). z.memory) same) (has_memory m paged);
+  slots = subst (HaveSlots m) (ap (λ (z : FlatState). z.pages) same) (have_slots m);
+  devices = ap (λ (z : FlatState). z.devices) same;
+}

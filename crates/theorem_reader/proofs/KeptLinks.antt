@@ -38,7 +38,8 @@ call_is image before after t page k right sound (Called j own room jump gone cal
     let a = 128 * page + j in
     let next : 128 * page + (j + 1) ≡ a + 1 = omega arith in
     KeepsLink.Unlinked a (elim own [ inl first ↦ inl (omega (arith, first)) | inr second ↦ inr (omega (arith, second)) ]) jump
-    (victim_is image before t (slice_index before.flash.words (a + 1) / 128) right sound (subst (λ b. IsVictim (layout_of (length image)) (stored before) t (slice_index before.flash.words b / 128)) next gone))
+    (victim_is image before t (slice_index before.flash.words (a + 1) / 128) right sound
+    (subst (λ b. IsVictim (layout_of (length image)) (stored before) t (slice_index before.flash.words b / 128)) next gone))
     (call, ap (slice_index after.flash.words) (sym next) ∙ bridge)
 
 jump_is : (image : List ℕ) (before after : Mote) (t page place k : ℕ) → IsRight (layout_of (length image)) → IsFaithful (layout_of (length image)) image before.flash.words → after.cpu.pc ≡ place

@@ -1,7 +1,7 @@
 -- The acts of a walk, the texts, and the answer.
 pub mod Pooling
 pub mod Booting
-pub mod Ending
+pub mod Motes
 pub mod Linking
 pub mod OtherPages
 pub mod NextPage
@@ -50,5 +50,6 @@ pub mod Covering
 pub mod OneWalk
 pub mod OneRun
 pub mod OneRestart
+pub mod OnePlay
 pub mod OneAnswer
 pub mod RuledOut

@@ -17,7 +17,8 @@ use Rattle.branch_bridge.specs.declared.arrival.Refused.{Refused}
 use Rattle.branch_bridge.specs.declared.through.Arrival.{Arrival as BridgeArrival}
 use Rattle.branch_bridge.specs.Operating.{perform}
 use Rattle.branch_bridge.specs.Resolving.{resolving}
-use Rattle.branch_bridge.specs.Arrivals.{Store, ring_of, CameThrough, to_resolve, recycled_page, Makes, Made, NotMade, Recycles, NotUnlinked, NotErased, Erased, Arrives, Beyond, Found, Free, Full, ArrivesFrom, Stopped, Went, Resolved}
+use Rattle.branch_bridge.specs.Arrivals.{Store, ring_of, CameThrough, to_resolve, recycled_page, Makes, Made, NotMade, Recycles, NotUnlinked, NotErased, Erased, Arrives, Beyond, Found, Free, Full}
+use Rattle.branch_bridge.specs.Arrivals.{ArrivesFrom, Stopped, Went, Resolved}
 use Rattle.branch_bridge.proofs.ArrivalLaws.{tried_arriving}
 use Rattle.branch_bridge.proofs.ThroughLaws.{is_to_resolve}
 use Rattle.kernel_entry.specs.declared.kernel.Kernel.{Kernel}
@@ -34,13 +35,15 @@ use Rattle.step_laws.specs.Numbers.{one_if}
 use Rattle.step_laws.specs.States.{State, Awaited, mote_of, store_of, with_store, is_taken_at, after_service}
 use Rattle.step_laws.specs.Walks.{Walk, Makes as MakesMove, MakesServe, MakesArrive}
 use Rattle.program_steps.proofs.Arrived.{after_arrived, pc_in}
-use Rattle.theorem_reader.specs.Acts.{Links, AreLinked, StandAt, call_address, program_address}
+use Rattle.theorem_reader.specs.Acts.{Links, AreLinked, call_address, program_address}
+use Rattle.theorem_reader.specs.Pools.{StandAt}
 use Rattle.theorem_reader.proofs.Acting.{act_of, acts_of, refused_flag}
 use Rattle.theorem_reader.proofs.Linking.{not_stopped, words_resolved}
 use Rattle.theorem_reader.proofs.OtherPages.{recycled_stays, still_linked}
 
 -- Where a page was recycled, it is the one that was made.
-made_again : (layout : Layout) (old new : Store) (page t : ℕ) (again : Bool) (moved : Moved) → Makes layout old new page t again (Ok moved) → (moved.made ≡ true) × (moved.recycled ≡ recycled_page again page)
+made_again : (layout : Layout) (old new : Store) (page t : ℕ) (again : Bool) (moved : Moved) → Makes layout old new page t again (Ok moved)
+    → (moved.made ≡ true) × (moved.recycled ≡ recycled_page again page)
 made_again layout old new page t again moved (Made words place prepared done there is) =
     let e : moved ≡ record { place = place; made = true; recycled = recycled_page again page } = cc in
     (ap (λ (m : Moved). m.made) e, ap (λ (m : Moved). m.recycled) e)
@@ -51,7 +54,8 @@ recycled_again layout old new victim t moved (NotUnlinked stop done same is) = a
 recycled_again layout old new victim t moved (NotErased unlinked done fails left forgot is) = absurd (cc)
 recycled_again layout old new victim t moved (Erased unlinked done fails makes) = made_again layout _ new victim t true moved makes
 
-recycled_here : (layout : Layout) (old new : Store) (t page : ℕ) (moved : Moved) → IsRight layout → IsFaithful layout (image_of layout old.flash.words) old.flash.words → ring_of old.sram < layout.pool_pages → Arrives layout old new t (Ok moved)
+recycled_here : (layout : Layout) (old new : Store) (t page : ℕ) (moved : Moved) → IsRight layout → IsFaithful layout (image_of layout old.flash.words) old.flash.words
+    → ring_of old.sram < layout.pool_pages → Arrives layout old new t (Ok moved)
     → moved.recycled ≡ Some page → (moved.made ≡ true) × (page ≡ moved.place / page_words)
 recycled_here layout old new t page moved right code ring (Beyond out same is) some = absurd (cc)
 recycled_here layout old new t page moved right code ring (Found place inside finds same is) some =
@@ -83,10 +87,13 @@ jumps_there : (layout : Layout) (image : List ℕ) (old new : Memory) (s t place
 jumps_there layout image old new s t place right whole link done =
     let placed = link_placed layout image old.words s t jump_word place right whole link in
     let below : s + 1 < length old.words = omega (arith, whole, placed.low, placed.room) in
-    subst (λ w. StandAt w s jump_word place) (sym (words_resolved layout image old new s t place right whole link done)) (first_of_two old.words s jump_word place below, second_of_two old.words s jump_word place below)
+    subst (λ w. StandAt w s jump_word place) (sym (words_resolved layout image old new s t place right whole link done))
+    (first_of_two old.words s jump_word place below, second_of_two old.words s jump_word place below)
 
-linked_from : (layout : Layout) (old new : Store) (t s pc : ℕ) (arrival : BridgeArrival) → IsRight layout → IsFaithful layout (image_of layout old.flash.words) old.flash.words → ring_of old.sram < layout.pool_pages
-    → CameThrough layout old.flash.words (Some s) t → ArrivesFrom layout old new t (Some s) arrival → arrival.refused ≡ None → ((place : ℕ) → arrival.place ≡ Some place → pc ≡ place) → IsLinked new.flash.words s arrival.made pc
+linked_from : (layout : Layout) (old new : Store) (t s pc : ℕ) (arrival : BridgeArrival) → IsRight layout → IsFaithful layout (image_of layout old.flash.words) old.flash.words
+    → ring_of old.sram < layout.pool_pages
+    → CameThrough layout old.flash.words (Some s) t → ArrivesFrom layout old new t (Some s) arrival → arrival.refused ≡ None → ((place : ℕ) → arrival.place ≡ Some place → pc ≡ place)
+    → IsLinked new.flash.words s arrival.made pc
 linked_from layout old new t s pc arrival right code ring came (Stopped refused arrives is) none at = absurd (let e : Some refused ≡ None = sym (ap (λ (a : BridgeArrival). a.refused) is) ∙ none in cc)
 linked_from layout old new t s pc arrival right code ring came (Went moved arrives nothing is) none at =
     let here = recycled_here layout old new t (s / page_words) moved right code ring arrives (not_to_resolve moved.recycled s nothing) in
@@ -136,7 +143,8 @@ called_there : (k : Kernel) → (wrapping_difference (return_address k) 2 ≡ ca
 unfolding byte_at
 called_there k = (ap (λ n. n % 65536) (omega arith), refl)
 
-arrival_links : (x y z : State) (line : Option Line) (stops : Bool) (target : ℕ) (made : Bool) (ops : ℕ) → MakesServe x line stops y → (mote_of x).cpu.pc ≡ bridge_entry → MakesArrive y target made ops z
+arrival_links : (x y z : State) (line : Option Line) (stops : Bool) (target : ℕ) (made : Bool) (ops : ℕ) → MakesServe x line stops y → (mote_of x).cpu.pc ≡ bridge_entry
+    → MakesArrive y target made ops z
     → Links (mote_of x) (act_of (Arrive target made ops) y z)
 arrival_links x y z line stops target made ops serves at makes =
     let s = call_address (mote_of x) in
@@ -147,7 +155,8 @@ arrival_links x y z line stops target made ops serves at makes =
     let stub : makes.owed.stub ≡ Some s = ap (λ (w : Awaited). w.stub) owes ∙ ap Some there.0 in
     let came : CameThrough l words (Some s) target = subst (λ o. CameThrough l words o target) stub makes.can.came in
     let after = after_arrived y z makes.store makes.arrival makes.after in
-    let from = subst (λ (n : Store). ArrivesFrom l (store_of y) n target (Some s) makes.arrival) (sym after.store_is) (subst (λ o. ArrivesFrom l (store_of y) makes.store target o makes.arrival) stub makes.arrives) in (
+    let from = subst (λ (n : Store). ArrivesFrom l (store_of y) n target (Some s) makes.arrival) (sym after.store_is)
+    (subst (λ o. ArrivesFrom l (store_of y) makes.store target o makes.arrival) stub makes.arrives) in (
       makes.at ∙ ap (λ (w : Awaited). w.target) owes ∙ there.1,
       (came.call, came.bridge),
       λ going. as_made (mote_of z).flash.words s (mote_of z).cpu.pc made makes.arrival.made makes.makes
@@ -156,7 +165,8 @@ arrival_links x y z line stops target made ops serves at makes =
           (λ place is. ap (λ (n : State). (mote_of n).cpu.pc) makes.after ∙ pc_in (with_store y makes.store) makes.arrival.place makes.arrival.refused place is)),
     )
 
-next_links : (x y z : State) (line : Option Line) (stops : Bool) (move : Move) → MakesServe x line stops y → (mote_of x).cpu.pc ≡ bridge_entry → MakesMove y move z → Links (mote_of x) (act_of move y z)
+next_links : (x y z : State) (line : Option Line) (stops : Bool) (move : Move) → MakesServe x line stops y → (mote_of x).cpu.pc ≡ bridge_entry → MakesMove y move z
+    → Links (mote_of x) (act_of move y z)
 next_links x y z line stops (Begin told) serves at makes = not_free y.owed (owed_there x.kernel) (owed_by x y line stops serves at) makes.free
 next_links x y z line stops (Within (Plain told)) serves at makes = not_free y.owed (owed_there x.kernel) (owed_by x y line stops serves at) makes.free
 next_links x y z line stops (Within (Serve told over)) serves at makes = not_free y.owed (owed_there x.kernel) (owed_by x y line stops serves at) makes.free

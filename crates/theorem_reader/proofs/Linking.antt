@@ -36,11 +36,13 @@ words_resolved layout image old new s t place right whole link done =
 linked : (layout : Layout) (image : List ℕ) (old new : Memory) (s t place : ℕ) → IsRight layout → length old.words ≡ word_count → IsUnresolved layout image old.words s t
     → perform old (resolving old.words s place) ≡ record { memory = new; stop = None } → Relinks old.words new.words place
 unfolding with_two_words
-linked layout image old new s t place right whole stub done = Linked s stub.call stub.bridge (words_resolved layout image old new s t place right whole stub.link done)
+linked layout image old new s t place right whole stub done = Linked s (stub.call, stub.bridge) (words_resolved layout image old new s t place right whole stub.link done)
 
 pub relinks_by : (layout : Layout) (old new : Store) (t : ℕ) (stub : Option ℕ) (arrival : Arrival) (place : ℕ) → IsRight layout → IsFaithful layout (image_of layout old.flash.words) old.flash.words
-    → CameThrough layout old.flash.words stub t → ArrivesFrom layout old new t stub arrival → arrival.made ≡ false → arrival.refused ≡ None → arrival.place ≡ Some place → Relinks old.flash.words new.flash.words place
-relinks_by layout old new t stub arrival place right code came (Stopped refused arrives is) none unrefused there = absurd (let e : Some refused ≡ None = sym (ap (λ (a : Arrival). a.refused) is) ∙ unrefused in cc)
+    → CameThrough layout old.flash.words stub t → ArrivesFrom layout old new t stub arrival → arrival.made ≡ false → arrival.refused ≡ None → arrival.place ≡ Some place
+    → Relinks old.flash.words new.flash.words place
+relinks_by layout old new t stub arrival place right code came (Stopped refused arrives is) none unrefused there =
+    absurd (let e : Some refused ≡ None = sym (ap (λ (a : Arrival). a.refused) is) ∙ unrefused in cc)
 relinks_by layout old new t stub arrival place right code came (Went moved arrives nothing is) none unrefused there =
     Same (ap (λ (f : Memory). f.words) (same_found layout old new t moved arrives (sym (ap (λ (a : Arrival). a.made) is) ∙ none)))
 relinks_by layout old new t stub arrival place right code came (Resolved mid moved s arrives some stop done same is) none unrefused there =

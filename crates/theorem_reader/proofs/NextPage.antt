@@ -1,5 +1,6 @@
 -- Which page an arrival makes.
-use Rattle.std.proofs.Common.{◌≡◌, ℕ, ◌+◌, ◌-◌, ◌*◌, ◌/◌, ◌%◌, ◌<◌, ◌≤◌, cond, nat_le, if◌then◌else◌, slice_index, Bool, true, false, List, length, inl, inr, Option, Some, None, Ok, refl, sym, ap, ap₂, ◌∙◌, arith, subst}
+use Rattle.std.proofs.Common.{◌≡◌, ℕ, ◌+◌, ◌-◌, ◌*◌, ◌/◌, ◌%◌, ◌<◌, ◌≤◌, cond, nat_le, if◌then◌else◌, slice_index, Bool, true, false, List, length, inl, inr, Option, Some, None, Ok, refl, sym, ap}
+use Rattle.std.proofs.Common.{ap₂, ◌∙◌, arith, subst}
 use Rattle.std.specs.Prelude.{◌&&◌}
 use Rattle.std.proofs.lemmas.Bool.Decides.{nat_tests}
 use Rattle.std.proofs.lemmas.List.FromFn.{length-map-range_with_len, get_or-map-range_with_len}
@@ -20,12 +21,12 @@ use Rattle.branch_bridge.specs.declared.arrival.Moved.{Moved}
 use Rattle.branch_bridge.specs.declared.through.Arrival.{Arrival}
 use Rattle.addr_tables.specs.Changes.{Finds, noted, is_in, forgotten_byte, forgotten}
 use Rattle.addr_tables.proofs.NoteLaws.{rest_noted}
-use Rattle.branch_bridge.specs.Arrivals.{Store, ring_of, turned, recycled_page, Makes, Made, NotMade, Recycles, NotUnlinked, NotErased, Erased, Arrives, Beyond, Found, Free, Full, ArrivesFrom, Stopped, Went, Resolved}
+use Rattle.branch_bridge.specs.Arrivals.{Store, ring_of, turned, recycled_page, Makes, Made, NotMade, Recycles, NotUnlinked, NotErased, Erased, Arrives, Beyond, Found, Free, Full, ArrivesFrom}
+use Rattle.branch_bridge.specs.Arrivals.{Stopped, Went, Resolved}
 use Rattle.branch_bridge.proofs.MakeLaws.{ring_kept}
 use Rattle.theorem_reader.specs.Acts as acts
 use Rattle.theorem_reader.specs.Acts.{IsNext, Lowest, InTurn}
-use Rattle.theorem_reader.specs.Pools.{IsErased}
-use Rattle.theorem_reader.specs.Wear.{pool_size}
+use Rattle.theorem_reader.specs.Pools.{pool_size, IsErased, IsPlaceOf}
 use Rattle.theorem_reader.proofs.OtherPages.{made_stays, recycled_stays}
 use Rattle.theorem_reader.proofs.Pooling.{pool_begins, in_pool, from_pool, blank_word}
 
@@ -87,14 +88,16 @@ ring_by layout old new t moved (Found place inside finds same answer) unmade = r
 ring_by layout old new t moved (Free page inside finds lowest makes) unmade = absurd (makes_none layout old new page t false moved makes unmade)
 ring_by layout old new t moved (Full inside finds none recycles) unmade = absurd (recycles_none layout old new (layout.pool_first + ring_of old.sram) t moved recycles unmade)
 
-ring_from : (layout : Layout) (old new : Store) (t : ℕ) (stub : Option ℕ) (arrival : Arrival) (place : ℕ) → ArrivesFrom layout old new t stub arrival → arrival.made ≡ false → arrival.place ≡ Some place → ring_of new.sram ≡ ring_of old.sram
+ring_from : (layout : Layout) (old new : Store) (t : ℕ) (stub : Option ℕ) (arrival : Arrival) (place : ℕ) → ArrivesFrom layout old new t stub arrival → arrival.made ≡ false
+    → arrival.place ≡ Some place → ring_of new.sram ≡ ring_of old.sram
 ring_from layout old new t stub arrival place (Stopped refused arrives is) unmade there = absurd (let e : None ≡ Some place = sym (ap (λ (a : Arrival). a.place) is) ∙ there in cc)
 ring_from layout old new t stub arrival place (Went moved arrives nothing is) unmade there = ring_by layout old new t moved arrives (sym (ap (λ (a : Arrival). a.made) is) ∙ unmade)
 ring_from layout old new t stub arrival place (Resolved mid moved s arrives some stop done kept is) unmade there =
     ap ring_of kept ∙ ring_by layout old mid t moved arrives (sym (ap (λ (a : Arrival). a.made) is) ∙ unmade)
 
 pub ring_stays : (layout : Layout) (old : Store) (after : Mote) (t : ℕ) (stub : Option ℕ) (arrival : Arrival) → arrival.made ≡ false → (place : ℕ) → arrival.place ≡ Some place
-    → ArrivesFrom layout old (record { flash = after.flash; sram = after.sram }) t stub arrival → slice_index after.sram 0x42 + 256 * slice_index after.sram 0x43 ≡ slice_index old.sram 0x42 + 256 * slice_index old.sram 0x43
+    → ArrivesFrom layout old (record { flash = after.flash; sram = after.sram }) t stub arrival
+    → slice_index after.sram 0x42 + 256 * slice_index after.sram 0x43 ≡ slice_index old.sram 0x42 + 256 * slice_index old.sram 0x43
 unfolding byte_at data_word_at
 ring_stays layout old after t stub arrival unmade place there from = ring_from layout old (record { flash = after.flash; sram = after.sram }) t stub arrival place from unmade there
 
@@ -111,7 +114,8 @@ ring_recycled : (layout : Layout) (old new : Store) (victim t : ℕ) (moved : Mo
 ring_recycled layout old new victim t moved (NotUnlinked stop done same is) = absurd (cc)
 ring_recycled layout old new victim t moved (NotErased unlinked done fails left forgot is) = absurd (cc)
 ring_recycled layout old new victim t moved (Erased unlinked done fails makes) =
-    ring_made layout _ new victim t true moved makes ∙ ring_turned layout (forgotten old.sram victim) (forgotten_long old.sram victim) ∙ ap (λ r. (r + 1) % layout.pool_pages) (ring_forgot old.sram victim)
+    ring_made layout _ new victim t true moved makes ∙ ring_turned layout (forgotten old.sram victim) (forgotten_long old.sram victim)
+    ∙ ap (λ r. (r + 1) % layout.pool_pages) (ring_forgot old.sram victim)
 
 next_of : (layout : Layout) (old new : Store) (t : ℕ) (moved : Moved) → IsRight layout → IsFaithful layout (image_of layout old.flash.words) old.flash.words → ring_of old.sram < layout.pool_pages
     → Arrives layout old new t (Ok moved) → moved.made ≡ true → Next layout old new (moved.place / page_words)
@@ -119,15 +123,18 @@ next_of layout old new t moved right code ring (Beyond out same answer) made = a
 next_of layout old new t moved right code ring (Found place inside finds same answer) made =
     absurd (let e : moved ≡ record { place = place; made = false; recycled = None } = cc in let both : true ≡ false = sym made ∙ ap (λ (m : Moved). m.made) e in cc)
 next_of layout old new t moved right code ring (Free page inside finds lowest makes) made =
-    subst (Next layout old new) (made_stays layout old new (image_of layout old.flash.words) old.flash.words page t false (Ok moved) right refl code lowest.pool lowest.free makes (λ other pool away. record { free = λ free. free; runs = λ b n holds. holds })).here (First lowest (ring_made layout old new page t false moved makes))
+    subst (Next layout old new) (made_stays layout old new (image_of layout old.flash.words) old.flash.words page t false (Ok moved) right refl code lowest.pool lowest.free makes
+    (λ other pool away. record { free = λ free. free; runs = λ b n holds. holds })).here (First lowest (ring_made layout old new page t false moved makes))
 next_of layout old new t moved right code ring (Full inside finds none recycles) made =
-    subst (Next layout old new) (recycled_stays layout old new (layout.pool_first + ring_of old.sram) t (Ok moved) right code (record { from = omega arith; to = omega arith }) recycles).here (Again none refl (ring_recycled layout old new (layout.pool_first + ring_of old.sram) t moved recycles))
+    subst (Next layout old new) (recycled_stays layout old new (layout.pool_first + ring_of old.sram) t (Ok moved) right code (record { from = omega arith; to = omega arith }) recycles).here
+    (Again none refl (ring_recycled layout old new (layout.pool_first + ring_of old.sram) t moved recycles))
 
 next_after : (layout : Layout) (old mid new : Store) (page : ℕ) → ring_of new.sram ≡ ring_of mid.sram → Next layout old mid page → Next layout old new page
 next_after layout old mid new page same (First lowest ring) = First lowest (same ∙ ring)
 next_after layout old mid new page same (Again none is ring) = Again none is (same ∙ ring)
 
-next_from : (layout : Layout) (old new : Store) (t : ℕ) (stub : Option ℕ) (arrival : Arrival) (place : ℕ) → IsRight layout → IsFaithful layout (image_of layout old.flash.words) old.flash.words → ring_of old.sram < layout.pool_pages
+next_from : (layout : Layout) (old new : Store) (t : ℕ) (stub : Option ℕ) (arrival : Arrival) (place : ℕ) → IsRight layout → IsFaithful layout (image_of layout old.flash.words) old.flash.words
+    → ring_of old.sram < layout.pool_pages
     → ArrivesFrom layout old new t stub arrival → arrival.made ≡ true → arrival.place ≡ Some place → Next layout old new (place / page_words)
 next_from layout old new t stub arrival place right code ring (Stopped refused arrives is) made there = absurd (let e : None ≡ Some place = sym (ap (λ (a : Arrival). a.place) is) ∙ there in cc)
 next_from layout old new t stub arrival place right code ring (Went moved arrives nothing is) made there =
@@ -137,7 +144,8 @@ next_from layout old new t stub arrival place right code ring (Went moved arrive
 next_from layout old new t stub arrival place right code ring (Resolved mid moved s arrives some stop done kept is) made there =
     let e : Some moved.place ≡ Some place = sym (ap (λ (a : Arrival). a.place) is) ∙ there in
     let same : moved.place ≡ place = cc in
-    let there : Next layout old mid (place / page_words) = subst (λ v. Next layout old mid (v / page_words)) same (next_of layout old mid t moved right code ring arrives (sym (ap (λ (a : Arrival). a.made) is) ∙ made)) in
+    let there : Next layout old mid (place / page_words) = subst (λ v. Next layout old mid (v / page_words)) same
+    (next_of layout old mid t moved right code ring arrives (sym (ap (λ (a : Arrival). a.made) is) ∙ made)) in
     next_after layout old mid new (place / page_words) (ap ring_of kept) there
 
 -- the address had no entry
@@ -153,7 +161,8 @@ anew_of layout old new t moved (Found place inside finds same answer) made =
 anew_of layout old new t moved (Free page inside finds lowest makes) made = missed layout old.flash.words old.sram old.sram t finds
 anew_of layout old new t moved (Full inside finds none recycles) made = missed layout old.flash.words old.sram old.sram t finds
 
-pub anew_from : (layout : Layout) (old new : Store) (t : ℕ) (stub : Option ℕ) (arrival : Arrival) → ArrivesFrom layout old new t stub arrival → arrival.made ≡ true → (place : ℕ) → ¬ IsEntry layout old.flash.words t place
+pub anew_from : (layout : Layout) (old new : Store) (t : ℕ) (stub : Option ℕ) (arrival : Arrival) → ArrivesFrom layout old new t stub arrival → arrival.made ≡ true → (place : ℕ)
+    → ¬ IsEntry layout old.flash.words t place
 anew_from layout old new t stub arrival (Stopped refused arrives is) made = absurd (made_true arrival.made made (ap (λ (a : Arrival). a.made) is))
 anew_from layout old new t stub arrival (Went moved arrives nothing is) made = anew_of layout old new t moved arrives (sym (ap (λ (a : Arrival). a.made) is) ∙ made)
 anew_from layout old new t stub arrival (Resolved mid moved s arrives some stop done kept is) made = anew_of layout old mid t moved arrives (sym (ap (λ (a : Arrival). a.made) is) ∙ made)
@@ -176,22 +185,31 @@ pool_pages_of image = elim (nat_le (length image) 16384) as (λ b. ◌≡◌ {A 
 ]
 
 -- .. by its numbers
-by_numbers : (image : List ℕ) (before after : Mote) (page : ℕ) → IsRight (layout_of (length image)) → IsFaithful (layout_of (length image)) image before.flash.words
-    → Next (layout_of (length image)) (record { flash = before.flash; sram = before.sram }) (record { flash = after.flash; sram = after.sram }) page → IsNext image before after page
+by_numbers : (image : List ℕ) (target : ℕ) (before after : Mote) (page : ℕ) → IsRight (layout_of (length image)) → IsFaithful (layout_of (length image)) image before.flash.words
+    → ((place : ℕ) → ¬ IsPlaceOf image before.flash.words target place)
+    → Next (layout_of (length image)) (record { flash = before.flash; sram = before.sram }) (record { flash = after.flash; sram = after.sram }) page → IsNext image target before after page
 unfolding byte_at data_word_at
-by_numbers image before after page right code (First lowest same) =
+by_numbers image target before after page right code anew (First lowest same) =
     Lowest (from_pool image page lowest.pool) (λ k below. blank_word before.flash.words page k lowest.free below)
-    (λ lower inside below erased. lowest.lowest lower (in_pool image lower inside) below (erased_free (layout_of (length image)) image before.flash.words lower right code (in_pool image lower inside) erased))
+    (λ lower inside below erased. lowest.lowest lower (in_pool image lower inside) below
+    (erased_free (layout_of (length image)) image before.flash.words lower right code (in_pool image lower inside) erased))
     same
-by_numbers image before after page right code (Again none is turns) =
+by_numbers image target before after page right code anew (Again none is turns) =
     let at : page ≡ (layout_of (length image)).pool_first + ring_of before.sram = is in
-    InTurn (λ other inside erased. none other (in_pool image other inside) (erased_free (layout_of (length image)) image before.flash.words other right code (in_pool image other inside) erased))
-    (omega (arith, at, ring_is before, (pool_begins image).first))
-    (turns ∙ ap (λ pages. (ring_of before.sram + 1) % pages) (pool_pages_of image))
+    InTurn (record {
+      anew = anew;
+      full = λ other inside erased. none other (in_pool image other inside) (erased_free (layout_of (length image)) image before.flash.words other right code (in_pool image other inside) erased);
+      turn = omega (arith, at, ring_is before, (pool_begins image).first);
+    }) (turns ∙ ap (λ pages. (ring_of before.sram + 1) % pages) (pool_pages_of image))
 
-pub next_is : (image : List ℕ) (before after : Mote) (t : ℕ) (stub : Option ℕ) (arrival : Arrival) (place : ℕ) → IsRight (layout_of (length image)) → image_of (layout_of (length image)) before.flash.words ≡ image
-    → IsFaithful (layout_of (length image)) image before.flash.words → ring_of before.sram < (layout_of (length image)).pool_pages → ArrivesFrom (layout_of (length image)) (record { flash = before.flash; sram = before.sram }) (record { flash = after.flash; sram = after.sram }) t stub arrival
-    → arrival.made ≡ true → arrival.place ≡ Some place → IsNext image before after (place / 128)
-next_is image before after t stub arrival place right held code ring from made there =
+pub next_is : (image : List ℕ) (before after : Mote) (t : ℕ) (stub : Option ℕ) (arrival : Arrival) (place : ℕ) → IsRight (layout_of (length image))
+    → image_of (layout_of (length image)) before.flash.words ≡ image
+    → IsFaithful (layout_of (length image)) image before.flash.words → ring_of before.sram < (layout_of (length image)).pool_pages
+    → ((v : ℕ) → ¬ IsPlaceOf image before.flash.words t v)
+    → ArrivesFrom (layout_of (length image)) (record { flash = before.flash; sram = before.sram }) (record { flash = after.flash; sram = after.sram }) t stub arrival
+    → arrival.made ≡ true → arrival.place ≡ Some place → IsNext image t before after (place / 128)
+next_is image before after t stub arrival place right held code ring anew from made there =
     let l = layout_of (length image) in
-    by_numbers image before after (place / 128) right code (next_from l (record { flash = before.flash; sram = before.sram }) (record { flash = after.flash; sram = after.sram }) t stub arrival place right (subst (λ i. IsFaithful l i before.flash.words) (sym held) code) ring from made there)
+    by_numbers image t before after (place / 128) right code anew
+    (next_from l (record { flash = before.flash; sram = before.sram }) (record { flash = after.flash; sram = after.sram }) t stub arrival place right
+    (subst (λ i. IsFaithful l i before.flash.words) (sym held) code) ring from made there)

@@ -10,7 +10,7 @@ use Rattle.flash_words.specs.Operations.{renewed}
 use Rattle.flash_dump.specs.WrittenDumps.{written}
 use Rattle.nat_page.specs.Faithful.{IsFaithful}
 use Rattle.flat_machine.specs.FlatMachine.{at_front}
-use Rattle.printed_text.specs.Counts.{count_text}
+use Rattle.printed_text.specs.Counts.{count_text, tasks_count_text}
 use Rattle.printed_text.specs.DeviceLines.{lines_text, device_line_text}
 use Rattle.printed_text.specs.Ends.{stop_text}
 use Rattle.printed_text.specs.PlainLines.{no_memory_line}
@@ -21,43 +21,38 @@ use Rattle.mote_devices.specs.declared.line.Line.{Line}
 use Rattle.step_laws.specs.Numbers.{Numbers}
 use Rattle.step_laws.specs.States.{State}
 use Rattle.program_steps.specs.Machines.{Machine, state_of}
-use Rattle.cli_words.specs.declared.command.Command.{Command}
-use Rattle.cli_words.specs.declared.command.Command.TheVariants.{Help, Run, Dump, Restart, Tasks, Check, Generate, Asm}
-use Rattle.cli_words.specs.declared.command.RunOptions.{RunOptions}
 use Rattle.cli_words.specs.declared.job.Job.{Job}
 use Rattle.cli_words.specs.declared.job.Job.TheVariants as jobs
 use Rattle.cli_words.specs.declared.request.Request.{Request}
+use Rattle.cli_words.specs.declared.request.TaskRequest.{TaskRequest}
 use Rattle.cli_words.specs.declared.status.Status.{Status}
 use Rattle.cli_words.specs.declared.status.Status.TheVariants as statuses
-use Rattle.cli_words.specs.Commands.{IsCommand}
 use Rattle.cli_words.specs.Printed.{no_memory}
 use Rattle.cli_words.specs.Status.{number_of}
 use Rattle.cli_words.specs.Stream.{Stream}
-use Rattle.cli_requests.specs.Asking.{Wanted, UsageLine, Made, ByText, Asks, AsksFor, Warrants, IsAsked, IsWarranted, Tells, wanted}
-use Rattle.cli_requests.specs.Reading.{AsksByText, IsUnread, IsJudged, Bad, Good, most_input}
-use Rattle.cli_requests.specs.AsmCommand.{AsmAsks}
-use Rattle.cli_requests.specs.CheckCommand.{CheckAsks}
-use Rattle.cli_requests.specs.DumpCommand.{DumpAsks}
-use Rattle.cli_requests.specs.RestartCommand.{RestartAsks}
-use Rattle.cli_requests.specs.RunCommand.{RequestThen, RunAsks}
+use Rattle.cli_requests.specs.Asking.{Wanted, UsageLine, Made, ByText, AsksFor, Warrants, IsAsked, IsWarranted, Tells, wanted}
+use Rattle.cli_requests.specs.Reading.{AsksByText, IsUnread, most_input}
 use Rattle.cli_requests.proofs.Reasons.{all_taken, taken_of}
 use Rattle.tkernel_cli.specs.declared.top.Exit.{Exit}
 use Rattle.tkernel_cli.specs.Answer.{Does}
 use Rattle.tkernel_cli.specs.Runs.{Says, Runs, RunsToTheEnd, RunsUntilCut, own_program, original_of, whole_run, checkpoints_of, count_line_of, ended_text, failed_text, first_start}
 use Rattle.tkernel_cli.specs.DumpRuns.{silent}
 use Rattle.tkernel_cli.specs.RestartRuns.{HasRestarted, RunsOver, lost_flash, refused_in, second_start}
+use Rattle.tkernel_cli.specs.TasksRuns.{RunsTasks, all_told, worst}
+use Rattle.tk_tasks.specs.Plays.{told_text}
+use Rattle.tk_tasks.specs.States.{Tasks}
 use Rattle.tk_restart.specs.Losing.{lost_in}
 use Rattle.tk_restart.specs.declared.sweeping.Kept.{Kept}
 use Rattle.tk_restart.specs.Restarting.{Restarts}
 use Rattle.tk_restart.proofs.KeepingLaws.{one_answer}
 use Rattle.theorem_reader.specs.Telling.{Sink, Serves, Fails, IsFront}
 use Rattle.theorem_reader.specs.Runs.{Asked}
-use Rattle.theorem_reader.specs.Tasks.{AsksNoTasks}
 use Rattle.theorem_reader.specs.Twice.{IsToldAgain}
 use Rattle.theorem_reader.proofs.Acting.{follow}
 use Rattle.theorem_reader.proofs.Doing.{Call, Somehow, IsSoThen, so_is, so_then, not_risen, taken_is, told_how, cut_by, retold}
 use Rattle.theorem_reader.proofs.Erasing.{turned}
 use Rattle.theorem_reader.proofs.Longer.{longer}
+use Rattle.theorem_reader.proofs.OnePlay.{turns_text, to_their_ends}
 use Rattle.theorem_reader.proofs.OneRestart.{erased_alike, acts_erases}
 use Rattle.theorem_reader.proofs.OneRun.{IsSame, IsStart, right_of, to_the_end, into_a_fault, never_both, begins_at_boot, cut_before}
 use Rattle.theorem_reader.proofs.Restarting.{lost_is}
@@ -87,45 +82,6 @@ asked_again words before now again later text job tells tells' (inl asked) = eli
   | inr warranted ↦ inr (inl (asked.0, asked.1, warranted))
 ]
 asked_again words before now again later text job tells tells' (inr unknown) = inr (inr (unknown.0, unknown.1))
-
--- It is of one program at most. ---------------------------------------------------------------------------
-
-abbrev IsNoTasks : Job → Type 0
-IsNoTasks (jobs.Tasks request) = ⊥
-IsNoTasks _ = Unit {0}
-
-judged : {V : Type 0} (part : List ℕ) (Is : V → Type 0) (IsBad : ℕ → List ℕ → Type 0) (Then : V → Job → Type 0) (job : Job)
-    → ((value : V) → Then value job → IsNoTasks job) → IsJudged V part Is IsBad Then job → IsNoTasks job
-judged part Is IsBad Then job one (Bad line word bad is) = subst IsNoTasks (sym is) tt
-judged part Is IsBad Then job one (Good value is then) = one value then
-
-requested : (options : RunOptions) (text : List ℕ) (asked : Request → Job) (job : Job) → ((request : Request) → IsNoTasks (asked request)) → RequestThen options text asked job → IsNoTasks job
-requested options text asked job one = judged _ _ _ _ job (λ hex. judged _ _ _ _ job (λ schedule is. subst IsNoTasks (sym is) (one _)))
-
-by_text : (Rule : List ℕ → Job → Type 0) (before now : Input) (job : Job) → ((text : List ℕ) → Rule text job → IsNoTasks job) → AsksByText Rule before now job → IsNoTasks job
-by_text Rule before now job one (inl (IsUnread.ReadFault is rose taken)) = subst IsNoTasks (sym is) tt
-by_text Rule before now job one (inl (IsUnread.TooLong is taken)) = subst IsNoTasks (sym is) tt
-by_text Rule before now job one (inl (IsUnread.NoMemory is taken)) = subst IsNoTasks (sym is) tt
-by_text Rule before now job one (inr asked) = one asked.0 asked.2
-
-by_command : (command : Command) (words : List (List ℕ)) (before now : Input) (job : Job) → AsksNoTasks words → IsCommand words command → Asks command before now job → IsNoTasks job
-by_command Help words before now job none is asks = subst IsNoTasks (sym asks.0) tt
-by_command (Run options) words before now job none is asks =
-    by_text (RunAsks options) before now job (λ text. requested options text jobs.Run job (λ request. tt)) asks
-by_command (Dump options) words before now job none is asks =
-    by_text (DumpAsks options) before now job (λ text. requested options text jobs.Dump job (λ request. tt)) asks
-by_command (Restart options) words before now job none is asks =
-    by_text (RestartAsks options) before now job (λ text. requested options text (λ request. jobs.Restart request request.script) job (λ request. tt)) asks
-by_command (Tasks options) words before now job none is asks = absurd (none options is)
-by_command Check words before now job none is asks =
-    by_text CheckAsks before now job (λ text. judged _ _ _ _ job (λ hex. judged _ _ _ _ job (λ words is. subst IsNoTasks (sym is.2) tt))) asks
-by_command (Generate seed) words before now job none is asks = elim asks.0 [ inl is ↦ subst IsNoTasks (sym is) tt | inr is ↦ subst IsNoTasks (sym is) tt ]
-by_command Asm words before now job none is asks =
-    by_text AsmAsks before now job (λ text. judged _ _ _ _ job (λ words is. subst IsNoTasks (sym is) tt)) asks
-
-of_no_tasks : (words : List (List ℕ)) (before now : Input) (job : Job) → AsksNoTasks words → IsAsked words before now job → IsNoTasks job
-of_no_tasks words before now job none (inl asked) = by_command asked.0 words before now job none asked.1 asked.2
-of_no_tasks words before now job none (inr unknown) = subst IsNoTasks (sym unknown.1) tt
 
 -- What is told. -------------------------------------------------------------------------------------------
 
@@ -206,7 +162,8 @@ ended_alike request m n same =
 
 failed_alike : (request : Request) (op op' : ℕ) (m n : Machine) → op' ≡ op → IsSame m n → failed_text request op' n ≡ failed_text request op m
 failed_alike request op op' m n at same =
-    ap₂ (λ o (k : Numbers). lines_text (original_of request k.steps).lines ++ end_line (ends.Flash o) k.steps (checkpoints_of request (original_of request k.steps)) ++ count_text k.natural k.entries k.pages) at (sym same.numbers)
+    ap₂ (λ o (k : Numbers). lines_text (original_of request k.steps).lines ++ end_line (ends.Flash o) k.steps (checkpoints_of request (original_of request k.steps))
+    ++ count_text k.natural k.entries k.pages) at (sym same.numbers)
 
 -- a text of a run, as its device lines and the last two
 record EndsWith (text lines : List ℕ) : Type 0 where
@@ -381,14 +338,27 @@ restarted_again words one other request done done' (RunsOver.Ended run) second =
           (ap₂ (λ a b. a ++ b) (sym line) (ended_alike request m n same)) run.said run'.said
     ]
 
+-- Two runs of several programs. ---------------------------------------------------------------------------
+
+turned_again : (words : List (List ℕ)) (one : Served words) (other : Answered words) (request : TaskRequest) (t u : Tasks)
+    → RunsTasks request one.by.call.sink one.by.call.sink' one.by.exit.status t → RunsTasks request other.call.sink other.call.sink' other.exit.status u → TellsAgain words one other
+turned_again words one other request t u (RunsTasks.Cut run) second = absurd (unrisen words one run.rose)
+turned_again words one other request t u (RunsTasks.Ended run) (RunsTasks.Ended run') =
+    let same = to_their_ends request _ _ _ _ _ _ t u run run' in
+    said_again words one other (worst statuses.Done t.tasks) (turns_text request t) (turns_text request u) same.text run.said
+    (subst (λ own. Says own (turns_text request u) other.call.sink other.call.sink' other.exit.status) same.status run'.said)
+turned_again words one other request t u (RunsTasks.Ended run) (RunsTasks.Cut run') =
+    front_again words one other (worst statuses.Done t.tasks) (turns_text request t) (told_text request.options.quantum (all_told request))
+    (tasks_count_text t.natural t.entries t.pages t.switches) refl run.said run'.status_is run'.rose run'.front
+
 -- A job that both do. -------------------------------------------------------------------------------------
 
-done_twice : (words : List (List ℕ)) (one : Served words) (other : Answered words) (job : Job) → IsNoTasks job → Does job one.by.call.sink one.by.call.sink' one.by.exit
+done_twice : (words : List (List ℕ)) (one : Served words) (other : Answered words) (job : Job) → Does job one.by.call.sink one.by.call.sink' one.by.exit
     → Does job other.call.sink other.call.sink' other.exit → TellsAgain words one other
-done_twice words one other (jobs.Print own line) single done done' = said_again words one other own line.items line.items refl done.0.0 done'.0.0
-done_twice words one other (jobs.Write text) single done done' = said_again words one other statuses.Done text text refl done.0.0 done'.0.0
-done_twice words one other (jobs.Run request) single done done' = ran_again words one other request done.0.machine done'.0.machine done.0.runs done'.0.runs
-done_twice words one other (jobs.Dump request) single done done' =
+done_twice words one other (jobs.Print own line) done done' = said_again words one other own line.items line.items refl done.0.0 done'.0.0
+done_twice words one other (jobs.Write text) done done' = said_again words one other statuses.Done text text refl done.0.0 done'.0.0
+done_twice words one other (jobs.Run request) done done' = ran_again words one other request done.0.machine done'.0.machine done.0.runs done'.0.runs
+done_twice words one other (jobs.Dump request) done done' =
     let dumped = done.0 in
     let dumped' = done'.0 in
     let same = same_silently request dumped.ended dumped'.ended dumped.machine dumped'.machine dumped.runs dumped'.runs in
@@ -399,13 +369,13 @@ done_twice words one other (jobs.Dump request) single done done' =
         | inl said' ↦ said_again words one other statuses.Done _ _ (sym (ap (λ (s : State). written s.kernel.mote.flash.words) same.state)) said said'
       ]
     ]
-done_twice words one other (jobs.Restart request script) single done done' = restarted_again words one other request done.0 done'.0 done.0.over done'.0.over
-done_twice words one other (jobs.Tasks request) single done done' = absurd single
+done_twice words one other (jobs.Restart request script) done done' = restarted_again words one other request done.0 done'.0 done.0.over done'.0.over
+done_twice words one other (jobs.Tasks request) done done' = turned_again words one other request done.tasks done'.tasks done.runs done'.runs
 
 pub answered_twice : (words : List (List ℕ)) (one : Served words) (other : Answered words) (text : List ℕ) → Tells one.by.call.source one.by.call.source' text
     → Tells other.call.source other.call.source' text
-    → AsksNoTasks words → IsSoThen other.faults (Again words one other)
-answered_twice words one other text tells tells' single =
+    → IsSoThen other.faults (Again words one other)
+answered_twice words one other text tells tells' =
     let call = one.by.call in
     let job = call.answer.job in
     so_is words other.exit other.status other.faults other.taken other.call (Again words one other)
@@ -415,6 +385,6 @@ answered_twice words one other text tells tells' single =
           one_wanting words one other (told_whole words one _ _ done.0.0).0
       | inr warranted ↦ elim (other.call.exact.done job warranted) [
         | inl wanting ↦ other_wanting words one other wanting.0.0
-        | inr done ↦ done_twice words one other job (of_no_tasks words call.source call.source' job single call.answer.asked) call.answer.done done
+        | inr done ↦ done_twice words one other job call.answer.done done
       ]
     ])

@@ -43,4 +43,4 @@ acts_erases image quantum (Arrival refused target made ops before after ∷ acts
     acts_erases image quantum acts after last rest ∙ ap (λ (f : Memory). length f.erases) (sym act.performed) ∙ performed_erases act.operations before.flash
     ∙ ap (λ (m : Mote). length m.flash.erases) is
 acts_erases image quantum (Interrupt stops before after ∷ acts) first last (is, act, rest) =
-    acts_erases image quantum acts after last rest ∙ ap (λ (f : Memory). length f.erases) act.flash ∙ ap (λ (m : Mote). length m.flash.erases) is
+    acts_erases image quantum acts after last rest ∙ ap (λ (m : Mote). length m.flash.erases) act.stays ∙ ap (λ (m : Mote). length m.flash.erases) is

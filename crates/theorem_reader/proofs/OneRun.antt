@@ -22,7 +22,8 @@ use Rattle.cli_words.specs.Stream.{Stream}
 use Rattle.tkernel_cli.specs.Runs.{KeepsEnd, RunsToTheEnd, RunsIntoAFault, RunsUntilCut, Follows, first_start, original_of, whole_run}
 use Rattle.theorem_reader.proofs.Acting.{Holds}
 use Rattle.theorem_reader.proofs.Answering.{layout_same, no_fault}
-use Rattle.theorem_reader.proofs.OneWalk.{Behind, Ahead, compare, none_back, AreSame, longer_none, same_steps, is_still}
+use Rattle.tk_run.proofs.OneWalk.{Behind, Ahead, compare}
+use Rattle.theorem_reader.proofs.OneWalk.{none_back, AreSame, longer_none, same_steps, is_still}
 use Rattle.theorem_reader.proofs.Stopping.{IsStop}
 
 -- the same mote, what is owed, and the end; and the same counts
@@ -44,10 +45,10 @@ right_of request start n m follows =
     subst IsRight (layout_same request.image m follows.sound held) follows.sound.order.right
 
 -- both have ended
-both_ended : (image : List ℕ) (quantum : ℕ) (start m n : Machine) (ms ns : List Move) → IsRight (layout_of (length image)) → Holds image quantum (state_of start)
+pub both_ended : (image : List ℕ) (quantum : ℕ) (start m n : Machine) (ms ns : List Move) → IsRight (layout_of (length image)) → Holds image quantum (state_of start)
     → Walk (state_of start) ms (state_of m) → Walk (state_of start) ns (state_of n)
     → m.end ≢ None → n.end ≢ None → AreSame ms ns m n
-both_ended image quantum start m n ms ns right holds one other over over' = elim (compare image quantum (state_of start) (state_of m) (state_of n) ms ns right holds one other) [
+both_ended image quantum start m n ms ns right holds one other over over' = elim (compare (state_of start) (state_of m) (state_of n) ms ns (subst IsRight (sym holds.laid) right) one other) [
   | Behind rest is walk ↦ (let none = ended_stays (state_of m) (state_of n) rest over walk in (longer_none ms ns rest is none.0, none.1))
   | Ahead rest is walk ↦ (let none = ended_stays (state_of n) (state_of m) rest over' walk in (sym (longer_none ns ms rest is none.0), sym none.1))
 ]
@@ -63,7 +64,7 @@ both_going request start m n k begins one other going going' =
     let as_many : n.steps ≡ m.steps = ap (λ (s : Moment). s.now.steps) (other.at.state ∙ sym one.at.state) in
     let same =
     same_steps request.image request.options.quantum (states_of (original_of request)) (states_of (original_of request)) start m.steps one.at.path.moves other.at.path.moves still.last still'.last
-    (right_of request start k m one) begins.holds still.ready still'.ready still.steps
+    begins.holds still.ready still'.ready still.steps
     (subst (λ j. StepsTo (states_of (original_of request)) start j other.at.path.moves still'.last) as_many still'.steps) in
     same_by start m n one.at.path.moves other.at.path.moves _ _ one.at.path.goes other.at.path.goes (same.0, sym still.state ∙ same.1 ∙ still'.state)
 
@@ -90,7 +91,8 @@ over_same : (request : Request) (start m n : Machine) (k j : ℕ) → IsStart re
     → n.end ≢ None → IsSame m n
 over_same request start m n k j begins one other over over' =
     same_by start m n one.at.path.moves other.at.path.moves _ _ one.at.path.goes other.at.path.goes
-    (both_ended request.image request.options.quantum start m n one.at.path.moves other.at.path.moves (right_of request start k m one) begins.holds one.at.path.goes.walk other.at.path.goes.walk over over')
+    (both_ended request.image request.options.quantum start m n one.at.path.moves other.at.path.moves (right_of request start k m one) begins.holds one.at.path.goes.walk other.at.path.goes.walk over
+    over')
 
 -- two runs to the end
 pub to_the_end : (request : Request) (start : Machine) (front front' : List ℕ) (before now before' now' : Stream) (told told' : Status) (m n : Machine)
@@ -152,7 +154,8 @@ never_both request front before now before' now' told told' m n begins one other
           let same = over_same request start m n request.options.steps n.steps begins one.follows other.follows over fails in
           no_fault (whole_run request).end m other.op one.end (ap (λ (s : State). s.end) same.state ∙ other.end))
       | inl going ↦
-          elim (compare request.image request.options.quantum (state_of start) (state_of m) (state_of n) at.path.moves at'.path.moves (right_of request start request.options.steps m one.follows) begins.holds at.path.goes.walk at'.path.goes.walk) [
+          elim (compare (state_of start) (state_of m) (state_of n) at.path.moves at'.path.moves (subst IsRight (sym begins.holds.laid) (right_of request start request.options.steps m one.follows))
+          at.path.goes.walk at'.path.goes.walk) [
             | Ahead rest is walk ↦ (
                 let none = ended_stays (state_of n) (state_of m) rest fails walk in
                 fails (ap (λ (s : State). s.end) none.1 ∙ going))
@@ -171,8 +174,8 @@ cut_before request before now before' now' told told' m n begins one other =
     let start = first_start request in
     let at = one.follows.at in
     let at' = other.follows.at in
-    let right = right_of request start m.steps m one.follows in
-    elim (compare request.image request.options.quantum (state_of start) (state_of m) (state_of n) at.path.moves at'.path.moves right begins.holds at.path.goes.walk at'.path.goes.walk) [
+    let right = subst IsRight (sym begins.holds.laid) (right_of request start m.steps m one.follows) in
+    elim (compare (state_of start) (state_of m) (state_of n) at.path.moves at'.path.moves right at.path.goes.walk at'.path.goes.walk) [
       | Behind rest is walk ↦
           let none = ended_stays (state_of m) (state_of n) rest (some_fault m one.op one.end) walk in
           let same = same_by start m n at.path.moves at'.path.moves _ _ at.path.goes at'.path.goes (longer_none at.path.moves at'.path.moves rest is none.0, none.1) in

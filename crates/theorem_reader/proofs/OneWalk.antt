@@ -1,81 +1,22 @@
--- From one state walks never part: of two the shorter is the front of the longer. So there is one way through so many steps.
-use Rattle.std.proofs.Common.{◌≡◌, ℕ, zero, suc, ◌+◌, ◌≤◌, Bool, true, false, List, [], ◌∷◌, ◌++◌, map, length, refl, sym, ap, ap₂, ◌∙◌, subst, arith, inl, inr, append-nil}
-use Rattle.std.specs.Prelude.{Some, None}
-use Rattle.flash_words.specs.Layouts.{layout_of, IsRight}
+-- From one state walks never part, so there is one way through so many steps.
+use Rattle.std.proofs.Common.{◌≡◌, ℕ, zero, suc, ◌+◌, ◌≤◌, Bool, true, false, List, [], ◌∷◌, ◌++◌, map, refl, sym, ap, ap₂, ◌∙◌, subst, arith, inl, inr, append-nil}
+use Rattle.std.specs.Prelude.{None}
 use Rattle.flat_machine.specs.FlatMachine.{Moment}
 use Rattle.step_laws.specs.Moves.{Inner, Plain, Serve, Move, Begin, Within, Arrive, Take}
 use Rattle.step_laws.specs.Numbers.{Numbers, moved, numbered}
-use Rattle.step_laws.specs.States.{State, Awaited}
+use Rattle.step_laws.specs.States.{State}
 use Rattle.step_laws.specs.StepLaws.{Reaches}
-use Rattle.step_laws.specs.Walks.{Walk, Makes, MakesOf}
-use Rattle.step_laws.proofs.MoveLaws.{one_plain, one_service, one_arrival, one_interrupt, plain_or_service, arrival_or_interrupt, entry_high}
-use Rattle.step_laws.proofs.Ways.{walks_on}
+use Rattle.step_laws.specs.Walks.{Walk, MakesOf}
+use Rattle.step_laws.proofs.MoveLaws.{entry_high}
 use Rattle.program_steps.specs.Machines.{Machine, state_of, awaits}
 use Rattle.program_steps.specs.Ready.{IsGoing}
 use Rattle.program_steps.specs.Stepping.{Goes, links_in, IsArrival, NoArrival, OneArrival, AreOwn, Taking, Making, ends_in_arrive}
 use Rattle.tk_run.specs.Running.{StepsTo, IsByStep}
+use Rattle.tk_run.proofs.OneWalk.{free_or_owed, true_or_false, Compare, Behind, Ahead, compare, steps_walk}
 use Rattle.theorem_reader.proofs.Acting.{Holds, follow}
 use Rattle.theorem_reader.proofs.Pooling.{place_low}
 use Rattle.theorem_reader.proofs.Stepwise.{place_by, last_alone}
 use Rattle.theorem_reader.proofs.Stopping.{IsStop, none_on, serve_stops, stays_over, unmade_stops}
-
--- Two moves. ----------------------------------------------------------------------------------------------
-
-free_or_owed : {A : Type 0} → (x : State) (w : Awaited) → x.owed ≡ None → x.owed ≡ Some w → A
-free_or_owed x w free owes = absurd (let e : None ≡ Some w = sym free ∙ owes in cc)
-
-true_or_false : {A : Type 0} → ◌≡◌ {A = Bool} true false → A
-true_or_false e = absurd (cc)
-
-one_move : (x y z : State) (m n : Move) → IsRight x.kernel.layout → Makes x m y → Makes x n z → (m ≡ n) × (y ≡ z)
-one_move x y z (Begin line) (Begin line') right one other = let same = one_plain x y z true true line line' one other in (ap (λ l. Begin l) same.1, same.2)
-one_move x y z (Begin line) (Within (Plain line')) right one other = true_or_false (one_plain x y z true false line line' one other).0
-one_move x y z (Begin line) (Within (Serve line' stops)) right one other = absurd (plain_or_service x y z true stops line line' right one other)
-one_move x y z (Begin line) (Arrive target made ops) right one other = free_or_owed x other.owed one.free other.owes
-one_move x y z (Begin line) (Take stops) right one other = free_or_owed x other.owed one.free other.owes
-one_move x y z (Within (Plain line)) (Begin line') right one other = true_or_false (sym (one_plain x y z false true line line' one other).0)
-one_move x y z (Within (Plain line)) (Within (Plain line')) right one other = let same = one_plain x y z false false line line' one other in (ap (λ l. Within (Plain l)) same.1, same.2)
-one_move x y z (Within (Plain line)) (Within (Serve line' stops)) right one other = absurd (plain_or_service x y z false stops line line' right one other)
-one_move x y z (Within (Plain line)) (Arrive target made ops) right one other = free_or_owed x other.owed one.free other.owes
-one_move x y z (Within (Plain line)) (Take stops) right one other = free_or_owed x other.owed one.free other.owes
-one_move x y z (Within (Serve line stops)) (Begin line') right one other = absurd (plain_or_service x z y true stops line' line right other one)
-one_move x y z (Within (Serve line stops)) (Within (Plain line')) right one other = absurd (plain_or_service x z y false stops line' line right other one)
-one_move x y z (Within (Serve line stops)) (Within (Serve line' stops')) right one other =
-    let same = one_service x y z stops stops' line line' one other in
-    (ap₂ (λ l s. Within (Serve l s)) same.0 same.1, same.2)
-one_move x y z (Within (Serve line stops)) (Arrive target made ops) right one other = free_or_owed x other.owed one.free other.owes
-one_move x y z (Within (Serve line stops)) (Take stops') right one other = free_or_owed x other.owed one.free other.owes
-one_move x y z (Arrive target made ops) (Begin line) right one other = free_or_owed x one.owed other.free one.owes
-one_move x y z (Arrive target made ops) (Within (Plain line)) right one other = free_or_owed x one.owed other.free one.owes
-one_move x y z (Arrive target made ops) (Within (Serve line stops)) right one other = free_or_owed x one.owed other.free one.owes
-one_move x y z (Arrive target made ops) (Arrive target' made' ops') right one other =
-    let same = one_arrival x y z target target' ops ops' made made' one other in
-    (ap (λ t. Arrive t made ops) same.0 ∙ ap₂ (λ b k. Arrive target' b k) same.1 same.2, same.3)
-one_move x y z (Arrive target made ops) (Take stops) right one other = absurd (arrival_or_interrupt x y z target ops made stops one other)
-one_move x y z (Take stops) (Begin line) right one other = free_or_owed x one.owed other.free one.owes
-one_move x y z (Take stops) (Within (Plain line)) right one other = free_or_owed x one.owed other.free one.owes
-one_move x y z (Take stops) (Within (Serve line stops')) right one other = free_or_owed x one.owed other.free one.owes
-one_move x y z (Take stops) (Arrive target made ops) right one other = absurd (arrival_or_interrupt x z y target ops made stops other one)
-one_move x y z (Take stops) (Take stops') right one other = let same = one_interrupt x y z stops stops' one other in (ap (λ s. Take s) same.0, same.1)
-
--- Two walks. ----------------------------------------------------------------------------------------------
-
-pub data Compare (ms ns : List Move) (y z : State) : Type 0 where
-  Behind : (rest : List Move) → ns ≡ ms ++ rest → Walk y rest z → Compare ms ns y z
-  Ahead : (rest : List Move) → ms ≡ ns ++ rest → Walk z rest y → Compare ms ns y z
-
-one_longer : (m : Move) (ms ns : List Move) (y z : State) → Compare ms ns y z → Compare (m ∷ ms) (m ∷ ns) y z
-one_longer m ms ns y z (Behind rest is walk) = Behind rest (ap (λ l. m ∷ l) is) walk
-one_longer m ms ns y z (Ahead rest is walk) = Ahead rest (ap (λ l. m ∷ l) is) walk
-
-pub compare : (image : List ℕ) (quantum : ℕ) (x y z : State) (ms ns : List Move) → IsRight (layout_of (length image)) → Holds image quantum x → Walk x ms y → Walk x ns z → Compare ms ns y z
-compare image quantum x y z [] ns right holds one other = Behind ns refl (subst (λ (s : State). Walk s ns z) one other)
-compare image quantum x y z (m ∷ ms) [] right holds one other = Ahead (m ∷ ms) refl (subst (λ (s : State). Walk s (m ∷ ms) y) other one)
-compare image quantum x y z (m ∷ ms) (n ∷ ns) right holds one other =
-    let same = one_move x one.0 other.0 m n (subst IsRight (sym holds.laid) right) one.1 other.1 in
-    let next = (follow image quantum x (m ∷ []) one.0 (one.0, one.1, refl) holds).holds in
-    let there = subst (λ (s : State). Walk s ns z) (sym same.1) other.2 in
-    subst (λ k. Compare (m ∷ ms) (k ∷ ns) y z) same.0 (one_longer m ms ns y z (compare image quantum one.0 y z ms ns right next one.2 there))
 
 -- no step is taken back where the program doesn't stop by itself
 pub none_back : (x z : State) (rest : List Move) (n : Numbers) → Walk x rest z → (IsStop z.end → ⊥) → n.steps ≤ (numbered rest n).steps
@@ -114,7 +55,7 @@ IsWhole (Begin line ∷ moves) = AreInner moves
 IsWhole (Take stops ∷ moves) = moves ≡ []
 IsWhole _ = ⊥
 
-abbrev IsStep : List Move → Type 0
+abbrev pub IsStep : List Move → Type 0
 IsStep (Arrive target made ops ∷ moves) = IsWhole moves
 IsStep moves = IsWhole moves
 
@@ -133,7 +74,7 @@ as_step (Within inner ∷ moves) whole = absurd whole
 as_step (Arrive target made ops ∷ moves) whole = absurd whole
 as_step (Take stops ∷ moves) whole = whole
 
-step_is : (t : ℕ) (arrival own : List Move) → IsArrival t arrival → AreOwn own → IsStep (arrival ++ own)
+pub step_is : (t : ℕ) (arrival own : List Move) → IsArrival t arrival → AreOwn own → IsStep (arrival ++ own)
 step_is t arrival own (NoArrival none) makes = subst (λ a. IsStep (a ++ own)) (sym none) (as_step own (whole_is own makes))
 step_is t arrival own (OneArrival made ops one) makes = subst (λ a. IsStep (a ++ own)) (sym one) (whole_is own makes)
 
@@ -168,11 +109,6 @@ none_behind image quantum m z (Take stops ∷ rest) holds ready all walk = absur
 
 -- Many steps. ---------------------------------------------------------------------------------------------
 
-pub steps_walk : (at : ℕ → Moment) (start : Machine) (n : ℕ) (moves : List Move) (z : Machine) → StepsTo at start n moves z → Walk (state_of start) moves (state_of z)
-steps_walk at start zero moves z (same, none) = subst (λ ms. Walk (state_of start) ms (state_of z)) (sym none) (ap state_of same)
-steps_walk at start (suc n) moves z (y, before, arrival, own, lines, all, steps, stands, arrives, makes, goes) =
-    subst (λ ms. Walk (state_of start) ms (state_of z)) (sym all) (walks_on Makes (state_of start) (state_of y) (state_of z) before (arrival ++ own) (steps_walk at start n before y steps) goes.walk)
-
 -- the same moves lead to the same state
 abbrev pub AreSame : (ms ns : List Move) (y z : Machine) → Type 0
 AreSame ms ns y z = (ms ≡ ns) × (state_of y ≡ state_of z)
@@ -180,7 +116,7 @@ AreSame ms ns y z = (ms ≡ ns) × (state_of y ≡ state_of z)
 pub longer_none : (ms ns rest : List Move) → ns ≡ ms ++ rest → rest ≡ [] → ms ≡ ns
 longer_none ms ns rest is none = sym (is ∙ ap (λ l. ms ++ l) none ∙ append-nil ms)
 
-same_step : (image : List ℕ) (quantum : ℕ) (y z : Machine) (ms ns : List Move) → Holds image quantum (state_of y) → Holds image quantum (state_of z) → IsGoing y → IsGoing z → IsStep ms → IsStep ns
+pub same_step : (image : List ℕ) (quantum : ℕ) (y z : Machine) (ms ns : List Move) → Holds image quantum (state_of y) → Holds image quantum (state_of z) → IsGoing y → IsGoing z → IsStep ms → IsStep ns
     → Compare ms ns (state_of y) (state_of z) → AreSame ms ns y z
 same_step image quantum y z ms ns first second ready ready' one other (Behind rest is walk) =
     let none = none_behind image quantum y (state_of z) rest first ready (step_behind ms rest one (subst IsStep is other)) walk in
@@ -189,18 +125,18 @@ same_step image quantum y z ms ns first second ready ready' one other (Ahead res
     let none = none_behind image quantum z (state_of y) rest second ready' (step_behind ns rest other (subst IsStep is one)) walk in
     (sym (longer_none ns ms rest is none.0), sym none.1)
 
-pub same_steps : (image : List ℕ) (quantum : ℕ) (at at' : ℕ → Moment) (start : Machine) (n : ℕ) (ms ns : List Move) (y z : Machine) → IsRight (layout_of (length image))
-    → Holds image quantum (state_of start) → IsGoing y → IsGoing z
+pub same_steps : (image : List ℕ) (quantum : ℕ) (at at' : ℕ → Moment) (start : Machine) (n : ℕ) (ms ns : List Move) (y z : Machine) → Holds image quantum (state_of start) → IsGoing y → IsGoing z
     → StepsTo at start n ms y → StepsTo at' start n ns z → AreSame ms ns y z
-same_steps image quantum at at' start zero ms ns y z right holds ready ready' (same, none) (same', none') = (none ∙ sym none', ap state_of (sym same ∙ same'))
-same_steps image quantum at at' start (suc n) ms ns y z right holds ready ready' (w, before, arrival, own, lines, all, steps, stands, arrives, makes, goes) (w', before', arrival', own', lines', all', steps', stands', arrives', makes', goes') =
-    let earlier = same_steps image quantum at at' start n before before' w w' right holds stands.ready stands'.ready steps steps' in
+same_steps image quantum at at' start zero ms ns y z holds ready ready' (same, none) (same', none') = (none ∙ sym none', ap state_of (sym same ∙ same'))
+same_steps image quantum at at' start (suc n) ms ns y z holds ready ready' (w, before, arrival, own, lines, all, steps, stands, arrives, makes, goes)
+    (w', before', arrival', own', lines', all', steps', stands', arrives', makes', goes') =
+    let earlier = same_steps image quantum at at' start n before before' w w' holds stands.ready stands'.ready steps steps' in
     let there = (follow image quantum (state_of start) before (state_of w) (steps_walk at start n before w steps) holds).holds in
     let other = subst (λ (s : State). Walk s (arrival' ++ own') (state_of z)) (sym earlier.1) goes'.walk in
     let first = (follow image quantum (state_of w) (arrival ++ own) (state_of y) goes.walk there).holds in
     let second = (follow image quantum (state_of w) (arrival' ++ own') (state_of z) other there).holds in
     let same = same_step image quantum y z (arrival ++ own) (arrival' ++ own') first second ready ready' (step_is w.at arrival own arrives makes) (step_is w'.at arrival' own' arrives' makes')
-    (compare image quantum (state_of w) (state_of y) (state_of z) (arrival ++ own) (arrival' ++ own') right there goes.walk other) in
+    (compare (state_of w) (state_of y) (state_of z) (arrival ++ own) (arrival' ++ own') stands.ready.order.right goes.walk other) in
     (all ∙ ap₂ (λ a b. a ++ b) earlier.0 same.0 ∙ sym all', same.1)
 
 -- A run that goes on made nothing behind its last step.
@@ -222,7 +158,8 @@ is_still at start z n moves is going final done =
     let none : is.behind ≡ [] = elim of_step.makes [
       | inl nothing ↦ quiet_behind is.last z of_step.arrival is.behind (of_step.parts ∙ ap (λ l. of_step.arrival ++ l) nothing ∙ append-nil of_step.arrival) of_step.arrives alone
       | inr makes ↦
-          absurd (none_on z.end (unmade_stops at start is.last z n is.before of_step.arrival of_step.own is.lines is.steps is.stands.ready.going of_step.arrives makes (subst (λ ms. Goes is.last z ms is.lines) of_step.parts is.goes) done) going)
+          absurd (none_on z.end (unmade_stops at start is.last z n is.before of_step.arrival of_step.own is.lines is.steps is.stands.ready.going of_step.arrives makes
+          (subst (λ ms. Goes is.last z ms is.lines) of_step.parts is.goes) done) going)
     ] in
     record {
       last = is.last;

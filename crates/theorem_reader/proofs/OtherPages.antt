@@ -53,14 +53,16 @@ pub record Stays (image before words : List ℕ) (page : ℕ) : Type 0 where
   pub runs : (b n : ℕ) → HoldsRun Anywhere image before page b n → HoldsRun Anywhere image words page b n
 
 -- the page has the same words
-same_stays : (layout : Layout) (image before words words' : List ℕ) (page : ℕ) → IsRight layout → IsPool layout page → length words ≡ word_count → length words' ≡ word_count → SamePage words words' page → Stays image before words page → Stays image before words' page
+same_stays : (layout : Layout) (image before words words' : List ℕ) (page : ℕ) → IsRight layout → IsPool layout page → length words ≡ word_count → length words' ≡ word_count
+    → SamePage words words' page → Stays image before words page → Stays image before words' page
 same_stays layout image before words words' page right pool whole whole' same is = record {
   free = λ free. free_alike words words' page same (omega (arith, whole, pool.to, right.pool_below_kernel)) (omega (arith, whole', pool.to, right.pool_below_kernel)) (is.free free);
   runs = λ b n holds. holds_alike Anywhere Anywhere image words words' page b n (λ a v leads. leads) same (is.runs b n holds);
 }
 
 -- it holds a run in both
-run_stays : (leads : ℕ → ℕ → Type 0) (image before words words' : List ℕ) (page first last : ℕ) → length image ≤ 24576 → HoldsRun leads image words page first last → HoldsRun Anywhere image words' page first last → Stays image before words page → Stays image before words' page
+run_stays : (leads : ℕ → ℕ → Type 0) (image before words words' : List ℕ) (page first last : ℕ) → length image ≤ 24576 → HoldsRun leads image words page first last
+    → HoldsRun Anywhere image words' page first last → Stays image before words page → Stays image before words' page
 run_stays leads image before words words' page first last short old new is = record {
   free = λ free. absurd (held_used leads image words page first last short old (is.free free));
   runs = λ b n holds.
@@ -69,7 +71,8 @@ run_stays leads image before words words' page first last short old new is = rec
 }
 
 -- a page loses its stubs into the victim
-unlinked_stays : (layout : Layout) (image before words : List ℕ) (victim from page : ℕ) → IsRight layout → IsFaithful layout image words → IsPool layout from → IsPool layout page → IsRewritten layout image words from
+unlinked_stays : (layout : Layout) (image before words : List ℕ) (victim from page : ℕ) → IsRight layout → IsFaithful layout image words → IsPool layout from → IsPool layout page
+    → IsRewritten layout image words from
     → Stays image before words page → Stays image before (with_calls words (stubs_into image words victim from)) page
 unlinked_stays layout image before words victim from page right code pool pool' run is =
     let own = own_run (IsEntry layout words) image words from run.first run.last run.holds in
@@ -82,11 +85,13 @@ unlinked_stays layout image before words victim from page right code pool pool' 
     elim (cases_eq page from) [
       | inl here ↦ (
           let P : ℕ → Type 0 = λ p. Stays image before words p → Stays image before words' p in
-          subst P (sym here) (run_stays (IsEntry layout words) image before words words' from first last short keeps.old (holds_more (IsEntry layout words) Anywhere image words' from first last (λ a v leads. tt) keeps.new)) is)
+          subst P (sym here) (run_stays (IsEntry layout words) image before words words' from first last short keeps.old
+          (holds_more (IsEntry layout words) Anywhere image words' from first last (λ a v leads. tt) keeps.new)) is)
       | inr away ↦ same_stays layout image before words words' page right pool' keeps.whole keeps.whole' (keeps.others page away) is
     ]
 
-one_stays : (layout : Layout) (image before : List ℕ) (now : Memory) (victim from page : ℕ) → IsRight layout → IsFaithful layout image now.words → IsPool layout from → IsPool layout page → Stays image before now.words page
+one_stays : (layout : Layout) (image before : List ℕ) (now : Memory) (victim from page : ℕ) → IsRight layout → IsFaithful layout image now.words → IsPool layout from → IsPool layout page
+    → Stays image before now.words page
     → (let told = perform now (unlinking image now.words victim from) in Stays image before (mended told.memory.words told.stop) page)
 one_stays layout image before now victim from page right code pool pool' is =
     let words = now.words in
@@ -99,7 +104,8 @@ one_stays layout image before now victim from page right code pool pool' is =
           let own = own_run (IsEntry layout words) image words from run.first run.last run.holds in
           let inside : page_words * from + page_words ≤ length words = omega (arith, code.whole, pool.to, right.pool_below_kernel) in
           let there = unlinked_page (IsEntry layout words) image words (leads_into victim) from (address_of words from 0) (entry_count words from - 1) inside own.holds in
-          mended_by (λ w. Stays image before w page) now from new inside is (subst (λ w. Stays image before w page) (sym there) (unlinked_stays layout image before words victim from page right code pool pool' run is)))
+          mended_by (λ w. Stays image before w page) now from new inside is
+          (subst (λ w. Stays image before w page) (sym there) (unlinked_stays layout image before words victim from page right code pool pool' run is)))
       | false ↦ λ none. is
     ]) refl
 
@@ -165,19 +171,25 @@ pub record MakesStay (layout : Layout) (image before : List ℕ) (words : List �
   pub whole : IfSome place (λ v. length words ≡ word_count)
   pub others : (other : ℕ) → IsPool layout other → other ≢ page → Stays image before words other
 
-pub made_stays : (layout : Layout) (old new : Store) (image before : List ℕ) (page t : ℕ) (again : Bool) (result : Result Moved Refused) → IsRight layout → image_of layout old.flash.words ≡ image → IsFaithful layout image old.flash.words → IsPool layout page → IsFree old.flash.words page
-    → Makes layout old new page t again result → ((other : ℕ) → IsPool layout other → other ≢ page → Stays image before old.flash.words other) → MakesStay layout image before (with_torn new.flash.words (torn_in result)) page (place_in result)
+pub made_stays : (layout : Layout) (old new : Store) (image before : List ℕ) (page t : ℕ) (again : Bool) (result : Result Moved Refused) → IsRight layout → image_of layout old.flash.words ≡ image
+    → IsFaithful layout image old.flash.words → IsPool layout page → IsFree old.flash.words page
+    → Makes layout old new page t again result → ((other : ℕ) → IsPool layout other → other ≢ page → Stays image before old.flash.words other)
+    → MakesStay layout image before (with_torn new.flash.words (torn_in result)) page (place_in result)
 made_stays layout old new image before page t again result right held code pool free (Made words place prepared performed noted_there answer) stay =
     let own = subst (λ i. IsFaithful layout i old.flash.words) (sym held) code in
     let after = done_words old.flash new.flash page again words performed in
-    let makes : MakesPage layout (image_of layout old.flash.words) old.flash.words new.flash.words page t place = subst (λ w. MakesPage layout (image_of layout old.flash.words) old.flash.words w page t place) (sym after) (prepared_makes layout (image_of layout old.flash.words) old.flash.words page t place words prepared) in
+    let makes : MakesPage layout (image_of layout old.flash.words) old.flash.words new.flash.words page t place =
+    subst (λ w. MakesPage layout (image_of layout old.flash.words) old.flash.words w page t place) (sym after)
+    (prepared_makes layout (image_of layout old.flash.words) old.flash.words page t place words prepared) in
     let faithful = makes_faithful layout (image_of layout old.flash.words) old.flash.words new.flash.words page t place right own pool free makes in
-    let entry : IsEntry layout new.flash.words t place = record { page = page; index = 0; pool = pool; lists = makes_first layout (image_of layout old.flash.words) old.flash.words new.flash.words page t place right own pool makes } in
+    let entry : IsEntry layout new.flash.words t place =
+    record { page = page; index = 0; pool = pool; lists = makes_first layout (image_of layout old.flash.words) old.flash.words new.flash.words page t place right own pool makes } in
     let P : Result Moved Refused → Type 0 = λ r. MakesStay layout image before (with_torn new.flash.words (torn_in r)) page (place_in r) in
     subst P (sym answer) (record {
       here = page_of_place layout new.flash.words t place (faithful_mapped layout (image_of layout old.flash.words) new.flash.words right faithful) entry;
       whole = faithful.whole;
-      others = λ other pool' away. same_stays layout image before old.flash.words new.flash.words other right pool' code.whole faithful.whole (makes_other layout (image_of layout old.flash.words) old.flash.words new.flash.words page t place other right own pool makes away) (stay other pool' away);
+      others = λ other pool' away. same_stays layout image before old.flash.words new.flash.words other right pool' code.whole faithful.whole
+          (makes_other layout (image_of layout old.flash.words) old.flash.words new.flash.words page t place other right own pool makes away) (stay other pool' away);
     })
 made_stays layout old new image before page t again result right held code pool free (NotMade words place prepared stop performed same answer) stay =
     let own = subst (λ i. IsFaithful layout i old.flash.words) (sym held) code in
@@ -189,10 +201,12 @@ made_stays layout old new image before page t again result right held code pool 
       here = tt;
       whole = tt;
       others = λ other pool' away. by_program (λ w. Stays image before w other) old.flash new.flash page again words stop (stay other pool' away)
-          (same_stays layout image before old.flash.words new_words other right pool' code.whole faithful.whole (makes_other layout (image_of layout old.flash.words) old.flash.words new_words page t place other right own pool makes away) (stay other pool' away)) performed;
+          (same_stays layout image before old.flash.words new_words other right pool' code.whole faithful.whole
+          (makes_other layout (image_of layout old.flash.words) old.flash.words new_words page t place other right own pool makes away) (stay other pool' away)) performed;
     })
 
-pub recycled_stays : (layout : Layout) (old new : Store) (victim t : ℕ) (result : Result Moved Refused) → IsRight layout → IsFaithful layout (image_of layout old.flash.words) old.flash.words → IsPool layout victim
+pub recycled_stays : (layout : Layout) (old new : Store) (victim t : ℕ) (result : Result Moved Refused) → IsRight layout → IsFaithful layout (image_of layout old.flash.words) old.flash.words
+    → IsPool layout victim
     → Recycles layout old new victim t result → MakesStay layout (image_of layout old.flash.words) old.flash.words (with_torn new.flash.words (torn_in result)) victim (place_in result)
 recycled_stays layout old new victim t result right code pool (NotUnlinked stop performed same answer) =
     let image = image_of layout old.flash.words in
@@ -208,7 +222,8 @@ recycled_stays layout old new victim t result right code pool (NotErased unlinke
     subst P (sym answer) (record {
       here = tt;
       whole = tt;
-      others = λ other pool' away. subst (λ w. Stays image old.flash.words w other) (sym (ap (λ (m : Memory). m.words) left)) (unlinking_stays layout old.flash unlinked victim other None right code pool' performed);
+      others = λ other pool' away. subst (λ w. Stays image old.flash.words w other) (sym (ap (λ (m : Memory). m.words) left))
+          (unlinking_stays layout old.flash unlinked victim other None right code pool' performed);
     })
 recycled_stays layout old new victim t result right code pool (Erased unlinked performed free makes) =
     let image = image_of layout old.flash.words in
@@ -222,15 +237,23 @@ recycled_stays layout old new victim t result right code pool (Erased unlinked p
     same_stays layout image old.flash.words unlinked.words erased.words other right pool' up.code.whole held.whole (other_left layout image unlinked.words victim other right up.code pool away)
     (unlinking_stays layout old.flash unlinked victim other None right code pool' performed))
 
-as_others : (layout : Layout) (old : Memory) (words : List ℕ) (page : ℕ) (place : Option ℕ) → MakesStay layout (image_of layout old.words) old.words words page place → OthersStay layout old words place
+as_others : (layout : Layout) (old : Memory) (words : List ℕ) (page : ℕ) (place : Option ℕ) → MakesStay layout (image_of layout old.words) old.words words page place
+    → OthersStay layout old words place
 as_others layout old words page place is = record { again = page; here = is.here; whole = is.whole; others = is.others }
 
-pub arrives_others : (layout : Layout) (old new : Store) (t : ℕ) (result : Result Moved Refused) → IsRight layout → IsFaithful layout (image_of layout old.flash.words) old.flash.words → ring_of old.sram < layout.pool_pages
+pub arrives_others : (layout : Layout) (old new : Store) (t : ℕ) (result : Result Moved Refused) → IsRight layout → IsFaithful layout (image_of layout old.flash.words) old.flash.words
+    → ring_of old.sram < layout.pool_pages
     → Arrives layout old new t result → OthersStay layout old.flash (with_torn new.flash.words (torn_in result)) (place_in result)
 arrives_others layout old new t result right code ring (Beyond out same answer) =
     let P : Result Moved Refused → Type 0 = λ r. OthersStay layout old.flash (with_torn new.flash.words (torn_in r)) (place_in r) in
     let words : old.flash.words ≡ new.flash.words = sym (ap (λ (s : Store). s.flash.words) same) in
-    subst P (sym answer) (record { again = 0; here = tt; whole = tt; others = λ page pool away. subst (λ w. Stays (image_of layout old.flash.words) old.flash.words w page) words (record { free = λ free. free; runs = λ b n holds. holds }) })
+    subst P (sym answer) (record {
+      again = 0;
+      here = tt;
+      whole = tt;
+      others = λ page pool away. subst (λ w. Stays (image_of layout old.flash.words) old.flash.words w page) words
+          (record { free = λ free. free; runs = λ b n holds. holds });
+    })
 arrives_others layout old new t result right code ring (Found place inside finds same answer) =
     let P : Result Moved Refused → Type 0 = λ r. OthersStay layout old.flash (with_torn new.flash.words (torn_in r)) (place_in r) in
     let words : old.flash.words ≡ new.flash.words = sym (ap (λ (m : Memory). m.words) same) in
@@ -242,7 +265,8 @@ arrives_others layout old new t result right code ring (Found place inside finds
     })
 arrives_others layout old new t result right code ring (Free page inside finds lowest makes) =
     as_others layout old.flash (with_torn new.flash.words (torn_in result)) page (place_in result)
-    (made_stays layout old new (image_of layout old.flash.words) old.flash.words page t false result right refl code lowest.pool lowest.free makes (λ other pool away. record { free = λ free. free; runs = λ b n holds. holds }))
+    (made_stays layout old new (image_of layout old.flash.words) old.flash.words page t false result right refl code lowest.pool lowest.free makes
+    (λ other pool away. record { free = λ free. free; runs = λ b n holds. holds }))
 arrives_others layout old new t result right code ring (Full inside finds none recycles) =
     let victim = layout.pool_first + ring_of old.sram in
     as_others layout old.flash (with_torn new.flash.words (torn_in result)) victim (place_in result)
@@ -256,7 +280,8 @@ page_resolved layout image words s t place right whole link =
     ap (set_page words (s / page_words)) (page_of_two words (s / page_words) s jump_word place (omega (arith, whole, placed.low)) refl placed.room) ∙ placed.is
 
 -- one that is to be resolved is still where it was
-pub still_linked : (layout : Layout) (old mid : Store) (t s : ℕ) (stub : Option ℕ) (moved : Moved) → IsRight layout → IsFaithful layout (image_of layout old.flash.words) old.flash.words → ring_of old.sram < layout.pool_pages
+pub still_linked : (layout : Layout) (old mid : Store) (t s : ℕ) (stub : Option ℕ) (moved : Moved) → IsRight layout → IsFaithful layout (image_of layout old.flash.words) old.flash.words
+    → ring_of old.sram < layout.pool_pages
     → CameThrough layout old.flash.words stub t → Arrives layout old mid t (Ok moved) → to_resolve moved.recycled stub ≡ Some s → IsLinkIn layout (image_of layout old.flash.words) mid.flash.words s t
 still_linked layout old mid t s stub moved right code ring came arrives some =
     let to = is_to_resolve moved.recycled stub s some in
@@ -270,7 +295,8 @@ exit_of : (words : List ℕ) (a t : ℕ) → IsLink Anywhere (word_at words a) (
 exit_of words a t (inl call) = inl call
 exit_of words a t (inr jump) = inr jump.0
 
-pieces_keep : (words words' : List ℕ) (a : ℕ) (pieces : List Piece) → Stands Anywhere words a pieces → Stands Anywhere words' a pieces → (b : ℕ) → a ≤ b → b < a + size pieces → KeepsWord words words' b
+pieces_keep : (words words' : List ℕ) (a : ℕ) (pieces : List Piece) → Stands Anywhere words a pieces → Stands Anywhere words' a pieces → (b : ℕ) → a ≤ b → b < a + size pieces
+    → KeepsWord words words' b
 pieces_keep words words' a [] old new b from to = absurd (omega (arith, from, to))
 pieces_keep words words' a (Fixed word ∷ pieces) old new b from to = elim (cases_eq b a) [
   | inl same ↦ subst (KeepsWord words words') (sym same) (Kept (new.0 ∙ sym old.0))

@@ -31,7 +31,8 @@ idle_over : (t : Turns) (p : Player) (acts : List Act) (end : End) → acts ≡ 
 idle_over t p acts end none = record { none = none; q = record p { end = Some end }; players = by_change (with_player t (record p { end = Some end })) _; stands = refl }
 
 -- so it is where it has no step of rewritten code, and no interrupt is due
-idle_try : (image : List ℕ) (t : Turns) (p : Player) (before : Mote) (acts : List Act) (comes : Played) → p.moment.due ≡ false → AreOfTry image p.moment before acts comes → steps_in acts ≡ 0 → IsIdle t p acts (once_by t p comes).turns
+idle_try : (image : List ℕ) (t : Turns) (p : Player) (before : Mote) (acts : List Act) (comes : Played) → p.moment.due ≡ false → AreOfTry image p.moment before acts comes → steps_in acts ≡ 0
+    → IsIdle t p acts (once_by t p comes).turns
 idle_try image t p before acts (Over Spent) undue none few = idle_over t p acts Spent none
 idle_try image t p before acts (Over (Wild pc)) undue none few = idle_over t p acts (Wild pc) none
 idle_try image t p before acts (Over _) undue made few = absurd (omega (arith, few, steps_of_own image p.moment before acts undue made.0))
@@ -47,7 +48,8 @@ IsFresh task t = (p : Player) → slice_get t.players task ≡ Some p → (p.mom
 abbrev its_acts : ℕ → Stint → List Act
 its_acts task stint = cond (eqb stint.task task) stint.acts []
 
-idle_stint : (image : List ℕ) (task : ℕ) (t : Turns) (stint : Stint) (p : Player) (before : Mote) → slice_get t.players t.running ≡ Some p → p.end ≡ None → stint.task ≡ t.running → AreOfTry image p.moment before stint.acts (played p)
+idle_stint : (image : List ℕ) (task : ℕ) (t : Turns) (stint : Stint) (p : Player) (before : Mote) → slice_get t.players t.running ≡ Some p → p.end ≡ None → stint.task ≡ t.running
+    → AreOfTry image p.moment before stint.acts (played p)
     → IsFresh task t → steps_in (its_acts task stint) ≡ 0 → IsFresh task (once t p).turns × (its_acts task stint ≡ [])
 idle_stint image task t stint p before there going its tried fresh few = elim (cases_eq task t.running) [
   | inl same ↦
@@ -55,7 +57,8 @@ idle_stint image task t stint p before there going its tried fresh few = elim (c
       let own : its_acts task stint ≡ stint.acts = ap (λ b. cond b stint.acts []) test in
       let was = fresh p (ap (slice_get t.players) same ∙ there) in
       let idle = idle_try image t p before stint.acts (played p) was.0 tried (ap steps_in (sym own) ∙ few) in
-      let here : slice_get (once t p).turns.players task ≡ Some idle.q = ap (λ l. slice_get l task) idle.players ∙ ap (slice_get (slice_set t.players t.running idle.q)) same ∙ set_here t.players t.running p idle.q there in (
+      let here : slice_get (once t p).turns.players task ≡ Some idle.q = ap (λ l. slice_get l task) idle.players ∙ ap (slice_get (slice_set t.players t.running idle.q)) same
+      ∙ set_here t.players t.running p idle.q there in (
         λ q is. let stands : q.moment ≡ p.moment = ap (λ (z : Player). z.moment) (some_player q idle.q (sym is ∙ here)) ∙ idle.stands in
             (ap (λ m. m.due) stands ∙ was.0, ap (λ m. m.now.steps) stands ∙ was.1),
         own ∙ idle.none,
@@ -66,7 +69,8 @@ idle_stint image task t stint p before there going its tried fresh few = elim (c
       (λ q is. fresh q (sym (ap (λ l. slice_get l task) one.players ∙ set_elsewhere t.players task t.running one.q apart) ∙ is), ap (λ b. cond b stint.acts []) test)
 ]
 
-idle_stints : (image : List ℕ) (quantum task : ℕ) (t : Turns) (left : Mote) (motes : List Mote) (stints : List Stint) (to : Turns) (end : Mote) (last : List Mote) → TakeTurns image quantum t left motes stints to end last
+idle_stints : (image : List ℕ) (quantum task : ℕ) (t : Turns) (left : Mote) (motes : List Mote) (stints : List Stint) (to : Turns) (end : Mote) (last : List Mote)
+    → TakeTurns image quantum t left motes stints to end last
     → IsFresh task t → steps_in (acts_of_task task stints) ≡ 0 → IsFresh task to × (acts_of_task task stints ≡ [])
 idle_stints image quantum task t left motes [] to end last (same, left_is, motes_are) fresh few = (subst (IsFresh task) same fresh, refl)
 idle_stints image quantum task t left motes (stint ∷ stints) to end last (p, own, before, after, there, going, its, had, back, state, between, tried, lines, follow, rest) fresh few =

@@ -73,7 +73,8 @@ acted_same a b a' b' acts was is acted = subst (λ o. HaveActed o b acts) (sym w
 -- Along plays. --------------------------------------------------------------------------------------------
 
 -- by the moves of a play
-acted_tried : (n : ℕ) (t new : Tasks) (play : Play) (i : ℕ) → (one : IsPlay n t play new) → HaveActed (slice_get t.tasks i) (slice_get one.mid.tasks i) (cond (eqb t.running i) (stint_of n t play new one).acts [])
+acted_tried : (n : ℕ) (t new : Tasks) (play : Play) (i : ℕ) → (one : IsPlay n t play new)
+    → HaveActed (slice_get t.tasks i) (slice_get one.mid.tasks i) (cond (eqb t.running i) (stint_of n t play new one).acts [])
 acted_tried n t new play i one =
     let r = t.running in
     let x = state_of (machine_of t r one.task) in
@@ -107,15 +108,19 @@ acted_given t next parked i given =
     let u = given_by t next (Some parked) in
     elim (cases_eq i next) [
       | inl same ↦
-          acted_same (slice_get t.tasks i) (slice_get u.tasks i) (Some given.first) (Some (record given.first { parked = None })) [] (ap (slice_get t.tasks) same ∙ given.waits) (ap (slice_get u.tasks) same ∙ first_of t next parked given) (acted_unparked given.first None)
+          acted_same (slice_get t.tasks i) (slice_get u.tasks i) (Some given.first) (Some (record given.first { parked = None })) [] (ap (slice_get t.tasks) same ∙ given.waits)
+          (ap (slice_get u.tasks) same ∙ first_of t next parked given) (acted_unparked given.first None)
       | inr apart ↦ elim (cases_eq i t.running) [
         | inl same ↦
-            acted_same (slice_get t.tasks i) (slice_get u.tasks i) (Some given.last) (Some (record given.last { parked = Some _ })) [] (ap (slice_get t.tasks) same ∙ given.had) (ap (slice_get u.tasks) same ∙ last_of t next parked given) (acted_unparked given.last (Some _))
-        | inr apart' ↦ acted_same (slice_get t.tasks i) (slice_get u.tasks i) (slice_get t.tasks i) (slice_get t.tasks i) [] refl (other_of t next i parked apart apart') (acted_nothing (slice_get t.tasks i))
+            acted_same (slice_get t.tasks i) (slice_get u.tasks i) (Some given.last) (Some (record given.last { parked = Some _ })) [] (ap (slice_get t.tasks) same ∙ given.had)
+            (ap (slice_get u.tasks) same ∙ last_of t next parked given) (acted_unparked given.last (Some _))
+        | inr apart' ↦ acted_same (slice_get t.tasks i) (slice_get u.tasks i) (slice_get t.tasks i) (slice_get t.tasks i) [] refl (other_of t next i parked apart apart')
+            (acted_nothing (slice_get t.tasks i))
       ]
     ]
 
-acted_to : (t : Tasks) (last : Task) (found : Option ℕ) (i : ℕ) → AreSound t → slice_get t.tasks t.running ≡ Some last → next_task t ≡ found → HaveActed (slice_get t.tasks i) (slice_get (changed_tasks t).tasks i) []
+acted_to : (t : Tasks) (last : Task) (found : Option ℕ) (i : ℕ) → AreSound t → slice_get t.tasks t.running ≡ Some last → next_task t ≡ found
+    → HaveActed (slice_get t.tasks i) (slice_get (changed_tasks t).tasks i) []
 acted_to t last None i sound runs is = subst (λ (u : Tasks). HaveActed (slice_get t.tasks i) (slice_get u.tasks i) []) (sym (ap (given_to t) is)) (acted_nothing (slice_get t.tasks i))
 acted_to t last (Some next) i sound runs is =
     let changed = has_changed t next last sound runs is in
@@ -124,19 +129,23 @@ acted_to t last (Some next) i sound runs is =
 acted_on : (n : ℕ) (t new : Tasks) (play : Play) (changes : Bool) (i : ℕ) → (one : IsPlay n t play new) → GoesOn changes one.mid new → HaveActed (slice_get one.mid.tasks i) (slice_get new.tasks i) []
 acted_on n t new play false i one is = subst (λ (u : Tasks). HaveActed (slice_get one.mid.tasks i) (slice_get u.tasks i) []) (sym is) (acted_nothing (slice_get one.mid.tasks i))
 acted_on n t new play true i one is =
-    let runs : slice_get one.mid.tasks one.mid.running ≡ Some one.next = ap (slice_get one.mid.tasks) one.tried.running ∙ ap (λ l. slice_get l t.running) one.tried.tasks ∙ set_same t.tasks t.running one.task one.next one.here in
+    let runs : slice_get one.mid.tasks one.mid.running ≡ Some one.next = ap (slice_get one.mid.tasks) one.tried.running ∙ ap (λ l. slice_get l t.running) one.tried.tasks
+    ∙ set_same t.tasks t.running one.task one.next one.here in
     subst (λ (u : Tasks). HaveActed (slice_get one.mid.tasks i) (slice_get u.tasks i) []) (sym is) (acted_to one.mid one.next (next_task one.mid) i one.tried.sound runs refl)
 
-acted_play : (n : ℕ) (t new : Tasks) (play : Play) (i : ℕ) → (one : IsPlay n t play new) → HaveActed (slice_get t.tasks i) (slice_get new.tasks i) (cond (eqb t.running i) (stint_of n t play new one).acts [])
+acted_play : (n : ℕ) (t new : Tasks) (play : Play) (i : ℕ) → (one : IsPlay n t play new)
+    → HaveActed (slice_get t.tasks i) (slice_get new.tasks i) (cond (eqb t.running i) (stint_of n t play new one).acts [])
 acted_play n t new play i one =
     let acts = cond (eqb t.running i) (stint_of n t play new one).acts [] in
     subst (HaveActed (slice_get t.tasks i) (slice_get new.tasks i)) (append-nil acts)
     (acted_both (slice_get t.tasks i) (slice_get one.mid.tasks i) (slice_get new.tasks i) acts [] (acted_tried n t new play i one) (acted_on n t new play play.changes i one one.behind))
 
-acted_path : (n : ℕ) (t : Tasks) (plays : List Play) (new : Tasks) (i : ℕ) → (path : TaskPath n t plays new) → HaveActed (slice_get t.tasks i) (slice_get new.tasks i) (acts_of_task i (stints_of n t plays new path))
+acted_path : (n : ℕ) (t : Tasks) (plays : List Play) (new : Tasks) (i : ℕ) → (path : TaskPath n t plays new)
+    → HaveActed (slice_get t.tasks i) (slice_get new.tasks i) (acts_of_task i (stints_of n t plays new path))
 acted_path n t [] new i is = subst (λ (u : Tasks). HaveActed (slice_get t.tasks i) (slice_get u.tasks i) []) is (acted_nothing (slice_get t.tasks i))
 acted_path n t (play ∷ plays) new i (mid, one, rest) =
-    acted_both (slice_get t.tasks i) (slice_get mid.tasks i) (slice_get new.tasks i) (cond (eqb t.running i) (stint_of n t play mid one).acts []) (acts_of_task i (stints_of n mid plays new rest)) (acted_play n t mid play i one) (acted_path n mid plays new i rest)
+    acted_both (slice_get t.tasks i) (slice_get mid.tasks i) (slice_get new.tasks i) (cond (eqb t.running i) (stint_of n t play mid one).acts []) (acts_of_task i (stints_of n mid plays new rest))
+    (acted_play n t mid play i one) (acted_path n mid plays new i rest)
 
 -- From boot. ----------------------------------------------------------------------------------------------
 
@@ -168,7 +177,8 @@ counts_by (Some was) its acts (natural, entries, since, longest) acted = record 
   longest = acted.longest ∙ ap₂ (λ n k. longest_in n k acts) since longest;
 }
 
-pub counts_from_boot : (image : List ℕ) (first : Schedule) (others : List Schedule) (quantum slots n : ℕ) (plays : List Play) (new : Tasks) (i : ℕ) (its : Task) → (path : TaskPath n (booted image first others quantum slots) plays new) → slice_get new.tasks i ≡ Some its
+pub counts_from_boot : (image : List ℕ) (first : Schedule) (others : List Schedule) (quantum slots n : ℕ) (plays : List Play) (new : Tasks) (i : ℕ) (its : Task)
+    → (path : TaskPath n (booted image first others quantum slots) plays new) → slice_get new.tasks i ≡ Some its
     → HasCounts its (acts_of_task i (stints_of n (booted image first others quantum slots) plays new path))
 counts_from_boot image first others quantum slots n plays new i its path there =
     let t = booted image first others quantum slots in
@@ -180,7 +190,8 @@ none_acted : (was : Option Task) (acts : List Act) → HaveActed was None acts �
 none_acted None acts acted = acted
 none_acted (Some was) acts acted = absurd acted
 
-longest_by : (image : List ℕ) (first : Schedule) (others : List Schedule) (quantum slots n : ℕ) (plays : List Play) (new : Tasks) (i bound : ℕ) (found : Option Task) → (path : TaskPath n (booted image first others quantum slots) plays new) → slice_get new.tasks i ≡ found
+longest_by : (image : List ℕ) (first : Schedule) (others : List Schedule) (quantum slots n : ℕ) (plays : List Play) (new : Tasks) (i bound : ℕ) (found : Option Task)
+    → (path : TaskPath n (booted image first others quantum slots) plays new) → slice_get new.tasks i ≡ found
     → ((its : Task) → slice_get new.tasks i ≡ Some its → its.longest ≤ bound) → longest_in 0 0 (acts_of_task i (stints_of n (booted image first others quantum slots) plays new path)) ≤ bound
 longest_by image first others quantum slots n plays new i bound None path there most =
     let t = booted image first others quantum slots in
@@ -191,7 +202,9 @@ longest_by image first others quantum slots n plays new i bound (Some its) path 
     omega (arith, most its there, (counts_from_boot image first others quantum slots n plays new i its path there).longest)
 
 -- so between two services of one program there are no more steps than its task has counted
-pub few_from_boot : (image : List ℕ) (first : Schedule) (others : List Schedule) (quantum slots n : ℕ) (plays : List Play) (new : Tasks) (i bound : ℕ) → (path : TaskPath n (booted image first others quantum slots) plays new)
-    → ((its : Task) → slice_get new.tasks i ≡ Some its → its.longest ≤ bound) → (front between back : List Act) → acts_of_task i (stints_of n (booted image first others quantum slots) plays new path) ≡ front ++ (between ++ back) → services_in between ≡ 0 → steps_in between ≤ bound
+pub few_from_boot : (image : List ℕ) (first : Schedule) (others : List Schedule) (quantum slots n : ℕ) (plays : List Play) (new : Tasks) (i bound : ℕ)
+    → (path : TaskPath n (booted image first others quantum slots) plays new)
+    → ((its : Task) → slice_get new.tasks i ≡ Some its → its.longest ≤ bound) → (front between back : List Act)
+    → acts_of_task i (stints_of n (booted image first others quantum slots) plays new path) ≡ front ++ (between ++ back) → services_in between ≡ 0 → steps_in between ≤ bound
 few_from_boot image first others quantum slots n plays new i bound path most front between back is none =
     omega (arith, longest_by image first others quantum slots n plays new i bound (slice_get new.tasks i) path refl most, ap (longest_in 0 0) is, no_longer 0 0 front between back none)

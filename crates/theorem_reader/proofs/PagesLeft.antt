@@ -1,5 +1,6 @@
 -- What an arrival leaves of a page, and how often it erases that, also where an operation is refused.
-use Rattle.std.proofs.Common.{◌≡◌, ◌≢◌, ℕ, ◌+◌, ◌*◌, ◌/◌, ◌%◌, ◌<◌, ◌≤◌, ◌⊎◌, Bool, true, false, if◌then◌else◌, List, [], ◌∷◌, length, Option, Some, None, Ok, Err, refl, sym, ap, ◌∙◌, subst, arith, inl, inr}
+use Rattle.std.proofs.Common.{◌≡◌, ◌≢◌, ℕ, ◌+◌, ◌*◌, ◌/◌, ◌%◌, ◌<◌, ◌≤◌, ◌⊎◌, Bool, true, false, if◌then◌else◌, List, [], ◌∷◌, length, Option, Some, None, Ok, Err, refl, sym, ap, ◌∙◌, subst, arith}
+use Rattle.std.proofs.Common.{inl, inr}
 use Rattle.std.specs.Prelude.{IfSome, Result, slice_index}
 use Rattle.std.proofs.lemmas.Bool.{cases_eq}
 use Rattle.std.proofs.lemmas.List.{get_or-set_other}
@@ -32,7 +33,8 @@ use Rattle.branch_bridge.specs.declared.rewriting.Torn.{Torn}
 use Rattle.branch_bridge.specs.Operating.{Program, Performed, perform, lacking, stop_at}
 use Rattle.branch_bridge.specs.Tried.{torn_at}
 use Rattle.branch_bridge.specs.Unresolving.{unresolved_in}
-use Rattle.branch_bridge.specs.Arrivals.{Store, CameThrough, ring_of, turned, refused_by, torn_by, torn_in, made_in, Makes, Made, NotMade, Recycles, NotUnlinked, NotErased, Erased, Arrives, Beyond, Found, Free, Full, ArrivesFrom, Stopped, Went, Resolved}
+use Rattle.branch_bridge.specs.Arrivals.{Store, CameThrough, ring_of, turned, refused_by, torn_by, torn_in, made_in, Makes, Made, NotMade, Recycles, NotUnlinked, NotErased, Erased, Arrives, Beyond}
+use Rattle.branch_bridge.specs.Arrivals.{Found, Free, Full, ArrivesFrom, Stopped, Went, Resolved}
 use Rattle.branch_bridge.proofs.RecycleLaws.{IsAlone, other_left, victim_free, erased_faithful, erased_image, full_used}
 use Rattle.branch_bridge.proofs.ThroughLaws.{is_to_resolve}
 use Rattle.theorem_reader.specs.Wear.{IsSamePage}
@@ -123,7 +125,8 @@ pub made_here : (layout : Layout) (old new : Store) (own t : ℕ) (again : Bool)
     → IsPool layout own → IsFree old.flash.words own
     → Makes layout old new own t again (Ok moved) → own ≡ moved.place / page_words
 made_here layout old new own t again moved right code pool free makes =
-    (made_stays layout old new (image_of layout old.flash.words) old.flash.words own t again (Ok moved) right refl code pool free makes (λ other pool' away. record { free = λ free. free; runs = λ b n holds. holds })).here
+    (made_stays layout old new (image_of layout old.flash.words) old.flash.words own t again (Ok moved) right refl code pool free makes
+    (λ other pool' away. record { free = λ free. free; runs = λ b n holds. holds })).here
 
 free_fares : (layout : Layout) (old new : Store) (page own t : ℕ) (result : Result Moved Refused) → IsRight layout → IsFaithful layout (image_of layout old.flash.words) old.flash.words
     → IsPool layout own → IsFree old.flash.words own
@@ -212,7 +215,8 @@ recycled_fares layout old new page victim t result right code pool gone (Erased 
       | inl here ↦
           let before = once_of (IsVictim layout old t) old.flash unlinked victim (unlinked_fares layout (IsVictim layout old t) old.flash unlinked victim victim right code pool gone performed) in
           subst (Fares layout old t new.flash result) (sym here)
-          (victim_fares layout old mid new victim t result right own pool (victim_free layout image unlinked.words victim right up.code pool) (full_used layout image old.flash.words victim right code gone.none pool) gone.unknown
+          (victim_fares layout old mid new victim t result right own pool (victim_free layout image unlinked.words victim right up.code pool)
+          (full_used layout image old.flash.words victim right code gone.none pool) gone.unknown
           (omega (arith, before, erased_more unlinked e victim refl)) makes)
     ]
 

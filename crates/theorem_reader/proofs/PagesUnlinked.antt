@@ -1,6 +1,7 @@
 -- What becomes of a page where one is rewritten, and where the stubs into a page that is recycled call the bridge again; and how often it
 -- is erased there, also where an operation is refused.
-use Rattle.std.proofs.Common.{◌≡◌, ◌≢◌, ℕ, zero, suc, ◌+◌, ◌-◌, ◌*◌, ◌<◌, ◌≤◌, ◌==◌, ◌⊎◌, Bool, true, false, if◌then◌else◌, List, [], length, Option, Some, None, refl, sym, ap, ◌∙◌, subst, arith, inl, inr}
+use Rattle.std.proofs.Common.{◌≡◌, ◌≢◌, ℕ, zero, suc, ◌+◌, ◌-◌, ◌*◌, ◌<◌, ◌≤◌, ◌==◌, ◌⊎◌, Bool, true, false, if◌then◌else◌, List, [], length, Option, Some, None, refl, sym, ap, ◌∙◌, subst, arith}
+use Rattle.std.proofs.Common.{inl, inr}
 use Rattle.std.specs.Prelude.{◌||◌, not, slice_index, slice_set}
 use Rattle.std.proofs.lemmas.Bool.{cases_eq}
 use Rattle.std.proofs.lemmas.List.{get_or-set_other}
@@ -129,7 +130,8 @@ own_unlinked layout IsGone image old now new victim page stop right code pool go
     let any = some_stubs ((page == victim) || not (is_used words page)) (are_some stubs) some in
     let differ = other_words image words new.words (leads_into victim) page code.whole (omega (arith, pool.to, right.pool_below_kernel)) (ap (λ ws. page_of ws page) there) own.holds.fits any in
     let calls = subst (λ ws. KeepsCalls IsGone words ws page) (sym there) (calls_unlinked IsGone image words victim page gone inside own.holds.fits) in
-    inl (Unlinked (omega (arith, erased_more now new page erases, before.1)) (λ same. differ (λ k below. same k below ∙ sym (before.0 k below))) (then_calls IsGone old.words words new.words page before.0 calls))
+    inl (Unlinked (omega (arith, erased_more now new page erases, before.1)) (λ same. differ (λ k below. same k below ∙ sym (before.0 k below)))
+    (then_calls IsGone old.words words new.words page before.0 calls))
 
 ahead_next : (layout : Layout) (IsGone : ℕ → Type 0) (image : List ℕ) (old now : Memory) (victim page k : ℕ) → IsRight layout → IsFaithful layout image now.words → k < layout.pool_pages
     → IsGone victim

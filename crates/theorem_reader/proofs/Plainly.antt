@@ -20,7 +20,17 @@ use Rattle.no_memory.specs.declared.NoMemory.{NoMemory}
 use Rattle.theorem_reader.specs.Runs.{Asks, options_of, plainly}
 
 pub no_script : IsScript [] no_events
-no_script = record { spelled = refl; in_order = record { ordered = λ i j d less below. absurd (omega (arith, below)); in_range = λ k d below. absurd (omega (arith, below)); failing_ordered = λ i j d less below. absurd (omega (arith, below)); failing_in_range = λ k d below. absurd (omega (arith, below)); few = omega arith } }
+no_script = record {
+  spelled = refl;
+  in_order = record {
+    ordered = λ i j d less below. absurd (omega (arith, below));
+    in_range = λ k d below. absurd (omega (arith, below));
+    failing_ordered =
+        λ i j d less below. absurd (omega (arith, below));
+    failing_in_range = λ k d below. absurd (omega (arith, below));
+    few = omega arith;
+  };
+}
 
 nothing_behind : (text : List ℕ) → drop (length text) text ≡ []
 nothing_behind [] = refl
@@ -29,12 +39,8 @@ nothing_behind (byte ∷ text) = nothing_behind text
 pub asks_plainly : (words : List (List ℕ)) (image text : List ℕ) → words ≡ codes "run" ∷ [] → HexText text image (length text) → length text ≤ 2097152 → Asks words text (plainly image)
 asks_plainly words image text is hex short = record {
   command = subst (λ w. IsCommand w (RunCommand (options_of (plainly image)))) (sym is) without_options;
-  input = record {
-    position = length text;
-    hex = hex;
-    script = subst (λ t. IsScript t no_events) (sym (nothing_behind text)) no_script;
-    short = short;
-  };
+  front = record { position = length text; hex = hex; short = short };
+  script = subst (λ t. IsScript t no_events) (sym (nothing_behind text)) no_script;
 }
 
 -- what is so of one that was asked, whatever it is
@@ -44,7 +50,8 @@ told_as (Ok told) Asks So one asks all = all one asks
 told_as (Err none) Asks So one asks all = all
 
 -- and of the same words and text
-pub told_at : {T : Type 0} (result : Result T NoMemory) (So : List (List ℕ) → List ℕ → T → Type 0) (words words' : List (List ℕ)) (text text' : List ℕ) → words ≡ words' → text ≡ text' → IfOk result (So words text) → IfOk result (So words' text')
+pub told_at : {T : Type 0} (result : Result T NoMemory) (So : List (List ℕ) → List ℕ → T → Type 0) (words words' : List (List ℕ)) (text text' : List ℕ) → words ≡ words' → text ≡ text'
+    → IfOk result (So words text) → IfOk result (So words' text')
 told_at result So words words' text text' same same' all = subst (λ w. IfOk result (So w text')) same (subst (λ t. IfOk result (So words t)) same' all)
 
 pub told_pair : {P Q T : Type 0} (result : Result T NoMemory) (Asks : P → Q → Type 0) (So : P → Q → T → Type 0) (first : P) (second : Q) → Asks first second
@@ -84,4 +91,12 @@ few_words image text hex =
 pub text_short : (image text : List ℕ) → HexText text image (length text) → text ≡ written image → length text ≤ 2097152
 text_short image text hex same =
     let front = flat_map fed (map (data_line image) (range_with_len 0 (record_count image))) in
-    omega (arith, ap length same, length-append front (fed (record_line 1 0 [])), last_line, lines_short image (range_with_len 0 (record_count image)), length-range_with_len 0 (record_count image), few_words image text hex)
+    omega (
+      arith,
+      ap length same,
+      length-append front (fed (record_line 1 0 [])),
+      last_line,
+      lines_short image (range_with_len 0 (record_count image)),
+      length-range_with_len 0 (record_count image),
+      few_words image text hex,
+    )

@@ -1,5 +1,6 @@
 -- The pool by its numbers, and a faithful flash in the reader's words.
-use Rattle.std.proofs.Common.{◌≡◌, ℕ, ◌+◌, ◌*◌, ◌/◌, ◌%◌, ◌<◌, ◌≤◌, ◌⊎◌, inl, inr, true, false, nat_le, if◌then◌else◌, List, length, slice_index, Option, Some, None, refl, sym, ap, ap₂, ◌∙◌, arith, subst}
+use Rattle.std.proofs.Common.{◌≡◌, ℕ, ◌+◌, ◌*◌, ◌/◌, ◌%◌, ◌<◌, ◌≤◌, ◌⊎◌, inl, inr, true, false, nat_le, if◌then◌else◌, List, length, slice_index, Option, Some, None, refl, sym, ap, ap₂, ◌∙◌, arith}
+use Rattle.std.proofs.Common.{subst}
 use Rattle.std.specs.Prelude.{IfSome}
 use Rattle.base_laws.proofs.ManyLaws.{get_or-many}
 use Rattle.flash_words.specs.declared.layout.Layout.{Layout}
@@ -22,10 +23,11 @@ pub record Begins (from : ℕ) (layout : Layout) : Type 0 where
   pub end : layout.pool_first + layout.pool_pages ≡ 480
 
 pub pool_begins : (image : List ℕ) → Begins (pool_from image) (layout_of (length image))
-pool_begins image = elim (nat_le (length image) 16384) as (λ b. Begins (if b then 0x4000 else 0x6000) (record { image_words = length image; pool_first = if b then 128 else 192; pool_pages = if b then 352 else 288 })) [
-  | true ↦ record { first = refl; end = refl }
-  | false ↦ record { first = refl; end = refl }
-]
+pool_begins image = elim (nat_le (length image) 16384) as
+    (λ b. Begins (if b then 0x4000 else 0x6000) (record { image_words = length image; pool_first = if b then 128 else 192; pool_pages = if b then 352 else 288 })) [
+      | true ↦ record { first = refl; end = refl }
+      | false ↦ record { first = refl; end = refl }
+    ]
 
 -- the pool by its numbers
 pub in_pool : (image : List ℕ) (page : ℕ) → IsInPool image page → IsPool (layout_of (length image)) page
@@ -114,7 +116,8 @@ faithful_is image words few faithful =
     }
 
 -- .. but for a page that is torn
-pub but_is : (image words : List ℕ) (torn : Option Torn) → length image ≤ 24576 → IsFaithful (layout_of (length image)) image (with_torn words torn) → IfSome torn (IsTorn (layout_of (length image)) words) → AreFaithfulBut image words
+pub but_is : (image words : List ℕ) (torn : Option Torn) → length image ≤ 24576 → IsFaithful (layout_of (length image)) image (with_torn words torn)
+    → IfSome torn (IsTorn (layout_of (length image)) words) → AreFaithfulBut image words
 unfolding set_page
 but_is image words None few faithful torn = Whole (faithful_is image words few faithful)
 but_is image words (Some torn) few faithful is =

@@ -44,8 +44,8 @@ no_earlier TooMany less has = omega (arith, less)
 faulty : IsBad (codes "end\n") 1 Form
 faulty = record { front = []; line = codes "end"; rest = []; cut = refl; number_is = refl; before = nothing; accepted = no_script; fault_is = record { has = no_statement; first = no_earlier } }
 
-pub bad_script : IsRefused (codes "run" ∷ []) script_text 3 (bad_line (codes "script") 1 (codes "form"))
-bad_script = BadScript (Runs _ without_options) (omega arith) example.image 36 hex_before_script 1 Form faulty refl refl
+pub bad_script : IsRefused (codes "run" ∷ []) script_text (bad_line (codes "script") 1 (codes "form"))
+bad_script = BadScript (Runs _ without_options) example.image (record { position = 36; hex = hex_before_script; short = omega arith }) 1 Form faulty refl
 
 -- A script of several programs. ---------------------------------------------------------------------------
 
@@ -71,8 +71,8 @@ from_one other fault (InText task below faulty) = omega (arith, faulty.number_is
 formless : IsFirst 1 (codes "fail flash 1" ∷ []) 1 Form
 formless = record { is = Formless (record { front = []; line = codes "fail flash 1"; rest = []; cut = refl; number_is = refl; none = no_task_line }) refl; first = from_one }
 
-pub bad_task_script : IsRefused words_of_tasks task_script_text 3 (bad_line (codes "script") 1 (codes "form"))
-bad_task_script = BadScripts (tasks_options_of example_of_tasks) tasks_command (omega arith) example.image 36 hex_before_task_script 1 Form formless refl refl
+pub bad_task_script : IsRefused words_of_tasks task_script_text (bad_line (codes "script") 1 (codes "form"))
+bad_task_script = BadScripts (tasks_options_of example_of_tasks) tasks_command example.image (record { position = 36; hex = hex_before_task_script; short = omega arith }) 1 Form formless refl
 
 -- An image of several programs. ---------------------------------------------------------------------------
 
@@ -107,9 +107,9 @@ from_there other (inr (inr two)) = omega (arith, two)
 misplaced : IsFirstMisplaced 1 far_image 4094
 misplaced = record { is = (inr (inl refl), λ e. omega (arith, e, far_word)); least = λ other is. from_there other is.0 }
 
-pub bad_task_image : IsRefused words_of_tasks image_text 3 (codes "bad task image 0x0FFE\n")
+pub bad_task_image : IsRefused words_of_tasks image_text (codes "bad task image 0x0FFE\n")
 unfolding hex_on_literals
-bad_task_image = BadImage (tasks_options_of example_of_tasks) tasks_command (omega arith) far_image 28 far_hex (nothing ∷ []) schedules 4094 misplaced refl refl
+bad_task_image = BadImage (tasks_options_of example_of_tasks) tasks_command far_image (record { position = 28; hex = far_hex; short = omega arith }) (nothing ∷ []) schedules 4094 misplaced refl
 
 -- A dump. -------------------------------------------------------------------------------------------------
 
@@ -126,5 +126,5 @@ some_line empty = let e : 4 ≡ 0 = ap length empty in omega (arith, e)
 no_page : ¬ HasPage (codes "page")
 no_page has = let e : 4 ≡ 521 = has.size in omega (arith, e)
 
-pub bad_dump : IsRefused (codes "check" ∷ []) dump_text 3 (bad_line (codes "dump") 1 (codes "form"))
-bad_dump = BadDump check_command (omega arith) example.image 36 hex_before_dump 1 dump_faults.Form (inl (refl, (some_line, no_page))) refl refl
+pub bad_dump : IsRefused (codes "check" ∷ []) dump_text (bad_line (codes "dump") 1 (codes "form"))
+bad_dump = BadDump check_command example.image (record { position = 36; hex = hex_before_dump; short = omega arith }) 1 dump_faults.Form (inl (refl, (some_line, no_page))) refl

@@ -19,7 +19,8 @@ use Rattle.branch_bridge.specs.declared.rewriting.ResolveStop.{ResolveStop}
 use Rattle.branch_bridge.specs.declared.rewriting.Torn.{Torn}
 use Rattle.branch_bridge.specs.Operating.{Erase, Program, Performed, perform, rewriting, stop_at, with_torn}
 use Rattle.branch_bridge.specs.Tried.{IsTorn, torn_at}
-use Rattle.branch_bridge.specs.Arrivals.{Store, ring_of, Recycles, NotUnlinked, NotErased, Erased, Arrives, Beyond, Found, Free, Full, refused_by, ArrivesFrom, Stopped, Went, Resolved, CameThrough, torn_by}
+use Rattle.branch_bridge.specs.Arrivals.{Store, ring_of, Recycles, NotUnlinked, NotErased, Erased, Arrives, Beyond, Found, Free, Full, refused_by, ArrivesFrom, Stopped, Went, Resolved, CameThrough}
+use Rattle.branch_bridge.specs.Arrivals.{torn_by}
 use Rattle.branch_bridge.proofs.MakeLaws.{makes_told}
 use Rattle.branch_bridge.proofs.ThroughLaws.{is_to_resolve}
 use Rattle.theorem_reader.specs.Pools.{IsPlaceOf}
@@ -51,14 +52,17 @@ recycled_is layout old new victim t moved (NotErased unlinked performed listed l
 recycled_is layout old new victim t moved (Erased unlinked performed free makes) = makes_told layout _ new victim t true (Ok moved) makes
 
 -- the stub that is resolved behind it isn't in it
-pub stub_apart : (layout : Layout) (old mid : Store) (t s : ℕ) (moved : Moved) → IsRight layout → IsFaithful layout (image_of layout old.flash.words) old.flash.words → ring_of old.sram < layout.pool_pages
+pub stub_apart : (layout : Layout) (old mid : Store) (t s : ℕ) (moved : Moved) → IsRight layout → IsFaithful layout (image_of layout old.flash.words) old.flash.words
+    → ring_of old.sram < layout.pool_pages
     → is_used old.flash.words (s / page_words) ≡ true → moved.recycled ≢ Some (s / page_words) → Arrives layout old mid t (Ok moved) → moved.made ≡ true → s / page_words ≢ moved.place / page_words
 stub_apart layout old mid t s moved right code ring used apart (Beyond out same answer) made own = absurd (cc)
 stub_apart layout old mid t s moved right code ring used apart (Found place inside finds same answer) made own =
     let e : moved ≡ record { place = place; made = false; recycled = None } = cc in
     absurd (let both : ◌≡◌ {A = Bool} true false = sym made ∙ ap (λ (m : Moved). m.made) e in cc)
 stub_apart layout old mid t s moved right code ring used apart (Free page inside finds lowest makes) made own =
-    let here : page ≡ moved.place / page_words = (made_stays layout old mid (image_of layout old.flash.words) old.flash.words page t false (Ok moved) right refl code lowest.pool lowest.free makes (λ other pool away. record { free = λ free. free; runs = λ b n holds. holds })).here in
+    let here : page ≡ moved.place / page_words =
+    (made_stays layout old mid (image_of layout old.flash.words) old.flash.words page t false (Ok moved) right refl code lowest.pool lowest.free makes
+    (λ other pool away. record { free = λ free. free; runs = λ b n holds. holds })).here in
     absurd (let both : ◌≡◌ {A = Bool} true false = sym used ∙ ap (is_used old.flash.words) (own ∙ sym here) ∙ free_unused old.flash.words page lowest.free in cc)
 stub_apart layout old mid t s moved right code ring used apart (Full inside finds none recycles) made own =
     let victim = layout.pool_first + ring_of old.sram in
@@ -74,8 +78,10 @@ torn_told None = refl
 torn_told (Some stop) = refl
 
 -- nor is it torn
-pub made_untorn : (layout : Layout) (old new : Store) (t : ℕ) (stub : Option ℕ) (arrival : Arrival) (place : ℕ) → IsRight layout → IsFaithful layout (image_of layout old.flash.words) old.flash.words → ring_of old.sram < layout.pool_pages
-    → CameThrough layout old.flash.words stub t → ArrivesFrom layout old new t stub arrival → arrival.made ≡ true → arrival.place ≡ Some place → IfSome (torn_by arrival.refused) (λ torn. torn.page ≢ place / page_words)
+pub made_untorn : (layout : Layout) (old new : Store) (t : ℕ) (stub : Option ℕ) (arrival : Arrival) (place : ℕ) → IsRight layout → IsFaithful layout (image_of layout old.flash.words) old.flash.words
+    → ring_of old.sram < layout.pool_pages
+    → CameThrough layout old.flash.words stub t → ArrivesFrom layout old new t stub arrival → arrival.made ≡ true → arrival.place ≡ Some place
+    → IfSome (torn_by arrival.refused) (λ torn. torn.page ≢ place / page_words)
 made_untorn layout old new t stub arrival place right code ring came (Stopped refused arrives is) made there = absurd (let e : None ≡ Some place = sym (ap (λ (a : Arrival). a.place) is) ∙ there in cc)
 made_untorn layout old new t stub arrival place right code ring came (Went moved arrives nothing is) made there =
     subst (λ (a : Arrival). IfSome (torn_by a.refused) (λ torn. torn.page ≢ place / page_words)) (sym is) tt
@@ -85,12 +91,14 @@ made_untorn layout old new t stub arrival place right code ring came (Resolved m
     let used = (link_page layout image old.flash.words s t (omega (arith, code.image_length, right.image_fits)) (subst (λ x. CameThrough layout old.flash.words x t) to.same came).link).1 in
     let at : moved.place ≡ place = (let e : Some moved.place ≡ Some place = sym (ap (λ (a : Arrival). a.place) is) ∙ there in cc) in
     let away = subst (λ v. s / page_words ≢ v / page_words) at (stub_apart layout old mid t s moved right code ring used to.apart arrives (sym (ap (λ (a : Arrival). a.made) is) ∙ made)) in
-    let own : IfSome (torn_at stop) (λ torn. torn.page ≡ s / page_words) = subst (λ (p : Performed). IfSome (torn_at p.stop) (λ torn. torn.page ≡ s / page_words)) done (rewriting_torn mid.flash (s / page_words) _) in
+    let own : IfSome (torn_at stop) (λ torn. torn.page ≡ s / page_words) = subst (λ (p : Performed). IfSome (torn_at p.stop) (λ torn. torn.page ≡ s / page_words)) done
+    (rewriting_torn mid.flash (s / page_words) _) in
     let told : torn_at stop ≡ torn_by arrival.refused = sym (ap (λ (a : Arrival). torn_by a.refused) is ∙ torn_told stop) in
     subst (λ torn. IfSome torn (λ torn. torn.page ≢ place / page_words)) told (apart_by (s / page_words) place (torn_at stop) away own)
 
 -- so its entry stands
-pub place_untorn : (image words : List ℕ) (torn : Option Torn) (t place : ℕ) → IsRight (layout_of (length image)) → length words ≡ word_count → IfSome torn (IsTorn (layout_of (length image)) words) → IsMapped (layout_of (length image)) (with_torn words torn)
+pub place_untorn : (image words : List ℕ) (torn : Option Torn) (t place : ℕ) → IsRight (layout_of (length image)) → length words ≡ word_count → IfSome torn (IsTorn (layout_of (length image)) words)
+    → IsMapped (layout_of (length image)) (with_torn words torn)
     → IsEntry (layout_of (length image)) (with_torn words torn) t place → IfSome torn (λ torn. torn.page ≢ place / page_words) → IsPlaceOf image words t place
 place_untorn image words None t place right whole lacks mapped entry apart = place_is image words t place mapped entry
 place_untorn image words (Some torn) t place right whole lacks mapped entry apart =

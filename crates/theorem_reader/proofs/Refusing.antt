@@ -24,7 +24,8 @@ use Rattle.cli_requests.specs.TasksCommand.{Refused}
 use Rattle.tkernel_cli.specs.Answer.{Does}
 use Rattle.tkernel_cli.specs.Runs.{Says}
 use Rattle.tkernel_cli.specs.declared.top.Exit.{Exit}
-use Rattle.theorem_reader.specs.Refusals.{ReadsScript, Runs, Dumps, Restarts, ReadsHex, Scripted, Several, Checks, ReadsText, Program, Source, bad_line, IsUsage, Helped, Unknown, IsRefused, HasUsage, TooLong, BadHex, BadScript, BadScripts, BadImage, BadDump, BadSource, IsSaid, NoMemory, Said, AsksAsm, IsAssembled}
+use Rattle.theorem_reader.specs.Refusals.{ReadsScript, Runs, Dumps, Restarts, ReadsHex, Scripted, Several, Checks, ReadsText, Program, Source, bad_line, IsUsage, Helped, Unknown, IsRefused}
+use Rattle.theorem_reader.specs.Refusals.{HasUsage, TooLong, BadHex, BadScript, BadScripts, BadImage, BadDump, BadSource, IsSaid, AsksAsm, IsAssembled}
 use Rattle.theorem_reader.specs.Texts.{address}
 use Rattle.theorem_reader.proofs.Doing.{IsSoThen, Call, Somehow, so_is, so_then, retold, told_how, told_by}
 
@@ -36,19 +37,25 @@ record Warrants (words : List (List ℕ)) (source source' : Input) (own : ℕ) (
   status_is : number_of status ≡ own
   line_is : items ≡ line
 
-bad_hex : (words : List (List ℕ)) (source source' : Input) (text : List ℕ) (number : ℕ) (fault : HexFault) → Tells source source' text → length text ≤ 2097152 → HexBad text number fault → ReadsHex words
+bad_hex : (words : List (List ℕ)) (source source' : Input) (text : List ℕ) (number : ℕ) (fault : HexFault) → Tells source source' text → length text ≤ 2097152 → HexBad text number fault
+    → ReadsHex words
     → IsWarranted words source source' (jobs.Print statuses.BadInput (record { items = bad_line_text (codes "bad hex line ") number (hex_word fault) }))
 bad_hex words source source' text number fault tells short bad (Scripted (Runs options is)) = inl (Run options, is, (text, tells, inr (short, Bad number (hex_word fault) (fault, bad, refl) refl)))
 bad_hex words source source' text number fault tells short bad (Scripted (Dumps options is)) = inl (Dump options, is, (text, tells, inr (short, Bad number (hex_word fault) (fault, bad, refl) refl)))
-bad_hex words source source' text number fault tells short bad (Scripted (Restarts options is)) = inl (Restart options, is, (text, tells, inr (short, Bad number (hex_word fault) (fault, bad, refl) refl)))
+bad_hex words source source' text number fault tells short bad (Scripted (Restarts options is)) =
+    inl (Restart options, is, (text, tells, inr (short, Bad number (hex_word fault) (fault, bad, refl) refl)))
 bad_hex words source source' text number fault tells short bad (Several options is) = inl (Tasks options, is, (text, tells, inr (short, Bad number (hex_word fault) (fault, bad, refl) refl)))
 bad_hex words source source' text number fault tells short bad (Checks is) = inl (Check, is, (text, tells, inr (short, Bad number (hex_word fault) (fault, bad, refl) refl)))
 
-bad_script : (words : List (List ℕ)) (source source' : Input) (text image : List ℕ) (position number : ℕ) (fault : ScriptFault) → Tells source source' text → length text ≤ 2097152 → HexText text image position → IsBad (drop position text) number fault → ReadsScript words
+bad_script : (words : List (List ℕ)) (source source' : Input) (text image : List ℕ) (position number : ℕ) (fault : ScriptFault) → Tells source source' text → length text ≤ 2097152
+    → HexText text image position → IsBad (drop position text) number fault → ReadsScript words
     → IsWarranted words source source' (jobs.Print statuses.BadInput (record { items = bad_line_text (codes "bad script line ") number (script_word fault) }))
-bad_script words source source' text image position number fault tells short hex bad (Runs options is) = inl (Run options, is, (text, tells, inr (short, Good (image, position) hex (Bad number (script_word fault) (fault, bad, refl) refl))))
-bad_script words source source' text image position number fault tells short hex bad (Dumps options is) = inl (Dump options, is, (text, tells, inr (short, Good (image, position) hex (Bad number (script_word fault) (fault, bad, refl) refl))))
-bad_script words source source' text image position number fault tells short hex bad (Restarts options is) = inl (Restart options, is, (text, tells, inr (short, Good (image, position) hex (Bad number (script_word fault) (fault, bad, refl) refl))))
+bad_script words source source' text image position number fault tells short hex bad (Runs options is) =
+    inl (Run options, is, (text, tells, inr (short, Good (image, position) hex (Bad number (script_word fault) (fault, bad, refl) refl))))
+bad_script words source source' text image position number fault tells short hex bad (Dumps options is) =
+    inl (Dump options, is, (text, tells, inr (short, Good (image, position) hex (Bad number (script_word fault) (fault, bad, refl) refl))))
+bad_script words source source' text image position number fault tells short hex bad (Restarts options is) =
+    inl (Restart options, is, (text, tells, inr (short, Good (image, position) hex (Bad number (script_word fault) (fault, bad, refl) refl))))
 
 too_long : (words : List (List ℕ)) (source source' : Input) (text : List ℕ) → Tells source source' text → 2097152 < length text → ReadsText words
     → IsWarranted words source source' (jobs.Print statuses.BadInput (record { items = codes "input too long\n" }))
@@ -80,27 +87,67 @@ asm_line : (number : ℕ) (fault : AsmFault) → bad_line_text (codes "bad asm l
 unfolding bad_line_text
 asm_line number fault = refl
 
-warrants : (words : List (List ℕ)) (source source' : Input) (text : List ℕ) (own : ℕ) (line : List ℕ) → Tells source source' text → IsRefused words text own line → Warrants words source source' own line
-warrants words source source' text own line tells (TooLong reads long own_is line_is) =
-    record { status = statuses.BadInput; items = _; warranted = too_long words source source' text tells long reads; status_is = sym own_is; line_is = sym line_is }
-warrants words source source' text own line tells (BadHex reads short number fault bad own_is line_is) =
-    record { status = statuses.BadInput; items = _; warranted = bad_hex words source source' text number fault tells short bad reads; status_is = sym own_is; line_is = hex_line number fault ∙ sym line_is }
-warrants words source source' text own line tells (BadScript reads short image position hex number fault bad own_is line_is) =
-    record { status = statuses.BadInput; items = _; warranted = bad_script words source source' text image position number fault tells short hex bad reads; status_is = sym own_is; line_is = script_line number fault ∙ sym line_is }
-warrants words source source' text own line tells (BadScripts options is short image position hex number fault bad own_is line_is) =
-    record { status = statuses.BadInput; items = _; warranted = inl (Tasks options, is, (text, tells, inr (short, Good (image, position) hex (Bad number (script_word fault) (fault, bad, refl) refl)))); status_is = sym own_is; line_is = script_line number fault ∙ sym line_is }
-warrants words source source' text own line tells (BadImage options is short image position hex scripts scheduled a first own_is line_is) =
-    record { status = statuses.BadInput; items = _; warranted = inl (Tasks options, is, (text, tells, inr (short, Good (image, position) hex (Good scripts scheduled (Refused a first refl))))); status_is = sym own_is; line_is = image_line a ∙ sym line_is }
-warrants words source source' text own line tells (BadDump is short image position hex number fault bad own_is line_is) =
-    record { status = statuses.BadInput; items = _; warranted = inl (Check, is, (text, tells, inr (short, Good (image, position) hex (Bad number (dump_word fault) (fault, bad, refl) refl)))); status_is = sym own_is; line_is = dump_line number fault ∙ sym line_is }
-warrants words source source' text own line tells (BadSource is short number fault bad own_is line_is) =
-    record { status = statuses.BadInput; items = _; warranted = inl (Asm, is, (text, tells, inr (short, Bad number (asm_word fault) (fault, bad, refl) refl))); status_is = sym own_is; line_is = asm_line number fault ∙ sym line_is }
+warrants : (words : List (List ℕ)) (source source' : Input) (text line : List ℕ) → Tells source source' text → IsRefused words text line → Warrants words source source' 3 line
+warrants words source source' text line tells (TooLong reads long line_is) =
+    record { status = statuses.BadInput; items = _; warranted = too_long words source source' text tells long reads; status_is = refl; line_is = sym line_is }
+warrants words source source' text line tells (BadHex reads short number fault bad line_is) =
+    record { status = statuses.BadInput; items = _; warranted = bad_hex words source source' text number fault tells short bad reads; status_is = refl; line_is = hex_line number fault ∙ sym line_is }
+warrants words source source' text line tells (BadScript reads image front number fault bad line_is) =
+    record {
+      status = statuses.BadInput;
+      items = _;
+      warranted = bad_script words source source' text image front.position number fault tells front.short front.hex bad reads;
+      status_is =
+          refl;
+      line_is = script_line number fault ∙ sym line_is;
+    }
+warrants words source source' text line tells (BadScripts options is image front number fault bad line_is) =
+    record {
+      status = statuses.BadInput;
+      items = _;
+      warranted =
+          inl (Tasks options, is, (text, tells, inr (front.short, Good (image, front.position) front.hex (Bad number (script_word fault) (fault, bad, refl) refl))));
+      status_is = refl;
+      line_is =
+          script_line number fault ∙ sym line_is;
+    }
+warrants words source source' text line tells (BadImage options is image front scripts scheduled a first line_is) =
+    record {
+      status = statuses.BadInput;
+      items = _;
+      warranted =
+          inl (Tasks options, is, (text, tells, inr (front.short, Good (image, front.position) front.hex (Good scripts scheduled (Refused a first refl)))));
+      status_is = refl;
+      line_is = image_line a
+          ∙ sym line_is;
+    }
+warrants words source source' text line tells (BadDump is image front number fault bad line_is) =
+    record {
+      status = statuses.BadInput;
+      items = _;
+      warranted =
+          inl (Check, is, (text, tells, inr (front.short, Good (image, front.position) front.hex (Bad number (dump_word fault) (fault, bad, refl) refl))));
+      status_is = refl;
+      line_is =
+          dump_line number fault ∙ sym line_is;
+    }
+warrants words source source' text line tells (BadSource is short number fault bad line_is) =
+    record {
+      status = statuses.BadInput;
+      items = _;
+      warranted = inl (Asm, is, (text, tells, inr (short, Bad number (asm_word fault) (fault, bad, refl) refl)));
+      status_is = refl;
+      line_is =
+          asm_line number fault ∙ sym line_is;
+    }
 
 -- a text that is told, and no machine
-pub said_how : (words : List (List ℕ)) (exit : Exit) (status faults : ℕ) (taken : List ℕ) (call : Call words exit status faults taken) (own : Status) (whole : List ℕ) → Says own whole call.sink call.sink' exit.status → exit.kept ≡ None → exit.tasks ≡ None
+pub said_how : (words : List (List ℕ)) (exit : Exit) (status faults : ℕ) (taken : List ℕ) (call : Call words exit status faults taken) (own : Status) (whole : List ℕ)
+    → Says own whole call.sink call.sink' exit.status → exit.kept ≡ None → exit.tasks ≡ None
     → Somehow call.sink call.sink' (λ sink. IsSaid sink (number_of own) whole status taken exit.kept exit.tasks)
 said_how words exit status faults taken call own whole said none alone =
-    so_then call.sink call.sink' _ (λ sink. IsSaid sink (number_of own) whole status taken exit.kept exit.tasks) (λ sink told. Said told none alone) (told_how words exit status faults taken call own whole said)
+    so_then call.sink call.sink' _ (λ sink. IsSaid sink (number_of own) whole status taken exit.kept exit.tasks) (λ sink told. (inr told, none, alone))
+    (told_how words exit status faults taken call own whole said)
 
 -- a line that is warranted is told
 warranted_told : (words : List (List ℕ)) (exit : Exit) (status faults : ℕ) (taken : List ℕ) (call : Call words exit status faults taken) (own : ℕ) (line : List ℕ)
@@ -108,7 +155,7 @@ warranted_told : (words : List (List ℕ)) (exit : Exit) (status faults : ℕ) (
 warranted_told words exit status faults taken call own line w =
     let So : ℕ → List ℕ → Type 0 = λ n whole. IsSoThen faults (λ sink. IsSaid sink n whole status taken exit.kept exit.tasks) in
     subst (λ whole. So own whole) w.line_is (subst (λ n. So n w.items) w.status_is
-    (told_by words exit status faults taken call _ (λ sink. IsSaid sink (number_of w.status) w.items status taken exit.kept exit.tasks) w.warranted (λ sink told none alone. NoMemory told none alone)
+    (told_by words exit status faults taken call _ (λ sink. IsSaid sink (number_of w.status) w.items status taken exit.kept exit.tasks) w.warranted (λ sink told none alone. (inl told, none, alone))
     (λ done. said_how words exit status faults taken call w.status w.items done.0.0 done.0.1 done.1)))
 
 -- the usage line is asked for whether or not there is memory
@@ -132,17 +179,19 @@ usage_told words exit status faults taken call own usage =
     let done = subst (λ j. Does j call.sink call.sink' exit) asked.is call.answer.done in
     so_is words exit status faults taken call (λ sink. HasUsage sink own status taken exit.kept exit.tasks)
     (so_then call.sink call.sink' _ (λ sink. HasUsage sink own status taken exit.kept exit.tasks)
-    (λ sink told. record { told = retold sink _ _ _ _ status taken asked.status_is refl told; none = done.0.1; alone = done.1 })
+    (λ sink told. (retold sink _ _ _ _ status taken asked.status_is refl told, done.0.1, done.1))
     (told_how words exit status faults taken call asked.status usage_line done.0.0))
 
-pub refused_told : (words : List (List ℕ)) (exit : Exit) (status faults : ℕ) (taken : List ℕ) (call : Call words exit status faults taken) (text : List ℕ) → Tells call.source call.source' text → (own : ℕ) (line : List ℕ)
-    → IsRefused words text own line → IsSoThen faults (λ sink. IsSaid sink own line status taken exit.kept exit.tasks)
-refused_told words exit status faults taken call text tells own line refused =
-    warranted_told words exit status faults taken call own line (warrants words call.source call.source' text own line tells refused)
+pub refused_told : (words : List (List ℕ)) (exit : Exit) (status faults : ℕ) (taken : List ℕ) (call : Call words exit status faults taken) (text : List ℕ) → Tells call.source call.source' text
+    → (line : List ℕ)
+    → IsRefused words text line → IsSoThen faults (λ sink. IsSaid sink 3 line status taken exit.kept exit.tasks)
+refused_told words exit status faults taken call text tells line refused =
+    warranted_told words exit status faults taken call 3 line (warrants words call.source call.source' text line tells refused)
 
-pub asm_told_of : (words : List (List ℕ)) (exit : Exit) (status faults : ℕ) (taken : List ℕ) (call : Call words exit status faults taken) (text : List ℕ) → Tells call.source call.source' text → (image : List ℕ)
+pub asm_told_of : (words : List (List ℕ)) (exit : Exit) (status faults : ℕ) (taken : List ℕ) (call : Call words exit status faults taken) (text : List ℕ) → Tells call.source call.source' text
+    → (image : List ℕ)
     → AsksAsm words text image → IsSoThen faults (λ sink. IsAssembled sink image status taken exit.kept exit.tasks)
 asm_told_of words exit status faults taken call text tells image asks =
     told_by words exit status faults taken call _ (λ sink. IsAssembled sink image status taken exit.kept exit.tasks)
     (inl (Asm, asks.command, (text, tells, inr (asks.short, Good image (asks.faultless, asks.source) refl))))
-    (λ sink told none alone. NoMemory told none alone) (λ done. said_how words exit status faults taken call statuses.Done (written image) done.0.0 done.0.1 done.1)
+    (λ sink told none alone. (inl told, none, alone)) (λ done. said_how words exit status faults taken call statuses.Done (written image) done.0.0 done.0.1 done.1)

@@ -1,5 +1,6 @@
 -- The texts are those of the crates below, letter by letter.
-use Rattle.std.proofs.Common.{◌≡◌, ℕ, ◌/◌, List, [], ◌∷◌, ◌++◌, flat_map, codes, decimal, refl, ap, ap₂, ◌∙◌}
+use Rattle.std.proofs.Common.{◌≡◌, ℕ, ◌/◌, List, [], ◌∷◌, ◌++◌, flat_map, codes, decimal, refl, sym, ap, ap₂, ◌∙◌}
+use Rattle.std.proofs.lemmas.List.{append_assoc}
 use Rattle.mote_devices.specs.declared.line.Line.{Line}
 use Rattle.mote_devices.specs.declared.line.Port.{Port}
 use Rattle.mote_devices.specs.declared.line.Port.TheVariants.{PortA}
@@ -14,7 +15,7 @@ use Rattle.tkernel_cli.specs.Runs.{count_line_of, status_of_end}
 use Rattle.cli_words.specs.Status.{number_of}
 use Rattle.printed_text.specs.Counts.{count_text}
 use Rattle.theorem_reader.specs.Texts.{port_word, device_line, end_words, stop_line, count_line, end_status}
-use Rattle.theorem_reader.specs.Runs.{text_of}
+use Rattle.theorem_reader.specs.Runs.{last_lines}
 
 port_same : (port : Port) → port_name port ≡ port_word port
 port_same PortA = refl
@@ -44,16 +45,23 @@ flash_same : (op steps checkpoints : ℕ) → end_line (ends.Flash op) steps che
 unfolding end_line
 flash_same op steps checkpoints = refl
 
-run_same : (r : Run) (stop how : List ℕ) (quantum : ℕ) (m : Machine) → stop ≡ stop_line how r.state.now.steps (r.state.now.crossings / quantum) → lines_text r.lines ++ stop ++ count_line_of m ≡ text_of r how quantum m
-run_same r stop how quantum m is =
-    ap₂ (λ lines rest. lines ++ rest ++ count_line_of m) (lines_same r.lines) is
-    ∙ ap (λ count. flat_map device_line r.lines ++ stop_line how r.state.now.steps (r.state.now.crossings / quantum) ++ count) (count_same m)
+run_same : (front : List ℕ) (r : Run) (stop how : List ℕ) (quantum : ℕ) (m : Machine) → stop ≡ stop_line how r.state.now.steps (r.state.now.crossings / quantum)
+    → front ++ (lines_text r.lines ++ stop ++ count_line_of m) ≡ (front ++ flat_map device_line r.lines) ++ last_lines r how quantum m
+run_same front r stop how quantum m is =
+    ap₂ (λ lines rest. front ++ (lines ++ rest ++ count_line_of m)) (lines_same r.lines) is
+    ∙ ap (λ count. front ++ (flat_map device_line r.lines ++ stop_line how r.state.now.steps (r.state.now.crossings / quantum) ++ count)) (count_same m)
+    ∙ ap (λ text. front ++ text) (append_assoc (flat_map device_line r.lines) (stop_line how r.state.now.steps (r.state.now.crossings / quantum)) (count_line m))
+    ∙ sym (append_assoc front (flat_map device_line r.lines) (last_lines r how quantum m))
 
-pub ended_same : (r : Run) (quantum : ℕ) (m : Machine) → lines_text r.lines ++ stop_text r.end r.state.now.steps (r.state.now.crossings / quantum) ++ count_line_of m ≡ text_of r (end_words r.end) quantum m
-ended_same r quantum m = run_same r _ (end_words r.end) quantum m (stop_same r.end r.state.now.steps (r.state.now.crossings / quantum))
+pub ended_same : (front : List ℕ) (r : Run) (quantum : ℕ) (m : Machine)
+    → front ++ (lines_text r.lines ++ stop_text r.end r.state.now.steps (r.state.now.crossings / quantum) ++ count_line_of m)
+    ≡ (front ++ flat_map device_line r.lines) ++ last_lines r (end_words r.end) quantum m
+ended_same front r quantum m = run_same front r _ (end_words r.end) quantum m (stop_same r.end r.state.now.steps (r.state.now.crossings / quantum))
 
-pub failed_same : (r : Run) (op quantum : ℕ) (m : Machine) → m.steps ≡ r.state.now.steps → lines_text r.lines ++ end_line (ends.Flash op) m.steps (r.state.now.crossings / quantum) ++ count_line_of m ≡ text_of r (codes "flash fault " ++ decimal op) quantum m
-failed_same r op quantum m steps = run_same r _ (codes "flash fault " ++ decimal op) quantum m
+pub failed_same : (r : Run) (op quantum : ℕ) (m : Machine) → m.steps ≡ r.state.now.steps
+    → lines_text r.lines ++ end_line (ends.Flash op) m.steps (r.state.now.crossings / quantum) ++ count_line_of m
+    ≡ flat_map device_line r.lines ++ last_lines r (codes "flash fault " ++ decimal op) quantum m
+failed_same r op quantum m steps = run_same [] r _ (codes "flash fault " ++ decimal op) quantum m
     (ap (λ n. end_line (ends.Flash op) n (r.state.now.crossings / quantum)) steps ∙ flash_same op r.state.now.steps (r.state.now.crossings / quantum))
 
 pub status_same : (end : End) → number_of (status_of_end end) ≡ end_status end

@@ -1,5 +1,6 @@
 -- What each service is, as an act, and how it ends.
-use Rattle.std.proofs.Common.{◌≡◌, ◌≢◌, ℕ, ◌+◌, ◌≤◌, Bool, true, false, nat_le, if◌then◌else◌, ◌%◌, ◌-◌, slice_index, List, [], ◌∷◌, length, Option, Some, None, refl, sym, ap, ◌∙◌, subst, arith, ◌⊎◌, ◌<◌, inl, inr, slice_set}
+use Rattle.std.proofs.Common.{◌≡◌, ◌≢◌, ℕ, ◌+◌, ◌≤◌, Bool, true, false, nat_le, if◌then◌else◌, ◌%◌, ◌-◌, slice_index, List, [], ◌∷◌, length, Option, Some, None, refl, sym, ap, ◌∙◌, subst, arith}
+use Rattle.std.proofs.Common.{◌⊎◌, ◌<◌, inl, inr, slice_set}
 use Rattle.sram_layout.specs.Bytes.{byte_at, with_byte, data_word_at, with_word}
 use Rattle.mote_devices.specs.declared.line.Line.{Line}
 use Rattle.mote_core.specs.declared.mote.Mote.{Mote}
@@ -20,7 +21,8 @@ use Rattle.preempt_count.proofs.CountLaws.{byte_crossed, count_crossed}
 use Rattle.kernel_entry.specs.declared.kernel.Served.{Served}
 use Rattle.kernel_entry.specs.declared.kernel.Stop.{Stop}
 use Rattle.kernel_entry.specs.declared.kernel.Stop.TheVariants.{Asleep, Halted, Read}
-use Rattle.kernel_entry.specs.Services.{served, slept, slept_by, is_sleep, faulted, fault_of, foreign_read, read_by, accessed, executed, execution, execution_by, if_instruction, resumed_by, resumed, gone_by, gone}
+use Rattle.kernel_entry.specs.Services.{served, slept, slept_by, is_sleep, faulted, fault_of, foreign_read, read_by, accessed, executed, execution, execution_by, if_instruction, resumed_by, resumed}
+use Rattle.kernel_entry.specs.Services.{gone_by, gone}
 use Rattle.kernel_entry.specs.Rows.{HasStopped, Resumes, Goes, ExecutedBy, ReadBy, PushedBy, PoppedBy, CalledBy, GoneThrough, LoopsOrHalts}
 use Rattle.kernel_entry.specs.declared.kernel.Kernel.{Kernel}
 use Rattle.kernel_entry.specs.Conditions.{CanServe, AtBridge, AtQuantum, AtMem, AtPushReturn, AtReturn, AtIndirect, AtSelf, AtFault}
@@ -30,7 +32,7 @@ use Rattle.avr_exec.specs.Likeness.{Leaves as LeavesSpace}
 use Rattle.mem_guard.specs.Guarded.{Guarded}
 use Rattle.heap_frames.specs.Paged.{IsPaged}
 use Rattle.kernel_entry.specs.Seen.{View, view_of, view_by, space_of, count_of}
-use Rattle.theorem_reader.specs.Memory.{HasMemory}
+use Rattle.theorem_reader.specs.Memory.{core_at, HasMemory}
 use Rattle.theorem_reader.proofs.Holding.{has_memory}
 use Rattle.kernel_entry.specs.Parts.{core_of, image_held, descriptor, instruction, rested}
 use Rattle.sram_layout.specs.Cells.{vsp_cell}
@@ -38,7 +40,8 @@ use Rattle.sram_layout.proofs.Laws.{byte_other, byte_out_of_word}
 use Rattle.kernel_entry.specs.Left.{Leaves, LeavesHeap}
 use Rattle.kernel_entry.proofs.LeftLaws.{Kept, kept}
 use Rattle.kernel_entry.proofs.RowLaws.{flatly, ResumedBy, resumes_row, WentBy, goes_row}
-use Rattle.kernel_entry.proofs.ServedLaws.{served_leaves, served_leaves_heap, at_entry, along, serving, looped_as, bridge_row, mem_row, push_row, return_row, indirect_row, self_entry_row, slept_is, faulted_is}
+use Rattle.kernel_entry.proofs.ServedLaws.{served_leaves, served_leaves_heap, at_entry, along, serving, looped_as, bridge_row, mem_row, push_row, return_row, indirect_row, self_entry_row, slept_is}
+use Rattle.kernel_entry.proofs.ServedLaws.{faulted_is}
 use Rattle.step_laws.proofs.ServiceMoves.{kernel_served}
 use Rattle.step_laws.specs.States.{State, is_stop, line_served, mote_of}
 use Rattle.step_laws.specs.Walks.{MakesServe}
@@ -65,15 +68,19 @@ unfolding byte_at
 slept_sleeps k None some is = Stays refl refl
 slept_sleeps k (Some devices) some is =
     let to = wrapping_sum (descriptor k) 1 in
-    Wakes refl devices is (λ a low. byte_crossed k.quantum (descriptor k) to a k.mote.sram (omega (arith, low)) (λ e. omega (arith, e, low))) refl (count_crossed k.quantum (descriptor k) to k.mote.sram some)
+    Wakes refl devices is (λ a low. byte_crossed k.quantum (descriptor k) to a k.mote.sram (omega (arith, low)) (λ e. omega (arith, e, low))) refl
+    (count_crossed k.quantum (descriptor k) to k.mote.sram some)
 
 slept_by_status : (k : Kernel) (b : Bool) → 0 < length k.mote.sram → has_bit k.mote.cpu.sreg interrupts ≡ b → Sleeps k.quantum (is_stop (slept k).0) k.mote (slept k).1.mote
-slept_by_status k true some on = along (λ result new. Sleeps k.quantum (is_stop result) k.mote new.mote) (slept k) (slept_by k (wake k.mote.devices)) (slept_is k true on) (slept_sleeps k (wake k.mote.devices) some refl)
-slept_by_status k false some off = along (λ result new. Sleeps k.quantum (is_stop result) k.mote new.mote) (slept k) (Served.Stopped (Asleep (descriptor k)), rested k) (slept_is k false off) (Stays refl refl)
+slept_by_status k true some on = along (λ result new. Sleeps k.quantum (is_stop result) k.mote new.mote) (slept k) (slept_by k (wake k.mote.devices)) (slept_is k true on)
+    (slept_sleeps k (wake k.mote.devices) some refl)
+slept_by_status k false some off = along (λ result new. Sleeps k.quantum (is_stop result) k.mote new.mote) (slept k) (Served.Stopped (Asleep (descriptor k)), rested k) (slept_is k false off)
+    (Stays refl refl)
 
 faulted_sleeps : (k : Kernel) (b : Bool) → 0 < length k.mote.sram → is_sleep (instruction k) ≡ b → Sleeps k.quantum (is_stop (faulted k).0) k.mote (faulted k).1.mote
 faulted_sleeps k true some is = along (λ result new. Sleeps k.quantum (is_stop result) k.mote new.mote) (faulted k) (slept k) (faulted_is k true is) (slept_by_status k _ some refl)
-faulted_sleeps k false some is = along (λ result new. Sleeps k.quantum (is_stop result) k.mote new.mote) (faulted k) (Served.Stopped (fault_of (descriptor k) (instruction k)), rested k) (faulted_is k false is) (Stays refl refl)
+faulted_sleeps k false some is = along (λ result new. Sleeps k.quantum (is_stop result) k.mote new.mote) (faulted k) (Served.Stopped (fault_of (descriptor k) (instruction k)), rested k)
+    (faulted_is k false is) (Stays refl refl)
 
 sleeps_at : (k : Kernel) → 0 < length k.mote.sram → k.mote.cpu.pc ≡ 0xF00E → Sleeps k.quantum (is_stop (served k).0) k.mote (served k).1.mote
 sleeps_at k some at = along (λ result new. Sleeps k.quantum (is_stop result) k.mote new.mote) (served k) (faulted k) (at_entry k fault_entry at) (faulted_sleeps k _ some refl)
@@ -226,33 +233,42 @@ record Ran (k new : Kernel) (result : Served) : Type 0 where
 abbrev CountBehind : Kernel → Bool → (to : ℕ) → ℕ
 CountBehind k stays to = if stays then count_of k else count_over k.quantum (descriptor k) to (count_of k)
 
-done_by : (k new : Kernel) (result : Served) (form : Form) (core : Cpu) (space : FlatSpace) → is_stop result ≡ false → line_served result ≡ (if nat_le k.mote.cpu.pc 0xF007 then space.line else None) → IsPaged k.mote.sram k.mote.swap → IsPaged new.mote.sram new.mote.swap → instruction k ≡ Some form → flatly k form ≡ Went core space → view_of new ≡ view_by core space
+done_by : (k new : Kernel) (result : Served) (form : Form) (core : Cpu) (space : FlatSpace) → is_stop result ≡ false → line_served result ≡ (if nat_le k.mote.cpu.pc 0xF007 then space.line else None)
+    → IsPaged k.mote.sram k.mote.swap → IsPaged new.mote.sram new.mote.swap → instruction k ≡ Some form → flatly k form ≡ Went core space → view_of new ≡ view_by core space
     → count_of new ≡ CountBehind k (nat_le k.mote.cpu.pc 0xF007) core.pc → Executes (image_held k) k.quantum (line_served result) (is_stop result) k.mote new.mote
 unfolding byte_at data_word_at
 done_by k new result form core space going line paged paged' is executed view count =
-    Done going form core (space_of k) space line is (has_memory k.mote paged) refl refl refl executed (ap (λ (v : View). v.registers) view) (ap (λ (v : View). v.status) view) (ap (λ (v : View). v.stack_pointer) view)
-    (subst (HasMemory new.mote) (ap (λ (v : View). v.memory) view) (has_memory new.mote paged')) (ap (λ (v : View). v.devices) view) count
+    let there : core ≡ core_at new.mote core.pc = ap (λ (v : View). record { r = v.registers; sreg = v.status; sp = v.stack_pointer; pc = core.pc }) (sym view) in
+    Done going form core.pc (space_of k) space is (has_memory k.mote paged) refl refl refl (executed ∙ ap (λ (c : Cpu). Went c space) there)
+    (subst (HasMemory new.mote) (ap (λ (v : View). v.memory) view) (has_memory new.mote paged')) (ap (λ (v : View). v.devices) view) line count
 
-resumes_by : (k new : Kernel) (result : Served) (form : Form) (ask : Ask) (outcome : Outcome FlatSpace Cpu) → IsPaged k.mote.sram k.mote.swap → IsPaged new.mote.sram new.mote.swap → instruction k ≡ Some form → flatly k form ≡ outcome
+resumes_by : (k new : Kernel) (result : Served) (form : Form) (ask : Ask) (outcome : Outcome FlatSpace Cpu) → IsPaged k.mote.sram k.mote.swap → IsPaged new.mote.sram new.mote.swap
+    → instruction k ≡ Some form → flatly k form ≡ outcome
     → nat_le k.mote.cpu.pc 0xF007 ≡ true → ResumedBy k result new ask outcome → Executes (image_held k) k.quantum (line_served result) (is_stop result) k.mote new.mote
 resumes_by k new result form ask (Went core space) paged paged' is executed low does =
-    done_by k new result form core space (ap is_stop does.0.answer) (ap line_served does.0.answer ∙ ap (λ b. if b then space.line else None) (sym low)) paged paged' is executed does.0.view (does.0.count ∙ ap (λ b. CountBehind k b core.pc) (sym low))
+    done_by k new result form core space (ap is_stop does.0.answer) (ap line_served does.0.answer ∙ ap (λ b. if b then space.line else None) (sym low)) paged paged' is executed does.0.view
+    (does.0.count ∙ ap (λ b. CountBehind k b core.pc) (sym low))
 resumes_by k new result form ask (Stopped stop) paged paged' is executed low does = Ends (ap is_stop does.answer) (ap line_served does.answer) (ap (λ (n : Kernel). n.mote) does.stays)
 
-goes_by : (k new : Kernel) (result : Served) (form : Form) (outcome : Outcome FlatSpace Cpu) → IsPaged k.mote.sram k.mote.swap → IsPaged new.mote.sram new.mote.swap → instruction k ≡ Some form → flatly k form ≡ outcome
+goes_by : (k new : Kernel) (result : Served) (form : Form) (outcome : Outcome FlatSpace Cpu) → IsPaged k.mote.sram k.mote.swap → IsPaged new.mote.sram new.mote.swap → instruction k ≡ Some form
+    → flatly k form ≡ outcome
     → nat_le k.mote.cpu.pc 0xF007 ≡ false → WentBy k result new outcome → Executes (image_held k) k.quantum (line_served result) (is_stop result) k.mote new.mote
 goes_by k new result form (Went core space) paged paged' is executed high does =
-    done_by k new result form core space (ap is_stop does.answer) (ap line_served does.answer ∙ ap (λ b. if b then space.line else None) (sym high)) paged paged' is executed does.view (does.count ∙ ap (λ b. CountBehind k b core.pc) (sym high))
+    done_by k new result form core space (ap is_stop does.answer) (ap line_served does.answer ∙ ap (λ b. if b then space.line else None) (sym high)) paged paged' is executed does.view
+    (does.count ∙ ap (λ b. CountBehind k b core.pc) (sym high))
 goes_by k new result form (Stopped stop) paged paged' is executed high does = Ends (ap is_stop does.answer) (ap line_served does.answer) (ap (λ (n : Kernel). n.mote) does.stays)
 
-resumed_cells : (k : Kernel) (ask : Ask) (o : Outcome Guarded Cpu) (a : ℕ) → 0x0101 ≤ a → a ≤ 0x011F → a ≢ 0x0103 → a ≢ 0x0104 → LeavesSpace (Kept k ask) o → byte_at (resumed_by k (execution_by k o).0 (execution_by k o).1).1.mote.sram a ≡ byte_at k.mote.sram a
+resumed_cells : (k : Kernel) (ask : Ask) (o : Outcome Guarded Cpu) (a : ℕ) → 0x0101 ≤ a → a ≤ 0x011F → a ≢ 0x0103 → a ≢ 0x0104 → LeavesSpace (Kept k ask) o
+    → byte_at (resumed_by k (execution_by k o).0 (execution_by k o).1).1.mote.sram a ≡ byte_at k.mote.sram a
 resumed_cells k ask (Went core memory) a low high first second left =
     byte_out_of_word memory.sram vsp_cell a core.sp (omega arith) (omega (arith, low)) first second ∙ left.0.cells a (omega (arith, low)) (omega (arith, high))
 resumed_cells k ask (Stopped stop) a low high first second left = refl
 
-gone_cells : (k : Kernel) (ask : Ask) (o : Outcome Guarded Cpu) (a : ℕ) → 0x0101 ≤ a → a ≤ 0x011F → a ≢ 0x0103 → a ≢ 0x0104 → LeavesSpace (Kept k ask) o → byte_at (gone_by k (execution_by k o).0 (execution_by k o).1).1.mote.sram a ≡ byte_at k.mote.sram a
+gone_cells : (k : Kernel) (ask : Ask) (o : Outcome Guarded Cpu) (a : ℕ) → 0x0101 ≤ a → a ≤ 0x011F → a ≢ 0x0103 → a ≢ 0x0104 → LeavesSpace (Kept k ask) o
+    → byte_at (gone_by k (execution_by k o).0 (execution_by k o).1).1.mote.sram a ≡ byte_at k.mote.sram a
 gone_cells k ask (Went core memory) a low high first second left =
-    byte_crossed k.quantum (descriptor k) core.pc a (with_word memory.sram vsp_cell core.sp) (omega (arith, low)) (λ e. omega (arith, e, low)) ∙ resumed_cells k ask (Went core memory) a low high first second left
+    byte_crossed k.quantum (descriptor k) core.pc a (with_word memory.sram vsp_cell core.sp) (omega (arith, low)) (λ e. omega (arith, e, low))
+    ∙ resumed_cells k ask (Went core memory) a low high first second left
 gone_cells k ask (Stopped stop) a low high first second left = refl
 
 -- at MEM and PUSHRET rewritten code counts, and behind them the service
@@ -263,7 +279,8 @@ early k (inr at) = ap (λ n. nat_le n 0xF007) at
 late : (k : Kernel) → 0xF008 ≤ k.mote.cpu.pc → nat_le k.mote.cpu.pc 0xF007 ≡ false
 late k high = grind (arith, nat_tests)
 
-resumes_is : (k : Kernel) (can : CanServe k) (form : Form) → IsPaged k.mote.sram k.mote.swap → instruction k ≡ Some form → nat_le k.mote.cpu.pc 0xF007 ≡ true → served k ≡ resumed k → Ran k (served k).1 (served k).0
+resumes_is : (k : Kernel) (can : CanServe k) (form : Form) → IsPaged k.mote.sram k.mote.swap → instruction k ≡ Some form → nat_le k.mote.cpu.pc 0xF007 ≡ true → served k ≡ resumed k
+    → Ran k (served k).1 (served k).0
 unfolding resumed
 resumes_is k can form paged is low at =
     let ask = ask_of form (core_of k (descriptor k)) in
@@ -275,7 +292,8 @@ resumes_is k can form paged is low at =
       cells = λ a from to first second. resumed_cells k ask (executed k form) a from to first second (kept k form paged);
     }) ((served_leaves k can).paged paged)
 
-goes_is : (k : Kernel) (can : CanServe k) (form : Form) → IsPaged k.mote.sram k.mote.swap → instruction k ≡ Some form → nat_le k.mote.cpu.pc 0xF007 ≡ false → served k ≡ gone k → Ran k (served k).1 (served k).0
+goes_is : (k : Kernel) (can : CanServe k) (form : Form) → IsPaged k.mote.sram k.mote.swap → instruction k ≡ Some form → nat_le k.mote.cpu.pc 0xF007 ≡ false → served k ≡ gone k
+    → Ran k (served k).1 (served k).0
 unfolding gone
 goes_is k can form paged is low at =
     let ask = ask_of form (core_of k (descriptor k)) in
@@ -291,12 +309,14 @@ goes_is k can form paged is low at =
 rests : (k : Kernel) (result : Served) → is_stop result ≡ true → line_served result ≡ None → served k ≡ (result, rested k) → Ran k (served k).1 (served k).0
 rests k result over none is = along (λ answer new. Ran k new answer) (served k) (result, rested k) is (record { executes = Ends over none refl; cells = λ a low high first second. refl })
 
-reads_at : (k : Kernel) (can : CanServe k) (form : Form) → IsPaged k.mote.sram k.mote.swap → instruction k ≡ Some form → k.mote.cpu.pc ≡ 0xF004 → (foreign : Option ℕ) → foreign_read k ≡ foreign → Ran k (served k).1 (served k).0
+reads_at : (k : Kernel) (can : CanServe k) (form : Form) → IsPaged k.mote.sram k.mote.swap → instruction k ≡ Some form → k.mote.cpu.pc ≡ 0xF004 → (foreign : Option ℕ) → foreign_read k ≡ foreign
+    → Ran k (served k).1 (served k).0
 unfolding accessed
 reads_at k can form paged is at None own = resumes_is k can form paged is (early k (inl at)) (at_entry k mem_entry at ∙ ap (read_by k) own)
 reads_at k can form paged is at (Some a) foreign = rests k (Served.Stopped (Read (descriptor k) a)) refl refl (at_entry k mem_entry at ∙ ap (read_by k) foreign)
 
-loops_at : (k : Kernel) (can : CanServe k) (form : Form) → IsPaged k.mote.sram k.mote.swap → instruction k ≡ Some form → k.mote.cpu.pc ≡ 0xF00C → (b : Bool) → has_bit k.mote.cpu.sreg interrupts ≡ b → Ran k (served k).1 (served k).0
+loops_at : (k : Kernel) (can : CanServe k) (form : Form) → IsPaged k.mote.sram k.mote.swap → instruction k ≡ Some form → k.mote.cpu.pc ≡ 0xF00C → (b : Bool) → has_bit k.mote.cpu.sreg interrupts ≡ b
+    → Ran k (served k).1 (served k).0
 loops_at k can form paged is at true on = goes_is k can form paged is (late k (omega (arith, at))) (at_entry k self_entry at ∙ looped_as k true on)
 loops_at k can form paged is at false off = rests k (Served.Stopped (Halted (descriptor k))) refl refl (at_entry k self_entry at ∙ looped_as k false off)
 
@@ -410,15 +430,18 @@ served_as k can = record {
   refilled = quantum_is k;
 }
 
-pub service_is : (image : List ℕ) (quantum : ℕ) (x y : State) (line : Option Line) (stops : Bool) → image_held x.kernel ≡ image → x.kernel.quantum ≡ quantum → MakesServe x line stops y → IsService image quantum line stops (mote_of x) (mote_of y)
+pub service_is : (image : List ℕ) (quantum : ℕ) (x y : State) (line : Option Line) (stops : Bool) → image_held x.kernel ≡ image → x.kernel.quantum ≡ quantum → MakesServe x line stops y
+    → IsService image quantum line stops (mote_of x) (mote_of y)
 unfolding byte_at
 service_is image quantum x y line stops held counts makes =
     let at = at_an_entry x.kernel makes.can in
     let leaves = subst (Leaves x.kernel) (sym (kernel_served x y line stops makes)) (served_leaves x.kernel makes.can) in
     let there : ServedAs x.kernel y.kernel (line_served (served x.kernel).0) (is_stop (served x.kernel).0) =
     subst (λ (k : Kernel). ServedAs x.kernel k (line_served (served x.kernel).0) (is_stop (served x.kernel).0)) (sym (kernel_served x y line stops makes)) (served_as x.kernel makes.can) in
-    let told : ServedAs x.kernel y.kernel line stops = subst (ServedAs x.kernel y.kernel line) makes.halts (subst (λ (l : Option Line). ServedAs x.kernel y.kernel l (is_stop (served x.kernel).0)) makes.written there) in
-    let heap : x.kernel.mote.cpu.pc ≢ 0xF004 → LeavesHeap x.kernel y.kernel = λ other. subst (LeavesHeap x.kernel) (sym (kernel_served x y line stops makes)) (served_leaves_heap x.kernel makes.can other) in
+    let told : ServedAs x.kernel y.kernel line stops = subst (ServedAs x.kernel y.kernel line) makes.halts
+    (subst (λ (l : Option Line). ServedAs x.kernel y.kernel l (is_stop (served x.kernel).0)) makes.written there) in
+    let heap : x.kernel.mote.cpu.pc ≢ 0xF004 → LeavesHeap x.kernel y.kernel = λ other. subst (LeavesHeap x.kernel) (sym (kernel_served x y line stops makes))
+    (served_leaves_heap x.kernel makes.can other) in
     record {
       low = at.0;
       high = at.1;
@@ -426,19 +449,24 @@ service_is image quantum x y line stops held counts makes =
       stack = leaves.stack;
       resumed = told.resumed;
       stays = told.stays;
-      bridge = told.bridge;
-      going = told.going;
-      silent = told.silent;
-      refilled = λ at. told.refilled at ∙ ap (λ q. record (mote_of x) {
-        cpu = record (mote_of x).cpu { r = slice_set (mote_of x).cpu.r 24 (slice_index (mote_of x).sram 1); sreg = slice_index (mote_of x).sram 2; sp = 0x011F };
-        sram = slice_set (mote_of x).sram 0 q;
-      }) counts;
+      bridge = λ at. (told.going (omega (arith, at)), told.silent (inl (omega (arith, at))), told.bridge at);
+      refilled = λ at. (
+        told.going (omega (arith, at)),
+        told.silent (inl (omega (arith, at))),
+        told.refilled at ∙ ap (λ q. record (mote_of x) {
+          cpu = record (mote_of x).cpu { r = slice_set (mote_of x).cpu.r 24 (slice_index (mote_of x).sram 1); sreg = slice_index (mote_of x).sram 2; sp = 0x011F };
+          sram = slice_set (mote_of x).sram 0 q;
+        }) counts,
+      );
       registers = told.registers;
-      executes = λ low high. subst (λ q. Executes image q line stops (mote_of x) (mote_of y)) counts (subst (λ i. Executes i x.kernel.quantum line stops (mote_of x) (mote_of y)) held (told.executes low high));
-      sleeps = λ low. subst (λ q. Sleeps q stops (mote_of x) (mote_of y)) counts (told.sleeps low);
-      cells = told.cells;
+      executes = λ low high. subst (λ q. Executes image q line stops (mote_of x) (mote_of y)) counts
+          (subst (λ i. Executes i x.kernel.quantum line stops (mote_of x) (mote_of y)) held (told.executes low high));
+      sleeps = λ low. (told.silent (inr low), subst (λ q. Sleeps q stops (mote_of x) (mote_of y)) counts (told.sleeps low));
+      cells = (
+        λ a low high. told.cells a low (omega (arith, high)) (λ e. omega (arith, e, high)) (λ e. omega (arith, e, high)),
+        λ a low high. told.cells a (omega (arith, low)) high (λ e. omega (arith, e, low)) (λ e. omega (arith, e, low)),
+        λ a low high. leaves.tables a low (omega arith),
+      );
       flash = leaves.flash;
-      tables = λ a low high. leaves.tables a low (omega arith);
-      swap = λ other. (heap other).swap;
-      heap = λ a other low high. (heap other).frames a low (omega arith);
+      heap = λ other. ((heap other).swap, λ a low high. (heap other).frames a low (omega arith));
     }

@@ -1,5 +1,6 @@
 -- What `tasks` answers.
-use Rattle.std.proofs.Common.{◌≡◌, ◌≢◌, ℕ, zero, suc, ◌+◌, ◌-◌, ◌*◌, ◌/◌, ◌≤◌, ◌<◌, max, eqb, cond, Bool, true, false, not, List, [], ◌∷◌, ◌++◌, map, length, Option, Some, None, codes, refl, sym, ap, ap₂, ◌∙◌, subst, arith, inl, inr, ◌⊎◌}
+use Rattle.std.proofs.Common.{◌≡◌, ◌≢◌, ℕ, zero, suc, ◌+◌, ◌-◌, ◌*◌, ◌/◌, ◌≤◌, ◌<◌, max, eqb, cond, Bool, true, false, not, List, [], ◌∷◌, ◌++◌, map, length, Option, Some, None, codes, refl, sym}
+use Rattle.std.proofs.Common.{ap, ap₂, ◌∙◌, subst, arith, inl, inr, ◌⊎◌}
 use Rattle.std.specs.Prelude.{All, is_some, nat_lt, slice_get}
 use Rattle.std.specs.List.{range_with_len, find}
 use Rattle.std.proofs.lemmas.Bool.{cases_eq}
@@ -18,7 +19,8 @@ use Rattle.task_input.specs.Images.{task_words}
 use Rattle.tk_tasks.specs.Plays.{shown_text, told_text, told_of}
 use Rattle.tk_tasks.specs.States.{Tasks, player_of, turns_of}
 use Rattle.parked_tasks.specs.Ends.{flat_end, flat_end_of}
-use Rattle.task_turns.specs.Turns.{Player, Turns, Told, Shown, Wrote, Stops, After, others, has_ended, ends_of, next_in, changed_to, with_player, once, continued, go_on, tries, turns, shown_by, own_told}
+use Rattle.task_turns.specs.Turns.{Player, Turns, Told, Shown, Wrote, Stops, After, others, has_ended, ends_of, next_in, changed_to, with_player, once, continued, go_on, tries, turns, shown_by}
+use Rattle.task_turns.specs.Turns.{own_told}
 use Rattle.task_turns.proofs.Isolation.{once_follows}
 use Rattle.cli_words.specs.declared.command.Command.TheVariants.{Tasks as TasksCommand}
 use Rattle.cli_words.specs.declared.status.Status.{Status}
@@ -31,7 +33,8 @@ use Rattle.cli_words.specs.Status.{number_of}
 use Rattle.cli_requests.specs.TasksCommand.{Placed}
 use Rattle.tkernel_cli.specs.TasksRuns.{RunsTasks, RunsTasksToTheEnd, EachIsAlone, run_of_task, all_told, turns_by, start_by, worse, worst, status_of_task}
 use Rattle.printed_text.specs.Counts.{tasks_count_text}
-use Rattle.theorem_reader.specs.Tasks.{AskedTasks, AsksTasks, tasks_options_of, image_of, events_of, alone_of, lines_alone, Printed, printed_text, line_shown, printed_by, lines_of_task, last_line, greatest, worst_status, AreApart, AreRun, NoMemory, Ended, Cut, reset_of, in_turn}
+use Rattle.theorem_reader.specs.Tasks.{AskedTasks, AsksTasks, tasks_options_of, image_of, events_of, alone_of, lines_alone, Printed, printed_text, line_shown, printed_by, lines_of_task, last_line}
+use Rattle.theorem_reader.specs.Tasks.{greatest, worst_status, AreApart, AreRun, NoMemory, Ended, Cut, reset_of, in_turn}
 use Rattle.theorem_reader.specs.Telling.{Fails}
 use Rattle.theorem_reader.specs.Texts.{end_status}
 use Rattle.theorem_reader.proofs.Doing.{IsSoThen, Call, Somehow, so_then, past_by, retold, cut_by, told_how, told_by}
@@ -77,7 +80,8 @@ words_alone part f g a (suc n) same = ap₂ (λ w (words : List ℕ). w ∷ word
 
 image_alone : (asked : AskedTasks) (task : ℕ) → masked (quarter_part task) (task_words asked.count asked.image) ≡ image_of asked task
 image_alone asked task =
-    words_alone (quarter_part task) (word asked.image) (λ a. cond (eqb (a / 4096) task) (word asked.image a) 0xFFFF) 0 (4096 * asked.count) (λ a. ap (λ own. cond own (word asked.image a) 0xFFFF) (in_quarter task a))
+    words_alone (quarter_part task) (word asked.image) (λ a. cond (eqb (a / 4096) task) (word asked.image a) 0xFFFF) 0 (4096 * asked.count)
+    (λ a. ap (λ own. cond own (word asked.image a) 0xFFFF) (in_quarter task a))
 
 run_alone : (asked : AskedTasks) (task : ℕ) → own_run asked task ≡ alone_of asked task
 run_alone asked task =
@@ -100,7 +104,7 @@ last_same natural entries pages switches = refl
 
 -- of one program
 one_more : (own : Bool) (quantum : ℕ) (shown : Shown) (others : List Shown) (lines : List (List ℕ)) → lines ≡ map (line_shown quantum) others
-    → cond own (line_shown quantum shown ∷ lines) lines ≡ map (line_shown quantum) (cond own (shown ∷ others) others)
+    → cond own (line_shown quantum shown ∷ []) [] ++ lines ≡ map (line_shown quantum) (cond own (shown ∷ others) others)
 one_more true quantum shown others lines same = ap (λ (l : List (List ℕ)). line_shown quantum shown ∷ l) same
 one_more false quantum shown others lines same = same
 
@@ -187,9 +191,11 @@ tries_by : (count : ℕ) (t : Turns) (p : Player) (rest : Turns → After) (end 
 tries_by count t p rest (Some end) going are behind = All-nil (IsBelow count)
 tries_by count t p rest None going are behind =
     let one = once_follows t p going in
-    All-append (IsBelow count) (once t p).told (rest (once t p).turns).told (all_below count t.running (once t p).told are.below one.others_told) (behind (once t p).turns (once_of count t p going are))
+    All-append (IsBelow count) (once t p).told (rest (once t p).turns).told (all_below count t.running (once t p).told are.below one.others_told)
+    (behind (once t p).turns (once_of count t p going are))
 
-tries_found : (count : ℕ) (t : Turns) (rest : Turns → After) (found : Option Player) → AreOf count t → ((next : Turns) → AreOf count next → All (IsBelow count) (rest next).told) → All (IsBelow count) (go_on t found rest).told
+tries_found : (count : ℕ) (t : Turns) (rest : Turns → After) (found : Option Player) → AreOf count t → ((next : Turns) → AreOf count next → All (IsBelow count) (rest next).told)
+    → All (IsBelow count) (go_on t found rest).told
 tries_found count t rest None are behind = All-nil (IsBelow count)
 tries_found count t rest (Some p) are behind = tries_by count t p rest p.end refl are behind
 
@@ -223,7 +229,8 @@ worst_is own [] k f each = omega arith
 worst_is own (task ∷ tasks) k f each =
     let here : k + 0 ≡ k = omega arith in
     let first : number_of (status_of_task task.end) ≡ f k = each 0 task refl ∙ ap f here in
-    let two : number_of (worse own (status_of_task task.end)) ≡ max (number_of own) (number_of (status_of_task task.end)) = worse_by own (status_of_task task.end) (nat_lt (number_of own) (number_of (status_of_task task.end))) refl in
+    let two : number_of (worse own (status_of_task task.end)) ≡ max (number_of own) (number_of (status_of_task task.end)) =
+    worse_by own (status_of_task task.end) (nat_lt (number_of own) (number_of (status_of_task task.end))) refl in
     let more = worst_is (worse own (status_of_task task.end)) tasks (k + 1) f (λ j other there. let at : k + suc j ≡ k + 1 + j = omega arith in each (suc j) other there ∙ ap f at) in
     omega (arith, first, two, more)
 
@@ -236,7 +243,8 @@ get_below [] j task there = absurd (cc)
 get_below (first ∷ tasks) zero task there = omega arith
 get_below (first ∷ tasks) (suc j) task there = omega (arith, get_below tasks j task there)
 
-each_status : (asked : AskedTasks) (t : Tasks) → AreAlone asked t → (j : ℕ) (task : Task) → j < asked.count → slice_get t.tasks j ≡ Some task → number_of (status_of_task task.end) ≡ end_status (alone_of asked j).end
+each_status : (asked : AskedTasks) (t : Tasks) → AreAlone asked t → (j : ℕ) (task : Task) → j < asked.count → slice_get t.tasks j ≡ Some task
+    → number_of (status_of_task task.end) ≡ end_status (alone_of asked j).end
 each_status asked t each j task below there =
     let one = each j below in
     let same : one.0 ≡ task = (let both : Some one.0 ≡ Some task = sym one.1 ∙ there in cc) in
@@ -253,7 +261,8 @@ status_is asked t long each =
 
 -- The answer. ---------------------------------------------------------------------------------------------
 
-apart : (asked : AskedTasks) (words : List (List ℕ)) (exit : Exit) (status faults : ℕ) (taken : List ℕ) (call : Call words exit status faults taken) (t : Tasks) → length asked.scripts ≡ asked.count → 1 ≤ asked.count
+apart : (asked : AskedTasks) (words : List (List ℕ)) (exit : Exit) (status faults : ℕ) (taken : List ℕ) (call : Call words exit status faults taken) (t : Tasks) → length asked.scripts ≡ asked.count
+    → 1 ≤ asked.count
     → RunsTasksToTheEnd (tasks_request_of asked) call.sink call.sink' exit.status t → Somehow call.sink call.sink' (λ sink. AreApart sink asked status taken t)
 apart asked words exit status faults taken call t long some run =
     let told = told_in asked in
@@ -263,8 +272,10 @@ apart asked words exit status faults taken call t long some run =
     let leads : turns_of asked.steps run.last ≡ (in_turn asked).turns =
     ap (λ (a : After). a.turns) (sym (path_turns asked.steps (start_in asked asked.scripts) run.plays run.last run.path run.ended)) ∙ ap (λ (s : Turns). (turns s).turns) run.start.turns in
     so_then call.sink call.sink' _ (λ sink. AreApart sink asked status taken t) (λ sink said. record {
-      told = retold sink _ _ _ _ status taken (status_is asked t tasks run.alone) whole said;
-      past = past_by words exit status faults taken call _ _ (told_same asked.quantum told) run.begun;
+      told = (
+        retold sink _ _ _ _ status taken (status_is asked t tasks run.alone) whole said,
+        past_by words exit status faults taken call _ _ (told_same asked.quantum told) run.begun,
+      );
       theirs = printed_below asked.count asked.quantum told (told_below asked long some);
       each = λ task below. own_same task asked.quantum told ∙ ap (map (line_shown asked.quantum)) (run.alone task below).2.0 ∙ shown_alone asked task;
       stints = have_stints asked asked.scripts t run.last run.plays false (in_turn asked).turns refl long some run.start.sound run.start.turns run.path run.is leads run.sound;
@@ -280,27 +291,36 @@ apart asked words exit status faults taken call t long some run =
       unbroken = ap (λ (z : Tasks). z.broken) run.is;
     }) (told_how words exit status faults taken call _ _ run.said)
 
-are_run : (asked : AskedTasks) (words : List (List ℕ)) (exit : Exit) (status faults : ℕ) (taken : List ℕ) (call : Call words exit status faults taken) (t : Tasks) → length asked.scripts ≡ asked.count → 1 ≤ asked.count → exit.kept ≡ None → exit.tasks ≡ Some t
+are_run : (asked : AskedTasks) (words : List (List ℕ)) (exit : Exit) (status faults : ℕ) (taken : List ℕ) (call : Call words exit status faults taken) (t : Tasks) → length asked.scripts ≡ asked.count
+    → 1 ≤ asked.count → exit.kept ≡ None → exit.tasks ≡ Some t
     → RunsTasks (tasks_request_of asked) call.sink call.sink' exit.status t → Somehow call.sink call.sink' (λ sink. AreRun sink asked status taken exit.kept exit.tasks)
 are_run asked words exit status faults taken call t long some none kept (RunsTasks.Ended run) =
-    so_then call.sink call.sink' (λ sink. AreApart sink asked status taken t) (λ sink. AreRun sink asked status taken exit.kept exit.tasks) (λ sink is. Ended t is none kept) (apart asked words exit status faults taken call t long some run)
+    so_then call.sink call.sink' (λ sink. AreApart sink asked status taken t) (λ sink. AreRun sink asked status taken exit.kept exit.tasks) (λ sink is. Ended t is none kept)
+    (apart asked words exit status faults taken call t long some run)
 are_run asked words exit status faults taken call t long some none kept (RunsTasks.Cut run) =
     let tried : told_of run.plays ≡ (tries (length run.plays) (turns_in asked)).told = ap (λ (a : After). a.told) (sym run.in_turn.tried) in (
       Fails,
       run.rose,
       Cut t refl (record {
         count = length run.plays;
-        told = retold Fails 6 6 _ _ status taken refl (told_same asked.quantum (told_of run.plays) ∙ ap (λ t. printed_text (printed_by asked.quantum t)) tried) (cut_by words exit status faults taken call _ run.status_is run.put);
+        told = retold Fails 6 6 _ _ status taken refl (told_same asked.quantum (told_of run.plays) ∙ ap (λ t. printed_text (printed_by asked.quantum t)) tried)
+            (cut_by words exit status faults taken call _ run.status_is run.put);
         front = retold Fails 6 6 _ _ status taken refl (told_same asked.quantum (told_in asked)) (cut_by words exit status faults taken call _ run.status_is run.front);
-        stints = have_stints asked asked.scripts t run.last run.plays true (tries (length run.plays) (reset_of asked)).turns refl long some run.start.sound run.start.turns run.path run.is (ap (λ (a : After). a.turns) (sym run.in_turn.tried)) run.sound;
+        stints = have_stints asked asked.scripts t run.last run.plays true (tries (length run.plays) (reset_of asked)).turns refl long some run.start.sound run.start.turns run.path run.is
+            (ap (λ (a : After). a.turns) (sym run.in_turn.tried)) run.sound;
         broken = ap (λ (z : Tasks). z.broken) run.is;
       }) none kept,
     )
 
-pub tasks_told : (words : List (List ℕ)) (exit : Exit) (status faults : ℕ) (taken : List ℕ) (call : Call words exit status faults taken) (text : List ℕ) → Tells call.source call.source' text → (asked : AskedTasks)
+pub tasks_told : (words : List (List ℕ)) (exit : Exit) (status faults : ℕ) (taken : List ℕ) (call : Call words exit status faults taken) (text : List ℕ) → Tells call.source call.source' text
+    → (asked : AskedTasks)
     → AsksTasks words text asked → IsSoThen faults (λ sink. AreRun sink asked status taken exit.kept exit.tasks)
 tasks_told words exit status faults taken call text tells asked asks =
     let some = one_program words (tasks_options_of asked) asks.command in
     told_by words exit status faults taken call _ (λ sink. AreRun sink asked status taken exit.kept exit.tasks)
-    (inl (TasksCommand (tasks_options_of asked), asks.command, (text, tells, inr (asks.short, Good (asked.image, asks.position) asks.hex (Good asked.scripts asks.scripts (Placed asks.placed refl))))))
+    (inl (
+      TasksCommand (tasks_options_of asked),
+      asks.command,
+      (text, tells, inr (asks.front.short, Good (asked.image, asks.front.position) asks.front.hex (Good asked.scripts asks.scripts (Placed asks.placed refl)))),
+    ))
     (λ sink told none alone. NoMemory told none alone) (λ done. are_run asked words exit status faults taken call done.tasks asks.scripts.each_task some done.none done.kept done.runs)

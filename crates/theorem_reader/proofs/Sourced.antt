@@ -3,9 +3,9 @@ use Rattle.std.proofs.Common.{◌≡◌, ℕ, List, [], ◌∷◌, codes, Some, 
 use Rattle.avr_isa.specs.Instruction.{fields_in_range, is_undefined, is_valid, size_of}
 use Rattle.avr_decode.specs.Decoding.{the_form, if_defined, is_long, one_word_form, defined_form, io_form}
 use Rattle.decode_laws.proofs.Decoded.{the_form_is_decoded}
-use Rattle.avr_asm.specs.Mnemonics.{found_in, operation_of}
+use Rattle.avr_asm.specs.Mnemonics.{operation_of}
 use Rattle.avr_asm.specs.Numbers.{number_of}
-use Rattle.avr_asm.specs.Operands.{is_name, name_of, offset_of, operand_of, pointer_of, register_of}
+use Rattle.avr_asm.specs.Operands.{is_name, name_of, operand_of, pointer_of, register_of}
 use Rattle.avr_asm.specs.SourceLines.{statement_of}
 use Rattle.avr_asm.specs.Statements.{meaning_of}
 use Rattle.avr_asm.specs.AsmText.{AsmText, fault_of}
@@ -25,20 +25,21 @@ abbrev hex_text : List ℕ
 hex_text = codes ":060000000FE00BBBFFCF77\n:00000001FF\n"
 
 pub asm_word : IsCommand (codes "asm" ∷ []) Asm
-asm_word = (nothing, ([], (refl, refl)), refl)
+asm_word = (refl, (nothing, ([], (refl, refl)), refl))
 
 help_word : IsCommand (codes "help" ∷ []) Help
-help_word = (nothing, ([], (refl, refl)), refl)
+help_word = (refl, (nothing, ([], (refl, refl)), refl))
 
 pub asks_help : IsUsage (codes "help" ∷ []) 0
 asks_help = Helped help_word refl
 
 faultless : fault_of source ≡ None
-unfolding statement_of operation_of found_in operand_of register_of pointer_of number_of offset_of name_of is_name meaning_of is_valid fields_in_range is_undefined size_of
+unfolding statement_of operation_of operand_of register_of pointer_of number_of name_of is_name meaning_of is_valid fields_in_range is_undefined size_of
 faultless = refl
 
 its_words : AsmText source example.image
-unfolding statement_of operation_of found_in operand_of register_of pointer_of number_of offset_of name_of is_name meaning_of is_valid fields_in_range is_undefined size_of the_form if_defined is_long one_word_form defined_form io_form
+unfolding statement_of operation_of operand_of register_of pointer_of number_of name_of is_name meaning_of is_valid fields_in_range is_undefined size_of the_form if_defined is_long one_word_form defined_form
+    io_form
 its_words = (
   record { inside = omega arith; decoded = the_form_is_decoded 0xE00F 0xBB0B (omega arith) (omega arith) },
   (
@@ -54,11 +55,11 @@ pub asks_asm : AsksAsm (codes "asm" ∷ []) source example.image
 asks_asm = record { command = asm_word; short = omega arith; faultless = faultless; source = its_words }
 
 first_fault : fault_of hex_text ≡ Some (1, asm_faults.Form)
-unfolding statement_of operation_of found_in operand_of register_of pointer_of number_of offset_of name_of is_name meaning_of is_valid fields_in_range is_undefined size_of
+unfolding statement_of operation_of operand_of register_of pointer_of number_of name_of is_name meaning_of is_valid fields_in_range is_undefined size_of
 first_fault = refl
 
-pub bad_source : IsRefused (codes "asm" ∷ []) hex_text 3 (bad_line (codes "asm") 1 (codes "form"))
-bad_source = BadSource asm_word (omega arith) 1 asm_faults.Form first_fault refl refl
+pub bad_source : IsRefused (codes "asm" ∷ []) hex_text (bad_line (codes "asm") 1 (codes "form"))
+bad_source = BadSource asm_word (omega arith) 1 asm_faults.Form first_fault refl
 
-pub bad_hex : IsRefused (codes "run" ∷ []) source 3 (bad_line (codes "hex") 1 (codes "start"))
-bad_hex = BadHex (Scripted (Runs _ without_options)) (omega arith) 1 hex_faults.Start (record { before = 0; number = refl; passed = λ n less. absurd (omega (arith, less)); at = refl }) refl refl
+pub bad_hex : IsRefused (codes "run" ∷ []) source (bad_line (codes "hex") 1 (codes "start"))
+bad_hex = BadHex (Scripted (Runs _ without_options)) (omega arith) 1 hex_faults.Start (record { before = 0; number = refl; passed = λ n less. absurd (omega (arith, less)); at = refl }) refl

@@ -3,7 +3,7 @@ use Rattle.std.proofs.Common.{◌≡◌, ℕ, zero, suc, ◌+◌, ◌≤◌, Boo
 use Rattle.std.specs.Prelude.{Option, Some, None, is_some, not, ◌||◌}
 use Rattle.std.proofs.lemmas.Bool.{and_parts}
 use Rattle.std.proofs.lemmas.Bool.Decides.{nat_tests}
-use Rattle.sram_layout.specs.Bytes.{byte_at, data_word_at}
+use Rattle.sram_layout.specs.Bytes.{byte_at}
 use Rattle.flash_words.specs.declared.layout.Layout.{Layout}
 use Rattle.flash_words.specs.Layouts.{layout_of, image_of, IsRight}
 use Rattle.flash_words.proofs.LayoutLaws.{layout_right}
@@ -33,22 +33,24 @@ use Rattle.program_steps.specs.Stepping as stepping
 use Rattle.tk_run.specs.Running.{StandsAfter, StepsTo}
 use Rattle.tk_run.specs.Running as running
 use Rattle.theorem_reader.specs.Acts.{Act, Arrival, Arrives, In, Outside, Refused as RefusedThere, steps_in, services_in}
-use Rattle.theorem_reader.specs.Memory.{HasMemory, HasState, HaveSlots}
+use Rattle.theorem_reader.specs.Memory.{HasState}
 use Rattle.theorem_reader.specs.Pools.{IsPlaceOf}
 use Rattle.theorem_reader.specs.Steps.{EndsThere, AreOwn, AreOfStep, Interrupted, There, Arriving, is_with_kernel, IsBetween, GoByStep, AreUnmade, Nothing, Refused, Stopped, IsByStep}
 use Rattle.theorem_reader.proofs.Acting.{act_of, acts_of, Holds, refusal_end, arrival_is, follow}
-use Rattle.theorem_reader.proofs.Holding.{has_memory, have_slots}
+use Rattle.theorem_reader.proofs.Holding.{has_state}
 use Rattle.theorem_reader.proofs.Pooling.{place_is}
 use Rattle.theorem_reader.proofs.Stopping.{Asked, inner_free, serve_on, none_owed, no_stop, stop_last, kernel_has, unmade_stops}
 
 -- Walks. --------------------------------------------------------------------------------------------------
 
 -- moves that are the same have the same acts
-pub acts_as : (x z : State) (Are : List Act → Type 0) (moves moves' : List Move) → moves ≡ moves' → ((walk : Walk x moves' z) → Are (acts_of x moves' z walk)) → (walk : Walk x moves z) → Are (acts_of x moves z walk)
+pub acts_as : (x z : State) (Are : List Act → Type 0) (moves moves' : List Move) → moves ≡ moves' → ((walk : Walk x moves' z) → Are (acts_of x moves' z walk)) → (walk : Walk x moves z)
+    → Are (acts_of x moves z walk)
 acts_as x z Are moves moves' same all = subst (λ ms. (walk : Walk x ms z) → Are (acts_of x ms z walk)) (sym same) all
 
 -- walks that follow one another
-acts_join : (x y z : State) (ms ns : List Move) (first : Walk x ms y) (second : Walk y ns z) → (walk : Walk x (ms ++ ns) z) × (acts_of x (ms ++ ns) z walk ≡ acts_of x ms y first ++ acts_of y ns z second)
+acts_join : (x y z : State) (ms ns : List Move) (first : Walk x ms y) (second : Walk y ns z)
+    → (walk : Walk x (ms ++ ns) z) × (acts_of x (ms ++ ns) z walk ≡ acts_of x ms y first ++ acts_of y ns z second)
 acts_join x y z [] ns first second = subst (λ (s : State). (walk : Walk s ns z) × (acts_of s ns z walk ≡ acts_of y ns z second)) (sym first) (second, refl)
 acts_join x y z (m ∷ ms) ns first second =
     let later = acts_join first.0 y z ms ns first.2 second in
@@ -74,7 +76,8 @@ counted x z (Serve line stops ∷ inner ∷ rest) walk =
     let on = serve_on x walk.0 line stops walk.1 next.0 next.1 in
     record { steps = later.steps; services = ap suc later.services; alone = omega (arith, later.alone); ends = (on.0, on.1, later.ends) }
 
-own_acts : (x z : State) (line : Option Line) (rest : List Inner) → count_plain rest ≤ 39 → count_serve rest ≤ 2 → (walk : Walk x (Begin line ∷ map Within rest) z) → AreOwn (acts_of x (Begin line ∷ map Within rest) z walk)
+own_acts : (x z : State) (line : Option Line) (rest : List Inner) → count_plain rest ≤ 39 → count_serve rest ≤ 2 → (walk : Walk x (Begin line ∷ map Within rest) z)
+    → AreOwn (acts_of x (Begin line ∷ map Within rest) z walk)
 own_acts x z line rest few serves walk =
     let later = counted walk.0 z rest walk.2 in
     record { alone = omega (arith, later.alone); some = omega arith; steps = omega (arith, later.steps, few); services = omega (arith, later.services, serves); ends = later.ends }
@@ -112,9 +115,11 @@ inside_image image refused target made before after (In none inside code place o
 inside_image image refused target made before after (Outside some outside nothing same pc) going = absurd (let e : ◌≡◌ {A = Bool} true false = sym some ∙ going in cc)
 inside_image image refused target made before after (RefusedThere some inside tried listed code lost others pc page) going = absurd (let e : ◌≡◌ {A = Bool} true false = sym some ∙ going in cc)
 
-none_before : (image : List ℕ) (quantum : ℕ) (y : Machine) (x : State) (ops : ℕ) (made : Bool) → Holds image quantum (state_of y) → IsGoing y → MakesArrive (state_of y) y.at made ops x → x.end ≡ None → is_taken (flat_of y) ≡ false
+none_before : (image : List ℕ) (quantum : ℕ) (y : Machine) (x : State) (ops : ℕ) (made : Bool) → Holds image quantum (state_of y) → IsGoing y → MakesArrive (state_of y) y.at made ops x → x.end ≡ None
+    → is_taken (flat_of y) ≡ false
 none_before image quantum y x ops made holds ready makes going =
-    let inside = inside_image image (is_some x.end) y.at (one_if made) (mote_of (state_of y)) (mote_of x) (arrival_is image quantum (state_of y) x y.at made ops holds makes).act.arrives (ap is_some going) in
+    let inside = inside_image image (is_some x.end) y.at (one_if made) (mote_of (state_of y)) (mote_of x) (arrival_is image quantum (state_of y) x y.at made ops holds makes).act.arrives
+    (ap is_some going) in
     let own = is_own_part y.kernel.part y.kernel.layout.image_words y.at ready.order.part makes.own (omega (arith, inside, ap (λ (l : Layout). l.image_words) holds.laid)) y.kernel.part.shut refl in
     untaken_by y makes.owed makes.owes ready makes.untaken own
 
@@ -125,7 +130,8 @@ none_taken x y z target ops made stops arrives makes =
     (sym (ap (λ (s : State). s.owed) arrives.after) ∙ makes.owes) (sym (ap (λ (s : State). s.end) arrives.after) ∙ makes.going)
 
 -- where control stands, if no arrival is owed
-pub place_by : (image : List ℕ) (quantum : ℕ) (y : Machine) (t : ℕ) (due : Bool) → Holds image quantum (state_of y) → IsGoing y → (state_of y).owed ≡ None → Reaches (links_in y) t due (state_of y) → IsPlaceOf image y.kernel.mote.flash.words t y.kernel.mote.cpu.pc
+pub place_by : (image : List ℕ) (quantum : ℕ) (y : Machine) (t : ℕ) (due : Bool) → Holds image quantum (state_of y) → IsGoing y → (state_of y).owed ≡ None → Reaches (links_in y) t due (state_of y)
+    → IsPlaceOf image y.kernel.mote.flash.words t y.kernel.mote.cpu.pc
 place_by image quantum y t due holds ready free (Reaches.Placed undue none enters) =
     let l = layout_of (length image) in
     let words = y.kernel.mote.flash.words in
@@ -146,7 +152,9 @@ own_here image quantum at n y z own holds stands asked (stepping.Taking stops is
     (λ walk. Interrupted (asked walk.1.owed walk.1.owes) stops (mote_of walk.0) refl (sym (ap is_taken stands.stands) ∙ take_due y walk.0 stops walk.1))
 own_here image quantum at n y z own holds stands asked (stepping.Making line rest is few serves) =
     acts_as (state_of y) z (AreOfStep image (at n) (mote_of (state_of y))) own (Begin line ∷ map Within rest) is
-    (λ walk. There (sym (ap is_taken stands.stands) ∙ none_here y stands.quiet walk.1.free) (subst (λ t. IsPlaceOf image y.kernel.mote.flash.words t y.kernel.mote.cpu.pc) (at_is at n y stands) (place_by image quantum y y.at (awaits y) holds stands.ready walk.1.free stands.ready.stands)) (own_acts (state_of y) z line rest few serves walk))
+    (λ walk. There (sym (ap is_taken stands.stands) ∙ none_here y stands.quiet walk.1.free)
+    (subst (λ t. IsPlaceOf image y.kernel.mote.flash.words t y.kernel.mote.cpu.pc) (at_is at n y stands)
+    (place_by image quantum y y.at (awaits y) holds stands.ready walk.1.free stands.ready.stands)) (own_acts (state_of y) z line rest few serves walk))
 
 -- the program goes on where they begin
 own_goes : (y z : State) (own : List Move) → stepping.AreOwn own → Walk y own z → y.end ≡ None
@@ -157,21 +165,27 @@ own_behind : (x y z : State) (target ops : ℕ) (made : Bool) (own : List Move) 
 own_behind x y z target ops made own arrives (stepping.Taking stops is) = acts_as y z AreOwn own (Take stops ∷ []) is (λ walk. absurd (none_taken x y walk.0 target ops made stops arrives walk.1))
 own_behind x y z target ops made own arrives (stepping.Making line rest is few serves) = acts_as y z AreOwn own (Begin line ∷ map Within rest) is (own_acts y z line rest few serves)
 
-pub step_acts : (image : List ℕ) (quantum : ℕ) (at : ℕ → Moment) (n : ℕ) (y : Machine) (z : State) (arrival own : List Move) → Holds image quantum (state_of y) → StandsAfter at n y → Asked (state_of y)
-    → stepping.IsArrival y.at arrival → stepping.AreOwn own → (walk : Walk (state_of y) (arrival ++ own) z) → AreOfStep image (at n) (mote_of (state_of y)) (acts_of (state_of y) (arrival ++ own) z walk)
+pub step_acts : (image : List ℕ) (quantum : ℕ) (at : ℕ → Moment) (n : ℕ) (y : Machine) (z : State) (arrival own : List Move) → Holds image quantum (state_of y) → StandsAfter at n y
+    → Asked (state_of y)
+    → stepping.IsArrival y.at arrival → stepping.AreOwn own → (walk : Walk (state_of y) (arrival ++ own) z)
+    → AreOfStep image (at n) (mote_of (state_of y)) (acts_of (state_of y) (arrival ++ own) z walk)
 step_acts image quantum at n y z arrival own holds stands asked (stepping.NoArrival none) makes =
     acts_as (state_of y) z (AreOfStep image (at n) (mote_of (state_of y))) (arrival ++ own) own (ap (λ ms. ms ++ own) none) (own_here image quantum at n y z own holds stands asked makes)
 step_acts image quantum at n y z arrival own holds stands asked (stepping.OneArrival made ops one) makes =
     acts_as (state_of y) z (AreOfStep image (at n) (mote_of (state_of y))) (arrival ++ own) (Arrive y.at made ops ∷ own) (ap (λ ms. ms ++ own) one)
-    (λ walk. Arriving (asked walk.1.owed walk.1.owes) (sym (ap is_taken stands.stands) ∙ none_before image quantum y walk.0 ops made holds stands.ready walk.1 (own_goes walk.0 z own makes walk.2)) (one_if made) ops (mote_of walk.0) (acts_of walk.0 own z walk.2)
-    (ap₂ (λ refused t. Arrival refused t (one_if made) ops (mote_of (state_of y)) (mote_of walk.0) ∷ acts_of walk.0 own z walk.2) (ap is_some (own_goes walk.0 z own makes walk.2)) (at_is at n y stands))
+    (λ walk. Arriving (asked walk.1.owed walk.1.owes) (sym (ap is_taken stands.stands) ∙ none_before image quantum y walk.0 ops made holds stands.ready walk.1 (own_goes walk.0 z own makes walk.2))
+    (one_if made) ops (mote_of walk.0) (acts_of walk.0 own z walk.2)
+    (ap₂ (λ refused t. Arrival refused t (one_if made) ops (mote_of (state_of y)) (mote_of walk.0) ∷ acts_of walk.0 own z walk.2) (ap is_some (own_goes walk.0 z own makes walk.2))
+    (at_is at n y stands))
     (own_behind (state_of y) walk.0 z y.at ops made own walk.1 makes walk.2))
 
 -- a next step can begin
-begins_by : (image : List ℕ) (quantum : ℕ) (at : ℕ → Moment) (n : ℕ) (y : Machine) (due : Bool) → Holds image quantum (state_of y) → StandsAfter at n y → Asked (state_of y) → Reaches (links_in y) y.at due (state_of y)
+begins_by : (image : List ℕ) (quantum : ℕ) (at : ℕ → Moment) (n : ℕ) (y : Machine) (due : Bool) → Holds image quantum (state_of y) → StandsAfter at n y → Asked (state_of y)
+    → Reaches (links_in y) y.at due (state_of y)
     → (is_with_kernel (mote_of (state_of y)) ≡ true) ⊎ IsPlaceOf image y.kernel.mote.flash.words (at n).now.cpu.pc y.kernel.mote.cpu.pc
 begins_by image quantum at n y due holds stands asked (Reaches.Placed undue none enters) =
-    inr (subst (λ t. IsPlaceOf image y.kernel.mote.flash.words t y.kernel.mote.cpu.pc) (at_is at n y stands) (place_by image quantum y y.at due holds stands.ready none (Reaches.Placed undue none enters)))
+    inr (subst (λ t. IsPlaceOf image y.kernel.mote.flash.words t y.kernel.mote.cpu.pc) (at_is at n y stands)
+    (place_by image quantum y y.at due holds stands.ready none (Reaches.Placed undue none enters)))
 begins_by image quantum at n y due holds stands asked (Reaches.Owing stub alone owes leads) = inl (asked (record { target = y.at; stub = stub; due = due }) owes)
 
 can_begin : (image : List ℕ) (quantum : ℕ) (at : ℕ → Moment) (n : ℕ) (y : Machine) → Holds image quantum (state_of y) → StandsAfter at n y → Asked (state_of y)
@@ -184,10 +198,12 @@ some_by (Some end) some = refl
 
 -- .. and of one that isn't made
 unmade_alone : (image : List ℕ) (quantum : ℕ) (at : ℕ → Moment) (n : ℕ) (y : Machine) (z : State) (arrival own : List Move) → Holds image quantum (state_of y) → StandsAfter at n y → Asked (state_of y)
-    → own ≡ [] → stepping.IsArrival y.at arrival → (z.end ≡ None → ends_in_arrive (arrival ++ own) ≡ false) → (walk : Walk (state_of y) (arrival ++ own) z) → AreUnmade image (at n) (mote_of (state_of y)) (acts_of (state_of y) (arrival ++ own) z walk) z.end
+    → own ≡ [] → stepping.IsArrival y.at arrival → (z.end ≡ None → ends_in_arrive (arrival ++ own) ≡ false) → (walk : Walk (state_of y) (arrival ++ own) z)
+    → AreUnmade image (at n) (mote_of (state_of y)) (acts_of (state_of y) (arrival ++ own) z walk) z.end
 unmade_alone image quantum at n y z arrival own holds stands asked nothing (stepping.NoArrival none) final =
     let same : arrival ++ own ≡ [] = ap (λ ms. ms ++ own) none ∙ nothing in
-    acts_as (state_of y) z (λ acts. AreUnmade image (at n) (mote_of (state_of y)) acts z.end) (arrival ++ own) [] same (λ walk. Nothing refl (ap (λ (s : State). s.end) (sym walk) ∙ stands.ready.going) (can_begin image quantum at n y holds stands asked))
+    acts_as (state_of y) z (λ acts. AreUnmade image (at n) (mote_of (state_of y)) acts z.end) (arrival ++ own) [] same
+    (λ walk. Nothing refl (ap (λ (s : State). s.end) (sym walk) ∙ stands.ready.going) (can_begin image quantum at n y holds stands asked))
 unmade_alone image quantum at n y z arrival own holds stands asked nothing (stepping.OneArrival made ops one) final =
     let same : arrival ++ own ≡ Arrive y.at made ops ∷ [] = ap (λ ms. ms ++ own) one ∙ ap (λ ms. Arrive y.at made ops ∷ ms) nothing in
     let over : is_some z.end ≡ true = some_by z.end (λ going. absurd (let both : ◌≡◌ {A = Bool} true false = sym (ap ends_in_arrive same) ∙ final going in cc)) in
@@ -196,17 +212,20 @@ unmade_alone image quantum at n y z arrival own holds stands asked nothing (step
     let there : is_some walk.0.end ≡ true = ap (λ (s : State). is_some s.end) walk.2 ∙ over in
     Refused (asked walk.1.owed walk.1.owes) (one_if made) ops (mote_of walk.0)
     (ap₂ (λ refused t. Arrival refused t (one_if made) ops (mote_of (state_of y)) (mote_of walk.0) ∷ []) there (at_is at n y stands))
-    (ap (λ (s : State). s.end) (sym walk.2) ∙ (arrival_is image quantum (state_of y) walk.0 y.at made ops holds walk.1).over there ∙ ap (λ t. Some (refusal_end image t (mote_of walk.0).flash.ops)) (at_is at n y stands)))
+    (ap (λ (s : State). s.end) (sym walk.2) ∙ (arrival_is image quantum (state_of y) walk.0 y.at made ops holds walk.1).over there ∙ ap (λ t. Some (refusal_end image t (mote_of walk.0).flash.ops))
+    (at_is at n y stands)))
 
 -- a step that isn't made, behind n that were
-unmade_acts : (image : List ℕ) (quantum : ℕ) (at : ℕ → Moment) (n : ℕ) (start y z : Machine) (before rest : List Move) (lines : List Line) → Holds image quantum (state_of y) → StepsTo at start n before y → StandsAfter at n y
+unmade_acts : (image : List ℕ) (quantum : ℕ) (at : ℕ → Moment) (n : ℕ) (start y z : Machine) (before rest : List Move) (lines : List Line) → Holds image quantum (state_of y)
+    → StepsTo at start n before y → StandsAfter at n y
     → Asked (state_of y) → stepping.AreOfStep y.at rest → (z.end ≡ None → ends_in_arrive rest ≡ false) → z.steps ≡ start.steps + n → (goes : Goes y z rest lines)
     → AreUnmade image (at n) (mote_of (state_of y)) (acts_of (state_of y) rest (state_of z) goes.walk) z.end
 unmade_acts image quantum at n start y z before rest lines holds steps stands asked of_step final done goes =
     let all = of_step.arrival ++ of_step.own in
     let goes_all = subst (λ ms. Goes y z ms lines) of_step.parts goes in
     acts_as (state_of y) (state_of z) (λ acts. AreUnmade image (at n) (mote_of (state_of y)) acts z.end) rest all of_step.parts (λ walk. elim of_step.makes [
-      | inl nothing ↦ unmade_alone image quantum at n y (state_of z) of_step.arrival of_step.own holds stands asked nothing of_step.arrives (λ going. sym (ap ends_in_arrive of_step.parts) ∙ final going) walk
+      | inl nothing ↦ unmade_alone image quantum at n y (state_of z) of_step.arrival of_step.own holds stands asked nothing of_step.arrives
+          (λ going. sym (ap ends_in_arrive of_step.parts) ∙ final going) walk
       | inr makes ↦ (
           let over = unmade_stops at start y z n before of_step.arrival of_step.own lines steps stands.ready.going of_step.arrives makes goes_all done in
           Stopped (step_acts image quantum at n y (state_of z) of_step.arrival of_step.own holds stands asked of_step.arrives makes walk)
@@ -229,24 +248,16 @@ last_alone (move ∷ next ∷ front) (other ∷ moves) none = last_alone (next �
 -- A run. --------------------------------------------------------------------------------------------------
 
 state_held : (at : ℕ → Moment) (n : ℕ) (y : Machine) → StandsAfter at n y → HasState (at n).now (mote_of (state_of y))
-unfolding data_word_at byte_at
 state_held at n y stands =
-    let same = stands.stands in
-    record {
-      registers = ap (λ (s : Moment). s.now.cpu.r) same;
-      status = ap (λ (s : Moment). s.now.cpu.sreg) same;
-      pointer = ap (λ (s : Moment). s.now.cpu.sp) same;
-      memory = subst (HasMemory y.kernel.mote) (ap (λ (s : Moment). s.now.memory) same) (has_memory y.kernel.mote stands.ready.order.paged);
-      slots = subst (HaveSlots y.kernel.mote) (ap (λ (s : Moment). s.now.pages) same) (have_slots y.kernel.mote);
-      devices = ap (λ (s : Moment). s.now.devices) same;
-    }
+    has_state y.kernel y.kernel.mote y.at y.steps y.crossings (at n).now stands.ready.order.paged (ap (λ (s : Moment). s.now) stands.stands)
 
 -- the kernel's stack is empty, COUNT is what the crossings leave of the quantum, and where an interrupt is due the kernel has control
 some_awaited : (owed : Option Owed) (due : Bool) → (owed ≡ None → due ≡ false) → due ≡ true → (w : Awaited) × (awaited owed due ≡ Some w)
 some_awaited None due quiet is = absurd (let e : ◌≡◌ {A = Bool} true false = sym is ∙ quiet refl in cc)
 some_awaited (Some owed) due quiet is = (record { target = owed.target; stub = owed.stub; due = due }, refl)
 
-pub between_held : (image : List ℕ) (quantum : ℕ) (at : ℕ → Moment) (n : ℕ) (y : Machine) → Holds image quantum (state_of y) → StandsAfter at n y → Asked (state_of y) → IsBetween quantum (at n) (mote_of (state_of y))
+pub between_held : (image : List ℕ) (quantum : ℕ) (at : ℕ → Moment) (n : ℕ) (y : Machine) → Holds image quantum (state_of y) → StandsAfter at n y → Asked (state_of y)
+    → IsBetween quantum (at n) (mote_of (state_of y))
 unfolding byte_at
 between_held image quantum at n y holds stands asked = record {
   stack = stands.ready.top;
@@ -259,7 +270,8 @@ record Led (image : List ℕ) (quantum : ℕ) (at : ℕ → Moment) (start : Mac
   go : GoByStep image quantum at (mote_of (state_of start)) n (acts_of (state_of start) moves (state_of z) walk) (mote_of (state_of z))
   holds : Holds image quantum (state_of z)
 
-led : (image : List ℕ) (quantum : ℕ) (at : ℕ → Moment) (start : Machine) (n : ℕ) (moves : List Move) (z : Machine) → Holds image quantum (state_of start) → Asked (state_of start) → z.end ≡ None → StepsTo at start n moves z → Led image quantum at start n moves z
+led : (image : List ℕ) (quantum : ℕ) (at : ℕ → Moment) (start : Machine) (n : ℕ) (moves : List Move) (z : Machine) → Holds image quantum (state_of start) → Asked (state_of start) → z.end ≡ None
+    → StepsTo at start n moves z → Led image quantum at start n moves z
 led image quantum at start zero moves z holds first going (same, none) =
     subst (λ ms. Led image quantum at start 0 ms z) (sym none) (subst (λ (m : Machine). Led image quantum at start 0 [] m) same (record { walk = refl; go = (refl, refl); holds = holds }))
 led image quantum at start (suc n) moves z holds first going (y, before, arrival, own, lines, all, steps, stands, arrives, makes, goes) =
@@ -289,7 +301,8 @@ pub record Paced (image : List ℕ) (quantum : ℕ) (at : ℕ → Moment) (start
   pub walk : Walk (state_of start) moves (state_of z)
   pub by_step : IsByStep image quantum at (mote_of (state_of start)) (acts_of (state_of start) moves (state_of z) walk) n (mote_of (state_of z)) z.end
 
-pub paced : (image : List ℕ) (quantum : ℕ) (at : ℕ → Moment) (start : Machine) (n : ℕ) (moves : List Move) (z : Machine) → Holds image quantum (state_of start) → Asked (state_of start) → running.IsByStep at start z n moves
+pub paced : (image : List ℕ) (quantum : ℕ) (at : ℕ → Moment) (start : Machine) (n : ℕ) (moves : List Move) (z : Machine) → Holds image quantum (state_of start) → Asked (state_of start)
+    → running.IsByStep at start z n moves
     → (z.end ≡ None → ends_in_arrive moves ≡ false) → z.steps ≡ start.steps + n → Paced image quantum at start n moves z
 paced image quantum at start n moves z holds first is final done =
     let earlier = led image quantum at start n is.before is.last holds first is.stands.ready.going is.steps in
@@ -305,7 +318,8 @@ paced image quantum at start n moves z holds first is final done =
         steps = earlier.go;
         state = state_held at n is.last is.stands;
         between = between_held image quantum at n is.last earlier.holds is.stands asked;
-        unmade = unmade_acts image quantum at n start is.last z is.before is.behind is.lines earlier.holds is.steps is.stands asked is.of_step (λ going. last_alone is.before is.behind (sym (ap ends_in_arrive is.all) ∙ final going)) done is.goes;
+        unmade = unmade_acts image quantum at n start is.last z is.before is.behind is.lines earlier.holds is.steps is.stands asked is.of_step
+            (λ going. last_alone is.before is.behind (sym (ap ends_in_arrive is.all) ∙ final going)) done is.goes;
         follow = (follow image quantum (state_of is.last) is.behind (state_of z) is.goes.walk earlier.holds).follow;
       };
     })

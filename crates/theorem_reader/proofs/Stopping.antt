@@ -1,7 +1,6 @@
 -- Where the program stops by itself, that is in the last act; what a step that isn't made ends in; and where the kernel has control.
 use Rattle.std.proofs.Common.{◌≡◌, ℕ, zero, suc, ◌+◌, ◌≤◌, Bool, true, false, List, [], ◌∷◌, ◌++◌, map, Option, Some, None, refl, sym, ap, ◌∙◌, subst, arith, inl, inr, ◌⊎◌}
 use Rattle.std.specs.Prelude.{nat_le, ◌==◌, ◌||◌}
-use Rattle.avr_exec.specs.declared.cpu.Cpu.{Cpu}
 use Rattle.mote_core.specs.declared.mote.Mote.{Mote}
 use Rattle.step_laws.proofs.ServiceMoves.{kernel_served}
 use Rattle.std.proofs.lemmas.Bool.Decides.{nat_tests}
@@ -99,7 +98,8 @@ free_behind due (answers.Goto target stub, k) on = absurd (cc)
 free_behind due (answers.Woke target, k) on = absurd (cc)
 free_behind due (answers.Stopped stop, k) on = absurd (cc)
 
-on_by : (x y : State) → Passed x.kernel (served x.kernel).1 (served x.kernel).0 → y ≡ after_service (is_due x.kernel) (served x.kernel) → y.owed ≡ None → y.end ≡ None → (0xF004 ≤ x.kernel.mote.cpu.pc) × (x.kernel.mote.cpu.pc ≤ 0xF007)
+on_by : (x y : State) → Passed x.kernel (served x.kernel).1 (served x.kernel).0 → y ≡ after_service (is_due x.kernel) (served x.kernel) → y.owed ≡ None → y.end ≡ None
+    → (0xF004 ≤ x.kernel.mote.cpu.pc) × (x.kernel.mote.cpu.pc ≤ 0xF007)
 on_by x y (On on going from to pc) result free unended = (from, to)
 on_by x y (Over over pc) result free unended = absurd (none_on y.end (subst (λ (s : State). IsStop s.end) (sym result) (after_serving (is_due x.kernel) (served x.kernel) over)) unended)
 on_by x y (Away on going at pc) result free unended = absurd (owed_behind (is_due x.kernel) (served x.kernel) on going (ap (λ (s : State). s.owed) (sym result) ∙ free))
@@ -116,9 +116,12 @@ high_is m high =
 pub kernel_same : (m n : Mote) → n.cpu.pc ≡ m.cpu.pc → is_with_kernel m ≡ true → is_with_kernel n ≡ true
 kernel_same m n same has = ap (λ pc. (pc == 0) || nat_le 0xF000 pc) same ∙ has
 
-away_by : (x y : State) (w : Awaited) → Passed x.kernel (served x.kernel).1 (served x.kernel).0 → 0xF000 ≤ x.kernel.mote.cpu.pc → y.kernel ≡ (served x.kernel).1 → y ≡ after_service (is_due x.kernel) (served x.kernel) → y.owed ≡ Some w → y.end ≡ None → is_with_kernel (mote_of y) ≡ true
-away_by x y w (On on going from to pc) high kernel result owes unended = absurd (let e : None ≡ Some w = sym (free_behind (is_due x.kernel) (served x.kernel) on) ∙ ap (λ (s : State). s.owed) (sym result) ∙ owes in cc)
-away_by x y w (Over over pc) high kernel result owes unended = absurd (none_on y.end (subst (λ (s : State). IsStop s.end) (sym result) (after_serving (is_due x.kernel) (served x.kernel) over)) unended)
+away_by : (x y : State) (w : Awaited) → Passed x.kernel (served x.kernel).1 (served x.kernel).0 → 0xF000 ≤ x.kernel.mote.cpu.pc → y.kernel ≡ (served x.kernel).1
+    → y ≡ after_service (is_due x.kernel) (served x.kernel) → y.owed ≡ Some w → y.end ≡ None → is_with_kernel (mote_of y) ≡ true
+away_by x y w (On on going from to pc) high kernel result owes unended =
+    absurd (let e : None ≡ Some w = sym (free_behind (is_due x.kernel) (served x.kernel) on) ∙ ap (λ (s : State). s.owed) (sym result) ∙ owes in cc)
+away_by x y w (Over over pc) high kernel result owes unended =
+    absurd (none_on y.end (subst (λ (s : State). IsStop s.end) (sym result) (after_serving (is_due x.kernel) (served x.kernel) over)) unended)
 away_by x y w (Away on going at pc) high kernel result owes unended = kernel_same (mote_of x) (mote_of y) (ap (λ (k : Kernel). k.mote.cpu.pc) kernel ∙ pc) (high_is (mote_of x) high)
 
 -- an arrival leaves no end but its own refusal
@@ -148,7 +151,8 @@ stops_act : (x : State) (move : Move) (y : State) → Makes x move y → IsStop 
 stops_act x (Begin line) y makes over = absurd (none_on y.end over (ap (λ (s : State). s.end) makes.result ∙ makes.going))
 stops_act x (Within (Plain line)) y makes over = absurd (none_on y.end over (ap (λ (s : State). s.end) makes.result ∙ makes.going))
 stops_act x (Within (Serve line stops)) y makes over = stops_serve x y line stops makes over
-stops_act x (Arrive target made ops) y makes over = absurd (settled_stops (placed (with_store x makes.store) makes.arrival.place) makes.arrival.refused (subst (λ (s : State). IsStop s.end) makes.after over))
+stops_act x (Arrive target made ops) y makes over =
+    absurd (settled_stops (placed (with_store x makes.store) makes.arrival.place) makes.arrival.refused (subst (λ (s : State). IsStop s.end) makes.after over))
 stops_act x (Take stops) y makes over = stops_take x y stops makes over
 
 -- a move is made only where there is no end
@@ -190,10 +194,12 @@ Asked x = (w : Awaited) → x.owed ≡ Some w → is_with_kernel (mote_of x) ≡
 asks_on : (x : State) (move : Move) (y : State) → Makes x move y → Asked x → y.end ≡ None → Asked y
 asks_on x (Begin line) y makes asked going w owes = absurd (let e : None ≡ Some w = sym makes.free ∙ sym (ap (λ (s : State). s.owed) makes.result) ∙ owes in cc)
 asks_on x (Within (Plain line)) y makes asked going w owes = absurd (let e : None ≡ Some w = sym makes.free ∙ sym (ap (λ (s : State). s.owed) makes.result) ∙ owes in cc)
-asks_on x (Within (Serve line stops)) y makes asked going w owes = away_by x y w (passed_at x.kernel makes.can) (at_an_entry x.kernel makes.can).0 (kernel_served x y line stops makes) makes.result owes going
+asks_on x (Within (Serve line stops)) y makes asked going w owes = away_by x y w (passed_at x.kernel makes.can) (at_an_entry x.kernel makes.can).0 (kernel_served x y line stops makes) makes.result
+    owes going
 asks_on x (Arrive target made ops) y makes asked going w owes =
-    absurd (none_owed (placed (with_store x makes.store) makes.arrival.place) makes.arrival.refused w (sym (ap (λ (s : State). s.owed) makes.after) ∙ owes) (sym (ap (λ (s : State). s.end) makes.after) ∙ going))
-asks_on x (Take stops) y makes asked going w owes = kernel_same (mote_of x) (mote_of y) (ap (λ (c : Cpu). c.pc) (taken_keeps x y stops makes).mote.core) (asked makes.owed makes.owes)
+    absurd (none_owed (placed (with_store x makes.store) makes.arrival.place) makes.arrival.refused w (sym (ap (λ (s : State). s.owed) makes.after) ∙ owes)
+    (sym (ap (λ (s : State). s.end) makes.after) ∙ going))
+asks_on x (Take stops) y makes asked going w owes = kernel_same (mote_of x) (mote_of y) (ap (λ (m : Mote). m.cpu.pc) (taken_keeps x y stops makes).mote.stays) (asked makes.owed makes.owes)
 
 pub kernel_has : (x : State) (moves : List Move) (z : State) → Walk x moves z → Asked x → z.end ≡ None → Asked z
 kernel_has x [] z walk asked going = subst Asked walk asked
@@ -213,7 +219,8 @@ unfolding moved
 take_way x z true n walk = inl (subst (λ (s : State). IsStop s.end) walk.2 (take_stops x walk.0 true walk.1 refl))
 take_way x z false n walk = inr refl
 
-begin_way : (x z : State) (line : Option Line) (rest : List Inner) (n : Numbers) (stops : ℕ) → count_stop rest ≡ stops → Walk x (Begin line ∷ map Within rest) z → IsStop z.end ⊎ ((numbered (Begin line ∷ map Within rest) n).steps ≡ n.steps + 1)
+begin_way : (x z : State) (line : Option Line) (rest : List Inner) (n : Numbers) (stops : ℕ) → count_stop rest ≡ stops → Walk x (Begin line ∷ map Within rest) z
+    → IsStop z.end ⊎ ((numbered (Begin line ∷ map Within rest) n).steps ≡ n.steps + 1)
 unfolding moved
 begin_way x z line rest n zero none walk = inr (omega (arith, steps_is rest (moved (Begin line) n), none))
 begin_way x z line rest n (suc stops) some walk = inl (within_stops walk.0 z rest walk.2 (omega (arith, some)))
@@ -223,12 +230,14 @@ own_way x z own n (Taking stops is) walk = subst (λ ms. IsStop z.end ⊎ ((numb
 own_way x z own n (Making line rest is few serves) walk =
     subst (λ ms. IsStop z.end ⊎ ((numbered ms n).steps ≡ n.steps + 1)) (sym is) (begin_way x z line rest n (count_stop rest) refl (subst (λ ms. Walk x ms z) is walk))
 
-arrive_way : (x z : State) (t ops : ℕ) (made : Bool) (own : List Move) (n : Numbers) → AreOwn own → Walk x (Arrive t made ops ∷ own) z → IsStop z.end ⊎ ((numbered (Arrive t made ops ∷ own) n).steps ≡ n.steps + 1)
+arrive_way : (x z : State) (t ops : ℕ) (made : Bool) (own : List Move) (n : Numbers) → AreOwn own → Walk x (Arrive t made ops ∷ own) z
+    → IsStop z.end ⊎ ((numbered (Arrive t made ops ∷ own) n).steps ≡ n.steps + 1)
 unfolding moved
 arrive_way x z t ops made own n makes walk = own_way walk.0 z own (moved (Arrive t made ops) n) makes walk.2
 
 -- .. and behind an arrival
-step_way : (x z : State) (t : ℕ) (arrival own : List Move) (n : Numbers) → IsArrival t arrival → AreOwn own → Walk x (arrival ++ own) z → IsStop z.end ⊎ ((numbered (arrival ++ own) n).steps ≡ n.steps + 1)
+step_way : (x z : State) (t : ℕ) (arrival own : List Move) (n : Numbers) → IsArrival t arrival → AreOwn own → Walk x (arrival ++ own) z
+    → IsStop z.end ⊎ ((numbered (arrival ++ own) n).steps ≡ n.steps + 1)
 step_way x z t arrival own n (NoArrival none) makes =
     subst (λ a. Walk x (a ++ own) z → IsStop z.end ⊎ ((numbered (a ++ own) n).steps ≡ n.steps + 1)) (sym none) (own_way x z own n makes)
 step_way x z t arrival own n (OneArrival made ops one) makes =
@@ -247,9 +256,11 @@ steps_to at start (suc n) moves z (y, before, arrival, own, lines, all, steps, s
     omega (arith, step_counts y z arrival own lines arrives makes goes going, steps_to at start n before y steps stands.ready.going)
 
 -- Behind them the moves of a step that isn't made stop the program.
-pub unmade_stops : (at : ℕ → Moment) (start last z : Machine) (n : ℕ) (before arrival own : List Move) (lines : List Line) → StepsTo at start n before last → last.end ≡ None → IsArrival last.at arrival → AreOwn own
+pub unmade_stops : (at : ℕ → Moment) (start last z : Machine) (n : ℕ) (before arrival own : List Move) (lines : List Line) → StepsTo at start n before last → last.end ≡ None
+    → IsArrival last.at arrival → AreOwn own
     → Goes last z (arrival ++ own) lines → z.steps ≡ start.steps + n → IsStop z.end
-unmade_stops at start last z n before arrival own lines steps going arrives makes goes done = elim (step_way (state_of last) (state_of z) last.at arrival own (numbers_of last) arrives makes goes.walk) [
-  | inl over ↦ over
-  | inr one ↦ absurd (omega (arith, done, steps_to at start n before last steps going, ap (λ (k : Numbers). k.steps) goes.numbers, one))
-]
+unmade_stops at start last z n before arrival own lines steps going arrives makes goes done =
+    elim (step_way (state_of last) (state_of z) last.at arrival own (numbers_of last) arrives makes goes.walk) [
+      | inl over ↦ over
+      | inr one ↦ absurd (omega (arith, done, steps_to at start n before last steps going, ap (λ (k : Numbers). k.steps) goes.numbers, one))
+    ]

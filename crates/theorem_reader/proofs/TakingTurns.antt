@@ -1,5 +1,6 @@
 -- What several programs did on one mote, stint after stint.
-use Rattle.std.proofs.Common.{◌≡◌, ◌≢◌, ℕ, zero, suc, ◌+◌, ◌-◌, ◌*◌, ◌≤◌, min, eqb, cond, Bool, true, false, List, [], ◌∷◌, ◌++◌, length, Option, Some, None, refl, sym, ap, ◌∙◌, subst, arith, zero-add, inl, inr}
+use Rattle.std.proofs.Common.{◌≡◌, ◌≢◌, ℕ, zero, suc, ◌+◌, ◌-◌, ◌*◌, ◌≤◌, min, eqb, cond, Bool, true, false, List, [], ◌∷◌, ◌++◌, length, Option, Some, None, refl, sym, ap, ◌∙◌, subst, arith}
+use Rattle.std.proofs.Common.{zero-add, inl, inr}
 use Rattle.std.specs.Prelude.{slice_get, slice_set, slice_index_or, sum_by, take, nat_le, ◌==◌, ◌||◌}
 use Rattle.std.specs.List.{list_any}
 use Rattle.std.proofs.Math.Nat.{min-le_left}
@@ -7,7 +8,7 @@ use Rattle.std.proofs.lemmas.Bool.Decides.{nat_tests}
 use Rattle.std.proofs.lemmas.Option.{same_Some}
 use Rattle.std.proofs.lemmas.List.FromFn.{length-map-range_with_len}
 use Rattle.std.proofs.lemmas.List.Sums.{sum_by-cons}
-use Rattle.sram_layout.specs.Bytes.{byte_count, byte_at, data_word_at}
+use Rattle.sram_layout.specs.Bytes.{byte_count, byte_at}
 use Rattle.sram_layout.proofs.PartLaws.{part_byte}
 use Rattle.flash_words.specs.Memory.{Memory}
 use Rattle.flash_words.proofs.LoadedLaws.{loaded_image}
@@ -22,8 +23,6 @@ use Rattle.heap_frames.proofs.SamePagingLaws.{paged_same}
 use Rattle.flat_machine.specs.FlatMachine.{FlatState, Spent, Wild}
 use Rattle.avr_exec.specs.declared.cpu.Cpu.{Cpu}
 use Rattle.mote_core.specs.declared.mote.Mote.{Mote}
-use Rattle.kernel_entry.specs.declared.kernel.Kernel.{Kernel}
-use Rattle.kernel_entry.specs.Seen.{state_at}
 use Rattle.step_laws.specs.Moves.{Move}
 use Rattle.step_laws.specs.Numbers.{Numbers}
 use Rattle.step_laws.specs.States.{State, mote_of}
@@ -58,17 +57,17 @@ use Rattle.tk_run.specs.Running.{StandsAfter}
 use Rattle.cli_words.specs.declared.request.TaskRequest.{TaskRequest}
 use Rattle.tkernel_cli.specs.TasksRuns.{start_by}
 use Rattle.theorem_reader.specs.Acts.{Follow, IsNew, IsBoot, steps_in, services_in, made_in, StopsLast}
-use Rattle.theorem_reader.specs.Memory.{HasMemory, HasState, HaveSlots}
-use Rattle.theorem_reader.specs.Pools.{AreFaithful}
+use Rattle.theorem_reader.specs.Memory.{HasState}
+use Rattle.theorem_reader.specs.Pools.{pool_size, AreFaithful}
 use Rattle.theorem_reader.specs.Steps.{AreOfStep, is_with_kernel, IsBetween}
 use Rattle.theorem_reader.specs.Stints.{Stint, ComesBack, IsParked, HasPart, Here, Away, AreOfTry, TakeTurns, changes_from, task_end}
 use Rattle.theorem_reader.specs.Tasks.{AskedTasks, tasks_options_of, words_of, events_of, reset_of, LeadThere}
-use Rattle.theorem_reader.specs.Wear.{pool_size, IsSpared}
+use Rattle.theorem_reader.specs.Wear.{IsSpared}
 use Rattle.theorem_reader.proofs.Acting.{acts_of, Holds, follow}
 use Rattle.theorem_reader.proofs.Booting.{is_new, is_boot}
-use Rattle.theorem_reader.proofs.Ending.{own_stop}
 use Rattle.theorem_reader.proofs.Bounding.{natural_of, entries_of, pages_of, lines_of_acts}
-use Rattle.theorem_reader.proofs.Holding.{has_memory, have_slots}
+use Rattle.theorem_reader.proofs.Motes.{one_mote}
+use Rattle.theorem_reader.proofs.Holding.{has_state}
 use Rattle.theorem_reader.proofs.Pooling.{faithful_is}
 use Rattle.theorem_reader.proofs.Stepwise.{acts_as, step_acts, between_held}
 use Rattle.theorem_reader.proofs.Pacing.{stint_of, stints_of, counts_from_boot, few_from_boot}
@@ -101,16 +100,14 @@ motes_behind n t (play ∷ plays) new (mid, one, rest) motes = motes_behind n mi
 comes_back : (left own now : Mote) → Shares left now → IsBack own now → ComesBack left own now
 unfolding byte_at
 comes_back left own now shares back = record {
-  flash = shares.flash;
+  stays = one_mote now (record own { flash = left.flash; sram = now.sram }) back.core refl shares.flash back.devices back.swap;
   shared = λ a from to. shares.tables a from (omega arith);
-  core = back.core;
-  devices = back.devices;
-  swap = back.swap;
   low = λ a from to. back.low a from (omega arith);
   high = λ a from to. back.high a from (omega arith);
 }
 
-holds_before : (words : List ℕ) (quantum n : ℕ) (t new : Tasks) (play : Play) → (one : IsPlay n t play new) → t.kernel.layout ≡ layout_of (length words) → image_of (layout_of (length words)) t.kernel.mote.flash.words ≡ words → t.kernel.quantum ≡ quantum
+holds_before : (words : List ℕ) (quantum n : ℕ) (t new : Tasks) (play : Play) → (one : IsPlay n t play new) → t.kernel.layout ≡ layout_of (length words)
+    → image_of (layout_of (length words)) t.kernel.mote.flash.words ≡ words → t.kernel.quantum ≡ quantum
     → Holds words quantum (state_of (machine_of t t.running one.task))
 holds_before words quantum n t new play one laid held counts =
     record { laid = laid; held = ap (λ (m : Mote). image_of (layout_of (length words)) m.flash.words) (mote_before n t new play one) ∙ held; counts = counts }
@@ -120,7 +117,8 @@ record FollowsPlay (words : List ℕ) (quantum n : ℕ) (t new : Tasks) (play : 
   held : image_of (layout_of (length words)) one.mid.kernel.mote.flash.words ≡ words
   counts : one.mid.kernel.quantum ≡ quantum
 
-follow_play : (words : List ℕ) (quantum n : ℕ) (t new : Tasks) (play : Play) → (one : IsPlay n t play new) → t.kernel.layout ≡ layout_of (length words) → image_of (layout_of (length words)) t.kernel.mote.flash.words ≡ words → t.kernel.quantum ≡ quantum → FollowsPlay words quantum n t new play one
+follow_play : (words : List ℕ) (quantum n : ℕ) (t new : Tasks) (play : Play) → (one : IsPlay n t play new) → t.kernel.layout ≡ layout_of (length words)
+    → image_of (layout_of (length words)) t.kernel.mote.flash.words ≡ words → t.kernel.quantum ≡ quantum → FollowsPlay words quantum n t new play one
 follow_play words quantum n t new play one laid held counts =
     let x = state_of (machine_of t t.running one.task) in
     let z = state_of (machine_of one.mid t.running one.next) in
@@ -148,21 +146,11 @@ on_quantum true mid new is = ap (λ (z : Tasks). z.kernel.quantum) is ∙ to_qua
 on_quantum false mid new is = ap (λ (z : Tasks). z.kernel.quantum) is
 
 -- where a task stands, and so the mote before it is stepped
-state_held : (k : Kernel) (own : Mote) (pc steps crossings : ℕ) (s : FlatState) → IsPaged own.sram own.swap → state_at (record k { mote = own }) pc steps crossings ≡ s → HasState s own
-unfolding data_word_at byte_at
-state_held k own pc steps crossings s paged same = record {
-  registers = ap (λ (z : FlatState). z.cpu.r) same;
-  status = ap (λ (z : FlatState). z.cpu.sreg) same;
-  pointer = ap (λ (z : FlatState). z.cpu.sp) same;
-  memory = subst (HasMemory own) (ap (λ (z : FlatState). z.memory) same) (has_memory own paged);
-  slots = subst (HaveSlots own) (ap (λ (z : FlatState). z.pages) same) (have_slots own);
-  devices = ap (λ (z : FlatState). z.devices) same;
-}
-
 stands_before : (n : ℕ) (t new : Tasks) (play : Play) → (one : IsPlay n t play new) → HasState (player_of n t t.running one.task).moment.now t.kernel.mote
 stands_before n t new play one =
     let m = machine_of t t.running one.task in
-    subst (HasState (flat_of m).now) (mote_before n t new play one) (state_held m.kernel m.kernel.mote m.at m.steps m.crossings (flat_of m).now (one.sound.each t.running one.task one.here).sound.order.paged refl)
+    subst (HasState (flat_of m).now) (mote_before n t new play one)
+    (has_state m.kernel m.kernel.mote m.at m.steps m.crossings (flat_of m).now (one.sound.each t.running one.task one.here).sound.order.paged refl)
 
 stands_here : (n : ℕ) (t new : Tasks) (play : Play) → (one : IsPlay n t play new) → StandsAfter (λ k. flat_of (machine_of t t.running one.task)) 0 (machine_of t t.running one.task)
 stands_here n t new play one =
@@ -170,34 +158,41 @@ stands_here n t new play one =
     record { ready = its.going one.whole one.going; quiet = its.quiet one.whole one.going; stands = refl }
 
 -- the moves of a try as acts
-step_tried : (image : List ℕ) (quantum : ℕ) (y : Machine) (z : State) (moves : List Move) → Holds image quantum (state_of y) → StandsAfter (λ k. flat_of y) 0 y → Asked (state_of y) → AreAStep y.at moves → (walk : Walk (state_of y) moves z)
+step_tried : (image : List ℕ) (quantum : ℕ) (y : Machine) (z : State) (moves : List Move) → Holds image quantum (state_of y) → StandsAfter (λ k. flat_of y) 0 y → Asked (state_of y)
+    → AreAStep y.at moves → (walk : Walk (state_of y) moves z)
     → AreOfStep image (flat_of y) (mote_of (state_of y)) (acts_of (state_of y) moves z walk)
 step_tried image quantum y z moves holds stands asked made =
     acts_as (state_of y) z (AreOfStep image (flat_of y) (mote_of (state_of y))) moves (made.arrival ++ made.own) made.parts
     (step_acts image quantum (λ k. flat_of y) 0 y z made.arrival made.own holds stands asked made.arrives made.makes)
 
-stop_tried : (image : List ℕ) (quantum : ℕ) (y : Machine) (z : State) (moves : List Move) → Holds image quantum (state_of y) → StandsAfter (λ k. flat_of y) 0 y → Asked (state_of y) → AreStopped y.at moves z.end → (walk : Walk (state_of y) moves z)
+stop_tried : (image : List ℕ) (quantum : ℕ) (y : Machine) (z : State) (moves : List Move) → Holds image quantum (state_of y) → StandsAfter (λ k. flat_of y) 0 y → Asked (state_of y)
+    → AreStopped y.at moves z.end → (walk : Walk (state_of y) moves z)
     → AreOfStep image (flat_of y) (mote_of (state_of y)) (acts_of (state_of y) moves z walk) × StopsLast true (acts_of (state_of y) moves z walk)
-stop_tried image quantum y z moves holds stands asked made walk = (step_tried image quantum y z moves holds stands asked made.step walk, stop_last (state_of y) moves z walk stands.ready.going (made.stop, made.stops))
+stop_tried image quantum y z moves holds stands asked made walk =
+    (step_tried image quantum y z moves holds stands asked made.step walk, stop_last (state_of y) moves z walk stands.ready.going (made.stop, made.stops))
 
-try_acts : (image : List ℕ) (quantum : ℕ) (y : Machine) (z : State) (moves : List Move) → Holds image quantum (state_of y) → StandsAfter (λ k. flat_of y) 0 y → Asked (state_of y) → (comes : Played) → playing.AreOfTry y.at moves z.end comes → (walk : Walk (state_of y) moves z)
-    → AreOfTry image (flat_of y) (mote_of (state_of y)) (acts_of (state_of y) moves z walk) comes
-try_acts image quantum y z moves holds stands asked (Over Spent) none = acts_as (state_of y) z (λ acts. acts ≡ []) moves [] none (λ walk. refl)
-try_acts image quantum y z moves holds stands asked (Over (Wild pc)) none = acts_as (state_of y) z (λ acts. acts ≡ []) moves [] none (λ walk. refl)
-try_acts image quantum y z moves holds stands asked (Over _) made = stop_tried image quantum y z moves holds stands asked made
-try_acts image quantum y z moves holds stands asked (Gone line checkpoint next) made = λ walk. (step_tried image quantum y z moves holds stands asked made.step walk, no_stop (state_of y) moves z walk made.going)
+try_acts : (image : List ℕ) (quantum : ℕ) (y z : Machine) (moves : List Move) → Holds image quantum (state_of y) → StandsAfter (λ k. flat_of y) 0 y → Asked (state_of y) → (comes : Played)
+    → playing.AreOfTry y.at moves z comes → (walk : Walk (state_of y) moves (state_of z))
+    → AreOfTry image (flat_of y) (mote_of (state_of y)) (acts_of (state_of y) moves (state_of z) walk) comes
+try_acts image quantum y z moves holds stands asked (Over Spent) none = acts_as (state_of y) (state_of z) (λ acts. acts ≡ []) moves [] none (λ walk. refl)
+try_acts image quantum y z moves holds stands asked (Over (Wild pc)) none = acts_as (state_of y) (state_of z) (λ acts. acts ≡ []) moves [] none (λ walk. refl)
+try_acts image quantum y z moves holds stands asked (Over _) made = stop_tried image quantum y (state_of z) moves holds stands asked made
+try_acts image quantum y z moves holds stands asked (Gone line checkpoint next) made =
+    λ walk. (step_tried image quantum y (state_of z) moves holds stands asked made.step walk, no_stop (state_of y) moves (state_of z) walk made.ready.going)
 
-tried_acts : (words : List ℕ) (quantum n : ℕ) (t new : Tasks) (play : Play) → (one : IsPlay n t play new) → t.kernel.layout ≡ layout_of (length words) → image_of (layout_of (length words)) t.kernel.mote.flash.words ≡ words → t.kernel.quantum ≡ quantum → Asked (state_of (machine_of t t.running one.task))
+tried_acts : (words : List ℕ) (quantum n : ℕ) (t new : Tasks) (play : Play) → (one : IsPlay n t play new) → t.kernel.layout ≡ layout_of (length words)
+    → image_of (layout_of (length words)) t.kernel.mote.flash.words ≡ words → t.kernel.quantum ≡ quantum → Asked (state_of (machine_of t t.running one.task))
     → AreOfTry words (player_of n t t.running one.task).moment t.kernel.mote (stint_of n t play new one).acts (played (player_of n t t.running one.task))
 tried_acts words quantum n t new play one laid held counts asked =
     let y = machine_of t t.running one.task in
-    let z = state_of (machine_of one.mid t.running one.next) in
+    let z = machine_of one.mid t.running one.next in
     let p = player_of n t t.running one.task in
     subst (λ (b : Mote). AreOfTry words p.moment b (stint_of n t play new one).acts (played p)) (mote_before n t new play one)
     (try_acts words quantum y z play.moves (holds_before words quantum n t new play one laid held counts) (stands_here n t new play one) asked (played p) one.of_try one.tried.goes.walk)
 
 -- between two steps, before it
-counted_before : (words : List ℕ) (quantum n : ℕ) (t new : Tasks) (play : Play) → (one : IsPlay n t play new) → t.kernel.layout ≡ layout_of (length words) → image_of (layout_of (length words)) t.kernel.mote.flash.words ≡ words → t.kernel.quantum ≡ quantum
+counted_before : (words : List ℕ) (quantum n : ℕ) (t new : Tasks) (play : Play) → (one : IsPlay n t play new) → t.kernel.layout ≡ layout_of (length words)
+    → image_of (layout_of (length words)) t.kernel.mote.flash.words ≡ words → t.kernel.quantum ≡ quantum
     → Asked (state_of (machine_of t t.running one.task)) → IsBetween quantum (player_of n t t.running one.task).moment t.kernel.mote
 counted_before words quantum n t new play one laid held counts asked =
     let y = machine_of t t.running one.task in
@@ -209,7 +204,8 @@ abbrev pub left_at_end : (n : ℕ) (t : Tasks) (plays : List Play) (new : Tasks)
 left_at_end n t [] new is left = left
 left_at_end n t (play ∷ plays) new (mid, one, rest) left = left_at_end n mid plays new rest one.mid.kernel.mote
 
-take_turns : (words : List ℕ) (quantum count n : ℕ) (t : Tasks) (plays : List Play) (new : Tasks) (motes : List Mote) (left : Mote) → length words ≡ 4096 * count → length t.tasks ≡ count → (path : TaskPath n t plays new) → AreLeft t motes left
+take_turns : (words : List ℕ) (quantum count n : ℕ) (t : Tasks) (plays : List Play) (new : Tasks) (motes : List Mote) (left : Mote) → length words ≡ 4096 * count → length t.tasks ≡ count
+    → (path : TaskPath n t plays new) → AreLeft t motes left
     → AllAsked t motes → image_of (layout_of (length words)) left.flash.words ≡ words → t.kernel.quantum ≡ quantum
     → TakeTurns words quantum (turns_of n t) left motes (stints_of n t plays new path) (turns_of n new) (left_at_end n t plays new path left) (motes_behind n t plays new path motes)
 take_turns words quantum count n t [] new motes left size long is are asked held counts = (ap (turns_of n) is, refl, refl)
@@ -234,13 +230,17 @@ take_turns words quantum count n t (play ∷ plays) new motes left size long (mi
       tried_acts words quantum n t mid play one laid here counts (asked_before n t mid play motes left one are asked),
       sym (lines_of_acts (state_of (machine_of t t.running one.task)) play.moves (state_of (machine_of one.mid t.running one.next)) one.tried.goes.walk) ∙ one.tried.goes.told ∙ ap lines_told one.told,
       done.follow,
-      subst (λ (u : Turns). TakeTurns words quantum u one.mid.kernel.mote next (stints_of n mid plays new rest) (turns_of n new) (left_at_end n mid plays new rest one.mid.kernel.mote) (motes_behind n mid plays new rest next)) one.in_turn
-          (take_turns words quantum count n mid plays new next one.mid.kernel.mote size more rest (left_behind n t mid play motes left one are) (asked_behind n t mid play motes left one are asked) done.held (on_quantum play.changes one.mid mid one.behind ∙ done.counts)),
+      subst (λ (u : Turns). TakeTurns words quantum u one.mid.kernel.mote next (stints_of n mid plays new rest) (turns_of n new) (left_at_end n mid plays new rest one.mid.kernel.mote)
+          (motes_behind n mid plays new rest next)) one.in_turn
+          (take_turns words quantum count n mid plays new next one.mid.kernel.mote size more rest (left_behind n t mid play motes left one are) (asked_behind n t mid play motes left one are asked)
+          done.held (on_quantum play.changes one.mid mid one.behind ∙ done.counts)),
     )
 
 -- the quantum stays, and the image in flash
-kept_path : (words : List ℕ) (quantum count n : ℕ) (t : Tasks) (plays : List Play) (new : Tasks) (motes : List Mote) (left : Mote) → length words ≡ 4096 * count → length t.tasks ≡ count → TaskPath n t plays new → AreLeft t motes left
-    → image_of (layout_of (length words)) left.flash.words ≡ words → t.kernel.quantum ≡ quantum → (new.kernel.quantum ≡ quantum) × (image_of (layout_of (length words)) new.kernel.mote.flash.words ≡ words)
+kept_path : (words : List ℕ) (quantum count n : ℕ) (t : Tasks) (plays : List Play) (new : Tasks) (motes : List Mote) (left : Mote) → length words ≡ 4096 * count → length t.tasks ≡ count
+    → TaskPath n t plays new → AreLeft t motes left
+    → image_of (layout_of (length words)) left.flash.words ≡ words → t.kernel.quantum ≡ quantum
+    → (new.kernel.quantum ≡ quantum) × (image_of (layout_of (length words)) new.kernel.mote.flash.words ≡ words)
 kept_path words quantum count n t [] new motes left size long is are held counts =
     let image : Tasks → List ℕ = λ u. image_of (layout_of (length words)) u.kernel.mote.flash.words in
     (ap (λ (u : Tasks). u.kernel.quantum) (sym is) ∙ counts, ap image (sym is) ∙ ap (λ (f : Memory). image_of (layout_of (length words)) f.words) are.shares.flash ∙ held)
@@ -248,12 +248,15 @@ kept_path words quantum count n t (play ∷ plays) new motes left size long (mid
     let laid = one.sound.layout ∙ ap (λ k. layout_of (4096 * k)) long ∙ ap layout_of (sym size) in
     let here = ap (λ (f : Memory). image_of (layout_of (length words)) f.words) are.shares.flash ∙ held in
     let done = follow_play words quantum n t mid play one laid here counts in
-    kept_path words quantum count n mid plays new (slice_set motes t.running one.mid.kernel.mote) one.mid.kernel.mote size (path_long n t (play ∷ []) mid (mid, one, refl) ∙ long) rest (left_behind n t mid play motes left one are) done.held
+    kept_path words quantum count n mid plays new (slice_set motes t.running one.mid.kernel.mote) one.mid.kernel.mote size (path_long n t (play ∷ []) mid (mid, one, refl) ∙ long) rest
+    (left_behind n t mid play motes left one are) done.held
     (on_quantum play.changes one.mid mid one.behind ∙ done.counts)
 
-left_last : (n : ℕ) (t : Tasks) (plays : List Play) (new : Tasks) (motes : List Mote) (left : Mote) → (path : TaskPath n t plays new) → AreLeft t motes left → AreLeft new (motes_behind n t plays new path motes) (left_at_end n t plays new path left)
+left_last : (n : ℕ) (t : Tasks) (plays : List Play) (new : Tasks) (motes : List Mote) (left : Mote) → (path : TaskPath n t plays new) → AreLeft t motes left
+    → AreLeft new (motes_behind n t plays new path motes) (left_at_end n t plays new path left)
 left_last n t [] new motes left is are = subst (λ u. AreLeft u motes left) is are
-left_last n t (play ∷ plays) new motes left (mid, one, rest) are = left_last n mid plays new (slice_set motes t.running one.mid.kernel.mote) one.mid.kernel.mote rest (left_behind n t mid play motes left one are)
+left_last n t (play ∷ plays) new motes left (mid, one, rest) are = left_last n mid plays new (slice_set motes t.running one.mid.kernel.mote) one.mid.kernel.mote rest
+    (left_behind n t mid play motes left one are)
 
 -- What they count. ----------------------------------------------------------------------------------------
 
@@ -262,31 +265,50 @@ record IsCounted (f : Task → ℕ) (g : Stint → ℕ) : Type 0 where
   unparked : (task : Task) → (parked : Option Parked) → f (record task { parked = parked }) ≡ f task
   play : (n : ℕ) → (t new : Tasks) → (play : Play) → (one : IsPlay n t play new) → f one.next ≡ f one.task + g (stint_of n t play new one)
 
-sum_path : (f : Task → ℕ) (g : Stint → ℕ) (n : ℕ) (t : Tasks) (plays : List Play) (new : Tasks) → IsCounted f g → (path : TaskPath n t plays new) → sum_by f new.tasks ≡ sum_by f t.tasks + sum_by g (stints_of n t plays new path)
+sum_path : (f : Task → ℕ) (g : Stint → ℕ) (n : ℕ) (t : Tasks) (plays : List Play) (new : Tasks) → IsCounted f g → (path : TaskPath n t plays new)
+    → sum_by f new.tasks ≡ sum_by f t.tasks + sum_by g (stints_of n t plays new path)
 sum_path f g n t [] new counts is = let same : sum_by f new.tasks ≡ sum_by f t.tasks = ap (λ (u : Tasks). sum_by f u.tasks) (sym is) in omega (arith, same)
 sum_path f g n t (play ∷ plays) new counts (mid, one, rest) =
-    omega (arith, sum_path f g n mid plays new counts rest, sum_play f n t mid play counts.unparked one, counts.play n t mid play one, sum_by-cons g (stint_of n t play mid one) (stints_of n mid plays new rest))
+    omega (
+      arith,
+      sum_path f g n mid plays new counts rest,
+      sum_play f n t mid play counts.unparked one,
+      counts.play n t mid play one,
+      sum_by-cons g (stint_of n t play mid one)
+          (stints_of n mid plays new rest),
+    )
 
 natural_counts : IsCounted (λ task. task.natural) (λ stint. steps_in stint.acts)
 natural_counts = record {
   unparked = λ task parked. refl;
-  play = λ n t new play one. ap (λ (k : Numbers). k.natural) one.tried.goes.numbers ∙ natural_of (state_of (machine_of t t.running one.task)) play.moves (state_of (machine_of one.mid t.running one.next)) one.tried.goes.walk (numbers_of (machine_of t t.running one.task));
+  play = λ n t new play one. ap (λ (k : Numbers). k.natural) one.tried.goes.numbers ∙ natural_of (state_of (machine_of t t.running one.task)) play.moves
+      (state_of (machine_of one.mid t.running one.next)) one.tried.goes.walk (numbers_of (machine_of t t.running one.task));
 }
 
 entries_counts : IsCounted (λ task. task.entries) (λ stint. services_in stint.acts)
 entries_counts = record {
   unparked = λ task parked. refl;
-  play = λ n t new play one. ap (λ (k : Numbers). k.entries) one.tried.goes.numbers ∙ entries_of (state_of (machine_of t t.running one.task)) play.moves (state_of (machine_of one.mid t.running one.next)) one.tried.goes.walk (numbers_of (machine_of t t.running one.task));
+  play = λ n t new play one. ap (λ (k : Numbers). k.entries) one.tried.goes.numbers ∙ entries_of (state_of (machine_of t t.running one.task)) play.moves
+      (state_of (machine_of one.mid t.running one.next)) one.tried.goes.walk (numbers_of (machine_of t t.running one.task));
 }
 
 pages_tried : (n : ℕ) (t new : Tasks) (play : Play) → (one : IsPlay n t play new) → one.mid.pages ≡ t.pages + made_in (stint_of n t play new one).acts
 pages_tried n t new play one =
-    ap (λ (k : Numbers). k.pages) one.tried.goes.numbers ∙ pages_of (state_of (machine_of t t.running one.task)) play.moves (state_of (machine_of one.mid t.running one.next)) one.tried.goes.walk (numbers_of (machine_of t t.running one.task))
+    ap (λ (k : Numbers). k.pages) one.tried.goes.numbers ∙ pages_of (state_of (machine_of t t.running one.task)) play.moves (state_of (machine_of one.mid t.running one.next)) one.tried.goes.walk
+    (numbers_of (machine_of t t.running one.task))
 
-pages_path : (n : ℕ) (t : Tasks) (plays : List Play) (new : Tasks) → (path : TaskPath n t plays new) → new.pages ≡ t.pages + sum_by (λ (stint : Stint). made_in stint.acts) (stints_of n t plays new path)
+pages_path : (n : ℕ) (t : Tasks) (plays : List Play) (new : Tasks) → (path : TaskPath n t plays new)
+    → new.pages ≡ t.pages + sum_by (λ (stint : Stint). made_in stint.acts) (stints_of n t plays new path)
 pages_path n t [] new is = let same : new.pages ≡ t.pages = ap (λ (u : Tasks). u.pages) (sym is) in omega (arith, same)
 pages_path n t (play ∷ plays) new (mid, one, rest) =
-    omega (arith, pages_path n mid plays new rest, pages_play n t mid play one, pages_tried n t mid play one, sum_by-cons (λ (stint : Stint). made_in stint.acts) (stint_of n t play mid one) (stints_of n mid plays new rest))
+    omega (
+      arith,
+      pages_path n mid plays new rest,
+      pages_play n t mid play one,
+      pages_tried n t mid play one,
+      sum_by-cons (λ (stint : Stint). made_in stint.acts) (stint_of n t play mid one)
+          (stints_of n mid plays new rest),
+    )
 
 abbrev one_unless : Bool → ℕ
 one_unless test = cond test 0 1
@@ -320,7 +342,8 @@ changes_path n t (play ∷ plays) new (mid, one, rest) =
 -- How often pages are erased. -----------------------------------------------------------------------------
 
 -- by a play behind which the pool holds all pages that were made
-play_spares : (words : List ℕ) (quantum n : ℕ) (t new : Tasks) (play : Play) → (one : IsPlay n t play new) → t.kernel.layout ≡ layout_of (length words) → image_of (layout_of (length words)) t.kernel.mote.flash.words ≡ words → t.kernel.quantum ≡ quantum
+play_spares : (words : List ℕ) (quantum n : ℕ) (t new : Tasks) (play : Play) → (one : IsPlay n t play new) → t.kernel.layout ≡ layout_of (length words)
+    → image_of (layout_of (length words)) t.kernel.mote.flash.words ≡ words → t.kernel.quantum ≡ quantum
     → one.mid.pages ≤ (layout_of (length words)).pool_pages → IsSpared t.kernel.mote.flash one.mid.kernel.mote.flash
 play_spares words quantum n t new play one laid held counts fits =
     let y = machine_of t t.running one.task in
@@ -329,14 +352,16 @@ play_spares words quantum n t new play one laid held counts fits =
     let l = layout_of (length words) in
     let before : flash ≡ t.kernel.mote.flash = ap (λ (m : Mote). m.flash) (mote_before n t new play one) in
     let behind : z.kernel.mote.flash ≡ one.mid.kernel.mote.flash = ap (λ (m : Mote). m.flash) (mote_behind n t new play one) in
-    let used : used_pages l flash.words ≡ min t.pages l.pool_pages = subst (λ (k : Layout). used_pages k flash.words ≡ min t.pages k.pool_pages) laid (one.sound.each t.running one.task one.here).sound.order.pages in
+    let used : used_pages l flash.words ≡ min t.pages l.pool_pages = subst (λ (k : Layout). used_pages k flash.words ≡ min t.pages k.pool_pages) laid
+    (one.sound.each t.running one.task one.here).sound.order.pages in
     let none : flash.failing ≡ [] = ap (λ (f : Memory). f.failing) before ∙ one.sound.unfailing in
     subst (λ (f : Memory). IsSpared f one.mid.kernel.mote.flash) before (subst (IsSpared flash) behind
     (walk_spares words quantum (state_of y) play.moves (state_of z) one.tried.goes.walk (holds_before words quantum n t new play one laid held counts)
     (omega (arith, used, min-le_left t.pages l.pool_pages, pages_tried n t new play one, fits), λ op low high. ap (list_any (λ k. k == op)) none)))
 
 -- the change of the task leaves flash
-path_spares : (words : List ℕ) (quantum count n : ℕ) (t : Tasks) (plays : List Play) (new : Tasks) (motes : List Mote) (left : Mote) → length words ≡ 4096 * count → length t.tasks ≡ count → TaskPath n t plays new → AreLeft t motes left
+path_spares : (words : List ℕ) (quantum count n : ℕ) (t : Tasks) (plays : List Play) (new : Tasks) (motes : List Mote) (left : Mote) → length words ≡ 4096 * count → length t.tasks ≡ count
+    → TaskPath n t plays new → AreLeft t motes left
     → image_of (layout_of (length words)) left.flash.words ≡ words → t.kernel.quantum ≡ quantum → new.pages ≤ (layout_of (length words)).pool_pages → IsSpared t.kernel.mote.flash new.kernel.mote.flash
 path_spares words quantum count n t [] new motes left size long is are held counts fits = subst (λ (u : Tasks). IsSpared t.kernel.mote.flash u.kernel.mote.flash) is (spares_self t.kernel.mote.flash)
 path_spares words quantum count n t (play ∷ plays) new motes left size long (mid, one, rest) are held counts fits =
@@ -344,14 +369,17 @@ path_spares words quantum count n t (play ∷ plays) new motes left size long (m
     let here = ap (λ (f : Memory). image_of (layout_of (length words)) f.words) are.shares.flash ∙ held in
     let done = follow_play words quantum n t mid play one laid here counts in
     let next = left_behind n t mid play motes left one are in
-    spares_on t.kernel.mote.flash one.mid.kernel.mote.flash new.kernel.mote.flash (play_spares words quantum n t mid play one laid here counts (omega (arith, fits, pages_path n mid plays new rest, pages_play n t mid play one)))
+    spares_on t.kernel.mote.flash one.mid.kernel.mote.flash new.kernel.mote.flash
+    (play_spares words quantum n t mid play one laid here counts (omega (arith, fits, pages_path n mid plays new rest, pages_play n t mid play one)))
     (subst (λ (f : Memory). IsSpared f new.kernel.mote.flash) next.shares.flash
-    (path_spares words quantum count n mid plays new (slice_set motes t.running one.mid.kernel.mote) one.mid.kernel.mote size (path_long n t (play ∷ []) mid (mid, one, refl) ∙ long) rest next done.held
+    (path_spares words quantum count n mid plays new (slice_set motes t.running one.mid.kernel.mote) one.mid.kernel.mote size (path_long n t (play ∷ []) mid (mid, one, refl) ∙ long) rest next
+    done.held
     (on_quantum play.changes one.mid mid one.behind ∙ done.counts) fits))
 
 -- What stands in flash. -----------------------------------------------------------------------------------
 
-faithful_left : (words : List ℕ) (t : Tasks) → AreSound t → t.kernel.layout ≡ layout_of (length words) → image_of (layout_of (length words)) t.kernel.mote.flash.words ≡ words → AreFaithful words t.kernel.mote.flash.words
+faithful_left : (words : List ℕ) (t : Tasks) → AreSound t → t.kernel.layout ≡ layout_of (length words) → image_of (layout_of (length words)) t.kernel.mote.flash.words ≡ words
+    → AreFaithful words t.kernel.mote.flash.words
 faithful_left words t sound laid held =
     let runs = running_task t (slice_get t.tasks t.running) sound.one_runs refl in
     let its = sound.each t.running runs.0 runs.1 in
@@ -370,7 +398,8 @@ all_arrived [] = omega arith
 all_arrived (task ∷ tasks) = omega (arith, all_arrived tasks, most_owed (owed_of task.owed None) task.steps, sum_by-cons arrivals_of task tasks, sum_by-cons (λ (x : Task). x.steps) task tasks)
 
 -- .. and the others than one
-others_arrived : (tasks : List Task) (i : ℕ) (task : Task) → slice_get tasks i ≡ Some task → sum_by arrivals_of tasks + task.steps + 1 ≤ sum_by (λ (x : Task). x.steps) tasks + length tasks + arrivals_of task
+others_arrived : (tasks : List Task) (i : ℕ) (task : Task) → slice_get tasks i ≡ Some task
+    → sum_by arrivals_of tasks + task.steps + 1 ≤ sum_by (λ (x : Task). x.steps) tasks + length tasks + arrivals_of task
 others_arrived [] i task there = absurd (cc)
 others_arrived (x ∷ tasks) zero task there =
     let same : x ≡ task = same_Some x task there in
@@ -407,14 +436,13 @@ paged_back own n back size paged =
 is_parked : (own : Mote) → IsParked own (parked_of own)
 unfolding byte_at
 is_parked own = record {
-  core = refl;
-  devices = refl;
-  swap = refl;
+  stays = refl;
   low = λ a from to. let at : 0x0100 + (a - 0x0100) ≡ a = omega arith in part_byte own.sram 0x0100 low_count (a - 0x0100) (omega arith) (omega arith) ∙ ap (byte_at own.sram) at;
   high = λ a from to. let at : 0x0400 + (a - 0x0400) ≡ a = omega arith in part_byte own.sram 0x0400 high_count (a - 0x0400) (omega arith) (omega arith) ∙ ap (byte_at own.sram) at;
 }
 
-has_part : (t : Tasks) (left : Mote) (i : ℕ) (task : Task) (own : Mote) → AreSound t → Shares left t.kernel.mote → slice_get t.tasks i ≡ Some task → IsHeld t i task own → HasPart left own t.kernel.mote (eqb i t.running) task
+has_part : (t : Tasks) (left : Mote) (i : ℕ) (task : Task) (own : Mote) → AreSound t → Shares left t.kernel.mote → slice_get t.tasks i ≡ Some task → IsHeld t i task own
+    → HasPart left own t.kernel.mote (eqb i t.running) task
 has_part t left i task own sound shares there (IsHeld.Here same back) =
     let runs : eqb i t.running ≡ true = grind (arith, nat_tests, same) in
     Here runs ((sound.each i task there).running same) (comes_back left own t.kernel.mote shares back)
@@ -423,20 +451,27 @@ has_part t left i task own sound shares there (IsHeld.Away apart parked) =
     Away waits (parked_of own) parked (is_parked own)
 
 -- the mote that a task left is where its program stands
-stands_left : (t : Tasks) (motes : List Mote) (left : Mote) (i : ℕ) (task : Task) (s : FlatState) → AreSound t → (are : AreLeft t motes left) → (there : slice_get t.tasks i ≡ Some task) → (flat_of (machine_of t i task)).now ≡ s → HasState s (are.each i task there).own
+stands_left : (t : Tasks) (motes : List Mote) (left : Mote) (i : ℕ) (task : Task) (s : FlatState) → AreSound t → (are : AreLeft t motes left) → (there : slice_get t.tasks i ≡ Some task)
+    → (flat_of (machine_of t i task)).now ≡ s → HasState s (are.each i task there).own
 stands_left t motes left i task s sound are there same =
     let m = machine_of t i task in
     let has = are.each i task there in
     let back = has_back t motes i task sound there has in
     let paged = paged_back has.own m.kernel.mote back has.size (sound.each i task there).sound.order.paged in
-    state_held m.kernel has.own m.at m.steps m.crossings s paged (sym (back.program m.kernel m.at m.steps m.crossings) ∙ same)
+    has_state m.kernel has.own m.at m.steps m.crossings s paged (sym (back.program m.kernel m.at m.steps m.crossings) ∙ same)
 
 -- From boot. ----------------------------------------------------------------------------------------------
 
-waiting_none : (f : Task → ℕ) (task : ℕ) (scripts : List Schedule) (quantum slots : ℕ) → ((k : ℕ) (parked : Option Parked) → f (at_start k parked) ≡ 0) → sum_by f (waiting_from task scripts quantum slots) ≡ 0
+waiting_none : (f : Task → ℕ) (task : ℕ) (scripts : List Schedule) (quantum slots : ℕ) → ((k : ℕ) (parked : Option Parked) → f (at_start k parked) ≡ 0)
+    → sum_by f (waiting_from task scripts quantum slots) ≡ 0
 waiting_none f task [] quantum slots none = refl
 waiting_none f task (script ∷ scripts) quantum slots none =
-    omega (arith, waiting_none f (task + 1) scripts quantum slots none, none task (Some (parked_at_boot script quantum slots)), sum_by-cons f (at_start task (Some (parked_at_boot script quantum slots))) (waiting_from (task + 1) scripts quantum slots))
+    omega (
+      arith,
+      waiting_none f (task + 1) scripts quantum slots none,
+      none task (Some (parked_at_boot script quantum slots)),
+      sum_by-cons f (at_start task (Some (parked_at_boot script quantum slots))) (waiting_from (task + 1) scripts quantum slots),
+    )
 
 -- what the words and the text ask to run
 abbrev pub tasks_request_of : AskedTasks → TaskRequest
@@ -448,25 +483,30 @@ tasks_at_boot asked scripts = start_by (tasks_request_of asked) scripts
 boots : (asked : AskedTasks) (first : Schedule) (others : List Schedule) → length others + 1 ≡ asked.count → events_of asked 0 ≡ first.events
     → IsBoot (words_of asked) [] (events_of asked 0) asked.quantum asked.slots (tasks_at_boot asked (first ∷ others)).kernel.mote
 boots asked first others long events =
-    let Boots : ℕ → Type 0 = λ k. IsBoot (task_words k asked.image) [] (events_of asked 0) asked.quantum asked.slots (mote_at_boot (task_words (length others + 1) asked.image) first asked.quantum asked.slots) in
+    let Boots : ℕ → Type 0 = λ k. IsBoot (task_words k asked.image) [] (events_of asked 0) asked.quantum asked.slots
+    (mote_at_boot (task_words (length others + 1) asked.image) first asked.quantum asked.slots) in
     let words = task_words (length others + 1) asked.image in
-    subst Boots long (subst (λ e. IsBoot words [] e asked.quantum asked.slots (mote_at_boot words first asked.quantum asked.slots)) (sym events) (is_boot words [] first.events asked.quantum asked.slots))
+    subst Boots long (subst (λ e. IsBoot words [] e asked.quantum asked.slots (mote_at_boot words first asked.quantum asked.slots)) (sym events)
+    (is_boot words [] first.events asked.quantum asked.slots))
 
 boots_image : (asked : AskedTasks) (first : Schedule) (others : List Schedule) → length others + 1 ≡ asked.count
     → image_of (layout_of (length (words_of asked))) (tasks_at_boot asked (first ∷ others)).kernel.mote.flash.words ≡ words_of asked
 boots_image asked first others long =
-    let Held : ℕ → Type 0 = λ k. take (length (task_words k asked.image)) (mote_at_boot (task_words (length others + 1) asked.image) first asked.quantum asked.slots).flash.words ≡ task_words k asked.image in
+    let Held : ℕ → Type 0 = λ k. take (length (task_words k asked.image)) (mote_at_boot (task_words (length others + 1) asked.image) first asked.quantum asked.slots).flash.words
+    ≡ task_words k asked.image in
     subst Held long (loaded_image (task_words (length others + 1) asked.image))
 
 -- each task's own mote there
-own_waiting : (scripts : List Schedule) (quantum slots k : ℕ) (m : Mote) → slice_get (waiting_motes scripts quantum slots) k ≡ Some m → IsNew (slice_index_or {A = Schedule} scripts k (record { events = []; failing = [] })).events quantum slots m
+own_waiting : (scripts : List Schedule) (quantum slots k : ℕ) (m : Mote) → slice_get (waiting_motes scripts quantum slots) k ≡ Some m
+    → IsNew (slice_index_or {A = Schedule} scripts k (record { events = []; failing = [] })).events quantum slots m
 own_waiting [] quantum slots k m there = absurd (cc)
 own_waiting (script ∷ scripts) quantum slots zero m there = subst (IsNew script.events quantum slots) (same_Some _ m there) (is_new (new_flash [] []) script.events quantum slots refl refl)
 own_waiting (script ∷ scripts) quantum slots (suc k) m there = own_waiting scripts quantum slots k m there
 
 own_at_boot : (image : List ℕ) (first : Schedule) (others : List Schedule) (quantum slots task : ℕ) (m : Mote) → slice_get (first_motes image first others quantum slots) task ≡ Some m
     → IsNew (slice_index_or {A = Schedule} (first ∷ others) task (record { events = []; failing = [] })).events quantum slots m
-own_at_boot image first others quantum slots zero m there = subst (IsNew first.events quantum slots) (same_Some _ m there) (is_new (new_flash (task_words (length others + 1) image) []) first.events quantum slots refl refl)
+own_at_boot image first others quantum slots zero m there = subst (IsNew first.events quantum slots) (same_Some _ m there)
+    (is_new (new_flash (task_words (length others + 1) image) []) first.events quantum slots refl refl)
 own_at_boot image first others quantum slots (suc k) m there = own_waiting others quantum slots k m there
 
 -- nothing was done by it
@@ -479,7 +519,7 @@ same_end None = refl
 same_end (Some task_ends.Spent) = refl
 same_end (Some (task_ends.Wild pc)) = refl
 same_end (Some (task_ends.Read pc a)) = refl
-same_end (Some (task_ends.Stopped stop)) = ap Some (sym (own_stop stop))
+same_end (Some (task_ends.Stopped stop)) = refl
 
 -- Each player is a task. ----------------------------------------------------------------------------------
 
@@ -488,7 +528,8 @@ record IsPlayed (n : ℕ) (t : Tasks) (i : ℕ) (p : Player) : Type 0 where
   there : slice_get t.tasks i ≡ Some its
   is : player_of n t i its ≡ p
 
-played_from : (n : ℕ) (t : Tasks) (k : ℕ) (tasks : List Task) (i : ℕ) (p : Player) → slice_get (players_from n t k tasks) i ≡ Some p → (task : Task) × (slice_get tasks i ≡ Some task) × (player_of n t (k + i) task ≡ p)
+played_from : (n : ℕ) (t : Tasks) (k : ℕ) (tasks : List Task) (i : ℕ) (p : Player) → slice_get (players_from n t k tasks) i ≡ Some p
+    → (task : Task) × (slice_get tasks i ≡ Some task) × (player_of n t (k + i) task ≡ p)
 played_from n t k [] i p there = absurd (cc)
 played_from n t k (task ∷ tasks) zero p there =
     let at : k + 0 ≡ k = omega arith in
@@ -517,8 +558,10 @@ left_if t broken motes left are = record {
 
 -- All of it. ----------------------------------------------------------------------------------------------
 
-pub have_stints : (asked : AskedTasks) (scripts : List Schedule) (t last : Tasks) (plays : List Play) (broken : Bool) (to : Turns) → asked.scripts ≡ scripts → length asked.scripts ≡ asked.count → 1 ≤ asked.count
-    → AreSound (tasks_at_boot asked asked.scripts) → turns_of asked.steps (tasks_at_boot asked asked.scripts) ≡ reset_of asked → TaskPath asked.steps (tasks_at_boot asked asked.scripts) plays last → t ≡ counted last broken → turns_of asked.steps last ≡ to
+pub have_stints : (asked : AskedTasks) (scripts : List Schedule) (t last : Tasks) (plays : List Play) (broken : Bool) (to : Turns) → asked.scripts ≡ scripts → length asked.scripts ≡ asked.count
+    → 1 ≤ asked.count
+    → AreSound (tasks_at_boot asked asked.scripts) → turns_of asked.steps (tasks_at_boot asked asked.scripts) ≡ reset_of asked → TaskPath asked.steps (tasks_at_boot asked asked.scripts) plays last
+    → t ≡ counted last broken → turns_of asked.steps last ≡ to
     → AreSound t → LeadThere asked to t
 have_stints asked [] t last plays broken to is long some sound_boot reset path counts leads sound = absurd (omega (arith, ap length is, long, some))
 have_stints asked (first ∷ others) t last plays broken to is long some sound_boot reset path counts leads sound =
@@ -529,7 +572,8 @@ have_stints asked (first ∷ others) t last plays broken to is long some sound_b
     let at_reset : turns_of n booted ≡ reset_of asked = ap (turns_of n) (sym same) ∙ reset in
     let motes = first_motes asked.image first others asked.quantum asked.slots in
     let are = left_at_boot asked.image first others asked.quantum asked.slots in
-    let asked_first : AllAsked booted motes = λ i task own there mote going owes. at_rest own (ap (λ (c : Cpu). c.pc) (own_at_boot asked.image first others asked.quantum asked.slots i own mote).core) in
+    let asked_first : AllAsked booted motes = λ i task own there mote going owes. at_rest own
+    (ap (λ (c : Cpu). c.pc) (own_at_boot asked.image first others asked.quantum asked.slots i own mote).core) in
     let left = left_at_end n booted plays last way booted.kernel.mote in
     let behind = motes_behind n booted plays last way motes in
     let u = counted last broken in
@@ -538,7 +582,8 @@ have_stints asked (first ∷ others) t last plays broken to is long some sound_b
     let size : length asked.scripts ≡ length (first ∷ others) = ap length is in
     let count : length others + 1 ≡ asked.count = omega (arith, size, long) in
     let tasks_long : length booted.tasks ≡ asked.count = omega (arith, waiting_length 1 others asked.quantum asked.slots, count) in
-    let none : (f : Task → ℕ) → ((k : ℕ) (parked : Option Parked) → f (at_start k parked) ≡ 0) → sum_by f booted.tasks ≡ 0 = λ f zero_at. omega (arith, sum_by-cons f (at_start 0 None) (waiting_from 1 others asked.quantum asked.slots), zero_at 0 None, waiting_none f 1 others asked.quantum asked.slots zero_at) in
+    let none : (f : Task → ℕ) → ((k : ℕ) (parked : Option Parked) → f (at_start k parked) ≡ 0) → sum_by f booted.tasks ≡ 0 =
+    λ f zero_at. omega (arith, sum_by-cons f (at_start 0 None) (waiting_from 1 others asked.quantum asked.slots), zero_at 0 None, waiting_none f 1 others asked.quantum asked.slots zero_at) in
     let words_long : length (words_of asked) ≡ 4096 * asked.count = length-map-range_with_len (word asked.image) 0 (4096 * asked.count) in
     let last_long : length t.tasks ≡ asked.count = ap (λ (z : Tasks). length z.tasks) counts ∙ path_long n booted plays last way ∙ tasks_long in
     let laid_last : t.kernel.layout ≡ layout_of (length (words_of asked)) = sound.layout ∙ ap (λ k. layout_of (4096 * k)) last_long ∙ ap layout_of (sym words_long) in
@@ -550,7 +595,8 @@ have_stints asked (first ∷ others) t last plays broken to is long some sound_b
       begins = boots asked first others count (ap (λ (s : List Schedule). (slice_index_or {A = Schedule} s 0 (record { events = []; failing = [] })).events) is);
       motes = motes;
       first_is = refl;
-      own = λ task m there. subst (λ (l : List Schedule). IsNew (slice_index_or {A = Schedule} l task (record { events = []; failing = [] })).events asked.quantum asked.slots m) (sym is) (own_at_boot asked.image first others asked.quantum asked.slots task m there);
+      own = λ task m there. subst (λ (l : List Schedule). IsNew (slice_index_or {A = Schedule} l task (record { events = []; failing = [] })).events asked.quantum asked.slots m) (sym is)
+          (own_at_boot asked.image first others asked.quantum asked.slots task m there);
       starts = λ task p there.
           let one = is_played n booted (reset_of asked) task p at_reset there in
           let has = are.each task one.its one.there in
@@ -586,18 +632,25 @@ have_stints asked (first ∷ others) t last plays broken to is long some sound_b
       layout = laid_last;
       quantum_is = quantum;
       switched = ap (λ (z : Tasks). z.switches) counts ∙ ap (λ (s : Turns). s.switches) leads;
-      switches = ap (λ (z : Tasks). z.switches) counts ∙ changes_path n booted plays last way ∙ zero-add (_) ∙ ap (changes_from 0 (stints_of n booted plays last way)) (ap (λ (s : Turns). s.running) leads);
-      natural_is = ap (λ (z : Tasks). z.natural) counts ∙ sum_path (λ task. task.natural) (λ stint. steps_in stint.acts) n booted plays last natural_counts way ∙ ap (λ k. k + sum_by (λ (stint : Stint). steps_in stint.acts) (stints_of n booted plays last way)) (none (λ task. task.natural) (λ k parked. refl)) ∙ zero-add (_);
-      entries_is = ap (λ (z : Tasks). z.entries) counts ∙ sum_path (λ task. task.entries) (λ stint. services_in stint.acts) n booted plays last entries_counts way ∙ ap (λ k. k + sum_by (λ (stint : Stint). services_in stint.acts) (stints_of n booted plays last way)) (none (λ task. task.entries) (λ k parked. refl)) ∙ zero-add (_);
+      switches = ap (λ (z : Tasks). z.switches) counts ∙ changes_path n booted plays last way ∙ zero-add (_) ∙ ap (changes_from 0 (stints_of n booted plays last way))
+          (ap (λ (s : Turns). s.running) leads);
+      natural_is = ap (λ (z : Tasks). z.natural) counts ∙ sum_path (λ task. task.natural) (λ stint. steps_in stint.acts) n booted plays last natural_counts way
+          ∙ ap (λ k. k + sum_by (λ (stint : Stint). steps_in stint.acts) (stints_of n booted plays last way)) (none (λ task. task.natural) (λ k parked. refl)) ∙ zero-add (_);
+      entries_is = ap (λ (z : Tasks). z.entries) counts ∙ sum_path (λ task. task.entries) (λ stint. services_in stint.acts) n booted plays last entries_counts way
+          ∙ ap (λ k. k + sum_by (λ (stint : Stint). services_in stint.acts) (stints_of n booted plays last way)) (none (λ task. task.entries) (λ k parked. refl)) ∙ zero-add (_);
       pages_is = ap (λ (z : Tasks). z.pages) counts ∙ pages_path n booted plays last way ∙ zero-add (_);
       few = λ task front between back is none.
           let bound : steps_in between ≤ bound_per_crossing * t.kernel.quantum =
-          few_from_boot asked.image first others asked.quantum asked.slots n plays last task (bound_per_crossing * t.kernel.quantum) way (λ its there. (sound.each task its (ap (λ (z : Tasks). slice_get z.tasks task) counts ∙ there)).sound.bounded.moves.most) front between back is none in
+          few_from_boot asked.image first others asked.quantum asked.slots n plays last task (bound_per_crossing * t.kernel.quantum) way
+          (λ its there. (sound.each task its (ap (λ (z : Tasks). slice_get z.tasks task) counts ∙ there)).sound.bounded.moves.most) front between back is none in
           subst (λ q. steps_in between ≤ 5120 * q) quantum bound;
       most_pages = (are_within t sound).pages;
       most_operations = (are_within t sound).ops;
-      faithful = faithful_left (words_of asked) t sound laid_last
-          (ap (λ (z : Tasks). image_of (layout_of (length (words_of asked))) z.kernel.mote.flash.words) counts ∙ stays.1);
-      wear = subst (λ (z : Tasks). z.pages ≤ pool_size (words_of asked) → IsSpared booted.kernel.mote.flash z.kernel.mote.flash) (sym counts)
-          (λ fits. path_spares (words_of asked) asked.quantum asked.count n booted plays last motes booted.kernel.mote words_long tasks_long way are (boots_image asked first others count) refl fits);
+      flash = record {
+        wear = subst (λ (z : Tasks). z.pages ≤ pool_size (words_of asked) → IsSpared booted.kernel.mote.flash z.kernel.mote.flash) (sym counts)
+            (λ fits. path_spares (words_of asked) asked.quantum asked.count n booted plays last motes booted.kernel.mote words_long tasks_long way are
+            (boots_image asked first others count) refl fits);
+        faithful = faithful_left (words_of asked) t sound laid_last
+            (ap (λ (z : Tasks). image_of (layout_of (length (words_of asked))) z.kernel.mote.flash.words) counts ∙ stays.1);
+      };
     }

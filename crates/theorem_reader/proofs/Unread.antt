@@ -26,7 +26,7 @@ use Rattle.cli_requests.specs.TasksCommand.{TasksAsks}
 use Rattle.tkernel_cli.specs.declared.top.Exit.{Exit}
 use Rattle.tkernel_cli.specs.Answer.{Does}
 use Rattle.theorem_reader.specs.Telling.{BrokenState, FailsBehind}
-use Rattle.theorem_reader.specs.Refusals.{ReadsText, Program, Source, Scripted, Several, Checks, Runs, Dumps, Restarts, IsSaid, NoMemory}
+use Rattle.theorem_reader.specs.Refusals.{ReadsText, Program, Source, Scripted, Several, Checks, Runs, Dumps, Restarts, IsSaid}
 use Rattle.theorem_reader.proofs.Doing.{IsSoThen, Call, not_risen, so_then, so_is, told_how}
 use Rattle.theorem_reader.proofs.Refusing.{said_how}
 
@@ -48,7 +48,8 @@ never_ends (Some xs) rest left end =
     let same : xs ≡ rest ++ 0 ∷ [] = cc in
     omega (arith, ap length same, ap length end, length_push rest 0)
 
-all_taken : (before now : Option (List ℕ)) (text rest bytes : List ℕ) → before ≡ Some (text ++ 0 ∷ []) → now ≡ Some (rest ++ 0 ∷ []) → Consumes before now bytes → length bytes + length rest ≡ length text
+all_taken : (before now : Option (List ℕ)) (text rest bytes : List ℕ) → before ≡ Some (text ++ 0 ∷ []) → now ≡ Some (rest ++ 0 ∷ []) → Consumes before now bytes
+    → length bytes + length rest ≡ length text
 all_taken None now text rest bytes told left taken = absurd (cc)
 all_taken (Some xs) None text rest bytes told left taken = absurd (cc)
 all_taken (Some xs) (Some ys) text rest bytes told left taken =
@@ -60,7 +61,8 @@ all_taken (Some xs) (Some ys) text rest bytes told left taken =
 abbrev OrNone : Job → Job → Type 0
 OrNone own job = (job ≡ own) ⊎ (job ≡ no_memory)
 
-short_text : (before now : Input) (text : List ℕ) (job : Job) → IsBroken text before now → length text ≤ 2097152 → (Rule : List ℕ → Job → Type 0) → AsksByText Rule before now job → OrNone read_fault job
+short_text : (before now : Input) (text : List ℕ) (job : Job) → IsBroken text before now → length text ≤ 2097152 → (Rule : List ℕ → Job → Type 0) → AsksByText Rule before now job
+    → OrNone read_fault job
 short_text before now text job broken short Rule (inl (IsUnread.ReadFault is rose taken)) = inl is
 short_text before now text job broken short Rule (inl (IsUnread.NoMemory is taken)) = inr is
 short_text before now text job broken short Rule (inl (IsUnread.TooLong is taken)) =
@@ -89,7 +91,8 @@ reading words (Program (Checks is)) = (Check, is, tt)
 reading words (Source is) = (Asm, is, tt)
 
 -- what is so of each job that a text asks for is so of each that such a command asks for
-by_command : (Tells : Job → Type 0) (command : Command) (before now : Input) (job : Job) → IsReading command → ((Rule : List ℕ → Job → Type 0) → AsksByText Rule before now job → Tells job) → Asks command before now job → Tells job
+by_command : (Tells : Job → Type 0) (command : Command) (before now : Input) (job : Job) → IsReading command → ((Rule : List ℕ → Job → Type 0) → AsksByText Rule before now job → Tells job)
+    → Asks command before now job → Tells job
 by_command Tells Help before now job reads tells asks = absurd reads
 by_command Tells (Generate seed) before now job reads tells asks = absurd reads
 by_command Tells (Run options) before now job reads tells asks = tells (RunAsks options) asks
@@ -99,30 +102,36 @@ by_command Tells (Tasks options) before now job reads tells asks = tells (TasksA
 by_command Tells Check before now job reads tells asks = tells CheckAsks asks
 by_command Tells Asm before now job reads tells asks = tells AsmAsks asks
 
-by_words : (Tells : Job → Type 0) (words : List (List ℕ)) (before now : Input) (job : Job) → ReadsText words → ((Rule : List ℕ → Job → Type 0) → AsksByText Rule before now job → Tells job) → IsAsked words before now job → Tells job
+by_words : (Tells : Job → Type 0) (words : List (List ℕ)) (before now : Input) (job : Job) → ReadsText words → ((Rule : List ℕ → Job → Type 0) → AsksByText Rule before now job → Tells job)
+    → IsAsked words before now job → Tells job
 by_words Tells words before now job reads tells (inl asked) =
     let own = reading words reads in
     by_command Tells asked.0 before now job (subst IsReading (one_command words own.0 asked.0 own.1 asked.1) own.2) tells asked.2
 by_words Tells words before now job reads tells (inr none) = let own = reading words reads in absurd (none.0 own.0 own.1)
 
 -- a line, or want of memory
-line_how : (words : List (List ℕ)) (exit : Exit) (status faults : ℕ) (taken : List ℕ) (call : Call words exit status faults taken) (own : Status) (line : List ℕ) (job : Job) → OrNone (jobs.Print own (record { items = line })) job
+line_how : (words : List (List ℕ)) (exit : Exit) (status faults : ℕ) (taken : List ℕ) (call : Call words exit status faults taken) (own : Status) (line : List ℕ) (job : Job)
+    → OrNone (jobs.Print own (record { items = line })) job
     → Does job call.sink call.sink' exit → IsSoThen faults (λ sink. IsSaid sink (number_of own) line status taken exit.kept exit.tasks)
 line_how words exit status faults taken call own line job (inl is) done =
     let told = subst (λ j. Does j call.sink call.sink' exit) is done in
-    so_is words exit status faults taken call (λ sink. IsSaid sink (number_of own) line status taken exit.kept exit.tasks) (said_how words exit status faults taken call own line told.0.0 told.0.1 told.1)
+    so_is words exit status faults taken call (λ sink. IsSaid sink (number_of own) line status taken exit.kept exit.tasks)
+    (said_how words exit status faults taken call own line told.0.0 told.0.1 told.1)
 line_how words exit status faults taken call own line job (inr is) done =
     let none = subst (λ j. Does j call.sink call.sink' exit) is done in
     so_is words exit status faults taken call (λ sink. IsSaid sink (number_of own) line status taken exit.kept exit.tasks)
-    (so_then call.sink call.sink' _ (λ sink. IsSaid sink (number_of own) line status taken exit.kept exit.tasks) (λ sink told. NoMemory told none.0.1 none.1) (told_how words exit status faults taken call _ _ none.0.0))
+    (so_then call.sink call.sink' _ (λ sink. IsSaid sink (number_of own) line status taken exit.kept exit.tasks) (λ sink told. (inl told, none.0.1, none.1))
+    (told_how words exit status faults taken call _ _ none.0.0))
 
-pub fault_told : (words : List (List ℕ)) (exit : Exit) (status faults : ℕ) (taken : List ℕ) (call : Call words exit status faults taken) (text : List ℕ) → IsBroken text call.source call.source' → length text ≤ 2097152
+pub fault_told : (words : List (List ℕ)) (exit : Exit) (status faults : ℕ) (taken : List ℕ) (call : Call words exit status faults taken) (text : List ℕ) → IsBroken text call.source call.source'
+    → length text ≤ 2097152
     → ReadsText words → IsSoThen faults (λ sink. IsSaid sink 5 read_fault_line status taken exit.kept exit.tasks)
 fault_told words exit status faults taken call text broken short reads =
     line_how words exit status faults taken call statuses.ReadFault read_fault_line call.answer.job
     (by_words (OrNone read_fault) words call.source call.source' call.answer.job reads (short_text call.source call.source' text call.answer.job broken short) call.answer.asked) call.answer.done
 
-pub length_told : (words : List (List ℕ)) (exit : Exit) (status faults : ℕ) (taken : List ℕ) (call : Call words exit status faults taken) (text : List ℕ) → IsBroken text call.source call.source' → 2097152 < length text
+pub length_told : (words : List (List ℕ)) (exit : Exit) (status faults : ℕ) (taken : List ℕ) (call : Call words exit status faults taken) (text : List ℕ) → IsBroken text call.source call.source'
+    → 2097152 < length text
     → ReadsText words → IsSoThen faults (λ sink. IsSaid sink 3 (codes "input too long\n") status taken exit.kept exit.tasks)
 length_told words exit status faults taken call text broken long reads =
     line_how words exit status faults taken call statuses.BadInput (codes "input too long\n") call.answer.job

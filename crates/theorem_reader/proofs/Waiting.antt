@@ -1,5 +1,6 @@
 -- A program of several waits for at most one turn of each other.
-use Rattle.std.proofs.Common.{◌≡◌, ◌≢◌, ℕ, zero, suc, ◌+◌, ◌-◌, ◌%◌, ◌<◌, ◌≤◌, ◌⊎◌, Bool, true, false, cond, not, List, [], ◌∷◌, ◌++◌, map, length, get_or, Option, Some, None, refl, sym, ap, ◌∙◌, subst, arith, inl, inr}
+use Rattle.std.proofs.Common.{◌≡◌, ◌≢◌, ℕ, zero, suc, ◌+◌, ◌-◌, ◌%◌, ◌<◌, ◌≤◌, ◌⊎◌, Bool, true, false, cond, not, List, [], ◌∷◌, ◌++◌, map, length, get_or, Option, Some, None, refl, sym, ap, ◌∙◌}
+use Rattle.std.proofs.Common.{subst, arith, inl, inr}
 use Rattle.std.specs.Prelude.{◌==◌, ◌&&◌, nat_lt, slice_get, slice_set, is_some}
 use Rattle.std.specs.List.{range_with_len, find}
 use Rattle.std.proofs.Math.Nat.{div-add-mod', mod-lt, mod-eq_of_lt, mod_self, suc-mod}
@@ -10,7 +11,8 @@ use Rattle.std.proofs.lemmas.Bool.{cases_eq, cases_lt}
 use Rattle.std.proofs.lemmas.Bool.Decides.{nat_tests}
 use Rattle.input_script.specs.Script.{Schedule}
 use Rattle.flat_machine.specs.FlatMachine.{End, FlatState, Moment, Next, Ends, On, next_of}
-use Rattle.task_turns.specs.Turns.{Player, Turns, is_checkpoint, rests, played_by, tried_by, others, has_ended, next_in, ends_of, changed_to, changed, with_player, stopped, at_checkpoint, stepped, once_by, once, continued, go_on, tries}
+use Rattle.task_turns.specs.Turns.{Player, Turns, is_checkpoint, rests, played_by, tried_by, others, has_ended, next_in, ends_of, changed_to, changed, with_player, stopped, at_checkpoint, stepped}
+use Rattle.task_turns.specs.Turns.{once_by, once, continued, go_on, tries}
 use Rattle.task_turns.proofs.Crossings.{Counts, next_counts}
 use Rattle.task_turns.specs.Reset.{players_at_reset}
 use Rattle.task_input.specs.Images.{task_words}
@@ -35,7 +37,8 @@ found_by P x rest false here behind = behind refl
 found_in : (P : ℕ → Type 0) (f : ℕ → Bool) (a n : ℕ) (xs : List ℕ) → ((k : ℕ) → a ≤ k → k < a + n → P k) → Found P (find f xs) → Found P (find f (range_with_len a n ++ xs))
 found_in P f a zero xs all behind = behind
 found_in P f a (suc n) xs all behind =
-    found_by P a (find f (range_with_len (a + 1) n ++ xs)) (f a) (all a (omega arith) (omega arith)) (λ fails. found_in P f (a + 1) n xs (λ k from to. all k (omega (arith, from)) (omega (arith, to))) behind)
+    found_by P a (find f (range_with_len (a + 1) n ++ xs)) (f a) (all a (omega arith) (omega arith))
+    (λ fails. found_in P f (a + 1) n xs (λ k from to. all k (omega (arith, from)) (omega (arith, to))) behind)
 
 past_it : (f : ℕ → Bool) (a x : ℕ) → f x ≡ true → f a ≡ false → a ≤ x → a + 1 ≤ x
 past_it f a x passes fails from = elim (cases_eq a x) [
@@ -47,7 +50,8 @@ past_it f a x passes fails from = elim (cases_eq a x) [
 found_upto : (P : ℕ → Type 0) (f : ℕ → Bool) (a n x : ℕ) (xs : List ℕ) → f x ≡ true → a ≤ x → x < a + n → ((k : ℕ) → a ≤ k → k ≤ x → P k) → Found P (find f (range_with_len a n ++ xs))
 found_upto P f a zero x xs passes from to all = absurd (omega (arith, from, to))
 found_upto P f a (suc n) x xs passes from to all =
-    found_by P a (find f (range_with_len (a + 1) n ++ xs)) (f a) (all a (omega arith) from) (λ fails. found_upto P f (a + 1) n x xs passes (past_it f a x passes fails from) (omega (arith, to)) (λ k low high. all k (omega (arith, low)) high))
+    found_by P a (find f (range_with_len (a + 1) n ++ xs)) (f a) (all a (omega arith) from)
+    (λ fails. found_upto P f (a + 1) n x xs passes (past_it f a x passes fails from) (omega (arith, to)) (λ k low high. all k (omega (arith, low)) high))
 
 -- how far it is, in turn, from one program to the one that waits
 abbrev distance : (count task from : ℕ) → ℕ
@@ -102,7 +106,8 @@ made_rests : (t : Turns) (p q : Player) (found : Option End) → q.program ≡ p
 made_rests t p q (Some end) same most = made_stopped t p q end same most
 made_rests t p q None same most = record { q = q; program = same; most = most; way = inl refl }
 
-made_step : (t : Turns) (p q : Player) (checkpoint : Bool) → q.program ≡ p.program → crossed q ≤ crossed p + 1 → (checkpoint ≡ false → Short p.program.quantum (crossed p) (crossed q)) → Made t p (stepped t q checkpoint).turns
+made_step : (t : Turns) (p q : Player) (checkpoint : Bool) → q.program ≡ p.program → crossed q ≤ crossed p + 1 → (checkpoint ≡ false → Short p.program.quantum (crossed p) (crossed q))
+    → Made t p (stepped t q checkpoint).turns
 made_step t p q true same most short = made_rests t p q (rests q) same most
 made_step t p q false same most short = record { q = q; program = same; most = most; way = inr (refl, short refl) }
 
@@ -180,7 +185,8 @@ no_tries : (t : Turns) → (tries 0 t).turns ≡ t
 unfolding tries
 no_tries t = refl
 
-more_by : (n k : ℕ) (t : Turns) → TryWay t → ((next : Turns) → (tries (n + k) next).turns ≡ (tries k (tries n next).turns).turns) → (tries (suc (n + k)) t).turns ≡ (tries k (tries (suc n) t).turns).turns
+more_by : (n k : ℕ) (t : Turns) → TryWay t → ((next : Turns) → (tries (n + k) next).turns ≡ (tries k (tries n next).turns).turns)
+    → (tries (suc (n + k)) t).turns ≡ (tries k (tries (suc n) t).turns).turns
 more_by n k t (Still same) rest = same (suc (n + k)) ∙ sym (same k) ∙ ap (λ (z : Turns). (tries k z).turns) (sym (same (suc n)))
 more_by n k t (Goes p there first) rest = first (n + k) ∙ rest (once t p).turns ∙ ap (λ (z : Turns). (tries k z).turns) (sym (first n))
 
@@ -201,13 +207,15 @@ HaveQuantum quantum t = (i : ℕ) (p : Player) → slice_get t.players i ≡ Som
 have_next : (quantum : ℕ) (t : Turns) (p : Player) (next : Turns) → slice_get t.players t.running ≡ Some p → Made t p next → HaveQuantum quantum t → HaveQuantum quantum next
 have_next quantum t p next there made have = λ i x is. elim (cases_eq i t.running) [
   | inl same ↦
-      let here : slice_get next.players i ≡ Some made.q = ap (λ l. slice_get l i) (players_made t p next made) ∙ ap (slice_get (slice_set t.players t.running made.q)) same ∙ set_here t.players t.running p made.q there in
+      let here : slice_get next.players i ≡ Some made.q = ap (λ l. slice_get l i) (players_made t p next made) ∙ ap (slice_get (slice_set t.players t.running made.q)) same
+      ∙ set_here t.players t.running p made.q there in
       let its : x ≡ made.q = cc in
       ap (λ (z : Player). z.program.quantum) its ∙ ap (λ program. program.quantum) made.program ∙ have t.running p there
   | inr apart ↦ have i x (sym (ap (λ l. slice_get l i) (players_made t p next made) ∙ set_elsewhere t.players i t.running made.q apart) ∙ is)
 ]
 
-have_by : (quantum n : ℕ) (t : Turns) → TryWay t → HaveQuantum quantum t → ((next : Turns) → HaveQuantum quantum next → HaveQuantum quantum (tries n next).turns) → HaveQuantum quantum (tries (suc n) t).turns
+have_by : (quantum n : ℕ) (t : Turns) → TryWay t → HaveQuantum quantum t → ((next : Turns) → HaveQuantum quantum next → HaveQuantum quantum (tries n next).turns)
+    → HaveQuantum quantum (tries (suc n) t).turns
 have_by quantum n t (Still same) have rest = subst (HaveQuantum quantum) (sym (same (suc n))) have
 have_by quantum n t (Goes p there first) have rest =
     subst (HaveQuantum quantum) (sym (first n)) (rest (once t p).turns (have_next quantum t p (once t p).turns there (made_once t p) have))
@@ -278,9 +286,11 @@ changes quantum count task w p q t there apart going among =
     let f : ℕ → Bool = λ i. not (has_ended (ends_of (with_player t q)) i) in
     let still : slice_get (with_player t q).players task ≡ Some w = set_elsewhere t.players task t.running q apart ∙ among.there in
     subst (λ n. Found (λ k. distance count task k < distance count task t.running) (find f (others t.running n))) (sym long)
-    (nearer f count task t.running (goes_in (with_player t q) task w still going) (omega (arith, slice_get_within t.players task w among.there, among.few)) (omega (arith, slice_get_within t.players t.running p there, among.few)) apart)
+    (nearer f count task t.running (goes_in (with_player t q) task w still going) (omega (arith, slice_get_within t.players task w among.there, among.few))
+    (omega (arith, slice_get_within t.players t.running p there, among.few)) apart)
 
-nearer_by : (quantum count task : ℕ) (w p : Player) (t next : Turns) → slice_get t.players t.running ≡ Some p → task ≢ t.running → w.end ≡ None → Among quantum count task w t → (made : Made t p next) → Nearer quantum count task t p made.q next
+nearer_by : (quantum count task : ℕ) (w p : Player) (t next : Turns) → slice_get t.players t.running ≡ Some p → task ≢ t.running → w.end ≡ None → Among quantum count task w t → (made : Made t p next)
+    → Nearer quantum count task t p made.q next
 nearer_by quantum count task w p t next there apart going among made = record {
   players = players_made t p next made;
   way = elim made.way [
@@ -292,7 +302,8 @@ nearer_by quantum count task w p t next there apart going among made = record {
   ];
 }
 
-among_next : (quantum count task : ℕ) (w p : Player) (t next : Turns) → slice_get t.players t.running ≡ Some p → task ≢ t.running → (made : Made t p next) → Among quantum count task w t → Among quantum count task w next
+among_next : (quantum count task : ℕ) (w p : Player) (t next : Turns) → slice_get t.players t.running ≡ Some p → task ≢ t.running → (made : Made t p next) → Among quantum count task w t
+    → Among quantum count task w next
 among_next quantum count task w p t next there apart made among =
     let players = players_made t p next made in
     record {
@@ -302,7 +313,8 @@ among_next quantum count task w p t next there apart made among =
     }
 
 -- the try, and those behind it
-few_more : (quantum count task other : ℕ) (t next to : Turns) (p q : Player) → 1 ≤ quantum → slice_get t.players t.running ≡ Some p → Nearer quantum count task t p q next → AreFew quantum count task other next to → AreFew quantum count task other t to
+few_more : (quantum count task other : ℕ) (t next to : Turns) (p q : Player) → 1 ≤ quantum → slice_get t.players t.running ≡ Some p → Nearer quantum count task t p q next
+    → AreFew quantum count task other next to → AreFew quantum count task other t to
 few_more quantum count task other t next to p q some there one few = elim (cases_eq other t.running) [
   | inl same ↦
       let before : crossings_in t.players other ≡ crossed p = crossings_at t.players other ∙ ap crossed_by (ap (slice_get t.players) same ∙ there) in
@@ -312,7 +324,8 @@ few_more quantum count task other t next to p q some there one few = elim (cases
       record {
         most = elim one.way [
           | inl stays ↦
-              let short : Short quantum (crossings_in t.players other) (crossings_in next.players other) = subst (λ c. Short quantum c (crossings_in next.players other)) (sym before) (subst (λ c. Short quantum (crossed p) c) (sym after) stays.1) in
+              let short : Short quantum (crossings_in t.players other) (crossings_in next.players other) = subst (λ c. Short quantum c (crossings_in next.players other)) (sym before)
+              (subst (λ c. Short quantum (crossed p) c) (sym after) stays.1) in
               omega (arith, few.most, top_short quantum (crossings_in t.players other) (crossings_in next.players other) some short)
           | inr changes ↦ omega (arith, few.beyond (omega (arith, changes.0, far)), before, after, changes.1, mod-lt (crossings_in t.players other) some)
         ];
@@ -336,7 +349,8 @@ abbrev NotStepped : (task count : ℕ) → Turns → Type 0
 NotStepped task count t = (k : ℕ) → k < count → (tries k t).turns.running ≢ task
 
 few_by : (quantum count task other n : ℕ) (w : Player) (t : Turns) → 1 ≤ quantum → w.end ≡ None → Among quantum count task w t → NotStepped task (suc n) t → TryWay t
-    → ((next : Turns) → Among quantum count task w next → NotStepped task n next → AreFew quantum count task other next (tries n next).turns) → AreFew quantum count task other t (tries (suc n) t).turns
+    → ((next : Turns) → Among quantum count task w next → NotStepped task n next → AreFew quantum count task other next (tries n next).turns)
+    → AreFew quantum count task other t (tries (suc n) t).turns
 few_by quantum count task other n w t some going among waits (Still same) rest = subst (AreFew quantum count task other t) (sym (same (suc n))) (few_here quantum count task other t)
 few_by quantum count task other n w t some going among waits (Goes p there first) rest =
     let made = made_once t p in
@@ -346,13 +360,16 @@ few_by quantum count task other n w t some going among waits (Goes p there first
     (few_more quantum count task other t (once t p).turns (tries n (once t p).turns).turns p made.q some there (nearer_by quantum count task w p t (once t p).turns there apart going among made)
     (rest (once t p).turns (among_next quantum count task w p t (once t p).turns there apart made among) later))
 
-few_tried : (quantum count task other n : ℕ) (w : Player) (t : Turns) → 1 ≤ quantum → w.end ≡ None → Among quantum count task w t → NotStepped task n t → AreFew quantum count task other t (tries n t).turns
+few_tried : (quantum count task other n : ℕ) (w : Player) (t : Turns) → 1 ≤ quantum → w.end ≡ None → Among quantum count task w t → NotStepped task n t
+    → AreFew quantum count task other t (tries n t).turns
 few_tried quantum count task other zero w t some going among waits = subst (AreFew quantum count task other t) (sym (no_tries t)) (few_here quantum count task other t)
-few_tried quantum count task other (suc n) w t some going among waits = few_by quantum count task other n w t some going among waits (way_of t) (λ next among' waits'. few_tried quantum count task other n w next some going among' waits')
+few_tried quantum count task other (suc n) w t some going among waits = few_by quantum count task other n w t some going among waits (way_of t)
+    (λ next among' waits'. few_tried quantum count task other n w next some going among' waits')
 
 -- From reset. --------------------------------------------------------------------------------------------
 
-reset_quantum : (words : List ℕ) (k : ℕ) (scripts : List Schedule) (quantum slots n i : ℕ) (p : Player) → slice_get (players_at_reset words k scripts quantum slots n) i ≡ Some p → p.program.quantum ≡ quantum
+reset_quantum : (words : List ℕ) (k : ℕ) (scripts : List Schedule) (quantum slots n i : ℕ) (p : Player) → slice_get (players_at_reset words k scripts quantum slots n) i ≡ Some p
+    → p.program.quantum ≡ quantum
 reset_quantum words k [] quantum slots n i p is = absurd (cc)
 reset_quantum words k (script ∷ scripts) quantum slots n zero p is = sym (ap (λ (q : Player). q.program.quantum) (some_player _ p is))
 reset_quantum words k (script ∷ scripts) quantum slots n (suc i) p is = reset_quantum words (k + 1) scripts quantum slots n i p is

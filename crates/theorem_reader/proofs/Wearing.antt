@@ -31,7 +31,8 @@ use Rattle.branch_bridge.specs.Arrivals.{Store, Makes, Arrives, ArrivesFrom, Cam
 use Rattle.branch_bridge.proofs.PerformLaws.{rewriting_done}
 use Rattle.branch_bridge.proofs.ThroughLaws.{is_to_resolve}
 use Rattle.program_steps.proofs.Arriving.{same_found}
-use Rattle.theorem_reader.specs.Wear.{jumps_from, jumps_in, IsSpared}
+use Rattle.theorem_reader.specs.Wear.{jumps_in, IsSpared}
+use Rattle.theorem_reader.specs.Pools.{number_where}
 use Rattle.theorem_reader.proofs.Linking.{not_stopped}
 use Rattle.theorem_reader.proofs.Rewriting.{rewriting_erases, beside, erased_more}
 
@@ -43,13 +44,18 @@ jump_of w = if w == 0x940C then 1 else 0
 abbrev is_jump : List ℕ → ℕ → ℕ
 is_jump words a = jump_of (slice_index words a)
 
+-- of n words from an address on
+abbrev jumps_from : List ℕ → (a n : ℕ) → ℕ
+jumps_from words a n = number_where (λ b. slice_index words b == 0x940C) a n
+
 jumps_most : (words words' : List ℕ) (a n : ℕ) → ((k : ℕ) → k < n → is_jump words (a + k) ≤ is_jump words' (a + k)) → jumps_from words a n ≤ jumps_from words' a n
-unfolding jumps_from
+unfolding number_where
 jumps_most words words' a zero each = omega arith
 jumps_most words words' a (suc n) each = omega (arith, each n (omega arith), jumps_most words words' a n (λ k below. each k (omega (arith, below))))
 
-jumps_more : (words words' : List ℕ) (a n i : ℕ) → i < n → is_jump words (a + i) ≡ 0 → is_jump words' (a + i) ≡ 1 → ((k : ℕ) → k < n → is_jump words (a + k) ≤ is_jump words' (a + k)) → jumps_from words a n + 1 ≤ jumps_from words' a n
-unfolding jumps_from
+jumps_more : (words words' : List ℕ) (a n i : ℕ) → i < n → is_jump words (a + i) ≡ 0 → is_jump words' (a + i) ≡ 1 → ((k : ℕ) → k < n → is_jump words (a + k) ≤ is_jump words' (a + k))
+    → jumps_from words a n + 1 ≤ jumps_from words' a n
+unfolding number_where
 jumps_more words words' a zero i below was is each = absurd (omega (arith, below))
 jumps_more words words' a (suc n) i below was is each = elim (cases_eq i n) [
   | inl same ↦
@@ -61,7 +67,7 @@ jumps_more words words' a (suc n) i below was is each = elim (cases_eq i n) [
 ]
 
 no_jumps : (words : List ℕ) (a n : ℕ) → ((k : ℕ) → k < n → is_jump words (a + k) ≡ 0) → jumps_from words a n ≡ 0
-unfolding jumps_from
+unfolding number_where
 no_jumps words a zero none = refl
 no_jumps words a (suc n) none = omega (arith, none n (omega arith), no_jumps words a n (λ k less. none k (omega (arith, less))))
 
@@ -93,7 +99,8 @@ record StubResolved (old new : Memory) (s place : ℕ) : Type 0 where
   done : perform old (resolving old.words s place) ≡ record { memory = new; stop = None }
 
 -- the words of the page afterwards
-word_resolved : (old new : Memory) (s place k : ℕ) → StubResolved old new s place → k < 128 → word_at new.words (128 * (s / 128) + k) ≡ word_at (with_two_words old.words s jump_word place) (128 * (s / 128) + k)
+word_resolved : (old new : Memory) (s place k : ℕ) → StubResolved old new s place → k < 128
+    → word_at new.words (128 * (s / 128) + k) ≡ word_at (with_two_words old.words s jump_word place) (128 * (s / 128) + k)
 word_resolved old new s place k is below =
     let page = s / 128 in
     let words = with_two_words old.words s jump_word place in
@@ -127,16 +134,19 @@ resolved_spares old new s place is page below =
           let at : 128 * own + s % 128 ≡ s = omega arith in
           let was : is_jump old.words (128 * own + s % 128) ≡ 0 = jump_other old.words (128 * own + s % 128) call_word (ap (word_at old.words) at ∙ is.call) (λ e. omega (arith, e)) in
           let here : word_at new.words (128 * own + s % 128) ≡ jump_word =
-          word_resolved old new s place (s % 128) is (omega (arith, is.room)) ∙ ap (word_at (with_two_words old.words s jump_word place)) at ∙ first_of_two old.words s jump_word place (omega (arith, is.whole, is.low, is.room)) in
+          word_resolved old new s place (s % 128) is (omega (arith, is.room)) ∙ ap (word_at (with_two_words old.words s jump_word place)) at
+          ∙ first_of_two old.words s jump_word place (omega (arith, is.whole, is.low, is.room)) in
           let now : is_jump new.words (128 * own + s % 128) ≡ 1 = ap jump_of here in
           let more = jumps_more old.words new.words (128 * own) 128 (s % 128) (omega (arith, is.room)) was now (λ k less. jump_kept old new s place k is less) in
           let once = erased_more old new own erases in
           let There : ℕ → Type 0 = λ p. slice_index new.erases p + jumps_in old.words p ≤ slice_index old.erases p + jumps_in new.words p in
           subst There (sym same) (omega (arith, more, once))
       | inr apart ↦
-          let still : slice_index new.erases page ≡ slice_index old.erases page = ap (λ es. slice_index es page) erases ∙ get_or-set_other old.erases own page (raised (slice_index old.erases own)) 0 apart in
+          let still : slice_index new.erases page ≡ slice_index old.erases page = ap (λ es. slice_index es page) erases
+          ∙ get_or-set_other old.erases own page (raised (slice_index old.erases own)) 0 apart in
           let most = jumps_most old.words new.words (128 * page) 128 (λ k less. jump_same old.words new.words (128 * page + k)
-          (ap (λ ws. word_at ws (128 * page + k)) (rewriting_done old new own words inside is.done) ∙ word_out_of_page old.words words own (128 * page + k) long inside (beside page own k less apart))) in
+          (ap (λ ws. word_at ws (128 * page + k)) (rewriting_done old new own words inside is.done) ∙ word_out_of_page old.words words own (128 * page + k) long inside
+          (beside page own k less apart))) in
           omega (arith, still, most)
     ]
 
@@ -170,7 +180,8 @@ made_lands layout image old new page t place words right code pool free prepared
     record {
       spares = λ q below. elim (cases_eq q page) [
         | inl same ↦
-            let none : jumps_in old.words page ≡ 0 = no_jumps old.words (128 * page) 128 (λ k less. jump_other old.words (128 * page + k) 0xFFFF (free_word old.words page k less free) (λ e. omega (arith, e))) in
+            let none : jumps_in old.words page ≡ 0 =
+            no_jumps old.words (128 * page) 128 (λ k less. jump_other old.words (128 * page + k) 0xFFFF (free_word old.words page k less free) (λ e. omega (arith, e))) in
             let here : jumps_in old.words q ≡ 0 = ap (jumps_in old.words) same ∙ none in
             omega (arith, here, erases q)
         | inr apart ↦
@@ -188,7 +199,8 @@ made_lands layout image old new page t place words right code pool free prepared
       ];
     }
 
-prepared_lands : (layout : Layout) (old new : Store) (page t : ℕ) (moved : Moved) → IsRight layout → IsFaithful layout (image_of layout old.flash.words) old.flash.words → IsPool layout page → IsFree old.flash.words page
+prepared_lands : (layout : Layout) (old new : Store) (page t : ℕ) (moved : Moved) → IsRight layout → IsFaithful layout (image_of layout old.flash.words) old.flash.words → IsPool layout page
+    → IsFree old.flash.words page
     → Makes layout old new page t false (Ok moved) → Landed old.flash new.flash
 prepared_lands layout old new page t moved right code pool free (Makes.Made words place prepared done noted is) =
     made_lands layout (image_of layout old.flash.words) old.flash new.flash page t place words right code pool free prepared (programmed_is old.flash new.flash false page words done)
@@ -206,13 +218,17 @@ arrives_lands layout old new t moved true right code made fits (Arrives.Full ins
 
 -- An arrival. ---------------------------------------------------------------------------------------------
 
-pub arrival_spares : (layout : Layout) (old new : Store) (t : ℕ) (stub : Option ℕ) (arrival : Arrival) → IsRight layout → IsFaithful layout (image_of layout old.flash.words) old.flash.words → CameThrough layout old.flash.words stub t
+pub arrival_spares : (layout : Layout) (old new : Store) (t : ℕ) (stub : Option ℕ) (arrival : Arrival) → IsRight layout → IsFaithful layout (image_of layout old.flash.words) old.flash.words
+    → CameThrough layout old.flash.words stub t
     → arrival.refused ≡ None → used_pages layout old.flash.words + (if arrival.made then 1 else 0) ≤ layout.pool_pages → ArrivesFrom layout old new t stub arrival → IsSpared old.flash new.flash
-arrival_spares layout old new t stub arrival right code came unrefused fits (ArrivesFrom.Stopped refused arrives is) = absurd (let e : Some refused ≡ None = sym (ap (λ (a : Arrival). a.refused) is) ∙ unrefused in cc)
+arrival_spares layout old new t stub arrival right code came unrefused fits (ArrivesFrom.Stopped refused arrives is) =
+    absurd (let e : Some refused ≡ None = sym (ap (λ (a : Arrival). a.refused) is) ∙ unrefused in cc)
 arrival_spares layout old new t stub arrival right code came unrefused fits (ArrivesFrom.Went moved arrives nothing is) =
-    (arrives_lands layout old new t moved moved.made right code refl (subst (λ (a : Arrival). used_pages layout old.flash.words + (if a.made then 1 else 0) ≤ layout.pool_pages) is fits) arrives).spares
+    (arrives_lands layout old new t moved moved.made right code refl (subst (λ (a : Arrival). used_pages layout old.flash.words + (if a.made then 1 else 0) ≤ layout.pool_pages) is fits)
+    arrives).spares
 arrival_spares layout old new t stub arrival right code came unrefused fits (ArrivesFrom.Resolved mid moved s arrives some stop done same is) =
-    let landed = arrives_lands layout old mid t moved moved.made right code refl (subst (λ (a : Arrival). used_pages layout old.flash.words + (if a.made then 1 else 0) ≤ layout.pool_pages) is fits) arrives in
+    let landed = arrives_lands layout old mid t moved moved.made right code refl (subst (λ (a : Arrival). used_pages layout old.flash.words + (if a.made then 1 else 0) ≤ layout.pool_pages) is fits)
+    arrives in
     let to = is_to_resolve moved.recycled stub s some in
     let link : IsUnresolved layout (image_of layout old.flash.words) old.flash.words s t = subst (λ x. CameThrough layout old.flash.words x t) to.same came in
     let at = link_placed layout (image_of layout old.flash.words) old.flash.words s t jump_word moved.place right code.whole link.link in

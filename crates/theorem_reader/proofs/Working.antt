@@ -1,10 +1,12 @@
 -- Which operations on flash an arrival makes, one behind the other.
-use Rattle.std.proofs.Common.{◌≡◌, ℕ, zero, suc, ◌+◌, ◌<◌, ◌≤◌, Bool, true, false, if◌then◌else◌, List, [], ◌∷◌, ◌++◌, length, length-append, Option, Some, None, Ok, Err, refl, sym, ap, ◌∙◌, subst, arith}
+use Rattle.std.proofs.Common.{◌≡◌, ℕ, zero, suc, ◌+◌, ◌<◌, ◌≤◌, Bool, true, false, if◌then◌else◌, List, [], ◌∷◌, ◌++◌, length, length-append, Option, Some, None, Ok, Err, refl, sym, ap, ◌∙◌, subst}
+use Rattle.std.proofs.Common.{arith}
 use Rattle.std.specs.Prelude.{◌*◌, ◌/◌, ◌==◌, not, ⊤, Result}
 use Rattle.flash_words.specs.Memory.{Memory}
 use Rattle.flash_words.specs.Layouts.{IsRight, layout_of, image_of}
 use Rattle.flash_words.specs.declared.layout.Layout.{Layout}
-use Rattle.flash_words.specs.Operations.{fails, next_op, left_by_refusal, erased_page, Refusal, Operation as PageOperation, operated_page as page_tried, operated as page_operated, Performed as PagesPerformed, perform as perform_pages}
+use Rattle.flash_words.specs.Operations.{fails, next_op, left_by_refusal, erased_page, Refusal, Operation as PageOperation, operated_page as page_tried, operated as page_operated}
+use Rattle.flash_words.specs.Operations.{Performed as PagesPerformed, perform as perform_pages}
 use Rattle.flash_words.specs.Operations as pages
 use Rattle.branch_bridge.specs.declared.rewriting.ResolveStop.{ResolveStop}
 use Rattle.branch_bridge.specs.declared.arrival.Moved.{Moved}
@@ -35,7 +37,8 @@ use Rattle.branch_bridge.proofs.PartLaws.{stubs_used}
 use Rattle.branch_bridge.specs.Operating.{Operation, Erase, Program, operated, operated_page, stop_at, Performed, perform, rewriting, unless_stopped}
 use Rattle.branch_bridge.specs.Resolving.{resolving}
 use Rattle.branch_bridge.specs.Unresolving.{has_stubs_into, unlinking, unresolved, unresolved_in}
-use Rattle.branch_bridge.specs.Arrivals.{Store, ring_of, CameThrough, one_if, made_in, Makes, Made, NotMade, Recycles, NotUnlinked, NotErased, Erased, Arrives, Beyond, Found, Free, Full, ArrivesFrom, Stopped, Went, Resolved}
+use Rattle.branch_bridge.specs.Arrivals.{Store, ring_of, CameThrough, one_if, made_in, Makes, Made, NotMade, Recycles, NotUnlinked, NotErased, Erased, Arrives, Beyond, Found, Free, Full}
+use Rattle.branch_bridge.specs.Arrivals.{ArrivesFrom, Stopped, Went, Resolved}
 use Rattle.theorem_reader.specs.Acts.{IsAllowed}
 use Rattle.theorem_reader.specs.Pools.{IsErased}
 use Rattle.theorem_reader.proofs.Pooling.{from_pool, blank_word}
@@ -80,7 +83,8 @@ pages_on (operation ∷ first) second a b is =
       | false ↦ λ done. pages_on first second (page_operated a operation) b done
     ]) is
 
-suit_on : (layout : Layout) (first second : List PageOperation) (a b : Memory) → perform_pages a first ≡ record { memory = b; refusal = None } → Suit layout a first → Suit layout b second → Suit layout a (first ++ second)
+suit_on : (layout : Layout) (first second : List PageOperation) (a b : Memory) → perform_pages a first ≡ record { memory = b; refusal = None } → Suit layout a first → Suit layout b second
+    → Suit layout a (first ++ second)
 suit_on layout [] second a b is here there = subst (λ m. Suit layout m second) (sym (ap (λ (p : PagesPerformed). p.memory) is)) there
 suit_on layout (operation ∷ first) second a b is here there =
     let refused : PagesPerformed = record { memory = left_by_refusal a (page_tried operation); refusal = Some (record { op = next_op a; operation = operation }) } in
@@ -126,15 +130,18 @@ operated_one : (m : Memory) (operation : Operation) → (operated m operation).o
 operated_one m (Erase page) = refl
 operated_one m (Program again page words) = refl
 
-operated_size : (layout : Layout) (m : Memory) (operation : Operation) → IsRight layout → length m.words ≡ word_count → Suits layout m.words (plain operation) → length (operated m operation).words ≡ length m.words
+operated_size : (layout : Layout) (m : Memory) (operation : Operation) → IsRight layout → length m.words ≡ word_count → Suits layout m.words (plain operation)
+    → length (operated m operation).words ≡ length m.words
 operated_size layout m (Erase page) right whole suits = length-set_page m.words blank page length-blank (inside_of layout m.words page right whole suits.0)
 operated_size layout m (Program again page words) right whole suits = length-set_page m.words words page suits.1 (inside_of layout m.words page right whole suits.0)
 
-done_one : (layout : Layout) (m : Memory) (operation : Operation) → IsRight layout → length m.words ≡ word_count → fails m ≡ false → Suits layout m.words (plain operation) → Does layout m (operated m operation) None
+done_one : (layout : Layout) (m : Memory) (operation : Operation) → IsRight layout → length m.words ≡ word_count → fails m ≡ false → Suits layout m.words (plain operation)
+    → Does layout m (operated m operation) None
 done_one layout m operation right whole free suits = record {
   operations = plain operation ∷ [];
   refusal = None;
-  is = ap (λ t. if t then record { memory = left_by_refusal m (page_tried (plain operation)); refusal = Some (record { op = next_op m; operation = plain operation }) } else record { memory = page_operated m (plain operation); refusal = None }) free
+  is = ap (λ t. if t then record { memory = left_by_refusal m (page_tried (plain operation)); refusal = Some (record { op = next_op m; operation = plain operation }) } else
+      record { memory = page_operated m (plain operation); refusal = None }) free
       ∙ ap (λ (w : Memory). record { memory = w; refusal = None }) (plainly_operated m operation);
   counted = operated_one m operation;
   none = λ e. refl;
@@ -142,11 +149,13 @@ done_one layout m operation right whole free suits = record {
   size = operated_size layout m operation right whole suits;
 }
 
-refused_one : (layout : Layout) (m : Memory) (operation : Operation) → fails m ≡ true → Suits layout m.words (plain operation) → Does layout m (left_by_refusal m (operated_page operation)) (Some (stop_at m operation))
+refused_one : (layout : Layout) (m : Memory) (operation : Operation) → fails m ≡ true → Suits layout m.words (plain operation)
+    → Does layout m (left_by_refusal m (operated_page operation)) (Some (stop_at m operation))
 refused_one layout m operation listed suits = record {
   operations = plain operation ∷ [];
   refusal = Some (record { op = next_op m; operation = plain operation });
-  is = ap (λ t. if t then record { memory = left_by_refusal m (page_tried (plain operation)); refusal = Some (record { op = next_op m; operation = plain operation }) } else record { memory = page_operated m (plain operation); refusal = None }) listed
+  is = ap (λ t. if t then record { memory = left_by_refusal m (page_tried (plain operation)); refusal = Some (record { op = next_op m; operation = plain operation }) } else
+      record { memory = page_operated m (plain operation); refusal = None }) listed
       ∙ ap (λ page. record { memory = left_by_refusal m page; refusal = Some (record { op = next_op m; operation = plain operation }) }) (plainly_tried operation);
   counted = omega arith;
   none = λ e. absurd (cc);
@@ -154,7 +163,8 @@ refused_one layout m operation listed suits = record {
   size = refl;
 }
 
-does_perform : (layout : Layout) (operations : List Operation) (m : Memory) → IsRight layout → length m.words ≡ word_count → AllSuit layout m operations → (let p = perform m operations in Does layout m p.memory p.stop)
+does_perform : (layout : Layout) (operations : List Operation) (m : Memory) → IsRight layout → length m.words ≡ word_count → AllSuit layout m operations
+    → (let p = perform m operations in Does layout m p.memory p.stop)
 does_perform layout [] m right whole all = does_nothing layout m None
 does_perform layout (operation ∷ operations) m right whole all =
     let m' = operated m operation in
@@ -162,10 +172,12 @@ does_perform layout (operation ∷ operations) m right whole all =
     let Ways : Bool → Type 0 = λ t. fails m ≡ t → (let p = if t then refused else perform m' operations in Does layout m p.memory p.stop) in
     (elim (fails m) as Ways [
       | true ↦ λ listed. refused_one layout m operation listed all.0
-      | false ↦ λ free. then_does layout m m' (perform m' operations).memory None (perform m' operations).stop (done_one layout m operation right whole free all.0) refl (does_perform layout operations m' right (operated_size layout m operation right whole all.0 ∙ whole) all.1)
+      | false ↦ λ free. then_does layout m m' (perform m' operations).memory None (perform m' operations).stop (done_one layout m operation right whole free all.0) refl
+          (does_perform layout operations m' right (operated_size layout m operation right whole all.0 ∙ whole) all.1)
     ]) refl
 
-performs : (layout : Layout) (m new : Memory) (operations : List Operation) (stop : Option ResolveStop) → IsRight layout → length m.words ≡ word_count → AllSuit layout m operations → perform m operations ≡ record { memory = new; stop = stop } → Does layout m new stop
+performs : (layout : Layout) (m new : Memory) (operations : List Operation) (stop : Option ResolveStop) → IsRight layout → length m.words ≡ word_count → AllSuit layout m operations
+    → perform m operations ≡ record { memory = new; stop = stop } → Does layout m new stop
 performs layout m new operations stop right whole all is = subst (λ (p : Performed). Does layout m p.memory p.stop) is (does_perform layout operations m right whole all)
 
 -- a first operation is counted, also where it is refused
@@ -179,7 +191,8 @@ some_tried operation m =
       | false ↦ omega (arith, operated_one m operation)
     ]
 
-on_does : (layout : Layout) (m : Memory) (p : Performed) (next : Memory → Performed) → length m.words ≡ word_count → Does layout m p.memory p.stop → ((now : Memory) → length now.words ≡ word_count → (let q = next now in Does layout now q.memory q.stop))
+on_does : (layout : Layout) (m : Memory) (p : Performed) (next : Memory → Performed) → length m.words ≡ word_count → Does layout m p.memory p.stop
+    → ((now : Memory) → length now.words ≡ word_count → (let q = next now in Does layout now q.memory q.stop))
     → (let r = unless_stopped p.stop p.memory next in Does layout m r.memory r.stop)
 on_does layout m p next whole first later =
     let Ways : Option ResolveStop → Type 0 = λ o. Does layout m p.memory o → (let r = unless_stopped o p.memory next in Does layout m r.memory r.stop) in
@@ -189,10 +202,12 @@ on_does layout m p next whole first later =
     ]) first
 
 -- a page that is used is rewritten
-rewrites : (layout : Layout) (m : Memory) (page : ℕ) (words : List ℕ) → IsRight layout → length m.words ≡ word_count → IsPool layout page → is_used m.words page ≡ true → length words ≡ page_words → AllSuit layout m (rewriting page words)
+rewrites : (layout : Layout) (m : Memory) (page : ℕ) (words : List ℕ) → IsRight layout → length m.words ≡ word_count → IsPool layout page → is_used m.words page ≡ true → length words ≡ page_words
+    → AllSuit layout m (rewriting page words)
 rewrites layout m page words right whole pool used long = ((pool, used), ((pool, long, erased_blank m page (inside_of layout m.words page right whole pool)), tt))
 
-unlinks_page : (layout : Layout) (image : List ℕ) (m : Memory) (victim page : ℕ) → IsRight layout → length m.words ≡ word_count → IsPool layout page → AllSuit layout m (unlinking image m.words victim page)
+unlinks_page : (layout : Layout) (image : List ℕ) (m : Memory) (victim page : ℕ) → IsRight layout → length m.words ≡ word_count → IsPool layout page
+    → AllSuit layout m (unlinking image m.words victim page)
 unlinks_page layout image m victim page right whole pool =
     let words = with_calls m.words (stubs_into image m.words victim page) in
     let long = length-page_of words page (inside_of layout words page right (length-with_calls m.words (stubs_into image m.words victim page) ∙ whole) pool) in
@@ -202,13 +217,16 @@ unlinks_page layout image m victim page right whole pool =
       | false ↦ λ none. tt
     ]) refl
 
-does_unresolved : (layout : Layout) (image : List ℕ) (victim first n : ℕ) (m : Memory) → IsRight layout → length m.words ≡ word_count → ((k : ℕ) → k < n → IsPool layout (first + k)) → (let p = unresolved image victim first n m in Does layout m p.memory p.stop)
+does_unresolved : (layout : Layout) (image : List ℕ) (victim first n : ℕ) (m : Memory) → IsRight layout → length m.words ≡ word_count → ((k : ℕ) → k < n → IsPool layout (first + k))
+    → (let p = unresolved image victim first n m in Does layout m p.memory p.stop)
 does_unresolved layout image victim first zero m right whole all = does_nothing layout m None
 does_unresolved layout image victim first (suc n) m right whole all =
-    on_does layout m (unresolved image victim first n m) (λ now. perform now (unlinking image now.words victim (first + n))) whole (does_unresolved layout image victim first n m right whole (λ k below. all k (omega (arith, below))))
+    on_does layout m (unresolved image victim first n m) (λ now. perform now (unlinking image now.words victim (first + n))) whole
+    (does_unresolved layout image victim first n m right whole (λ k below. all k (omega (arith, below))))
     (λ now there. does_perform layout (unlinking image now.words victim (first + n)) now right there (unlinks_page layout image now victim (first + n) right there (all n (omega arith))))
 
-unresolves : (layout : Layout) (victim : ℕ) (m new : Memory) (stop : Option ResolveStop) → IsRight layout → length m.words ≡ word_count → unresolved_in layout victim m ≡ record { memory = new; stop = stop } → Does layout m new stop
+unresolves : (layout : Layout) (victim : ℕ) (m new : Memory) (stop : Option ResolveStop) → IsRight layout → length m.words ≡ word_count
+    → unresolved_in layout victim m ≡ record { memory = new; stop = stop } → Does layout m new stop
 unresolves layout victim m new stop right whole is =
     subst (λ (p : Performed). Does layout m p.memory p.stop) is
     (does_unresolved layout (image_of layout m.words) victim layout.pool_first layout.pool_pages m right whole (λ k below. record { from = omega arith; to = omega (arith, below) }))
@@ -232,7 +250,8 @@ record Works (layout : Layout) (old new : Store) (result : Result Moved Refused)
   some : one_if (made_in result) ≤ length does.operations
   going : (moved : Moved) → result ≡ Ok moved → stop ≡ None
 
-works_made : (layout : Layout) (old new : Store) (page t : ℕ) (again : Bool) (result : Result Moved Refused) → IsRight layout → length old.flash.words ≡ word_count → IsPool layout page → IsFree old.flash.words page
+works_made : (layout : Layout) (old new : Store) (page t : ℕ) (again : Bool) (result : Result Moved Refused) → IsRight layout → length old.flash.words ≡ word_count → IsPool layout page
+    → IsFree old.flash.words page
     → Makes layout old new page t again result → Works layout old new result
 works_made layout old new page t again result right whole pool free (Made words place prepared done there is) =
     let long = prepared_size layout (image_of layout old.flash.words) old.flash.words page t words place prepared in
@@ -248,7 +267,8 @@ works_made layout old new page t again result right whole pool free (NotMade wor
       going = λ moved e. absurd (cc);
     }
 
-works_recycled : (layout : Layout) (old new : Store) (victim t : ℕ) (result : Result Moved Refused) → IsRight layout → IsFaithful layout (image_of layout old.flash.words) old.flash.words → IsPool layout victim → is_used old.flash.words victim ≡ true
+works_recycled : (layout : Layout) (old new : Store) (victim t : ℕ) (result : Result Moved Refused) → IsRight layout → IsFaithful layout (image_of layout old.flash.words) old.flash.words
+    → IsPool layout victim → is_used old.flash.words victim ≡ true
     → Recycles layout old new victim t result → Works layout old new result
 works_recycled layout old new victim t result right code pool used (NotUnlinked stop done same is) = record {
   stop = Some stop;
@@ -277,7 +297,8 @@ works_recycled layout old new victim t result right code pool used (Erased unlin
     let does = then_does layout old.flash erased new.flash None made.stop first refl made.does in
     record { stop = made.stop; does = does; some = omega (arith, made.some, length-append first.operations made.does.operations); going = made.going }
 
-works_by : (layout : Layout) (old new : Store) (t : ℕ) (result : Result Moved Refused) → IsRight layout → IsFaithful layout (image_of layout old.flash.words) old.flash.words → ring_of old.sram < layout.pool_pages → Arrives layout old new t result → Works layout old new result
+works_by : (layout : Layout) (old new : Store) (t : ℕ) (result : Result Moved Refused) → IsRight layout → IsFaithful layout (image_of layout old.flash.words) old.flash.words
+    → ring_of old.sram < layout.pool_pages → Arrives layout old new t result → Works layout old new result
 works_by layout old new t result right code ring (Beyond out same is) = record {
   stop = None;
   does = subst (λ (s : Store). Does layout old.flash s.flash None) (sym same) (does_nothing layout old.flash None);
@@ -305,21 +326,40 @@ pub record Worked (layout : Layout) (old new : Memory) (made : Bool) : Type 0 wh
   pub some : one_if made ≤ length operations
   pub suit : Suit layout old operations
 
-pub works_from : (layout : Layout) (old new : Store) (t : ℕ) (stub : Option ℕ) (arrival : Arrival) → IsRight layout → IsFaithful layout (image_of layout old.flash.words) old.flash.words → ring_of old.sram < layout.pool_pages → CameThrough layout old.flash.words stub t
+pub works_from : (layout : Layout) (old new : Store) (t : ℕ) (stub : Option ℕ) (arrival : Arrival) → IsRight layout → IsFaithful layout (image_of layout old.flash.words) old.flash.words
+    → ring_of old.sram < layout.pool_pages → CameThrough layout old.flash.words stub t
     → ArrivesFrom layout old new t stub arrival → Worked layout old.flash new.flash arrival.made
 works_from layout old new t stub arrival right code ring came (Stopped refused arrives is) =
     let works = works_by layout old new t (Err refused) right code ring arrives in
-    record { operations = works.does.operations; refusal = works.does.refusal; is = works.does.is; counted = works.does.counted; suit = works.does.suit; some = omega (arith, ap (λ (a : Arrival). one_if a.made) is) }
+    record {
+      operations = works.does.operations;
+      refusal = works.does.refusal;
+      is = works.does.is;
+      counted = works.does.counted;
+      suit = works.does.suit;
+      some =
+          omega (arith, ap (λ (a : Arrival). one_if a.made) is);
+    }
 works_from layout old new t stub arrival right code ring came (Went moved arrives nothing is) =
     let works = works_by layout old new t (Ok moved) right code ring arrives in
-    record { operations = works.does.operations; refusal = works.does.refusal; is = works.does.is; counted = works.does.counted; suit = works.does.suit; some = omega (arith, ap (λ (a : Arrival). one_if a.made) is, works.some) }
+    record {
+      operations = works.does.operations;
+      refusal = works.does.refusal;
+      is = works.does.is;
+      counted = works.does.counted;
+      suit = works.does.suit;
+      some =
+          omega (arith, ap (λ (a : Arrival). one_if a.made) is, works.some);
+    }
 works_from layout old new t stub arrival right code ring came (Resolved mid moved s arrives some stop done kept is) =
     let works = works_by layout old mid t (Ok moved) right code ring arrives in
     let there : length mid.flash.words ≡ word_count = works.does.size ∙ code.whole in
-    let link = link_page layout (image_of layout old.flash.words) mid.flash.words s t (omega (arith, code.image_length, right.image_fits)) (still_linked layout old mid t s stub moved right code ring came arrives some) in
+    let link = link_page layout (image_of layout old.flash.words) mid.flash.words s t (omega (arith, code.image_length, right.image_fits))
+    (still_linked layout old mid t s stub moved right code ring came arrives some) in
     let words = with_two_words mid.flash.words s jump_word moved.place in
     let long = length-page_of words (s / page_words) (inside_of layout words (s / page_words) right (length-with_two_words mid.flash.words s jump_word moved.place ∙ there) link.0) in
-    let behind = performs layout mid.flash new.flash (resolving mid.flash.words s moved.place) stop right there (rewrites layout mid.flash (s / page_words) (page_of words (s / page_words)) right there link.0 link.1 long) done in
+    let behind = performs layout mid.flash new.flash (resolving mid.flash.words s moved.place) stop right there
+    (rewrites layout mid.flash (s / page_words) (page_of words (s / page_words)) right there link.0 link.1 long) done in
     let all = then_does layout old.flash mid.flash new.flash works.stop stop works.does (works.going moved refl) behind in
     record {
       operations = all.operations;
@@ -340,17 +380,21 @@ makes_one : (layout : Layout) (old new : Store) (page t : ℕ) (again : Bool) (r
 makes_one layout old new page t again result (Made words place prepared done there is) = ap one_at_most is
 makes_one layout old new page t again result (NotMade words place prepared stop done same is) = ap one_at_most is
 
-few_by : (layout : Layout) (old new : Store) (t page : ℕ) (result : Result Moved Refused) → IsPool layout page → IsFree old.flash.words page → Arrives layout old new t result → new.flash.ops ≤ old.flash.ops + one_at_most result
+few_by : (layout : Layout) (old new : Store) (t page : ℕ) (result : Result Moved Refused) → IsPool layout page → IsFree old.flash.words page → Arrives layout old new t result
+    → new.flash.ops ≤ old.flash.ops + one_at_most result
 few_by layout old new t page result pool free (Beyond out same is) = omega (arith, ap (λ (s : Store). s.flash.ops) same)
 few_by layout old new t page result pool free (Found place inside finds same is) = omega (arith, ap (λ (m : Memory). m.ops) same)
-few_by layout old new t page result pool free (Free lowest inside finds first makes) = omega (arith, makes_ops layout old new lowest t false result makes, makes_one layout old new lowest t false result makes)
+few_by layout old new t page result pool free (Free lowest inside finds first makes) =
+    omega (arith, makes_ops layout old new lowest t false result makes, makes_one layout old new lowest t false result makes)
 few_by layout old new t page result pool free (Full inside finds none recycles) = absurd (none page pool free)
 
-pub few_from : (layout : Layout) (old new : Store) (t page : ℕ) (stub : Option ℕ) (arrival : Arrival) → IsPool layout page → IsFree old.flash.words page → ArrivesFrom layout old new t stub arrival → new.flash.ops ≤ old.flash.ops + (one_if arrival.made + 2)
+pub few_from : (layout : Layout) (old new : Store) (t page : ℕ) (stub : Option ℕ) (arrival : Arrival) → IsPool layout page → IsFree old.flash.words page → ArrivesFrom layout old new t stub arrival
+    → new.flash.ops ≤ old.flash.ops + (one_if arrival.made + 2)
 few_from layout old new t page stub arrival pool free (Stopped refused arrives is) = omega (arith, few_by layout old new t page (Err refused) pool free arrives)
 few_from layout old new t page stub arrival pool free (Went moved arrives nothing is) = omega (arith, few_by layout old new t page (Ok moved) pool free arrives, ap (λ (a : Arrival). one_if a.made) is)
 few_from layout old new t page stub arrival pool free (Resolved mid moved s arrives some stop done kept is) =
-    let two = subst (λ (p : Performed). p.memory.ops ≤ mid.flash.ops + 2) done (rewriting_ops mid.flash (s / page_words) (page_of (with_two_words mid.flash.words s jump_word moved.place) (s / page_words))) in
+    let two = subst (λ (p : Performed). p.memory.ops ≤ mid.flash.ops + 2) done
+    (rewriting_ops mid.flash (s / page_words) (page_of (with_two_words mid.flash.words s jump_word moved.place) (s / page_words))) in
     omega (arith, few_by layout old mid t page (Ok moved) pool free arrives, two, ap (λ (a : Arrival). one_if a.made) is)
 
 -- Each of them, where those in front are performed. -------------------------------------------------------
@@ -376,13 +420,15 @@ allowed_behind image m (first ∷ done) behind operation suit counted =
     let all = done ++ (operation ∷ behind) in
     let m' = page_operated m first in
     let refused : PagesPerformed = record { memory = left_by_refusal m (page_tried first); refusal = Some (record { op = next_op m; operation = first }) } in
-    let Ways : Bool → Type 0 = λ t. (if t then refused else perform_pages m' all).memory.ops ≡ m.ops + length (first ∷ all) → IsAllowed image (if t then refused else perform_pages m' done).memory.words operation in
+    let Ways : Bool → Type 0 = λ t. (if t then refused else perform_pages m' all).memory.ops ≡ m.ops + length (first ∷ all)
+    → IsAllowed image (if t then refused else perform_pages m' done).memory.words operation in
     (elim (fails m) as Ways [
       | true ↦ λ counted. absurd (omega (arith, counted, length-append done (operation ∷ behind)))
       | false ↦ λ counted. allowed_behind image m' done behind operation suit.1 (omega (arith, counted, counted_one m first))
     ]) counted
 
-pub allowed_each : (image : List ℕ) (m : Memory) (operations done behind : List PageOperation) (operation : PageOperation) → Suit (layout_of (length image)) m operations → (perform_pages m operations).memory.ops ≡ m.ops + length operations
+pub allowed_each : (image : List ℕ) (m : Memory) (operations done behind : List PageOperation) (operation : PageOperation) → Suit (layout_of (length image)) m operations
+    → (perform_pages m operations).memory.ops ≡ m.ops + length operations
     → operations ≡ done ++ (operation ∷ behind) → IsAllowed image (perform_pages m done).memory.words operation
 allowed_each image m operations done behind operation suit counted split =
     allowed_behind image m done behind operation (subst (Suit (layout_of (length image)) m) split suit) (subst (λ o. (perform_pages m o).memory.ops ≡ m.ops + length o) split counted)

@@ -1,12 +1,12 @@
 -- What a machine did, one act after another, told by the mote before and after each.
-use Rattle.std.specs.Prelude.{⊤, ◌≡◌, ◌≢◌, Bool, false, ℕ, suc, ◌+◌, ◌-◌, ◌*◌, ◌/◌, ◌%◌, ◌≤◌, ◌⊎◌, List, [], ◌∷◌, ◌++◌, slice_index, slice_set, length, replicate, ◌<◌, ◌==◌, nat_le, if◌then◌else◌, true, Option, Some, None}
+use Rattle.std.specs.Prelude.{⊤, ◌≡◌, ◌≢◌, Bool, false, ℕ, suc, ◌+◌, ◌-◌, ◌*◌, ◌/◌, ◌%◌, ◌≤◌, ◌⊎◌, List, [], ◌∷◌, ◌++◌, slice_index, slice_set, length, replicate, ◌<◌, ◌==◌, nat_le, if◌then◌else◌}
+use Rattle.std.specs.Prelude.{true, Option, Some, None}
 use Rattle.std.specs.Option.{option_map}
 use Rattle.avr_isa.specs.declared.form.Form.{Form}
 use Rattle.avr_isa.specs.Crossing.{is_crossing}
 use Rattle.input_script.specs.declared.input.Event.{Event}
 use Rattle.flat_machine.specs.FlatMachine.{at_reset, next_size}
 use Rattle.flat_machine.specs.FlatSpace.{FlatSpace, flat_calls}
-use Rattle.avr_exec.specs.declared.cpu.Cpu.{Cpu}
 use Rattle.avr_decode.specs.Program.{instruction_at}
 use Rattle.avr_decode.specs.Decoding.{the_form, size_by_first_word}
 use Rattle.avr_exec.specs.Spaces.{Went}
@@ -20,9 +20,9 @@ use Rattle.flash_words.specs.Operations.{is_listed, Operation, Erase, Program, p
 use Rattle.mote_core.specs.declared.mote.Mote.{Mote}
 use Rattle.mote_core.specs.Physical.{physical_calls}
 use Rattle.step_laws.specs.Moves.{line_before}
-use Rattle.theorem_reader.specs.Pools.{pool_from, IsInPool, AreFaithful, IsErased, AreFaithfulBut, IsPlaceOf}
-use Rattle.theorem_reader.specs.Memory.{HasMemory}
-use Rattle.theorem_reader.specs.Wear.{pool_size, ErasesFew}
+use Rattle.theorem_reader.specs.Pools.{pool_from, pool_size, IsInPool, AreFaithful, IsErased, AreFaithfulBut, IsPlaceOf, StandAt}
+use Rattle.theorem_reader.specs.Memory.{sram_byte, Keeps, core_at, HasMemory}
+use Rattle.theorem_reader.specs.Wear.{ErasesFew}
 
 -- One AVR instruction of the mote in rewritten code. A service of the kernel, in which the program may stop. Each of these two may
 -- write a device line. The arrival of control at an original address, the target, which may be refused; which makes so many pages;
@@ -40,17 +40,20 @@ pub record IsStep (from : ℕ) (line : Option Line) (before after : Mote) : Type
   pub high : before.cpu.pc ≤ 0xEFFF
   pub flash : after.flash ≡ before.flash
   pub swap : after.swap ≡ before.swap
-  pub cells : (a : ℕ) → 0x0108 ≤ a → a ≤ 0x011D → slice_index after.sram (a - 0x0100) ≡ slice_index before.sram (a - 0x0100)
-  pub tables : (a : ℕ) → 0x0120 ≤ a → a ≤ 0x04FF → slice_index after.sram (a - 0x0100) ≡ slice_index before.sram (a - 0x0100)
+  pub cells : Keeps 0x0108 0x011D before after × Keeps 0x0120 0x04FF before after
   pub executed : option_map (λ (form : Form). exec_of physical_calls form before.cpu
       (record { sram = before.sram; devices = before.devices; words = before.flash.words; line = None })
       (size_by_first_word (slice_index before.flash.words ((before.cpu.pc + 1) % 65536))))
       (the_form (slice_index before.flash.words before.cpu.pc) (slice_index before.flash.words ((before.cpu.pc + 1) % 65536)))
       ≡ Some (Went after.cpu (record { sram = after.sram; devices = after.devices; words = after.flash.words; line = line }))
 
+-- the kernel's stack is empty; else nothing changes
+abbrev pub rested : Mote → Mote
+rested m = record m { cpu = record m.cpu { sp = 0x011F } }
+
 -- the address behind the call of the kernel, where that left it: the high byte at 0x011E, the low one at 0x011F
 abbrev pub called_from : Mote → ℕ
-called_from m = slice_index m.sram 0x1E * 256 + slice_index m.sram 0x1F
+called_from m = sram_byte m 0x011E * 256 + sram_byte m 0x011F
 
 -- where that call begins, which has two words
 abbrev pub call_address : Mote → ℕ
@@ -59,10 +62,6 @@ call_address m = (called_from m + 65534) % 65536
 -- the word behind that call, which is an address of the program there
 abbrev pub program_address : Mote → ℕ
 program_address m = slice_index m.flash.words (called_from m)
-
--- the program's own stack pointer: the low byte at 0x0103, the high one at 0x0104
-abbrev pub program_pointer : Mote → ℕ
-program_pointer m = slice_index m.sram 3 + 256 * slice_index m.sram 4
 
 -- COUNT, the byte at 0x0100, counts crossings down. This is what comes of such a count once the program went from one address to
 -- another: where that is a crossing it is one less, or the quantum where it was 1.
@@ -74,21 +73,22 @@ count_behind quantum from to count = if is_crossing from to then (if count == 1 
 -- to its next address is counted; at 0xF004 and 0xF006 COUNT stays, and a line may be written. Or nothing but the kernel's stack
 -- pointer changes, and no line is written, where the program stops.
 pub data Executes (image : List ℕ) (quantum : ℕ) (line : Option Line) (stops : Bool) (before after : Mote) : Type 0 where
-  Ends : stops ≡ true → line ≡ None → after ≡ record before { cpu = record before.cpu { sp = 0x011F } } → Executes image quantum line stops before after
-  Done : stops ≡ false → (form : Form) → (core : Cpu) → (old new : FlatSpace) → line ≡ (if nat_le before.cpu.pc 0xF007 then new.line else None) → instruction_at image (program_address before) ≡ Some form
+  Ends : stops ≡ true → line ≡ None → after ≡ rested before → Executes image quantum line stops before after
+  Done : stops ≡ false → (form : Form) → (to : ℕ) → (old new : FlatSpace) → instruction_at image (program_address before) ≡ Some form
       → HasMemory before old.memory → old.devices ≡ before.devices → old.image ≡ image → old.line ≡ None
-      → exec_of flat_calls form (record { r = before.cpu.r; sreg = before.cpu.sreg; sp = program_pointer before; pc = program_address before }) old (next_size image (program_address before)) ≡ Went core new
-      → after.cpu.r ≡ core.r → after.cpu.sreg ≡ core.sreg → program_pointer after ≡ core.sp → HasMemory after new.memory → after.devices ≡ new.devices
-      → slice_index after.sram 0 ≡ (if nat_le before.cpu.pc 0xF007 then slice_index before.sram 0 else count_behind quantum (program_address before) core.pc (slice_index before.sram 0)) → Executes image quantum line stops before after
+      → exec_of flat_calls form (core_at before (program_address before)) old (next_size image (program_address before)) ≡ Went (core_at after to) new
+      → HasMemory after new.memory → after.devices ≡ new.devices → line ≡ (if nat_le before.cpu.pc 0xF007 then new.line else None)
+      → sram_byte after 0x0100 ≡ (if nat_le before.cpu.pc 0xF007 then sram_byte before 0x0100 else count_behind quantum (program_address before) to (sram_byte before 0x0100))
+      → Executes image quantum line stops before after
 
 -- The program is to go on at the next address, as behind a SLEEP: the devices are as inputs leave them, with an enabled interrupt
 -- requested (`wake`), the crossing to the next address is counted, and nothing else changes but the kernel's stack pointer. Or
 -- that alone does, where the program stops.
 pub data Sleeps (quantum : ℕ) (stops : Bool) (before after : Mote) : Type 0 where
-  Stays : stops ≡ true → after ≡ record before { cpu = record before.cpu { sp = 0x011F } } → Sleeps quantum stops before after
-  Wakes : stops ≡ false → (devices : State) → wake before.devices ≡ Some devices → ((a : ℕ) → 0x0101 ≤ a → slice_index after.sram (a - 0x0100) ≡ slice_index before.sram (a - 0x0100))
-      → after ≡ record before { cpu = record before.cpu { sp = 0x011F }; sram = after.sram; devices = devices }
-      → slice_index after.sram 0 ≡ count_behind quantum (program_address before) ((program_address before + 1) % 65536) (slice_index before.sram 0) → Sleeps quantum stops before after
+  Stays : stops ≡ true → after ≡ rested before → Sleeps quantum stops before after
+  Wakes : stops ≡ false → (devices : State) → wake before.devices ≡ Some devices → ((a : ℕ) → 0x0101 ≤ a → sram_byte after a ≡ sram_byte before a)
+      → after ≡ record (rested before) { sram = after.sram; devices = devices }
+      → sram_byte after 0x0100 ≡ count_behind quantum (program_address before) ((program_address before + 1) % 65536) (sram_byte before 0x0100) → Sleeps quantum stops before after
 
 -- The pc is at one of the kernel's eight entries, the even addresses from 0xF000 to 0xF00E. All of flash stays, and the bytes
 -- of SRAM at 0x0101 to 0x011F, but for the program's stack pointer, and at 0x0142 to 0x03FF. At each entry but 0xF004, which
@@ -105,40 +105,40 @@ pub record IsService (image : List ℕ) (quantum : ℕ) (line : Option Line) (st
   pub stack : after.cpu.sp ≡ 0x011F
   pub resumed : stops ≡ false → 0xF004 ≤ before.cpu.pc → before.cpu.pc ≤ 0xF007 → after.cpu.pc ≡ (called_from before + 1) % 65536
   pub stays : (stops ≡ true) ⊎ ((before.cpu.pc ≤ 0xF003) ⊎ (0xF008 ≤ before.cpu.pc)) → after.cpu.pc ≡ before.cpu.pc
-  pub bridge : before.cpu.pc ≡ 0xF000 → after ≡ record before { cpu = record before.cpu { sp = 0x011F } }
-  pub going : before.cpu.pc ≤ 0xF003 → stops ≡ false
-  pub silent : (before.cpu.pc ≤ 0xF003) ⊎ (0xF00E ≤ before.cpu.pc) → line ≡ None
-  pub refilled : before.cpu.pc ≡ 0xF002 → after ≡ record before {
-    cpu = record before.cpu { r = slice_set before.cpu.r 24 (slice_index before.sram 1); sreg = slice_index before.sram 2; sp = 0x011F };
+  pub bridge : before.cpu.pc ≡ 0xF000 → (stops ≡ false) × (line ≡ None) × (after ≡ rested before)
+  pub refilled : before.cpu.pc ≡ 0xF002 → (stops ≡ false) × (line ≡ None) × (after ≡ record before {
+    cpu = record before.cpu { r = slice_set before.cpu.r 24 (sram_byte before 0x0101); sreg = sram_byte before 0x0102; sp = 0x011F };
     sram = slice_set before.sram 0 quantum;
-  }
+  })
   pub executes : 0xF004 ≤ before.cpu.pc → before.cpu.pc ≤ 0xF00D → Executes image quantum line stops before after
-  pub sleeps : 0xF00E ≤ before.cpu.pc → Sleeps quantum stops before after
+  pub sleeps : 0xF00E ≤ before.cpu.pc → (line ≡ None) × Sleeps quantum stops before after
   pub registers : 0xF006 ≤ before.cpu.pc → after.cpu.r ≡ before.cpu.r
   pub flash : after.flash ≡ before.flash
-  pub cells : (a : ℕ) → 0x0101 ≤ a → a ≤ 0x011F → a ≢ 0x0103 → a ≢ 0x0104 → slice_index after.sram (a - 0x0100) ≡ slice_index before.sram (a - 0x0100)
-  pub tables : (a : ℕ) → 0x0142 ≤ a → a ≤ 0x03FF → slice_index after.sram (a - 0x0100) ≡ slice_index before.sram (a - 0x0100)
-  pub swap : before.cpu.pc ≢ 0xF004 → after.swap ≡ before.swap
-  pub heap : (a : ℕ) → before.cpu.pc ≢ 0xF004 → 0x0120 ≤ a → a ≤ 0x0CFF → slice_index after.sram (a - 0x0100) ≡ slice_index before.sram (a - 0x0100)
+  pub cells : Keeps 0x0101 0x0102 before after × Keeps 0x0105 0x011F before after × Keeps 0x0142 0x03FF before after
+  pub heap : before.cpu.pc ≢ 0xF004 → (after.swap ≡ before.swap) × Keeps 0x0120 0x0CFF before after
 
 -- An arrival that makes no page leaves the words of flash as they are; or two of them, a call of the kernel at 0xF000, as which
 -- an exit stub begins, become a jump to where control goes on.
 pub data Relinks (before after : List ℕ) (place : ℕ) : Type 0 where
   Same : after ≡ before → Relinks before after place
-  Linked : (s : ℕ) → slice_index before s ≡ 0x940E → slice_index before (s + 1) ≡ 0xF000
-      → after ≡ slice_set (slice_set before s 0x940C) (s + 1) place → Relinks before after place
+  Linked : (s : ℕ) → StandAt before s 0x940E 0xF000 → after ≡ slice_set (slice_set before s 0x940C) (s + 1) place → Relinks before after place
 
 -- RING, at 0x0142 and 0x0143, the low byte first: the number within the pool of the page to be made anew where none is erased
 abbrev pub ring_of : Mote → ℕ
-ring_of m = slice_index m.sram 0x42 + 256 * slice_index m.sram 0x43
+ring_of m = sram_byte m 0x0142 + 256 * sram_byte m 0x0143
+
+-- the page that is to be made anew for the target: RING's, where no page of the pool is erased, or has a place of the target
+pub record IsRecycled (image : List ℕ) (target : ℕ) (before : Mote) (page : ℕ) : Type 0 where
+  pub anew : (place : ℕ) → ¬ IsPlaceOf image before.flash.words target place
+  pub full : (other : ℕ) → IsInPool image other → ¬ IsErased before.flash.words other
+  pub turn : 128 * page ≡ pool_from image + 128 * ring_of before
 
 -- The page that is made: the lowest of the pool that was erased, and RING stays; or, where none was, RING's, and RING is the next
 -- one then.
-pub data IsNext (image : List ℕ) (before after : Mote) (page : ℕ) : Type 0 where
+pub data IsNext (image : List ℕ) (target : ℕ) (before after : Mote) (page : ℕ) : Type 0 where
   Lowest : IsInPool image page → IsErased before.flash.words page → ((lower : ℕ) → IsInPool image lower → lower < page → ¬ IsErased before.flash.words lower)
-      → ring_of after ≡ ring_of before → IsNext image before after page
-  InTurn : ((other : ℕ) → IsInPool image other → ¬ IsErased before.flash.words other) → 128 * page ≡ pool_from image + 128 * ring_of before
-      → ring_of after ≡ (ring_of before + 1) % pool_size image → IsNext image before after page
+      → ring_of after ≡ ring_of before → IsNext image target before after page
+  InTurn : IsRecycled image target before page → ring_of after ≡ (ring_of before + 1) % pool_size image → IsNext image target before after page
 
 -- Why the page made of the instructions from t on to the one of number `last` goes no further: control never goes on from that one
 -- to the next; or the next one is in another page of 128 words, or outside the image, or has a place in another page already; or
@@ -150,30 +150,16 @@ pub data GoesNoFurther (image flash : List ℕ) (page t last : ℕ) : Type 0 whe
   Known : (place : ℕ) → place / 128 ≢ page → IsPlaceOf image flash (address image t (suc last)) place → GoesNoFurther image flash page t last
   Full : 128 < page_size image t (suc last) → GoesNoFurther image flash page t last
 
--- the page where control is begins with the target, has so many instructions, and goes no further
-pub record GoesFar (image : List ℕ) (target : ℕ) (before after : Mote) : Type 0 where
+-- A page is made for the target, which has no place before. It is the next one, and the one where control is then; there the
+-- code of the target begins. It begins with the target, has so many instructions, and goes on as far as it may.
+pub record IsMade (image : List ℕ) (target : ℕ) (before after : Mote) : Type 0 where
+  pub anew : (place : ℕ) → ¬ IsPlaceOf image before.flash.words target place
+  pub next : IsNext image target before after (after.cpu.pc / 128)
+  pub place : IsPlaceOf image after.flash.words target after.cpu.pc
   pub last : ℕ
   pub first : slice_index after.flash.words (128 * (after.cpu.pc / 128) + 2) / 256 ≡ target % 128
   pub entries : slice_index after.flash.words (128 * (after.cpu.pc / 128) + 1) ≡ suc last
   pub stops : GoesNoFurther image before.flash.words (after.cpu.pc / 128) target last
-
--- A page is made for the target, which has no place before. It is the next one, and the one where control is then; there the
--- code of the target begins; and it goes on as far as it may.
-pub record IsMade (image : List ℕ) (target : ℕ) (before after : Mote) : Type 0 where
-  pub anew : (place : ℕ) → ¬ IsPlaceOf image before.flash.words target place
-  pub next : IsNext image before after (after.cpu.pc / 128)
-  pub place : IsPlaceOf image after.flash.words target after.cpu.pc
-  pub far : GoesFar image target before after
-
--- the page that is to be made anew for the target: RING's, where no page of the pool is erased, or has a place of the target
-pub record IsRecycled (image : List ℕ) (target : ℕ) (before : Mote) (page : ℕ) : Type 0 where
-  pub anew : (place : ℕ) → ¬ IsPlaceOf image before.flash.words target place
-  pub full : (other : ℕ) → IsInPool image other → ¬ IsErased before.flash.words other
-  pub turn : 128 * page ≡ pool_from image + 128 * ring_of before
-
--- these two words stand at that address
-abbrev pub StandAt : (words : List ℕ) → (at first second : ℕ) → Type 0
-StandAt words at first second = (slice_index words at ≡ first) × (slice_index words (at + 1) ≡ second)
 
 -- A word of a page that isn't made: it stays. Or it is one of the first two of an exit stub. That called the kernel at 0xF000, and
 -- jumps to where control is then; or it jumped into the page that is to be made anew, and calls the kernel then.
@@ -233,25 +219,18 @@ pub record IsArrival (image : List ℕ) (refused : Bool) (target made ops : ℕ)
   pub most : ops ≤ 2 * pool_size image + 4
   pub performed : (perform before.flash operations).memory ≡ after.flash
   pub erased : ErasesFew before.flash after.flash
-  pub registers : after.cpu.r ≡ before.cpu.r
-  pub status : after.cpu.sreg ≡ before.cpu.sreg
-  pub pointer : after.cpu.sp ≡ before.cpu.sp
-  pub devices : after.devices ≡ before.devices
-  pub swap : after.swap ≡ before.swap
-  pub low : (a : ℕ) → 0x0100 ≤ a → a ≤ 0x0141 → slice_index after.sram (a - 0x0100) ≡ slice_index before.sram (a - 0x0100)
-  pub high : (a : ℕ) → 0x0400 ≤ a → slice_index after.sram (a - 0x0100) ≡ slice_index before.sram (a - 0x0100)
-  pub below : (a : ℕ) → a < pool_from image → slice_index after.flash.words a ≡ slice_index before.flash.words a
-  pub above : (a : ℕ) → 0xF000 ≤ a → slice_index after.flash.words a ≡ slice_index before.flash.words a
+  pub stays : after ≡ record before { cpu = record before.cpu { pc = after.cpu.pc }; sram = after.sram; flash = after.flash }
+  pub low : Keeps 0x0100 0x0141 before after
+  pub high : (a : ℕ) → 0x0400 ≤ a → sram_byte after a ≡ sram_byte before a
+  pub outside : (a : ℕ) → (a < pool_from image) ⊎ (0xF000 ≤ a) → slice_index after.flash.words a ≡ slice_index before.flash.words a
   pub arrives : Arrives image refused target made before after
 
 -- All of flash stays, and so do the swap area, the core but for SREG, and SRAM at 0x0100 to 0x0CFF but for the program's stack
 -- pointer. Nothing changes where the program stops there.
 pub record IsInterrupt (stops : Bool) (before after : Mote) : Type 0 where
   pub stopped : stops ≡ true → after ≡ before
-  pub core : after.cpu ≡ record before.cpu { sreg = after.cpu.sreg }
-  pub flash : after.flash ≡ before.flash
-  pub swap : after.swap ≡ before.swap
-  pub cells : (a : ℕ) → 0x0100 ≤ a → a ≤ 0x0CFF → a ≢ 0x0103 → a ≢ 0x0104 → slice_index after.sram (a - 0x0100) ≡ slice_index before.sram (a - 0x0100)
+  pub stays : after ≡ record before { cpu = record before.cpu { sreg = after.cpu.sreg }; sram = after.sram; devices = after.devices }
+  pub cells : Keeps 0x0100 0x0102 before after × Keeps 0x0105 0x0CFF before after
 
 -- the acts lead from the first mote to the last, each from where the one before it led, and each is what it is called
 abbrev pub Follow : (image : List ℕ) (quantum : ℕ) → Mote → List Act → Mote → Type 0
@@ -305,9 +284,9 @@ StopsLast stops (act ∷ other ∷ acts) = (is_stop act ≡ false) × StopsLast 
 pub record IsNew (events : List Event) (quantum slots : ℕ) (m : Mote) : Type 0 where
   pub core : m.cpu ≡ record { r = replicate 32 0; sreg = 0; sp = 0x011F; pc = 0 }
   pub size : length m.sram ≡ 4096
-  pub count : slice_index m.sram 0 ≡ quantum
-  pub map : (a : ℕ) → 0x0400 ≤ a → a ≤ 0x04FF → slice_index m.sram (a - 0x0100) ≡ 0xFF
-  pub zero : (a : ℕ) → 0x0101 ≤ a → a ≤ 0x10FF → (a < 0x0400) ⊎ (0x0500 ≤ a) → slice_index m.sram (a - 0x0100) ≡ 0
+  pub count : sram_byte m 0x0100 ≡ quantum
+  pub map : (a : ℕ) → 0x0400 ≤ a → a ≤ 0x04FF → sram_byte m a ≡ 0xFF
+  pub zero : (a : ℕ) → 0x0101 ≤ a → a ≤ 0x10FF → (a < 0x0400) ⊎ (0x0500 ≤ a) → sram_byte m a ≡ 0
   pub devices : m.devices ≡ (at_reset events).devices
   pub swap : m.swap ≡ replicate slots (replicate 256 0)
   pub ops : m.flash.ops ≡ 0
@@ -317,9 +296,7 @@ pub record IsNew (events : List Event) (quantum slots : ℕ) (m : Mote) : Type 0
 -- and these operations are to fail.
 pub record IsBoot (image failing : List ℕ) (events : List Event) (quantum slots : ℕ) (m : Mote) : Type 0 where
   pub new : IsNew events quantum slots m
-  pub words : m.flash.words ≡ image ++ replicate (0xF000 - length image) 0xFFFF ++ replicate 0x1000 0x9508
-  pub erases : m.flash.erases ≡ replicate 512 0
-  pub failing_is : m.flash.failing ≡ failing
+  pub flash : m.flash ≡ record m.flash { words = image ++ replicate (0xF000 - length image) 0xFFFF ++ replicate 0x1000 0x9508; erases = replicate 512 0; failing = failing }
 
 -- What comes of a call of the kernel at 0xF000, as which an exit stub begins. The act behind that service is the arrival at the
 -- address that stands behind the call; the call is in flash still. Unless that arrival is refused, a jump to where control goes on

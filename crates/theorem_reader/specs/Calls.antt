@@ -11,7 +11,7 @@ use Rattle.theorem_reader.specs.Tasks.{AskedTasks, AsksTasks}
 use Rattle.theorem_reader.specs.Telling.{Sink, IsTold}
 use Rattle.theorem_reader.specs.Texts.{no_memory}
 
--- The words and the text ask for one of these. The last are texts that are refused, with this status and this line, and words that
+-- The words and the text ask for one of these. The last are texts that are refused, with this line, and words that
 -- are answered with the usage line, and this status.
 pub data IsAsked (words : List (List ℕ)) (text : List ℕ) : Type 0 where
   Run : (asked : Asked) → Asks words text asked → IsAsked words text
@@ -21,16 +21,13 @@ pub data IsAsked (words : List (List ℕ)) (text : List ℕ) : Type 0 where
   Check : (image flash : List ℕ) → AsksCheck words text image flash → IsAsked words text
   Assemble : (image : List ℕ) → AsksAsm words text image → IsAsked words text
   Generate : (seed : ℕ) → AsksGenerate words seed → IsAsked words text
-  Refuse : (own : ℕ) → (line : List ℕ) → IsRefused words text own line → IsAsked words text
+  Refuse : (line : List ℕ) → IsRefused words text line → IsAsked words text
   Tell : (own : ℕ) → IsUsage words own → IsAsked words text
 
 -- the words are those of a command that reads a text, and memory was wanted, which is all that is told; neither a machine nor
 -- tasks are kept
-pub record IsWanting (words : List (List ℕ)) (sink : Sink) (status : ℕ) (taken : List ℕ) (kept : Option Machine) (tasks : Option KeptTasks) : Type 0 where
-  pub reads : ReadsText words
-  pub told : IsTold sink 8 no_memory status taken
-  pub none : kept ≡ None
-  pub alone : tasks ≡ None
+abbrev pub IsWanting : (words : List (List ℕ)) → Sink → (status : ℕ) (taken : List ℕ) → Option Machine → Option KeptTasks → Type 0
+IsWanting words sink status taken kept tasks = ReadsText words × IsTold sink 8 no_memory status taken × (kept ≡ None) × (tasks ≡ None)
 
 -- The words are those of a command that reads a text, or of `generate`, or they are answered with the usage line.
 pub data AreCovered (words : List (List ℕ)) : Type 0 where

@@ -1,26 +1,23 @@
 -- What `check` answers about a flash.
-use Rattle.std.specs.Prelude.{◌≡◌, ℕ, zero, suc, ◌+◌, ◌-◌, ◌*◌, ◌/◌, ◌<◌, ◌≤◌, ◌==◌, if◌then◌else◌, List, ◌++◌, codes, decimal, drop, length, slice_index, Option, None}
-use Rattle.hex_image.specs.HexText.{HexText}
+use Rattle.std.specs.Prelude.{◌≡◌, ℕ, ◌*◌, ◌<◌, ◌==◌, not, List, ◌++◌, codes, decimal, drop, slice_index, Option, None}
 use Rattle.flash_dump.specs.Dumps.{IsDump}
 use Rattle.program_steps.specs.Machines.{Machine}
 use Rattle.cli_words.specs.declared.command.Command.TheVariants.{Check}
 use Rattle.cli_words.specs.Commands.{IsCommand}
-use Rattle.theorem_reader.specs.Pools.{pool_from, is_formed, is_linked, IsInPool, AreFaithful}
+use Rattle.theorem_reader.specs.Pools.{pages_where, is_formed, is_linked, IsInPool, AreFaithful}
+use Rattle.theorem_reader.specs.Runs.{HasHex}
 use Rattle.theorem_reader.specs.Telling.{Sink, IsTold}
 use Rattle.theorem_reader.specs.Texts.{no_memory}
 
--- The word is `check`; the text is a HEX text of the image, and behind it a dump of these 65,536 words of flash, and isn't too long.
+-- the word is `check`; the text has a HEX text of the image, and behind it a dump of these 65,536 words of flash
 pub record AsksCheck (words : List (List ℕ)) (text image flash : List ℕ) : Type 0 where
   pub command : IsCommand words Check
-  pub position : ℕ
-  pub hex : HexText text image position
-  pub dump : IsDump (drop position text) flash
-  pub short : length text ≤ 2097152
+  pub front : HasHex text image
+  pub dump : IsDump (drop front.position text) flash
 
--- how many of n pages from one on don't begin with an erased word
-abbrev pub used_of : List ℕ → (first n : ℕ) → ℕ
-used_of flash first zero = 0
-used_of flash first (suc n) = (if slice_index flash (128 * (first + n)) == 0xFFFF then 0 else 1) + used_of flash first n
+-- how many pages of the pool don't begin with an erased word
+abbrev pub used_in : (image flash : List ℕ) → ℕ
+used_in image flash = pages_where image (λ page. not (slice_index flash (128 * page) == 0xFFFF))
 
 -- the lowest page that hasn't its form
 pub record IsMisshapen (image flash : List ℕ) (page : ℕ) : Type 0 where
@@ -38,8 +35,7 @@ pub record IsUnlinked (image flash : List ℕ) (page : ℕ) : Type 0 where
 -- Memory was wanted; or one of three things is so, and that is told. No two of them can be so of one flash. No machine is kept.
 pub data IsChecked (sink : Sink) (image flash : List ℕ) (status : ℕ) (taken : List ℕ) (kept : Option Machine) : Type 0 where
   NoMemory : IsTold sink 8 no_memory status taken → kept ≡ None → IsChecked sink image flash status taken kept
-  Faithful : AreFaithful image flash → IsTold sink 0 (codes "faithful pages " ++ decimal (used_of flash (pool_from image / 128) (480 - pool_from image / 128)) ++ codes "\n") status taken
-      → kept ≡ None → IsChecked sink image flash status taken kept
+  Faithful : AreFaithful image flash → IsTold sink 0 (codes "faithful pages " ++ decimal (used_in image flash) ++ codes "\n") status taken → kept ≡ None → IsChecked sink image flash status taken kept
   Misshapen : (page : ℕ) → IsMisshapen image flash page → IsTold sink 2 (codes "not faithful page " ++ decimal page ++ codes " form\n") status taken
       → kept ≡ None → IsChecked sink image flash status taken kept
   Unlinked : (page : ℕ) → IsUnlinked image flash page → IsTold sink 2 (codes "not faithful page " ++ decimal page ++ codes " links\n") status taken

@@ -3,7 +3,7 @@ use Rattle.std.specs.Prelude.{◌≡◌, ℕ, ◌+◌, ◌*◌, ◌/◌, ◌%◌
 use Rattle.std.specs.List.{list_all, range_with_len}
 use Rattle.program_steps.specs.Machines.{Machine}
 use Rattle.cli_words.specs.declared.command.Command.TheVariants.{Dump}
-use Rattle.theorem_reader.specs.Runs.{Asked, AsksAs, EndsWell, EndsInAFault}
+use Rattle.theorem_reader.specs.Runs.{Asked, AsksAs, boot_of, EndsWell, EndsInAFault}
 use Rattle.theorem_reader.specs.Telling.{Sink, IsTold}
 use Rattle.theorem_reader.specs.Texts.{hex, no_memory}
 
@@ -25,8 +25,8 @@ dump_text flash = flat_map (page_text flash) (range_with_len 0 512)
 
 -- the machine ran as for `run`
 pub data HasEnded (asked : Asked) (m : Machine) : Type 0 where
-  Well : EndsWell asked m → HasEnded asked m
-  InAFault : (op : ℕ) → EndsInAFault asked op m → HasEnded asked m
+  Well : EndsWell (boot_of asked) asked m → HasEnded asked m
+  InAFault : EndsInAFault (boot_of asked) asked m → HasEnded asked m
 
 -- memory was wanted for the run, or for its dump; or what is told is the dump of just the flash of the machine that is kept
 pub data IsDumped (sink : Sink) (asked : Asked) (status : ℕ) (taken : List ℕ) (kept : Option Machine) : Type 0 where

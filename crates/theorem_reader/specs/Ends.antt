@@ -1,21 +1,9 @@
 -- The end that a machine keeps, beside that of the original program.
 use Rattle.std.specs.Prelude.{◌≡◌, Option, Some, None}
-use Rattle.flat_machine.specs.FlatMachine.{End, Spent, Halted, Asleep, Wild, Illegal, SelfProgram, Read, Io, Stack, SwapFull}
-use Rattle.kernel_entry.specs.declared.kernel.Stop.{Stop}
-use Rattle.kernel_entry.specs.declared.kernel.Stop.TheVariants as stops
+use Rattle.flat_machine.specs.FlatMachine.{End, Spent, Wild}
+use Rattle.kernel_entry.specs.Seen.{end_of as end_of_stop}
 use Rattle.kernel_entry.specs.declared.kernel.End.{End as MachineEnd}
 use Rattle.kernel_entry.specs.declared.kernel.End.TheVariants as ends
-
--- how the program stopped by itself
-abbrev pub end_of_stop : Stop → End
-end_of_stop (stops.Halted pc) = Halted pc
-end_of_stop (stops.Asleep pc) = Asleep pc
-end_of_stop (stops.Illegal pc) = Illegal pc
-end_of_stop (stops.SelfProgram pc) = SelfProgram pc
-end_of_stop (stops.Read pc a) = Read pc a
-end_of_stop (stops.Io pc a) = Io pc a
-end_of_stop (stops.Stack pc a) = Stack pc a
-end_of_stop (stops.SwapFull pc a) = SwapFull pc a
 
 -- the machine's end as one of the original program, which goes on where the machine's flash refuses an operation
 abbrev pub end_of : MachineEnd → End

@@ -1,12 +1,21 @@
 -- Where the mote keeps the program's data memory of 65,536 bytes. In place of registers and devices, which are told apart, it
 -- has 0. Each page of 256 bytes has a number, its address / 256.
 use Rattle.std.specs.Prelude.{◌≡◌, ◌≢◌, ◌↔◌, ℕ, ◌+◌, ◌-◌, ◌*◌, ◌/◌, ◌%◌, ◌<◌, ◌≤◌, Bool, true, false, List, [], length, slice_index, slice_index_or}
+use Rattle.avr_exec.specs.declared.cpu.Cpu.{Cpu}
 use Rattle.flat_machine.specs.FlatMachine.{FlatState}
 use Rattle.mote_core.specs.declared.mote.Mote.{Mote}
 
 -- the byte of SRAM at a data address
 abbrev pub sram_byte : Mote → ℕ → ℕ
 sram_byte m a = slice_index m.sram (a - 0x0100)
+
+-- the bytes of SRAM from the first to the last of these addresses stay
+abbrev pub Keeps : (first last : ℕ) → (before after : Mote) → Type 0
+Keeps first last before after = (a : ℕ) → first ≤ a → a ≤ last → sram_byte after a ≡ sram_byte before a
+
+-- the program's own core, at this address: the low byte of its stack pointer is at 0x0103, the high one at 0x0104
+abbrev pub core_at : Mote → (pc : ℕ) → Cpu
+core_at m pc = record { r = m.cpu.r; sreg = m.cpu.sreg; sp = sram_byte m 0x0103 + 256 * sram_byte m 0x0104; pc = pc }
 
 -- SRAM has eight frames, 0 to 7, and a table that says of each which page it holds, and whether it holds one
 pub record Holds (m : Mote) (page frame : ℕ) : Type 0 where
@@ -40,9 +49,7 @@ HaveSlots m stored = (page : ℕ) → page < 256 → ((slot_of m page ≢ 0xFF) 
 
 -- the program stands on its mote where its own machine does, but for its address, and the numbers of its steps and crossings
 pub record HasState (s : FlatState) (m : Mote) : Type 0 where
-  pub registers : m.cpu.r ≡ s.cpu.r
-  pub status : m.cpu.sreg ≡ s.cpu.sreg
-  pub pointer : slice_index m.sram 3 + 256 * slice_index m.sram 4 ≡ s.cpu.sp
+  pub core : core_at m s.cpu.pc ≡ s.cpu
   pub memory : HasMemory m s.memory
   pub slots : HaveSlots m s.pages
   pub devices : m.devices ≡ s.devices

@@ -1,6 +1,6 @@
 -- Flash, and what stands in it of a program: the image's words below the pool, in the pool erased pages and rewritten code,
 -- RET in the kernel's pages. Which form a page has, and which links, the crate `pool_check` defines (`Forms` and `Links`).
-use Rattle.std.specs.Prelude.{◌≡◌, ℕ, ◌+◌, ◌*◌, ◌/◌, ◌%◌, ◌<◌, ◌≤◌, ◌⊎◌, nat_le, if◌then◌else◌, List, ◌++◌, take, drop, length, slice_index}
+use Rattle.std.specs.Prelude.{◌≡◌, Bool, ℕ, zero, suc, ◌+◌, ◌*◌, ◌/◌, ◌%◌, ◌<◌, ◌≤◌, ◌⊎◌, nat_le, if◌then◌else◌, List, ◌++◌, take, drop, length, slice_index}
 use Rattle.flash_words.specs.Layouts.{layout_of}
 use Rattle.pool_check.specs.Forms.{HasForm}
 use Rattle.pool_check.specs.Links.{HasLinks}
@@ -8,6 +8,19 @@ use Rattle.pool_check.specs.Links.{HasLinks}
 -- The pool's first word: 0x4000, or 0x6000 for an image of more than 16,384 words.
 abbrev pub pool_from : List ℕ → ℕ
 pool_from image = if nat_le (length image) 16384 then 0x4000 else 0x6000
+
+-- how many pages the pool has
+abbrev pub pool_size : List ℕ → ℕ
+pool_size image = if nat_le (length image) 16384 then 352 else 288
+
+-- of n numbers from one on, how many are such
+unfoldable pub number_where : (is : ℕ → Bool) → (first n : ℕ) → ℕ
+number_where is first zero = 0
+number_where is first (suc n) = (if is (first + n) then 1 else 0) + number_where is first n
+
+-- .. of those of the pool's pages
+abbrev pub pages_where : (image : List ℕ) → (is : ℕ → Bool) → ℕ
+pages_where image is = number_where is (pool_from image / 128) (pool_size image)
 
 -- the page's 128 words have their form
 abbrev pub is_formed : (image flash : List ℕ) → ℕ → Type 0
@@ -64,9 +77,13 @@ pub record IsPlaceOf (image flash : List ℕ) (t v : ℕ) : Type 0 where
   pub place : v ≡ 128 * page + slice_index flash (128 * page + 2 + entry.index) % 256
   pub fits : slice_index flash (128 * page + 2 + entry.index) % 256 < 128
 
+-- these two words stand at that address
+abbrev pub StandAt : (words : List ℕ) → (at first second : ℕ) → Type 0
+StandAt words at first second = (slice_index words at ≡ first) × (slice_index words (at + 1) ≡ second)
+
 -- Two words as an exit stub begins: a call of the kernel at 0xF000, or a jump.
 abbrev pub IsExit : (flash : List ℕ) → (s : ℕ) → Type 0
-IsExit flash s = ((slice_index flash s ≡ 0x940E) × (slice_index flash (s + 1) ≡ 0xF000)) ⊎ (slice_index flash s ≡ 0x940C)
+IsExit flash s = StandAt flash s 0x940E 0xF000 ⊎ (slice_index flash s ≡ 0x940C)
 
 -- A word stays; or it is one of two as an exit stub begins, before and after.
 pub data KeepsWord (before after : List ℕ) (a : ℕ) : Type 0 where

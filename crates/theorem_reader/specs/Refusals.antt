@@ -1,7 +1,7 @@
 -- What is told of words and texts that are refused, and what `asm` writes.
-use Rattle.std.specs.Prelude.{◌≡◌, ℕ, ◌<◌, ◌≤◌, List, ◌++◌, codes, decimal, drop, length, Option, Some, None}
+use Rattle.std.specs.Prelude.{◌≡◌, ◌⊎◌, ℕ, ◌<◌, ◌≤◌, List, ◌++◌, codes, decimal, drop, length, Option, Some, None}
 use Rattle.line_reader.specs.Lines.{lines_of}
-use Rattle.hex_image.specs.HexText.{HexText, HexBad}
+use Rattle.hex_image.specs.HexText.{HexBad}
 use Rattle.hex_image.specs.Written.{written}
 use Rattle.hex_image.specs.declared.fault.HexFault.{HexFault}
 use Rattle.input_script.specs.Script.{Schedule, IsBad}
@@ -20,6 +20,7 @@ use Rattle.cli_words.specs.declared.command.RunOptions.{RunOptions}
 use Rattle.cli_words.specs.declared.command.TaskOptions.{TaskOptions}
 use Rattle.cli_words.specs.declared.command.Command.TheVariants.{Help, Run, Dump, Restart, Tasks, Check, Asm}
 use Rattle.cli_words.specs.Commands.{IsCommand, IsNoCommand}
+use Rattle.theorem_reader.specs.Runs.{HasHex}
 use Rattle.theorem_reader.specs.Telling.{Sink, IsTold}
 use Rattle.theorem_reader.specs.Texts.{address, no_memory}
 
@@ -51,34 +52,31 @@ pub data IsUsage (words : List (List ℕ)) (own : ℕ) : Type 0 where
   Helped : IsCommand words Help → own ≡ 0 → IsUsage words own
   Unknown : IsNoCommand words → own ≡ 4 → IsUsage words own
 
--- Words and a text that are answered with this status and this line: a text that is too long; the first faulty line of the HEX
--- text, of the script or the dump behind it, or of a source; and the first word of the image that stands where no program of
--- `tasks` may have one.
-pub data IsRefused (words : List (List ℕ)) (text : List ℕ) (own : ℕ) (line : List ℕ) : Type 0 where
-  TooLong : ReadsText words → 2097152 < length text → own ≡ 3 → line ≡ codes "input too long\n" → IsRefused words text own line
-  BadHex : ReadsHex words → length text ≤ 2097152 → (number : ℕ) → (fault : HexFault) → HexBad text number fault
-      → own ≡ 3 → line ≡ bad_line (codes "hex") number (hex_word fault) → IsRefused words text own line
-  BadScript : ReadsScript words → length text ≤ 2097152 → (image : List ℕ) → (position : ℕ) → HexText text image position → (number : ℕ) → (fault : ScriptFault)
-      → IsBad (drop position text) number fault → own ≡ 3 → line ≡ bad_line (codes "script") number (script_word fault) → IsRefused words text own line
-  BadScripts : (options : TaskOptions) → IsCommand words (Tasks options) → length text ≤ 2097152 → (image : List ℕ) → (position : ℕ) → HexText text image position → (number : ℕ) → (fault : ScriptFault)
-      → IsFirst options.count (lines_of (drop position text)) number fault → own ≡ 3 → line ≡ bad_line (codes "script") number (script_word fault) → IsRefused words text own line
-  BadImage : (options : TaskOptions) → IsCommand words (Tasks options) → length text ≤ 2097152 → (image : List ℕ) → (position : ℕ) → HexText text image position → (scripts : List Schedule)
-      → Schedules options.count (lines_of (drop position text)) scripts → (a : ℕ) → IsFirstMisplaced options.count image a → own ≡ 3 → line ≡ codes "bad task image " ++ address a ++ codes "\n" → IsRefused words text own line
-  BadDump : IsCommand words Check → length text ≤ 2097152 → (image : List ℕ) → (position : ℕ) → HexText text image position → (number : ℕ) → (fault : DumpFault)
-      → IsNoDump (drop position text) number fault → own ≡ 3 → line ≡ bad_line (codes "dump") number (dump_word fault) → IsRefused words text own line
+-- Words and a text that are answered with status 3 and this line: a text that is too long; the first faulty line of the HEX text,
+-- of the script or the dump behind it, or of a source; and the first word of the image that stands where no program of `tasks`
+-- may have one.
+pub data IsRefused (words : List (List ℕ)) (text line : List ℕ) : Type 0 where
+  TooLong : ReadsText words → 2097152 < length text → line ≡ codes "input too long\n" → IsRefused words text line
+  BadHex : ReadsHex words → length text ≤ 2097152 → (number : ℕ) → (fault : HexFault) → HexBad text number fault → line ≡ bad_line (codes "hex") number (hex_word fault) → IsRefused words text line
+  BadScript : ReadsScript words → (image : List ℕ) → (front : HasHex text image) → (number : ℕ) → (fault : ScriptFault) → IsBad (drop front.position text) number fault
+      → line ≡ bad_line (codes "script") number (script_word fault) → IsRefused words text line
+  BadScripts : (options : TaskOptions) → IsCommand words (Tasks options) → (image : List ℕ) → (front : HasHex text image) → (number : ℕ) → (fault : ScriptFault)
+      → IsFirst options.count (lines_of (drop front.position text)) number fault → line ≡ bad_line (codes "script") number (script_word fault) → IsRefused words text line
+  BadImage : (options : TaskOptions) → IsCommand words (Tasks options) → (image : List ℕ) → (front : HasHex text image) → (scripts : List Schedule)
+      → Schedules options.count (lines_of (drop front.position text)) scripts → (a : ℕ) → IsFirstMisplaced options.count image a
+      → line ≡ codes "bad task image " ++ address a ++ codes "\n" → IsRefused words text line
+  BadDump : IsCommand words Check → (image : List ℕ) → (front : HasHex text image) → (number : ℕ) → (fault : DumpFault) → IsNoDump (drop front.position text) number fault
+      → line ≡ bad_line (codes "dump") number (dump_word fault) → IsRefused words text line
   BadSource : IsCommand words Asm → length text ≤ 2097152 → (number : ℕ) → (fault : AsmFault) → fault_of text ≡ Some (number, fault)
-      → own ≡ 3 → line ≡ bad_line (codes "asm") number (asm_word fault) → IsRefused words text own line
+      → line ≡ bad_line (codes "asm") number (asm_word fault) → IsRefused words text line
 
 -- memory was wanted, or this text is told with this status; neither a machine nor tasks are kept
-pub data IsSaid (sink : Sink) (own : ℕ) (whole : List ℕ) (status : ℕ) (taken : List ℕ) (kept : Option Machine) (tasks : Option KeptTasks) : Type 0 where
-  NoMemory : IsTold sink 8 no_memory status taken → kept ≡ None → tasks ≡ None → IsSaid sink own whole status taken kept tasks
-  Said : IsTold sink own whole status taken → kept ≡ None → tasks ≡ None → IsSaid sink own whole status taken kept tasks
+abbrev pub IsSaid : Sink → (own : ℕ) (whole : List ℕ) → (status : ℕ) (taken : List ℕ) → Option Machine → Option KeptTasks → Type 0
+IsSaid sink own whole status taken kept tasks = (IsTold sink 8 no_memory status taken ⊎ IsTold sink own whole status taken) × (kept ≡ None) × (tasks ≡ None)
 
 -- the usage line is told with this status, for which no memory is wanted; neither a machine nor tasks are kept
-pub record HasUsage (sink : Sink) (own status : ℕ) (taken : List ℕ) (kept : Option Machine) (tasks : Option KeptTasks) : Type 0 where
-  pub told : IsTold sink own usage_line status taken
-  pub none : kept ≡ None
-  pub alone : tasks ≡ None
+abbrev pub HasUsage : Sink → (own status : ℕ) (taken : List ℕ) → Option Machine → Option KeptTasks → Type 0
+HasUsage sink own status taken kept tasks = IsTold sink own usage_line status taken × (kept ≡ None) × (tasks ≡ None)
 
 -- the words are `asm`, and the text is a source without a fault, of this image, and isn't too long
 pub record AsksAsm (words : List (List ℕ)) (text image : List ℕ) : Type 0 where

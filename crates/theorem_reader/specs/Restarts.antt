@@ -1,22 +1,21 @@
 -- What `restart` answers: a run, what stands in flash behind a loss of power, what is kept of it, and a second run.
-use Rattle.std.specs.Prelude.{◌≡◌, ◌≢◌, ◌↔◌, ℕ, zero, suc, ◌+◌, ◌-◌, ◌*◌, ◌/◌, ◌%◌, ◌<◌, ◌≤◌, ◌==◌, Bool, true, false, if◌then◌else◌, List, [], ◌++◌, codes, decimal, flat_map, drop, take, length, slice_index, slice_set, Option, Some, None}
+use Rattle.std.specs.Prelude.{◌≡◌, ◌≢◌, ◌↔◌, ℕ, zero, suc, ◌+◌, ◌*◌, ◌/◌, ◌%◌, ◌<◌, ◌==◌, Bool, true, false, not, ◌&&◌, List, [], ◌++◌, codes, decimal, drop, take, length}
+use Rattle.std.specs.Prelude.{slice_index, slice_set, Option, Some, None}
 use Rattle.std.specs.List.{list_all}
 use Rattle.flash_words.specs.Layouts.{layout_of}
 use Rattle.flash_words.specs.Pages.{raised}
-use Rattle.flat_machine.specs.FlatMachine.{Run}
 use Rattle.mote_core.specs.declared.mote.Mote.{Mote}
 use Rattle.kernel_entry.specs.declared.kernel.End.TheVariants as ends
 use Rattle.program_steps.specs.Machines.{Machine}
 use Rattle.cli_words.specs.declared.command.Command.TheVariants.{Restart}
 use Rattle.theorem_reader.specs.Acts.{IsNew}
-use Rattle.theorem_reader.specs.Pools.{pool_from, is_formed, IsInPool, AreFaithful, HasAddress, KeepsCode}
-use Rattle.theorem_reader.specs.Checks.{used_of}
+use Rattle.theorem_reader.specs.Pools.{pages_where, is_formed, IsInPool, AreFaithful, IsErased, HasAddress, KeepsCode}
+use Rattle.theorem_reader.specs.Checks.{used_in}
 use Rattle.theorem_reader.specs.Dumps.{HasEnded}
-use Rattle.theorem_reader.specs.Ends.{IsKeptEnd}
-use Rattle.theorem_reader.specs.Runs.{Asked, AsksAs, StandsFrom, IsCutOff, original_of, text_of}
-use Rattle.theorem_reader.specs.Wear.{pool_size, IsSamePage, IsSpared}
+use Rattle.theorem_reader.specs.Runs.{Asked, AsksAs, Start, IsRun}
+use Rattle.theorem_reader.specs.Wear.{IsSamePage}
 use Rattle.theorem_reader.specs.Telling.{Sink, Fails, IsTold}
-use Rattle.theorem_reader.specs.Texts.{device_line, end_words, end_status, no_memory}
+use Rattle.theorem_reader.specs.Texts.{no_memory}
 
 -- the words are those of `restart` with these options, and the text is of the program
 abbrev pub AsksRestart : (words : List (List ℕ)) (text : List ℕ) (asked : Asked) → Type 0
@@ -44,13 +43,6 @@ pub record IsKeeper (image flash : List ℕ) (kept : ℕ → Bool) (page : ℕ) 
   pub formed : is_formed image flash page
   pub alone : (lower t : ℕ) → IsInPool image lower → lower < page → kept lower ≡ true → HasAddress flash lower t → HasAddress flash page t → ⊥
 
--- of n pages from one on, how many are not kept, and not erased
-abbrev pub dropped_of : List ℕ → (kept : ℕ → Bool) → (first n : ℕ) → ℕ
-dropped_of flash kept first zero = 0
-dropped_of flash kept first (suc n) =
-    (if list_all (λ word. word == 0xFFFF) (take 128 (drop (128 * (first + n)) flash)) then 0 else (if kept (first + n) then 0 else 1))
-    + dropped_of flash kept first n
-
 -- Of the pages of the pool just these are kept. What is left is a faithful flash, in which a page that is kept has the
 -- addresses that it had, and of its code only pairs of words as exit stubs begin change; and each other page of the pool is
 -- erased.
@@ -59,13 +51,13 @@ pub record IsKept (image lost left : List ℕ) (kept : ℕ → Bool) : Type 0 wh
   pub faithful : AreFaithful image left
   pub code : (page : ℕ) → IsInPool image page → kept page ≡ true → KeepsCode lost left page
   pub same : (page t : ℕ) → IsInPool image page → kept page ≡ true → (HasAddress left page t ↔ HasAddress lost page t)
-  pub erased : (page k : ℕ) → IsInPool image page → kept page ≡ false → k < 128 → slice_index left (128 * page + k) ≡ 0xFFFF
+  pub erased : (page : ℕ) → IsInPool image page → kept page ≡ false → IsErased left page
 
--- the line of the restart: how many pages of the pool are used, and how many were dropped
+-- the line of the restart: how many pages of the pool are used, and how many are dropped, which weren't erased and are not kept
 abbrev pub restart_line : (image lost left : List ℕ) (kept : ℕ → Bool) → List ℕ
 restart_line image lost left kept =
-    codes "restart kept " ++ decimal (used_of left (pool_from image / 128) (480 - pool_from image / 128))
-    ++ codes " dropped " ++ decimal (dropped_of lost kept (pool_from image / 128) (480 - pool_from image / 128)) ++ codes "\n"
+    codes "restart kept " ++ decimal (used_in image left) ++ codes " dropped "
+    ++ decimal (pages_where image (λ page. not (list_all (λ word. word == 0xFFFF) (take 128 (drop (128 * page) lost))) && not (kept page))) ++ codes "\n"
 
 -- A first machine ran as for `run`; power was lost, and of the flash that it left just this was kept.
 pub record IsLeft (asked : Asked) : Type 0 where
@@ -78,69 +70,29 @@ pub record IsLeft (asked : Asked) : Type 0 where
   pub lost_is : IsLost asked.image first lost erases
   pub left_is : IsKept asked.image lost left kept
 
--- its line
-abbrev pub line_of : (asked : Asked) → IsLeft asked → List ℕ
-line_of asked flash = restart_line asked.image flash.lost flash.left flash.kept
-
--- how many pages of its pool are used
-abbrev pub used_in : (asked : Asked) → IsLeft asked → ℕ
-used_in asked flash = used_of flash.left (pool_from asked.image / 128) (480 - pool_from asked.image / 128)
-
 -- A mote that has done nothing over it, whose operations on flash are counted from 0 again, and none is to fail. Since power
 -- was back each page was erased once where it has other words now, and else never; `raised` is one more, up to the greatest
 -- 32-bit number.
 pub record IsStart (asked : Asked) (flash : IsLeft asked) (m : Mote) : Type 0 where
   pub new : IsNew asked.events asked.quantum asked.slots m
-  pub words : m.flash.words ≡ flash.left
-  pub failing : m.flash.failing ≡ []
+  pub over : m.flash ≡ record m.flash { words = flash.left; failing = [] }
   pub once : (page : ℕ) → page < 512 → (IsSamePage flash.lost flash.left page → ⊥) → slice_index m.flash.erases page ≡ raised (slice_index flash.erases page)
   pub never : (page : ℕ) → page < 512 → IsSamePage flash.lost flash.left page → slice_index m.flash.erases page ≡ slice_index flash.erases page
 
--- the machine stands where the original program stands, and came there from what was left
-abbrev pub StandsOver : (asked : Asked) → IsLeft asked → Run → Machine → Type 0
-StandsOver asked flash r m = StandsFrom (IsStart asked flash) (used_in asked flash) asked r m
+-- how the second machine began: over that flash, of whose pool so many pages are used, and behind the line of the restart
+abbrev pub restart_of : (asked : Asked) → IsLeft asked → Start
+restart_of asked flash = record { IsFirst = IsStart asked flash; pages = used_in asked.image flash.left; front = restart_line asked.image flash.lost flash.left flash.kept }
 
--- Behind the line text and status are the original program's, but for the counts and where the sink fails; its device lines
--- went out whole; and the machine stands where that stands and keeps its end. No operation on flash was refused. Where the pool
--- held all pages, each page was erased in this run at most once for each word 0x940C that it has more than at its start.
-pub record IsSecond (sink : Sink) (asked : Asked) (flash : IsLeft asked) (status : ℕ) (taken : List ℕ) (m : Machine) : Type 0 where
-  pub told : IsTold sink (end_status (original_of asked asked.steps).end)
-      (line_of asked flash ++ text_of (original_of asked asked.steps) (end_words (original_of asked asked.steps).end) asked.quantum m) status taken
-  pub past : length (line_of asked flash ++ flat_map device_line (original_of asked asked.steps).lines) ≤ length taken
-  pub stands : StandsOver asked flash (original_of asked asked.steps) m
-  pub end : IsKeptEnd (original_of asked asked.steps).end m.end
-  pub unbroken : m.broken ≡ false
-  pub unrefused : m.kernel.mote.flash.refused ≡ None
-  pub wear : m.pages ≤ pool_size asked.image → IsSpared stands.acts.first.flash m.kernel.mote.flash
-  pub faithful : AreFaithful asked.image m.kernel.mote.flash.words
+-- The sink failed at the line: the machine has done nothing yet.
+pub record IsUnbegun (start : Start) (asked : Asked) (status : ℕ) (taken : List ℕ) (m : Machine) : Type 0 where
+  pub told : IsTold Fails 6 start.front status taken
+  pub first : start.IsFirst m.kernel.mote
+  pub kernel : m.kernel ≡ record m.kernel { layout = layout_of (length asked.image); quantum = asked.quantum }
+  pub nothing : m ≡ record m { at = 0; end = None; due = false; broken = false; steps = 0; crossings = 0; natural = 0; entries = 0; pages = start.pages }
 
--- the sink failed at the line: the machine has done nothing yet
-pub record IsUnbegun (asked : Asked) (flash : IsLeft asked) (status : ℕ) (taken : List ℕ) (m : Machine) : Type 0 where
-  pub told : IsTold Fails 6 (line_of asked flash) status taken
-  pub start : IsStart asked flash m.kernel.mote
-  pub pc : m.at ≡ 0
-  pub steps : m.steps ≡ 0
-  pub crossings : m.crossings ≡ 0
-  pub due : m.due ≡ false
-  pub layout : m.kernel.layout ≡ layout_of (length asked.image)
-  pub quantum : m.kernel.quantum ≡ asked.quantum
-  pub unbroken : m.broken ≡ false
-  pub natural : m.natural ≡ 0
-  pub entries : m.entries ≡ 0
-  pub pages : m.pages ≡ used_in asked flash
-  pub end : m.end ≡ None
-
--- the sink failed behind it, before the last lines
-pub record IsSecondCut (asked : Asked) (flash : IsLeft asked) (status : ℕ) (taken : List ℕ) (m : Machine) : Type 0 where
-  pub told : IsTold Fails 6 (line_of asked flash ++ flat_map device_line (original_of asked m.steps).lines) status taken
-  pub past : length (line_of asked flash) ≤ length taken
-  pub stands : StandsOver asked flash (original_of asked m.steps) m
-  pub left : IsCutOff asked stands.acts.first m
-
--- memory was wanted, which is all that is told, and no machine is kept; or both runs were made; or the sink failed, and the
--- second run wasn't begun, or was cut short
+-- memory was wanted before the second run, which is all that is told, and no machine is kept; or the second run wasn't begun, or
+-- was made
 pub data IsRestarted (sink : Sink) (asked : Asked) (status : ℕ) (taken : List ℕ) (kept : Option Machine) : Type 0 where
   NoMemory : IsTold sink 8 no_memory status taken → kept ≡ None → IsRestarted sink asked status taken kept
-  Restarted : (flash : IsLeft asked) → (m : Machine) → kept ≡ Some m → IsSecond sink asked flash status taken m → IsRestarted sink asked status taken kept
-  Unbegun : (flash : IsLeft asked) → (m : Machine) → kept ≡ Some m → sink ≡ Fails → IsUnbegun asked flash status taken m → IsRestarted sink asked status taken kept
-  Cut : (flash : IsLeft asked) → (m : Machine) → kept ≡ Some m → sink ≡ Fails → IsSecondCut asked flash status taken m → IsRestarted sink asked status taken kept
+  Unbegun : (flash : IsLeft asked) → (m : Machine) → kept ≡ Some m → sink ≡ Fails → IsUnbegun (restart_of asked flash) asked status taken m → IsRestarted sink asked status taken kept
+  Ran : (flash : IsLeft asked) → IsRun (restart_of asked flash) sink asked status taken kept → IsRestarted sink asked status taken kept

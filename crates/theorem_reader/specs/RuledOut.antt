@@ -17,10 +17,11 @@ use Rattle.theorem_reader.specs.Acts.{Act, IsStep, Executes, Relinks, IsNext, Go
 use Rattle.theorem_reader.specs.Calls.{IsAsked, AreCovered}
 use Rattle.theorem_reader.specs.Checks.{IsChecked}
 use Rattle.theorem_reader.specs.Dumps.{HasEnded, IsDumped}
+use Rattle.theorem_reader.specs.Memory.{core_at}
 use Rattle.theorem_reader.specs.Pools.{IsInPool, IsErased, AreFaithful, AreFaithfulBut, IsExit, IsPlaceOf, KeepsWord}
 use Rattle.theorem_reader.specs.Refusals.{IsSaid, IsRefused, ReadsText}
 use Rattle.theorem_reader.specs.Restarts.{IsLost, IsRestarted}
-use Rattle.theorem_reader.specs.Runs.{Asked, Asks, EndsWell, Stands, IsRun}
+use Rattle.theorem_reader.specs.Runs.{Asked, Asks, boot_of, EndsWell, Stands, IsRun}
 use Rattle.theorem_reader.specs.Steps.{AreUnmade}
 use Rattle.theorem_reader.specs.Stints.{HasPart}
 use Rattle.theorem_reader.specs.Tasks.{AskedTasks, AreRun}
@@ -35,44 +36,37 @@ pub record DifferInCounts (text other : List ℕ) : Type 0 where
   pub is : text ≡ front ++ count_line one
   pub other_is : other ≡ front ++ count_line another
 
--- this is so of two answers, unless memory was wanted for one of them
-abbrev pub UnlessWanting : (status other : ℕ) → Type 0 → Type 0
-UnlessWanting status other So = (status ≡ 8) ⊎ ((other ≡ 8) ⊎ So)
+-- Two answers of which this is so agree in that, unless memory was wanted for one of them.
+abbrev pub Agree : {A : Type 0} → (Is : ℕ → List ℕ → A → Type 0) → (So : (status other : ℕ) (taken another : List ℕ) → Type 0) → Type 0
+Agree {A} Is So = (status other : ℕ) (taken another : List ℕ) (kept held : A) → Is status taken kept → Is other another held → (status ≡ 8) ⊎ ((other ≡ 8) ⊎ So status other taken another)
 
 -- Two answers to the same, where the sinks serve, have the same status; of `check`, and where a line is told, also the same text. So has
 -- a run, unless flash refused an operation (9), but for its counts.
 pub record AnswersAgree : Type 0 where
-  pub run : (asked : Asked) (status other : ℕ) (taken another : List ℕ) (kept held : Option Machine) → IsRun Serves asked status taken kept → IsRun Serves asked other another held
-      → UnlessWanting status other ((status ≡ 9) ⊎ ((other ≡ 9) ⊎ ((status ≡ other) × DifferInCounts taken another)))
-  pub dump : (asked : Asked) (status other : ℕ) (taken another : List ℕ) (kept held : Option Machine) → IsDumped Serves asked status taken kept → IsDumped Serves asked other another held
-      → UnlessWanting status other (status ≡ other)
-  pub restart : (asked : Asked) (status other : ℕ) (taken another : List ℕ) (kept held : Option Machine) → IsRestarted Serves asked status taken kept → IsRestarted Serves asked other another held
-      → UnlessWanting status other (status ≡ other)
-  pub tasks : (asked : AskedTasks) (status other : ℕ) (taken another : List ℕ) (kept held : Option Machine) (tasks more : Option KeptTasks) → AreRun Serves asked status taken kept tasks
-      → AreRun Serves asked other another held more → UnlessWanting status other (status ≡ other)
-  pub check : (image flash : List ℕ) (status other : ℕ) (taken another : List ℕ) (kept held : Option Machine) → IsChecked Serves image flash status taken kept
-      → IsChecked Serves image flash other another held → UnlessWanting status other ((status ≡ other) × (taken ≡ another))
-  pub said : (own : ℕ) (whole : List ℕ) (status other : ℕ) (taken another : List ℕ) (kept held : Option Machine) (tasks more : Option KeptTasks) → IsSaid Serves own whole status taken kept tasks
-      → IsSaid Serves own whole other another held more → UnlessWanting status other ((status ≡ other) × (taken ≡ another))
+  pub run : (asked : Asked) → Agree (IsRun (boot_of asked) Serves asked) (λ status other taken another. (status ≡ 9) ⊎ ((other ≡ 9) ⊎ ((status ≡ other) × DifferInCounts taken another)))
+  pub dump : (asked : Asked) → Agree (IsDumped Serves asked) (λ status other taken another. status ≡ other)
+  pub restart : (asked : Asked) → Agree (IsRestarted Serves asked) (λ status other taken another. status ≡ other)
+  pub tasks : (asked : AskedTasks) → Agree (λ status taken (kept : Option Machine × Option KeptTasks). AreRun Serves asked status taken kept.0 kept.1) (λ status other taken another. status ≡ other)
+  pub check : (image flash : List ℕ) → Agree (IsChecked Serves image flash) (λ status other taken another. (status ≡ other) × (taken ≡ another))
+  pub said : (own : ℕ) (whole : List ℕ) → Agree (λ status taken (kept : Option Machine × Option KeptTasks). IsSaid Serves own whole status taken kept.0 kept.1)
+      (λ status other taken another. (status ≡ other) × (taken ≡ another))
 
 -- two machines stand alike, whatever their pages and frames are
 pub record StandAlike (m n : Machine) : Type 0 where
-  pub pc : m.at ≡ n.at
+  pub core : core_at m.kernel.mote m.at ≡ core_at n.kernel.mote n.at
   pub steps : m.steps ≡ n.steps
   pub crossings : m.crossings ≡ n.crossings
   pub due : m.due ≡ n.due
   pub layout : m.kernel.layout ≡ n.kernel.layout
   pub slots : length m.kernel.mote.swap ≡ length n.kernel.mote.swap
   pub quantum : m.kernel.quantum ≡ n.kernel.quantum
-  pub registers : m.kernel.mote.cpu.r ≡ n.kernel.mote.cpu.r
-  pub status : m.kernel.mote.cpu.sreg ≡ n.kernel.mote.cpu.sreg
   pub devices : m.kernel.mote.devices ≡ n.kernel.mote.devices
 
 -- Two machines that stand where the original program does stand alike. Where two came to its end they are broken alike, and one has an
 -- end where the other has. A step of rewritten code has one outcome.
 pub record MachinesAgree : Type 0 where
-  pub stand : (asked : Asked) (r : Run) (m n : Machine) → Stands asked r m → Stands asked r n → StandAlike m n
-  pub ended : (asked : Asked) (m n : Machine) → EndsWell asked m → EndsWell asked n → (m.broken ≡ n.broken) × (m.end ≡ None → n.end ≡ None)
+  pub stand : (asked : Asked) (r : Run) (m n : Machine) → Stands (boot_of asked) asked r m → Stands (boot_of asked) asked r n → StandAlike m n
+  pub ended : (asked : Asked) (m n : Machine) → EndsWell (boot_of asked) asked m → EndsWell (boot_of asked) asked n → (m.broken ≡ n.broken) × (m.end ≡ None → n.end ≡ None)
   pub step : (from : ℕ) (line other : Option Line) (before after later : Mote) → IsStep from line before after → IsStep from other before later → (after ≡ later) × (line ≡ other)
 
 -- Nothing is executed where the program has no instruction. Where no call stands nothing is linked. A word stays where no exit stub is, of
@@ -86,7 +80,8 @@ pub record ActsAreNone : Type 0 where
   pub stays : (image : List ℕ) (target : ℕ) (before after : Mote) (a : ℕ) → ((s : ℕ) → ¬ IsExit before.flash.words s) → KeepsLink image target before after a
       → slice_index after.flash.words a ≡ slice_index before.flash.words a
   pub kept : (before after : List ℕ) (a : ℕ) → ((s : ℕ) → ¬ IsExit before s) → KeepsWord before after a → slice_index after a ≡ slice_index before a
-  pub next : (image : List ℕ) (before after : Mote) (page : ℕ) → IsInPool image page → IsErased before.flash.words page → IsNext image before after page → ring_of after ≡ ring_of before
+  pub next : (image : List ℕ) (target : ℕ) (before after : Mote) (page : ℕ) → IsInPool image page → IsErased before.flash.words page → IsNext image target before after page
+      → ring_of after ≡ ring_of before
   pub far : (image flash : List ℕ) (page t last : ℕ) → ends_at image (address image t last) ≡ false → address image t (suc last) / 128 ≡ t / 128 → address image t (suc last) < length image
       → ((place : ℕ) → ¬ IsPlaceOf image flash (address image t (suc last)) place) → page_size image t (suc last) ≤ 128 → ¬ GoesNoFurther image flash page t last
   pub lacks : (image flash : List ℕ) → ((page : ℕ) → IsInPool image page → ¬ IsErased flash page) → AreFaithfulBut image flash → AreFaithful image flash
@@ -95,5 +90,5 @@ pub record ActsAreNone : Type 0 where
   pub ended : (asked : Asked) (m : Machine) → HasEnded asked m → AreFaithfulBut asked.image m.kernel.mote.flash.words
   pub lost : (image : List ℕ) (m : Machine) (flash erases : List ℕ) → ((op : ℕ) → m.end ≢ Some (ends.Flash op)) → IsLost image m flash erases → flash ≡ m.kernel.mote.flash.words
   pub asked : (words : List (List ℕ)) (text : List ℕ) (options : RunOptions) → IsCommand words (RunCommand options) → IsAsked words text
-      → ((asked : Asked) × Asks words text asked) ⊎ ((own : ℕ) × (line : List ℕ) × IsRefused words text own line)
+      → ((asked : Asked) × Asks words text asked) ⊎ ((line : List ℕ) × IsRefused words text line)
   pub covered : (words : List (List ℕ)) → IsCommand words Asm → AreCovered words → ReadsText words

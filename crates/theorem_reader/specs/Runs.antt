@@ -17,12 +17,12 @@ use Rattle.cli_words.specs.declared.command.Command.TheVariants.{Run as RunComma
 use Rattle.cli_words.specs.declared.command.RunOptions.{RunOptions}
 use Rattle.cli_words.specs.Commands.{IsCommand}
 use Rattle.theorem_reader.specs.Acts.{HasActs, IsBoot}
-use Rattle.theorem_reader.specs.Pools.{AreFaithful, AreFaithfulBut}
+use Rattle.theorem_reader.specs.Pools.{AreFaithfulBut}
 use Rattle.theorem_reader.specs.Steps.{IsByStep}
 use Rattle.theorem_reader.specs.Memory.{HasState}
 use Rattle.theorem_reader.specs.Ends.{end_of, IsKeptEnd}
-use Rattle.theorem_reader.specs.Wear.{pool_size, IsSpared}
-use Rattle.theorem_reader.specs.Telling.{Sink, Fails, IsTold}
+use Rattle.theorem_reader.specs.Wear.{IsWellKept}
+use Rattle.theorem_reader.specs.Telling.{Sink, Fails, IsTold, IsToldPast}
 use Rattle.theorem_reader.specs.Texts.{device_line, end_words, stop_line, count_line, end_status, no_memory}
 
 -- a program, its inputs, the operations on flash that are to fail, and how it is run
@@ -42,18 +42,27 @@ options_of asked = record { steps = asked.steps; quantum = asked.quantum; swap =
 abbrev pub original_of : Asked → ℕ → Run
 original_of asked n = original (record { image = asked.image; part = whole_part asked.image; page_limit = asked.slots; quantum = asked.quantum }) asked.events n
 
--- the text of a run with this stop line
-abbrev pub text_of : Run → (how : List ℕ) → (quantum : ℕ) → Machine → List ℕ
-text_of r how quantum m =
-    flat_map device_line r.lines ++ stop_line how r.state.now.steps (r.state.now.crossings / quantum) ++ count_line m
+-- the last two lines of a run, the first with this end
+abbrev pub last_lines : Run → (how : List ℕ) → (quantum : ℕ) → Machine → List ℕ
+last_lines r how quantum m = stop_line how r.state.now.steps (r.state.now.crossings / quantum) ++ count_line m
+
+-- how a machine began: with a mote of which this is so, where so many pages of the pool were made before, and behind this text
+pub record Start : Type 1 where
+  pub IsFirst : Mote → Type 0
+  pub pages : ℕ
+  pub front : List ℕ
+
+-- at boot, where the pool has none, and nothing was told
+abbrev pub boot_of : Asked → Start
+boot_of asked = record { IsFirst = IsBoot asked.image asked.failing asked.events asked.quantum asked.slots; pages = 0; front = [] }
 
 -- The machine stands where the original program stands: registers, SREG, stack pointer, pc, the 65,536 bytes, devices, the
 -- counts of steps and crossings, and whether an interrupt is due. Its flash is laid out for an image of this length, its slots
 -- are as many, and its quantum is the one that were asked for. It did at most as many steps as are allowed, and came there by
--- acts, step by step, from a mote of which this is so, where so many pages were made before; each step made one page at most,
--- and so did the arrival behind the last. Nor did it try more than 1,000 operations on flash for each step and one more, or
--- make more than 40 instructions of rewritten code and two services.
-pub record StandsFrom (IsFirst : Mote → Type 0) (began : ℕ) (asked : Asked) (r : Run) (m : Machine) : Type 0 where
+-- acts, step by step, from where it began; each step made one page at most, and so did the arrival behind the last. Nor did it
+-- try more than 1,000 operations on flash for each step and one more, or make more than 40 instructions of rewritten code and
+-- two services.
+pub record Stands (start : Start) (asked : Asked) (r : Run) (m : Machine) : Type 0 where
   pub state : HasState r.state.now m.kernel.mote
   pub pc : m.at ≡ r.state.now.cpu.pc
   pub steps : m.steps ≡ r.state.now.steps
@@ -64,91 +73,79 @@ pub record StandsFrom (IsFirst : Mote → Type 0) (began : ℕ) (asked : Asked) 
   pub quantum : m.kernel.quantum ≡ asked.quantum
   pub most_steps : m.steps ≤ asked.steps
   pub most_operations : m.kernel.mote.flash.ops ≤ 1000 * (m.steps + 1)
-  pub most_pages : m.pages ≤ began + m.steps + 1
-  pub acts : HasActs IsFirst began asked.image asked.quantum m.natural m.entries m.pages r.lines m.kernel.mote
+  pub most_pages : m.pages ≤ start.pages + m.steps + 1
+  pub acts : HasActs start.IsFirst start.pages asked.image asked.quantum m.natural m.entries m.pages r.lines m.kernel.mote
   pub by_step : IsByStep asked.image asked.quantum (λ k. (original_of asked k).state) acts.first acts.acts m.steps m.kernel.mote m.end
   pub most_natural : m.natural ≤ 40 * (m.steps + 1)
   pub most_entries : m.entries ≤ 2 * (m.steps + 1)
 
--- .. from boot, where the pool has none
-abbrev pub Stands : Asked → Run → Machine → Type 0
-Stands asked r m = StandsFrom (IsBoot asked.image asked.failing asked.events asked.quantum asked.slots) 0 asked r m
-
--- The run came to the original's end, which the machine keeps, or through all its steps. It isn't broken; no operation that was
--- tried is to fail; flash is faithful. Where the pool held all pages that were made, each page was erased at most once for each
--- word 0x940C, as begins a JMP, that it has more than at boot, however many steps there were.
-pub record EndsWell (asked : Asked) (m : Machine) : Type 0 where
-  pub stands : Stands asked (original_of asked asked.steps) m
+-- The run came to the original's end, which the machine keeps, or through all its steps. It isn't broken; no operation on flash
+-- was refused, and none that was tried is to fail; flash was kept well (`IsWellKept`).
+pub record EndsWell (start : Start) (asked : Asked) (m : Machine) : Type 0 where
+  pub stands : Stands start asked (original_of asked asked.steps) m
   pub end : IsKeptEnd (original_of asked asked.steps).end m.end
   pub unbroken : m.broken ≡ false
-  pub none_failed : (op : ℕ) → 1 ≤ op → op ≤ m.kernel.mote.flash.ops → is_listed asked.failing op ≡ false
-  pub wear : m.pages ≤ pool_size asked.image → IsSpared stands.acts.first.flash m.kernel.mote.flash
-  pub faithful : AreFaithful asked.image m.kernel.mote.flash.words
+  pub unrefused : m.kernel.mote.flash.refused ≡ None
+  pub none_failed : (op : ℕ) → 1 ≤ op → op ≤ m.kernel.mote.flash.ops → is_listed stands.acts.first.flash.failing op ≡ false
+  pub flash : IsWellKept asked.image m.pages stands.acts.first.flash m.kernel.mote.flash
 
--- With steps left an operation on flash was refused: the first that was tried and is to fail. None was tried behind it. Flash is
--- faithful, but that an erased page of the pool may lack its words.
-pub record EndsInAFault (asked : Asked) (op : ℕ) (m : Machine) : Type 0 where
-  pub stands : Stands asked (original_of asked m.steps) m
+-- With steps left an operation on flash was refused, the last that was tried: the first that is to fail. Flash is faithful, but
+-- that an erased page of the pool may lack its words.
+pub record EndsInAFault (start : Start) (asked : Asked) (m : Machine) : Type 0 where
+  pub stands : Stands start asked (original_of asked m.steps) m
   pub fewer : m.steps < asked.steps
   pub going : (original_of asked m.steps).end ≡ Spent
-  pub last : m.kernel.mote.flash.ops ≡ op
-  pub listed : is_listed asked.failing op ≡ true
-  pub first : (earlier : ℕ) → 1 ≤ earlier → earlier < op → is_listed asked.failing earlier ≡ false
-  pub end : m.end ≡ Some (ends.Flash op)
+  pub listed : is_listed stands.acts.first.flash.failing m.kernel.mote.flash.ops ≡ true
+  pub first : (op : ℕ) → 1 ≤ op → op < m.kernel.mote.flash.ops → is_listed stands.acts.first.flash.failing op ≡ false
+  pub end : m.end ≡ Some (ends.Flash m.kernel.mote.flash.ops)
   pub unbroken : m.broken ≡ false
   pub faithful : AreFaithfulBut asked.image m.kernel.mote.flash.words
 
--- A machine whose device lines could not be put is broken, and came from this first mote. An end that it keeps is the original
+-- The sink failed behind the text in front, before the last lines: of the device lines of the steps that were done it took a
+-- part. The machine is broken, and stands where the original program stands after them. An end that it keeps is the original
 -- program's, but where flash refused an operation. Flash is faithful, but that a page may lack its words; where none was refused
--- it lacks none, and was spared as in a run to the end.
-pub record IsCutOff (asked : Asked) (first : Mote) (m : Machine) : Type 0 where
+-- it was kept well.
+pub record IsCutShort (start : Start) (asked : Asked) (status : ℕ) (taken : List ℕ) (m : Machine) : Type 0 where
+  pub told : IsToldPast Fails 6 start.front (flat_map device_line (original_of asked m.steps).lines) status taken
+  pub stands : Stands start asked (original_of asked m.steps) m
   pub broken : m.broken ≡ true
   pub over : (end : MachineEnd) → m.end ≡ Some end → ((op : ℕ) → end ≢ ends.Flash op) → end_of end ≡ (original_of asked asked.steps).end
   pub lacking : AreFaithfulBut asked.image m.kernel.mote.flash.words
-  pub faithful : ((op : ℕ) → m.end ≢ Some (ends.Flash op)) → AreFaithful asked.image m.kernel.mote.flash.words
-  pub wear : ((op : ℕ) → m.end ≢ Some (ends.Flash op)) → m.pages ≤ pool_size asked.image → IsSpared first.flash m.kernel.mote.flash
+  pub flash : ((op : ℕ) → m.end ≢ Some (ends.Flash op)) → IsWellKept asked.image m.pages stands.acts.first.flash m.kernel.mote.flash
 
--- The sink failed before the last lines: of the device lines of the steps that were done it took a part, and the machine
--- stands where the original program stands after them.
-pub record IsCutShort (asked : Asked) (status : ℕ) (taken : List ℕ) (m : Machine) : Type 0 where
-  pub told : IsTold Fails 6 (flat_map device_line (original_of asked m.steps).lines) status taken
-  pub stands : Stands asked (original_of asked m.steps) m
-  pub left : IsCutOff asked stands.acts.first m
+-- Behind the text in front the text is the original program's: its device lines, which went out whole, its stop line, and the
+-- machine's own counts; and the status is its end's, where the sink serves.
+pub record ToTheEnd (start : Start) (sink : Sink) (asked : Asked) (status : ℕ) (taken : List ℕ) (m : Machine) : Type 0 where
+  pub told : IsToldPast sink (end_status (original_of asked asked.steps).end) (start.front ++ flat_map device_line (original_of asked asked.steps).lines)
+      (last_lines (original_of asked asked.steps) (end_words (original_of asked asked.steps).end) asked.quantum m) status taken
+  pub run : EndsWell start asked m
 
--- The text is the original program's: its device lines, its stop line, and the machine's own counts; and the status is
--- its end's, where the sink serves. The device lines went out whole.
-pub record ToTheEnd (sink : Sink) (asked : Asked) (status : ℕ) (taken : List ℕ) (m : Machine) : Type 0 where
-  pub told : IsTold sink (end_status (original_of asked asked.steps).end) (text_of (original_of asked asked.steps) (end_words (original_of asked asked.steps).end) asked.quantum m) status taken
-  pub past : length (flat_map device_line (original_of asked asked.steps).lines) ≤ length taken
-  pub run : EndsWell asked m
-
--- Up to the refused operation the text is the original program's, whose device lines went out whole.
-pub record IntoAFault (sink : Sink) (asked : Asked) (status : ℕ) (taken : List ℕ) (m : Machine) : Type 0 where
-  pub op : ℕ
-  pub told : IsTold sink 9 (text_of (original_of asked m.steps) (codes "flash fault " ++ decimal op) asked.quantum m) status taken
-  pub past : length (flat_map device_line (original_of asked m.steps).lines) ≤ length taken
-  pub run : EndsInAFault asked op m
+-- .. up to the refused operation
+pub record IntoAFault (start : Start) (sink : Sink) (asked : Asked) (status : ℕ) (taken : List ℕ) (m : Machine) : Type 0 where
+  pub told : IsToldPast sink 9 (start.front ++ flat_map device_line (original_of asked m.steps).lines)
+      (last_lines (original_of asked m.steps) (codes "flash fault " ++ decimal m.kernel.mote.flash.ops) asked.quantum m) status taken
+  pub run : EndsInAFault start asked m
 
 -- memory was wanted, which is all that is told, and no machine is kept; or the program was run to the original's end or through
 -- all its steps, or into a fault of flash; or up to a step by which the sink had failed
-pub data IsRun (sink : Sink) (asked : Asked) (status : ℕ) (taken : List ℕ) (kept : Option Machine) : Type 0 where
-  NoMemory : IsTold sink 8 no_memory status taken → kept ≡ None → IsRun sink asked status taken kept
-  Ended : (m : Machine) → kept ≡ Some m → ToTheEnd sink asked status taken m → IsRun sink asked status taken kept
-  Failed : (m : Machine) → kept ≡ Some m → IntoAFault sink asked status taken m → IsRun sink asked status taken kept
-  Cut : (m : Machine) → kept ≡ Some m → sink ≡ Fails → IsCutShort asked status taken m → IsRun sink asked status taken kept
+pub data IsRun (start : Start) (sink : Sink) (asked : Asked) (status : ℕ) (taken : List ℕ) (kept : Option Machine) : Type 0 where
+  NoMemory : IsTold sink 8 no_memory status taken → kept ≡ None → IsRun start sink asked status taken kept
+  Ended : (m : Machine) → kept ≡ Some m → ToTheEnd start sink asked status taken m → IsRun start sink asked status taken kept
+  Failed : (m : Machine) → kept ≡ Some m → IntoAFault start sink asked status taken m → IsRun start sink asked status taken kept
+  Cut : (m : Machine) → kept ≡ Some m → sink ≡ Fails → IsCutShort start asked status taken m → IsRun start sink asked status taken kept
 
--- a text of at most 2,097,152 bytes: a HEX text of the image, and behind it a script of these inputs and operations that are to
--- fail
-pub record IsTextOf (text : List ℕ) (asked : Asked) : Type 0 where
+-- a text of at most 2,097,152 bytes, and in front a HEX text of the image, up to this position
+pub record HasHex (text image : List ℕ) : Type 0 where
   pub position : ℕ
-  pub hex : HexText text asked.image position
-  pub script : IsScript (drop position text) (record { events = asked.events; failing = asked.failing })
+  pub hex : HexText text image position
   pub short : length text ≤ 2097152
 
--- the words are those of a command that takes these options, and the text is of the program
+-- The words are those of a command that takes these options, and the text has the program, and behind it a script of these inputs
+-- and operations that are to fail.
 pub record AsksAs (kind : RunOptions → Command) (words : List (List ℕ)) (text : List ℕ) (asked : Asked) : Type 0 where
   pub command : IsCommand words (kind (options_of asked))
-  pub input : IsTextOf text asked
+  pub front : HasHex text asked.image
+  pub script : IsScript (drop front.position text) (record { events = asked.events; failing = asked.failing })
 
 -- .. of `run`
 abbrev pub Asks : (words : List (List ℕ)) (text : List ℕ) (asked : Asked) → Type 0

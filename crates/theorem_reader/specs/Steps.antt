@@ -1,12 +1,12 @@
 -- The acts of a run, step by step of the original program.
-use Rattle.std.specs.Prelude.{⊤, ◌≡◌, ◌⊎◌, ℕ, zero, suc, ◌+◌, ◌-◌, ◌%◌, ◌≤◌, ◌==◌, ◌||◌, nat_le, if◌then◌else◌, Bool, true, false, List, [], ◌∷◌, ◌++◌, length, slice_index, Option, Some, None}
+use Rattle.std.specs.Prelude.{⊤, ◌≡◌, ◌⊎◌, ℕ, zero, suc, ◌+◌, ◌-◌, ◌%◌, ◌≤◌, ◌==◌, ◌||◌, nat_le, if◌then◌else◌, Bool, true, false, List, [], ◌∷◌, ◌++◌, length, Option, Some, None}
 use Rattle.flat_machine.specs.FlatMachine.{Moment, is_taken}
 use Rattle.mote_core.specs.declared.mote.Mote.{Mote}
 use Rattle.kernel_entry.specs.declared.kernel.Stop.{Stop}
 use Rattle.kernel_entry.specs.declared.kernel.End.{End}
 use Rattle.kernel_entry.specs.declared.kernel.End.TheVariants as ends
 use Rattle.theorem_reader.specs.Acts.{Act, Service, Arrival, Interrupt, Follow, steps_in, services_in, StopsLast}
-use Rattle.theorem_reader.specs.Memory.{HasState}
+use Rattle.theorem_reader.specs.Memory.{sram_byte, HasState}
 use Rattle.theorem_reader.specs.Pools.{IsPlaceOf}
 
 -- a service but those at 0xF004 and 0xF006, behind which rewritten code goes on, is the last of the acts
@@ -33,13 +33,14 @@ is_with_kernel m = (m.cpu.pc == 0) || nat_le 0xF000 m.cpu.pc
 pub data AreOfStep (image : List ℕ) (s : Moment) (before : Mote) (acts : List Act) : Type 0 where
   Interrupted : is_with_kernel before ≡ true → (stops : Bool) → (after : Mote) → acts ≡ Interrupt stops before after ∷ [] → is_taken s ≡ true → AreOfStep image s before acts
   There : is_taken s ≡ false → IsPlaceOf image before.flash.words s.now.cpu.pc before.cpu.pc → AreOwn acts → AreOfStep image s before acts
-  Arriving : is_with_kernel before ≡ true → is_taken s ≡ false → (made ops : ℕ) → (there : Mote) → (own : List Act) → acts ≡ Arrival false s.now.cpu.pc made ops before there ∷ own → AreOwn own → AreOfStep image s before acts
+  Arriving : is_with_kernel before ≡ true → is_taken s ≡ false → (made ops : ℕ) → (there : Mote) → (own : List Act) → acts ≡ Arrival false s.now.cpu.pc made ops before there ∷ own → AreOwn own
+      → AreOfStep image s before acts
 
 -- Between two steps the kernel's stack is empty, and COUNT, the byte at 0x0100, is what the program's crossings leave of the
 -- quantum. Where an interrupt is due, as behind a checkpoint, the kernel has control.
 pub record IsBetween (quantum : ℕ) (s : Moment) (m : Mote) : Type 0 where
   pub stack : m.cpu.sp ≡ 0x011F
-  pub count : slice_index m.sram 0 ≡ quantum - s.now.crossings % quantum
+  pub count : sram_byte m 0x0100 ≡ quantum - s.now.crossings % quantum
   pub due : s.due ≡ true → is_with_kernel m ≡ true
 
 -- The acts are those of n steps, one behind the other. Before step k + 1 the mote stands where the original program stands

@@ -1,8 +1,7 @@
 -- What several programs did on one mote: stint after stint, each a try of one program, told by the motes before and after it.
-use Rattle.std.specs.Prelude.{◌≡◌, ℕ, ◌+◌, ◌-◌, ◌*◌, ◌≤◌, ◌==◌, if◌then◌else◌, Bool, true, false, List, [], ◌∷◌, ◌++◌, length, slice_get, slice_index, slice_set, sum_by, Some, None}
+use Rattle.std.specs.Prelude.{◌≡◌, ℕ, ◌+◌, ◌-◌, ◌≤◌, ◌==◌, if◌then◌else◌, Bool, true, false, List, [], ◌∷◌, length, flat_map, slice_get, slice_index, slice_set, Some, None}
 use Rattle.std.specs.Option.{option_map}
 use Rattle.flat_machine.specs.FlatMachine.{Moment, End, Spent, Wild, Read}
-use Rattle.flash_words.specs.Layouts.{layout_of}
 use Rattle.mote_core.specs.declared.mote.Mote.{Mote}
 use Rattle.parked_tasks.specs.declared.parked.Parked.{Parked}
 use Rattle.parked_tasks.specs.declared.task.Task.{Task}
@@ -11,12 +10,10 @@ use Rattle.parked_tasks.specs.declared.task.TaskEnd.TheVariants as task_ends
 use Rattle.tk_tasks.specs.Plays.{lines_told}
 use Rattle.tk_tasks.specs.States.{Tasks}
 use Rattle.task_turns.specs.Turns.{Player, Turns, Played, Over, Gone, played, once}
-use Rattle.theorem_reader.specs.Acts.{Act, Follow, steps_in, services_in, made_in, lines_in, StopsLast}
-use Rattle.theorem_reader.specs.Ends.{end_of_stop}
-use Rattle.theorem_reader.specs.Memory.{sram_byte, HasState}
-use Rattle.theorem_reader.specs.Pools.{AreFaithful}
+use Rattle.theorem_reader.specs.Acts.{Act, Follow, steps_in, services_in, lines_in, StopsLast}
+use Rattle.kernel_entry.specs.Seen.{end_of as end_of_stop}
+use Rattle.theorem_reader.specs.Memory.{sram_byte, Keeps, HasState}
 use Rattle.theorem_reader.specs.Steps.{AreOfStep, IsBetween}
-use Rattle.theorem_reader.specs.Wear.{pool_size, IsSpared}
 
 -- the number of a program, and its acts in one try
 pub record Stint : Type 0 where
@@ -26,13 +23,10 @@ pub record Stint : Type 0 where
 -- A program is tried next. Flash, and SRAM at 0x0142 to 0x03FF, are as the stint before left them; its core, its
 -- devices, its swap area and the other bytes of SRAM are as its own last stint did.
 pub record ComesBack (left own now : Mote) : Type 0 where
-  pub flash : now.flash ≡ left.flash
-  pub shared : (a : ℕ) → 0x0142 ≤ a → a ≤ 0x03FF → sram_byte now a ≡ sram_byte left a
-  pub core : now.cpu ≡ own.cpu
-  pub devices : now.devices ≡ own.devices
-  pub swap : now.swap ≡ own.swap
-  pub low : (a : ℕ) → 0x0100 ≤ a → a ≤ 0x0141 → sram_byte now a ≡ sram_byte own a
-  pub high : (a : ℕ) → 0x0400 ≤ a → a ≤ 0x10FF → sram_byte now a ≡ sram_byte own a
+  pub stays : now ≡ record own { flash = left.flash; sram = now.sram }
+  pub shared : Keeps 0x0142 0x03FF left now
+  pub low : Keeps 0x0100 0x0141 own now
+  pub high : Keeps 0x0400 0x10FF own now
 
 -- The acts of a try of a program that stands at s, which comes to this: those of the step that it makes, or of the one in which
 -- it stops (`Steps`); none where it has done all its steps, or has left its words.
@@ -49,14 +43,14 @@ AreOfTry image s before acts (Gone line checkpoint next) = AreOfStep image s bef
 abbrev pub TakeTurns : (image : List ℕ) (quantum : ℕ) → Turns → (left : Mote) → List Mote → List Stint → (to : Turns) → (end : Mote) → (last : List Mote) → Type 0
 TakeTurns image quantum turns left motes [] to end last = (turns ≡ to) × (left ≡ end) × (motes ≡ last)
 TakeTurns image quantum turns left motes (stint ∷ stints) to end last =
-    (p : Player) × (own before after : Mote) × (slice_get turns.players turns.running ≡ Some p) × (p.end ≡ None) × (stint.task ≡ turns.running) × (slice_get motes stint.task ≡ Some own) × ComesBack left own before
-    × HasState p.moment.now before × IsBetween quantum p.moment before × AreOfTry image p.moment before stint.acts (played p) × (lines_in stint.acts ≡ lines_told (once turns p).told) × Follow image quantum before stint.acts after × TakeTurns image quantum (once turns p).turns after (slice_set motes stint.task after) stints to end last
+    (p : Player) × (own before after : Mote) × (slice_get turns.players turns.running ≡ Some p) × (p.end ≡ None) × (stint.task ≡ turns.running) × (slice_get motes stint.task ≡ Some own)
+    × ComesBack left own before × HasState p.moment.now before × IsBetween quantum p.moment before × AreOfTry image p.moment before stint.acts (played p)
+    × (lines_in stint.acts ≡ lines_told (once turns p).told) × Follow image quantum before stint.acts after
+    × TakeTurns image quantum (once turns p).turns after (slice_set motes stint.task after) stints to end last
 
 -- What is parked of a program while it hasn't the mote is as its last stint left it.
 pub record IsParked (own : Mote) (parked : Parked) : Type 0 where
-  pub core : parked.cpu ≡ own.cpu
-  pub devices : parked.devices ≡ own.devices
-  pub swap : parked.swap ≡ own.swap
+  pub stays : parked ≡ record parked { cpu = own.cpu; devices = own.devices; swap = own.swap }
   pub low : (a : ℕ) → 0x0100 ≤ a → a ≤ 0x0141 → slice_index parked.low (a - 0x0100) ≡ sram_byte own a
   pub high : (a : ℕ) → 0x0400 ≤ a → a ≤ 0x10FF → slice_index parked.high (a - 0x0400) ≡ sram_byte own a
 
@@ -79,8 +73,7 @@ changes_from task (stint ∷ stints) last = (if stint.task == task then 0 else 1
 
 -- the acts of one program, one behind the other
 abbrev pub acts_of_task : (task : ℕ) → List Stint → List Act
-acts_of_task task [] = []
-acts_of_task task (stint ∷ stints) = (if stint.task == task then stint.acts else []) ++ acts_of_task task stints
+acts_of_task task stints = flat_map (λ stint. if stint.task == task then stint.acts else []) stints
 
 -- What is left of a program, whose player is this one at the last turns. Its own mote stands where the player does, and has as
 -- many slots as the program. Its task, which is kept, has its part of the mote, and the player's address, counts and end; its own
@@ -100,37 +93,3 @@ pub record IsLeft (left : Mote) (last : List Mote) (stints : List Stint) (t : Ta
   pub crossings : its.crossings ≡ p.moment.now.crossings
   pub natural : its.natural ≡ steps_in (acts_of_task task stints)
   pub entries : its.entries ≡ services_in (acts_of_task task stints)
-
--- Stints lead all programs from where they stand at these turns, the first on a mote of which this is so and each on one of its
--- own, to where they stand at the last turns. The tasks that are kept are as many, on a mote with the layout of the image and
--- with this quantum, and as often changed; and have these numbers of changes, and of instructions of rewritten code, services
--- and pages made. Of one program's acts no more than 5,120 such instructions for each crossing of the quantum stand in a row
--- without a service. One page at most was made for each step that the programs made, and one more for each program; and at most
--- 1,000 operations on flash were tried for each of these. Where the pool held all pages that were made, each page was erased at
--- most once for each word 0x940C, as begins a JMP, that it has more than at first. Flash is faithful.
-pub record HaveStints (IsFirst : Mote → Type 0) (IsOwn : ℕ → Mote → Type 0) (image : List ℕ) (quantum : ℕ) (from to : Turns) (t : Tasks) : Type 0 where
-  pub stints : List Stint
-  pub first : Mote
-  pub begins : IsFirst first
-  pub motes : List Mote
-  pub first_is : slice_get motes 0 ≡ Some first
-  pub own : (task : ℕ) (m : Mote) → slice_get motes task ≡ Some m → IsOwn task m
-  pub starts : (task : ℕ) (p : Player) → slice_get from.players task ≡ Some p → (own : Mote) × (slice_get motes task ≡ Some own) × HasState p.moment.now own
-  pub last : List Mote
-  pub left : Mote
-  pub turns : TakeTurns image quantum from first motes stints to left last
-  pub ends : (task : ℕ) (p : Player) → slice_get to.players task ≡ Some p → IsLeft left last stints t task p
-  pub runs : t.running ≡ to.running
-  pub many : length t.tasks ≡ length to.players
-  pub layout : t.kernel.layout ≡ layout_of (length image)
-  pub quantum_is : t.kernel.quantum ≡ quantum
-  pub switched : t.switches ≡ to.switches
-  pub switches : t.switches ≡ changes_from from.running stints to.running
-  pub natural_is : t.natural ≡ sum_by (λ (stint : Stint). steps_in stint.acts) stints
-  pub entries_is : t.entries ≡ sum_by (λ (stint : Stint). services_in stint.acts) stints
-  pub pages_is : t.pages ≡ sum_by (λ (stint : Stint). made_in stint.acts) stints
-  pub few : (task : ℕ) → (front between back : List Act) → acts_of_task task stints ≡ front ++ (between ++ back) → services_in between ≡ 0 → steps_in between ≤ 5120 * quantum
-  pub most_pages : t.pages ≤ sum_by (λ (task : Task). task.steps) t.tasks + length t.tasks
-  pub most_operations : t.kernel.mote.flash.ops ≤ 1000 * (sum_by (λ (task : Task). task.steps) t.tasks + length t.tasks)
-  pub wear : t.pages ≤ pool_size image → IsSpared first.flash t.kernel.mote.flash
-  pub faithful : AreFaithful image t.kernel.mote.flash.words

@@ -1,11 +1,14 @@
 -- What a run of several programs leaves, which take turns on one mote: each prints and ends as if it were alone.
-use Rattle.std.specs.Prelude.{◌≡◌, ℕ, ◌+◌, ◌*◌, ◌/◌, ◌<◌, ◌≤◌, max, List, [], ◌∷◌, ◌++◌, codes, decimal, flat_map, map, length, drop, slice_get, slice_index_or, true, false, ◌==◌, if◌then◌else◌, All, Option, Some, None}
+use Rattle.std.specs.Prelude.{◌≡◌, ℕ, ◌+◌, ◌*◌, ◌/◌, ◌<◌, max, List, [], ◌∷◌, ◌++◌, codes, decimal, flat_map, map, drop, slice_get, slice_index_or, true, false, ◌==◌, if◌then◌else◌}
+use Rattle.std.specs.Prelude.{All, Option, Some, None, ◌≤◌, length, sum_by}
 use Rattle.std.specs.List.{range_with_len}
 use Rattle.line_reader.specs.Lines.{lines_of}
-use Rattle.hex_image.specs.HexText.{HexText}
 use Rattle.input_script.specs.declared.input.Event.{Event}
 use Rattle.input_script.specs.Script.{Schedule}
+use Rattle.flash_words.specs.Layouts.{layout_of}
 use Rattle.flat_machine.specs.FlatMachine.{Run, original}
+use Rattle.mote_core.specs.declared.mote.Mote.{Mote}
+use Rattle.parked_tasks.specs.declared.task.Task.{Task}
 use Rattle.program_steps.specs.Machines.{Machine}
 use Rattle.tk_tasks.specs.States.{Tasks}
 use Rattle.task_turns.specs.Turns.{Player, Turns, After, Told, Shown, Wrote, Stops, shown_by, tries, turns}
@@ -15,9 +18,12 @@ use Rattle.task_input.specs.Scripts.{Schedules}
 use Rattle.cli_words.specs.declared.command.Command.TheVariants.{Tasks as TasksCommand}
 use Rattle.cli_words.specs.declared.command.TaskOptions.{TaskOptions}
 use Rattle.cli_words.specs.Commands.{IsCommand}
-use Rattle.theorem_reader.specs.Acts.{IsBoot, IsNew}
-use Rattle.theorem_reader.specs.Stints.{HaveStints}
-use Rattle.theorem_reader.specs.Telling.{Sink, Fails, IsTold}
+use Rattle.theorem_reader.specs.Acts.{Act, IsBoot, IsNew, steps_in, services_in, made_in}
+use Rattle.theorem_reader.specs.Runs.{HasHex}
+use Rattle.theorem_reader.specs.Memory.{HasState}
+use Rattle.theorem_reader.specs.Stints.{Stint, TakeTurns, IsLeft, changes_from, acts_of_task}
+use Rattle.theorem_reader.specs.Wear.{IsWellKept}
+use Rattle.theorem_reader.specs.Telling.{Sink, Fails, IsTold, IsToldPast}
 use Rattle.theorem_reader.specs.Texts.{device_line, end_words, stop_line, end_status, no_memory}
 
 -- the image of so many programs, the inputs of each, and how they are run
@@ -72,8 +78,7 @@ lines_alone asked task = map (line_shown asked.quantum) (shown_by (alone_of aske
 
 -- those that were told of the programs
 abbrev pub printed_by : (quantum : ℕ) → List Told → List Printed
-printed_by quantum [] = []
-printed_by quantum (one ∷ more) = record { task = one.task; line = line_shown quantum one.shown } ∷ printed_by quantum more
+printed_by quantum told = map (λ one. record { task = one.task; line = line_shown quantum one.shown }) told
 
 -- the programs at reset, in turn
 abbrev pub reset_of : AskedTasks → Turns
@@ -95,8 +100,7 @@ printed_of asked = printed_by asked.quantum (in_turn asked).told
 
 -- the lines of one program, in their order
 abbrev pub lines_of_task : ℕ → List Printed → List (List ℕ)
-lines_of_task task [] = []
-lines_of_task task (one ∷ others) = if one.task == task then one.line ∷ lines_of_task task others else lines_of_task task others
+lines_of_task task printed = flat_map (λ one. if one.task == task then one.line ∷ [] else []) printed
 
 -- the last line
 abbrev pub last_line : (natural entries pages switches : ℕ) → List ℕ
@@ -112,20 +116,48 @@ greatest (n ∷ numbers) = max n (greatest numbers)
 abbrev pub worst_status : AskedTasks → ℕ
 worst_status asked = greatest (map (λ task. end_status (alone_of asked task).end) (range_with_len 0 asked.count))
 
--- stints lead the programs from reset to these turns, and each that is kept stands there (`Stints`)
-abbrev pub LeadThere : AskedTasks → Turns → Tasks → Type 0
-LeadThere asked to t = HaveStints (IsBoot (words_of asked) [] (events_of asked 0) asked.quantum asked.slots) (λ task. IsNew (events_of asked task) asked.quantum asked.slots) (words_of asked) asked.quantum (reset_of asked) to t
+-- Stints lead all programs from reset, the first on a mote at boot with all their words and each on one of its own that has done
+-- nothing, to where they stand at these turns (`Stints`). The tasks that are kept are as many, on a mote with the layout of the
+-- words and with this quantum, and as often changed; and have these numbers of changes, and of instructions of rewritten code,
+-- services and pages made. Of one program's acts no more than 5,120 such instructions for each crossing of the quantum stand in a
+-- row without a service. One page at most was made for each step that the programs made, and one more for each program; and at
+-- most 1,000 operations on flash were tried for each of these. Flash was kept well (`Wear`).
+pub record LeadThere (asked : AskedTasks) (to : Turns) (t : Tasks) : Type 0 where
+  pub stints : List Stint
+  pub first : Mote
+  pub begins : IsBoot (words_of asked) [] (events_of asked 0) asked.quantum asked.slots first
+  pub motes : List Mote
+  pub first_is : slice_get motes 0 ≡ Some first
+  pub own : (task : ℕ) (m : Mote) → slice_get motes task ≡ Some m → IsNew (events_of asked task) asked.quantum asked.slots m
+  pub starts : (task : ℕ) (p : Player) → slice_get (reset_of asked).players task ≡ Some p → (own : Mote) × (slice_get motes task ≡ Some own) × HasState p.moment.now own
+  pub last : List Mote
+  pub left : Mote
+  pub turns : TakeTurns (words_of asked) asked.quantum (reset_of asked) first motes stints to left last
+  pub ends : (task : ℕ) (p : Player) → slice_get to.players task ≡ Some p → IsLeft left last stints t task p
+  pub runs : t.running ≡ to.running
+  pub many : length t.tasks ≡ length to.players
+  pub layout : t.kernel.layout ≡ layout_of (length (words_of asked))
+  pub quantum_is : t.kernel.quantum ≡ asked.quantum
+  pub switched : t.switches ≡ to.switches
+  pub switches : t.switches ≡ changes_from (reset_of asked).running stints to.running
+  pub natural_is : t.natural ≡ sum_by (λ (stint : Stint). steps_in stint.acts) stints
+  pub entries_is : t.entries ≡ sum_by (λ (stint : Stint). services_in stint.acts) stints
+  pub pages_is : t.pages ≡ sum_by (λ (stint : Stint). made_in stint.acts) stints
+  pub few : (task : ℕ) → (front between back : List Act) → acts_of_task task stints ≡ front ++ (between ++ back) → services_in between ≡ 0 → steps_in between ≤ 5120 * asked.quantum
+  pub most_pages : t.pages ≤ sum_by (λ (task : Task). task.steps) t.tasks + length t.tasks
+  pub most_operations : t.kernel.mote.flash.ops ≤ 1000 * (sum_by (λ (task : Task). task.steps) t.tasks + length t.tasks)
+  pub flash : IsWellKept (words_of asked) t.pages first.flash t.kernel.mote.flash
 
 -- What is told is what the programs print in turn, which went out whole, and a last line, with the worst of their statuses. The
 -- lines of each are just those of its run alone: none can change what another prints, or when and how it ends. The numbers of
 -- the last line are those of stints on one mote, which lead each program from where it begins to where its run alone ends.
 pub record AreApart (sink : Sink) (asked : AskedTasks) (status : ℕ) (taken : List ℕ) (t : Tasks) : Type 0 where
-  pub told : IsTold sink (worst_status asked) (printed_text (printed_of asked) ++ last_line t.natural t.entries t.pages t.switches) status taken
-  pub past : length (printed_text (printed_of asked)) ≤ length taken
+  pub told : IsToldPast sink (worst_status asked) (printed_text (printed_of asked)) (last_line t.natural t.entries t.pages t.switches) status taken
   pub theirs : All (λ one. one.task < asked.count) (printed_of asked)
   pub each : (task : ℕ) → task < asked.count → lines_of_task task (printed_of asked) ≡ lines_alone asked task
   pub stints : LeadThere asked (in_turn asked).turns t
-  pub alone : (task : ℕ) → task < asked.count → (p : Player) × (slice_get (in_turn asked).turns.players task ≡ Some p) × (p.moment ≡ (alone_of asked task).state) × (p.end ≡ Some (alone_of asked task).end)
+  pub alone : (task : ℕ) → task < asked.count → (p : Player) × (slice_get (in_turn asked).turns.players task ≡ Some p) × (p.moment ≡ (alone_of asked task).state)
+      × (p.end ≡ Some (alone_of asked task).end)
   pub unbroken : t.broken ≡ false
 
 -- The sink failed before the last line: it took a part of what so many tries printed, and of what the programs print in turn; and
@@ -148,12 +180,10 @@ pub data AreRun (sink : Sink) (asked : AskedTasks) (status : ℕ) (taken : List 
 abbrev pub AsksNoTasks : (words : List (List ℕ)) → Type 0
 AsksNoTasks words = (options : TaskOptions) → ¬ IsCommand words (TasksCommand options)
 
--- The words are those of `tasks` with these options; the text is a HEX text of the image, in which no word stands where no program
--- may have one (`IsMisplaced`), and behind it a script of theirs, and isn't too long.
+-- The words are those of `tasks` with these options; the text has a HEX text of the image, in which no word stands where no program
+-- may have one (`IsMisplaced`), and behind it a script of theirs.
 pub record AsksTasks (words : List (List ℕ)) (text : List ℕ) (asked : AskedTasks) : Type 0 where
   pub command : IsCommand words (TasksCommand (tasks_options_of asked))
-  pub position : ℕ
-  pub hex : HexText text asked.image position
-  pub scripts : Schedules asked.count (lines_of (drop position text)) asked.scripts
+  pub front : HasHex text asked.image
+  pub scripts : Schedules asked.count (lines_of (drop front.position text)) asked.scripts
   pub placed : (a : ℕ) → ¬ IsMisplaced asked.count asked.image a
-  pub short : length text ≤ 2097152

@@ -1,6 +1,6 @@
 -- How a text is told: by a sink that takes all of it, or by one that fails, since it has no room for all; and a source that
 -- fails.
-use Rattle.std.specs.Prelude.{◌≡◌, ◌⊎◌, ℕ, ◌<◌, ◌≤◌, List, [], length, take}
+use Rattle.std.specs.Prelude.{◌≡◌, ◌⊎◌, ℕ, ◌<◌, ◌≤◌, List, [], ◌++◌, length, take}
 use Rattle.tk_io.specs.Memory.{SinkState}
 
 -- the sink takes so many bytes in all, and counted no fault unless it has taken them
@@ -34,6 +34,10 @@ pub record IsFront (part whole : List ℕ) : Type 0 where
 abbrev pub IsTold : Sink → (own : ℕ) (whole : List ℕ) → (status : ℕ) (taken : List ℕ) → Type 0
 IsTold Serves own whole status taken = (status ≡ own) × (taken ≡ whole)
 IsTold Fails own whole status taken = (status ≡ 6) × IsFront taken whole
+
+-- .. past this front, which went out whole
+abbrev pub IsToldPast : Sink → (own : ℕ) (front rest : List ℕ) → (status : ℕ) (taken : List ℕ) → Type 0
+IsToldPast sink own front rest status taken = IsTold sink own (front ++ rest) status taken × (length front ≤ length taken)
 
 -- With room for so many bytes, this is so of a sink that served, and took no more. Or it is so of one that failed: it counted a
 -- fault, and took just as many. So a sink serves just where it has room for all that is told.

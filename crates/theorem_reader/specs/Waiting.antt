@@ -21,4 +21,5 @@ pub record Waits (asked : AskedTasks) (task from count : ℕ) : Type 0 where
 -- while it waits, each other comes to its next checkpoint at most, by its crossings
 abbrev pub WaitsForATurnOfEach : Type 0
 WaitsForATurnOfEach =
-    (asked : AskedTasks) → 1 ≤ asked.quantum → (task from count : ℕ) → Waits asked task from count → (other : ℕ) → crossings_of (turns_after asked (from + count)) other ≤ (crossings_of (turns_after asked from) other / asked.quantum + 1) * asked.quantum
+    (asked : AskedTasks) → 1 ≤ asked.quantum → (task from count : ℕ) → Waits asked task from count → (other : ℕ)
+    → crossings_of (turns_after asked (from + count)) other ≤ (crossings_of (turns_after asked from) other / asked.quantum + 1) * asked.quantum

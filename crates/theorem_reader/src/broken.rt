@@ -5,7 +5,7 @@ ghost use Rattle.std.specs.Io.KnownBytes.{ReadConsumes, WriteAppends};
 ghost use Rattle.byte_streams.specs.Faults.{HasCause};
 ghost use Rattle.theorem_reader.specs.Calls.{AreCovered};
 ghost use Rattle.theorem_reader.specs.Refusals.{IsSaid, IsUsage, HasUsage, ReadsText};
-ghost use Rattle.theorem_reader.specs.Runs.{AsksGenerate, generated_by, IsRun};
+ghost use Rattle.theorem_reader.specs.Runs.{AsksGenerate, boot_of, generated_by, IsRun};
 ghost use Rattle.theorem_reader.specs.Tasks.{AsksNoTasks};
 ghost use Rattle.theorem_reader.specs.Telling.{BrokenState, FailsBehind, IsSo};
 
@@ -87,7 +87,7 @@ pub fn run_broken<const ROOM: usize>(
     ensures long { ReadsText (map string_bytes words.now) → 2097152 < length text.items
         → IfOk result (λ told. IsSo ROOM told.out (λ sink. IsSaid sink 3 (codes "input too long\n") told.status told.out.taken told.kept told.tasks)) }
     ensures generate { IfOk result (λ told. (seed : ℕ) → AsksGenerate (map string_bytes words.now) seed
-        → IsSo ROOM told.out (λ sink. IsRun sink (generated_by seed) told.status told.out.taken told.kept)) }
+        → IsSo ROOM told.out (λ sink. IsRun (boot_of (generated_by seed)) sink (generated_by seed) told.status told.out.taken told.kept)) }
     ensures usage { IfOk result (λ told. (own : ℕ) → IsUsage (map string_bytes words.now) own
         → IsSo ROOM told.out (λ sink. HasUsage sink own told.status told.out.taken told.kept told.tasks)) }
     ensures no_tasks { IfOk result (λ told. AsksNoTasks (map string_bytes words.now) → told.tasks ≡ None) }

@@ -6,7 +6,7 @@ ghost use Rattle.theorem_reader.specs.Dumps.{IsDumped};
 ghost use Rattle.theorem_reader.specs.Examples.{example_of_tasks, words_of_tasks, erased};
 ghost use Rattle.theorem_reader.specs.Refusals.{AsksAsm, IsAssembled, IsRefused, IsSaid, IsUsage, HasUsage, bad_line};
 ghost use Rattle.theorem_reader.specs.Restarts.{IsRestarted};
-ghost use Rattle.theorem_reader.specs.Runs.{IsRun, example, generated_by};
+ghost use Rattle.theorem_reader.specs.Runs.{IsRun, boot_of, example, generated_by};
 ghost use Rattle.theorem_reader.specs.Tasks.{AskedTasks, AsksTasks, AreRun};
 ghost use Rattle.theorem_reader.specs.Telling.{IsSo};
 
@@ -40,7 +40,7 @@ const BAD_DUMP: &[u8; 41] = b":060000000FE00BBBFFCF77\n:00000001FF\npage\n";
 /// Runs this text for at most 100 steps, with a checkpoint at every seventh crossing and without swap, into a sink with
 /// room for so many bytes.
 pub fn run_example<const ROOM: usize>(alloc: Global) -> Result<Told<ROOM>, NoMemory>
-    ensures run { IfOk result (λ told. IsSo ROOM told.out (λ sink. IsRun sink example told.status told.out.taken told.kept)) }
+    ensures run { IfOk result (λ told. IsSo ROOM told.out (λ sink. IsRun (boot_of example) sink example told.status told.out.taken told.kept)) }
 {
     answer(alloc, "run")
 }
@@ -82,7 +82,7 @@ pub fn asm_example<const ROOM: usize>(alloc: Global) -> Result<Told<ROOM>, NoMem
 
 /// The run of the program of a seed.
 pub fn generate_example<const ROOM: usize>(alloc: Global) -> Result<Told<ROOM>, NoMemory>
-    ensures generate { IfOk result (λ told. IsSo ROOM told.out (λ sink. IsRun sink (generated_by 7) told.status told.out.taken told.kept)) }
+    ensures generate { IfOk result (λ told. IsSo ROOM told.out (λ sink. IsRun (boot_of (generated_by 7)) sink (generated_by 7) told.status told.out.taken told.kept)) }
 {
     let text = bytes_of(alloc, &[])?;
     let words = [word_of(alloc, "generate")?, word_of(alloc, "7")?];
@@ -165,8 +165,8 @@ fn answer_alone<const ROOM: usize>(
         → IsSo ROOM told.out (λ sink. IsChecked sink image flash told.status told.out.taken told.kept)) }
     ensures asm { IfOk result (λ told. (image : List ℕ) → AsksAsm (command.now ∷ []) text.now image
         → IsSo ROOM told.out (λ sink. IsAssembled sink image told.status told.out.taken told.kept told.tasks)) }
-    ensures refused { IfOk result (λ told. (own : ℕ) (line : List ℕ) → IsRefused (command.now ∷ []) text.now own line
-        → IsSo ROOM told.out (λ sink. IsSaid sink own line told.status told.out.taken told.kept told.tasks)) }
+    ensures refused { IfOk result (λ told. (line : List ℕ) → IsRefused (command.now ∷ []) text.now line
+        → IsSo ROOM told.out (λ sink. IsSaid sink 3 line told.status told.out.taken told.kept told.tasks)) }
     ensures usage { IfOk result (λ told. (own : ℕ) → IsUsage (command.now ∷ []) own
         → IsSo ROOM told.out (λ sink. HasUsage sink own told.status told.out.taken told.kept told.tasks)) }
 {
@@ -179,8 +179,8 @@ fn answer_alone<const ROOM: usize>(
 fn answer_tasks<const ROOM: usize>(alloc: Global, text: &[u8]) -> Result<Told<ROOM>, NoMemory>
     ensures tasks { IfOk result (λ told. (asked : AskedTasks) → AsksTasks words_of_tasks text.now asked
         → IsSo ROOM told.out (λ sink. AreRun sink asked told.status told.out.taken told.kept told.tasks)) }
-    ensures refused { IfOk result (λ told. (own : ℕ) (line : List ℕ) → IsRefused words_of_tasks text.now own line
-        → IsSo ROOM told.out (λ sink. IsSaid sink own line told.status told.out.taken told.kept told.tasks)) }
+    ensures refused { IfOk result (λ told. (line : List ℕ) → IsRefused words_of_tasks text.now line
+        → IsSo ROOM told.out (λ sink. IsSaid sink 3 line told.status told.out.taken told.kept told.tasks)) }
 {
     let bytes = bytes_of(alloc, text)?;
     let words = [
@@ -193,7 +193,7 @@ fn answer_tasks<const ROOM: usize>(alloc: Global, text: &[u8]) -> Result<Told<RO
 
 /// Answers a command that takes these options.
 fn answer<const ROOM: usize>(alloc: Global, command: &str) -> Result<Told<ROOM>, NoMemory>
-    ensures run { command.now ≡ codes "run" → IfOk result (λ told. IsSo ROOM told.out (λ sink. IsRun sink example told.status told.out.taken told.kept)) }
+    ensures run { command.now ≡ codes "run" → IfOk result (λ told. IsSo ROOM told.out (λ sink. IsRun (boot_of example) sink example told.status told.out.taken told.kept)) }
     ensures dump { command.now ≡ codes "dump" → IfOk result (λ told. IsSo ROOM told.out (λ sink. IsDumped sink example told.status told.out.taken told.kept)) }
     ensures restart { command.now ≡ codes "restart" → IfOk result (λ told. IsSo ROOM told.out (λ sink. IsRestarted sink example told.status told.out.taken told.kept)) }
 {

@@ -33,6 +33,7 @@
 //! - `address image t i`, `ends_at image a`, `page_size image t i`: where the instruction of number i stands of those from t on,
 //!   that of t being 0; whether control never goes on from the one at a to the next; how many words a page of those up to number i has.
 //! - `layout_of count`: where the pool of an image of so many words begins, and of how many pages it is.
+//! - `end_of_stop stop`: how a program that stopped by itself has ended (`kernel_entry/Seen`, `end_of`).
 //! - `Mote`: a modelled ATmega128, that is its core, SRAM, flash, devices, and a swap area beside it. `exec_of` is what an
 //!   instruction does, `the_form` what two words mean (docs/ATMEGA128.md): by `specs/Words`, what the manual's table has.
 //! - `fault_of text`, `AsmText text image`: what is wrong with a source, and its words, as docs/ASSEMBLER.md tells them.

@@ -5,7 +5,7 @@ ghost use Rattle.theorem_reader.specs.Checks.{AsksCheck, IsChecked};
 ghost use Rattle.theorem_reader.specs.Dumps.{AsksDump, IsDumped};
 ghost use Rattle.theorem_reader.specs.Refusals.{IsRefused, IsSaid, AsksAsm, IsAssembled, IsUsage, HasUsage};
 ghost use Rattle.theorem_reader.specs.Restarts.{AsksRestart, IsRestarted};
-ghost use Rattle.theorem_reader.specs.Runs.{Asked, Asks, AsksGenerate, generated_by, IsRun, plainly};
+ghost use Rattle.theorem_reader.specs.Runs.{Asked, Asks, AsksGenerate, boot_of, generated_by, IsRun, plainly};
 ghost use Rattle.theorem_reader.specs.Tasks.{AreRun, AskedTasks, AsksNoTasks, AsksTasks};
 ghost use Rattle.theorem_reader.specs.Telling.{IsSo};
 
@@ -38,7 +38,7 @@ pub fn run_text<const ROOM: usize>(
     text: Vec<u8>,
 ) -> Result<Told<ROOM>, NoMemory>
     ensures run { IfOk result (λ told. (asked : Asked) → Asks (map string_bytes words.now) text.items asked
-        → IsSo ROOM told.out (λ sink. IsRun sink asked told.status told.out.taken told.kept)) }
+        → IsSo ROOM told.out (λ sink. IsRun (boot_of asked) sink asked told.status told.out.taken told.kept)) }
     ensures dump { IfOk result (λ told. (asked : Asked) → AsksDump (map string_bytes words.now) text.items asked
         → IsSo ROOM told.out (λ sink. IsDumped sink asked told.status told.out.taken told.kept)) }
     ensures restart { IfOk result (λ told. (asked : Asked) → AsksRestart (map string_bytes words.now) text.items asked
@@ -50,9 +50,9 @@ pub fn run_text<const ROOM: usize>(
     ensures asm { IfOk result (λ told. (image : List ℕ) → AsksAsm (map string_bytes words.now) text.items image
         → IsSo ROOM told.out (λ sink. IsAssembled sink image told.status told.out.taken told.kept told.tasks)) }
     ensures generate { IfOk result (λ told. (seed : ℕ) → AsksGenerate (map string_bytes words.now) seed
-        → IsSo ROOM told.out (λ sink. IsRun sink (generated_by seed) told.status told.out.taken told.kept)) }
-    ensures refused { IfOk result (λ told. (own : ℕ) (line : List ℕ) → IsRefused (map string_bytes words.now) text.items own line
-        → IsSo ROOM told.out (λ sink. IsSaid sink own line told.status told.out.taken told.kept told.tasks)) }
+        → IsSo ROOM told.out (λ sink. IsRun (boot_of (generated_by seed)) sink (generated_by seed) told.status told.out.taken told.kept)) }
+    ensures refused { IfOk result (λ told. (line : List ℕ) → IsRefused (map string_bytes words.now) text.items line
+        → IsSo ROOM told.out (λ sink. IsSaid sink 3 line told.status told.out.taken told.kept told.tasks)) }
     ensures usage { IfOk result (λ told. (own : ℕ) → IsUsage (map string_bytes words.now) own
         → IsSo ROOM told.out (λ sink. HasUsage sink own told.status told.out.taken told.kept told.tasks)) }
     ensures no_tasks { IfOk result (λ told. AsksNoTasks (map string_bytes words.now) → told.tasks ≡ None) }
@@ -74,7 +74,7 @@ pub fn run_text<const ROOM: usize>(
 
 /// Runs any image, without inputs, by the word `run`.
 pub fn run_image<const ROOM: usize>(alloc: Global, image: &Image) -> Result<Told<ROOM>, NoMemory>
-    ensures run { IfOk result (λ told. IsSo ROOM told.out (λ sink. IsRun sink (plainly image.now) told.status told.out.taken told.kept)) }
+    ensures run { IfOk result (λ told. IsSo ROOM told.out (λ sink. IsRun (boot_of (plainly image.now)) sink (plainly image.now) told.status told.out.taken told.kept)) }
 {
     let text = write(alloc, image)?;
     let word = word_of(alloc, "run")?;

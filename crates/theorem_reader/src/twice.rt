@@ -1,6 +1,5 @@
 //! Two calls with the same words over the same text.
-ghost use Rattle.std.specs.Prelude.{◌≡◌, IfOk, map, string_bytes};
-ghost use Rattle.theorem_reader.specs.Tasks.{AsksNoTasks};
+ghost use Rattle.std.specs.Prelude.{◌≡◌, IfOk};
 ghost use Rattle.theorem_reader.specs.Telling.{IsSo};
 ghost use Rattle.theorem_reader.specs.Twice.{IsToldAgain};
 
@@ -17,7 +16,7 @@ pub fn run_twice<const ROOM: usize, const MORE: usize>(
     words: &[String],
     text: &[u8],
 ) -> Result<(Told<ROOM>, Told<MORE>), NoMemory>
-    ensures again { AsksNoTasks (map string_bytes words.now) → IfOk result (λ told. told.0.out.faults ≡ 0
+    ensures again { IfOk result (λ told. told.0.out.faults ≡ 0
         → IsSo MORE told.1.out (λ sink. IsToldAgain told.0.status told.0.out.taken sink told.1.status told.1.out.taken)) }
 {
     let first = bytes_of(alloc, text)?;

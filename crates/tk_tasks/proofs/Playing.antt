@@ -11,7 +11,6 @@ use Rattle.kernel_entry.specs.declared.kernel.Stop.{Stop}
 use Rattle.kernel_entry.specs.declared.kernel.Stop.TheVariants as stops
 use Rattle.kernel_entry.specs.Seen.{program as program_of, end_of}
 use Rattle.kernel_entry.specs.declared.kernel.Owed.{Owed}
-use Rattle.kernel_entry.specs.declared.kernel.End.{End}
 use Rattle.kernel_entry.specs.declared.kernel.End.TheVariants as ends
 use Rattle.step_laws.specs.Moves.{Move, lines_of, line_before}
 use Rattle.step_laws.specs.Numbers.{Numbers}
@@ -102,7 +101,7 @@ record CanPlay (n : ℕ) (u : Tasks) (task : Task) (m : Machine) (line : Option 
   come : IsCome u task m end
   moves : List Move
   goes : Goes (machine_of u u.running task) m moves (line_before line [])
-  of_try : AreOfTry task.at moves (machine_end end) (outcome (player_of n u u.running task))
+  of_try : AreOfTry task.at moves m (outcome (player_of n u u.running task))
   once_is : once (turns_of n u) (player_of n u u.running task) ≡ record { told = tried_told u.running line end m.steps m.crossings; turns = turned changes (with_player (turns_of n u) (player_by n m end)) }
 
 turned_on : (n : ℕ) (u : Tasks) (task : Task) (m : Machine) (end : Option TaskEnd) (changes : Bool) → IsBefore u task → IsCome u task m end → turns_of n (finished changes (kept_tasks u task m end)) ≡ turned changes (with_player (turns_of n u) (player_by n m end))
@@ -138,7 +137,7 @@ play_on n u task m line end changes can =
         switches = refl;
         sound = sound_kept u task m end before can.come;
       };
-      of_try = can.of_try;
+      of_try = subst (λ z. AreOfTry task.at can.moves z (outcome (player_of n u u.running task))) (sym same) can.of_try;
       behind = goes_on_by changes v;
       in_turn = turned_on n u task m end changes before can.come ∙ sym (ap (λ (a : After). a.turns) can.once_is);
       told = sym (ap (λ (a : After). a.told) can.once_is);
@@ -157,20 +156,20 @@ played_tries n u task next rest is =
     let p = player_of n u u.running task in
     ap (tried_by p) (rests_is p.program p.moment p.left ∙ ap flat_end_of rest) ∙ ap (played_by p) is
 
-nothing_tried : (own none : Bool) (pc at : ℕ) (end : TaskEnd) → cond own (cond none (Some Spent) None) (Some (Wild pc)) ≡ Some end → AreOfTry at [] (machine_end (Some end)) (Over (flat_end end))
-nothing_tried true true pc at end is = let e : Spent ≡ end = cc in subst (λ (z : TaskEnd). AreOfTry at [] (machine_end (Some z)) (Over (flat_end z))) e refl
-nothing_tried true false pc at end is = absurd (cc)
-nothing_tried false none pc at end is = let e : Wild pc ≡ end = cc in subst (λ (z : TaskEnd). AreOfTry at [] (machine_end (Some z)) (Over (flat_end z))) e refl
+nothing_tried : (own none : Bool) (pc at : ℕ) (m : Machine) (end : TaskEnd) → cond own (cond none (Some Spent) None) (Some (Wild pc)) ≡ Some end → AreOfTry at [] m (Over (flat_end end))
+nothing_tried true true pc at m end is = let e : Spent ≡ end = cc in subst (λ (z : TaskEnd). AreOfTry at [] m (Over (flat_end z))) e refl
+nothing_tried true false pc at m end is = absurd (cc)
+nothing_tried false none pc at m end is = let e : Wild pc ≡ end = cc in subst (λ (z : TaskEnd). AreOfTry at [] m (Over (flat_end z))) e refl
 
-stop_tried : (stop : Stop) (at : ℕ) (moves : List Move) (end : Option End) → AreStopped at moves end → AreOfTry at moves end (Over (end_of stop))
-stop_tried (stops.Halted pc) at moves end made = made
-stop_tried (stops.Asleep pc) at moves end made = made
-stop_tried (stops.Illegal pc) at moves end made = made
-stop_tried (stops.SelfProgram pc) at moves end made = made
-stop_tried (stops.Read pc a) at moves end made = made
-stop_tried (stops.Io pc a) at moves end made = made
-stop_tried (stops.Stack pc a) at moves end made = made
-stop_tried (stops.SwapFull pc a) at moves end made = made
+stop_tried : (stop : Stop) (at : ℕ) (moves : List Move) (m : Machine) → AreStopped at moves m.end → AreOfTry at moves m (Over (end_of stop))
+stop_tried (stops.Halted pc) at moves m made = made
+stop_tried (stops.Asleep pc) at moves m made = made
+stop_tried (stops.Illegal pc) at moves m made = made
+stop_tried (stops.SelfProgram pc) at moves m made = made
+stop_tried (stops.Read pc a) at moves m made = made
+stop_tried (stops.Io pc a) at moves m made = made
+stop_tried (stops.Stack pc a) at moves m made = made
+stop_tried (stops.SwapFull pc a) at moves m made = made
 
 -- ---- a task that rests
 
@@ -208,7 +207,7 @@ can_rest n u task end before going rest =
       };
       moves = [];
       goes = record { walk = refl; told = refl; numbers = refl };
-      of_try = subst (AreOfTry task.at [] (machine_end (Some end))) (sym (played_rests n u task end rest)) (nothing_tried (is_own x.kernel.part task.at) ((n - task.steps) == 0) task.at task.at end rest);
+      of_try = subst (AreOfTry task.at [] x) (sym (played_rests n u task end rest)) (nothing_tried (is_own x.kernel.part task.at) ((n - task.steps) == 0) task.at task.at x end rest);
       once_is = once_rests n u task end rest;
     }
 
@@ -281,8 +280,7 @@ can_go n u task m line before going most rest went ready quiet steps is =
       come = come_by u task m line _ went (record { order = ready.order; bounded = bounds_ready m ready; steps = omega arith }) (λ e. (ready, quiet)) (rest_if_ends (checks x m) m.kernel.part m.at (n - m.steps) ∙ sym ready.going);
       moves = went.moves;
       goes = went.goes;
-      of_try = subst (AreOfTry task.at went.moves (machine_end (rest_if (checks x m) m.kernel.part m.at (n - m.steps)))) (sym (played_tries n u task (On line (flat_of m)) rest is))
-          (record { step = went.of_step; going = rest_if_ends (checks x m) m.kernel.part m.at (n - m.steps) });
+      of_try = subst (AreOfTry task.at went.moves m) (sym (played_tries n u task (On line (flat_of m)) rest is)) (record { step = went.of_step; ready = ready });
       once_is = once_goes n u task m line going rest went.stays.program steps is (checks x m) refl;
     }
 
@@ -311,8 +309,8 @@ can_stop n u task m line stop before going rest went over kept none steps is sam
       come = come_by u task m line _ went (record { order = over.order; bounded = over.bounded; steps = omega arith }) (λ e. absurd (let bad : Some (ended_by stop) ≡ None = e in cc)) (stop_ends stop ∙ sym kept);
       moves = went.moves;
       goes = subst (λ l. Goes x m went.moves (line_before l [])) none went.goes;
-      of_try = subst (AreOfTry task.at went.moves (machine_end (Some (ended_by stop)))) (sym (played_tries n u task (Ends (end_of stop)) rest is))
-          (stop_tried stop task.at went.moves (machine_end (Some (ended_by stop))) (record { step = went.of_step; stop = stop; stops = stop_ends stop }));
+      of_try = subst (AreOfTry task.at went.moves m) (sym (played_tries n u task (Ends (end_of stop)) rest is))
+          (stop_tried stop task.at went.moves m (record { step = went.of_step; stop = stop; stops = kept }));
       once_is = once_stops n u task m stop going rest went.stays.program steps is same;
     }
 

@@ -116,10 +116,10 @@ left_given t last motes (Some next) sound runs is are own =
 pub mote_before : (n : ℕ) (t new : Tasks) (play : Play) → (one : IsPlay n t play new) → (machine_of t t.running one.task).kernel.mote ≡ t.kernel.mote
 mote_before n t new play one = ap (mote_for t.kernel.mote) ((one.sound.each t.running one.task one.here).running refl)
 
-next_there : (n : ℕ) (t new : Tasks) (play : Play) → (one : IsPlay n t play new) → slice_get one.mid.tasks t.running ≡ Some one.next
+pub next_there : (n : ℕ) (t new : Tasks) (play : Play) → (one : IsPlay n t play new) → slice_get one.mid.tasks t.running ≡ Some one.next
 next_there n t new play one = ap (λ l. slice_get l t.running) one.tried.tasks ∙ set_same t.tasks t.running one.task one.next one.here
 
-next_unparked : (n : ℕ) (t new : Tasks) (play : Play) → (one : IsPlay n t play new) → one.next.parked ≡ None
+pub next_unparked : (n : ℕ) (t new : Tasks) (play : Play) → (one : IsPlay n t play new) → one.next.parked ≡ None
 next_unparked n t new play one = (one.tried.sound.each t.running one.next (next_there n t new play one)).running (sym one.tried.running)
 
 pub mote_behind : (n : ℕ) (t new : Tasks) (play : Play) → (one : IsPlay n t play new) → (machine_of one.mid t.running one.next).kernel.mote ≡ one.mid.kernel.mote

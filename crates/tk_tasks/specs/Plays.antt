@@ -11,11 +11,13 @@ use Rattle.kernel_entry.specs.declared.kernel.End.{End}
 use Rattle.kernel_entry.specs.declared.kernel.End.TheVariants as ends
 use Rattle.step_laws.specs.Moves.{Move}
 use Rattle.step_laws.specs.Walks.{Walks}
+use Rattle.program_steps.specs.Machines.{Machine}
+use Rattle.program_steps.specs.Ready.{IsGoing}
 use Rattle.program_steps.specs.Stepping.{Goes, IsArrival, AreOwn}
 use Rattle.parked_tasks.specs.declared.task.Task.{Task}
 use Rattle.line_writer.specs.Pieces.{task_text}
 use Rattle.task_turns.specs.Turns.{Player, Turns, Shown, Wrote, Stops, Told, Played, Over, Gone, played, once, tries, turns, alone, shown_by, own_told, HaveEnded}
-use Rattle.tk_tasks.specs.States.{Tasks, AreSound, machine_end, machine_of, player_of, turns_of}
+use Rattle.tk_tasks.specs.States.{Tasks, AreSound, machine_of, player_of, turns_of}
 use Rattle.tk_tasks.specs.Changes.{changed_tasks}
 
 -- one try of the running task: its moves, what is told of it, and whether the mote may be given to another behind it
@@ -40,10 +42,10 @@ pub record AreAStep (at : ℕ) (moves : List Move) : Type 0 where
   pub arrives : IsArrival at arrival
   pub makes : AreOwn own
 
--- .. that is made, and behind which the machine has no end
-pub record AreMade (at : ℕ) (moves : List Move) (end : Option End) : Type 0 where
+-- .. that is made, and behind which the machine may go on
+pub record AreMade (at : ℕ) (moves : List Move) (m : Machine) : Type 0 where
   pub step : AreAStep at moves
-  pub going : end ≡ None
+  pub ready : IsGoing m
 
 -- .. or that isn't, since the program stops in it
 pub record AreStopped (at : ℕ) (moves : List Move) (end : Option End) : Type 0 where
@@ -51,13 +53,13 @@ pub record AreStopped (at : ℕ) (moves : List Move) (end : Option End) : Type 0
   pub stop : Stop
   pub stops : end ≡ Some (ends.Stopped stop)
 
--- The moves of a try that comes to this, and the end of the machine behind them. One that has done all its steps, or has left its
--- part, makes none.
-abbrev pub AreOfTry : (at : ℕ) → List Move → Option End → Played → Type 0
-AreOfTry at moves end (Over Spent) = moves ≡ []
-AreOfTry at moves end (Over (Wild pc)) = moves ≡ []
-AreOfTry at moves end (Over _) = AreStopped at moves end
-AreOfTry at moves end (Gone line checkpoint next) = AreMade at moves end
+-- The moves of a try that comes to this, and the machine behind them. One that has done all its steps, or has left its part,
+-- makes none.
+abbrev pub AreOfTry : (at : ℕ) → List Move → Machine → Played → Type 0
+AreOfTry at moves m (Over Spent) = moves ≡ []
+AreOfTry at moves m (Over (Wild pc)) = moves ≡ []
+AreOfTry at moves m (Over _) = AreStopped at moves m.end
+AreOfTry at moves m (Gone line checkpoint next) = AreMade at moves m
 
 -- The running task's machine goes by these moves. A move counts for this task alone. The other tasks have what they had, and all
 -- stay sound.
@@ -84,7 +86,7 @@ pub record IsPlay (n : ℕ) (t : Tasks) (play : Play) (new : Tasks) : Type 0 whe
   pub mid : Tasks
   pub next : Task
   pub tried : IsTry t task play mid next
-  pub of_try : AreOfTry task.at play.moves (machine_end next.end) (played (player_of n t t.running task))
+  pub of_try : AreOfTry task.at play.moves (machine_of mid t.running next) (played (player_of n t t.running task))
   pub behind : GoesOn play.changes mid new
   pub in_turn : turns_of n new ≡ (once (turns_of n t) (player_of n t t.running task)).turns
   pub told : play.told ≡ (once (turns_of n t) (player_of n t t.running task)).told

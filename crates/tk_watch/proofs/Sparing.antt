@@ -15,6 +15,7 @@ use Rattle.avr_exec.specs.declared.stop.BusStop.TheVariants.{Stack as StackStop,
 use Rattle.avr_exec.specs.Asks.{ask_of}
 use Rattle.avr_exec.specs.Execution.{answer_of, exec_of}
 use Rattle.avr_exec.specs.Likeness.{Leaves}
+use Rattle.avr_exec.specs.StackRules.{push_on, pop_from, push_return_on, pop_return_from}
 use Rattle.avr_exec.specs.Spaces.{Outcome, Went, Stopped}
 use Rattle.avr_exec.proofs.OneAnswer.{answered_by-leaves, exec_leaves}
 use Rattle.avr_flags.specs.Status.{has_bit, interrupts}
@@ -23,11 +24,8 @@ use Rattle.mote_devices.specs.declared.line.Line.{Line}
 use Rattle.mote_devices.specs.State.{State}
 use Rattle.mote_devices.specs.Accesses.{Asked, Gave, Refused, read, write, modify as modify_device}
 use Rattle.mote_devices.specs.Waking.{wake}
-use Rattle.flat_machine.specs.Addresses.{is_stack}
-use Rattle.flat_machine.specs.Classes.{class_of}
-use Rattle.flat_machine.specs.declared.address.AddrClass.{AddrClass}
-use Rattle.flat_machine.specs.declared.address.AddrClass.TheVariants.{Stack, Heap}
-use Rattle.flat_machine.specs.FlatSpace.{FlatSpace, flat_calls, from_device, has_page, has_room, load, load_in, modify, pop, pop_return, push, push_return, store, store_in, to_device, with_memory, with_page}
+use Rattle.flat_machine.specs.Addresses.{is_stack, is_heap}
+use Rattle.flat_machine.specs.FlatSpace.{FlatSpace, flat_calls, flat_stack, from_device, has_page, has_room, store_to_heap, to_device, with_memory, with_page}
 use Rattle.flat_machine.specs.FlatMachine.{Asleep, End, FlatState, Goes, Halted, Moment, On, Program, Stops, Tried, Wakes, executed, foreign_word, interrupted, is_checkpoint, is_taken, jumps_to_itself, next_by, next_of, next_size, read_or_executed, slept_by, space_of, stepped, tried, tried_form}
 use Rattle.tk_watch.specs.Touching.{IsTouched}
 
@@ -51,19 +49,19 @@ device_writes : (b w a : ℕ) (s : FlatSpace) (asked : Asked (Option Line)) → 
 device_writes b w a s (Gave line next) is = is
 device_writes b w a s Refused is = tt
 
-loads : (k : AddrClass) (b w a : ℕ) (s : FlatSpace) → HasByte b w s → Leaves (HasByte b w) (load_in k s a)
-loads Stack b w a s is = is
-loads Heap b w a s is = is
-loads _ b w a s is = device_reads b w a s (read s.devices a) is
+loads : (held : Bool) (b w a : ℕ) (s : FlatSpace) → HasByte b w s → Leaves (HasByte b w) (cond held (Went (slice_index s.memory a) s) (from_device s a (read s.devices a)))
+loads true b w a s is = is
+loads false b w a s is = device_reads b w a s (read s.devices a) is
 
 heap_stores : (room : Bool) (b w a v : ℕ) (s : FlatSpace) → ¬ (b ≡ a) → HasByte b w s → Leaves (HasByte b w) (stores_or room (with_memory (with_page s a) a v) (FullStop a))
 heap_stores true b w a v s apart is = set_byte s.memory a b v w apart is
 heap_stores false b w a v s apart is = tt
 
-stores : (k : AddrClass) (b w a v : ℕ) (s : FlatSpace) → ¬ (b ≡ a) → HasByte b w s → Leaves (HasByte b w) (store_in k s a v)
-stores Stack b w a v s apart is = set_byte s.memory a b v w apart is
-stores Heap b w a v s apart is = heap_stores (has_page s a || has_room s) b w a v s apart is
-stores _ b w a v s apart is = device_writes b w a s (write s.devices a v) is
+stores : (stack heap : Bool) (b w a v : ℕ) (s : FlatSpace) → ¬ (b ≡ a) → HasByte b w s
+    → Leaves (HasByte b w) (cond stack (Went tt (with_memory s a v)) (cond heap (store_to_heap s a v) (to_device s a (write s.devices a v))))
+stores true heap b w a v s apart is = set_byte s.memory a b v w apart is
+stores false true b w a v s apart is = heap_stores (has_page s a || has_room s) b w a v s apart is
+stores false false b w a v s apart is = device_writes b w a s (write s.devices a v) is
 
 pushes : (holds : Bool) (b w sp v : ℕ) (s : FlatSpace) → ¬ (b ≡ sp) → HasByte b w s → Leaves (HasByte b w) (stores_or holds (with_memory s sp v) (StackStop sp))
 pushes true b w sp v s apart is = set_byte s.memory sp b v w apart is
@@ -92,18 +90,18 @@ returns_popped false second b w a c v s is = tt
 
 -- the one answer leaves each byte that isn't touched
 answer_spares : (ask : Ask) (b w : ℕ) (s : FlatSpace) → ¬ IsTouched ask b → HasByte b w s → Leaves (HasByte b w) (answer_of flat_calls s ask)
-unfolding answer_of load store modify push pop push_return pop_return
+unfolding answer_of push_on pop_from push_return_on pop_return_from
 answer_spares Nothing b w s apart is = is
-answer_spares (Load a) b w s apart is = answered_by-leaves (HasByte b w) Byte (load_in (class_of a) s a) (loads (class_of a) b w a s is)
-answer_spares (Store a v) b w s apart is = answered_by-leaves (HasByte b w) (λ _. Done) (store_in (class_of a) s a v) (stores (class_of a) b w a v s apart is)
+answer_spares (Load a) b w s apart is = answered_by-leaves (HasByte b w) Byte (flat_calls.load s a) (loads (is_stack a || is_heap a) b w a s is)
+answer_spares (Store a v) b w s apart is = answered_by-leaves (HasByte b w) (λ _. Done) (flat_calls.store s a v) (stores (is_stack a) (is_heap a) b w a v s apart is)
 answer_spares (Modify a clear set) b w s apart is = answered_by-leaves (HasByte b w) (λ _. Done) (to_device s a (modify_device s.devices a clear set)) (device_writes b w a s (modify_device s.devices a clear set) is)
-answer_spares (PushByte sp v) b w s apart is = answered_by-leaves (HasByte b w) (λ _. Done) (push s sp v) (pushes (is_stack sp) b w sp v s apart is)
-answer_spares (PopByte sp) b w s apart is = answered_by-leaves (HasByte b w) Byte (pop s sp) (pops (is_stack (wrapping_sum sp 1)) b w (wrapping_sum sp 1) (slice_index s.memory (wrapping_sum sp 1)) s is)
+answer_spares (PushByte sp v) b w s apart is = answered_by-leaves (HasByte b w) (λ _. Done) (push_on flat_stack s sp v) (pushes (is_stack sp) b w sp v s apart is)
+answer_spares (PopByte sp) b w s apart is = answered_by-leaves (HasByte b w) Byte (pop_from flat_stack s sp) (pops (is_stack (wrapping_sum sp 1)) b w (wrapping_sum sp 1) (slice_index s.memory (wrapping_sum sp 1)) s is)
 answer_spares (PushReturn sp ret) b w s apart is =
-    answered_by-leaves (HasByte b w) (λ _. Done) (push_return s sp ret)
+    answered_by-leaves (HasByte b w) (λ _. Done) (push_return_on flat_stack s sp ret)
     (returns_pushed (is_stack sp) (is_stack (wrapping_difference sp 1)) b w sp (ret % 256) (ret / 256) s refl (λ same. apart (inl same)) (λ same. apart (inr same)) is)
 answer_spares (PopReturn sp) b w s apart is =
-    answered_by-leaves (HasByte b w) Address (pop_return s sp)
+    answered_by-leaves (HasByte b w) Address (pop_return_from flat_stack s sp)
     (returns_popped (is_stack (wrapping_sum sp 1)) (is_stack (wrapping_sum sp 2)) b w (wrapping_sum sp 1) (wrapping_sum sp 2) _ s is)
 answer_spares (ProgramAsk z) b w s apart is = is
 answer_spares (ExtendedProgram z) b w s apart is = is

@@ -2,14 +2,14 @@ use Rattle.std.proofs.Common.{◌≡◌, ap, sym, ◌∙◌}
 use Rattle.std.specs.Prelude.{Some, None}
 use Rattle.avr_asm.specs.Cuts.{trimmed}
 use Rattle.avr_asm.specs.Operands.{operand_of}
-use Rattle.avr_asm.proofs.OperandLaws.{part_read, part_not_read, last_read, none_of}
+use Rattle.avr_asm.proofs.OperandLaws.{part_read, last_read, none_of}
 use Rattle.avr_asm.proofs.operand.operands_in.Goals as goal
 
 pub returns-in-None : goal.returns-in-None
 returns-in-None c =
     let cut = c.in-Some.ensures.cases in
     let none : None ≡ operand_of (trimmed c.in-Some.front.now) = c.in-None.ensures.value ∙ ap operand_of c.trimmed.ensures.value in
-    record { value = part_not_read c.operands.operands c.operands.rest.now c.in-Some.front.now c.in-Some.behind.now cut.0 cut.1 none ∙ c.operands.invariant }
+    record { value = part_read c.operands.operands c.operands.rest.now c.in-Some.front.now c.in-Some.behind.now None cut.0 cut.1 none ∙ c.operands.invariant }
 
 pub operands-preserved : goal.operands-preserved
 operands-preserved c =

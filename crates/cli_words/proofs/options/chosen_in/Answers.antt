@@ -1,7 +1,7 @@
 use Rattle.std.proofs.Common.{◌≡◌, ◌≢◌, ℕ, List, [], ◌∷◌, length, arith, sym, subst, refl, map, string_bytes, String, Global}
 use Rattle.std.proofs.lemmas.Bool.Decides.{nat_tests}
 use Rattle.std.specs.Prelude.{Option}
-use Rattle.cli_words.specs.Options.{rows_of}
+use Rattle.cli_words.specs.Commands.{entry_of}
 use Rattle.cli_words.specs.OptionReading.{HasRead}
 use Rattle.cli_words.proofs.NumberChoices.{read_more, says_none, says_twice}
 use Rattle.cli_words.proofs.options.chosen_in.Goals as goal
@@ -25,7 +25,7 @@ returns-in_err-chosen c =
 pub loop-rest-preserved : goal.loop-rest-preserved
 loop-rest-preserved c =
     let more = c.in_ok-chosen.ensures.cases in
-    let P : List (Option ℕ) → Type 0 = λ chosen. HasRead (rows_of c.args.signature) (map string_bytes c.args.words.now) (map string_bytes c.in_ok-choice.behind.now) chosen in
+    let P : List (Option ℕ) → Type 0 = λ chosen. HasRead (entry_of c.args.kind).1 (map string_bytes c.args.words.now) (map string_bytes c.in_ok-choice.behind.now) chosen in
     subst P (sym more.1) (read_more _ _ _ _ _ c.in_ok-choice.choice c.loop-rest.invariant c.in_ok-choice.ensures.cases more.0)
 
 pub returns : goal.returns

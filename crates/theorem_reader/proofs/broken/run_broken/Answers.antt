@@ -14,7 +14,14 @@ returns g c =
     let call = call_of _ c.tkernel-exit.result _ _ _ _ _ _
     (ap (λ (s : SinkState). Some s.taken) c.in_ok-out.ensures.fresh) (ap (λ (s : SinkState). s.faults) c.in_ok-out.ensures.fresh)
     refl c.number-status.ensures.number c.tkernel-exit.ensures.answer c.tkernel-exit.ensures.exact in
-    let broken : IsBroken _ call.source call.source' = record { told = ap (λ (s : BrokenState). Some (s.left ++ 0 ∷ [])) c.new-input.ensures.fresh; rest = _; left = refl; behind = λ rose. not_before _ _ c.keeps_behind.ensures.behind (ap (λ (s : BrokenState). s.faults) c.new-input.ensures.fresh) rose } in
+    let broken : IsBroken _ call.source call.source' =
+    record {
+      told = ap (λ (s : BrokenState). Some (s.left ++ 0 ∷ [])) c.new-input.ensures.fresh;
+      rest = _;
+      left = refl;
+      behind = λ rose. not_before _ _ c.keeps_behind.ensures.behind
+          (ap (λ (s : BrokenState). s.faults) c.new-input.ensures.fresh) rose;
+    } in
     record {
       fault = λ reads short. with_room g.row.ROOM _ _ c.keeps_room.ensures.room (fault_told _ _ _ _ _ call _ broken short reads);
       long = λ reads long. with_room g.row.ROOM _ _ c.keeps_room.ensures.room (length_told _ _ _ _ _ call _ broken long reads);

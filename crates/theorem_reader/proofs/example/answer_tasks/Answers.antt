@@ -10,8 +10,10 @@ pub returns : goal.returns
 returns g c =
     let words = words_are _ _ _ c.in_ok-word_of.ensures.same c.in_ok-word_of-2.ensures.same c.in_ok-word_of-3.ensures.same in
     record {
-      tasks = told_at c.run_text.result (λ words text told. (asked : AskedTasks) → AsksTasks words text asked → IsSo g.row.ROOM told.out (λ sink. AreRun sink asked told.status told.out.taken told.kept told.tasks))
+      tasks = told_at c.run_text.result
+          (λ words text told. (asked : AskedTasks) → AsksTasks words text asked → IsSo g.row.ROOM told.out (λ sink. AreRun sink asked told.status told.out.taken told.kept told.tasks))
           _ _ _ _ words c.in_ok-bytes.ensures.same c.run_text.ensures.tasks;
-      refused = told_at c.run_text.result (λ words text told. (own : ℕ) (line : List ℕ) → IsRefused words text own line → IsSo g.row.ROOM told.out (λ sink. IsSaid sink own line told.status told.out.taken told.kept told.tasks))
+      refused = told_at c.run_text.result
+          (λ words text told. (line : List ℕ) → IsRefused words text line → IsSo g.row.ROOM told.out (λ sink. IsSaid sink 3 line told.status told.out.taken told.kept told.tasks))
           _ _ _ _ words c.in_ok-bytes.ensures.same c.run_text.ensures.refused;
     }

@@ -7,5 +7,6 @@ use Rattle.theorem_reader.proofs.example.asm_example.Goals as goal
 
 pub returns : goal.returns
 returns g c = record {
-  asm = told_as c.answer_alone.result (λ image. AsksAsm _ _ image) (λ image told. IsSo g.row.ROOM told.out (λ sink. IsAssembled sink image told.status told.out.taken told.kept told.tasks)) example.image asks_asm c.answer_alone.ensures.asm;
+  asm = told_as c.answer_alone.result (λ image. AsksAsm _ _ image) (λ image told. IsSo g.row.ROOM told.out (λ sink. IsAssembled sink image told.status told.out.taken told.kept told.tasks))
+      example.image asks_asm c.answer_alone.ensures.asm;
 }

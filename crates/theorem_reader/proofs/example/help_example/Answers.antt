@@ -6,5 +6,6 @@ use Rattle.theorem_reader.proofs.example.help_example.Goals as goal
 
 pub returns : goal.returns
 returns g c = record {
-  help = told_as c.answer_alone.result (λ own. IsUsage _ own) (λ own told. IsSo g.row.ROOM told.out (λ sink. HasUsage sink own told.status told.out.taken told.kept told.tasks)) 0 asks_help c.answer_alone.ensures.usage;
+  help = told_as c.answer_alone.result (λ own. IsUsage _ own) (λ own told. IsSo g.row.ROOM told.out (λ sink. HasUsage sink own told.status told.out.taken told.kept told.tasks)) 0 asks_help
+      c.answer_alone.ensures.usage;
 }

@@ -18,6 +18,6 @@ returns g c =
     let again : Tells other.source other.source' c.args.text.now =
     record { told = inl (ap Some (c.new-same.ensures.left ∙ c.in_ok-second.ensures.same)); read = not_risen 0 0 refl refl } in
     record {
-      again = λ single serves. with_room g.row.MORE _ _ c.keeps_room.ensures.room
-          (answered_twice _ (record { by = record { exit = _; status = _; faults = _; taken = _; call = one }; none = serves }) (record { exit = _; status = _; faults = _; taken = _; call = other }) c.args.text.now tells again single);
+      again = λ serves. with_room g.row.MORE _ _ c.keeps_room.ensures.room
+          (answered_twice _ (record { by = record { exit = _; status = _; faults = _; taken = _; call = one }; none = serves }) (record { exit = _; status = _; faults = _; taken = _; call = other }) c.args.text.now tells again);
     }
