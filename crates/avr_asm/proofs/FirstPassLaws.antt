@@ -1,9 +1,10 @@
 -- The first pass: its start, and one line more.
 use Rattle.std.proofs.Common.{◌≡◌, ℕ, ◌+◌, List, [], ◌∷◌, ap, refl, sym, ◌∙◌, arith}
 use Rattle.line_reader.specs.Lines.{lines_of}
+use Rattle.line_reader.specs.Faults.{after_lines}
+use Rattle.line_reader.proofs.FaultLaws.{fault_behind}
 use Rattle.avr_asm.specs.declared.first_pass.Pass.{Pass}
-use Rattle.avr_asm.specs.Addresses.{start, after, after_all, faults_from}
-use Rattle.avr_asm.specs.AsmText.{first_fault}
+use Rattle.avr_asm.specs.Addresses.{start, after, fault_at}
 use Rattle.avr_asm.specs.declared.labels.Labels.{Labels}
 use Rattle.avr_asm.specs.Labels.{HasLabels}
 use Rattle.avr_asm.specs.Passes.{IsFirstPart, IsTaken}
@@ -24,9 +25,6 @@ first_part_more text line rest behind number old new part cut taken =
       place = after part.place line;
       is = step.1;
       few = step.2;
-      faults =
-          sym (ap (λ fault. first_fault (number + 1) (fault ∷ faults_from (after part.place line) (lines_of behind))) step.0)
-          ∙ sym (ap (λ lines. first_fault (number + 1) (faults_from part.place lines)) cut)
-          ∙ part.faults;
-      ends = sym (ap (after_all part.place) cut) ∙ part.ends;
+      faults = sym (fault_behind fault_at after (number + 1) part.place line (lines_of rest) (lines_of behind) cut step.0) ∙ part.faults;
+      ends = sym (ap (after_lines after part.place) cut) ∙ part.ends;
     }

@@ -1,5 +1,4 @@
 mod CutLaws
-mod DigitTests
 mod OperandLaws
 mod LineLaws
 mod FirstPassLaws

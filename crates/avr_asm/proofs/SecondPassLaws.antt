@@ -4,6 +4,8 @@ use Rattle.std.specs.Prelude.{None, Some, Option, Result, Ok}
 use Rattle.std.specs.Result.{IsOkAnd}
 use Rattle.std.proofs.lemmas.List.{append_assoc, append-nil}
 use Rattle.line_reader.specs.Lines.{lines_of}
+use Rattle.line_reader.specs.Faults.{after_lines}
+use Rattle.line_reader.proofs.FaultLaws.{fault_behind}
 use Rattle.avr_asm.specs.declared.fault.AsmFault.{AsmFault}
 use Rattle.avr_asm.specs.declared.line.Line.{Line}
 use Rattle.avr_asm.specs.declared.mnemonic.Jump.TheVariants.{If, Rjmp, Rcall, Jmp, Call}
@@ -11,9 +13,9 @@ use Rattle.avr_asm.specs.declared.statement.Statement.{Statement}
 use Rattle.avr_asm.specs.declared.statement.Statement.TheVariants.{Ready, To, Word}
 use Rattle.avr_isa.proofs.Laws.{size_of-range}
 use Rattle.avr_asm.specs.SourceLines.{line_of}
-use Rattle.avr_asm.specs.Addresses.{Label, Place, start, after, after_all, behind_line, words_of_statement}
-use Rattle.avr_asm.specs.Targets.{fault_of_line, target_faults}
-use Rattle.avr_asm.specs.AsmText.{AreLines, IsStatement, first_fault, labels_of}
+use Rattle.avr_asm.specs.Addresses.{Label, Place, start, after, behind_line, words_of_statement}
+use Rattle.avr_asm.specs.Targets.{fault_of_line, target_fault_at}
+use Rattle.avr_asm.specs.AsmText.{AreLines, IsStatement, labels_of}
 use Rattle.avr_asm.specs.Passes.{IsAssembled, IsLineAdded, IsSecondPart}
 
 -- the place behind a line that was added
@@ -38,11 +40,8 @@ second_part_more text line rest behind number old new part cut has =
     record {
       place = after place line;
       at_is = has.added.size ∙ ap (λ n. n + words_of_statement has.line.statement) part.at_is ∙ sym (after_at place line has.line has.line_is);
-      faults =
-          sym (ap (λ fault. first_fault (number + 1) (fault ∷ target_faults labels (after place line) (lines_of behind))) here)
-          ∙ sym (ap (λ lines. first_fault (number + 1) (target_faults labels place lines)) cut)
-          ∙ part.faults;
-      ends = sym (ap (after_all place) cut) ∙ part.ends;
+      faults = sym (fault_behind (target_fault_at labels) after (number + 1) place line (lines_of rest) (lines_of behind) cut here) ∙ part.faults;
+      ends = sym (ap (after_lines after place) cut) ∙ part.ends;
       onward = λ more others.
           let joined : old ++ (has.added.code ++ more) ≡ new ++ more = sym (append_assoc old has.added.code more) ∙ ap (λ w. w ++ more) (sym has.added.joined) in
           let stands : IsOkAnd (line_of line) (λ said. IsStatement labels (new ++ more) place.at said.statement) =

@@ -1,10 +1,9 @@
 -- Words that were added stand where they were added.
 use Rattle.std.proofs.Common.{◌≡◌, ℕ, ◌+◌, List, [], ◌∷◌, ◌++◌, length, ap, refl, subst, sym, ◌∙◌, arith}
-use Rattle.std.specs.Prelude.{None, Some, Option, Result, Ok, Err, OnOk, MatchOption}
+use Rattle.std.specs.Prelude.{if◌then◌else◌, is_some, None, Some, Option, Result, Ok, Err, OnOk, MatchOption}
 use Rattle.std.specs.Bool.{⊤}
 use Rattle.std.proofs.lemmas.List.{append_assoc, length-append, get_or-append-add}
 use Rattle.avr_isa.specs.declared.form.Form.{Form}
-use Rattle.avr_isa.specs.declared.form.Form.TheVariants.{Lds, Sts, Jmp, Call}
 use Rattle.avr_isa.specs.Encoding.{second_word, IsDecoded}
 use Rattle.avr_isa.specs.Image.{word}
 use Rattle.avr_isa.specs.Instruction.{size_of}
@@ -19,16 +18,11 @@ on_ok (Err error) follows holds = tt
 
 -- the number of words, by the second of them
 abbrev pub words_by : Option ℕ → ℕ
-words_by None = 1
-words_by (Some a) = 2
+words_by second = if is_some second then 2 else 1
 
 pub size_by : (f : Form) → size_of f ≡ words_by (second_word f)
 unfolding size_of second_word
-size_by (Lds d a) = refl
-size_by (Sts a r) = refl
-size_by (Jmp a) = refl
-size_by (Call a) = refl
-size_by _ = refl
+size_by f = refl
 
 -- a word behind some others
 first_behind : (old : List ℕ) (first : ℕ) (more : List ℕ) → word ((old ++ first ∷ []) ++ more) (length old) ≡ first

@@ -6,7 +6,8 @@ use Rattle.std.specs.List.{flat_map}
 use Rattle.line_reader.specs.Lines.{lines_of}
 use Rattle.avr_isa.specs.declared.form.Form.{Form}
 use Rattle.avr_isa.specs.Encoding.{first_word, second_word}
-use Rattle.avr_isa.specs.Instruction.{fields_in_range, is_undefined, is_valid}
+use Rattle.avr_isa.specs.Instruction.{fields_in_range, is_valid}
+use Rattle.avr_isa.specs.UndefinedPairs.{is_undefined}
 use Rattle.avr_asm.specs.declared.fault.AsmFault.{AsmFault}
 use Rattle.avr_asm.specs.declared.line.Line.{Line}
 use Rattle.avr_asm.specs.declared.statement.Statement.{Statement}

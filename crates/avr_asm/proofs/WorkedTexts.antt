@@ -1,7 +1,8 @@
 -- What is wrong with a text, tried on texts whose first fault is seen at a glance.
 use Rattle.std.proofs.Common.{◌≡◌, ℕ, List, [], ◌∷◌, ◌++◌, codes, refl}
 use Rattle.std.specs.Prelude.{Option, Some, None, map, replicate}
-use Rattle.avr_isa.specs.Instruction.{fields_in_range, is_undefined, is_valid, size_of}
+use Rattle.avr_isa.specs.Instruction.{fields_in_range, is_valid, size_of}
+use Rattle.avr_isa.specs.UndefinedPairs.{is_undefined}
 use Rattle.avr_asm.specs.declared.fault.AsmFault.{AsmFault}
 use Rattle.avr_asm.specs.declared.fault.AsmFault.TheVariants.{Form, Mnemonic, Range, Twice, TooLarge, Label, Reach}
 use Rattle.avr_asm.specs.Addresses.{Place, fault_at}

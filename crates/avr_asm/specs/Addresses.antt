@@ -51,10 +51,6 @@ behind_line place (Ok line) = record { at = place.at + words_of_statement line.s
 abbrev pub after : Place → List ℕ → Place
 after place line = behind_line place (line_of line)
 
-abbrev pub after_all : Place → List (List ℕ) → Place
-after_all place [] = place
-after_all place (line ∷ lines) = after_all (after place line) lines
-
 -- the line's name was a label before
 abbrev pub is_twice : Option (ArrayVec ℕ) → List Label → Bool
 is_twice None labels = false
@@ -70,8 +66,3 @@ fault_behind place (Ok line) =
 
 abbrev pub fault_at : Place → List ℕ → Option AsmFault
 fault_at place line = fault_behind place (line_of line)
-
--- what is wrong with each line, behind those before it
-abbrev pub faults_from : Place → List (List ℕ) → List (Option AsmFault)
-faults_from place [] = []
-faults_from place (line ∷ lines) = fault_at place line ∷ faults_from (after place line) lines

@@ -3,6 +3,7 @@ use Rattle.std.specs.Prelude.{◌≡◌, ℕ, ◌+◌, ◌≤◌, List, [], ◌�
 use Rattle.std.specs.Option.{option_or}
 use Rattle.std.specs.Result.{IsOkAnd}
 use Rattle.line_reader.specs.Lines.{lines_of}
+use Rattle.line_reader.specs.Faults.{after_lines, first_fault}
 use Rattle.avr_isa.specs.declared.form.Form.{Form}
 use Rattle.avr_isa.specs.Encoding.{IsDecoded}
 use Rattle.avr_isa.specs.Image.{word}
@@ -13,24 +14,18 @@ use Rattle.avr_asm.specs.declared.fault.AsmError.TheVariants.{Bad, NoMemory}
 use Rattle.avr_asm.specs.declared.statement.Statement.{Statement}
 use Rattle.avr_asm.specs.declared.statement.Statement.TheVariants.{Ready, To, Word}
 use Rattle.avr_asm.specs.SourceLines.{line_of}
-use Rattle.avr_asm.specs.Addresses.{Label, Place, start, after, after_all, faults_from}
-use Rattle.avr_asm.specs.Targets.{jump_of, target_faults}
+use Rattle.avr_asm.specs.Addresses.{Label, Place, start, after, fault_at}
+use Rattle.avr_asm.specs.Targets.{jump_of, target_fault_at}
 
 -- the labels of a text
 abbrev pub labels_of : List ℕ → List Label
-labels_of text = (after_all start (lines_of text)).labels
-
--- the first line that has a fault, and its fault, where these are the faults of lines from a number on
-abbrev pub first_fault : ℕ → List (Option AsmFault) → Option (ℕ × AsmFault)
-first_fault number [] = None
-first_fault number (None ∷ rest) = first_fault (number + 1) rest
-first_fault number (Some fault ∷ rest) = Some (number, fault)
+labels_of text = (after_lines after start (lines_of text)).labels
 
 -- the first of the first five faults; only where there is none, the first of the other two. Lines are counted from 1.
 abbrev pub fault_of : List ℕ → Option (ℕ × AsmFault)
 fault_of text =
-    option_or (first_fault 1 (faults_from start (lines_of text)))
-    (first_fault 1 (target_faults (labels_of text) start (lines_of text)))
+    option_or (first_fault fault_at after 1 start (lines_of text))
+    (first_fault (target_fault_at (labels_of text)) after 1 start (lines_of text))
 
 -- the words at an address mean this instruction
 pub record IsInstruction (words : List ℕ) (at : ℕ) (form : Form) : Type 0 where

@@ -1,6 +1,7 @@
 -- Serves private functions: what the two passes leave, line by line.
 use Rattle.std.specs.Prelude.{◌≡◌, ℕ, ◌+◌, ◌≤◌, List, ◌++◌, length, Option, Some, None, Ok}
 use Rattle.line_reader.specs.Lines.{lines_of}
+use Rattle.line_reader.specs.Faults.{after_lines, first_fault}
 use Rattle.avr_isa.specs.declared.form.Form.{Form}
 use Rattle.avr_isa.specs.Instruction.{size_of}
 use Rattle.avr_asm.specs.declared.fault.AsmError.{AsmError}
@@ -12,9 +13,9 @@ use Rattle.avr_asm.specs.declared.labels.Labels.{Labels}
 use Rattle.avr_asm.specs.declared.line.Line.{Line}
 use Rattle.avr_asm.specs.declared.statement.Statement.{Statement}
 use Rattle.avr_asm.specs.SourceLines.{line_of}
-use Rattle.avr_asm.specs.Addresses.{Label, Place, start, after, after_all, fault_at, faults_from, words_of_statement}
-use Rattle.avr_asm.specs.Targets.{fault_of_line, fault_of_statement, target_faults}
-use Rattle.avr_asm.specs.AsmText.{AreLines, AsmText, IsInstruction, IsStatement, first_fault, labels_of}
+use Rattle.avr_asm.specs.Addresses.{Label, Place, start, after, fault_at, words_of_statement}
+use Rattle.avr_asm.specs.Targets.{fault_of_line, fault_of_statement, target_fault_at}
+use Rattle.avr_asm.specs.AsmText.{AreLines, AsmText, IsInstruction, IsStatement, labels_of}
 use Rattle.avr_asm.specs.Labels.{HasLabels}
 use Rattle.hex_image.specs.Image.{most_words}
 
@@ -38,17 +39,17 @@ pub record IsFirstPart (text rest : List ℕ) (number : ℕ) (pass : Pass) : Typ
   pub place : Place
   pub is : IsAt place pass
   pub few : pass.at ≤ most_words
-  pub faults : first_fault (number + 1) (faults_from place (lines_of rest)) ≡ first_fault 1 (faults_from start (lines_of text))
-  pub ends : after_all place (lines_of rest) ≡ after_all start (lines_of text)
+  pub faults : first_fault fault_at after (number + 1) place (lines_of rest) ≡ first_fault fault_at after 1 start (lines_of text)
+  pub ends : after_lines after place (lines_of rest) ≡ after_lines after start (lines_of text)
 
 -- the whole text
 pub record IsPassed (text : List ℕ) (pass : Pass) : Type 0 where
-  pub sound : first_fault 1 (faults_from start (lines_of text)) ≡ None
-  pub is : IsAt (after_all start (lines_of text)) pass
+  pub sound : first_fault fault_at after 1 start (lines_of text) ≡ None
+  pub is : IsAt (after_lines after start (lines_of text)) pass
   pub few : pass.at ≤ most_words
 
 abbrev pub IsFirstRefusal : List ℕ → AsmError → Type 0
-IsFirstRefusal text (Bad line fault) = first_fault 1 (faults_from start (lines_of text)) ≡ Some (line, fault)
+IsFirstRefusal text (Bad line fault) = first_fault fault_at after 1 start (lines_of text) ≡ Some (line, fault)
 IsFirstRefusal text NoMemory = Unit {0}
 
 -- The second pass. ---------------------------------------------------------------------------------
@@ -86,16 +87,16 @@ IsLineRefused labels pc text (refusals.Fault fault) = (list : List Label) → Ha
 pub record IsSecondPart (text rest : List ℕ) (number : ℕ) (words : List ℕ) : Type 0 where
   pub place : Place
   pub at_is : length words ≡ place.at
-  pub faults : first_fault (number + 1) (target_faults (labels_of text) place (lines_of rest)) ≡ first_fault 1 (target_faults (labels_of text) start (lines_of text))
-  pub ends : after_all place (lines_of rest) ≡ after_all start (lines_of text)
+  pub faults : first_fault (target_fault_at (labels_of text)) after (number + 1) place (lines_of rest) ≡ first_fault (target_fault_at (labels_of text)) after 1 start (lines_of text)
+  pub ends : after_lines after place (lines_of rest) ≡ after_lines after start (lines_of text)
   pub onward : (more : List ℕ) → AreLines (labels_of text) (words ++ more) place (lines_of rest) → AreLines (labels_of text) (words ++ more) start (lines_of text)
 
 -- the whole text
 pub record IsAssembled (text words : List ℕ) : Type 0 where
-  pub sound : first_fault 1 (target_faults (labels_of text) start (lines_of text)) ≡ None
+  pub sound : first_fault (target_fault_at (labels_of text)) after 1 start (lines_of text) ≡ None
   pub words_are : AsmText text words
-  pub size : length words ≡ (after_all start (lines_of text)).at
+  pub size : length words ≡ (after_lines after start (lines_of text)).at
 
 abbrev pub IsSecondRefusal : List ℕ → AsmError → Type 0
-IsSecondRefusal text (Bad line fault) = first_fault 1 (target_faults (labels_of text) start (lines_of text)) ≡ Some (line, fault)
+IsSecondRefusal text (Bad line fault) = first_fault (target_fault_at (labels_of text)) after 1 start (lines_of text) ≡ Some (line, fault)
 IsSecondRefusal text NoMemory = Unit {0}

@@ -4,7 +4,8 @@ use Rattle.avr_isa.specs.declared.form.Form.{Form}
 use Rattle.avr_isa.specs.declared.form.Form.TheVariants as forms
 use Rattle.avr_isa.specs.declared.operation.Base.TheVariants.{Z}
 use Rattle.avr_isa.specs.declared.operation.Ptr.TheVariants.{ZInc}
-use Rattle.avr_isa.specs.Instruction.{is_address, is_bit, is_valid}
+use Rattle.avr_isa.specs.Instruction.{is_valid}
+use Rattle.avr_isa.specs.InstructionTable.{is_address, is_bit}
 use Rattle.avr_asm.specs.declared.fault.AsmFault.{AsmFault}
 use Rattle.avr_asm.specs.declared.fault.AsmFault.TheVariants as faults
 use Rattle.avr_asm.specs.declared.mnemonic.Operation.{Operation}

@@ -1,5 +1,5 @@
 -- Where jumps lead, once all labels are known.
-use Rattle.std.specs.Prelude.{ℕ, ℤ, pos, ◌-ℤ◌, ◌+◌, true, false, if◌then◌else◌, List, [], ◌∷◌, Option, Some, None, Result, Ok, Err}
+use Rattle.std.specs.Prelude.{ℕ, ℤ, pos, ◌-ℤ◌, ◌+◌, true, false, if◌then◌else◌, List, Option, Some, None, Result, Ok, Err}
 use Rattle.std.specs.Result.{result_err}
 use Rattle.avr_isa.specs.declared.form.Form.{Form}
 use Rattle.avr_isa.specs.declared.form.Form.TheVariants as forms
@@ -14,7 +14,7 @@ use Rattle.avr_asm.specs.declared.statement.Statement.TheVariants.{To}
 use Rattle.avr_asm.specs.declared.statement.Target.{Target}
 use Rattle.avr_asm.specs.declared.statement.Target.TheVariants as targets
 use Rattle.avr_asm.specs.SourceLines.{line_of}
-use Rattle.avr_asm.specs.Addresses.{Label, Place, address_of, after}
+use Rattle.avr_asm.specs.Addresses.{Label, Place, address_of}
 
 -- from the word behind the one at pc to the target, as whole numbers: nothing wraps
 abbrev pub distance : ℕ → ℕ → ℤ
@@ -47,12 +47,11 @@ abbrev pub fault_of_statement : List Label → ℕ → Option Statement → Opti
 fault_of_statement labels pc (Some (To kind target)) = result_err (jump_of labels pc kind target)
 fault_of_statement labels pc _ = None
 
--- and with a line, which keeps a fault of its own
+-- what is wrong with a line, which keeps a fault of its own
 abbrev pub fault_of_line : List Label → ℕ → Result Line AsmFault → Option AsmFault
 fault_of_line labels pc (Err fault) = Some fault
 fault_of_line labels pc (Ok line) = fault_of_statement labels pc line.statement
 
--- what is wrong with the target of each line, where the first of them stands there
-abbrev pub target_faults : List Label → Place → List (List ℕ) → List (Option AsmFault)
-target_faults labels place [] = []
-target_faults labels place (line ∷ lines) = fault_of_line labels place.at (line_of line) ∷ target_faults labels (after place line) lines
+-- what is wrong with the target of a line that stands at a place
+abbrev pub target_fault_at : List Label → Place → List ℕ → Option AsmFault
+target_fault_at labels place line = fault_of_line labels place.at (line_of line)

@@ -18,7 +18,7 @@ pub(crate) fn number_in(text: &[u8]) -> Option<u64>
 }
 
 /// The number that digits of a base write, at least one and at most so many.
-#[tactic(auto, using(crate::proofs::DigitTests::all_digits, crate::proofs::DigitTests::some_other))]
+#[tactic(auto, using(line_reader::proofs::DigitTests::all_digits, line_reader::proofs::DigitTests::some_other))]
 fn digits_in(text: &[u8], radix: u32, most: usize) -> Option<u64>
     requires base { (10 ≤ radix) × (radix ≤ 16) }
     requires few { most ≤ 10 }

@@ -12,7 +12,7 @@ use Rattle.avr_isa.specs.declared.operation.WordOp.TheVariants.{Adiw, Sbiw}
 use Rattle.avr_isa.specs.declared.operation.OneOp.TheVariants.{Com, Neg, Swap, Inc, Asr, Lsr, Ror, Dec}
 use Rattle.avr_isa.specs.declared.operation.Base.TheVariants.{Y, Z}
 use Rattle.avr_isa.specs.declared.operation.Ptr.TheVariants.{ZInc, ZDec, YInc, YDec, X, XInc, XDec}
-use Rattle.avr_isa.specs.Instruction.{is_undefined}
+use Rattle.avr_isa.specs.UndefinedPairs.{is_undefined}
 
 -- The operands of a word. -------------------------------------------------------------------------
 

@@ -1,13 +1,11 @@
 //! The fixed bits of the operations and pointers that share a form.
-ghost use Rattle.std.specs.Prelude.{◌≡◌, ℕ, ◌+◌, ◌≤◌};
-ghost use Rattle.avr_isa.specs.Encoding.{first_word, high_register_and_byte, one_register, pair_and_six_bits, two_high_registers, two_registers};
-ghost use Rattle.avr_isa.specs.declared.form.Form.TheVariants as form;
+ghost use Rattle.std.specs.Prelude.{◌≡◌, ◌≤◌};
+ghost use Rattle.avr_isa.specs.InstructionTable.{base_bit, imm_opcode, one_opcode, pointer_bits, product_opcode, two_opcode, word_opcode};
 
-use avr_isa::{ImmOp, OneOp, ProductOp, Ptr, TwoOp, WordOp};
+use avr_isa::{Base, ImmOp, OneOp, ProductOp, Ptr, TwoOp, WordOp};
 
-#[tactic(auto, unfolding(avr_isa::specs::Encoding::first_word))]
 pub(crate) fn product(op: &ProductOp) -> u16
-    ensures code { (d r : ℕ) → first_word (form.Product op.now d r) ≡ result + two_high_registers d r }
+    ensures code { result ≡ product_opcode op.now }
     ensures range { result ≤ 0x388 }
 {
     match op {
@@ -18,9 +16,8 @@ pub(crate) fn product(op: &ProductOp) -> u16
     }
 }
 
-#[tactic(auto, unfolding(avr_isa::specs::Encoding::first_word))]
 pub(crate) fn two(op: &TwoOp) -> u16
-    ensures code { (d r : ℕ) → first_word (form.Two op.now d r) ≡ result + two_registers d r }
+    ensures code { result ≡ two_opcode op.now }
     ensures range { result ≤ 0x9C00 }
 {
     match op {
@@ -38,9 +35,8 @@ pub(crate) fn two(op: &TwoOp) -> u16
     }
 }
 
-#[tactic(auto, unfolding(avr_isa::specs::Encoding::first_word))]
 pub(crate) fn immediate(op: &ImmOp) -> u16
-    ensures code { (d r : ℕ) → first_word (form.Imm op.now d r) ≡ result + high_register_and_byte d r }
+    ensures code { result ≡ imm_opcode op.now }
     ensures range { result ≤ 0xE000 }
 {
     match op {
@@ -53,9 +49,8 @@ pub(crate) fn immediate(op: &ImmOp) -> u16
     }
 }
 
-#[tactic(auto, unfolding(avr_isa::specs::Encoding::first_word))]
 pub(crate) fn word(op: &WordOp) -> u16
-    ensures code { (d r : ℕ) → first_word (form.Word op.now d r) ≡ result + pair_and_six_bits d r }
+    ensures code { result ≡ word_opcode op.now }
     ensures range { result ≤ 0x9700 }
 {
     match op {
@@ -64,9 +59,8 @@ pub(crate) fn word(op: &WordOp) -> u16
     }
 }
 
-#[tactic(auto, unfolding(avr_isa::specs::Encoding::first_word))]
 pub(crate) fn one(op: &OneOp) -> u16
-    ensures code { (d : ℕ) → first_word (form.One op.now d) ≡ result + one_register d }
+    ensures code { result ≡ one_opcode op.now }
     ensures range { result ≤ 0x940A }
 {
     match op {
@@ -81,34 +75,27 @@ pub(crate) fn one(op: &OneOp) -> u16
     }
 }
 
-#[tactic(auto, unfolding(avr_isa::specs::Encoding::first_word))]
-pub(crate) fn load(pointer: &Ptr) -> u16
-    ensures code { (d : ℕ) → first_word (form.LoadAt d pointer.now) ≡ result + one_register d }
-    ensures range { result ≤ 0x900E }
+pub(crate) fn base(base: &Base) -> u16
+    ensures code { result ≡ base_bit base.now }
+    ensures range { result ≤ 0x8 }
 {
-    match pointer {
-        Ptr::ZInc => 0x9001,
-        Ptr::ZDec => 0x9002,
-        Ptr::YInc => 0x9009,
-        Ptr::YDec => 0x900A,
-        Ptr::X => 0x900C,
-        Ptr::XInc => 0x900D,
-        Ptr::XDec => 0x900E,
+    match base {
+        Base::Z => 0x0,
+        Base::Y => 0x8,
     }
 }
 
-#[tactic(auto, unfolding(avr_isa::specs::Encoding::first_word))]
-pub(crate) fn store(pointer: &Ptr) -> u16
-    ensures code { (d : ℕ) → first_word (form.StoreAt pointer.now d) ≡ result + one_register d }
-    ensures range { result ≤ 0x920E }
+pub(crate) fn pointer(pointer: &Ptr) -> u16
+    ensures code { result ≡ pointer_bits pointer.now }
+    ensures range { result ≤ 0xE }
 {
     match pointer {
-        Ptr::ZInc => 0x9201,
-        Ptr::ZDec => 0x9202,
-        Ptr::YInc => 0x9209,
-        Ptr::YDec => 0x920A,
-        Ptr::X => 0x920C,
-        Ptr::XInc => 0x920D,
-        Ptr::XDec => 0x920E,
+        Ptr::ZInc => 0x1,
+        Ptr::ZDec => 0x2,
+        Ptr::YInc => 0x9,
+        Ptr::YDec => 0xA,
+        Ptr::X => 0xC,
+        Ptr::XInc => 0xD,
+        Ptr::XDec => 0xE,
     }
 }

@@ -1,12 +1,12 @@
-//! Each operand at the places of its bits in the first word.
+//! The first word with the opcode 0: each operand at the places of its bits.
 ghost use Rattle.std.specs.Prelude.{◌≡◌, ◌<◌};
-ghost use Rattle.avr_isa.specs.Encoding.{flag, flag_and_branch, high_register_and_byte, io_and_bit, jump, one_register, pair_and_six_bits, register_and_bit, register_and_displacement, register_and_io, two_high_registers, two_pairs, two_registers};
+ghost use Rattle.avr_isa.specs.InstructionTable.{flag, flag_and_branch, high_register_and_byte, io_and_bit, jump, one_register, pair_and_six_bits, register_and_bit, register_and_displacement, register_and_io, two_high_registers, two_pairs, two_registers};
 
 use avr_isa::{Bit, EvenReg, HighReg, IoAddr, LowIo, MidReg, PairReg, Reg, Rel7, Rel12, Six};
 
 // .... ..rd dddd rrrr
 pub(crate) fn registers(d: &Reg, r: &Reg) -> u16
-    ensures value { result ≡ two_registers d.now r.now }
+    ensures value { result ≡ (two_registers 0 d.now r.now).first }
     ensures range { result < 1024 }
 {
     let d = u16::from(d.get());
@@ -16,7 +16,7 @@ pub(crate) fn registers(d: &Reg, r: &Reg) -> u16
 
 // .... .... dddd rrrr
 pub(crate) fn register_pairs(d: &EvenReg, r: &EvenReg) -> u16
-    ensures value { result ≡ two_pairs d.now r.now }
+    ensures value { result ≡ (two_pairs 0 d.now r.now).first }
     ensures range { result < 256 }
 {
     let d = u16::from(d.get());
@@ -26,7 +26,7 @@ pub(crate) fn register_pairs(d: &EvenReg, r: &EvenReg) -> u16
 
 // .... .... dddd rrrr
 pub(crate) fn high_registers(d: &HighReg, r: &HighReg) -> u16
-    ensures value { result ≡ two_high_registers d.now r.now }
+    ensures value { result ≡ (two_high_registers 32 0 d.now r.now).first }
     ensures range { result < 256 }
 {
     let d = u16::from(d.get());
@@ -36,7 +36,7 @@ pub(crate) fn high_registers(d: &HighReg, r: &HighReg) -> u16
 
 // .... .... .ddd .rrr
 pub(crate) fn mid_registers(d: &MidReg, r: &MidReg) -> u16
-    ensures value { result ≡ two_high_registers d.now r.now }
+    ensures value { result ≡ (two_high_registers 24 0 d.now r.now).first }
     ensures range { result < 120 }
 {
     let d = u16::from(d.get());
@@ -46,7 +46,7 @@ pub(crate) fn mid_registers(d: &MidReg, r: &MidReg) -> u16
 
 // .... KKKK dddd KKKK
 pub(crate) fn high_register_with(d: &HighReg, k: u8) -> u16
-    ensures value { result ≡ high_register_and_byte d.now k }
+    ensures value { result ≡ (high_register_and_byte 0 d.now k).first }
     ensures range { result < 4096 }
 {
     let d = u16::from(d.get());
@@ -56,7 +56,7 @@ pub(crate) fn high_register_with(d: &HighReg, k: u8) -> u16
 
 // .... .... KKdd KKKK
 pub(crate) fn pair_with(p: &PairReg, k: &Six) -> u16
-    ensures value { result ≡ pair_and_six_bits p.now k.now }
+    ensures value { result ≡ (pair_and_six_bits 0 p.now k.now).first }
     ensures range { result < 256 }
 {
     let p = u16::from(p.get());
@@ -66,7 +66,7 @@ pub(crate) fn pair_with(p: &PairReg, k: &Six) -> u16
 
 // .... ...d dddd ....
 pub(crate) fn register(d: &Reg) -> u16
-    ensures value { result ≡ one_register d.now }
+    ensures value { result ≡ (one_register 0 d.now).first }
     ensures range { result < 512 }
 {
     u16::from(d.get()) << 4
@@ -74,7 +74,7 @@ pub(crate) fn register(d: &Reg) -> u16
 
 // ..q. qq.d dddd .qqq
 pub(crate) fn displaced(d: &Reg, q: &Six) -> u16
-    ensures value { result ≡ register_and_displacement d.now q.now }
+    ensures value { result ≡ (register_and_displacement 0 d.now q.now).first }
     ensures range { result < 0x2E00 }
 {
     let d = u16::from(d.get());
@@ -84,7 +84,7 @@ pub(crate) fn displaced(d: &Reg, q: &Six) -> u16
 
 // .... .AAd dddd AAAA
 pub(crate) fn register_with_io(d: &Reg, a: &IoAddr) -> u16
-    ensures value { result ≡ register_and_io d.now a.now }
+    ensures value { result ≡ (register_and_io 0 d.now a.now).first }
     ensures range { result < 2048 }
 {
     let d = u16::from(d.get());
@@ -94,7 +94,7 @@ pub(crate) fn register_with_io(d: &Reg, a: &IoAddr) -> u16
 
 // .... .... AAAA Abbb
 pub(crate) fn io_bit(a: &LowIo, b: &Bit) -> u16
-    ensures value { result ≡ io_and_bit a.now b.now }
+    ensures value { result ≡ (io_and_bit 0 a.now b.now).first }
     ensures range { result < 256 }
 {
     let a = u16::from(a.get());
@@ -104,7 +104,7 @@ pub(crate) fn io_bit(a: &LowIo, b: &Bit) -> u16
 
 // .... ...d dddd .bbb
 pub(crate) fn register_bit(d: &Reg, b: &Bit) -> u16
-    ensures value { result ≡ register_and_bit d.now b.now }
+    ensures value { result ≡ (register_and_bit 0 d.now b.now).first }
     ensures range { result < 512 }
 {
     let d = u16::from(d.get());
@@ -114,7 +114,7 @@ pub(crate) fn register_bit(d: &Reg, b: &Bit) -> u16
 
 // .... .... .sss ....
 pub(crate) fn flag_place(s: &Bit) -> u16
-    ensures value { result ≡ flag s.now }
+    ensures value { result ≡ (flag 0 s.now).first }
     ensures range { result < 128 }
 {
     u16::from(s.get()) << 4
@@ -122,7 +122,7 @@ pub(crate) fn flag_place(s: &Bit) -> u16
 
 // .... ..kk kkkk ksss
 pub(crate) fn branch(s: &Bit, k: &Rel7) -> u16
-    ensures value { result ≡ flag_and_branch s.now k.now }
+    ensures value { result ≡ (flag_and_branch 0 s.now k.now).first }
     ensures range { result < 1024 }
 {
     let k = k.get();
@@ -132,7 +132,7 @@ pub(crate) fn branch(s: &Bit, k: &Rel7) -> u16
 
 // .... kkkk kkkk kkkk
 pub(crate) fn distance(k: &Rel12) -> u16
-    ensures value { result ≡ jump k.now }
+    ensures value { result ≡ (jump 0 k.now).first }
     ensures range { result < 4096 }
 {
     let k = k.get();

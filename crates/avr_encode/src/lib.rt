@@ -9,15 +9,15 @@
 //! assert_eq!(rt; (words.first, words.second), (0x940C, Some(0x1234)));
 //! ```
 //!
-//! The words are those of the rows in `avr_isa`'s `Encoding`, and what they mean (its `IsDecoded`) is the
-//! instruction: so decoding them gives it back.
+//! The words are those of the rows in `avr_isa`'s `InstructionTable`, and what they mean (`IsDecoded` of its
+//! `Encoding`) is the instruction: so decoding them gives it back.
 #![tactic(auto)]
 
 ghost use Rattle.std.specs.Prelude.{◌≡◌, ℕ, Some};
 ghost use Rattle.avr_encode.specs.Words.{BeginWith};
 ghost use Rattle.avr_isa.specs.Encoding.{first_word, second_word, IsDecoded};
 
-use avr_isa::{Base, Form, Instr};
+use avr_isa::{Form, Instr};
 
 mod codes;
 mod fields;
@@ -75,19 +75,17 @@ fn opcode(form: &Form) -> u16
         Form::Two(op, d, r) => codes::two(op) + registers(d, r),
         Form::Cpse(d, r) => 0x1000 + registers(d, r),
         Form::Imm(op, d, k) => codes::immediate(op) + high_register_with(d, *k),
-        Form::LoadOff(d, Base::Z, q) => 0x8000 + displaced(d, q),
-        Form::LoadOff(d, Base::Y, q) => 0x8008 + displaced(d, q),
-        Form::StoreOff(Base::Z, q, r) => 0x8200 + displaced(r, q),
-        Form::StoreOff(Base::Y, q, r) => 0x8208 + displaced(r, q),
+        Form::LoadOff(d, base, q) => 0x8000 + codes::base(base) + displaced(d, q),
+        Form::StoreOff(base, q, r) => 0x8200 + codes::base(base) + displaced(r, q),
         Form::Lds(d, _) => 0x9000 + register(d),
-        Form::LoadAt(d, pointer) => codes::load(pointer) + register(d),
+        Form::LoadAt(d, pointer) => 0x9000 + codes::pointer(pointer) + register(d),
         Form::Lpm(d, false) => 0x9004 + register(d),
         Form::Lpm(d, true) => 0x9005 + register(d),
         Form::Elpm(d, false) => 0x9006 + register(d),
         Form::Elpm(d, true) => 0x9007 + register(d),
         Form::Pop(d) => 0x900F + register(d),
         Form::Sts(_, r) => 0x9200 + register(r),
-        Form::StoreAt(pointer, r) => codes::store(pointer) + register(r),
+        Form::StoreAt(pointer, r) => 0x9200 + codes::pointer(pointer) + register(r),
         Form::Push(r) => 0x920F + register(r),
         Form::One(op, d) => codes::one(op) + register(d),
         Form::Bset(s) => 0x9408 + flag_place(s),

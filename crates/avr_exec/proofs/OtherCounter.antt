@@ -14,10 +14,9 @@ use Rattle.avr_isa.specs.declared.operation.ProductOp.TheVariants.{Mulsu, Fmul, 
 use Rattle.avr_isa.specs.declared.operation.Ptr.{Ptr}
 use Rattle.avr_isa.specs.declared.operation.Ptr.TheVariants.{ZInc, ZDec, YInc, YDec, X, XInc, XDec}
 use Rattle.avr_exec.specs.declared.cpu.Cpu.{Cpu}
-use Rattle.avr_exec.specs.declared.answer.Answer.{Answer}
 use Rattle.avr_exec.specs.Registers.{register, with_register, with_stack, with_status, own_byte, with_own_byte, is_own}
 use Rattle.avr_exec.specs.Arithmetic.{two_of, immediate_of, word_of, one_of, product_of}
-use Rattle.avr_exec.specs.Effects.{byte_of, loaded, stored, with_pointer, with_z_raised_if}
+use Rattle.avr_exec.specs.Effects.{loaded, stored, with_pointer, with_z_raised_if}
 use Rattle.avr_exec.specs.Likeness.{is_stack_pointer, moved}
 
 -- the registers and SREG with another pc, and SP changed so
@@ -103,9 +102,9 @@ own_byte-changed cpu p s a h =
     let n = neither (a == 0x5D) (a == 0x5E) h in
     byte_chain (nat_lt a 0x20) (a == 0x5D) (a == 0x5E) (register cpu a) (s cpu.sp % 256) (s cpu.sp / 256) cpu.sreg (cpu.sp % 256) (cpu.sp / 256) n.0 n.1
 
-pub loaded-changed : (cpu : Cpu) (p : ℕ) (s : ℕ → ℕ) (a : ℕ) (answer : Answer) → not (is_stack_pointer a) ≡ true → loaded (changed cpu p s) a answer ≡ loaded cpu a answer
+pub loaded-changed : (cpu : Cpu) (p : ℕ) (s : ℕ → ℕ) (a answer : ℕ) → not (is_stack_pointer a) ≡ true → loaded (changed cpu p s) a answer ≡ loaded cpu a answer
 unfolding loaded
-loaded-changed cpu p s a answer h = ap (λ v. if is_own a then v else byte_of answer) (own_byte-changed cpu p s a h)
+loaded-changed cpu p s a answer h = ap (λ v. if is_own a then v else answer) (own_byte-changed cpu p s a h)
 
 -- the same of registers
 cpu_chain : (b c d : Bool) (A B C D B' C' : Cpu) (p : ℕ) (s : ℕ → ℕ) → c ≡ false → d ≡ false

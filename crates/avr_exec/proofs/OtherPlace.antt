@@ -9,9 +9,9 @@ use Rattle.avr_exec.specs.declared.answer.Answer.{Answer}
 use Rattle.avr_isa.specs.Addresses.{wrapping_sum}
 use Rattle.avr_exec.specs.Registers.{register, with_register, own_byte, pair}
 use Rattle.avr_exec.specs.Spaces.{Outcome, Went, Stopped, Calls}
-use Rattle.avr_exec.specs.Asks.{ask_of, displaced, target, pointer_value}
+use Rattle.avr_exec.specs.Asks.{ask_of, finish_of, number_of, displaced, target, pointer_value}
 use Rattle.avr_isa.specs.IoTable.{io_address}
-use Rattle.avr_exec.specs.Effects.{next, after_two_words, finish_of, loaded, stored, with_pointer, byte_of}
+use Rattle.avr_exec.specs.Effects.{next, after_two_words, loaded, stored, with_pointer}
 use Rattle.avr_exec.specs.Execution.{answered_by, answer_of, exec_of}
 use Rattle.avr_exec.specs.Likeness.{is_straight, is_transfer, moved, placed}
 use Rattle.avr_exec.proofs.OtherCounter.{changed, two_of-changed, immediate_of-changed, word_of-changed, one_of-changed, product_of-changed, with_pointer-changed, with_z_raised_if-changed, loaded-changed, stored-changed, stored-moved}
@@ -59,9 +59,9 @@ finish_of-straight (Word op l k) cpu p s n m answer h = ap next (word_of-changed
 finish_of-straight (One op d) cpu p s n m answer h = ap next (one_of-changed op cpu p s d)
 finish_of-straight Lpm0 cpu p s n m answer h = refl
 finish_of-straight Elpm0 cpu p s n m answer h = refl
-finish_of-straight (Lpm d inc) cpu p s n m answer h = ap next (with_z_raised_if-changed (with_register cpu d (byte_of answer)) inc p s (pair cpu 30))
-finish_of-straight (Elpm d inc) cpu p s n m answer h = ap next (with_z_raised_if-changed (with_register cpu d (byte_of answer)) inc p s (pair cpu 30))
-finish_of-straight (InIo d a) cpu p s n m answer h = ap (λ v. next (with_register (changed cpu p s) d v)) (loaded-changed cpu p s (io_address a) answer h)
+finish_of-straight (Lpm d inc) cpu p s n m answer h = ap next (with_z_raised_if-changed (with_register cpu d (number_of answer)) inc p s (pair cpu 30))
+finish_of-straight (Elpm d inc) cpu p s n m answer h = ap next (with_z_raised_if-changed (with_register cpu d (number_of answer)) inc p s (pair cpu 30))
+finish_of-straight (InIo d a) cpu p s n m answer h = ap (λ v. next (with_register (changed cpu p s) d v)) (loaded-changed cpu p s (io_address a) (number_of answer) h)
 finish_of-straight (OutIo a r) cpu p s n m answer h = ap next (stored-changed cpu p s (io_address a) (register cpu r) h)
 finish_of-straight (Cbi a b) cpu p s n m answer h = refl
 finish_of-straight (Sbi a b) cpu p s n m answer h = refl
@@ -124,7 +124,8 @@ finish_of-moved (Word op l k) cpu p n m answer h = ap next (word_of-changed op c
 finish_of-moved (One op d) cpu p n m answer h = ap next (one_of-changed op cpu p (λ x. x) d)
 finish_of-moved (LoadOff d base q) cpu p n m answer h = refl
 finish_of-moved (StoreOff base q r) cpu p n m answer h = ap next (stored-moved cpu p (displaced cpu base q) (register cpu r))
-finish_of-moved (LoadAt d pointer) cpu p n m answer h = ap next (with_pointer-changed (with_register cpu d (loaded cpu (target cpu pointer) answer)) pointer p (λ x. x) (pointer_value cpu pointer))
+finish_of-moved (LoadAt d pointer) cpu p n m answer h =
+    ap next (with_pointer-changed (with_register cpu d (loaded cpu (target cpu pointer) (number_of answer))) pointer p (λ x. x) (pointer_value cpu pointer))
 finish_of-moved (StoreAt pointer r) cpu p n m answer h =
     ap (λ t. next (with_pointer t pointer (pointer_value cpu pointer))) (stored-moved cpu p (target cpu pointer) (register cpu r))
     ∙ ap next (with_pointer-changed (stored cpu (target cpu pointer) (register cpu r)) pointer p (λ x. x) (pointer_value cpu pointer))
@@ -134,8 +135,8 @@ finish_of-moved (Pop d) cpu p n m answer h = refl
 finish_of-moved (Push r) cpu p n m answer h = refl
 finish_of-moved Lpm0 cpu p n m answer h = refl
 finish_of-moved Elpm0 cpu p n m answer h = refl
-finish_of-moved (Lpm d inc) cpu p n m answer h = ap next (with_z_raised_if-changed (with_register cpu d (byte_of answer)) inc p (λ x. x) (pair cpu 30))
-finish_of-moved (Elpm d inc) cpu p n m answer h = ap next (with_z_raised_if-changed (with_register cpu d (byte_of answer)) inc p (λ x. x) (pair cpu 30))
+finish_of-moved (Lpm d inc) cpu p n m answer h = ap next (with_z_raised_if-changed (with_register cpu d (number_of answer)) inc p (λ x. x) (pair cpu 30))
+finish_of-moved (Elpm d inc) cpu p n m answer h = ap next (with_z_raised_if-changed (with_register cpu d (number_of answer)) inc p (λ x. x) (pair cpu 30))
 finish_of-moved (InIo d a) cpu p n m answer h = refl
 finish_of-moved (OutIo a r) cpu p n m answer h = ap next (stored-moved cpu p (io_address a) (register cpu r))
 finish_of-moved (Cbi a b) cpu p n m answer h = refl

@@ -20,8 +20,8 @@ use Rattle.avr_exec.specs.declared.cpu.Cpu.{Cpu}
 use Rattle.avr_exec.specs.declared.answer.Answer.{Answer}
 use Rattle.avr_exec.specs.Registers.{is_own, with_own_byte}
 use Rattle.avr_exec.specs.Arithmetic.{two_of, immediate_of, word_of, one_of, product_of}
-use Rattle.avr_exec.specs.Asks.{ask_of}
-use Rattle.avr_exec.specs.Effects.{finish_of, stored, with_pointer}
+use Rattle.avr_exec.specs.Asks.{ask_of, finish_of}
+use Rattle.avr_exec.specs.Effects.{stored, with_pointer}
 use Rattle.avr_exec.specs.Execution.{answered_by, answer_of, exec_of}
 use Rattle.avr_exec.specs.Spaces.{Outcome, Went, Stopped, Calls}
 

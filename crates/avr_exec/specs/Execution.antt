@@ -9,8 +9,7 @@ use Rattle.avr_exec.specs.declared.answer.Answer.{Answer}
 use Rattle.avr_exec.specs.declared.answer.Answer.TheVariants.{Done, Byte, Address}
 use Rattle.avr_exec.specs.declared.stop.BusStop.{BusStop}
 use Rattle.avr_exec.specs.Spaces.{Outcome, Went, Stopped, Calls}
-use Rattle.avr_exec.specs.Asks.{ask_of}
-use Rattle.avr_exec.specs.Effects.{finish_of}
+use Rattle.avr_exec.specs.Asks.{ask_of, finish_of}
 
 -- the same outcome with another answer
 abbrev pub answered_by : {S A B : Type 0} → (A → B) → Outcome S A → Outcome S B

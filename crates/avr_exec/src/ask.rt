@@ -2,7 +2,7 @@
 
 ghost use Rattle.std.specs.Prelude.{◌≡◌, ◌≤◌};
 ghost use Rattle.avr_exec.specs.Asks.{ask_of, IsFine, load_of, store_of, pointed as pointed_of, target as target_of, displaced as displaced_of, base_register};
-ghost use Rattle.avr_isa.specs.Instruction.{low_register as low_register_of};
+ghost use Rattle.avr_isa.specs.UndefinedPairs.{low_register as low_register_of};
 
 use crate::bits::bit_weight;
 use crate::cpu::{Cpu, is_own_address};

@@ -5,8 +5,8 @@ ghost use Rattle.avr_isa.specs.Addresses.{wrapping_sum};
 ghost use Rattle.avr_exec.specs.Registers.{with_counter};
 ghost use Rattle.avr_exec.specs.declared.answer.Answer.TheVariants.{Done};
 ghost use Rattle.avr_exec.specs.declared.ask.Ask.TheVariants.{Nothing};
-ghost use Rattle.avr_exec.specs.Asks.{ask_of};
-ghost use Rattle.avr_exec.specs.Effects.{with_pointer, with_z_raised_if, skip_if, branch_if, called, returned, finish_of};
+ghost use Rattle.avr_exec.specs.Asks.{ask_of, finish_of};
+ghost use Rattle.avr_exec.specs.Effects.{with_pointer, with_z_raised_if, skip_if, branch_if, called, returned};
 ghost use Rattle.avr_exec.specs.Kinds.{kind_of, Inner, Turn};
 
 use crate::arithmetic::{keep_word, product};
@@ -104,7 +104,7 @@ pub(crate) fn return_to(cpu: &mut Cpu, address: u16) -> u16
 }
 
 /// One of the seldom instructions that work on the core's registers alone, and are followed by the next. Tells the new pc.
-#[tactic(auto, unfolding(crate::specs::Kinds::kind_of, crate::specs::Asks::ask_of, crate::specs::Effects::finish_of))]
+#[tactic(auto, unfolding(crate::specs::Kinds::kind_of, crate::specs::Asks::ask_of, crate::specs::Asks::finish_of))]
 #[inline(always)]
 pub(crate) fn compute(form: &Form, cpu: &mut Cpu, pc: u16) -> u16
     requires kind { kind_of form.now ≡ Inner }
@@ -135,7 +135,7 @@ pub(crate) fn compute(form: &Form, cpu: &mut Cpu, pc: u16) -> u16
 }
 
 /// A skip, a branch or a jump by the core's registers alone. Tells the new pc.
-#[tactic(auto, unfolding(crate::specs::Kinds::kind_of, crate::specs::Asks::ask_of, crate::specs::Effects::finish_of))]
+#[tactic(auto, unfolding(crate::specs::Kinds::kind_of, crate::specs::Asks::ask_of, crate::specs::Asks::finish_of))]
 #[inline(always)]
 pub(crate) fn turn(form: &Form, cpu: &mut Cpu, pc: u16, next_size: u16) -> u16
     requires kind { kind_of form.now ≡ Turn }

@@ -36,7 +36,7 @@ pub fn exec<B: Bus>(i: &Instr, cpu: &mut Cpu, bus: &mut B, next_size: u16) -> Re
 
 /// Executes as [`exec`] does, from a pc that the caller has at hand, and tells the new one: who executes one instruction behind
 /// the other waits for no memory to know it.
-#[tactic(auto, unfolding(crate::specs::Kinds::kind_of, crate::specs::Kinds::is_seldom, crate::specs::Execution::exec_of, crate::specs::Execution::answer_of, crate::specs::Execution::is_executed, crate::specs::Asks::ask_of, crate::specs::Effects::finish_of))]
+#[tactic(auto, unfolding(crate::specs::Kinds::kind_of, crate::specs::Kinds::is_seldom, crate::specs::Execution::exec_of, crate::specs::Execution::answer_of, crate::specs::Execution::is_executed, crate::specs::Asks::ask_of, crate::specs::Asks::finish_of))]
 #[inline(always)]
 pub fn exec_at<B: Bus>(
     i: &Instr,

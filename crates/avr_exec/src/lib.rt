@@ -11,10 +11,10 @@
 //! ```
 //!
 //! What a bus stands for is a *space*, plain data with its ten calls as functions (`specs/Spaces`). The
-//! definition of execution over any space is three short tables: what each instruction asks
-//! (`specs/Asks`), what the space answers (`specs/Execution`) and what the registers become
-//! (`specs/Effects`, `specs/Arithmetic`). `proofs/OneAnswer` and `proofs/OtherPlace` have the laws by which
-//! two executions are compared: over two spaces, and at two places of the program.
+//! definition of execution over any space is two short tables: what each instruction asks, and what the registers
+//! become by the answer (`specs/Asks`, over `specs/Effects` and `specs/Arithmetic`); and what the space answers
+//! (`specs/Execution`). `proofs/OneAnswer` and `proofs/OtherPlace` have the laws by which two executions are
+//! compared: over two spaces, and at two places of the program.
 //!
 //! Who executes an instruction otherwise finds its parts here: the pointer that it takes an address of ([`target`], [`displaced`],
 //! [`low_register`]) and how that moves ([`move_pointer`], [`raise_z`]), and what it does with bits ([`has_bit`], [`with_bit`],

@@ -1,7 +1,7 @@
 //! One byte of memory, wherever it is: the core's own, or the bus's.
 
 ghost use Rattle.std.specs.Prelude.{◌≡◌, IfOk, OnOk, OnErr};
-ghost use Rattle.avr_exec.specs.Asks.{load_of, store_of};
+ghost use Rattle.avr_exec.specs.Asks.{load_of, number_of, store_of};
 ghost use Rattle.avr_exec.specs.Effects.{loaded as loaded_of, stored as stored_of};
 ghost use Rattle.avr_exec.specs.Execution.{answered_by, answer_of, extended as extended_of, rampz_raised as rampz_raised_of};
 ghost use Rattle.avr_exec.specs.Kinds.{answered_byte, answered_done};
@@ -18,7 +18,7 @@ pub(crate) fn load<B: Bus>(cpu: &Cpu, bus: &mut B, address: u16) -> Result<u8, B
     requires ready { B.ready bus.old }
     ensures answer { answer_of B.calls (B.space bus.old) (load_of address)
         ≡ answered_by (answered_byte address) (outcome_of result (B.space bus.new)) }
-    ensures value { IfOk result (λ v. loaded_of cpu.now address (answered_byte address v) ≡ v) }
+    ensures value { IfOk result (λ v. loaded_of cpu.now address (number_of (answered_byte address v)) ≡ v) }
     ensures stop { OnErr result (B.space bus.new ≡ B.space bus.old) }
     ensures lent { B.lent bus.new ≡ B.lent bus.old }
 {

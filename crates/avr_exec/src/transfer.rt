@@ -3,7 +3,7 @@
 ghost use Rattle.std.specs.Prelude.{ℕ, ◌≡◌, ◌≤◌, IfOk, OnErr};
 ghost use Rattle.avr_exec.specs.declared.answer.Answer.{Answer};
 ghost use Rattle.avr_exec.specs.declared.ask.Ask.TheVariants.{Modify, PushReturn};
-ghost use Rattle.avr_exec.specs.Asks.{load_of, store_of};
+ghost use Rattle.avr_exec.specs.Asks.{load_of, number_of, store_of};
 ghost use Rattle.avr_exec.specs.Effects.{called, loaded, stored, next as next_of};
 ghost use Rattle.avr_isa.specs.Addresses.{wrapping_sum};
 ghost use Rattle.avr_isa.specs.IoTable.{io_address};
@@ -38,7 +38,7 @@ fn load_register<B: Bus>(
     requires at { pc ≡ cpu.old.pc }
     requires ready { B.ready bus.old }
     ensures outcome { finished result cpu.new (B.space bus.new)
-        ≡ answered_by (λ (answer : Answer). with_counter (with_register cpu.old d.now (loaded cpu.old address answer)) (wrapping_sum cpu.old.pc words)) (answer_of B.calls (B.space bus.old) (load_of address)) }
+        ≡ answered_by (λ (answer : Answer). with_counter (with_register cpu.old d.now (loaded cpu.old address (number_of answer))) (wrapping_sum cpu.old.pc words)) (answer_of B.calls (B.space bus.old) (load_of address)) }
     ensures tells { IfOk result (λ pc. pc ≡ cpu.new.pc) }
     ensures stop { OnErr result ((cpu.new ≡ cpu.old) × (B.space bus.new ≡ B.space bus.old)) }
     ensures lent { B.lent bus.new ≡ B.lent bus.old }
@@ -71,7 +71,7 @@ fn store_register<B: Bus>(
 }
 
 /// Brings the byte at a pointer into a register, and moves the pointer.
-#[tactic(auto, unfolding(crate::specs::Execution::exec_of, crate::specs::Execution::answer_of, crate::specs::Asks::ask_of, crate::specs::Effects::finish_of))]
+#[tactic(auto, unfolding(crate::specs::Execution::exec_of, crate::specs::Execution::answer_of, crate::specs::Asks::ask_of, crate::specs::Asks::finish_of))]
 #[inline(always)]
 fn load_pointed<B: Bus>(
     cpu: &mut Cpu,
@@ -95,7 +95,7 @@ fn load_pointed<B: Bus>(
 }
 
 /// Pops a byte into a register.
-#[tactic(auto, unfolding(crate::specs::Execution::exec_of, crate::specs::Execution::answer_of, crate::specs::Asks::ask_of, crate::specs::Effects::finish_of))]
+#[tactic(auto, unfolding(crate::specs::Execution::exec_of, crate::specs::Execution::answer_of, crate::specs::Asks::ask_of, crate::specs::Asks::finish_of))]
 #[inline(always)]
 fn pop_register<B: Bus>(cpu: &mut Cpu, bus: &mut B, pc: u16, d: &Reg) -> Result<u16, BusStop>
     requires at { pc ≡ cpu.old.pc }
@@ -112,7 +112,7 @@ fn pop_register<B: Bus>(cpu: &mut Cpu, bus: &mut B, pc: u16, d: &Reg) -> Result<
 }
 
 /// An instruction that brings a byte into a register. Tells the new pc.
-#[tactic(auto, unfolding(crate::specs::Kinds::kind_of, crate::specs::Execution::exec_of, crate::specs::Execution::answer_of, crate::specs::Asks::ask_of, crate::specs::Effects::finish_of))]
+#[tactic(auto, unfolding(crate::specs::Kinds::kind_of, crate::specs::Execution::exec_of, crate::specs::Execution::answer_of, crate::specs::Asks::ask_of, crate::specs::Asks::finish_of))]
 #[inline(always)]
 pub(crate) fn fetch<B: Bus>(
     form: &Form,
@@ -139,7 +139,7 @@ pub(crate) fn fetch<B: Bus>(
 }
 
 /// An instruction that brings a byte of the program into a register. Tells the new pc.
-#[tactic(auto, unfolding(crate::specs::Kinds::kind_of, crate::specs::Execution::exec_of, crate::specs::Execution::answer_of, crate::specs::Asks::ask_of, crate::specs::Effects::finish_of))]
+#[tactic(auto, unfolding(crate::specs::Kinds::kind_of, crate::specs::Execution::exec_of, crate::specs::Execution::answer_of, crate::specs::Asks::ask_of, crate::specs::Asks::finish_of))]
 #[inline(always)]
 pub(crate) fn read<B: Bus>(form: &Form, cpu: &mut Cpu, bus: &mut B, pc: u16) -> u16
     requires kind { kind_of form.now ≡ Read }
@@ -174,7 +174,7 @@ pub(crate) fn read<B: Bus>(form: &Form, cpu: &mut Cpu, bus: &mut B, pc: u16) -> 
 }
 
 /// Takes the byte in a register to a pointer, and moves the pointer.
-#[tactic(auto, unfolding(crate::specs::Execution::exec_of, crate::specs::Execution::answer_of, crate::specs::Asks::ask_of, crate::specs::Effects::finish_of))]
+#[tactic(auto, unfolding(crate::specs::Execution::exec_of, crate::specs::Execution::answer_of, crate::specs::Asks::ask_of, crate::specs::Asks::finish_of))]
 #[inline(always)]
 fn store_pointed<B: Bus>(
     cpu: &mut Cpu,
@@ -198,7 +198,7 @@ fn store_pointed<B: Bus>(
 }
 
 /// Pushes the byte in a register.
-#[tactic(auto, unfolding(crate::specs::Execution::exec_of, crate::specs::Execution::answer_of, crate::specs::Asks::ask_of, crate::specs::Effects::finish_of))]
+#[tactic(auto, unfolding(crate::specs::Execution::exec_of, crate::specs::Execution::answer_of, crate::specs::Asks::ask_of, crate::specs::Asks::finish_of))]
 #[inline(always)]
 fn push_register<B: Bus>(cpu: &mut Cpu, bus: &mut B, pc: u16, r: &Reg) -> Result<u16, BusStop>
     requires at { pc ≡ cpu.old.pc }
@@ -237,7 +237,7 @@ fn change_bits<B: Bus>(
 }
 
 /// An instruction that takes a byte elsewhere. Tells the new pc.
-#[tactic(auto, unfolding(crate::specs::Kinds::kind_of, crate::specs::Execution::exec_of, crate::specs::Execution::answer_of, crate::specs::Asks::ask_of, crate::specs::Effects::finish_of))]
+#[tactic(auto, unfolding(crate::specs::Kinds::kind_of, crate::specs::Execution::exec_of, crate::specs::Execution::answer_of, crate::specs::Asks::ask_of, crate::specs::Asks::finish_of))]
 #[inline(always)]
 pub(crate) fn deposit<B: Bus>(
     form: &Form,
@@ -266,7 +266,7 @@ pub(crate) fn deposit<B: Bus>(
 }
 
 /// A skip by a bit of an I/O register. Tells the new pc.
-#[tactic(auto, unfolding(crate::specs::Kinds::kind_of, crate::specs::Execution::exec_of, crate::specs::Execution::answer_of, crate::specs::Asks::ask_of, crate::specs::Effects::finish_of))]
+#[tactic(auto, unfolding(crate::specs::Kinds::kind_of, crate::specs::Execution::exec_of, crate::specs::Execution::answer_of, crate::specs::Asks::ask_of, crate::specs::Asks::finish_of))]
 #[inline(always)]
 pub(crate) fn probe<B: Bus>(
     form: &Form,
@@ -313,7 +313,7 @@ fn enter<B: Bus>(cpu: &mut Cpu, bus: &mut B, behind: u16, address: u16) -> Resul
 }
 
 /// A call or a return. Tells the new pc.
-#[tactic(auto, unfolding(crate::specs::Kinds::kind_of, crate::specs::Execution::exec_of, crate::specs::Execution::answer_of, crate::specs::Asks::ask_of, crate::specs::Effects::finish_of))]
+#[tactic(auto, unfolding(crate::specs::Kinds::kind_of, crate::specs::Execution::exec_of, crate::specs::Execution::answer_of, crate::specs::Asks::ask_of, crate::specs::Asks::finish_of))]
 #[inline(always)]
 pub(crate) fn reach<B: Bus>(
     form: &Form,

@@ -1,12 +1,12 @@
 -- The carries between the bits of a sum or a difference, and the flags that they tell.
-use Rattle.std.proofs.Common.{◌≡◌, ℕ, ◌+◌, ◌-◌, ◌*◌, ◌/◌, ◌%◌, ◌<◌, ◌≤◌, ◌==◌, ◌&&◌, nat_le, nat_lt, Bool, bit_and, bit_or, bit_xor, pos, ◌+ℤ◌, ◌-ℤ◌, refl, arith}
+use Rattle.std.proofs.Common.{◌≡◌, ℕ, ◌+◌, ◌-◌, ◌*◌, ◌/◌, ◌%◌, ◌<◌, ◌≤◌, ◌==◌, nat_le, nat_lt, true, bit_and, bit_or, bit_xor, pos, ◌+ℤ◌, ◌-ℤ◌, refl, arith}
 use Rattle.std.specs.Int.{bit_at}
 use Rattle.std.proofs.lemmas.Bool.Decides.{nat_tests}
 use Rattle.std.proofs.lemmas.Int.{ints}
 use Rattle.std.proofs.lemmas.Nat.Bits.{bit_at_xor}
 use Rattle.avr_flags.specs.Status.{has_bit, with_bit, carry, zero_flag, differ, with_result_flags, with_arithmetic_flags}
-use Rattle.avr_flags.specs.Sums.{signed_byte, leaves_byte, byte_difference, sum_status, difference_status}
-use Rattle.avr_flags.specs.Logic.{shift_status}
+use Rattle.avr_flags.specs.Sums.{signed_byte, leaves_byte, sum_of, difference_of}
+use Rattle.avr_flags.specs.Logic.{shift_of}
 use Rattle.avr_flags.proofs.TableLaws.{zero_kept}
 
 -- the bits that came into each bit of d + r or d - r from below, where the result is w
@@ -35,12 +35,15 @@ sum_overflow d r c hd hr bit =
     let e : carries_of d r (d + r + c) / 128 % 2 ≡ (d / 128 % 2 + r / 128 % 2 + (d + r + c) / 128 % 2) % 2 = carry_at d r (d + r + c) 7 in
     grind (arith, nat_tests, ints)
 
--- SREG after a sum, by its carries
+-- a sum and SREG after it, by its carries
 pub sum_told : (s d r c : ℕ) → d < 256 → r < 256 → c ≤ 1
-    → with_arithmetic_flags s (has_bit (carries_of d r (d + r + c)) 16) (nat_le 128 ((d + r + c) % 256)) ((d + r + c) % 256 == 0)
-    (differ (has_bit (carries_of d r (d + r + c)) 128) (has_bit (carries_of d r (d + r + c)) 256)) (has_bit (carries_of d r (d + r + c)) 256)
-    ≡ sum_status s d r c
-unfolding sum_status
+    → (
+      (d + r + c) % 256,
+      with_arithmetic_flags s (has_bit (carries_of d r (d + r + c)) 16) (nat_le 128 ((d + r + c) % 256)) ((d + r + c) % 256 == 0)
+          (differ (has_bit (carries_of d r (d + r + c)) 128) (has_bit (carries_of d r (d + r + c)) 256)) (has_bit (carries_of d r (d + r + c)) 256),
+    )
+    ≡ sum_of s d r c
+unfolding sum_of
 sum_told s d r c hd hr bit = rw (sum_half d r c bit, sum_carry d r c hd hr bit, sum_overflow d r c hd hr bit) refl
 
 -- a difference with a bit above it that gives what is borrowed: the carries are then borrows
@@ -63,32 +66,39 @@ difference_overflow d r c hd hr bit =
     let e : carries_of d r (raised d r c) / 128 % 2 ≡ (d / 128 % 2 + r / 128 % 2 + raised d r c / 128 % 2) % 2 = carry_at d r (raised d r c) 7 in
     grind (arith, nat_tests, ints)
 
-pub raised_byte : (d r c : ℕ) → d < 256 → r < 256 → c ≤ 1 → raised d r c % 256 ≡ byte_difference d r c
+raised_byte : (d r c : ℕ) → d < 256 → r < 256 → c ≤ 1 → raised d r c % 256 ≡ (d + 256 - (r + c)) % 256
 raised_byte d r c hd hr bit = omega arith
 
--- SREG after a difference, by its borrows
+-- a difference and SREG after it, by its borrows
 pub difference_told : (s d r c : ℕ) → d < 256 → r < 256 → c ≤ 1
-    → with_arithmetic_flags s (has_bit (carries_of d r (raised d r c)) 16) (nat_le 128 (byte_difference d r c)) (byte_difference d r c == 0)
-    (differ (has_bit (carries_of d r (raised d r c)) 128) (has_bit (carries_of d r (raised d r c)) 256)) (has_bit (carries_of d r (raised d r c)) 256)
-    ≡ difference_status s d r c (byte_difference d r c == 0)
-unfolding difference_status
-difference_told s d r c hd hr bit = rw (difference_half d r c hr bit, difference_carry d r c hd hr bit, difference_overflow d r c hd hr bit) refl
+    → (
+      raised d r c % 256,
+      with_arithmetic_flags s (has_bit (carries_of d r (raised d r c)) 16) (nat_le 128 (raised d r c % 256)) (raised d r c % 256 == 0)
+          (differ (has_bit (carries_of d r (raised d r c)) 128) (has_bit (carries_of d r (raised d r c)) 256)) (has_bit (carries_of d r (raised d r c)) 256),
+    )
+    ≡ difference_of s d r c true
+unfolding difference_of
+difference_told s d r c hd hr bit =
+    rw (difference_half d r c hr bit, difference_carry d r c hd hr bit, difference_overflow d r c hd hr bit, raised_byte d r c hd hr bit) refl
 
 -- the mask of SBC: Z stays set only where it was set
-pub zero_kept_by_difference : (s d r c : ℕ) (z : Bool) → s < 256
-    → bit_and (difference_status s d r c z) (bit_or s 253) ≡ difference_status s d r c (has_bit s zero_flag && z)
-unfolding difference_status
-zero_kept_by_difference s d r c z lt = zero_kept s _ _ z _ _ lt
+pub zero_kept_by_difference : (s d r c : ℕ) → s < 256
+    → ((difference_of s d r c true).0, bit_and (difference_of s d r c true).1 (bit_or s 253)) ≡ difference_of s d r c (has_bit s zero_flag)
+unfolding difference_of
+zero_kept_by_difference s d r c lt =
+    rw (zero_kept s _ _ _ _ _ lt) refl
 
 -- a shift's C as the carry into bit 8, and N as the one into bit 7
 abbrev pub shifted_out : ℕ → ℕ → ℕ
 shifted_out d value = d % 2 * 256 + value
 
-pub shift_told : (s d value : ℕ) → value < 256
-    → with_bit (with_result_flags s (nat_le 128 value) (value == 0) (differ (has_bit (shifted_out d value) 128) (has_bit (shifted_out d value) 256))) carry (has_bit (shifted_out d value) 256)
-    ≡ shift_status s d value
-unfolding shift_status
-shift_told s d value lt =
+pub shift_told : (s d top : ℕ) → d < 256 → top ≤ 1
+    → (let value = d / 2 + 128 * top in
+    (value, with_result_flags (with_bit s carry (has_bit (shifted_out d value) 256)) (nat_le 128 value) (value == 0) (differ (has_bit (shifted_out d value) 128) (has_bit (shifted_out d value) 256)))
+    ≡ shift_of s d top)
+unfolding shift_of
+shift_told s d top lt bit =
+    let value : ℕ = d / 2 + 128 * top in
     let n : has_bit (shifted_out d value) 128 ≡ nat_le 128 value = grind (arith, nat_tests) in
     let c : has_bit (shifted_out d value) 256 ≡ has_bit d 1 = grind (arith, nat_tests) in
     rw (n, c) refl

@@ -1,10 +1,10 @@
 -- What the tables of flags hold, and that SREG is put together of what they give.
-use Rattle.std.proofs.Common.{◌≡◌, ℕ, ◌<◌, ◌+◌, ◌%◌, ◌==◌, nat_le, Bool, true, false, ◌&&◌, slice_index_or, bit_and, bit_or, bit_xor, refl, ◌∙◌, arith}
+use Rattle.std.proofs.Common.{◌≡◌, ℕ, ◌<◌, ◌+◌, ◌%◌, ◌==◌, Bool, true, false, ◌&&◌, slice_index_or, bit_and, bit_or, bit_xor, refl, ◌∙◌, arith}
 use Rattle.std.proofs.lemmas.Bool.{agree_below, agree_below_at, and_parts, eqb-true}
 use Rattle.std.proofs.lemmas.Bool.Decides.{nat_tests}
 use Rattle.std.proofs.lemmas.Nat.{and_mask}
 use Rattle.avr_flags.specs.Status.{has_bit, differ, with_bit, with_result_flags, with_arithmetic_flags, carry, zero_flag}
-use Rattle.avr_flags.specs.Sums.{inc_status, dec_status}
+use Rattle.avr_flags.specs.Logic.{result_of}
 use Rattle.avr_flags.specs.declared.tables.TheConstants.{FLAGS, COUNTED}
 
 -- whether two functions give the same at each index below n
@@ -14,17 +14,14 @@ same_below f g n = agree_below (λ k. f k == g k) (λ _. true) n
 same_at : (f g : ℕ → ℕ) (n k : ℕ) → same_below f g n ≡ true → k < n → f k ≡ g k
 same_at f g n k h lt = eqb-true _ _ (agree_below_at (λ k. f k == g k) (λ _. true) n k h lt)
 
--- the flags that a result tells, in a byte that is else clear
-abbrev pub result_flags : ℕ → ℕ
-result_flags value = with_result_flags 0 (nat_le 128 value) (value == 0) false
-
 -- the flags that the carries into each bit tell, in a byte that is else clear
 abbrev pub carries_flags : ℕ → ℕ
 carries_flags k = with_arithmetic_flags 0 (has_bit k 16) false false (differ (has_bit k 128) (has_bit k 256)) (has_bit k 256)
 
-pub of_result : (value : ℕ) → value < 256 → slice_index_or FLAGS value 0 ≡ result_flags value
+-- the flags that a result tells
+pub of_result : (value : ℕ) → value < 256 → slice_index_or FLAGS value 0 ≡ (result_of 0 value false).1
 unfolding with_result_flags
-of_result value lt = same_at (λ k. slice_index_or FLAGS k 0) result_flags 256 value refl lt
+of_result value lt = same_at (λ k. slice_index_or FLAGS k 0) (λ k. (result_of 0 k false).1) 256 value refl lt
 
 of_nine_bits : (k : ℕ) → k < 512 → slice_index_or FLAGS (256 + k) 0 ≡ carries_flags k
 unfolding with_result_flags
@@ -48,13 +45,13 @@ of_top_carries k lt =
     same_at (λ k. carries_flags (bit_and k 384)) (λ k. with_arithmetic_flags 0 false false false (differ (has_bit k 128) (has_bit k 256)) (has_bit k 256)) 512 k refl lt
 
 -- the flags after INC and DEC of each byte
-pub of_inc : (d : ℕ) → d < 256 → slice_index_or COUNTED d 0 ≡ inc_status 0 d
-unfolding inc_status with_result_flags
-of_inc d lt = same_at (λ k. slice_index_or COUNTED k 0) (inc_status 0) 256 d refl lt
+pub of_inc : (d : ℕ) → d < 256 → slice_index_or COUNTED d 0 ≡ (result_of 0 ((d + 1) % 256) (d == 0x7F)).1
+unfolding with_result_flags
+of_inc d lt = same_at (λ k. slice_index_or COUNTED k 0) (λ k. (result_of 0 ((k + 1) % 256) (k == 0x7F)).1) 256 d refl lt
 
-pub of_dec : (d : ℕ) → d < 256 → slice_index_or COUNTED (256 + d) 0 ≡ dec_status 0 d
-unfolding dec_status with_result_flags
-of_dec d lt = same_at (λ k. slice_index_or COUNTED (256 + k) 0) (dec_status 0) 256 d refl lt
+pub of_dec : (d : ℕ) → d < 256 → slice_index_or COUNTED (256 + d) 0 ≡ (result_of 0 ((d + 255) % 256) (d == 0x80)).1
+unfolding with_result_flags
+of_dec d lt = same_at (λ k. slice_index_or COUNTED (256 + k) 0) (λ k. (result_of 0 ((k + 255) % 256) (k == 0x80)).1) 256 d refl lt
 
 -- a test of a flag that holds whether it is set or clear
 abbrev both : (Bool → Bool) → Bool
@@ -118,16 +115,16 @@ abbrev of_top : Bool → Bool → Bool → Bool → ℕ → ℕ
 of_top n z v c s = bit_or (bit_and s 224) (bit_xor (with_arithmetic_flags 0 false false false v c) (with_result_flags 0 n z false))
 
 abbrev is_carried : Bool → Bool → Bool → Bool → Bool
-is_carried n z v c = same_below (of_top n z v c) (λ s. with_bit (with_result_flags s n z v) carry c) 256
+is_carried n z v c = same_below (of_top n z v c) (λ s. with_result_flags (with_bit s carry c) n z v) 256
 
 carried : both (λ n. both (λ z. both (λ v. both (λ c. is_carried n z v c)))) ≡ true
 unfolding with_result_flags
 carried = refl
 
-pub with_top_carries_made : (s : ℕ) (n z v c : Bool) → s < 256 → of_top n z v c s ≡ with_bit (with_result_flags s n z v) carry c
+pub with_top_carries_made : (s : ℕ) (n z v c : Bool) → s < 256 → of_top n z v c s ≡ with_result_flags (with_bit s carry c) n z v
 with_top_carries_made s n z v c lt =
     let at_n = both_at (λ n. both (λ z. both (λ v. both (λ c. is_carried n z v c)))) n carried in
     let at_z = both_at (λ z. both (λ v. both (λ c. is_carried n z v c))) z at_n in
     let at_v = both_at (λ v. both (λ c. is_carried n z v c)) v at_z in
     let at_c = both_at (λ c. is_carried n z v c) c at_v in
-    same_at (of_top n z v c) (λ s. with_bit (with_result_flags s n z v) carry c) 256 s at_c lt
+    same_at (of_top n z v c) (λ s. with_result_flags (with_bit s carry c) n z v) 256 s at_c lt

@@ -13,34 +13,14 @@ signed_product d r = cast_unsigned w16 (signed_byte d *ℤ signed_byte r)
 abbrev pub mixed_product : ℕ → ℕ → ℕ
 mixed_product d r = cast_unsigned w16 (signed_byte d *ℤ pos r)
 
--- SREG after a product: C is bit 15 of the product, Z is set where the value given is 0
-unfoldable pub product_status : ℕ → ℕ → ℕ → ℕ
-product_status status product value = with_bit (with_bit status zero_flag (value == 0)) carry (nat_le 32768 product)
+-- a product given as this value, and SREG after it: C is bit 15 of the product, Z is set where the value is 0
+unfoldable pub product_result_of : ℕ → ℕ → ℕ → ℕ × ℕ
+product_result_of status product value = (value, with_bit (with_bit status zero_flag (value == 0)) carry (nat_le 32768 product))
 
--- a product, and SREG after it
+-- MUL, MULS, MULSU: a product as it is
 abbrev pub whole_of : ℕ → ℕ → ℕ × ℕ
-whole_of status product = (product, product_status status product product)
+whole_of status product = product_result_of status product product
 
--- a product shifted left by one, and SREG after it
+-- FMUL, FMULS, FMULSU: a product shifted left by one
 abbrev pub fractional_of : ℕ → ℕ → ℕ × ℕ
-fractional_of status product =
-    let value = product * 2 % 65536 in
-    (value, product_status status product value)
-
-abbrev pub mul_of : ℕ → ℕ → ℕ → ℕ × ℕ
-mul_of status d r = whole_of status (d * r)
-
-abbrev pub muls_of : ℕ → ℕ → ℕ → ℕ × ℕ
-muls_of status d r = whole_of status (signed_product d r)
-
-abbrev pub mulsu_of : ℕ → ℕ → ℕ → ℕ × ℕ
-mulsu_of status d r = whole_of status (mixed_product d r)
-
-abbrev pub fmul_of : ℕ → ℕ → ℕ → ℕ × ℕ
-fmul_of status d r = fractional_of status (d * r)
-
-abbrev pub fmuls_of : ℕ → ℕ → ℕ → ℕ × ℕ
-fmuls_of status d r = fractional_of status (signed_product d r)
-
-abbrev pub fmulsu_of : ℕ → ℕ → ℕ → ℕ × ℕ
-fmulsu_of status d r = fractional_of status (mixed_product d r)
+fractional_of status product = product_result_of status product (product * 2 % 65536)

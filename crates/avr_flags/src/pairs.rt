@@ -2,7 +2,7 @@
 
 ghost use Rattle.std.specs.Prelude.{◌≡◌, ◌%◌, ◌≤◌, ◌==◌, nat_le, bit_xor};
 ghost use Rattle.avr_flags.specs.Status.{has_bit, differ};
-ghost use Rattle.avr_flags.specs.Pairs.{pair_status, adiw_of, sbiw_of};
+ghost use Rattle.avr_flags.specs.Pairs.{pair_result_of, adiw_of, sbiw_of};
 
 use crate::status::Status;
 
@@ -19,13 +19,10 @@ fn summary(pair: u16) -> u8
 /// the constant has no bit above bit 5, so that bits 15 and 16 of `d` xor `wide` are the carries into these.
 fn outcome(sreg: u8, d: u16, wide: u32) -> (u16, u8)
     ensures { result
-        ≡ (
-          wide % 65536,
-          pair_status sreg
-              (wide % 65536)
-              (differ (has_bit (bit_xor d wide) 32768) (has_bit (bit_xor d wide) 65536))
-              (has_bit (bit_xor d wide) 65536),
-        ) }
+        ≡ pair_result_of sreg
+        (wide % 65536)
+        (differ (has_bit (bit_xor d wide) 32768) (has_bit (bit_xor d wide) 65536))
+        (has_bit (bit_xor d wide) 65536) }
 {
     // Those into bits 15 and 16 stand in the place of those into bits 7 and 8.
     let carries = ((u32::from(d) ^ wide) >> 8 & 0x1FF) as u16;

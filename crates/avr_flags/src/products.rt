@@ -4,7 +4,7 @@ ghost use Rattle.std.specs.Prelude.{◌≡◌, ◌*◌, ◌≤◌, nat_le, ◌*�
 ghost use Rattle.std.specs.Int.{w16, cast_unsigned};
 ghost use Rattle.std.specs.Int.RustNames.{unsigned_abs};
 ghost use Rattle.avr_flags.specs.Sums.{signed_byte};
-ghost use Rattle.avr_flags.specs.Products.{signed_product as product_of_signed, mixed_product as product_of_mixed, product_status as status_of_product, whole_of, fractional_of, mul_of, muls_of, mulsu_of, fmul_of, fmuls_of, fmulsu_of};
+ghost use Rattle.avr_flags.specs.Products.{signed_product as product_of_signed, mixed_product as product_of_mixed, product_result_of, whole_of, fractional_of};
 
 use crate::status::Status;
 
@@ -54,70 +54,69 @@ fn bit_15(product: u16) -> bool
     product >> 15 == 1
 }
 
-/// SREG after a product, with Z of `value`.
-#[tactic(auto, unfolding(crate::specs::Products::product_status))]
-fn product_status(sreg: u8, product: u16, value: u16) -> u8
-    ensures { result ≡ status_of_product sreg product value }
+/// A product given as `value`, and SREG after it.
+#[tactic(auto, unfolding(crate::specs::Products::product_result_of))]
+fn product_result(sreg: u8, product: u16, value: u16) -> (u16, u8)
+    ensures { result ≡ product_result_of sreg product value }
 {
-    Status::new(sreg)
+    let status = Status::new(sreg)
         .with(Status::ZERO, value == 0)
-        .with(Status::CARRY, bit_15(product))
-        .sreg()
+        .with(Status::CARRY, bit_15(product));
+    (value, status.sreg())
 }
 
 /// A product, and SREG after it.
 fn whole(sreg: u8, product: u16) -> (u16, u8)
     ensures { result ≡ whole_of sreg product }
 {
-    (product, product_status(sreg, product, product))
+    product_result(sreg, product, product)
 }
 
 /// A product shifted left by one, and SREG after it.
 fn fractional(sreg: u8, product: u16) -> (u16, u8)
     ensures { result ≡ fractional_of sreg product }
 {
-    let value = product.wrapping_mul(2);
-    (value, product_status(sreg, product, value))
+    product_result(sreg, product, product.wrapping_mul(2))
 }
 
 /// MUL: the product of two unsigned bytes.
 pub fn mul(sreg: u8, d: u8, r: u8) -> (u16, u8)
-    ensures outcome { result ≡ mul_of sreg d r }
+    ensures outcome { result ≡ whole_of sreg (d * r) }
 {
     whole(sreg, unsigned_product(d, r))
 }
 
 /// MULS: the product of two signed bytes.
 pub fn muls(sreg: u8, d: u8, r: u8) -> (u16, u8)
-    ensures outcome { result ≡ muls_of sreg d r }
+    ensures outcome { result ≡ whole_of sreg (product_of_signed d r) }
 {
     whole(sreg, signed_product(d, r))
 }
 
 /// MULSU: the product of a signed byte `d` and an unsigned byte `r`.
 pub fn mulsu(sreg: u8, d: u8, r: u8) -> (u16, u8)
-    ensures outcome { result ≡ mulsu_of sreg d r }
+    ensures outcome { result ≡ whole_of sreg (product_of_mixed d r) }
 {
     whole(sreg, mixed_product(d, r))
 }
 
 /// FMUL: as `mul`, with the product shifted left by one. C is the bit that leaves.
 pub fn fmul(sreg: u8, d: u8, r: u8) -> (u16, u8)
-    ensures outcome { result ≡ fmul_of sreg d r }
+    ensures outcome { result ≡ fractional_of sreg (d * r) }
 {
     fractional(sreg, unsigned_product(d, r))
 }
 
 /// FMULS: as `muls`, with the product shifted left by one. C is the bit that leaves.
 pub fn fmuls(sreg: u8, d: u8, r: u8) -> (u16, u8)
-    ensures outcome { result ≡ fmuls_of sreg d r }
+    ensures outcome { result ≡ fractional_of sreg (product_of_signed d r) }
 {
     fractional(sreg, signed_product(d, r))
 }
 
 /// FMULSU: as `mulsu`, with the product shifted left by one. C is the bit that leaves.
 pub fn fmulsu(sreg: u8, d: u8, r: u8) -> (u16, u8)
-    ensures outcome { result ≡ fmulsu_of sreg d r }
+    ensures outcome { result ≡ fractional_of sreg (product_of_mixed d r) }
 {
     fractional(sreg, mixed_product(d, r))
 }

@@ -118,13 +118,10 @@ impl Status {
     pub(crate) fn with_top_carries(self, carries: u16, value: u8) -> Status
         requires { carries < 512 }
         ensures { result.0
-            ≡ with_bit
-            (with_result_flags self.0
+            ≡ with_result_flags (with_bit self.0 carry (has_bit carries 256))
             (nat_le 128 value)
             (value == 0)
-            (differ (has_bit carries 128) (has_bit carries 256)))
-            carry
-            (has_bit carries 256) }
+            (differ (has_bit carries 128) (has_bit carries 256)) }
     {
         Status(
             self.0 & Status::KEPT_BY_TOP_CARRIES

@@ -1,7 +1,8 @@
 //! Sums and differences of bytes.
 
-ghost use Rattle.std.specs.Prelude.{◌≡◌, ◌+◌, ◌%◌, ◌≤◌, ◌==◌};
-ghost use Rattle.avr_flags.specs.Sums.{byte_difference, sum_status, difference_status, add_of, adc_of, sub_of, sbc_of, neg_of, inc_of, dec_of};
+ghost use Rattle.std.specs.Prelude.{◌≡◌, true, ◌+◌, ◌%◌, ◌≤◌, ◌==◌};
+ghost use Rattle.avr_flags.specs.Sums.{carry_in, sum_of, difference_of, sub_of, sbc_of};
+ghost use Rattle.avr_flags.specs.Logic.{result_of};
 
 use crate::status::Status;
 use crate::tables::{flags_of_dec, flags_of_inc};
@@ -9,7 +10,7 @@ use crate::tables::{flags_of_dec, flags_of_inc};
 /// The sum of two bytes and a carry, and SREG after it.
 fn sum(sreg: u8, d: u8, r: u8, carry: u8) -> (u8, u8)
     requires carry_is_bit { carry ≤ 1 }
-    ensures { result ≡ ((d + r + carry) % 256, sum_status sreg d r carry) }
+    ensures { result ≡ sum_of sreg d r carry }
 {
     let sum = u16::from(d) + u16::from(r) + u16::from(carry);
     let carries = u16::from(d) ^ u16::from(r) ^ sum;
@@ -20,11 +21,7 @@ fn sum(sreg: u8, d: u8, r: u8, carry: u8) -> (u8, u8)
 /// The difference of two bytes, less a carry, and SREG after it.
 fn difference(sreg: u8, d: u8, r: u8, carry: u8) -> (u8, u8)
     requires carry_is_bit { carry ≤ 1 }
-    ensures { result
-        ≡ (
-          byte_difference d r carry,
-          difference_status sreg d r carry (byte_difference d r carry == 0),
-        ) }
+    ensures { result ≡ difference_of sreg d r carry true }
 {
     // A bit that stands above gives what is borrowed.
     let difference = 0x200 + u16::from(d) - u16::from(r) - u16::from(carry);
@@ -35,14 +32,14 @@ fn difference(sreg: u8, d: u8, r: u8, carry: u8) -> (u8, u8)
 
 /// ADD: the sum of two bytes.
 pub fn add(sreg: u8, d: u8, r: u8) -> (u8, u8)
-    ensures outcome { result ≡ add_of sreg d r }
+    ensures outcome { result ≡ sum_of sreg d r 0 }
 {
     sum(sreg, d, r, 0)
 }
 
 /// ADC: the sum of two bytes and the carry.
 pub fn adc(sreg: u8, d: u8, r: u8) -> (u8, u8)
-    ensures outcome { result ≡ adc_of sreg d r }
+    ensures outcome { result ≡ sum_of sreg d r (carry_in sreg) }
 {
     sum(sreg, d, r, Status::new(sreg).carry())
 }
@@ -65,24 +62,22 @@ pub fn sbc(sreg: u8, d: u8, r: u8) -> (u8, u8)
 
 /// NEG: 0 less a byte.
 pub fn neg(sreg: u8, d: u8) -> (u8, u8)
-    ensures outcome { result ≡ neg_of sreg d }
+    ensures outcome { result ≡ sub_of sreg 0 d }
 {
     sub(sreg, 0, d)
 }
 
 /// INC: a byte and one. C and H stay.
-#[tactic(auto, unfolding(crate::specs::Sums::inc_status))]
 pub fn inc(sreg: u8, d: u8) -> (u8, u8)
-    ensures outcome { result ≡ inc_of sreg d }
+    ensures outcome { result ≡ result_of sreg ((d + 1) % 256) (d == 0x7F) }
 {
     let status = Status::new(sreg).with_result(flags_of_inc(d));
     (d.wrapping_add(1), status.sreg())
 }
 
 /// DEC: a byte less one. C and H stay.
-#[tactic(auto, unfolding(crate::specs::Sums::dec_status))]
 pub fn dec(sreg: u8, d: u8) -> (u8, u8)
-    ensures outcome { result ≡ dec_of sreg d }
+    ensures outcome { result ≡ result_of sreg ((d + 255) % 256) (d == 0x80) }
 {
     let status = Status::new(sreg).with_result(flags_of_dec(d));
     (d.wrapping_sub(1), status.sreg())

@@ -5,9 +5,9 @@
 //! between the bits alone, and S is N xor V: so N and V stand in the place of S too, and the two bytes
 //! joined by an exclusive or have S.
 
-ghost use Rattle.std.specs.Prelude.{◌≡◌, false, ◌==◌, nat_le};
-ghost use Rattle.avr_flags.specs.Status.{has_bit, differ, with_result_flags, with_arithmetic_flags};
-ghost use Rattle.avr_flags.specs.Sums.{inc_status, dec_status};
+ghost use Rattle.std.specs.Prelude.{◌≡◌, false, ◌+◌, ◌%◌, ◌==◌};
+ghost use Rattle.avr_flags.specs.Status.{has_bit, differ, with_arithmetic_flags};
+ghost use Rattle.avr_flags.specs.Logic.{result_of};
 
 /// First by the result, where 0x02 is Z and 0x14 is N and S; behind these 256 by the carries into bits 0 to 8, where 0x01 is C,
 /// 0x18 is V and S, and 0x20 is H. It is one table, so that its address is loaded once for both.
@@ -100,7 +100,7 @@ static COUNTED: [u8; 512] = [
 
 /// N, Z and S of a result, where V is clear.
 pub(crate) fn flags_of_result(value: u8) -> u8
-    ensures { result ≡ with_result_flags 0 (nat_le 128 value) (value == 0) false }
+    ensures { result ≡ (result_of 0 value false).1 }
 {
     FLAGS[usize::from(value)]
 }
@@ -122,14 +122,14 @@ pub(crate) fn flags_of_carries(carries: u16) -> u8
 
 /// N, Z, V and S after INC of this byte.
 pub(crate) fn flags_of_inc(d: u8) -> u8
-    ensures { result ≡ inc_status 0 d }
+    ensures { result ≡ (result_of 0 ((d + 1) % 256) (d == 0x7F)).1 }
 {
     COUNTED[usize::from(d)]
 }
 
 /// N, Z, V and S after DEC of this byte.
 pub(crate) fn flags_of_dec(d: u8) -> u8
-    ensures { result ≡ dec_status 0 d }
+    ensures { result ≡ (result_of 0 ((d + 255) % 256) (d == 0x80)).1 }
 {
     COUNTED[256 + usize::from(d)]
 }

@@ -7,7 +7,8 @@ use Rattle.avr_isa.specs.declared.operation.WordOp.TheVariants.{Adiw}
 use Rattle.avr_isa.specs.declared.operation.OneOp.TheVariants.{Dec}
 use Rattle.avr_isa.specs.declared.operation.Base.TheVariants.{Y}
 use Rattle.avr_isa.specs.declared.operation.Ptr.TheVariants.{X, XInc}
-use Rattle.avr_isa.specs.Instruction.{fields_in_range, is_undefined, is_valid}
+use Rattle.avr_isa.specs.Instruction.{fields_in_range, is_valid}
+use Rattle.avr_isa.specs.UndefinedPairs.{is_undefined}
 use Rattle.avr_isa.specs.Encoding.{first_word, second_word}
 use Rattle.avr_isa.specs.IoTable.{can_read, can_write, io_address}
 use Rattle.avr_isa.specs.Image.{word, byte}

@@ -1,3 +1,5 @@
+pub mod InstructionTable
+pub mod UndefinedPairs
 pub mod Instruction
 pub mod Encoding
 pub mod IoTable

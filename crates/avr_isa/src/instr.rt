@@ -1,7 +1,8 @@
 //! A valid instruction, and the number of its words.
 ghost use Rattle.std.specs.Prelude.{◌≡◌, ◌≤◌, true, false, IsTrue, SomeIff, ◌&&◌};
 ghost use Rattle.avr_isa.specs.OperandKinds.{makes_access, makes_result};
-ghost use Rattle.avr_isa.specs.Instruction.{changes, fields_in_range, is_in_pair, is_undefined, is_valid, low_register, size_of};
+ghost use Rattle.avr_isa.specs.Instruction.{fields_in_range, is_valid, size_of};
+ghost use Rattle.avr_isa.specs.UndefinedPairs.{changes, is_in_pair, is_undefined, low_register};
 
 use crate::form::Form;
 use crate::operation::Ptr;
@@ -67,7 +68,7 @@ pub fn size(i: &Instr) -> u16
 }
 
 /// Whether a load or store changes the pointer that its data register is part of.
-#[tactic(auto, unfolding(crate::specs::Instruction::is_undefined))]
+#[tactic(auto, unfolding(crate::specs::UndefinedPairs::is_undefined))]
 #[inline(always)]
 fn is_undefined_pair(form: &Form) -> bool
     ensures value { result ≡ is_undefined form.now }

@@ -13,10 +13,10 @@
 //! assert_eq!(rt; size(&load), 1);
 //! ```
 //!
-//! The definitions that other crates cite stand in `specs/`: `Instruction` (ranges, undefined pairs,
-//! number of words), `Encoding` (the words of each instruction), `IoTable`, `Image` (a program's words
-//! and bytes), `Addresses` (sums of addresses) and `Crossing` (transfers between pages of flash). In a clause an operand is its number,
-//! and an `Instr` is its `Form`.
+//! The definitions that other crates cite stand in `specs/`: `InstructionTable` (a row a form: the ranges of
+//! its operands, and its words), `UndefinedPairs`, `Instruction` (which forms are valid, and the number of words), `Encoding` (what words
+//! mean), `IoTable`, `Image` (a program's words and bytes), `Addresses` (sums of addresses) and `Crossing` (transfers between pages of
+//! flash). In a clause an operand is its number, and an `Instr` is its `Form`.
 #![tactic(auto)]
 
 mod address;

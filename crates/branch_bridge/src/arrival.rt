@@ -17,7 +17,7 @@ use crate::rewriting::{Torn, lacking};
 use crate::unresolving::unresolve;
 use addr_tables::{find_with_hints, forget_page, note};
 use flash_model::{Flash, Layout, PAGE_WORDS};
-use nat_page::{Hints, KeptDraft, KeptDrafts};
+use kept_drafts::{Hints, KeptDraft, KeptDrafts};
 use page_index::unmark_offsets;
 use sram_layout::Sram;
 

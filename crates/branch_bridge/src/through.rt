@@ -16,7 +16,7 @@ use crate::resolving::resolve;
 use crate::rewriting::ResolveStop;
 use addr_tables::note;
 use flash_model::{Flash, Layout, PAGE_WORDS};
-use nat_page::Hints;
+use kept_drafts::Hints;
 use sram_layout::Sram;
 
 /// How an arrival went.

@@ -1,11 +1,11 @@
 //! The answers of a stream that isn't well.
 
 /// A stream failed; its count of faults rose.
-#[derive(Clone, Copy, Debug, PartialEq, Eq)]
+#[derive(Clone, Copy, PartialEq, Eq)]
 pub struct Failed;
 
 /// Why a source was not read to its end.
-#[derive(Clone, Copy, Debug, PartialEq, Eq)]
+#[derive(Clone, Copy)]
 pub enum ReadAll {
     /// The source failed.
     Fault,

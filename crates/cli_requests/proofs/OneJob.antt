@@ -7,6 +7,7 @@ use Rattle.input_script.specs.Script.{Schedule, IsBad, IsScript}
 use Rattle.input_script.specs.declared.fault.ScriptFault.{ScriptFault}
 use Rattle.input_script.proofs.Judgement.{one_judgement}
 use Rattle.line_reader.specs.Lines.{lines_of}
+use Rattle.line_reader.proofs.FaultLaws as faults
 use Rattle.task_input.specs.Scripts.{IsFirst, Schedules}
 use Rattle.task_input.proofs.FirstFaults.{first_one, schedules_apart, schedules_one}
 use Rattle.cli_words.specs.declared.command.Command.{Command}
@@ -22,9 +23,9 @@ use Rattle.cli_requests.specs.RunCommand.{RequestThen, RunAsks}
 use Rattle.avr_asm.specs.AsmText.{AsmText, fault_of}
 use Rattle.avr_asm.specs.declared.fault.AsmFault.{AsmFault}
 use Rattle.avr_asm.proofs.OneImage.{same_words}
-use Rattle.std.specs.Prelude.{Option, Some, None}
+use Rattle.std.specs.Prelude.{Some, None}
 use Rattle.flash_words.proofs.LayoutLaws.{layout_right}
-use Rattle.flash_dump.specs.Dumps.{IsDump, IsNoDump}
+use Rattle.flash_dump.specs.Dumps.{IsDump, dump_fault}
 use Rattle.flash_dump.specs.declared.dump_line.DumpFault.{DumpFault}
 use Rattle.flash_dump.proofs.Judgement as dumps
 use Rattle.pool_check.proofs.Judgement.{one_verdict}
@@ -102,7 +103,7 @@ one_placed count image asked a b (Placed none is) (Placed none' is') = is ∙ sy
 
 -- A dump. ------------------------------------------------------------------------------------------------
 
-one_flash : (text : List ℕ) → IsOnePart (List ℕ) (IsDump text) (λ line word. (fault : DumpFault) × IsNoDump text line fault × (word ≡ dump_word fault))
+one_flash : (text : List ℕ) → IsOnePart (List ℕ) (IsDump text) (λ line word. (fault : DumpFault) × (dump_fault text ≡ Some (line, fault)) × (word ≡ dump_word fault))
 one_flash text = record {
   one = λ a b first second. dumps.one_dump text a b first second;
   one_fault = λ line other word word' first second.
@@ -113,24 +114,13 @@ one_flash text = record {
 
 -- A source. -----------------------------------------------------------------------------------------------
 
-abbrev found : ℕ → AsmFault → Option (ℕ × AsmFault)
-found line fault = Some (line, fault)
-
-same_found : (line other : ℕ) (fault fault' : AsmFault) → found line fault ≡ found other fault' → (line ≡ other) × (fault ≡ fault')
-same_found line other fault fault' same =
-    let pair : (line, fault) ≡ (other, fault') = cc in
-    (ap (λ (p : ℕ × AsmFault). p.0) pair, ap (λ (p : ℕ × AsmFault). p.1) pair)
-
-not_both : (found : Option (ℕ × AsmFault)) (line : ℕ) (fault : AsmFault) → found ≡ None → found ≡ Some (line, fault) → ⊥
-not_both found line fault none some = absurd (cc)
-
 one_assembled : (text : List ℕ) → IsOnePart (List ℕ) (λ words. (fault_of text ≡ None) × AsmText text words) (λ line word. (fault : AsmFault) × (fault_of text ≡ Some (line, fault)) × (word ≡ asm_word fault))
 one_assembled text = record {
   one = λ a b first second. same_words text a b first.1 second.1;
   one_fault = λ line other word word' first second.
-      let same = same_found line other first.0 second.0 (sym first.1 ∙ second.1) in
+      let same = faults.same_fault (fault_of text) line other first.0 second.0 first.1 second.1 in
       (same.0, first.2 ∙ ap asm_word same.1 ∙ sym second.2);
-  apart = λ a line word good bad. not_both (fault_of text) line bad.0 good.0 bad.1;
+  apart = λ a line word good bad. faults.not_both (fault_of text) line bad.0 good.0 bad.1;
 }
 
 -- the commands that read

@@ -1,7 +1,7 @@
 -- The command `check`: what its text asks for.
-use Rattle.std.specs.Prelude.{◌≡◌, ℕ, List, length}
+use Rattle.std.specs.Prelude.{◌≡◌, ℕ, List, length, Some}
 use Rattle.flash_words.specs.Layouts.{layout_of}
-use Rattle.flash_dump.specs.Dumps.{IsDump, IsNoDump}
+use Rattle.flash_dump.specs.Dumps.{IsDump, dump_fault}
 use Rattle.pool_check.specs.Verdicts.{IsVerdict}
 use Rattle.pool_check.specs.declared.checking.Verdict.{Verdict}
 use Rattle.pool_check.specs.declared.checking.Verdict.TheVariants.{Faithful, Form, Links}
@@ -28,7 +28,7 @@ verdict_line verdict = Print (verdict_status verdict) (record { items = verdict_
 abbrev pub DumpThen : List ℕ → (List ℕ → Job → Type 0) → Job → Type 0
 DumpThen text Then =
     IsJudged (List ℕ) dump_part (IsDump text)
-    (λ line word. (fault : DumpFault) × IsNoDump text line fault × (word ≡ dump_word fault))
+    (λ line word. (fault : DumpFault) × (dump_fault text ≡ Some (line, fault)) × (word ≡ dump_word fault))
     Then
 
 -- a HEX text and a dump behind it ask whether the dump's flash holds the image and faithful rewritten code of it

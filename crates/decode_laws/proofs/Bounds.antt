@@ -4,7 +4,8 @@ use Rattle.std.proofs.lemmas.Bool.{and_parts}
 use Rattle.std.proofs.lemmas.Bool.Decides.{nat_tests}
 use Rattle.std.specs.Prelude.{nat_lt}
 use Rattle.avr_isa.specs.declared.form.Form.{Form}
-use Rattle.avr_isa.specs.Instruction.{fields_in_range, is_valid, is_bit, is_branch_distance, is_even_register, is_high_register, is_jump_distance, is_mid_register, is_pair_register, is_six_bits}
+use Rattle.avr_isa.specs.InstructionTable.{two_pairs, two_high_registers, pair_and_six_bits, flag_and_branch, jump}
+use Rattle.avr_isa.specs.Instruction.{fields_in_range, is_valid}
 
 pub fields_fit : (f : Form) → IsTrue (is_valid f) → IsTrue (fields_in_range f)
 unfolding is_valid
@@ -18,32 +19,27 @@ both_below n m a b h =
     let parts = and_parts _ _ h in
     (is_below n a parts.0, is_below m b parts.1)
 
-pub even_below : (d r : ℕ) → IsTrue (is_even_register d && is_even_register r) → (d < 32) × (r < 32)
+pub even_below : (d r : ℕ) → IsTrue (two_pairs 0 d r).in_range → (d < 32) × (r < 32)
 even_below d r h =
     let parts = and_parts _ _ h in
     (is_below 32 d (and_parts _ _ parts.0).0, is_below 32 r (and_parts _ _ parts.1).0)
 
-pub high_below : (d r : ℕ) → IsTrue (is_high_register d && is_high_register r) → (d < 32) × (r < 32)
-high_below d r h =
+pub high_below : (high opcode d r : ℕ) → IsTrue (two_high_registers high opcode d r).in_range → (d < high) × (r < high)
+high_below high opcode d r h =
     let parts = and_parts _ _ h in
-    (is_below 32 d (and_parts _ _ parts.0).1, is_below 32 r (and_parts _ _ parts.1).1)
+    (is_below high d (and_parts _ _ parts.0).1, is_below high r (and_parts _ _ parts.1).1)
 
-pub mid_below : (d r : ℕ) → IsTrue (is_mid_register d && is_mid_register r) → (d < 24) × (r < 24)
-mid_below d r h =
-    let parts = and_parts _ _ h in
-    (is_below 24 d (and_parts _ _ parts.0).1, is_below 24 r (and_parts _ _ parts.1).1)
+pub pair_and_below : (opcode p k : ℕ) → IsTrue (pair_and_six_bits opcode p k).in_range → (p < 32) × (k < 64)
+pair_and_below opcode p k h = (grind (arith, nat_tests), is_below 64 k (and_parts _ _ h).1)
 
-pub pair_and_below : (p k : ℕ) → IsTrue (is_pair_register p && is_six_bits k) → (p < 32) × (k < 64)
-pair_and_below p k h = (grind (arith, nat_tests), is_below 64 k (and_parts _ _ h).1)
-
-pub forward_branch : (s k : ℕ) → IsTrue (is_bit s && is_branch_distance (pos k)) → (s < 8) × (k < 64)
+pub forward_branch : (s k : ℕ) → IsTrue (flag_and_branch 0 s (pos k)).in_range → (s < 8) × (k < 64)
 forward_branch s k h = (is_below 8 s (and_parts _ _ h).0, grind (arith, nat_tests))
 
-pub backward_branch : (s k : ℕ) → IsTrue (is_bit s && is_branch_distance (negsuc k)) → (s < 8) × (k < 64)
+pub backward_branch : (s k : ℕ) → IsTrue (flag_and_branch 0 s (negsuc k)).in_range → (s < 8) × (k < 64)
 backward_branch s k h = (is_below 8 s (and_parts _ _ h).0, grind (arith, nat_tests))
 
-pub forward_jump : (k : ℕ) → IsTrue (is_jump_distance (pos k)) → k < 2048
+pub forward_jump : (k : ℕ) → IsTrue (jump 0 (pos k)).in_range → k < 2048
 forward_jump k h = grind (arith, nat_tests)
 
-pub backward_jump : (k : ℕ) → IsTrue (is_jump_distance (negsuc k)) → k < 2048
+pub backward_jump : (k : ℕ) → IsTrue (jump 0 (negsuc k)).in_range → k < 2048
 backward_jump k h = grind (arith, nat_tests)

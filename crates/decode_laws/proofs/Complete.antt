@@ -12,10 +12,12 @@ use Rattle.avr_isa.specs.declared.operation.OneOp.{OneOp}
 use Rattle.avr_isa.specs.declared.operation.OneOp.TheVariants.{Com, Neg, Swap, Inc, Asr, Lsr, Ror, Dec}
 use Rattle.avr_isa.specs.declared.operation.Ptr.{Ptr}
 use Rattle.avr_isa.specs.declared.operation.Ptr.TheVariants.{ZInc, ZDec, YInc, YDec, X, XInc, XDec}
-use Rattle.avr_isa.specs.Instruction.{is_valid, fields_in_range, is_undefined}
+use Rattle.avr_isa.specs.InstructionTable.{product_opcode, word_opcode}
+use Rattle.avr_isa.specs.Instruction.{is_valid, fields_in_range}
+use Rattle.avr_isa.specs.UndefinedPairs.{is_undefined}
 use Rattle.avr_isa.specs.Encoding.{first_word, second_word}
 use Rattle.avr_decode.specs.Decoding.{the_form, is_long, two_word_form, one_word_form, product_form, move_or_product_form, form_0000, form_0001, form_0010, displaced_form, load_form, store_form, plain_form, flag_or_plain_form, one_register_form, register_or_pair_form, io_bit_form, transfer_form, form_1001, io_form, register_bit_form, form_1111, defined_form, if_defined}
-use Rattle.decode_laws.proofs.Bounds.{both_below, even_below, high_below, is_below, mid_below, pair_and_below}
+use Rattle.decode_laws.proofs.Bounds.{both_below, even_below, high_below, is_below, pair_and_below}
 use Rattle.decode_laws.proofs.Leading.{brbs_complete, brbc_complete, cbi_complete, sbic_complete, sbi_complete, sbis_complete, load_displaced_complete, store_displaced_complete, cpse_complete, immediate_complete, in_complete, out_complete, rcall_complete, rjmp_complete, two_complete}
 use Rattle.decode_laws.proofs.Tables.{by_one, by_two}
 
@@ -23,17 +25,17 @@ product_complete : (op : ProductOp) (d r w : ℕ) → IsTrue (is_valid (Product 
 unfolding the_form is_long two_word_form one_word_form product_form move_or_product_form form_0000 form_0001 form_0010 displaced_form load_form
     store_form plain_form flag_or_plain_form one_register_form register_or_pair_form io_bit_form transfer_form form_1001 io_form register_bit_form
     form_1111 defined_form if_defined first_word is_valid fields_in_range is_undefined
-product_complete Mulsu d r w valid = by_two 24 24 (λ d r. Product Mulsu d r) w refl d r (mid_below d r) valid
-product_complete Fmul d r w valid = by_two 24 24 (λ d r. Product Fmul d r) w refl d r (mid_below d r) valid
-product_complete Fmuls d r w valid = by_two 24 24 (λ d r. Product Fmuls d r) w refl d r (mid_below d r) valid
-product_complete Fmulsu d r w valid = by_two 24 24 (λ d r. Product Fmulsu d r) w refl d r (mid_below d r) valid
+product_complete Mulsu d r w valid = by_two 24 24 (λ d r. Product Mulsu d r) w refl d r (high_below 24 (product_opcode Mulsu) d r) valid
+product_complete Fmul d r w valid = by_two 24 24 (λ d r. Product Fmul d r) w refl d r (high_below 24 (product_opcode Fmul) d r) valid
+product_complete Fmuls d r w valid = by_two 24 24 (λ d r. Product Fmuls d r) w refl d r (high_below 24 (product_opcode Fmuls) d r) valid
+product_complete Fmulsu d r w valid = by_two 24 24 (λ d r. Product Fmulsu d r) w refl d r (high_below 24 (product_opcode Fmulsu) d r) valid
 
 pair_complete : (op : WordOp) (p k w : ℕ) → IsTrue (is_valid (Word op p k)) → the_form (first_word (Word op p k)) w ≡ Some (Word op p k)
 unfolding the_form is_long two_word_form one_word_form product_form move_or_product_form form_0000 form_0001 form_0010 displaced_form load_form
     store_form plain_form flag_or_plain_form one_register_form register_or_pair_form io_bit_form transfer_form form_1001 io_form register_bit_form
     form_1111 defined_form if_defined first_word is_valid fields_in_range is_undefined
-pair_complete Adiw p k w valid = by_two 32 64 (λ p k. Word Adiw p k) w refl p k (pair_and_below p k) valid
-pair_complete Sbiw p k w valid = by_two 32 64 (λ p k. Word Sbiw p k) w refl p k (pair_and_below p k) valid
+pair_complete Adiw p k w valid = by_two 32 64 (λ p k. Word Adiw p k) w refl p k (pair_and_below (word_opcode Adiw) p k) valid
+pair_complete Sbiw p k w valid = by_two 32 64 (λ p k. Word Sbiw p k) w refl p k (pair_and_below (word_opcode Sbiw) p k) valid
 
 one_complete : (op : OneOp) (d w : ℕ) → IsTrue (is_valid (One op d)) → the_form (first_word (One op d)) w ≡ Some (One op d)
 unfolding the_form is_long two_word_form one_word_form product_form move_or_product_form form_0000 form_0001 form_0010 displaced_form load_form
@@ -93,7 +95,7 @@ unfolding the_form is_long two_word_form one_word_form product_form move_or_prod
     form_1111 defined_form if_defined first_word is_valid fields_in_range is_undefined second_word
 complete Nop w valid second = refl
 complete (Movw d r) w valid second = by_two 32 32 (λ d r. Movw d r) w refl d r (even_below d r) valid
-complete (Muls d r) w valid second = by_two 32 32 (λ d r. Muls d r) w refl d r (high_below d r) valid
+complete (Muls d r) w valid second = by_two 32 32 (λ d r. Muls d r) w refl d r (high_below 32 0x0200 d r) valid
 complete (Product op d r) w valid second = product_complete op d r w valid
 complete (Two op d r) w valid second = two_complete op d r w valid
 complete (Cpse d r) w valid second = cpse_complete d r w valid
@@ -105,7 +107,7 @@ complete (StoreOff base q r) w valid second = store_displaced_complete base q r 
 complete (LoadAt d pointer) w valid second = load_complete pointer d w valid
 complete (StoreAt pointer r) w valid second = store_complete pointer r w valid
 complete (Lds d a) w valid second = rw second (by_one 32 (λ d. Lds d a) a refl d (λ fits. (both_below 32 65536 d a fits).0) valid)
-complete (Sts a r) w valid second = rw second (by_one 32 (λ r. Sts a r) a refl r (λ fits. (both_below 65536 32 a r fits).1) valid)
+complete (Sts a r) w valid second = rw second (by_one 32 (λ r. Sts a r) a refl r (λ fits. (both_below 32 65536 r a fits).0) valid)
 complete (Pop d) w valid second = by_one 32 (λ d. Pop d) w refl d (is_below 32 d) valid
 complete (Push r) w valid second = by_one 32 (λ r. Push r) w refl r (is_below 32 r) valid
 complete Lpm0 w valid second = refl

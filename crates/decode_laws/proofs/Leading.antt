@@ -1,6 +1,6 @@
 -- The instructions whose leading bits are their own, before their operands: what their words mean is by
 -- arithmetic and not by computing all of them.
-use Rattle.std.proofs.Common.{◌≡◌, ℕ, ℤ, pos, negsuc, ◌+◌, ◌-◌, ◌*◌, ◌/◌, ◌%◌, ◌<◌, Bool, true, false, ◌&&◌, ◌||◌, ◌==◌, Some, IsTrue, refl, arith}
+use Rattle.std.proofs.Common.{◌≡◌, ℕ, ℤ, pos, negsuc, ◌+◌, ◌-◌, ◌*◌, ◌/◌, ◌%◌, ◌<◌, Bool, true, false, ◌||◌, ◌==◌, Some, IsTrue, refl, arith}
 use Rattle.std.proofs.lemmas.Bool.{eqb-true}
 use Rattle.std.proofs.lemmas.Bool.Decides.{nat_tests}
 use Rattle.std.specs.Prelude.{nat_lt}
@@ -12,8 +12,10 @@ use Rattle.avr_isa.specs.declared.operation.TwoOp.{TwoOp}
 use Rattle.avr_isa.specs.declared.operation.TwoOp.TheVariants.{Cpc, Sbc, Add, Cp, Sub, Adc, And, Eor, Or, Mov, Mul}
 use Rattle.avr_isa.specs.declared.operation.Base.{Base}
 use Rattle.avr_isa.specs.declared.operation.Base.TheVariants.{Y, Z}
-use Rattle.avr_isa.specs.Instruction.{is_byte, is_high_register, is_register, is_valid, fields_in_range, is_undefined}
-use Rattle.avr_isa.specs.Encoding.{io_and_bit, register_and_displacement, first_word, high_register_and_byte, two_registers, register_and_io}
+use Rattle.avr_isa.specs.InstructionTable.{imm_opcode, two_opcode, io_and_bit, register_and_displacement, high_register_and_byte, two_registers, register_and_io}
+use Rattle.avr_isa.specs.Instruction.{is_valid, fields_in_range}
+use Rattle.avr_isa.specs.UndefinedPairs.{is_undefined}
+use Rattle.avr_isa.specs.Encoding.{first_word}
 use Rattle.avr_decode.specs.Decoding.{form_1111, branch_of, io_bit_form, low_io_of, bit_of, displaced_form, displacement_of, the_form, is_long, one_word_form, form_0000, form_0001, form_0010, form_1001, io_form, defined_form, if_defined, immediate_of, high_destination_of, constant_of, destination_of, source_of, io_of, jump_of}
 use Rattle.decode_laws.proofs.Bounds.{backward_branch, forward_branch, backward_jump, both_below, fields_fit, forward_jump}
 
@@ -24,13 +26,13 @@ means first w f short one defined = rw (short, one, defined) refl
 
 -- Two registers, after six bits. -------------------------------------------------------------------
 
-registers_of : (n d r : ℕ) → IsTrue (is_register d && is_register r)
-    → ((1024 * n + two_registers d r) / 1024 ≡ n) × (destination_of (1024 * n + two_registers d r) ≡ d) × (source_of (1024 * n + two_registers d r) ≡ r)
+registers_of : (n d r : ℕ) → IsTrue (two_registers (1024 * n) d r).in_range
+    → ((two_registers (1024 * n) d r).first / 1024 ≡ n) × (destination_of (two_registers (1024 * n) d r).first ≡ d) × (source_of (two_registers (1024 * n) d r).first ≡ r)
 registers_of n d r fits =
     let ranges : (d < 32) × (r < 32) = both_below 32 32 d r fits in
-    let leading : (1024 * n + two_registers d r) / 1024 ≡ n = omega arith in
-    let destination : destination_of (1024 * n + two_registers d r) ≡ d = omega arith in
-    let source : source_of (1024 * n + two_registers d r) ≡ r = omega arith in
+    let leading : (two_registers (1024 * n) d r).first / 1024 ≡ n = omega arith in
+    let destination : destination_of (two_registers (1024 * n) d r).first ≡ d = omega arith in
+    let source : source_of (two_registers (1024 * n) d r).first ≡ r = omega arith in
     (leading, destination, source)
 
 short_by_six : (n w : ℕ) → (n == 36) || (n == 37) ≡ false → w / 1024 ≡ n → is_long w ≡ false
@@ -41,59 +43,30 @@ short_by_six n w other leading = grind (arith, nat_tests)
 abbrev pub Registers : (ℕ → ℕ → Form) → ℕ → Type 0
 Registers form n = (w : ℕ) → w / 1024 ≡ n → one_word_form w ≡ Some (form (destination_of w) (source_of w))
 
-by_six : (n : ℕ) (form : ℕ → ℕ → Form) (d r w : ℕ) → (n == 36) || (n == 37) ≡ false → Registers form n → is_undefined (form d r) ≡ false → IsTrue (is_register d && is_register r)
-    → the_form (1024 * n + two_registers d r) w ≡ Some (form d r)
+by_six : (n : ℕ) (form : ℕ → ℕ → Form) (d r w : ℕ) → (n == 36) || (n == 37) ≡ false → Registers form n → is_undefined (form d r) ≡ false → IsTrue (two_registers (1024 * n) d r).in_range
+    → the_form (two_registers (1024 * n) d r).first w ≡ Some (form d r)
 by_six n form d r w other begins defined fits =
     let fields = registers_of n d r fits in
-    let one : one_word_form (1024 * n + two_registers d r) ≡ Some (form d r) = rw (begins (1024 * n + two_registers d r) fields.0, fields.1, fields.2) refl in
-    means (1024 * n + two_registers d r) w (form d r) (short_by_six n (1024 * n + two_registers d r) other fields.0) one defined
+    let one : one_word_form (two_registers (1024 * n) d r).first ≡ Some (form d r) = rw (begins (two_registers (1024 * n) d r).first fields.0, fields.1, fields.2) refl in
+    means (two_registers (1024 * n) d r).first w (form d r) (short_by_six n (two_registers (1024 * n) d r).first other fields.0) one defined
 
 fourth : (n m w : ℕ) → n / 4 ≡ m → w / 1024 ≡ n → w / 4096 ≡ m
 fourth n m w part leading = omega arith
 
-pub cpc_begins : Registers (λ d r. Two Cpc d r) 1
-unfolding one_word_form form_0000
-cpc_begins w leading = rw (fourth 1 0 w refl leading, leading) refl
-
-pub sbc_begins : Registers (λ d r. Two Sbc d r) 2
-unfolding one_word_form form_0000
-sbc_begins w leading = rw (fourth 2 0 w refl leading, leading) refl
-
-pub add_begins : Registers (λ d r. Two Add d r) 3
-unfolding one_word_form form_0000
-add_begins w leading = rw (fourth 3 0 w refl leading, leading) refl
-
-pub cp_begins : Registers (λ d r. Two Cp d r) 5
-unfolding one_word_form form_0001
-cp_begins w leading = rw (fourth 5 1 w refl leading, leading) refl
-
-pub sub_begins : Registers (λ d r. Two Sub d r) 6
-unfolding one_word_form form_0001
-sub_begins w leading = rw (fourth 6 1 w refl leading, leading) refl
-
-pub adc_begins : Registers (λ d r. Two Adc d r) 7
-unfolding one_word_form form_0001
-adc_begins w leading = rw (fourth 7 1 w refl leading, leading) refl
-
-pub and_begins : Registers (λ d r. Two And d r) 8
-unfolding one_word_form form_0010
-and_begins w leading = rw (fourth 8 2 w refl leading, leading) refl
-
-pub eor_begins : Registers (λ d r. Two Eor d r) 9
-unfolding one_word_form form_0010
-eor_begins w leading = rw (fourth 9 2 w refl leading, leading) refl
-
-pub or_begins : Registers (λ d r. Two Or d r) 10
-unfolding one_word_form form_0010
-or_begins w leading = rw (fourth 10 2 w refl leading, leading) refl
-
-pub mov_begins : Registers (λ d r. Two Mov d r) 11
-unfolding one_word_form form_0010
-mov_begins w leading = rw (fourth 11 2 w refl leading, leading) refl
-
-pub mul_begins : Registers (λ d r. Two Mul d r) 39
-unfolding one_word_form form_1001
-mul_begins w leading = rw (fourth 39 9 w refl leading, leading) refl
+-- the first word of the operation begins with the leading bits of its opcode
+pub two_begins : (op : TwoOp) → Registers (λ d r. Two op d r) (two_opcode op / 1024)
+unfolding one_word_form form_0000 form_0001 form_0010 form_1001
+two_begins Cpc w leading = rw (fourth 1 0 w refl leading, leading) refl
+two_begins Sbc w leading = rw (fourth 2 0 w refl leading, leading) refl
+two_begins Add w leading = rw (fourth 3 0 w refl leading, leading) refl
+two_begins Cp w leading = rw (fourth 5 1 w refl leading, leading) refl
+two_begins Sub w leading = rw (fourth 6 1 w refl leading, leading) refl
+two_begins Adc w leading = rw (fourth 7 1 w refl leading, leading) refl
+two_begins And w leading = rw (fourth 8 2 w refl leading, leading) refl
+two_begins Eor w leading = rw (fourth 9 2 w refl leading, leading) refl
+two_begins Or w leading = rw (fourth 10 2 w refl leading, leading) refl
+two_begins Mov w leading = rw (fourth 11 2 w refl leading, leading) refl
+two_begins Mul w leading = rw (fourth 39 9 w refl leading, leading) refl
 
 pub cpse_begins : Registers (λ d r. Cpse d r) 4
 unfolding one_word_form form_0001
@@ -101,17 +74,17 @@ cpse_begins w leading = rw (fourth 4 1 w refl leading, leading) refl
 
 pub two_complete : (op : TwoOp) (d r w : ℕ) → IsTrue (is_valid (Two op d r)) → the_form (first_word (Two op d r)) w ≡ Some (Two op d r)
 unfolding first_word fields_in_range is_undefined
-two_complete Cpc d r w valid = by_six 1 (λ d r. Two Cpc d r) d r w refl cpc_begins refl (fields_fit (Two Cpc d r) valid)
-two_complete Sbc d r w valid = by_six 2 (λ d r. Two Sbc d r) d r w refl sbc_begins refl (fields_fit (Two Sbc d r) valid)
-two_complete Add d r w valid = by_six 3 (λ d r. Two Add d r) d r w refl add_begins refl (fields_fit (Two Add d r) valid)
-two_complete Cp d r w valid = by_six 5 (λ d r. Two Cp d r) d r w refl cp_begins refl (fields_fit (Two Cp d r) valid)
-two_complete Sub d r w valid = by_six 6 (λ d r. Two Sub d r) d r w refl sub_begins refl (fields_fit (Two Sub d r) valid)
-two_complete Adc d r w valid = by_six 7 (λ d r. Two Adc d r) d r w refl adc_begins refl (fields_fit (Two Adc d r) valid)
-two_complete And d r w valid = by_six 8 (λ d r. Two And d r) d r w refl and_begins refl (fields_fit (Two And d r) valid)
-two_complete Eor d r w valid = by_six 9 (λ d r. Two Eor d r) d r w refl eor_begins refl (fields_fit (Two Eor d r) valid)
-two_complete Or d r w valid = by_six 10 (λ d r. Two Or d r) d r w refl or_begins refl (fields_fit (Two Or d r) valid)
-two_complete Mov d r w valid = by_six 11 (λ d r. Two Mov d r) d r w refl mov_begins refl (fields_fit (Two Mov d r) valid)
-two_complete Mul d r w valid = by_six 39 (λ d r. Two Mul d r) d r w refl mul_begins refl (fields_fit (Two Mul d r) valid)
+two_complete Cpc d r w valid = by_six 1 (λ d r. Two Cpc d r) d r w refl (two_begins Cpc) refl (fields_fit (Two Cpc d r) valid)
+two_complete Sbc d r w valid = by_six 2 (λ d r. Two Sbc d r) d r w refl (two_begins Sbc) refl (fields_fit (Two Sbc d r) valid)
+two_complete Add d r w valid = by_six 3 (λ d r. Two Add d r) d r w refl (two_begins Add) refl (fields_fit (Two Add d r) valid)
+two_complete Cp d r w valid = by_six 5 (λ d r. Two Cp d r) d r w refl (two_begins Cp) refl (fields_fit (Two Cp d r) valid)
+two_complete Sub d r w valid = by_six 6 (λ d r. Two Sub d r) d r w refl (two_begins Sub) refl (fields_fit (Two Sub d r) valid)
+two_complete Adc d r w valid = by_six 7 (λ d r. Two Adc d r) d r w refl (two_begins Adc) refl (fields_fit (Two Adc d r) valid)
+two_complete And d r w valid = by_six 8 (λ d r. Two And d r) d r w refl (two_begins And) refl (fields_fit (Two And d r) valid)
+two_complete Eor d r w valid = by_six 9 (λ d r. Two Eor d r) d r w refl (two_begins Eor) refl (fields_fit (Two Eor d r) valid)
+two_complete Or d r w valid = by_six 10 (λ d r. Two Or d r) d r w refl (two_begins Or) refl (fields_fit (Two Or d r) valid)
+two_complete Mov d r w valid = by_six 11 (λ d r. Two Mov d r) d r w refl (two_begins Mov) refl (fields_fit (Two Mov d r) valid)
+two_complete Mul d r w valid = by_six 39 (λ d r. Two Mul d r) d r w refl (two_begins Mul) refl (fields_fit (Two Mul d r) valid)
 
 pub cpse_complete : (d r w : ℕ) → IsTrue (is_valid (Cpse d r)) → the_form (first_word (Cpse d r)) w ≡ Some (Cpse d r)
 unfolding first_word fields_in_range is_undefined
@@ -119,13 +92,13 @@ cpse_complete d r w valid = by_six 4 (λ d r. Cpse d r) d r w refl cpse_begins r
 
 -- A register and a constant, after four bits. ------------------------------------------------------
 
-fields_of : (n d k : ℕ) → IsTrue (is_high_register d && is_byte k)
-    → ((4096 * n + high_register_and_byte d k) / 4096 ≡ n) × (high_destination_of (4096 * n + high_register_and_byte d k) ≡ d) × (constant_of (4096 * n + high_register_and_byte d k) ≡ k)
+fields_of : (n d k : ℕ) → IsTrue (high_register_and_byte (4096 * n) d k).in_range
+    → ((high_register_and_byte (4096 * n) d k).first / 4096 ≡ n) × (high_destination_of (high_register_and_byte (4096 * n) d k).first ≡ d) × (constant_of (high_register_and_byte (4096 * n) d k).first ≡ k)
 fields_of n d k fits =
     let ranges : (15 < d) × (d < 32) × (k < 256) = grind (arith, nat_tests) in
-    let leading : (4096 * n + high_register_and_byte d k) / 4096 ≡ n = omega arith in
-    let register : high_destination_of (4096 * n + high_register_and_byte d k) ≡ d = omega arith in
-    let constant : constant_of (4096 * n + high_register_and_byte d k) ≡ k = omega arith in
+    let leading : (high_register_and_byte (4096 * n) d k).first / 4096 ≡ n = omega arith in
+    let register : high_destination_of (high_register_and_byte (4096 * n) d k).first ≡ d = omega arith in
+    let constant : constant_of (high_register_and_byte (4096 * n) d k).first ≡ k = omega arith in
     (leading, register, constant)
 
 short_by_leading : (n w : ℕ) → (n == 9) ≡ false → w / 4096 ≡ n → is_long w ≡ false
@@ -136,15 +109,15 @@ short_by_leading n w other leading = grind (arith, nat_tests)
 abbrev pub Begins : ImmOp → ℕ → Type 0
 Begins op n = (w : ℕ) → w / 4096 ≡ n → one_word_form w ≡ Some (immediate_of op w)
 
-by_leading : (n : ℕ) (op : ImmOp) (d k w : ℕ) → (n == 9) ≡ false → Begins op n → IsTrue (is_high_register d && is_byte k)
-    → the_form (4096 * n + high_register_and_byte d k) w ≡ Some (Imm op d k)
+by_leading : (n : ℕ) (op : ImmOp) (d k w : ℕ) → (n == 9) ≡ false → Begins op n → IsTrue (high_register_and_byte (4096 * n) d k).in_range
+    → the_form (high_register_and_byte (4096 * n) d k).first w ≡ Some (Imm op d k)
 unfolding the_form if_defined defined_form is_undefined
 by_leading n op d k w other begins fits =
     let fields = fields_of n d k fits in
-    rw (short_by_leading n (4096 * n + high_register_and_byte d k) other fields.0, begins (4096 * n + high_register_and_byte d k) fields.0, fields.1, fields.2) refl
+    rw (short_by_leading n (high_register_and_byte (4096 * n) d k).first other fields.0, begins (high_register_and_byte (4096 * n) d k).first fields.0, fields.1, fields.2) refl
 
-pub begins : (op : ImmOp) → Begins op (first_word (Imm op 16 0) / 4096)
-unfolding one_word_form first_word
+pub begins : (op : ImmOp) → Begins op (imm_opcode op / 4096)
+unfolding one_word_form
 begins Cpi w leading = rw leading refl
 begins Sbci w leading = rw leading refl
 begins Subi w leading = rw leading refl
@@ -204,10 +177,10 @@ rcall_complete (negsuc k) w valid = by_jump 13 (0xD000 + (4095 - k)) (negsuc k) 
 -- A register and a port, after five bits. ----------------------------------------------------------
 
 port_of : (n d a : ℕ) → d < 32 → a < 64
-    → ((2048 * n + register_and_io d a) / 2048 ≡ n) × (destination_of (2048 * n + register_and_io d a) ≡ d) × (io_of (2048 * n + register_and_io d a) ≡ a)
+    → ((register_and_io (2048 * n) d a).first / 2048 ≡ n) × (destination_of (register_and_io (2048 * n) d a).first ≡ d) × (io_of (register_and_io (2048 * n) d a).first ≡ a)
 port_of n d a register port =
-    let destination : destination_of (2048 * n + register_and_io d a) ≡ d = omega arith in
-    let address : io_of (2048 * n + register_and_io d a) ≡ a = omega arith in
+    let destination : destination_of (register_and_io (2048 * n) d a).first ≡ d = omega arith in
+    let address : io_of (register_and_io (2048 * n) d a).first ≡ a = omega arith in
     (omega arith, destination, address)
 
 half : (n m w : ℕ) → n / 2 ≡ m → w / 2048 ≡ n → w / 4096 ≡ m
@@ -226,14 +199,14 @@ unfolding first_word fields_in_range is_undefined
 in_complete d a w valid =
     let ranges : (d < 32) × (a < 64) = both_below 32 64 d a (fields_fit (InIo d a) valid) in
     let fields = port_of 22 d a ranges.0 ranges.1 in
-    means (0xB000 + register_and_io d a) w (InIo d a) (short_by_leading 11 (0xB000 + register_and_io d a) refl (half 22 11 (0xB000 + register_and_io d a) refl fields.0)) (rw (in_begins (0xB000 + register_and_io d a) fields.0, fields.1, fields.2) refl) refl
+    means (register_and_io 0xB000 d a).first w (InIo d a) (short_by_leading 11 (register_and_io 0xB000 d a).first refl (half 22 11 (register_and_io 0xB000 d a).first refl fields.0)) (rw (in_begins (register_and_io 0xB000 d a).first fields.0, fields.1, fields.2) refl) refl
 
 pub out_complete : (a r w : ℕ) → IsTrue (is_valid (OutIo a r)) → the_form (first_word (OutIo a r)) w ≡ Some (OutIo a r)
 unfolding first_word fields_in_range is_undefined
 out_complete a r w valid =
-    let ranges : (a < 64) × (r < 32) = both_below 64 32 a r (fields_fit (OutIo a r) valid) in
-    let fields = port_of 23 r a ranges.1 ranges.0 in
-    means (0xB800 + register_and_io r a) w (OutIo a r) (short_by_leading 11 (0xB800 + register_and_io r a) refl (half 23 11 (0xB800 + register_and_io r a) refl fields.0)) (rw (out_begins (0xB800 + register_and_io r a) fields.0, fields.1, fields.2) refl) refl
+    let ranges : (r < 32) × (a < 64) = both_below 32 64 r a (fields_fit (OutIo a r) valid) in
+    let fields = port_of 23 r a ranges.0 ranges.1 in
+    means (register_and_io 0xB800 r a).first w (OutIo a r) (short_by_leading 11 (register_and_io 0xB800 r a).first refl (half 23 11 (register_and_io 0xB800 r a).first refl fields.0)) (rw (out_begins (register_and_io 0xB800 r a).first fields.0, fields.1, fields.2) refl) refl
 
 -- A register and a displacement, after bits apart. -------------------------------------------------
 
@@ -245,11 +218,11 @@ pub record Apart (s y w : ℕ) : Type 0 where
   pub base : w / 8 % 2 ≡ y
 
 displaced_of : (s y d q : ℕ) → s < 2 → y < 2 → d < 32 → q < 64
-    → Apart s y (32768 + (512 * s + 8 * y) + register_and_displacement d q) × (destination_of (32768 + (512 * s + 8 * y) + register_and_displacement d q) ≡ d)
-    × (displacement_of (32768 + (512 * s + 8 * y) + register_and_displacement d q) ≡ q)
+    → Apart s y (register_and_displacement (32768 + (512 * s + 8 * y)) d q).first × (destination_of (register_and_displacement (32768 + (512 * s + 8 * y)) d q).first ≡ d)
+    × (displacement_of (register_and_displacement (32768 + (512 * s + 8 * y)) d q).first ≡ q)
 displaced_of s y d q store base register displacement =
-    let destination : destination_of (32768 + (512 * s + 8 * y) + register_and_displacement d q) ≡ d = omega arith in
-    let distance : displacement_of (32768 + (512 * s + 8 * y) + register_and_displacement d q) ≡ q = omega arith in
+    let destination : destination_of (register_and_displacement (32768 + (512 * s + 8 * y)) d q).first ≡ d = omega arith in
+    let distance : displacement_of (register_and_displacement (32768 + (512 * s + 8 * y)) d q).first ≡ q = omega arith in
     (record { high = omega arith; middle = omega arith; store = omega arith; base = omega arith }, destination, distance)
 
 short_apart : (s y w : ℕ) → Apart s y w → is_long w ≡ false
@@ -285,9 +258,9 @@ unfolding displaced_form
 store_y_begins w apart = rw (displaced_by_test w (w / 4096 == 8) refl apart.high apart.middle, apart.store, apart.base) refl
 
 by_bits : (s y : ℕ) (form : ℕ → ℕ → Form) (d q w : ℕ) → s < 2 → y < 2 → Displaced form s y → is_undefined (form d q) ≡ false → d < 32 → q < 64
-    → the_form (32768 + (512 * s + 8 * y) + register_and_displacement d q) w ≡ Some (form d q)
+    → the_form (register_and_displacement (32768 + (512 * s + 8 * y)) d q).first w ≡ Some (form d q)
 by_bits s y form d q w store base begins defined register displacement =
-    let first : ℕ = 32768 + (512 * s + 8 * y) + register_and_displacement d q in
+    let first : ℕ = (register_and_displacement (32768 + (512 * s + 8 * y)) d q).first in
     let fields = displaced_of s y d q store base register displacement in
     let one : one_word_form first ≡ Some (form d q) = rw (begins first fields.0, fields.1, fields.2) refl in
     means first w (form d q) (short_apart s y first fields.0) one defined
@@ -304,18 +277,18 @@ load_displaced_complete Z d q w valid =
 pub store_displaced_complete : (base : Base) (q r w : ℕ) → IsTrue (is_valid (StoreOff base q r)) → the_form (first_word (StoreOff base q r)) w ≡ Some (StoreOff base q r)
 unfolding first_word fields_in_range is_undefined
 store_displaced_complete Y q r w valid =
-    let ranges : (q < 64) × (r < 32) = both_below 64 32 q r (fields_fit (StoreOff Y q r) valid) in
-    by_bits 1 1 (λ d q. StoreOff Y q d) r q w (omega arith) (omega arith) store_y_begins refl ranges.1 ranges.0
+    let ranges : (r < 32) × (q < 64) = both_below 32 64 r q (fields_fit (StoreOff Y q r) valid) in
+    by_bits 1 1 (λ d q. StoreOff Y q d) r q w (omega arith) (omega arith) store_y_begins refl ranges.0 ranges.1
 store_displaced_complete Z q r w valid =
-    let ranges : (q < 64) × (r < 32) = both_below 64 32 q r (fields_fit (StoreOff Z q r) valid) in
-    by_bits 1 0 (λ d q. StoreOff Z q d) r q w (omega arith) (omega arith) store_z_begins refl ranges.1 ranges.0
+    let ranges : (r < 32) × (q < 64) = both_below 32 64 r q (fields_fit (StoreOff Z q r) valid) in
+    by_bits 1 0 (λ d q. StoreOff Z q d) r q w (omega arith) (omega arith) store_z_begins refl ranges.0 ranges.1
 
 -- A port and a bit, after eight bits. --------------------------------------------------------------
 
-port_bit_of : (n a b : ℕ) → a < 32 → b < 8 → ((256 * n + io_and_bit a b) / 256 ≡ n) × (low_io_of (256 * n + io_and_bit a b) ≡ a) × (bit_of (256 * n + io_and_bit a b) ≡ b)
+port_bit_of : (n a b : ℕ) → a < 32 → b < 8 → ((io_and_bit (256 * n) a b).first / 256 ≡ n) × (low_io_of (io_and_bit (256 * n) a b).first ≡ a) × (bit_of (io_and_bit (256 * n) a b).first ≡ b)
 port_bit_of n a b port bit =
-    let address : low_io_of (256 * n + io_and_bit a b) ≡ a = omega arith in
-    let place : bit_of (256 * n + io_and_bit a b) ≡ b = omega arith in
+    let address : low_io_of (io_and_bit (256 * n) a b).first ≡ a = omega arith in
+    let place : bit_of (io_and_bit (256 * n) a b).first ≡ b = omega arith in
     (omega arith, address, place)
 
 eight_bits : (m w : ℕ) → m < 4 → w / 256 ≡ 152 + m → (w / 4096 ≡ 9) × (w / 1024 ≡ 38) × (w / 256 % 4 ≡ m)
@@ -328,9 +301,9 @@ abbrev PortBits : (ℕ → ℕ → Form) → ℕ → Type 0
 PortBits form m = (w : ℕ) → w / 4096 ≡ 9 → w / 1024 ≡ 38 → w / 256 % 4 ≡ m → one_word_form w ≡ Some (form (low_io_of w) (bit_of w))
 
 by_eight : (m : ℕ) (form : ℕ → ℕ → Form) (a b w : ℕ) → m < 4 → PortBits form m → is_undefined (form a b) ≡ false → (a < 32) × (b < 8)
-    → the_form (256 * (152 + m) + io_and_bit a b) w ≡ Some (form a b)
+    → the_form (io_and_bit (256 * (152 + m)) a b).first w ≡ Some (form a b)
 by_eight m form a b w part begins defined ranges =
-    let first : ℕ = 256 * (152 + m) + io_and_bit a b in
+    let first : ℕ = (io_and_bit (256 * (152 + m)) a b).first in
     let fields = port_bit_of (152 + m) a b ranges.0 ranges.1 in
     let bits = eight_bits m first part fields.0 in
     let one : one_word_form first ≡ Some (form a b) = rw (begins first bits.0 bits.1 bits.2, fields.1, fields.2) refl in

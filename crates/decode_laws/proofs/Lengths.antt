@@ -4,7 +4,8 @@ use Rattle.std.specs.Bool.{⊤}
 use Rattle.std.proofs.lemmas.Bool.{and_parts, eqb-true}
 use Rattle.avr_isa.specs.declared.form.Form.{Form}
 use Rattle.avr_isa.specs.declared.form.Form.TheVariants.{Lds, Sts, Jmp, Call}
-use Rattle.avr_isa.specs.Instruction.{is_undefined, is_valid, size_of}
+use Rattle.avr_isa.specs.Instruction.{is_valid, size_of}
+use Rattle.avr_isa.specs.UndefinedPairs.{is_undefined}
 use Rattle.avr_isa.specs.Encoding.{first_word, second_word, IsRow, BeginsTwoWords}
 use Rattle.avr_isa.proofs.Laws.{size_of-second_word}
 use Rattle.avr_decode.specs.Decoding.{one_word_form, is_long, size_by_first_word, two_word_form, defined_form, if_defined, the_form}

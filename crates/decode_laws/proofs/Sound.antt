@@ -5,7 +5,8 @@ use Rattle.std.proofs.lemmas.Bool.{and_parts, eqb-true}
 use Rattle.std.proofs.lemmas.Bool.Decides.{nat_tests}
 use Rattle.avr_isa.specs.declared.form.Form.{Form}
 use Rattle.avr_isa.specs.declared.form.Form.TheVariants.{Lds, Sts, Jmp, Call}
-use Rattle.avr_isa.specs.Instruction.{fields_in_range, is_undefined, is_valid}
+use Rattle.avr_isa.specs.Instruction.{fields_in_range, is_valid}
+use Rattle.avr_isa.specs.UndefinedPairs.{is_undefined}
 use Rattle.avr_isa.specs.Encoding.{first_word, second_word, IsRow}
 use Rattle.decode_laws.proofs.Own.{begins_own, is_one_word, own_fits}
 use Rattle.decode_laws.proofs.Tables.{below, below-at}

@@ -1,6 +1,6 @@
 -- What is written for words of flash is a dump of these words.
 use Rattle.std.proofs.Common.{◌≡◌, ℕ, zero, suc, ◌+◌, ◌-◌, ◌*◌, ◌/◌, ◌%◌, ◌<◌, ◌≤◌, cond, Bool, true, false, ◌&&◌, List, [], ◌∷◌, ◌++◌, length, get_or, take, drop, refl, sym, ap, ◌∙◌, subst, arith, inl, inr}
-use Rattle.std.specs.Prelude.{nat_le, slice_index, All, ◌==◌}
+use Rattle.std.specs.Prelude.{nat_le, slice_index, All, ◌==◌, None}
 use Rattle.std.specs.List.{AllByRecursion}
 use Rattle.std.specs.Char.{digit_value}
 use Rattle.std.specs.Str.Parse.{digits_value, AllDigits}
@@ -15,14 +15,16 @@ use Rattle.flash_words.specs.Memory.{AreWords}
 use Rattle.flash_words.proofs.PageLaws.{page_word, length-page_of, length-set_page, word_in_page, word_out_of_page}
 use Rattle.base_laws.proofs.ManyLaws.{length-many, get_or-many, length-two_each}
 use Rattle.line_reader.specs.Lines.{lines_of}
+use Rattle.line_reader.specs.Faults.{after_lines, first_fault}
 use Rattle.line_reader.specs.Cutting.{Lacks}
 use Rattle.line_reader.specs.Written.{IsPlain}
+use Rattle.line_reader.proofs.FaultLaws.{fault_behind}
 use Rattle.line_reader.proofs.TextLaws.{lines_of-fed}
-use Rattle.flash_dump.specs.DumpLines.{HasPage, next_page, page_in, with_line, word_digits, words_in}
-use Rattle.flash_dump.specs.Dumps.{AreSound, IsDump, erased, with_lines}
+use Rattle.flash_dump.specs.DumpLines.{fault_at, has_page, next_page, page_in, with_line, word_digits, words_in}
+use Rattle.flash_dump.specs.Dumps.{IsDump, erased}
 use Rattle.flash_dump.specs.WrittenDumps.{bytes_of_words, is_erased, line_front, lines_of_pages, page_line, three_digits, written}
-use Rattle.flash_dump.proofs.DumpLaws.{page_some}
-use Rattle.flash_dump.proofs.DumpLineLaws.{words_told}
+use Rattle.flash_dump.proofs.DumpLaws.{page_size, page_some, page_sound}
+use Rattle.flash_dump.proofs.DumpLineLaws.{told_page, words_told}
 
 -- ---- digits
 
@@ -78,6 +80,13 @@ word_digits_all : (word : ℕ) → word < 65536 → AllDigits 16 (digits_of_word
 unfolding encode_with
 word_digits_all word fits = (omega (arith, hex_digit (word / 256 / 16) (omega arith)), (omega (arith, hex_digit (word / 256 % 16) (omega arith)), (omega (arith, hex_digit (word % 256 / 16) (omega arith)), (omega (arith, hex_digit (word % 256 % 16) (omega arith)), tt))))
 
+words_digits_all : (words : List ℕ) → AreWords words → AllDigits 16 (encode_upper (bytes_of_words words))
+unfolding encode_with
+words_digits_all [] fit = tt
+words_digits_all (word ∷ words) fit =
+    let here = word_digits_all word (fit 0) in
+    (here.0, (here.1.0, (here.1.1.0, (here.1.1.1.0, words_digits_all words (λ a. fit (suc a))))))
+
 word_part : (words : List ℕ) (k : ℕ) → k < length words → take 4 (drop (4 * k) (encode_upper (bytes_of_words words))) ≡ digits_of_word (get_or words k 0)
 unfolding encode_with
 word_part [] k inside = absurd (omega arith)
@@ -107,17 +116,11 @@ number_digits_all page low = (omega (arith, decimal_digit (page / 100) (omega ar
 word_small : (words : List ℕ) (k : ℕ) → AreWords words → get_or words k 0 < 65536
 word_small words k fit = fit k
 
-line_has_page : (page : ℕ) (words : List ℕ) → page < 512 → length words ≡ 128 → AreWords words → HasPage (page_line page words)
+line_has_page : (page : ℕ) (words : List ℕ) → page < 512 → length words ≡ 128 → AreWords words → has_page (page_line page words) ≡ true
 line_has_page page words low long fit =
     let text = encode_upper (bytes_of_words words) in
     let size : length text ≡ 512 = length-encode_with upper_digits (bytes_of_words words) ∙ omega (arith, length-two_each (λ word. word / 256) (λ word. word % 256) words) in
-    record {
-      size = omega (arith, size);
-      front = refl;
-      number = number_digits_all page (omega arith);
-      space = refl;
-      words = λ k below. subst (AllDigits 16) (sym (word_of_line page words k (omega arith))) (word_digits_all (get_or words k 0) (word_small words k fit));
-    }
+    told_page (page_line page words) (omega (arith, size)) refl refl (number_digits_all page (omega arith)) (words_digits_all words fit)
 
 line_words : (page : ℕ) (words : List ℕ) → length words ≡ 128 → AreWords words → words_in (page_line page words) ≡ words
 line_words page words long fit =
@@ -167,8 +170,8 @@ record IsSetTo (words flash : List ℕ) (page : ℕ) : Type 0 where
 
 -- the lines that are left make the words
 record IsBack (words flash : List ℕ) (least : ℕ) (lines : List (List ℕ)) : Type 0 where
-  sound : AreSound least lines
-  words_are : with_lines flash lines ≡ words
+  sound : (number : ℕ) → first_fault fault_at next_page number least lines ≡ None
+  words_are : after_lines with_line flash lines ≡ words
   plain : All IsPlain lines
 
 erased_word : (own : List ℕ) (k : ℕ) → is_erased own ≡ true → k < length own → get_or own k 0 ≡ 0xFFFF
@@ -241,14 +244,16 @@ page_back words flash page least later false whole fit low least_low set test la
     let after : IsSetTo words (with_line flash line) (page + 1) = subst (λ f. IsSetTo words f (page + 1)) (sym words_is) (set_line words flash page whole low set) in
     let back = later_back (with_line flash line) (next_page least line) (omega (arith, next_is)) after in
     record {
-      sound = (inr (has, omega (arith, page_is), omega (arith, page_is)), back.sound);
+      sound = λ number.
+          let fine = page_sound least line has (omega (arith, page_is)) (omega (arith, page_is)) in
+          fault_behind fault_at next_page number least line (line ∷ later) later refl fine ∙ back.sound (number + 1);
       words_are = back.words_are;
-      plain = All-cons IsPlain line later (line_plain line (line_high page own own_fit) (omega (arith, has.size))) back.plain;
+      plain = All-cons IsPlain line later (line_plain line (line_high page own own_fit) (omega (arith, page_size line has))) back.plain;
     }
 
 pages_back : (words flash : List ℕ) (page count least : ℕ) → page + count ≡ page_count → length words ≡ word_count → AreWords words → least ≤ page → IsSetTo words flash page → IsBack words flash least (lines_of_pages words page count)
 pages_back words flash page zero least all whole fit low set = record {
-  sound = tt;
+  sound = λ number. refl;
   words_are = same_number_lists flash words (set.whole ∙ sym whole) (λ a below. set.done a (omega (arith, set.whole)));
   plain = All-nil IsPlain;
 }
@@ -266,6 +271,6 @@ dump_written words whole fit =
     let back = pages_back words erased 0 512 0 refl whole fit (omega arith) set in
     let lines : lines_of (written words) ≡ lines_of_pages words 0 page_count = lines_of-fed (lines_of_pages words 0 page_count) back.plain in
     record {
-      sound = subst (AreSound 0) (sym lines) back.sound;
-      words_are = sym (ap (with_lines erased) lines ∙ back.words_are);
+      sound = ap (first_fault fault_at next_page 1 0) lines ∙ back.sound 1;
+      words_are = sym (ap (after_lines with_line erased) lines ∙ back.words_are);
     }

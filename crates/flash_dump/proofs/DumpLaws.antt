@@ -1,5 +1,7 @@
 -- A dump that is read line by line.
-use Rattle.std.proofs.Common.{◌≡◌, ℕ, ◌+◌, ◌*◌, ◌<◌, ◌≤◌, false, cond, eqb, List, ◌∷◌, length, arith, sym, ap, ◌∙◌, subst, inr}
+use Rattle.std.proofs.Common.{◌≡◌, ℕ, ◌+◌, ◌*◌, ◌<◌, ◌≤◌, false, cond, eqb, true, List, ◌∷◌, length, arith, refl, sym, ap, ◌∙◌}
+use Rattle.std.specs.Prelude.{nat_le, nat_lt, Some, None}
+use Rattle.std.proofs.lemmas.Bool.{and_parts, eqb-true}
 use Rattle.std.proofs.lemmas.Bool.Decides.{nat_tests}
 use Rattle.std.proofs.lemmas.Grind.{same_number_lists}
 use Rattle.std.proofs.lemmas.List.FromFn.{length-map-range_with_len}
@@ -10,18 +12,40 @@ use Rattle.flash_words.specs.Memory.{Memory, erased_flash}
 use Rattle.flash_words.specs.Operations.{programmed_page}
 use Rattle.flash_words.proofs.PageLaws.{page_word, length-page_of, length-set_page, page_other}
 use Rattle.line_reader.specs.Lines.{lines_of}
-use Rattle.flash_dump.specs.DumpLines.{HasPage, page_in, word_digits, words_in}
-use Rattle.flash_dump.specs.Dumps.{AreSound, IsFirstFault, IsOpen, IsReadTo, IsTaken, erased, with_lines}
+use Rattle.line_reader.specs.Faults.{after_lines, first_fault}
+use Rattle.line_reader.proofs.FaultLaws.{fault_behind}
+use Rattle.flash_dump.specs.declared.dump_line.DumpFault.TheVariants.{Order}
+use Rattle.flash_dump.specs.DumpLines.{fault_at, has_page, next_page, page_in, with_line, word_digits, words_in}
+use Rattle.flash_dump.specs.Dumps.{IsOpen, IsReadTo, IsTaken, erased}
 
 length-words_in : (line : List ℕ) → length (words_in line) ≡ 128
 length-words_in line = length-map-range_with_len (λ k. digits_value 16 (word_digits line k)) 0 128
 
 -- a line with a page isn't empty
-pub page_some : (line : List ℕ) → HasPage line → eqb (length line) 0 ≡ false
-page_some line has = let long = has.size in grind (arith, nat_tests)
+pub page_size : (line : List ℕ) → has_page line ≡ true → length line ≡ 521
+page_size line has = eqb-true (length line) 521 (and_parts _ _ (and_parts _ _ (and_parts _ _ (and_parts _ _ has).0).0).0).0
+
+pub page_some : (line : List ℕ) → has_page line ≡ true → eqb (length line) 0 ≡ false
+page_some line has = let long = page_size line has in grind (arith, nat_tests)
+
+-- has a fault, where the page may not follow
+pub page_late : (least : ℕ) (line : List ℕ) → has_page line ≡ true → page_in line < least → fault_at least line ≡ Some Order
+page_late least line has before =
+    let some = page_some line has in
+    let late : nat_lt (page_in line) least ≡ true = grind (arith, nat_tests) in
+    rw (some, has, late) refl
+
+-- and has none, where the page may follow and is one of flash
+pub page_sound : (least : ℕ) (line : List ℕ) → has_page line ≡ true → least ≤ page_in line → page_in line < 512 → fault_at least line ≡ None
+page_sound least line has from below =
+    let some = page_some line has in
+    let ordered : nat_lt (page_in line) least ≡ false = grind (arith, nat_tests) in
+    let inside : nat_le 512 (page_in line) ≡ false = grind (arith, nat_tests) in
+    rw (some, has, ordered, inside) refl
 
 -- a line with a page
-pub taken_page : (line : List ℕ) (least page : ℕ) (words : List ℕ) (old new : Memory) → HasPage line → page ≡ page_in line → words ≡ words_in line → least ≤ page → page < 512 → IsOpen old least → new ≡ programmed_page old page words → IsTaken line least (page + 1) old new
+pub taken_page : (line : List ℕ) (least page : ℕ) (words : List ℕ) (old new : Memory) → has_page line ≡ true → page ≡ page_in line → words ≡ words_in line → least ≤ page → page < 512 → IsOpen old least
+    → new ≡ programmed_page old page words → IsTaken line least (page + 1) old new
 taken_page line least page words old new has page_is words_are from below open' after =
     let some = page_some line has in
     let long : length words ≡ 128 = ap length words_are ∙ length-words_in line in
@@ -29,7 +53,7 @@ taken_page line least page words old new has page_is words_are from below open' 
     let new_words : new.words ≡ set_page old.words page words = ap (λ (m : Memory). m.words) after in
     let same : set_page old.words page words ≡ set_page old.words (page_in line) (words_in line) = ap (λ p. set_page old.words p words) page_is ∙ ap (set_page old.words (page_in line)) words_are in
     record {
-      sound = inr (has, omega (arith, page_is), omega (arith, page_is));
+      sound = page_sound least line has (omega (arith, page_is)) (omega (arith, page_is));
       after_is = ap (λ p. p + 1) page_is ∙ sym (ap (λ b. cond b least (page_in line + 1)) some);
       words_are = new_words ∙ same ∙ sym (ap (λ b. cond b old.words (set_page old.words (page_in line) (words_in line))) some);
       is_open = record {
@@ -45,17 +69,13 @@ taken_page line least page words old new has page_is words_are from below open' 
 -- one line more of the text
 pub read_more : (text rest line behind : List ℕ) (least after number : ℕ) (old new : Memory) → IsReadTo text rest least number old → lines_of rest ≡ line ∷ lines_of behind → IsTaken line least after old new → IsReadTo text behind after (number + 1) new
 read_more text rest line behind least after number old new read lines taken =
-    let S : List (List ℕ) → Type 0 = λ ls. AreSound least ls in
-    let N : ℕ → Type 0 = λ n. AreSound n (lines_of behind) in
-    let next = taken.after_is in
     record {
       is_open = taken.is_open;
-      sound = λ are. read.sound (subst S (sym lines) (taken.sound, subst N next are));
-      faulty = λ n fault first.
-          let F : List (List ℕ) → Type 0 = λ ls. IsFirstFault least (number + 1) ls n fault in
-          let G : ℕ → Type 0 = λ a. IsFirstFault a (number + 1 + 1) (lines_of behind) n fault in
-          read.faulty n fault (subst F (sym lines) (inr (taken.sound, subst G next first)));
-      words_are = ap (λ ws. with_lines ws (lines_of behind)) taken.words_are ∙ sym (ap (with_lines old.words) lines) ∙ read.words_are;
+      faults =
+          ap (λ known. first_fault fault_at next_page (number + 1 + 1) known (lines_of behind)) taken.after_is
+          ∙ sym (fault_behind fault_at next_page (number + 1) least line (lines_of rest) (lines_of behind) lines taken.sound)
+          ∙ read.faults;
+      words_are = ap (λ ws. after_lines with_line ws (lines_of behind)) taken.words_are ∙ sym (ap (after_lines with_line old.words) lines) ∙ read.words_are;
     }
 
 -- a flash that is erased

@@ -3,5 +3,6 @@ mod DumpLineLaws
 mod DumpLaws
 mod WrittenLaws
 mod DumpBack
+mod WorkedDumps
 pub mod Judgement
 pub mod ErasedLaws

@@ -1,8 +1,9 @@
 -- One line of a dump, in this project's own form: `page `, the page's number in three decimal digits, a space, and its
 -- 128 words in four hexadecimal digits each, of either case, the high one first (docs/FORMATS.md).
-use Rattle.std.specs.Prelude.{◌≡◌, ◌≢◌, ℕ, ◌+◌, ◌*◌, ◌<◌, ◌≤◌, ◌⊎◌, ◌==◌, if◌then◌else◌, List, [], length, map, take, drop, slice_index, codes}
-use Rattle.std.specs.List.{range_with_len}
-use Rattle.std.specs.Str.Parse.{digits_value, AllDigits}
+use Rattle.std.specs.Prelude.{◌≡◌, ℕ, ◌+◌, ◌*◌, ◌==◌, ◌&&◌, Bool, true, not, nat_eq, nat_lt, nat_le, if◌then◌else◌, List, length, map, take, drop, slice_index, codes, Option, Some, None}
+use Rattle.std.specs.List.{list_all, range_with_len, starts_with}
+use Rattle.std.specs.Char.{is_digit}
+use Rattle.std.specs.Str.Parse.{digits_value}
 use Rattle.flash_words.specs.Pages.{page_count, page_words, set_page}
 use Rattle.flash_dump.specs.declared.dump_line.DumpFault.{DumpFault}
 use Rattle.flash_dump.specs.declared.dump_line.DumpFault.TheVariants.{Form, Order, Range}
@@ -16,12 +17,10 @@ abbrev pub word_digits : List ℕ → ℕ → List ℕ
 word_digits line k = take 4 (drop (9 + 4 * k) line)
 
 -- the line has the form
-pub record HasPage (line : List ℕ) : Type 0 where
-  pub size : length line ≡ 521
-  pub front : take 5 line ≡ codes "page "
-  pub number : AllDigits 10 (number_digits line)
-  pub space : slice_index line 8 ≡ 32
-  pub words : (k : ℕ) → k < page_words → AllDigits 16 (word_digits line k)
+abbrev pub has_page : List ℕ → Bool
+has_page line =
+    (length line == 521) && starts_with nat_eq line (codes "page ") && (slice_index line 8 == 32)
+    && list_all (λ b. is_digit b 10) (number_digits line) && list_all (λ b. is_digit b 16) (drop 9 line)
 
 -- and tells this page and these words
 abbrev pub page_in : List ℕ → ℕ
@@ -38,19 +37,18 @@ next_page least line = if length line == 0 then least else page_in line + 1
 abbrev pub with_line : List ℕ → List ℕ → List ℕ
 with_line words line = if length line == 0 then words else set_page words (page_in line) (words_in line)
 
--- The line has no fault, where the pages from one on may follow: it is empty, or its page is one of these and one of
--- flash.
-abbrev pub IsSound : ℕ → List ℕ → Type 0
-IsSound least line = (line ≡ []) ⊎ (HasPage line × (least ≤ page_in line) × (page_in line < page_count))
-
--- its first fault
-abbrev pub IsFaulty : ℕ → List ℕ → DumpFault → Type 0
-IsFaulty least line Form = (line ≢ []) × (¬ HasPage line)
-IsFaulty least line Order = HasPage line × (page_in line < least)
-IsFaulty least line Range = HasPage line × (least ≤ page_in line) × (page_count ≤ page_in line)
+-- The first fault of a line, where the pages from one on may follow: none where it is empty, or its page is one of these
+-- and one of flash.
+abbrev pub fault_at : ℕ → List ℕ → Option DumpFault
+fault_at least line =
+    if length line == 0 then None
+    else if not (has_page line) then Some Form
+    else if nat_lt (page_in line) least then Some Order
+    else if nat_le page_count (page_in line) then Some Range
+    else None
 
 -- Serves private functions: what was read of a line.
 pub record IsReadLine (line : List ℕ) (told : PageLine) : Type 0 where
-  pub form : HasPage line
+  pub form : has_page line ≡ true
   pub page_is : told.page ≡ page_in line
   pub words_are : told.words ≡ words_in line

@@ -1,9 +1,9 @@
 //! The text of a dump.
 
-ghost use Rattle.std.specs.Prelude.{◌≡◌, ◌≤◌, ◌<◌, [], length, IfOk, IfErr, None};
+ghost use Rattle.std.specs.Prelude.{◌≡◌, ◌≤◌, ◌<◌, [], length, IfOk, IfErr, Some, None};
 ghost use Rattle.flash_words.specs.Pages.{many, page_count, page_of, blank};
 ghost use Rattle.flash_words.specs.Operations.{programmed_page};
-ghost use Rattle.flash_dump.specs.DumpLines.{IsFaulty};
+ghost use Rattle.flash_dump.specs.DumpLines.{fault_at};
 ghost use Rattle.flash_dump.specs.Dumps.{IsDump, IsOpen, IsTaken, erased as erased_words};
 ghost use Rattle.flash_dump.specs.DumpAnswers.{IsRefusal};
 
@@ -60,7 +60,7 @@ fn take_line(flash: &mut Flash, least: u16, line: &[u8]) -> Result<u16, DumpFaul
     requires open { IsOpen flash.old least }
     requires low { least ≤ page_count }
     ensures taken { IfOk result (λ after. IsTaken line.now least after flash.old flash.new) }
-    ensures faulty { IfErr result (IsFaulty least line.now) }
+    ensures faulty { IfErr result (λ fault. fault_at least line.now ≡ Some fault) }
 {
     if line.is_empty() {
         return Ok(least);

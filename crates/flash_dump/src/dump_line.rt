@@ -1,8 +1,9 @@
 //! One line of a dump.
 
-ghost use Rattle.std.specs.Prelude.{◌≡◌, ℕ, ◌<◌, ◌↔◌, length, take, codes, IsTrue, MatchOption};
+ghost use Rattle.std.specs.Prelude.{◌≡◌, ◌<◌, false, nat_eq, length, drop, codes, MatchOption};
+ghost use Rattle.std.specs.List.{starts_with};
 ghost use Rattle.std.specs.Str.Parse.{digits_value, AllDigits};
-ghost use Rattle.flash_dump.specs.DumpLines.{HasPage, IsReadLine, word_digits, words_in};
+ghost use Rattle.flash_dump.specs.DumpLines.{has_page, IsReadLine, word_digits, words_in};
 
 use line_reader::value_of;
 use thiserror::Error;
@@ -35,7 +36,7 @@ const LINE_BYTES: usize = 521;
 
 /// What a line tells, where it has the form.
 pub(crate) fn page_line_in(line: &[u8]) -> Option<PageLine>
-    ensures cases { MatchOption result (¬ HasPage line.now) (IsReadLine line.now) }
+    ensures cases { MatchOption result (has_page line.now ≡ false) (IsReadLine line.now) }
 {
     if line.len() != LINE_BYTES || !begins(line) || line[8] != b' ' {
         return None;
@@ -50,17 +51,16 @@ pub(crate) fn page_line_in(line: &[u8]) -> Option<PageLine>
 
 /// Whether the line begins as one with a page.
 fn begins(line: &[u8]) -> bool
-    requires size { length line.now ≡ 521 }
-    ensures value { IsTrue result ↔ (take 5 line.now ≡ codes "page ") }
+    ensures value { result ≡ starts_with nat_eq line.now (codes "page ") }
 {
-    &line[..5] == b"page ".as_slice()
+    line.starts_with(b"page ")
 }
 
 /// The words that the line's digits write.
 fn words_of(line: &[u8]) -> Option<[u16; 128]>
     requires size { length line.now ≡ 521 }
-    ensures cases { MatchOption result (¬ ((k : ℕ) → k < 128 → AllDigits 16 (word_digits line.now k)))
-        (λ words. ((k : ℕ) → k < 128 → AllDigits 16 (word_digits line.now k)) × (words ≡ words_in line.now)) }
+    ensures cases { MatchOption result (¬ AllDigits 16 (drop 9 line.now))
+        (λ words. AllDigits 16 (drop 9 line.now) × (words ≡ words_in line.now)) }
 {
     let mut words = [0; 128];
     'words: for k in 0..128usize {

@@ -47,7 +47,7 @@ pub fn micro_op(first: u16, second: u16) -> MicroOp
 }
 
 /// NOP.
-#[tactic(auto, unfolding(avr_isa::specs::Instruction::is_undefined))]
+#[tactic(auto, unfolding(avr_isa::specs::UndefinedPairs::is_undefined))]
 fn no_operation() -> Instr
     ensures value { result ≡ Nop }
 {

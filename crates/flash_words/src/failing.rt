@@ -4,7 +4,7 @@ ghost use Rattle.std.specs.Prelude.{◌<◌};
 ghost use Rattle.flash_words.specs.Failing.{never, IsNextListed};
 
 /// An operation that was refused.
-#[derive(Clone, Copy, Debug, PartialEq, Eq)]
+#[derive(Clone, Copy, PartialEq, Eq)]
 pub struct FlashStop {
     /// Its number. The first operation of a new or renewed flash has number 1.
     pub op: u64,
@@ -13,7 +13,7 @@ pub struct FlashStop {
 }
 
 /// Why a page was not rewritten.
-#[derive(Clone, Copy, Debug, PartialEq, Eq)]
+#[derive(Clone, Copy)]
 pub struct RewriteStop {
     /// The number of the operation that was refused.
     pub op: u64,

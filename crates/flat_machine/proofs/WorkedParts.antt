@@ -1,14 +1,15 @@
 -- Worked programs in a part of an image: what they may read, where they may run, and where they answer interrupts.
+use lib.Count.{count_trailing_zeros}
 use Rattle.std.proofs.Common.{◌≡◌, ℕ, true, false, List, [], ◌∷◌, refl}
 use Rattle.input_script.specs.declared.input.Input.TheVariants.{Int}
-use Rattle.avr_isa.specs.Instruction.{is_undefined}
+use Rattle.avr_isa.specs.UndefinedPairs.{is_undefined}
 use Rattle.avr_isa.specs.IoTable.{can_read, can_write, register_at}
 use Rattle.avr_decode.specs.Decoding.{product_form, move_or_product_form, form_0000, form_0001, form_0010, displaced_form, load_form, store_form, plain_form, flag_or_plain_form, one_register_form, register_or_pair_form, io_bit_form, transfer_form, form_1001, io_form, register_bit_form, form_1111, one_word_form, is_long, two_word_form, defined_form, if_defined, the_form}
 use Rattle.avr_isa.specs.Addresses.{relative}
 use Rattle.avr_exec.specs.Registers.{own_byte, with_own_byte}
 use Rattle.avr_exec.specs.Arithmetic.{two_of, immediate_of, word_of, one_of}
-use Rattle.avr_exec.specs.Asks.{ask_of, load_of, store_of, pointed}
-use Rattle.avr_exec.specs.Effects.{finish_of, loaded, stored, with_pointer}
+use Rattle.avr_exec.specs.Asks.{ask_of, finish_of, load_of, store_of, pointed}
+use Rattle.avr_exec.specs.Effects.{loaded, stored, with_pointer}
 use Rattle.avr_exec.specs.Execution.{answer_of, exec_of}
 use Rattle.mote_devices.specs.declared.line.Port.TheVariants.{PortA}
 use Rattle.mote_devices.specs.Inputs.{unreceived, at_poll}
@@ -59,7 +60,7 @@ unfolding run next_of tried the_form is_long two_word_form one_word_form if_defi
     form_0001 form_0010 displaced_form load_form store_form plain_form flag_or_plain_form one_register_form register_or_pair_form io_bit_form
     transfer_form form_1001 io_form register_bit_form form_1111 exec_of answer_of ask_of finish_of two_of immediate_of word_of one_of load_of store_of
     pointed loaded stored with_pointer own_byte with_own_byte many
-    no_pages push_on pop_from push_return_on pop_return_from read write can_read can_write register_at relative unreceived at_poll wake
+    no_pages push_on pop_from push_return_on pop_return_from read write can_read can_write register_at relative unreceived at_poll wake count_trailing_zeros
 parts = record {
   behind = refl;
   last = refl;

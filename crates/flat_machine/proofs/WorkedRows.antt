@@ -1,13 +1,13 @@
 -- The original program at worked programs of a few instructions: every way to end, and what the run comes to.
 use Rattle.std.proofs.Common.{◌≡◌, ℕ, List, [], ◌∷◌, slice_index, refl}
 use Rattle.avr_decode.specs.Decoding.{the_form, is_long, two_word_form, one_word_form, if_defined, defined_form, load_form, store_form, io_form, form_1001, transfer_form, register_or_pair_form, one_register_form, flag_or_plain_form, plain_form}
-use Rattle.avr_isa.specs.Instruction.{is_undefined}
+use Rattle.avr_isa.specs.UndefinedPairs.{is_undefined}
 use Rattle.avr_isa.specs.IoTable.{can_read, can_write, register_at}
 use Rattle.avr_isa.specs.Addresses.{relative}
 use Rattle.avr_exec.specs.Registers.{own_byte, with_own_byte}
 use Rattle.avr_exec.specs.Arithmetic.{immediate_of}
-use Rattle.avr_exec.specs.Asks.{ask_of, load_of, store_of, pointed}
-use Rattle.avr_exec.specs.Effects.{finish_of, loaded, stored, with_pointer}
+use Rattle.avr_exec.specs.Asks.{ask_of, finish_of, load_of, store_of, pointed}
+use Rattle.avr_exec.specs.Effects.{loaded, stored, with_pointer}
 use Rattle.avr_exec.specs.Execution.{answer_of, exec_of}
 use Rattle.mote_devices.specs.declared.line.Line.{Line}
 use Rattle.mote_devices.specs.declared.line.Port.TheVariants.{PortA}

@@ -8,7 +8,7 @@ use Rattle.avr_isa.specs.Image.{word}
 use Rattle.avr_isa.specs.Crossing.{is_crossing}
 use Rattle.avr_decode.specs.Decoding.{size_by_first_word}
 use Rattle.avr_decode.specs.Program.{instruction_at}
-use Rattle.std.specs.Int.{bit_at}
+use Rattle.std.specs.Int.{w8, trailing_zeros}
 use Rattle.avr_flags.specs.Status.{has_bit, with_bit, interrupts}
 use Rattle.avr_exec.specs.declared.cpu.Cpu.{Cpu}
 use Rattle.avr_exec.specs.declared.ask.Ask.{Ask}
@@ -183,15 +183,7 @@ pub data Next : Type 0 where
 
 -- the least number of a bit that is set in a byte, which has one
 abbrev pub lowest : ℕ → ℕ
-lowest n =
-    if bit_at n 0 == 1 then 0
-    else if bit_at n 1 == 1 then 1
-    else if bit_at n 2 == 1 then 2
-    else if bit_at n 3 == 1 then 3
-    else if bit_at n 4 == 1 then 4
-    else if bit_at n 5 == 1 then 5
-    else if bit_at n 6 == 1 then 6
-    else 7
+lowest = trailing_zeros w8
 
 -- the word address where the program answers INTk, at the front of its part (ATmega128 datasheet, "Reset and Interrupt
 -- Vectors"); addresses wrap

@@ -1,9 +1,10 @@
 -- The frame that holds a page. m and n are lists of SRAM's bytes.
 use Rattle.std.proofs.Common.{◌≡◌, ℕ, ◌<◌, List, arith, ap, ap₂, ◌∙◌, sym}
-use Rattle.std.specs.Prelude.{◌≢◌, true, false, not, ◌&&◌, ◌==◌, Some, None, is_some}
+use Rattle.std.specs.Prelude.{◌≢◌, true, false, not, ◌&&◌, ◌==◌, Some, None, is_some, slice_index_or}
 use Rattle.std.proofs.lemmas.Bool.Decides.{nat_tests}
+use Rattle.std.proofs.lemmas.List.FromFn.{get_or-map-range_with_len}
 use Rattle.sram_layout.specs.Cells.{no_slot}
-use Rattle.heap_frames.specs.Frames.{empty, clean, page_held, state_of, is_occupied, holds, frame_of, slot_of, has_slot}
+use Rattle.heap_frames.specs.Frames.{empty, clean, page_held, state_of, is_occupied, holds, frame_of, slot_of, has_slot, pages, table}
 use Rattle.heap_frames.specs.Paged.{IsPaged}
 use Rattle.heap_frames.proofs.Searches.{found_passes, missed_passes, found_same, none_found, only_found}
 
@@ -44,6 +45,11 @@ slot_absent m page none = grind (arith, nat_tests)
 
 pub same_slot_number : (m : List ℕ) (page other : ℕ) → slot_of m page ≡ slot_of m other → has_slot m page ≡ has_slot m other
 same_slot_number m page other same = ap (λ (slot : ℕ). not (slot == no_slot)) same
+
+-- the table of pages with slots
+pub page_of_table : (m : List ℕ) (page : ℕ) → page < 256 → slice_index_or (pages m) page false ≡ has_slot m page
+unfolding pages table
+page_of_table m page below = get_or-map-range_with_len (has_slot m) 0 256 page page false below (omega arith)
 
 pub other_number : (a b : ℕ) → a ≢ b → (a == b) ≡ false
 other_number a b apart = grind (arith, nat_tests)

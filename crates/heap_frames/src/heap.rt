@@ -12,7 +12,7 @@ use sram_layout::{NO_SLOT, Sram};
 use swap_store::Swap;
 
 /// A page was stored to for the first time, and every slot was given.
-#[derive(Clone, Copy, Debug, PartialEq, Eq)]
+#[derive(Clone, Copy, PartialEq, Eq)]
 pub struct SwapFull {
     /// The address of the store.
     pub address: u16,

@@ -1,5 +1,5 @@
 -- The parts of inline templates, each as so many quiet steps.
-use Rattle.std.proofs.Common.{◌≡◌, ℕ, ◌+◌, ◌*◌, ◌/◌, ◌%◌, ◌<◌, ◌≤◌, List, [], ◌∷◌, ◌++◌, length, arith, refl, ap, sym, subst, ◌∙◌}
+use Rattle.std.proofs.Common.{◌≡◌, ℕ, ◌+◌, ◌*◌, ◌/◌, ◌%◌, ◌<◌, ◌≤◌, true, List, [], ◌∷◌, ◌++◌, length, arith, refl, ap, sym, subst, ◌∙◌}
 use Rattle.std.specs.Prelude.{slice_index, slice_set, pos, nat_lt}
 use Rattle.std.proofs.lemmas.Bool.{lt-ltb, le-ltb}
 use Rattle.avr_isa.specs.declared.form.Form.{Form}
@@ -10,7 +10,7 @@ use Rattle.avr_isa.specs.Encoding.{second_word}
 use Rattle.avr_flags.specs.Status.{has_bit, carry}
 use Rattle.avr_flags.specs.Sums.{sub_of}
 use Rattle.avr_flags.specs.Pairs.{adiw_of}
-use Rattle.avr_flags.proofs.StatusLaws.{carry-difference_status}
+use Rattle.avr_flags.proofs.StatusLaws.{carry-difference_of}
 use Rattle.sram_layout.specs.Bytes.{byte_at, with_byte}
 use Rattle.sram_layout.specs.Cells.{sreg_cell, vsp_cell, z_cell}
 use Rattle.nat_template.specs.Inline.{save, restore, from_pointer, to_pointer, guard}
@@ -132,7 +132,7 @@ abbrev pub compared : (s high k : ℕ) → ℕ
 compared s high k = (sub_of s high k).1
 
 less : (s high k : ℕ) → has_bit (compared s high k) carry ≡ nat_lt high k
-less s high k = carry-difference_status s high k 0 _ ∙ ap (nat_lt high) (omega arith)
+less s high k = carry-difference_of s high k 0 true ∙ ap (nat_lt high) (omega arith)
 
 compare_step : (m : Mote) (r : List ℕ) (low high s v : ℕ) (sram : List ℕ) (k : ℕ) → 31 < length r → v + 8 < 65536 → Row m.flash.words v (Imm Cpi 31 k ∷ [])
     → IsQuiet (held m (with_halves r low high) s v sram) (held m (with_halves r low high) (compared s high k) (v + 1) sram)

@@ -3,7 +3,8 @@ use Rattle.std.proofs.Common.{◌≡◌, ℕ, ◌+◌, ◌*◌, ◌/◌, ◌%◌
 use Rattle.std.specs.Prelude.{Ok, Some, None, ℤ, ◌&&◌, not, if◌then◌else◌}
 use Rattle.avr_isa.specs.Image.{byte, word}
 use Rattle.avr_isa.specs.Encoding.{first_word, second_word}
-use Rattle.avr_isa.specs.Instruction.{is_valid, fields_in_range, is_undefined}
+use Rattle.avr_isa.specs.Instruction.{is_valid, fields_in_range}
+use Rattle.avr_isa.specs.UndefinedPairs.{is_undefined}
 use Rattle.avr_decode.specs.Program.{instruction_at}
 use Rattle.decode_laws.proofs.Decoded.{the_form_only}
 use Rattle.avr_isa.specs.declared.form.Form.{Form}
@@ -17,8 +18,8 @@ use Rattle.avr_exec.specs.declared.ask.Ask.TheVariants.{Nothing, Load, Store}
 use Rattle.avr_isa.specs.declared.operation.Ptr.{Ptr}
 use Rattle.avr_isa.specs.declared.operation.Ptr.TheVariants.{ZInc, ZDec, YInc, YDec, X, XInc, XDec}
 use Rattle.avr_exec.specs.declared.stop.BusStop.TheVariants.{Stack as StackStop}
-use Rattle.avr_exec.specs.Asks.{ask_of, load_of, store_of, displaced, target, pointer_value}
-use Rattle.avr_exec.specs.Effects.{finish_of, loaded, stored, byte_of, with_pointer, with_z_raised_if}
+use Rattle.avr_exec.specs.Asks.{ask_of, finish_of, number_of, load_of, store_of, displaced, target, pointer_value}
+use Rattle.avr_exec.specs.Effects.{loaded, stored, with_pointer, with_z_raised_if}
 use Rattle.avr_exec.specs.Execution.{exec_of, answer_of, answered_by}
 use Rattle.avr_exec.specs.Registers.{register, with_register, pair, with_stack, with_counter, own_byte, with_own_byte}
 use Rattle.avr_exec.specs.StackRules.{push_on, pop_from}
@@ -87,14 +88,14 @@ called_near_is k next at o here pushed after =
 -- a byte at hand is loaded from address a: what becomes of the core, by the byte, is f
 after_load : (k : Kernel) (form : Form) (f : ℕ → Cpu) (a words byte : ℕ)
     → execution k form
-    ≡ execution_by k (answered_by (λ answer. with_counter (f (loaded (core_of k (descriptor k)) a answer)) (wrapping_sum (f (loaded (core_of k (descriptor k)) a answer)).pc words)) (answer_of guarded_calls (memory_of k) (load_of a)))
+    ≡ execution_by k (answered_by (λ answer. with_counter (f (loaded (core_of k (descriptor k)) a (number_of answer))) (wrapping_sum (f (loaded (core_of k (descriptor k)) a (number_of answer))).pc words)) (answer_of guarded_calls (memory_of k) (load_of a)))
     → IsPaged k.mote.sram k.mote.swap → LoadsAtHand k.mote.sram a byte → WentOn k form (wrapping_sum (f byte).pc words) (put_back k (f byte) (memory_of k))
 unfolding answer_of load_of loaded
 after_load k form f a words byte is paged hit =
     let core = core_of k (descriptor k) in
     sym (is
-    ∙ ap (λ b. execution_by k (answered_by (λ answer. with_counter (f (if b then own_byte core a else byte_of answer)) (wrapping_sum (f (if b then own_byte core a else byte_of answer)).pc words)) (answer_of guarded_calls (memory_of k) (if b then Nothing else Load a)))) hit.outside
-    ∙ ap (λ o. execution_by k (answered_by (λ answer. with_counter (f (byte_of answer)) (wrapping_sum (f (byte_of answer)).pc words)) (answered_by Byte o))) (hit.loads (memory_of k) refl paged))
+    ∙ ap (λ b. execution_by k (answered_by (λ answer. with_counter (f (if b then own_byte core a else number_of answer)) (wrapping_sum (f (if b then own_byte core a else number_of answer)).pc words)) (answer_of guarded_calls (memory_of k) (if b then Nothing else Load a)))) hit.outside
+    ∙ ap (λ o. execution_by k (answered_by (λ answer. with_counter (f (number_of answer)) (wrapping_sum (f (number_of answer)).pc words)) (answered_by Byte o))) (hit.loads (memory_of k) refl paged))
 
 -- a byte is stored at address a, where the one there is at hand; the core becomes f of it
 after_store : (k : Kernel) (form : Form) (f : Cpu → Cpu) (a v words : ℕ)

@@ -2,7 +2,8 @@
 use Rattle.std.proofs.Common.{◌≡◌, ℕ, ◌+◌, ◌<◌, Bool, true, false, cond, refl, sym, ap, ◌∙◌, arith, IsTrue}
 use Rattle.std.specs.Prelude.{◌≢◌, ◌^◌, ◌==◌, Option, Some, None, if◌then◌else◌, not, ◌&&◌, nat_lt}
 use Rattle.std.proofs.lemmas.Bool.Decides.{nat_tests}
-use Rattle.avr_isa.specs.Instruction.{is_valid, fields_in_range, is_undefined}
+use Rattle.avr_isa.specs.Instruction.{is_valid, fields_in_range}
+use Rattle.avr_isa.specs.UndefinedPairs.{is_undefined}
 use Rattle.avr_isa.specs.IoTable.{can_read, can_write, io_address}
 use Rattle.avr_isa.specs.declared.form.Form.{Form}
 use Rattle.avr_isa.specs.declared.form.Form.TheVariants as forms
@@ -77,9 +78,6 @@ refused_modify s a clear set can = ap (λ o. answered_by {A = Unit {0}} (λ _. D
 pub six_right : (d q : ℕ) → IsTrue ((nat_lt d 32 && nat_lt q 64) && true) → q < 64
 six_right d q valid = grind (arith, nat_tests)
 
-pub six_left : (q r : ℕ) → IsTrue ((nat_lt q 64 && nat_lt r 32) && true) → q < 64
-six_left q r valid = grind (arith, nat_tests)
-
 pub low_left : (q r : ℕ) → IsTrue ((nat_lt q 32 && nat_lt r 8) && true) → q < 32
 low_left q r valid = grind (arith, nat_tests)
 
@@ -132,7 +130,7 @@ some_tries k (forms.InIo d q) is valid shape =
     λ none. io_stops k (q + 0x20) (forms.InIo d q) is refl refl refl (refused_load (space_of k) (q + 0x20) (omega arith) (own_read q (is_own (q + 0x20)) refl low t.0 t.1) t.1)
 some_tries k (forms.OutIo q r) is valid shape =
     let t = fault_io (is_stack_pointer q) (can_write (io_address q)) shape in
-    let low = six_left q r valid in
+    let low = six_right r q valid in
     λ none. io_stops k (q + 0x20) (forms.OutIo q r) is refl refl refl (refused_store (space_of k) (q + 0x20) (register (core_of k (descriptor k)) r) (omega arith) (own_write q (is_own (q + 0x20)) refl low t.0 t.1) t.1)
 some_tries k (forms.Cbi q b) is valid shape =
     λ none. io_stops k (q + 0x20) (forms.Cbi q b) is refl refl refl (refused_modify (space_of k) (q + 0x20) (2 ^ b) 0 (fault_one (can_modify (io_address q)) Native (λ e. cc) shape))

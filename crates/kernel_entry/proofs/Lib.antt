@@ -11,6 +11,5 @@ pub mod FaultLaws
 pub mod TriedLaws
 pub mod ServedLaws
 pub mod InterruptLaws
-mod LowestBit
 mod Sleeping
 pub mod TakingRows

@@ -7,8 +7,7 @@ use Rattle.avr_isa.specs.Instruction.{size_of}
 use Rattle.avr_exec.specs.declared.cpu.Cpu.{Cpu}
 use Rattle.avr_exec.specs.declared.ask.Ask.{Ask}
 use Rattle.avr_exec.specs.declared.stop.BusStop.TheVariants.{Stack as StackStop}
-use Rattle.avr_exec.specs.Asks.{ask_of}
-use Rattle.avr_exec.specs.Effects.{finish_of}
+use Rattle.avr_exec.specs.Asks.{ask_of, finish_of}
 use Rattle.avr_exec.specs.declared.answer.Answer.TheVariants.{Done, Address}
 use Rattle.avr_exec.specs.Execution.{exec_of, answer_of, answered_by}
 use Rattle.avr_isa.specs.Addresses.{wrapping_sum, wrapping_difference, relative}

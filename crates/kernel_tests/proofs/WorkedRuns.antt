@@ -2,7 +2,7 @@
 use Rattle.std.proofs.Common.{◌≡◌, ℕ, ◌<◌, ◌/◌, Bool, true, false, List, [], ◌∷◌, length, map, arith, refl, below_none, below_more}
 use Rattle.avr_decode.specs.Decoding.{the_form, if_defined, defined_form, one_word_form, two_word_form, form_0000, form_1001, form_1111, move_or_product_form, transfer_form, store_form, register_or_pair_form, one_register_form, flag_or_plain_form, plain_form, register_bit_form, is_long}
 use Rattle.avr_isa.specs.Encoding.{first_word}
-use Rattle.avr_isa.specs.Instruction.{is_undefined}
+use Rattle.avr_isa.specs.UndefinedPairs.{is_undefined}
 use Rattle.avr_isa.specs.Addresses.{relative}
 use Rattle.flash_words.specs.Pages.{page_words}
 use Rattle.nat_template.specs.Shapes.{shape_of_form}

@@ -157,11 +157,12 @@ fn changes_and_comes_back(rt: &impl Abort, mote: &mut Mote, parked: &mut Parked)
 
 #[test]
 fn a_task_comes_back_as_it_was(rt: HostRuntime) -> Result<(), Fail> {
-    let mut tasks = Box::new(rt.alloc(), two_tasks(rt.alloc(), &[0xE00F, 0xCFFF])?)?;
+    let mut tasks = two_tasks(rt.alloc(), &[0xE00F, 0xCFFF])?;
     assert!(rt; tasks.running == 0);
     let mut parked = second_parked(&mut tasks)?;
     assert!(rt; parked.low[0] == 200);
-    let mote = &mut tasks.kernel.mote;
+    let mut kernel = tasks.kernel;
+    let mote = &mut kernel.mote;
     changes_and_comes_back(&rt, mote, &mut parked);
     assert!(rt; mote.cpu.r[0] == 9);
     assert!(rt; mote.sram.byte(0x0141) == 1);

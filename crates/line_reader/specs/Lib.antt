@@ -3,3 +3,4 @@ pub mod Lines
 pub mod Cutting
 pub mod Written
 pub mod Stripping
+pub mod Faults

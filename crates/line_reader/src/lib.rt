@@ -12,8 +12,10 @@
 //! [`value_of`] reads a number's digits.
 //!
 //! `specs/Lines.antt` says which lines a text has, and `specs/Stripping.antt` what stands in a line or a word behind its
-//! front, for the readers of words. Laws for the layers above: what a text's first line leaves (`proofs/CutLaws.antt`), that
-//! the lines of a text make up the text (`proofs/TextLaws.antt`), and which texts have a front (`proofs/StripLaws.antt`).
+//! front, for the readers of words; `specs/Faults.antt` says which line of a text is the first faulty one, where each has a
+//! fault of its own or none. Laws for the layers above: what a text's first line leaves (`proofs/CutLaws.antt`), that
+//! the lines of a text make up the text (`proofs/TextLaws.antt`), which texts have a front (`proofs/StripLaws.antt`), which
+//! have digits only (`proofs/DigitTests.antt`), and the first faulty line, line by line (`proofs/FaultLaws.antt`).
 #![tactic(auto)]
 
 mod cut;

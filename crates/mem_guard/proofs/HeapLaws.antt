@@ -2,15 +2,15 @@
 use Rattle.std.proofs.Common.{◌≡◌, ℕ, ◌/◌, ◌<◌, Bool, true, false, ◌||◌, cond, List, length, slice_set, slice_index, refl, ap₂, ◌∙◌, arith, inr, subst}
 use Rattle.std.specs.Prelude.{Some, None, nat_lt, count_by, slice_index_or}
 use Rattle.std.proofs.lemmas.Bool.Decides.{nat_tests}
-use Rattle.std.proofs.lemmas.List.FromFn.{get_or-map-range_with_len}
 use Rattle.sram_layout.specs.Bytes.{byte_at, with_byte}
 use Rattle.flat_machine.specs.Addresses.{is_stack, is_heap}
 use Rattle.heap_frames.specs.Changes.{Stored, StoredOr}
-use Rattle.heap_frames.specs.Frames.{table, pages, has_slot, given}
+use Rattle.heap_frames.specs.Frames.{pages, has_slot, given}
 use Rattle.heap_frames.specs.Memory.{vmem}
 use Rattle.heap_frames.specs.Paged.{IsPaged}
 use Rattle.heap_frames.specs.Paging.{Store, heap_store}
 use Rattle.heap_frames.specs.SamePaging.{SamePaging}
+use Rattle.heap_frames.proofs.FrameLaws.{page_of_table}
 use Rattle.heap_frames.proofs.MemoryLaws.{vmem_byte, stack_byte, stack_from, stack_to}
 use Rattle.heap_frames.proofs.SamePagingLaws.{same_paging_byte, paged_same, pages_same, vmem_window}
 use Rattle.heap_frames.proofs.StoreLaws.{store_leaves}
@@ -42,10 +42,6 @@ page_below a heap = grind (arith, nat_tests)
 -- whether the flat memory has room for a store: the page was stored to, or one more page may be
 abbrev pub has_room : Store → ℕ → Bool
 has_room h a = slice_index_or (pages h.sram) (a / 256) false || nat_lt (count_by (λ b. b) (pages h.sram)) (length h.swap)
-
-page_of_table : (m : List ℕ) (page : ℕ) → page < 256 → slice_index_or (pages m) page false ≡ has_slot m page
-unfolding pages table
-page_of_table m page below = get_or-map-range_with_len (has_slot m) 0 256 page page false below (omega arith)
 
 room_is : (h : Store) (a : ℕ) → IsPaged h.sram h.swap → is_heap a ≡ true → has_room h a ≡ (has_slot h.sram (a / 256) || nat_lt (given h.sram) (length h.swap))
 room_is h a paged heap =

@@ -1,20 +1,21 @@
 -- Quiet steps that ask nothing of the space: IN and OUT of SREG, CPI, DEC, ADIW, SBIW, MOVW, branches, RJMP and JMP. The
 -- registers and SREG afterwards are arguments with equations, so that steps can be chained.
-use Rattle.std.proofs.Common.{◌≡◌, ℕ, ◌+◌, ◌-◌, ◌*◌, ◌%◌, ◌<◌, Bool, true, false, cond, List, refl, ap, ap₂, arith, ◌∙◌}
+use Rattle.std.proofs.Common.{◌≡◌, ℕ, ◌+◌, ◌-◌, ◌*◌, ◌%◌, ◌<◌, ◌==◌, Bool, true, false, cond, List, refl, ap, ap₂, arith, ◌∙◌}
 use Rattle.std.specs.Prelude.{Some, slice_index, slice_set, pos, not, ◌^◌}
 use Rattle.avr_isa.specs.declared.form.Form.TheVariants.{Movw, Imm, Word, One, InIo, OutIo, Brbs, Brbc, Rjmp, Jmp}
 use Rattle.avr_isa.specs.declared.operation.ImmOp.TheVariants.{Cpi}
 use Rattle.avr_isa.specs.declared.operation.OneOp.TheVariants.{Dec}
 use Rattle.avr_isa.specs.declared.operation.WordOp.TheVariants.{Adiw, Sbiw}
 use Rattle.avr_flags.specs.Status.{has_bit, carry}
-use Rattle.avr_flags.specs.Sums.{sub_of, dec_of}
-use Rattle.avr_flags.specs.Pairs.{adiw_of, sbiw_of}
+use Rattle.avr_flags.specs.Sums.{sub_of}
+use Rattle.avr_flags.specs.Logic.{result_of}
+use Rattle.avr_flags.specs.Pairs.{pair_result_of, adiw_of, sbiw_of}
 use Rattle.avr_exec.specs.declared.answer.Answer.TheVariants.{Done}
 use Rattle.avr_isa.specs.Addresses.{wrapping_sum, relative}
 use Rattle.avr_exec.specs.Registers.{own_byte, with_own_byte}
 use Rattle.avr_exec.specs.Arithmetic.{immediate_of, word_of, one_of}
-use Rattle.avr_exec.specs.Asks.{ask_of, load_of, store_of}
-use Rattle.avr_exec.specs.Effects.{finish_of, loaded, stored}
+use Rattle.avr_exec.specs.Asks.{ask_of, finish_of, load_of, store_of}
+use Rattle.avr_exec.specs.Effects.{loaded, stored}
 use Rattle.avr_exec.specs.Execution.{answer_of, is_executed}
 use Rattle.mote_core.specs.declared.mote.Mote.{Mote}
 use Rattle.mote_core.specs.Conditions.{is_mapped}
@@ -42,8 +43,12 @@ unfolding is_executed ask_of finish_of is_mapped answer_of immediate_of
 quiet_cpi m r s s' pc sram d k is below value =
     quiet_by (held m r s pc sram) (Imm Cpi d k) Done sram (core m r s' (pc + 1)) is refl refl refl (ap (λ x. core m r x (wrapping_sum pc 1)) value ∙ pc_one m r s' pc below) (keeps_same sram)
 
+-- what DEC makes of a byte, and of SREG
+abbrev pub lowered : ℕ → ℕ → ℕ × ℕ
+lowered s x = result_of s ((x + 255) % 256) (x == 0x80)
+
 -- DEC
-pub quiet_dec : (m : Mote) (r r' : List ℕ) (s s' pc : ℕ) (sram : List ℕ) (d : ℕ) → flash_form m pc ≡ Some (One Dec d) → pc + 1 < 65536 → slice_set r d (dec_of s (slice_index r d)).0 ≡ r' → (dec_of s (slice_index r d)).1 ≡ s'
+pub quiet_dec : (m : Mote) (r r' : List ℕ) (s s' pc : ℕ) (sram : List ℕ) (d : ℕ) → flash_form m pc ≡ Some (One Dec d) → pc + 1 < 65536 → slice_set r d (lowered s (slice_index r d)).0 ≡ r' → (lowered s (slice_index r d)).1 ≡ s'
     → IsQuiet (held m r s pc sram) (held m r' s' (pc + 1) sram)
 unfolding is_executed ask_of finish_of is_mapped answer_of one_of
 quiet_dec m r r' s s' pc sram d is below value status =
@@ -52,14 +57,14 @@ quiet_dec m r r' s s' pc sram d is below value status =
 -- ADIW and SBIW of Z, and MOVW of Y to Z
 pub quiet_adiw : (m : Mote) (r r' : List ℕ) (s pc : ℕ) (sram : List ℕ) (k : ℕ) → flash_form m pc ≡ Some (Word Adiw 30 k) → pc + 1 < 65536 → with_z r ((z_of r + k) % 65536) ≡ r'
     → IsQuiet (held m r s pc sram) (held m r' (adiw_of s (z_of r) k).1 (pc + 1) sram)
-unfolding is_executed ask_of finish_of is_mapped answer_of word_of
+unfolding is_executed ask_of finish_of is_mapped answer_of word_of pair_result_of
 quiet_adiw m r r' s pc sram k is below value =
     let s' = (adiw_of s (z_of r) k).1 in
     quiet_by (held m r s pc sram) (Word Adiw 30 k) Done sram (core m r' s' (pc + 1)) is refl refl refl (ap (λ x. core m x s' (wrapping_sum pc 1)) value ∙ pc_one m r' s' pc below) (keeps_same sram)
 
 pub quiet_sbiw : (m : Mote) (r r' : List ℕ) (s pc : ℕ) (sram : List ℕ) (k : ℕ) → flash_form m pc ≡ Some (Word Sbiw 30 k) → pc + 1 < 65536 → with_z r ((z_of r + 65536 - k) % 65536) ≡ r'
     → IsQuiet (held m r s pc sram) (held m r' (sbiw_of s (z_of r) k).1 (pc + 1) sram)
-unfolding is_executed ask_of finish_of is_mapped answer_of word_of
+unfolding is_executed ask_of finish_of is_mapped answer_of word_of pair_result_of
 quiet_sbiw m r r' s pc sram k is below value =
     let s' = (sbiw_of s (z_of r) k).1 in
     quiet_by (held m r s pc sram) (Word Sbiw 30 k) Done sram (core m r' s' (pc + 1)) is refl refl refl (ap (λ x. core m x s' (wrapping_sum pc 1)) value ∙ pc_one m r' s' pc below) (keeps_same sram)

@@ -10,8 +10,8 @@ use Rattle.avr_exec.specs.declared.ask.Ask.TheVariants.{Nothing, Load, Store, Pu
 use Rattle.avr_exec.specs.declared.answer.Answer.TheVariants.{Done, Byte}
 use Rattle.avr_isa.specs.Addresses.{wrapping_sum, wrapping_difference}
 use Rattle.avr_exec.specs.Registers.{is_own, own_byte, with_own_byte, with_counter}
-use Rattle.avr_exec.specs.Asks.{ask_of, load_of, store_of}
-use Rattle.avr_exec.specs.Effects.{finish_of, loaded, stored}
+use Rattle.avr_exec.specs.Asks.{ask_of, finish_of, load_of, store_of}
+use Rattle.avr_exec.specs.Effects.{loaded, stored}
 use Rattle.avr_exec.specs.Execution.{answered_by, answer_of, is_executed}
 use Rattle.avr_exec.specs.StackRules.{push_return_on}
 use Rattle.avr_exec.specs.Spaces.{Went as WentOn}
@@ -48,7 +48,7 @@ load_answered space a ram =
     ap (λ b. answer_of physical_calls space (cond b Nothing (Load a))) (sram_not_own a ram)
     ∙ ap (λ b. answered_by Byte (cond b (WentOn (byte_at space.sram a) space) (from_device space a (read space.devices a)))) ram
 
-loaded_is : (cpu : Cpu) (a v : ℕ) → is_sram a ≡ true → loaded cpu a (Byte v) ≡ v
+loaded_is : (cpu : Cpu) (a v : ℕ) → is_sram a ≡ true → loaded cpu a v ≡ v
 unfolding loaded
 loaded_is cpu a v ram = ap (λ b. cond b (own_byte cpu a) v) (sram_not_own a ram)
 
@@ -100,7 +100,7 @@ quiet_ld_z m r r' s pc sram d a is z ram below value =
     let there = z_there r a z ram in
     quiet_by (held m r s pc sram) (LoadOff d Z 0) (Byte (byte_at sram a)) sram (core m r' s (pc + 1)) is refl (ap (λ x. is_mapped (load_of x)) there ∙ load_mapped a ram)
     (ap (λ x. answer_of physical_calls (space_of (held m r s pc sram) None) (load_of x)) there ∙ load_answered (space_of (held m r s pc sram) None) a ram)
-    (ap (λ x. core m (slice_set r d (loaded (core m r s pc) x (Byte (byte_at sram a)))) s (wrapping_sum pc 1)) there
+    (ap (λ x. core m (slice_set r d (loaded (core m r s pc) x (byte_at sram a))) s (wrapping_sum pc 1)) there
     ∙ ap (λ v. core m (slice_set r d v) s (wrapping_sum pc 1)) (loaded_is (core m r s pc) a (byte_at sram a) ram)
     ∙ ap (λ x. core m x s (wrapping_sum pc 1)) value ∙ pc_one m r' s pc below) (keeps_same sram)
 

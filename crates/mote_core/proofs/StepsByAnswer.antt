@@ -4,8 +4,7 @@ use Rattle.std.specs.Prelude.{Some, None, Option, ◌&&◌}
 use Rattle.avr_isa.specs.declared.form.Form.{Form}
 use Rattle.avr_exec.specs.declared.cpu.Cpu.{Cpu}
 use Rattle.avr_exec.specs.declared.answer.Answer.{Answer}
-use Rattle.avr_exec.specs.Asks.{ask_of}
-use Rattle.avr_exec.specs.Effects.{finish_of}
+use Rattle.avr_exec.specs.Asks.{ask_of, finish_of}
 use Rattle.avr_exec.specs.Execution.{answer_of, is_executed}
 use Rattle.avr_exec.specs.Spaces.{Went as WentOn}
 use Rattle.avr_exec.proofs.OneAnswer.{exec_went}

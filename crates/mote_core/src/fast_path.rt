@@ -44,7 +44,7 @@ pub fn fast_move(
 
 /// Executes a micro-operation of the core whose SREG is `sreg` and whose pc is `place`: those that `cpu` has are not looked at.
 /// Tells the new pc. None where it stands for no instruction, or touches an address outside SRAM: then nothing is done.
-#[tactic(auto, unfolding(avr_ops::specs::MicroOps::form_of, avr_ops::specs::MicroOps::next_size_in, avr_ops::specs::MicroOps::has_form, avr_ops::specs::MicroOps::is_in_sram, avr_exec::specs::Execution::exec_of, avr_exec::specs::Execution::answer_of, avr_exec::specs::Asks::ask_of, avr_exec::specs::Asks::load_of, avr_exec::specs::Asks::store_of, avr_exec::specs::Effects::finish_of, avr_exec::specs::Effects::loaded, avr_exec::specs::Effects::stored, avr_exec::specs::Registers::own_byte, avr_exec::specs::Registers::with_own_byte, avr_exec::specs::Arithmetic::two_of, avr_exec::specs::Arithmetic::immediate_of, avr_exec::specs::Arithmetic::word_of, avr_exec::specs::Arithmetic::one_of, avr_exec::specs::StackRules::push_return_on))]
+#[tactic(auto, unfolding(avr_ops::specs::MicroOps::form_of, avr_ops::specs::MicroOps::next_size_in, avr_ops::specs::MicroOps::has_form, avr_ops::specs::MicroOps::is_in_sram, avr_exec::specs::Execution::exec_of, avr_exec::specs::Execution::answer_of, avr_exec::specs::Asks::ask_of, avr_exec::specs::Asks::load_of, avr_exec::specs::Asks::store_of, avr_exec::specs::Asks::finish_of, avr_exec::specs::Effects::loaded, avr_exec::specs::Effects::stored, avr_exec::specs::Registers::own_byte, avr_exec::specs::Registers::with_own_byte, avr_exec::specs::Arithmetic::two_of, avr_exec::specs::Arithmetic::immediate_of, avr_exec::specs::Arithmetic::word_of, avr_exec::specs::Arithmetic::one_of, avr_exec::specs::StackRules::push_return_on))]
 #[inline(always)]
 fn fast_step(
     op: &MicroOp,
@@ -174,7 +174,7 @@ fn fast_step(
 
 /// A micro-operation that is met more seldom; each touches the core's registers alone. None for any other: then nothing is
 /// done. It is apart since a check takes time with the square of a function's length.
-#[tactic(auto, unfolding(avr_ops::specs::MicroOps::form_of, avr_ops::specs::MicroOps::next_size_in, avr_ops::specs::MicroOps::has_form, avr_exec::specs::Execution::exec_of, avr_exec::specs::Execution::answer_of, avr_exec::specs::Asks::ask_of, avr_exec::specs::Effects::finish_of, avr_exec::specs::Arithmetic::two_of, avr_exec::specs::Arithmetic::immediate_of, avr_exec::specs::Arithmetic::one_of))]
+#[tactic(auto, unfolding(avr_ops::specs::MicroOps::form_of, avr_ops::specs::MicroOps::next_size_in, avr_ops::specs::MicroOps::has_form, avr_exec::specs::Execution::exec_of, avr_exec::specs::Execution::answer_of, avr_exec::specs::Asks::ask_of, avr_exec::specs::Asks::finish_of, avr_exec::specs::Arithmetic::two_of, avr_exec::specs::Arithmetic::immediate_of, avr_exec::specs::Arithmetic::one_of))]
 #[inline(always)]
 fn seldom_step(op: &MicroOp, cpu: &mut Cpu, sreg: &mut u8, place: usize) -> Option<usize>
     requires low { place < 0xF000 }

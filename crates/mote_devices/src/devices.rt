@@ -20,7 +20,7 @@ const CONVERTING: u8 = 0x40;
 const CONVERTED: u8 = 0x10;
 
 /// A program may not access the I/O register at this data address in this direction. Nothing was changed.
-#[derive(Clone, Copy, Debug, PartialEq, Eq)]
+#[derive(Clone, Copy, PartialEq, Eq)]
 pub struct IoStop {
     pub address: u16,
 }

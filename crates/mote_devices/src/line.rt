@@ -1,7 +1,7 @@
 //! What a write shows outside.
 
 /// An output that is seen outside.
-#[derive(Clone, Copy, Debug, PartialEq, Eq)]
+#[derive(Clone, Copy, PartialEq, Eq)]
 pub enum Port {
     PortA,
     PortB,
@@ -17,7 +17,7 @@ pub enum Port {
 }
 
 /// One byte that was written to an output.
-#[derive(Clone, Copy, Debug, PartialEq, Eq)]
+#[derive(Clone, Copy, PartialEq, Eq)]
 pub struct Line {
     pub port: Port,
     pub value: u8,

@@ -4,7 +4,7 @@ use Rattle.std.proofs.lemmas.List.{get_or-take, get_or_default}
 use Rattle.avr_isa.specs.declared.form.Form.{Form}
 use Rattle.avr_isa.specs.declared.form.Form.TheVariants.{Nop}
 use Rattle.avr_isa.specs.Image.{word}
-use Rattle.avr_isa.specs.Instruction.{is_undefined}
+use Rattle.avr_isa.specs.UndefinedPairs.{is_undefined}
 use Rattle.avr_decode.specs.Decoding.{the_form, is_long, if_defined, defined_form, one_word_form, form_0000, move_or_product_form}
 use Rattle.flash_words.specs.Pages.{word_count, word_at}
 use Rattle.flash_words.specs.Layouts.{image_of}

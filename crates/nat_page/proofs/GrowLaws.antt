@@ -5,16 +5,15 @@ use Rattle.std.proofs.lemmas.Bool.{cases_lt}
 use Rattle.flash_words.specs.Pages.{page_words}
 use Rattle.flash_words.specs.declared.layout.Layout.{Layout}
 use Rattle.arrayvec.specs.ArrayVec.{ArrayVec}
-use Rattle.page_index.specs.Maps.{IsFree}
-use Rattle.page_index.proofs.MapLaws.{free_lists_nothing}
 use Rattle.page_draft.specs.declared.instruction.Instruction.{Instruction}
 use Rattle.page_draft.specs.declared.draft.Draft.{Draft}
 use Rattle.page_draft.specs.Standing.{size}
 use Rattle.page_draft.specs.Runs.{template_at, closing_at, ends_at, address, templates}
 use Rattle.page_draft.specs.CodePages.{code}
-use Rattle.nat_page.specs.Making.{HasNoEntry, PageStops}
+use Rattle.nat_page.specs.Making.{HasNoEntry}
 use Rattle.page_draft.specs.Drafts.{Adds, code_of, closing_of}
-use Rattle.nat_page.specs.Drafts.{size_with, StopsBehind, GoesOn, IsBegun, IsDrafting, IsDrafted}
+use Rattle.nat_page.specs.Drafted.{size_with, StopsBehind, IsBegun}
+use Rattle.nat_page.specs.Drafts.{GoesOn, IsDrafting, IsDrafted}
 use Rattle.page_draft.proofs.RunLaws.{template_at-range, closing_at-range, size-templates, size-code, page_size-is}
 use Rattle.page_draft.proofs.StartLaws.{length-starts, entries_more, code_more, size_more}
 use Rattle.page_draft.proofs.PageWords.{small_starts}
@@ -69,18 +68,6 @@ begun_more layout image words t last next begun on =
       ];
       fits = omega arith;
     }
-
--- why the run stops, once its page is chosen
-pub stops_of : (layout : Layout) (image words : List ℕ) (page t last : ℕ) → IsFree words page → address image t last / page_words ≡ t / page_words → StopsBehind layout image words (address image t last) (last + 3 + size (templates image t (suc last))) → PageStops layout image words page t last
-stops_of layout image words page t last free paged (StopsBehind.Ends ends) = PageStops.Ends ends
-stops_of layout image words page t last free paged (StopsBehind.Leaves leaves) = PageStops.Leaves (λ same. leaves (same ∙ sym paged))
-stops_of layout image words page t last free paged (StopsBehind.Outside outside) = PageStops.Outside outside
-stops_of layout image words page t last free paged (StopsBehind.Known v entry) =
-    PageStops.Known entry.page entry.index v entry.pool (λ same.
-    let P : ℕ → Type 0 = λ p. IsFree words p in
-    free_lists_nothing words entry.page entry.index _ v (subst P (sym same) free) entry.lists) entry.lists
-stops_of layout image words page t last free paged (StopsBehind.Full full) =
-    PageStops.Full (omega (arith, size-templates image t (suc last), page_size-is image t (suc last)))
 
 -- how many words a draft has with the instruction behind it
 pub record Counts (image : List ℕ) (t last : ℕ) (draft : Draft) (here : Instruction) : Type 0 where

@@ -6,6 +6,7 @@ pub mod PlaceLaws
 pub mod FaithfulLaws
 pub mod EnteredLaws
 mod GrowLaws
+pub mod DraftedLaws
 pub mod MadeLaws
 pub mod TwoWords
 pub mod KeptLaws
@@ -17,7 +18,5 @@ pub mod UnlinkLaws
 mod PatchLaws
 pub mod WalkLaws
 mod CountLaws
-mod DecodedLaws
+pub mod DecodedLaws
 mod OwnLaws
-mod AlikeLaws
-mod KeepLaws

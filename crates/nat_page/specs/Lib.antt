@@ -5,6 +5,6 @@ pub mod Parts
 pub mod Faithful
 pub mod Making
 pub mod Used
+pub mod Drafted
 pub mod Drafts
 pub mod Unlinking
-pub mod Keeping

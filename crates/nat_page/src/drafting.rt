@@ -1,4 +1,4 @@
-//! The run of a page that is made, while it is read.
+//! The page of an address, drafted: its run is read, as far as it goes.
 
 ghost use Rattle.std.specs.Prelude.{◌≡◌, ℕ, ◌+◌, ◌/◌, ◌<◌, ◌≤◌, MatchOption, IfSome, [], length};
 ghost use Rattle.arrayvec.specs.ArrayVec.{array_vec_len};
@@ -6,16 +6,54 @@ ghost use Rattle.flash_words.specs.Layouts.{IsRight, image_of};
 ghost use Rattle.page_index.specs.Entries.{AreKnown};
 ghost use Rattle.nat_page.specs.Making.{HasNoEntry};
 ghost use Rattle.page_draft.specs.Drafts.{IsRead};
-ghost use Rattle.nat_page.specs.Drafts.{StopsBehind, GoesOn, IsDrafting, IsDrafted, IsOwn, own_instruction, IsDraftingOwn};
+ghost use Rattle.nat_page.specs.Drafted.{StopsBehind, IsDraftedPage};
+ghost use Rattle.nat_page.specs.Drafts.{GoesOn, IsDrafting, IsDrafted, IsOwn, own_instruction, IsDraftingOwn};
 
 use crate::image::FlashImage;
 use flash_model::{Flash, Layout, PAGE_WORDS};
 use nat_template::stub_size;
 use page_draft::{Draft, Instruction, read};
 
+/// The page of an address, as it is drafted for any page of the pool that is free.
+#[derive(Clone, Copy)]
+pub struct DraftedPage {
+    /// Its words.
+    pub words: [u16; 128],
+    /// How many of them stand in front of its code: two, and the map.
+    pub front: u16,
+    /// How many stand in front of the erased ones.
+    pub size: u16,
+    /// The address of its run's last instruction.
+    pub last: u16,
+    /// The address behind its run.
+    pub next: u16,
+}
+
+/// Drafts the page of `t`, for one who knows already which addresses of its original page have entries, by their offsets there.
+pub fn draft_page(flash: &Flash, layout: &Layout, known: &[bool; 128], t: u16) -> DraftedPage
+    requires right { IsRight layout.now }
+    requires known { AreKnown layout.now flash.now.words (t / 128) known.now }
+    requires image { length (image_of layout.now flash.now.words) ≡ layout.now.image_words }
+    requires inside { t < layout.now.image_words }
+    requires unknown { HasNoEntry layout.now flash.now.words t }
+    ensures drafted { IsDraftedPage layout.now (image_of layout.now flash.now.words) flash.now.words t result }
+    ensures few { result.front ≤ 128 }
+{
+    let mut draft = Draft::new();
+    let here = draft_run(flash, layout, known, t, &mut draft);
+    let front = 2 + draft.entries.len() as u16;
+    DraftedPage {
+        words: draft.words(t),
+        front,
+        size: front + draft.size,
+        last: here.pc,
+        next: here.next,
+    }
+}
+
 /// Gathers the run from `t`, as far as it goes, and tells its last instruction. `known` tells of each address of its original page
 /// whether it has an entry.
-pub(crate) fn draft_run(
+fn draft_run(
     flash: &Flash,
     layout: &Layout,
     known: &[bool; 128],

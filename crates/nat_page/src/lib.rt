@@ -9,36 +9,30 @@
 //! }
 //! ```
 //!
-//! [`KeptDrafts::draft`] gives the words of that page without making it: those that were drafted for the address before, where they
-//! are the same (`specs/Keeping`), which [`Hints`] has beside the places of entries. [`prepare`] and [`prepare_with`] draft it anew.
-//! [`without_links`] gives the words of a page in which the links that a [`LinkTest`] picks call the kernel's bridge again. [`pages_in_use`] counts the
-//! pages that are used.
+//! [`prepare`] and [`prepare_with`] give the words of that page without making it, and [`draft_page`] those for any page that is free.
+//! [`without_links`] gives the words of a page in which the links that a [`LinkTest`] picks call the kernel's bridge again.
+//! [`pages_in_use`] counts the pages that are used.
 //!
 //! What a run is, what stands in its place, and which words its page has, is told by `page_draft`. `specs/Links`
 //! says where a page leads to original addresses, `specs/Entered` what stands at an entry, `specs/Faithful` when a
-//! pool is faithful to the image, `specs/Making` what making a page changes, `specs/Used` how many pages are used,
-//! and `specs/Unlinking` which links call the bridge again.
+//! pool is faithful to the image, `specs/Making` what making a page changes, `specs/Drafted` what a draft is,
+//! `specs/Used` how many pages are used, and `specs/Unlinking` which links call the bridge again.
 //!
-//! Public laws: `LinkLaws` (links in a row), `HeldLaws`, `StayLaws` and `WalkLaws` (a page's map and run, where its templates stand, and what stays),
-//! `PlaceLaws` and `EnteredLaws` (between two entries none begins; what stands at an entry and behind it),
-//! `FaithfulLaws` (the pool is mapped; a new flash is faithful), `MadeLaws` (the page that is made, and what
-//! stays), `TwoWords`, `KeptLaws`, `RelinkLaws` and `UnlinkLaws` (a link that is resolved, and links that lead
-//! to the kernel's bridge again) and `UsedLaws` (the number of used pages).
+//! Public laws: `LinkLaws` (links in a row), `HeldLaws`, `StayLaws` and `WalkLaws` (a page's map and run, where its templates stand, and
+//! what stays), `PlaceLaws` and `EnteredLaws` (between two entries none begins; what stands at an entry and behind it),
+//! `FaithfulLaws` (the pool is mapped; a new flash is faithful), `DecodedLaws` (the image's words are flash's), `DraftedLaws` (a draft,
+//! in a page that is free), `MadeLaws` (the page that is made, and what stays), `TwoWords`, `KeptLaws`, `RelinkLaws` and `UnlinkLaws`
+//! (a link that is resolved, and links that lead to the kernel's bridge again) and `UsedLaws` (the number of used pages).
 #![tactic(auto)]
 
 mod drafting;
-mod hints;
 mod image;
-mod keeping;
-mod kept_drafts;
 mod making;
 mod unlinking;
 mod using;
 
-pub use hints::Hints;
+pub use drafting::{DraftedPage, draft_page};
 pub use image::FlashImage;
-pub use keeping::KeptDraft;
-pub use kept_drafts::KeptDrafts;
 pub use making::{NatStop, Prepared, naturalise, prepare, prepare_with};
 pub use unlinking::{LeadsInto, LinkTest, Unlinked, page_words, without_links};
 pub use using::pages_in_use;

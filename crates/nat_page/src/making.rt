@@ -11,12 +11,12 @@ ghost use Rattle.nat_page.specs.Links.{IsUnresolved};
 ghost use Rattle.nat_page.specs.Used.{used_pages};
 ghost use Rattle.nat_page.specs.Making.{HasNoEntry, IsPrepared, NaturalisesIn};
 
-use crate::keeping::KeptDraft;
+use crate::drafting::draft_page;
 use flash_model::{Flash, Layout, PAGE_WORDS};
 use page_index::known_offsets;
 
 /// Why no page was made.
-#[derive(Clone, Copy, Debug, PartialEq, Eq)]
+#[derive(Clone, Copy, PartialEq, Eq)]
 pub enum NatStop {
     /// The operation on flash that makes it was refused.
     Flash {
@@ -38,7 +38,7 @@ pub struct Prepared {
 /// `t`, a word address of flash. The run begins at `t` and goes on as far as it may; its links are calls of
 /// the kernel's bridge.
 ///
-/// This is the plain form: the program calls [`KeptDrafts::draft`](crate::KeptDrafts::draft), and programs the page itself.
+/// This is the plain form: the program takes what `KeptDrafts::draft` of `kept_drafts` gives, and programs the page itself.
 pub fn naturalise(flash: &mut Flash, layout: &Layout, page: u16, t: u16) -> Result<u16, NatStop>
     requires right { IsRight layout.now }
     requires code { IsFaithful layout.now (image_of layout.now flash.old.words) flash.old.words }
@@ -67,8 +67,8 @@ pub fn naturalise(flash: &mut Flash, layout: &Layout, page: u16, t: u16) -> Resu
     }
 }
 
-/// The page of `t`, as it would stand in this page of the pool. This is the plain form: the program calls
-/// [`KeptDrafts::draft`](crate::KeptDrafts::draft).
+/// The page of `t`, as it would stand in this page of the pool. This is the plain form: the program takes what
+/// `KeptDrafts::draft` of `kept_drafts` gives.
 pub fn prepare(flash: &Flash, layout: &Layout, page: u16, t: u16) -> Prepared
     requires right { IsRight layout.now }
     requires code { IsFaithful layout.now (image_of layout.now flash.now.words) flash.now.words }
@@ -105,10 +105,10 @@ pub fn prepare_with(
     ensures only { (words : List ℕ) → (place : ℕ) → IsPrepared layout.now (image_of layout.now flash.now.words) flash.now.words page t words place
         → (words ≡ result.words) × (place ≡ result.place) }
 {
-    let mut draft = KeptDraft::none();
-    draft.make(flash, layout, known, t);
+    let draft = draft_page(flash, layout, known, t);
+    let words = draft.words;
     Prepared {
-        words: *draft.words(),
-        place: PAGE_WORDS * page + draft.front(),
+        words,
+        place: PAGE_WORDS * page + draft.front,
     }
 }

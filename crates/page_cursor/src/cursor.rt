@@ -10,7 +10,7 @@ ghost use Rattle.page_cursor.specs.Cursors.{AreNoted, HaveSameBeside, IsCursor, 
 
 use crate::marks::{Mark, Marks};
 use flash_model::{Flash, KERNEL_FIRST, Layout, MOST_IMAGE_WORDS, PAGE_WORDS};
-use nat_page::Hints;
+use kept_drafts::Hints;
 use page_index::{address_at, entries, is_free, is_in_pool, place_at};
 use std::alloc::{AllocError, Global};
 

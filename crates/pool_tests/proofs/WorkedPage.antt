@@ -2,7 +2,7 @@
 use Rattle.std.proofs.Common.{◌≡◌, ℕ, ◌+◌, List, [], ◌∷◌, arith, refl, subst}
 use Rattle.avr_decode.specs.Decoding.{the_form, if_defined, defined_form, one_word_form, is_long}
 use Rattle.avr_isa.specs.Encoding.{first_word, second_word}
-use Rattle.avr_isa.specs.Instruction.{is_undefined}
+use Rattle.avr_isa.specs.UndefinedPairs.{is_undefined}
 use Rattle.avr_isa.specs.Addresses.{relative}
 use Rattle.flash_words.specs.Layouts.{IsRight}
 use Rattle.flash_words.specs.declared.layout.Layout.{Layout}

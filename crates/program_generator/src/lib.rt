@@ -15,7 +15,7 @@
 #![tactic(auto)]
 
 ghost use Rattle.std.specs.Prelude.{◌≡◌, ◌+◌, ◌%◌, ◌++◌, false, IfOk, OnOk};
-ghost use Rattle.avr_isa.specs.Instruction.{is_undefined};
+ghost use Rattle.avr_isa.specs.UndefinedPairs.{is_undefined};
 ghost use Rattle.program_generator.specs.Generated.{generated, instruction_of, next, words_from};
 
 use avr_encode::encode;
@@ -88,7 +88,7 @@ fn instruction(x: u32) -> Instr
 }
 
 // The operation by the two highest bits, the registers by two bytes.
-#[tactic(auto, unfolding(avr_isa::specs::Instruction::is_undefined))]
+#[tactic(auto, unfolding(avr_isa::specs::UndefinedPairs::is_undefined))]
 fn form(x: u32) -> Form
     ensures value { result ≡ instruction_of x }
     ensures defined { is_undefined result ≡ false }

@@ -21,8 +21,8 @@ ghost use Rattle.program_steps.specs.Wholes.{whole};
 use crate::progress::Progress;
 use branch_bridge::{Arrival, ArriveStop, arrive_at_known_place, arrive_through};
 use flash_model::{Flash, PAGE_WORDS};
+use kept_drafts::Hints;
 use kernel_entry::{End, Kernel, Owed};
-use nat_page::Hints;
 use page_cursor::Cursor;
 
 /// Whether the program may go on where it stands: one that is shut in its part may not outside it, and then ends there

@@ -14,7 +14,7 @@ use std::marker::Model;
 pub const NO_SLOT: u8 = 0xFF;
 
 /// The internal SRAM, data addresses 0x0100 to 0x10FF. Contracts see the list of its 4,096 bytes.
-#[derive(Debug, Drop)]
+#[derive(Drop)]
 pub struct Sram {
     bytes: [u8; 4096],
 }

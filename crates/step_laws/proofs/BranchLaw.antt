@@ -3,7 +3,8 @@ use Rattle.std.proofs.Common.{◌%◌, ℕ, ◌≡◌, ◌+◌, ◌==◌, ◌∙
 use Rattle.std.specs.Prelude.{⊤, ℤ, ◌^◌, if◌then◌else◌, ◌&&◌, Option, Some, None, not, nat_lt, pos}
 use Rattle.avr_isa.specs.Image.{word}
 use Rattle.avr_isa.specs.Encoding.{first_word, second_word}
-use Rattle.avr_isa.specs.Instruction.{is_valid, fields_in_range, is_undefined, size_of}
+use Rattle.avr_isa.specs.Instruction.{is_valid, fields_in_range, size_of}
+use Rattle.avr_isa.specs.UndefinedPairs.{is_undefined}
 use Rattle.avr_isa.specs.declared.form.Form.{Form}
 use Rattle.avr_isa.specs.declared.form.Form.TheVariants as forms
 use Rattle.avr_isa.specs.IoTable.{can_read, can_write, io_address}
@@ -15,8 +16,7 @@ use Rattle.avr_exec.specs.declared.ask.Ask.TheVariants as asks
 use Rattle.avr_exec.specs.declared.answer.Answer.TheVariants.{Done}
 use Rattle.avr_isa.specs.Addresses.{relative, wrapping_sum}
 use Rattle.avr_exec.specs.Registers.{with_counter}
-use Rattle.avr_exec.specs.Asks.{ask_of}
-use Rattle.avr_exec.specs.Effects.{finish_of}
+use Rattle.avr_exec.specs.Asks.{ask_of, finish_of}
 use Rattle.avr_exec.specs.Execution.{is_executed}
 use Rattle.flash_words.specs.Pages.{word_at}
 use Rattle.mote_core.specs.Step.{form_at as form_at_mote, next_size as mote_next_size}

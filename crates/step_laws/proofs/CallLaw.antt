@@ -6,8 +6,7 @@ use Rattle.avr_isa.specs.declared.form.Form.{Form}
 use Rattle.avr_exec.specs.declared.cpu.Cpu.{Cpu}
 use Rattle.avr_exec.specs.declared.answer.Answer.{Answer}
 use Rattle.avr_isa.specs.Addresses.{wrapping_sum}
-use Rattle.avr_exec.specs.Asks.{ask_of}
-use Rattle.avr_exec.specs.Effects.{finish_of}
+use Rattle.avr_exec.specs.Asks.{ask_of, finish_of}
 use Rattle.avr_exec.specs.Execution.{answered_by, answer_of, is_executed}
 use Rattle.avr_exec.specs.Spaces.{Outcome, Went as WentOn, Stopped as StoppedOn}
 use Rattle.avr_exec.proofs.OneAnswer.{exec_by_ask}

@@ -1,10 +1,9 @@
 -- The instructions of a crossing stub before its link: r24 and SREG are put away, and COUNT is lowered.
-use Rattle.std.proofs.Common.{[], ℕ, ◌≡◌, ◌+◌, ◌<◌, ◌∷◌, ◌∙◌, Bool, true, false, List, length, get_or, refl, sym, ap, arith, subst}
+use Rattle.std.proofs.Common.{[], ℕ, ◌≡◌, ◌+◌, ◌%◌, ◌<◌, ◌∷◌, ◌∙◌, Bool, true, false, List, length, get_or, refl, sym, ap, arith, subst}
 use Rattle.std.specs.Prelude.{◌==◌, if◌then◌else◌, None, pos}
 use Rattle.std.proofs.lemmas.Bool.Decides.{nat_tests}
 use Rattle.avr_isa.specs.Encoding.{first_word, second_word}
 use Rattle.avr_flags.specs.Status.{has_bit, with_bit, with_result_flags}
-use Rattle.avr_flags.specs.Sums.{dec_of, dec_status, byte_difference}
 use Rattle.avr_isa.specs.Addresses.{wrapping_sum, relative}
 use Rattle.avr_exec.specs.Registers.{register}
 use Rattle.flash_words.specs.declared.layout.Layout.{Layout}
@@ -28,6 +27,7 @@ use Rattle.step_laws.proofs.HeldSteps.{breq_held, dec_held, held, in_held, lds_h
 use Rattle.step_laws.proofs.StubWords.{breq_form, dec_form, in_form, lds_form, out_form, sts_form}
 use Rattle.step_laws.proofs.PlainMoves.{StandAt, form_there, quiet_move}
 use Rattle.mote_core.specs.QuietSteps.{IsQuiet}
+use Rattle.mote_core.proofs.QuietCore.{lowered}
 
 -- the words of the instructions before the link
 abbrev pub count_words : List ℕ
@@ -73,7 +73,7 @@ abbrev count_of : Mote → ℕ
 count_of m = byte_at (put_away m) count_cell
 
 abbrev pub lowered_of : Mote → ℕ × ℕ
-lowered_of m = dec_of m.cpu.sreg (count_of m)
+lowered_of m = lowered m.cpu.sreg (count_of m)
 
 abbrev pub counted_down : Mote → List ℕ
 counted_down m = with_byte (put_away m) count_cell (lowered_of m).0
@@ -153,9 +153,9 @@ zero_made : (n : ℕ) (z : Bool) → has_bit (with_bit n 2 z) 2 ≡ z
 zero_made n true = grind (arith, nat_tests)
 zero_made n false = grind (arith, nat_tests)
 
-pub taken_is : (m : Mote) (c : ℕ) → byte_at m.sram count_cell ≡ c → has_bit (lowered_of m).1 2 ≡ (byte_difference c 1 0 == 0)
-unfolding dec_status with_result_flags
-taken_is m c is = zero_made _ (byte_difference (count_of m) 1 0 == 0) ∙ ap (λ n. byte_difference n 1 0 == 0) (count_read m ∙ is)
+pub taken_is : (m : Mote) (c : ℕ) → byte_at m.sram count_cell ≡ c → has_bit (lowered_of m).1 2 ≡ ((c + 255) % 256 == 0)
+unfolding with_result_flags
+taken_is m c is = zero_made _ ((count_of m + 255) % 256 == 0) ∙ ap (λ n. (n + 255) % 256 == 0) (count_read m ∙ is)
 
 -- the branch isn't taken: r24 and SREG are put back
 pub tail_on : (links : Links) (x : State) (w t : ℕ) → IsRunning x → CrossingStub links x.kernel.layout (mote_of x).flash.words w t → IsIdle x.kernel

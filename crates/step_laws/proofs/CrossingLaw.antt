@@ -1,9 +1,8 @@
 -- The way through a crossing stub: the bridge, the resolved jump, or the end of the quantum.
-use Rattle.std.proofs.Common.{[], ℕ, ◌≡◌, ◌+◌, ◌-◌, ◌<◌, ◌≤◌, ◌∷◌, ◌++◌, ◌∙◌, Bool, true, false, length, refl, sym, ap, ap₂, arith, subst}
+use Rattle.std.proofs.Common.{[], ℕ, ◌≡◌, ◌+◌, ◌-◌, ◌%◌, ◌<◌, ◌≤◌, ◌∷◌, ◌++◌, ◌∙◌, Bool, true, false, length, refl, sym, ap, ap₂, arith, subst}
 use Rattle.std.specs.Prelude.{◌==◌, if◌then◌else◌, None, slice_set}
 use Rattle.std.proofs.lemmas.List.{set-get_or}
 use Rattle.std.proofs.lemmas.Bool.Decides.{nat_tests}
-use Rattle.avr_flags.specs.Sums.{byte_difference}
 use Rattle.avr_exec.specs.Registers.{register}
 use Rattle.flash_words.specs.Pages.{word_at}
 use Rattle.sram_layout.specs.Bytes.{byte_at, with_byte}
@@ -37,13 +36,13 @@ down_kept m b low =
 down_size : (m : Mote) → length (counted_down m) ≡ length m.sram
 down_size m = length-with_byte (put_away m) count_cell (lowered_of m).0 ∙ length-with_byte (with_byte m.sram r24_cell (register m.cpu 24)) sreg_cell m.cpu.sreg ∙ length-with_byte m.sram r24_cell (register m.cpu 24)
 
-lowered_by_one : (q c : ℕ) → 1 ≤ c → c < 256 → (c == 1) ≡ false → byte_difference c 1 0 ≡ count_after q c
-lowered_by_one q c some most more = let e : byte_difference c 1 0 ≡ c - 1 = omega arith in e ∙ sym (ap (λ b. if b then q else c - 1) more)
+lowered_by_one : (q c : ℕ) → 1 ≤ c → c < 256 → (c == 1) ≡ false → (c + 255) % 256 ≡ count_after q c
+lowered_by_one q c some most more = let e : (c + 255) % 256 ≡ c - 1 = omega arith in e ∙ sym (ap (λ b. if b then q else c - 1) more)
 
-not_zero : (c : ℕ) → 1 ≤ c → c < 256 → (c == 1) ≡ false → (byte_difference c 1 0 == 0) ≡ false
+not_zero : (c : ℕ) → 1 ≤ c → c < 256 → (c == 1) ≡ false → ((c + 255) % 256 == 0) ≡ false
 not_zero c some most more = grind (arith, nat_tests)
 
-is_zero : (c : ℕ) → (c == 1) ≡ true → (byte_difference c 1 0 == 0) ≡ true
+is_zero : (c : ℕ) → (c == 1) ≡ true → ((c + 255) % 256 == 0) ≡ true
 is_zero c one = grind (arith, nat_tests)
 
 -- the same mote, before anything
@@ -69,7 +68,7 @@ same_down m p fit = record {
 count_down_is : (m : Mote) (q : ℕ) → length m.sram ≡ 4096 → 1 ≤ byte_at m.sram count_cell → byte_at m.sram count_cell < 256 → (byte_at m.sram count_cell == 1) ≡ false → byte_at (counted_down m) count_cell ≡ count_after q (byte_at m.sram count_cell)
 count_down_is m q size some most more =
     byte_same (put_away m) count_cell (lowered_of m).0 (omega arith) (omega (arith, length-with_byte (with_byte m.sram r24_cell (register m.cpu 24)) sreg_cell m.cpu.sreg, length-with_byte m.sram r24_cell (register m.cpu 24)))
-    ∙ ap (λ n. byte_difference n 1 0) (count_read m) ∙ lowered_by_one q (byte_at m.sram count_cell) some most more
+    ∙ ap (λ n. (n + 255) % 256) (count_read m) ∙ lowered_by_one q (byte_at m.sram count_cell) some most more
 
 -- behind QUANTUM, which takes r24 and SREG from their cells
 same_timed : (m : Mote) (d q : ℕ × ℕ) (ret quantum pc : ℕ) → length m.sram ≡ 4096 → m.cpu.sp ≡ 0x011F

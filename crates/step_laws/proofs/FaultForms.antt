@@ -1,7 +1,8 @@
 -- Instructions that stop the program, tried by the original machine.
 use Rattle.std.proofs.Common.{ℕ, ◌≡◌, ◌+◌, ◌<◌, ◌==◌, ◌∙◌, Bool, true, false, cond, refl, ap, arith, IsTrue}
 use Rattle.std.specs.Prelude.{◌^◌, if◌then◌else◌, ◌&&◌, Option, Some, None, not}
-use Rattle.avr_isa.specs.Instruction.{is_valid, fields_in_range, is_undefined}
+use Rattle.avr_isa.specs.Instruction.{is_valid, fields_in_range}
+use Rattle.avr_isa.specs.UndefinedPairs.{is_undefined}
 use Rattle.avr_isa.specs.IoTable.{can_read, can_write, io_address}
 use Rattle.avr_isa.specs.declared.form.Form.{Form}
 use Rattle.avr_isa.specs.declared.form.Form.TheVariants as forms
@@ -33,7 +34,7 @@ use Rattle.kernel_entry.specs.Parts.{core_of, memory_of, image_held}
 use Rattle.kernel_entry.specs.Services.{fault_of, is_sleep}
 use Rattle.step_laws.proofs.ShapeTests.{not_chosen, chosen_other}
 use Rattle.kernel_entry.specs.Seen.{program, state_at, end_of}
-use Rattle.kernel_entry.proofs.FaultLaws.{io_class, reads_not, six_right, six_left, low_left, own_read, own_write}
+use Rattle.kernel_entry.proofs.FaultLaws.{io_class, reads_not, six_right, low_left, own_read, own_write}
 use Rattle.step_laws.proofs.AskedLaw.{owns_by}
 use Rattle.flat_machine.proofs.ReadLaws.{reads_program}
 
@@ -86,7 +87,7 @@ some_tries k a (forms.InIo d q) paged is valid shape =
     λ none. io_stops k a (q + 0x20) (forms.InIo d q) paged is refl refl refl (refused_load (memory_of k) (q + 0x20) (omega arith) (own_read q _ refl low t.0 t.1) t.1)
 some_tries k a (forms.OutIo q r) paged is valid shape =
     let t = fault_io (is_stack_pointer q) (can_write (io_address q)) shape in
-    let low = six_left q r valid in
+    let low = six_right r q valid in
     λ none. io_stops k a (q + 0x20) (forms.OutIo q r) paged is refl refl refl (refused_store (memory_of k) (q + 0x20) (register (core_of k a) r) (omega arith) (own_write q _ refl low t.0 t.1) t.1)
 some_tries k a (forms.Cbi q b) paged is valid shape =
     λ none. io_stops k a (q + 0x20) (forms.Cbi q b) paged is refl refl refl (refused_modify (memory_of k) (q + 0x20) (2 ^ b) 0 (chosen_other (can_modify (io_address q)) Native Fault Fault (λ e. cc) shape))

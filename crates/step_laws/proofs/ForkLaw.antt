@@ -2,7 +2,7 @@
 use Rattle.std.proofs.Common.{ℕ, ◌≡◌, ◌+◌, ◌<◌, ◌≤◌, ◌∷◌, ◌∙◌, Bool, true, false, cond, List, refl, sym, ap, arith, subst}
 use Rattle.std.specs.Prelude.{if◌then◌else◌, Some, None, pos}
 use Rattle.avr_isa.specs.Crossing.{is_crossing}
-use Rattle.avr_isa.specs.Instruction.{is_undefined}
+use Rattle.avr_isa.specs.UndefinedPairs.{is_undefined}
 use Rattle.avr_isa.specs.declared.form.Form.TheVariants as forms
 use Rattle.avr_decode.specs.Decoding.{the_form, is_long, two_word_form, one_word_form, transfer_form, defined_form, if_defined}
 use Rattle.flash_words.specs.Pages.{word_at}

@@ -6,7 +6,6 @@ use Rattle.std.proofs.lemmas.Bool.Decides.{nat_tests}
 use Rattle.avr_isa.specs.declared.form.Form.TheVariants as forms
 use Rattle.avr_isa.specs.declared.operation.OneOp.TheVariants as ops
 use Rattle.avr_flags.specs.Status.{has_bit}
-use Rattle.avr_flags.specs.Sums.{dec_of}
 use Rattle.avr_isa.specs.Addresses.{wrapping_sum, relative}
 use Rattle.sram_layout.specs.Bytes.{byte_at, with_byte, first_address}
 use Rattle.sram_layout.specs.Cells.{sreg_cell}
@@ -15,7 +14,7 @@ use Rattle.mote_core.specs.QuietSteps.{IsQuiet, flash_form}
 use Rattle.mote_core.specs.QuietSteps.{held as with_core}
 use Rattle.mote_core.proofs.StepsByAnswer.{keeps_cell}
 use Rattle.mote_core.proofs.QuietMemory.{quiet_lds, quiet_sts}
-use Rattle.mote_core.proofs.QuietCore.{quiet_in_status, quiet_out_status, quiet_dec, quiet_branch}
+use Rattle.mote_core.proofs.QuietCore.{quiet_in_status, quiet_out_status, lowered, quiet_dec, quiet_branch}
 
 -- the mote with these values of r24, SREG and the pc, and these bytes
 abbrev pub held : Mote → (x s p : ℕ) → List ℕ → Mote
@@ -53,13 +52,13 @@ out_held m x s p p' ram fits is low behind =
     subst P (sym behind) (quiet_out_status m (slice_set m.cpu.r 24 x) s x p ram 24 is (omega arith) (r24_held m x fits))
 
 pub dec_held : (m : Mote) (x s p p' : ℕ) (ram : List ℕ) → 24 < length m.cpu.r → flash_form m p ≡ Some (forms.One ops.Dec 24) → p < 0xF000 → p' ≡ p + 1
-    → IsQuiet (held m x s p ram) (held m (dec_of s x).0 (dec_of s x).1 p' ram)
+    → IsQuiet (held m x s p ram) (held m (lowered s x).0 (lowered s x).1 p' ram)
 dec_held m x s p p' ram fits is low behind =
     let r = slice_set m.cpu.r 24 x in
-    let P : ℕ → Type 0 = λ q. IsQuiet (held m x s p ram) (held m (dec_of s x).0 (dec_of s x).1 q ram) in
-    subst P (sym behind) (quiet_dec m r (slice_set m.cpu.r 24 (dec_of s x).0) s (dec_of s x).1 p ram 24 is (omega arith)
-    (ap (λ v. slice_set r 24 (dec_of s v).0) (r24_held m x fits) ∙ set_twice m.cpu.r 24 x (dec_of s x).0)
-    (ap (λ v. (dec_of s v).1) (r24_held m x fits)))
+    let P : ℕ → Type 0 = λ q. IsQuiet (held m x s p ram) (held m (lowered s x).0 (lowered s x).1 q ram) in
+    subst P (sym behind) (quiet_dec m r (slice_set m.cpu.r 24 (lowered s x).0) s (lowered s x).1 p ram 24 is (omega arith)
+    (ap (λ v. slice_set r 24 (lowered s v).0) (r24_held m x fits) ∙ set_twice m.cpu.r 24 x (lowered s x).0)
+    (ap (λ v. (lowered s v).1) (r24_held m x fits)))
 
 pub breq_held : (m : Mote) (x s p p' : ℕ) (ram : List ℕ) → flash_form m p ≡ Some (forms.Brbs 1 (pos 8)) → cond (has_bit s 2) (relative p (pos 8)) (wrapping_sum p 1) ≡ p' → IsQuiet (held m x s p ram) (held m x s p' ram)
 breq_held m x s p p' ram is goes = quiet_branch m (slice_set m.cpu.r 24 x) s p p' ram 1 8 (has_bit s 2) is refl goes

@@ -5,7 +5,8 @@ use Rattle.avr_isa.specs.declared.form.Form.TheVariants.{Push, Pop, LoadOff, Sto
 use Rattle.avr_isa.specs.declared.operation.WordOp.TheVariants.{Adiw}
 use Rattle.avr_isa.specs.declared.operation.Base.TheVariants.{Y, Z}
 use Rattle.avr_isa.specs.Encoding.{second_word}
-use Rattle.avr_isa.specs.Instruction.{is_valid, fields_in_range, is_undefined}
+use Rattle.avr_isa.specs.Instruction.{is_valid, fields_in_range}
+use Rattle.avr_isa.specs.UndefinedPairs.{is_undefined}
 use Rattle.nat_template.specs.Inline.{push_forms, pop_forms, load_forms, store_forms}
 use Rattle.nat_template.specs.Templates.{is_z}
 use Rattle.inline_laws.specs.InlineWays.{IsOther}
@@ -38,9 +39,9 @@ load_fields : (d q : ℕ) → IsTrue (is_valid (LoadOff d Y q)) → (nat_lt d 32
 unfolding is_valid fields_in_range is_undefined
 load_fields d q valid = two_by (nat_lt d 32) (nat_lt q 64) valid
 
-store_fields : (q d : ℕ) → IsTrue (is_valid (StoreOff Y q d)) → (nat_lt q 64 ≡ true) × (nat_lt d 32 ≡ true)
+store_fields : (q d : ℕ) → IsTrue (is_valid (StoreOff Y q d)) → (nat_lt d 32 ≡ true) × (nat_lt q 64 ≡ true)
 unfolding is_valid fields_in_range is_undefined
-store_fields q d valid = two_by (nat_lt q 64) (nat_lt d 32) valid
+store_fields q d valid = two_by (nat_lt d 32) (nat_lt q 64) valid
 
 -- LD d, Z; ST Z, d; and ADIW
 load_valid : (d : ℕ) → nat_lt d 32 ≡ true → IsTrue (is_valid (LoadOff d Z 0))
@@ -49,7 +50,7 @@ load_valid d fits = ap (λ b. b && true && true) fits
 
 store_valid : (d : ℕ) → nat_lt d 32 ≡ true → IsTrue (is_valid (StoreOff Z 0 d))
 unfolding is_valid fields_in_range is_undefined
-store_valid d fits = ap (λ b. true && b && true) fits
+store_valid d fits = ap (λ b. b && true && true) fits
 
 raise_valid : (q : ℕ) → nat_lt q 64 ≡ true → IsTrue (is_valid (Word Adiw 30 q))
 unfolding is_valid fields_in_range is_undefined
@@ -70,4 +71,4 @@ frame_load_valid d q valid = (refl, (refl, (refl, (refl, (refl, (raise_valid q (
 
 pub frame_store_valid : (q d : ℕ) → IsTrue (is_valid (StoreOff Y q d)) → AreValid (store_forms q d)
 unfolding store_forms second_word is_valid fields_in_range is_undefined
-frame_store_valid q d valid = (refl, (refl, (refl, (refl, (refl, (raise_valid q (store_fields q d valid).0, (refl, (refl, (refl, (refl, (store_valid d (store_fields q d valid).1, (refl, (refl, (refl, (refl, (refl, (refl, (refl, (refl, (refl, (refl, tt)))))))))))))))))))))
+frame_store_valid q d valid = (refl, (refl, (refl, (refl, (refl, (raise_valid q (store_fields q d valid).1, (refl, (refl, (refl, (refl, (store_valid d (store_fields q d valid).0, (refl, (refl, (refl, (refl, (refl, (refl, (refl, (refl, (refl, (refl, tt)))))))))))))))))))))

@@ -11,8 +11,8 @@ use Rattle.avr_exec.specs.declared.answer.Answer.TheVariants.{Done, Byte}
 use Rattle.avr_exec.specs.declared.stop.BusStop.TheVariants.{Stack as StackStop}
 use Rattle.avr_isa.specs.Addresses.{wrapping_sum, wrapping_difference}
 use Rattle.avr_exec.specs.Registers.{is_own, own_byte, with_own_byte, with_counter}
-use Rattle.avr_exec.specs.Asks.{ask_of, load_of, store_of}
-use Rattle.avr_exec.specs.Effects.{finish_of, loaded, stored}
+use Rattle.avr_exec.specs.Asks.{ask_of, finish_of, load_of, store_of}
+use Rattle.avr_exec.specs.Effects.{loaded, stored}
 use Rattle.avr_exec.specs.Execution.{answered_by, answer_of}
 use Rattle.avr_exec.specs.StackRules.{push_on, pop_from}
 use Rattle.avr_exec.specs.Spaces.{Went as WentOn, Stopped as StoppedOn}
@@ -73,7 +73,7 @@ stored_there g a v from to =
     ∙ ap (λ c. answered_by (λ (_ : Unit {0}). Done) (store_in c g a v)) (window_class a from to)
 
 -- and what the core makes of it
-loaded_is : (cpu : Cpu) (a v : ℕ) → 0x0D00 ≤ a → loaded cpu a (Byte v) ≡ v
+loaded_is : (cpu : Cpu) (a v : ℕ) → 0x0D00 ≤ a → loaded cpu a v ≡ v
 unfolding loaded
 loaded_is cpu a v from = ap (λ b. cond b (own_byte cpu a) v) (not_own a from)
 

@@ -10,8 +10,7 @@ use Rattle.avr_flags.specs.Status.{has_bit, interrupts}
 use Rattle.avr_exec.specs.declared.answer.Answer.TheVariants.{Done}
 use Rattle.avr_exec.specs.declared.ask.Ask.TheVariants.{Nothing}
 use Rattle.avr_isa.specs.Addresses.{relative}
-use Rattle.avr_exec.specs.Asks.{ask_of}
-use Rattle.avr_exec.specs.Effects.{finish_of}
+use Rattle.avr_exec.specs.Asks.{ask_of, finish_of}
 use Rattle.avr_exec.specs.Execution.{is_executed}
 use Rattle.avr_exec.specs.Spaces.{Went as WentOn}
 use Rattle.avr_exec.proofs.OneAnswer.{exec_nothing}

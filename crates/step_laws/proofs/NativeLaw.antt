@@ -5,8 +5,7 @@ use Rattle.avr_isa.specs.Image.{word}
 use Rattle.avr_isa.specs.declared.form.Form.{Form}
 use Rattle.avr_exec.specs.declared.cpu.Cpu.{Cpu}
 use Rattle.avr_isa.specs.Addresses.{wrapping_sum}
-use Rattle.avr_exec.specs.Asks.{ask_of}
-use Rattle.avr_exec.specs.Effects.{finish_of}
+use Rattle.avr_exec.specs.Asks.{ask_of, finish_of}
 use Rattle.avr_exec.specs.Execution.{answered_by, exec_of}
 use Rattle.avr_exec.specs.Spaces.{Outcome, Went as WentOn}
 use Rattle.avr_exec.specs.Likeness.{placed}

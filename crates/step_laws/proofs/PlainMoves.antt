@@ -7,8 +7,7 @@ use Rattle.avr_exec.specs.declared.cpu.Cpu.{Cpu}
 use Rattle.avr_exec.specs.declared.ask.Ask.TheVariants.{Nothing}
 use Rattle.avr_exec.specs.declared.answer.Answer.TheVariants.{Done}
 use Rattle.avr_isa.specs.Addresses.{wrapping_sum}
-use Rattle.avr_exec.specs.Asks.{ask_of}
-use Rattle.avr_exec.specs.Effects.{finish_of}
+use Rattle.avr_exec.specs.Asks.{ask_of, finish_of}
 use Rattle.avr_exec.specs.Execution.{answer_of, is_executed}
 use Rattle.flash_words.specs.Pages.{word_at}
 use Rattle.mote_core.specs.declared.mote.Mote.{Mote}

@@ -2,7 +2,8 @@
 use Rattle.std.proofs.Common.{ℕ, ◌≡◌, ◌+◌, ◌==◌, ◌∙◌, Bool, true, false, cond, refl, ap, arith, IsTrue}
 use Rattle.std.specs.Prelude.{◌^◌, if◌then◌else◌, ◌&&◌, not, nat_lt}
 use Rattle.std.proofs.lemmas.Bool.Decides.{nat_tests}
-use Rattle.avr_isa.specs.Instruction.{is_valid, fields_in_range, is_undefined, size_of}
+use Rattle.avr_isa.specs.Instruction.{is_valid, fields_in_range, size_of}
+use Rattle.avr_isa.specs.UndefinedPairs.{is_undefined}
 use Rattle.avr_isa.specs.declared.form.Form.{Form}
 use Rattle.avr_isa.specs.declared.form.Form.TheVariants as forms
 use Rattle.avr_isa.specs.IoTable.{can_read, can_write, io_address}
@@ -12,8 +13,8 @@ use Rattle.avr_exec.specs.declared.ask.Ask.TheVariants as asks
 use Rattle.avr_exec.specs.declared.answer.Answer.{Answer}
 use Rattle.avr_isa.specs.Addresses.{relative, wrapping_sum}
 use Rattle.avr_exec.specs.Registers.{register, is_own, own_byte}
-use Rattle.avr_exec.specs.Asks.{ask_of, load_of}
-use Rattle.avr_exec.specs.Effects.{finish_of, loaded, byte_of, skip_if}
+use Rattle.avr_exec.specs.Asks.{ask_of, finish_of, number_of, load_of}
+use Rattle.avr_exec.specs.Effects.{loaded, skip_if}
 use Rattle.avr_exec.specs.Execution.{is_executed}
 use Rattle.avr_exec.specs.Likeness.{placed, is_transfer}
 use Rattle.nat_template.specs.declared.shapes.TemplateShape.TheVariants.{Native, Jump, Skip, SelfJump, Fault}
@@ -36,9 +37,9 @@ pub record Skips (form : Form) (core : Cpu) : Type 0 where
 pub low_field : (a : ℕ) (q : Bool) → IsTrue ((nat_lt a 32 && q) && true) → is_own (a + 0x20) ≡ false
 low_field a q valid = grind (arith, nat_tests)
 
-loaded_by : (cpu : Cpu) (a : ℕ) (answer : Answer) → is_own a ≡ false → loaded cpu a answer ≡ byte_of answer
+loaded_by : (cpu : Cpu) (a v : ℕ) → is_own a ≡ false → loaded cpu a v ≡ v
 unfolding loaded
-loaded_by cpu a answer own = ap (λ b. cond b (own_byte cpu a) (byte_of answer)) own
+loaded_by cpu a v own = ap (λ b. cond b (own_byte cpu a) v) own
 
 pub skip_form : (pc : ℕ) (form : Form) (core : Cpu) → IsTrue (is_valid form) → shape_of_form pc form ≡ Skip → Skips form core
 unfolding shape_of_form is_transfer is_device_ask is_executed size_of ask_of load_of finish_of is_valid fields_in_range is_undefined
@@ -55,8 +56,8 @@ skip_form pc (forms.Sbic a b) core valid is =
       reads = ap (λ b. is_device_ask (cond b asks.Nothing (asks.Load (a + 0x20)))) own
           ∙ chosen_one (can_read (io_address a)) Skip Fault Skip (λ e. cc) is;
       asks = λ p q. refl;
-      passed = λ answer. not (has_bit (byte_of answer) (2 ^ b));
-      finish = λ p q n answer. ap (λ y. skip_if (not (has_bit y (2 ^ b))) n (placed core p q)) (loaded_by (placed core p q) (a + 0x20) answer own);
+      passed = λ answer. not (has_bit (number_of answer) (2 ^ b));
+      finish = λ p q n answer. ap (λ y. skip_if (not (has_bit y (2 ^ b))) n (placed core p q)) (loaded_by (placed core p q) (a + 0x20) (number_of answer) own);
     }
 skip_form pc (forms.Sbis a b) core valid is =
     let own : is_own (a + 0x20) ≡ false = low_field a _ valid in
@@ -68,8 +69,8 @@ skip_form pc (forms.Sbis a b) core valid is =
       reads = ap (λ b. is_device_ask (cond b asks.Nothing (asks.Load (a + 0x20)))) own
           ∙ chosen_one (can_read (io_address a)) Skip Fault Skip (λ e. cc) is;
       asks = λ p q. refl;
-      passed = λ answer. has_bit (byte_of answer) (2 ^ b);
-      finish = λ p q n answer. ap (λ y. skip_if (has_bit y (2 ^ b)) n (placed core p q)) (loaded_by (placed core p q) (a + 0x20) answer own);
+      passed = λ answer. has_bit (number_of answer) (2 ^ b);
+      finish = λ p q n answer. ap (λ y. skip_if (has_bit y (2 ^ b)) n (placed core p q)) (loaded_by (placed core p q) (a + 0x20) (number_of answer) own);
     }
 skip_form pc (forms.Rjmp k) core valid is = absurd (not_chosen (relative pc k == pc) SelfJump Jump Skip (λ e. cc) (λ e. cc) is)
 skip_form pc (forms.Jmp t) core valid is = absurd (not_chosen (t == pc) SelfJump Jump Skip (λ e. cc) (λ e. cc) is)

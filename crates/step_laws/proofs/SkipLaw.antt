@@ -11,8 +11,7 @@ use Rattle.decode_laws.proofs.Lengths.{the_form-second, the_form-size}
 use Rattle.avr_flags.specs.Status.{has_bit, interrupts}
 use Rattle.avr_exec.specs.declared.cpu.Cpu.{Cpu}
 use Rattle.avr_isa.specs.Addresses.{wrapping_sum}
-use Rattle.avr_exec.specs.Asks.{ask_of}
-use Rattle.avr_exec.specs.Effects.{finish_of}
+use Rattle.avr_exec.specs.Asks.{ask_of, finish_of}
 use Rattle.avr_exec.specs.Execution.{answer_of, exec_of}
 use Rattle.avr_exec.specs.Spaces.{Went as WentOn}
 use Rattle.avr_exec.specs.Likeness.{placed}

@@ -3,7 +3,7 @@ use Rattle.std.proofs.Common.{ℕ, ◌≡◌, refl}
 use Rattle.std.specs.Prelude.{Some, pos}
 use Rattle.avr_isa.specs.declared.form.Form.TheVariants as forms
 use Rattle.avr_isa.specs.declared.operation.OneOp.TheVariants as ops
-use Rattle.avr_isa.specs.Instruction.{is_undefined}
+use Rattle.avr_isa.specs.UndefinedPairs.{is_undefined}
 use Rattle.flash_words.specs.Jumps.{jump_word}
 use Rattle.nat_template.specs.Stubs.{call_word}
 use Rattle.avr_decode.specs.Decoding.{the_form, is_long, two_word_form, one_word_form, one_register_form, register_or_pair_form, form_1001, io_form, register_bit_form, form_1111, defined_form, if_defined}

@@ -9,7 +9,7 @@ use Rattle.std.proofs.lemmas.List.Sums.{sum_by-cons}
 use Rattle.std.proofs.lemmas.Option.{get_or_from_slice_get, slice_get-get_or, slice_get_within}
 use Rattle.std.proofs.lemmas.Bool.{cases_eq, cases_lt, not-true}
 use Rattle.flat_machine.specs.FlatMachine.{End}
-use Rattle.task_turns.specs.Turns.{Player, Turns, After, changed_to, changed, others, has_ended, ends_of, with_player, once, continued, go_on, tries, turns, HaveEnded}
+use Rattle.task_turns.specs.Turns.{Player, Turns, After, changed_to, changed, others, has_ended, ends_of, with_player, once, with_told, go_on, tries, turns, HaveEnded}
 use Rattle.task_turns.proofs.Isolation.{weight, weight_going, weight_ended, IsOnce, once_follows, set_here}
 use Rattle.base_laws.proofs.Searches.{found_first}
 
@@ -149,7 +149,7 @@ still_none (y ∷ players) (suc k) p none is = still_none players k p (omega ari
 
 ends_by : (t : Turns) (r : Player) (n : ℕ) (end : Option End) → r.end ≡ end → slice_get t.players t.running ≡ Some r → still t.players ≤ suc n → (is_some end ≡ true → HaveEnded t)
     → ((next : Turns) → still next.players ≤ n → Ready next → HaveEnded (tries n next).turns)
-    → HaveEnded (cond (is_some end) (record { told = []; turns = t }) (continued (once t r) (tries n (once t r).turns))).turns
+    → HaveEnded (cond (is_some end) (record { told = []; turns = t }) (with_told (once t r).told (tries n (once t r).turns))).turns
 ends_by t r n (Some end) going there most over rest = over refl
 ends_by t r n None going there most over rest =
     let one = once_follows t r going in

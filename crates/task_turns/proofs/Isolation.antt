@@ -7,7 +7,7 @@ use Rattle.std.proofs.lemmas.Bool.Decides.{nat_tests}
 use Rattle.mote_devices.specs.declared.line.Line.{Line}
 use Rattle.flat_machine.specs.FlatMachine.{Program, is_inside, Moment, End, Spent, Wild, Next, Ends, On, next_of, Run, run, ended, with_line}
 use Rattle.flat_machine.proofs.MachineLaws.{run_wild, run_spent, run_stops, run_goes}
-use Rattle.task_turns.specs.Turns.{Player, Turns, Told, Shown, Wrote, Stops, is_checkpoint, rests_by, rests, played_by, tried_by, changed_to, changed, with_player, told as told_by, told_line, After, stopped, at_checkpoint, stepped, after_line, once_by, once, continued, go_on, tries, alone, shown_by, own_told, Follows, Ended, Going, Over, IsApartFromOthers}
+use Rattle.task_turns.specs.Turns.{Player, Turns, Told, Shown, Wrote, Stops, is_checkpoint, rests_by, rests, played_by, tried_by, changed_to, changed, with_player, told as told_by, told_line, After, stopped, at_checkpoint, stepped, with_told, once_by, once, go_on, tries, alone, shown_by, own_told, Follows, Ended, Going, Over, IsApartFromOthers}
 
 -- a task at rest, or one that has a step left and stands inside its image
 data RestWay (program : Program) (m : Moment) (left : ℕ) : Option End → Type 0 where
@@ -105,7 +105,7 @@ pub record IsOnce (t : Turns) (p : Player) (a : After) : Type 0 where
   pub next : (a.turns ≡ changed (with_player t q)) ⊎ ((a.turns ≡ with_player t q) × (q.end ≡ None))
 
 -- the task ends, behind a line
-over_now : (t : Turns) (p q : Player) (line : Option Line) (end : End) → p.end ≡ None → alone p ≡ with_line line (ended end q.moment) → IsOnce t p (after_line (told_line t line) (stopped t q end))
+over_now : (t : Turns) (p q : Player) (line : Option Line) (end : End) → p.end ≡ None → alone p ≡ with_line line (ended end q.moment) → IsOnce t p (with_told (told_line t line) (stopped t q end))
 over_now t p q line end going is = record {
   q = record q { end = Some end };
   players = by_change (with_player t (record q { end = Some end })) _;
@@ -130,11 +130,11 @@ going_on t p q line next going still is players fewer goes = record {
 }
 
 -- behind a checkpoint
-checkpoint_by : (t : Turns) (p q : Player) (line : Option Line) (found : Option End) → RestWay q.program q.moment q.left found → p.end ≡ None → q.end ≡ None → alone p ≡ with_line line (alone q) → q.left < p.left → IsOnce t p (after_line (told_line t line) (at_checkpoint t q found))
+checkpoint_by : (t : Turns) (p q : Player) (line : Option Line) (found : Option End) → RestWay q.program q.moment q.left found → p.end ≡ None → q.end ≡ None → alone p ≡ with_line line (alone q) → q.left < p.left → IsOnce t p (with_told (told_line t line) (at_checkpoint t q found))
 checkpoint_by t p q line _ (Rests end rests) going still is fewer = over_now t p q line end going (is ∙ ap (with_line line) rests)
 checkpoint_by t p q line _ (Steps n left inside) going still is fewer = going_on t p q line (changed (with_player t q)) going still is (by_change (with_player t q) _) fewer (inl refl)
 
-stepped_by : (t : Turns) (p q : Player) (line : Option Line) (checkpoint : Bool) → p.end ≡ None → q.end ≡ None → alone p ≡ with_line line (alone q) → q.left < p.left → IsOnce t p (after_line (told_line t line) (stepped t q checkpoint))
+stepped_by : (t : Turns) (p q : Player) (line : Option Line) (checkpoint : Bool) → p.end ≡ None → q.end ≡ None → alone p ≡ with_line line (alone q) → q.left < p.left → IsOnce t p (with_told (told_line t line) (stepped t q checkpoint))
 stepped_by t p q line true going still is fewer = checkpoint_by t p q line (rests q) (way_of q) going still is fewer
 stepped_by t p q line false going still is fewer = going_on t p q line (with_player t q) going still is refl fewer (inr (refl, still))
 
@@ -196,7 +196,7 @@ became_same t task p is = (p, is, follows_itself p p.end refl)
 
 -- one try, and what comes behind it
 became_more : (t : Turns) (task : ℕ) (p r : Player) (a rest : After) → slice_get t.players t.running ≡ Some r → slice_get t.players task ≡ Some p → IsOnce t r a
-    → ((q : Player) → slice_get a.turns.players task ≡ Some q → Became task q rest) → Became task p (continued a rest)
+    → ((q : Player) → slice_get a.turns.players task ≡ Some q → Became task q rest) → Became task p (with_told a.told rest)
 became_more t task p r a rest runs is one behind = elim (cases_eq task t.running) [
   | inl same ↦
       let its : p ≡ r = cc in
@@ -212,7 +212,7 @@ became_more t task p r a rest runs is one behind = elim (cases_eq task t.running
 
 became_by : (t : Turns) (task : ℕ) (p r : Player) (rest : Turns → After) (end : Option End) → r.end ≡ end → slice_get t.players t.running ≡ Some r → slice_get t.players task ≡ Some p
     → ((next : Turns) (q : Player) → slice_get next.players task ≡ Some q → Became task q (rest next))
-    → Became task p (cond (is_some end) (record { told = []; turns = t }) (continued (once t r) (rest (once t r).turns)))
+    → Became task p (cond (is_some end) (record { told = []; turns = t }) (with_told (once t r).told (rest (once t r).turns)))
 became_by t task p r rest (Some end) going runs is behind = became_same t task p is
 became_by t task p r rest None going runs is behind = became_more t task p r (once t r) (rest (once t r).turns) runs is (once_follows t r going) (behind (once t r).turns)
 

@@ -20,17 +20,17 @@ abbrev pub program_at : (words : List ℕ) (quantum slots task : ℕ) → Progra
 program_at words quantum slots task = record { image = words; part = quarter_part task; page_limit = slots; quantum = quantum }
 
 abbrev pub player_at : (words : List ℕ) (scripts : List Schedule) (quantum slots n task : ℕ) → Player
-player_at words scripts quantum slots n task = at_reset_in (program_at words quantum slots task) (quarter * task) (slice_index_or scripts task nothing).events n
+player_at words scripts quantum slots n task = at_reset_in (program_at words quantum slots task) (slice_index_or scripts task nothing).events n
 
 reset_from : (words : List ℕ) (k : ℕ) (scripts : List Schedule) (quantum slots n i : ℕ) → i < length scripts
-    → slice_get (players_at_reset words k scripts quantum slots n) i ≡ Some (at_reset_in (program_at words quantum slots (k + i)) (quarter * (k + i)) (slice_index_or scripts i nothing).events n)
+    → slice_get (players_at_reset words k scripts quantum slots n) i ≡ Some (at_reset_in (program_at words quantum slots (k + i)) (slice_index_or scripts i nothing).events n)
 reset_from words k [] quantum slots n i below = absurd (omega (arith, below))
 reset_from words k (script ∷ scripts) quantum slots n zero below =
     let here : k ≡ k + 0 = omega arith in
-    ap (λ j. Some (at_reset_in (program_at words quantum slots j) (quarter * j) script.events n)) here
+    ap (λ j. Some (at_reset_in (program_at words quantum slots j) script.events n)) here
 reset_from words k (script ∷ scripts) quantum slots n (suc i) below =
     let more : k + 1 + i ≡ k + suc i = omega arith in
-    reset_from words (k + 1) scripts quantum slots n i (omega (arith, below)) ∙ ap (λ j. Some (at_reset_in (program_at words quantum slots j) (quarter * j) (slice_index_or scripts i nothing).events n)) more
+    reset_from words (k + 1) scripts quantum slots n i (omega (arith, below)) ∙ ap (λ j. Some (at_reset_in (program_at words quantum slots j) (slice_index_or scripts i nothing).events n)) more
 
 pub some_player : (p q : Player) → Some p ≡ Some q → p ≡ q
 some_player p q same = cc
@@ -41,7 +41,7 @@ pub reset_player : (image : List ℕ) (scripts : List Schedule) (quantum slots n
 reset_player image scripts quantum slots n i below =
     let words = task_words (length scripts) image in
     let here : 0 + i ≡ i = omega arith in
-    reset_from words 0 scripts quantum slots n i below ∙ ap (λ j. Some (at_reset_in (program_at words quantum slots j) (quarter * j) (slice_index_or scripts i nothing).events n)) here
+    reset_from words 0 scripts quantum slots n i below ∙ ap (λ j. Some (at_reset_in (program_at words quantum slots j) (slice_index_or scripts i nothing).events n)) here
 
 -- a quarter is framed: its last two words are blank
 word_of_tasks : (count : ℕ) (image : List ℕ) (a : ℕ) → a < quarter * count → word (task_words count image) a ≡ word image a
@@ -72,7 +72,7 @@ framed count image task below few placed = record {
 
 -- the run of a task's program over its own words alone is that over all
 pub own_run : (count : ℕ) (image : List ℕ) (scripts : List Schedule) (quantum slots n task : ℕ) → task < count → count ≤ 4 → ((address : ℕ) → ¬ IsMisplaced count image address)
-    → alone (at_reset_in (masked.alone (program_at (task_words count image) quantum slots task)) (quarter * task) (slice_index_or scripts task nothing).events n) ≡ alone (player_at (task_words count image) scripts quantum slots n task)
+    → alone (at_reset_in (masked.alone (program_at (task_words count image) quantum slots task)) (slice_index_or scripts task nothing).events n) ≡ alone (player_at (task_words count image) scripts quantum slots n task)
 own_run count image scripts quantum slots n task below few placed =
     masked_run (program_at (task_words count image) quantum slots task) (player_at (task_words count image) scripts quantum slots n task).moment n (framed count image task below few placed)
 
@@ -80,5 +80,5 @@ own_run count image scripts quantum slots n task below few placed =
 pub reset_going : (words : List ℕ) (k : ℕ) (scripts : List Schedule) (quantum slots n i : ℕ) (p : Player) → slice_get (players_at_reset words k scripts quantum slots n) i ≡ Some p → p.end ≡ None
 reset_going words k [] quantum slots n i p there = absurd (cc)
 reset_going words k (script ∷ scripts) quantum slots n zero p there =
-    ap (λ (q : Player). q.end) (sym (some_player (at_reset_in (program_at words quantum slots k) (quarter * k) script.events n) p there))
+    ap (λ (q : Player). q.end) (sym (some_player (at_reset_in (program_at words quantum slots k) script.events n) p there))
 reset_going words k (script ∷ scripts) quantum slots n (suc i) p there = reset_going words (k + 1) scripts quantum slots n i p there

@@ -1,16 +1,15 @@
 -- Two small sets of tasks, in turn.
 use Rattle.std.proofs.Common.{◌≡◌, ℕ, true, List, [], ◌∷◌, ◌++◌, refl}
-use Rattle.avr_isa.specs.Instruction.{is_undefined}
+use Rattle.avr_isa.specs.UndefinedPairs.{is_undefined}
 use Rattle.avr_isa.specs.IoTable.{can_read, can_write, register_at}
 use Rattle.avr_decode.specs.Decoding.{product_form, move_or_product_form, form_0000, form_0001, form_0010, displaced_form, load_form, store_form, plain_form, flag_or_plain_form, one_register_form, register_or_pair_form, io_bit_form, transfer_form, form_1001, io_form, register_bit_form, form_1111, one_word_form, is_long, two_word_form, defined_form, if_defined, the_form}
-use Rattle.avr_flags.specs.Logic.{bitwise_status}
 use Rattle.avr_flags.specs.Status.{with_result_flags}
-use Rattle.avr_flags.specs.Sums.{sum_status, difference_status, inc_status, dec_status}
+use Rattle.avr_flags.specs.Sums.{sum_of, difference_of}
 use Rattle.avr_isa.specs.Addresses.{relative}
 use Rattle.avr_exec.specs.Registers.{own_byte, with_own_byte}
 use Rattle.avr_exec.specs.Arithmetic.{two_of, immediate_of, word_of, one_of}
-use Rattle.avr_exec.specs.Asks.{ask_of, load_of, store_of, pointed}
-use Rattle.avr_exec.specs.Effects.{finish_of, loaded, stored, with_pointer}
+use Rattle.avr_exec.specs.Asks.{ask_of, finish_of, load_of, store_of, pointed}
+use Rattle.avr_exec.specs.Effects.{loaded, stored, with_pointer}
 use Rattle.avr_exec.specs.Execution.{answer_of, exec_of}
 use Rattle.mote_devices.specs.declared.line.Port.TheVariants.{PortA}
 use Rattle.mote_devices.specs.Inputs.{unreceived, at_poll}
@@ -29,7 +28,7 @@ abbrev second : List ℕ → List ℕ
 second words = many 4096 0xFFFF ++ words
 
 abbrev task : ℕ → ℕ → List ℕ → Player
-task quantum first words = at_reset_in (program quantum first words) first [] 1000000
+task quantum first words = at_reset_in (program quantum first words) [] 1000000
 
 record Rows : Type 0 where
   -- LDI r16, 0x0F; OUT PORTA, r16; RJMP to itself, and the same with 0x1F
@@ -54,7 +53,7 @@ rows : Rows
 unfolding tries run next_of tried the_form is_long two_word_form one_word_form if_defined defined_form is_undefined product_form move_or_product_form form_0000
     form_0001 form_0010 displaced_form load_form store_form plain_form flag_or_plain_form one_register_form register_or_pair_form io_bit_form
     transfer_form form_1001 io_form register_bit_form form_1111 exec_of answer_of ask_of finish_of two_of immediate_of word_of one_of load_of store_of
-    pointed loaded stored with_pointer own_byte with_own_byte bitwise_status with_result_flags sum_status difference_status inc_status dec_status many
+    pointed loaded stored with_pointer own_byte with_own_byte with_result_flags sum_of difference_of many
     no_pages push_on pop_from push_return_on pop_return_from read write can_read can_write register_at relative unreceived at_poll wake
 rows = record {
   one_after_other = refl;

@@ -4,7 +4,7 @@ use Rattle.std.specs.Prelude.{◌≡◌, ℕ, zero, suc, ◌+◌, ◌-◌, ◌%�
 use Rattle.std.specs.List.{range_with_len, find}
 use Rattle.input_script.specs.declared.input.Event.{Event}
 use Rattle.mote_devices.specs.declared.line.Line.{Line}
-use Rattle.flat_machine.specs.FlatMachine.{Program, FlatState, Moment, End, Spent, Wild, Next, Ends, On, next_of, Run, run, at_reset}
+use Rattle.flat_machine.specs.FlatMachine.{Program, FlatState, Moment, End, Spent, Wild, Next, Ends, On, next_of, Run, run, at_front}
 
 -- a task: its program, where it stands, how many steps it may still do, and how it ended, once it has
 pub record Player : Type 0 where
@@ -112,24 +112,22 @@ abbrev pub stepped : Turns → Player → Bool → After
 stepped t p true = at_checkpoint t p (rests p)
 stepped t p false = record { told = []; turns = with_player t p }
 
-abbrev pub after_line : List Told → After → After
-after_line front a = record a { told = front ++ a.told }
+-- with this told before
+abbrev pub with_told : List Told → After → After
+with_told front a = record a { told = front ++ a.told }
 
 abbrev pub once_by : Turns → Player → Played → After
 once_by t p (Over end) = stopped t p end
-once_by t p (Gone line checkpoint next) = after_line (told_line t line) (stepped t next checkpoint)
+once_by t p (Gone line checkpoint next) = with_told (told_line t line) (stepped t next checkpoint)
 
 -- one try of the task that is stepped
 abbrev pub once : Turns → Player → After
 once t p = once_by t p (played p)
 
-abbrev pub continued : After → After → After
-continued a rest = record { told = a.told ++ rest.told; turns = rest.turns }
-
 -- The task that is stepped has ended only where all have, since another would have been chosen.
 abbrev pub go_on : Turns → Option Player → (Turns → After) → After
 go_on t None rest = record { told = []; turns = t }
-go_on t (Some p) rest = if is_some p.end then record { told = []; turns = t } else (let a = once t p in continued a (rest a.turns))
+go_on t (Some p) rest = if is_some p.end then record { told = []; turns = t } else (let a = once t p in with_told a.told (rest a.turns))
 
 -- so many tries, or until every task has ended
 unfoldable pub tries : ℕ → Turns → After
@@ -140,11 +138,9 @@ tries (suc n) t = go_on t (slice_get t.players t.running) (tries n)
 abbrev pub turns : Turns → After
 turns t = tries (sum_by (λ p. p.left + 1) t.players) t
 
--- a task at reset, whose program begins at this address, with the inputs that come and the steps that it may do
-abbrev pub at_reset_in : Program → ℕ → List Event → ℕ → Player
-at_reset_in program first events steps =
-    let s = at_reset events in
-    record { program = program; moment = record { now = record s { cpu = record s.cpu { pc = first } }; due = false }; left = steps; end = None }
+-- a task at reset, with the inputs that come and the steps that it may do
+abbrev pub at_reset_in : Program → List Event → ℕ → Player
+at_reset_in program events steps = record { program = program; moment = at_front program events; left = steps; end = None }
 
 -- task 0 is the first
 abbrev pub from_start : List Player → Turns

@@ -47,7 +47,7 @@ use Rattle.step_laws.specs.Numbers.{one_if}
 use Rattle.step_laws.specs.States.{State, end_by, mote_of, stops_taking, store_of, with_store, placed, settled_by, arrived}
 use Rattle.step_laws.specs.Walks.{Walk, MakesPlain, MakesArrive, MakesTake}
 use Rattle.program_steps.proofs.Arrived.{after_arrived, pc_in}
-use Rattle.tk_run.proofs.OneWalk.{kernel_taken}
+use Rattle.walk_laws.proofs.OneWalk.{kernel_taken}
 use Rattle.theorem_reader.specs.Acts.{Act, Step, Service, Arrival, Interrupt, IsStep, Relinks, IsNext, IsMade, Arrives, In, Outside, Refused as RefusedThere, IsArrival, IsInterrupt, Follow}
 use Rattle.theorem_reader.specs.Pools.{pool_from, IsPlaceOf}
 use Rattle.theorem_reader.proofs.Motes.{one_core, one_mote}

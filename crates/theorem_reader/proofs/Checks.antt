@@ -1,9 +1,9 @@
 -- What `check` answers to a HEX text and a dump behind it is what the checker says of them.
-use Rattle.std.proofs.Common.{◌≡◌, ℕ, ◌+◌, ◌≤◌, List, length, drop, subst, arith, inl, inr, None}
+use Rattle.std.proofs.Common.{◌≡◌, ℕ, ◌+◌, ◌≤◌, List, length, drop, subst, arith, inl, inr, None, Some}
 use Rattle.flash_words.specs.Layouts.{layout_of}
 use Rattle.hex_image.specs.HexText.{HexText}
 use Rattle.hex_image.proofs.LawLemmas.{never_both, same_image}
-use Rattle.flash_dump.specs.Dumps.{IsDump, IsNoDump}
+use Rattle.flash_dump.specs.Dumps.{IsDump, dump_fault}
 use Rattle.pool_check.specs.Verdicts.{IsVerdict}
 use Rattle.pool_check.specs.declared.checking.Verdict.{Verdict}
 use Rattle.flash_dump.proofs.Judgement as dumps
@@ -35,7 +35,7 @@ of_text text image flash position job hex dump (Bad line word bad is) = absurd (
 of_text text image flash position job hex dump (Good value good asks) =
     let same = same_image text value.0 image value.1 position good hex in
     elim asks [
-      | Bad line word bad is ↦ absurd (dumps.never_both (drop position text) flash line bad.0 dump (subst (λ p. IsNoDump (drop p text) line bad.0) same.1 bad.1))
+      | Bad line word bad is ↦ absurd (dumps.never_both (drop position text) flash line bad.0 dump (subst (λ p. dump_fault (drop p text) ≡ Some (line, bad.0)) same.1 bad.1))
       | Good words told says ↦
           let words_same = dumps.one_dump (drop position text) words flash (subst (λ p. IsDump (drop p text) words) same.1 told) dump in
           record {

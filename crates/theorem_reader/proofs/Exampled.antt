@@ -147,7 +147,7 @@ check_command = (refl, (options.nothing, ([], (refl, refl)), refl))
 
 pub asks_check : AsksCheck (codes "check" ∷ []) hex_text example.image erased
 unfolding many
-asks_check = record { command = check_command; front = record { position = 36; hex = hex_alone; short = omega arith }; dump = record { sound = tt; words_are = refl } }
+asks_check = record { command = check_command; front = record { position = 36; hex = hex_alone; short = omega arith }; dump = record { sound = refl; words_are = refl } }
 
 abbrev pub words_of_generate : List (List ℕ)
 words_of_generate = codes "generate" ∷ codes "7" ∷ []

@@ -1,5 +1,5 @@
 -- Where the bytes of the program's memory are.
-use Rattle.std.proofs.Common.{◌≡◌, ℕ, ◌/◌, ◌%◌, ◌<◌, true, false, List, slice_index, slice_index_or, sym, ap, subst, ◌∙◌, arith, None}
+use Rattle.std.proofs.Common.{◌≡◌, ℕ, ◌/◌, ◌%◌, ◌<◌, true, slice_index, sym, ap, subst, ◌∙◌, arith, None}
 use Rattle.std.proofs.lemmas.Bool.Decides.{nat_tests}
 use Rattle.sram_layout.specs.Bytes.{byte_at, data_word_at}
 use Rattle.swap_store.specs.Slots.{page_in}
@@ -7,8 +7,7 @@ use Rattle.mote_core.specs.declared.mote.Mote.{Mote}
 use Rattle.std.proofs.lemmas.Bool.{false_from_ne_true}
 use Rattle.flat_machine.specs.Addresses.{is_heap}
 use Rattle.flat_machine.specs.FlatMachine.{FlatState}
-use Rattle.heap_frames.specs.Frames.{frame_of, holds, pages, has_slot, table}
-use Rattle.std.proofs.lemmas.List.FromFn.{get_or-map-range_with_len}
+use Rattle.heap_frames.specs.Frames.{frame_of, holds, pages}
 use Rattle.heap_frames.specs.Memory.{vmem, heap_byte}
 use Rattle.heap_frames.specs.Paged.{IsPaged}
 use Rattle.heap_frames.proofs.FrameLaws as frames
@@ -61,13 +60,9 @@ has_memory m paged = record {
       page_at m a heap ∙ byte_in_slot m.sram m.swap (a / 256) (a % 256) (absent_without_slot m.sram m.swap (a / 256) paged absent) ∙ byte_of_no_slot m.sram m.swap (a / 256) (a % 256) absent;
 }
 
-page_of_table : (m : List ℕ) (page : ℕ) → page < 256 → slice_index_or (pages m) page false ≡ has_slot m page
-unfolding pages table
-page_of_table m page below = get_or-map-range_with_len (has_slot m) 0 256 page page false below (omega arith)
-
 have_slots : (m : Mote) → HaveSlots m (pages m.sram)
 unfolding byte_at
-have_slots m page below = (λ some. page_of_table m.sram page below ∙ frames.slot_held m.sram page some, λ stored. frames.slot_there m.sram page (sym (page_of_table m.sram page below) ∙ stored))
+have_slots m page below = (λ some. frames.page_of_table m.sram page below ∙ frames.slot_held m.sram page some, λ stored. frames.slot_there m.sram page (sym (frames.page_of_table m.sram page below) ∙ stored))
 
 -- where the program stands on a mote, by its own machine there
 pub has_state : (k : Kernel) (m : Mote) (pc steps crossings : ℕ) (s : FlatState) → IsPaged m.sram m.swap → state_at (record k { mote = m }) pc steps crossings ≡ s → HasState s m

@@ -44,7 +44,7 @@ use Rattle.tkernel_cli.specs.TasksRuns.{RunsTasksToTheEnd, start_of, all_told, w
 use Rattle.theorem_reader.proofs.Acting.{Holds, follow}
 use Rattle.theorem_reader.proofs.Answering.{layout_same}
 use Rattle.theorem_reader.proofs.OneRun.{both_ended}
-use Rattle.tk_run.proofs.OneWalk.{compare}
+use Rattle.walk_laws.proofs.OneWalk.{compare}
 use Rattle.theorem_reader.proofs.OneWalk.{IsStep, step_is, same_step, AreSame}
 
 -- Tasks that are alike. -----------------------------------------------------------------------------------

@@ -22,7 +22,7 @@ use Rattle.cli_words.specs.Stream.{Stream}
 use Rattle.tkernel_cli.specs.Runs.{KeepsEnd, RunsToTheEnd, RunsIntoAFault, RunsUntilCut, Follows, first_start, original_of, whole_run}
 use Rattle.theorem_reader.proofs.Acting.{Holds}
 use Rattle.theorem_reader.proofs.Answering.{layout_same, no_fault}
-use Rattle.tk_run.proofs.OneWalk.{Behind, Ahead, compare}
+use Rattle.walk_laws.proofs.OneWalk.{Behind, Ahead, compare}
 use Rattle.theorem_reader.proofs.OneWalk.{none_back, AreSame, longer_none, same_steps, is_still}
 use Rattle.theorem_reader.proofs.Stopping.{IsStop}
 

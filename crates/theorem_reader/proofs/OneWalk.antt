@@ -12,7 +12,7 @@ use Rattle.program_steps.specs.Machines.{Machine, state_of, awaits}
 use Rattle.program_steps.specs.Ready.{IsGoing}
 use Rattle.program_steps.specs.Stepping.{Goes, links_in, IsArrival, NoArrival, OneArrival, AreOwn, Taking, Making, ends_in_arrive}
 use Rattle.tk_run.specs.Running.{StepsTo, IsByStep}
-use Rattle.tk_run.proofs.OneWalk.{free_or_owed, true_or_false, Compare, Behind, Ahead, compare, steps_walk}
+use Rattle.walk_laws.proofs.OneWalk.{free_or_owed, true_or_false, Compare, Behind, Ahead, compare, steps_walk}
 use Rattle.theorem_reader.proofs.Acting.{Holds, follow}
 use Rattle.theorem_reader.proofs.Pooling.{place_low}
 use Rattle.theorem_reader.proofs.Stepwise.{place_by, last_alone}

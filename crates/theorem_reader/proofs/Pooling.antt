@@ -5,7 +5,7 @@ use Rattle.std.specs.Prelude.{IfSome}
 use Rattle.base_laws.proofs.ManyLaws.{get_or-many}
 use Rattle.flash_words.specs.declared.layout.Layout.{Layout}
 use Rattle.flash_words.specs.Layouts.{layout_of}
-use Rattle.flash_words.specs.Pages.{page_of, set_page, blank, page_words}
+use Rattle.flash_words.specs.Pages.{page_of, blank, page_words}
 use Rattle.flash_words.proofs.LayoutLaws.{layout_right}
 use Rattle.flash_words.proofs.PageLaws as pages
 use Rattle.page_index.specs.Maps.{IsPool, IsFree, IsMap, original_page, address_of, place_of}
@@ -118,7 +118,6 @@ faithful_is image words few faithful =
 -- .. but for a page that is torn
 pub but_is : (image words : List ℕ) (torn : Option Torn) → length image ≤ 24576 → IsFaithful (layout_of (length image)) image (with_torn words torn)
     → IfSome torn (IsTorn (layout_of (length image)) words) → AreFaithfulBut image words
-unfolding set_page
 but_is image words None few faithful torn = Whole (faithful_is image words few faithful)
 but_is image words (Some torn) few faithful is =
     Lacking torn.page torn.words (from_pool image torn.page is.pool) (λ k below. blank_word words torn.page k is.blank below) is.size (faithful_is image _ few faithful)

@@ -1,5 +1,5 @@
 -- A script, one of several programs, their image and a dump that are refused.
-use Rattle.std.proofs.Common.{◌≡◌, ◌≢◌, ℕ, zero, suc, ◌<◌, ◌≤◌, List, [], ◌∷◌, codes, map, length, slice_index, refl, ap, arith, inl, inr}
+use Rattle.std.proofs.Common.{◌≡◌, ℕ, zero, suc, ◌<◌, ◌≤◌, List, [], ◌∷◌, codes, map, length, slice_index, refl, ap, arith, inl, inr}
 use Rattle.std.specs.Prelude.{All}
 use Rattle.std.specs.List.{enumerate_from, range_with_len}
 use Rattle.hex.proofs.OnLiterals.{hex_on_literals}
@@ -11,7 +11,6 @@ use Rattle.hex_image.proofs.GrammarLemmas.{AreSound, sound_row}
 use Rattle.input_script.specs.declared.fault.ScriptFault.{ScriptFault}
 use Rattle.input_script.specs.declared.fault.ScriptFault.TheVariants.{Form, Order, Range, TooMany}
 use Rattle.input_script.specs.Script.{Has, IsBad, nothing, number_of}
-use Rattle.flash_dump.specs.DumpLines.{HasPage}
 use Rattle.flash_dump.specs.declared.dump_line.DumpFault.TheVariants as dump_faults
 use Rattle.task_input.specs.Images.{IsApart, IsFirstMisplaced}
 use Rattle.task_input.specs.Scripts.{IsTaskLine, IsFault, Formless, InText, IsFirst}
@@ -120,11 +119,5 @@ hex_before_dump : HexText dump_text example.image 36
 unfolding hex_on_literals
 hex_before_dump = record { before = 1; ends = refl; lines = before_end; different = sound.different; small = sound.small; image = refl; cut = refl }
 
-some_line : codes "page" ≢ []
-some_line empty = let e : 4 ≡ 0 = ap length empty in omega (arith, e)
-
-no_page : ¬ HasPage (codes "page")
-no_page has = let e : 4 ≡ 521 = has.size in omega (arith, e)
-
 pub bad_dump : IsRefused (codes "check" ∷ []) dump_text (bad_line (codes "dump") 1 (codes "form"))
-bad_dump = BadDump check_command example.image (record { position = 36; hex = hex_before_dump; short = omega arith }) 1 dump_faults.Form (inl (refl, (some_line, no_page))) refl
+bad_dump = BadDump check_command example.image (record { position = 36; hex = hex_before_dump; short = omega arith }) 1 dump_faults.Form refl refl

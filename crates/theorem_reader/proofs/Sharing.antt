@@ -19,7 +19,7 @@ use Rattle.task_input.specs.Images.{task_words}
 use Rattle.tk_tasks.specs.Plays.{shown_text, told_text, told_of}
 use Rattle.tk_tasks.specs.States.{Tasks, player_of, turns_of}
 use Rattle.parked_tasks.specs.Ends.{flat_end, flat_end_of}
-use Rattle.task_turns.specs.Turns.{Player, Turns, Told, Shown, Wrote, Stops, After, others, has_ended, ends_of, next_in, changed_to, with_player, once, continued, go_on, tries, turns, shown_by}
+use Rattle.task_turns.specs.Turns.{Player, Turns, Told, Shown, Wrote, Stops, After, others, has_ended, ends_of, next_in, changed_to, with_player, once, with_told, go_on, tries, turns, shown_by}
 use Rattle.task_turns.specs.Turns.{own_told}
 use Rattle.task_turns.proofs.Isolation.{once_follows}
 use Rattle.cli_words.specs.declared.command.Command.TheVariants.{Tasks as TasksCommand}
@@ -187,7 +187,7 @@ once_of count t p going are =
     ]
 
 tries_by : (count : ℕ) (t : Turns) (p : Player) (rest : Turns → After) (end : Option FlatEnd) → p.end ≡ end → AreOf count t → ((next : Turns) → AreOf count next → All (IsBelow count) (rest next).told)
-    → All (IsBelow count) (cond (is_some end) (record { told = []; turns = t }) (continued (once t p) (rest (once t p).turns))).told
+    → All (IsBelow count) (cond (is_some end) (record { told = []; turns = t }) (with_told (once t p).told (rest (once t p).turns))).told
 tries_by count t p rest (Some end) going are behind = All-nil (IsBelow count)
 tries_by count t p rest None going are behind =
     let one = once_follows t p going in

@@ -1,6 +1,7 @@
 -- A source that asks for its image, and words and texts that are refused.
 use Rattle.std.proofs.Common.{◌≡◌, ℕ, List, [], ◌∷◌, codes, Some, None, refl, arith}
-use Rattle.avr_isa.specs.Instruction.{fields_in_range, is_undefined, is_valid, size_of}
+use Rattle.avr_isa.specs.Instruction.{fields_in_range, is_valid, size_of}
+use Rattle.avr_isa.specs.UndefinedPairs.{is_undefined}
 use Rattle.avr_decode.specs.Decoding.{the_form, if_defined, is_long, one_word_form, defined_form, io_form}
 use Rattle.decode_laws.proofs.Decoded.{the_form_is_decoded}
 use Rattle.avr_asm.specs.Mnemonics.{operation_of}

@@ -12,7 +12,7 @@ use Rattle.std.proofs.lemmas.Bool.Decides.{nat_tests}
 use Rattle.input_script.specs.Script.{Schedule}
 use Rattle.flat_machine.specs.FlatMachine.{End, FlatState, Moment, Next, Ends, On, next_of}
 use Rattle.task_turns.specs.Turns.{Player, Turns, is_checkpoint, rests, played_by, tried_by, others, has_ended, next_in, ends_of, changed_to, changed, with_player, stopped, at_checkpoint, stepped}
-use Rattle.task_turns.specs.Turns.{once_by, once, continued, go_on, tries}
+use Rattle.task_turns.specs.Turns.{once_by, once, with_told, go_on, tries}
 use Rattle.task_turns.proofs.Crossings.{Counts, next_counts}
 use Rattle.task_turns.specs.Reset.{players_at_reset}
 use Rattle.task_input.specs.Images.{task_words}
@@ -154,7 +154,7 @@ data TryWay (t : Turns) : Type 0 where
   Goes : (p : Player) → slice_get t.players t.running ≡ Some p → ((n : ℕ) → (tries (suc n) t).turns ≡ (tries n (once t p).turns).turns) → TryWay t
 
 abbrev tried_at : Turns → Player → ℕ → Option End → Turns
-tried_at t p n end = (cond (is_some end) (record { told = []; turns = t }) (continued (once t p) (tries n (once t p).turns))).turns
+tried_at t p n end = (cond (is_some end) (record { told = []; turns = t }) (with_told (once t p).told (tries n (once t p).turns))).turns
 
 still_none : (t : Turns) → slice_get t.players t.running ≡ None → (n : ℕ) → (tries n t).turns ≡ t
 unfolding tries

@@ -1,11 +1,12 @@
 -- What `dump` answers: the flash that a run leaves, page by page.
 use Rattle.std.specs.Prelude.{◌≡◌, ℕ, ◌+◌, ◌*◌, ◌/◌, ◌%◌, ◌==◌, if◌then◌else◌, List, [], ◌∷◌, ◌++◌, codes, flat_map, drop, take, Option, Some, None}
 use Rattle.std.specs.List.{list_all, range_with_len}
+use Rattle.hex.specs.Hex.{encode_upper}
 use Rattle.program_steps.specs.Machines.{Machine}
 use Rattle.cli_words.specs.declared.command.Command.TheVariants.{Dump}
 use Rattle.theorem_reader.specs.Runs.{Asked, AsksAs, boot_of, EndsWell, EndsInAFault}
 use Rattle.theorem_reader.specs.Telling.{Sink, IsTold}
-use Rattle.theorem_reader.specs.Texts.{hex, no_memory}
+use Rattle.theorem_reader.specs.Texts.{no_memory}
 
 -- the words are those of `dump` with these options, and the text is of the program
 abbrev pub AsksDump : (words : List (List ℕ)) (text : List ℕ) (asked : Asked) → Type 0
@@ -17,7 +18,7 @@ page_text flash page =
     if list_all (λ word. word == 0xFFFF) (take 128 (drop (128 * page) flash))
     then []
     else codes "page " ++ ((48 + page / 100) ∷ (48 + page / 10 % 10) ∷ (48 + page % 10) ∷ []) ++ codes " "
-    ++ hex (flat_map (λ word. word / 256 ∷ word % 256 ∷ []) (take 128 (drop (128 * page) flash))) ++ codes "\n"
+    ++ encode_upper (flat_map (λ word. word / 256 ∷ word % 256 ∷ []) (take 128 (drop (128 * page) flash))) ++ codes "\n"
 
 -- the lines of the pages 0 to 511
 abbrev pub dump_text : List ℕ → List ℕ

@@ -1,7 +1,8 @@
 -- Flash, and what stands in it of a program: the image's words below the pool, in the pool erased pages and rewritten code,
 -- RET in the kernel's pages. Which form a page has, and which links, the crate `pool_check` defines (`Forms` and `Links`).
-use Rattle.std.specs.Prelude.{◌≡◌, Bool, ℕ, zero, suc, ◌+◌, ◌*◌, ◌/◌, ◌%◌, ◌<◌, ◌≤◌, ◌⊎◌, nat_le, if◌then◌else◌, List, ◌++◌, take, drop, length, slice_index}
+use Rattle.std.specs.Prelude.{◌≡◌, Bool, ℕ, zero, suc, ◌+◌, ◌*◌, ◌/◌, ◌%◌, ◌<◌, ◌≤◌, ◌⊎◌, nat_le, if◌then◌else◌, List, take, drop, length, slice_index}
 use Rattle.flash_words.specs.Layouts.{layout_of}
+use Rattle.flash_words.specs.Pages.{set_page}
 use Rattle.pool_check.specs.Forms.{HasForm}
 use Rattle.pool_check.specs.Links.{HasLinks}
 
@@ -44,10 +45,6 @@ pub record AreFaithful (image flash : List ℕ) : Type 0 where
   pub erased : (a : ℕ) → length image ≤ a → a < pool_from image → slice_index flash a ≡ 0xFFFF
   pub kernel : (a : ℕ) → 0xF000 ≤ a → a ≤ 0xFFFF → slice_index flash a ≡ 0x9508
 
--- flash with these 128 words in a page
-abbrev pub with_page : (flash : List ℕ) → (page : ℕ) → (words : List ℕ) → List ℕ
-with_page flash page words = take (128 * page) flash ++ words ++ drop (128 * page + 128) flash
-
 -- the page is erased
 abbrev pub IsErased : (flash : List ℕ) → (page : ℕ) → Type 0
 IsErased flash page = (k : ℕ) → k < 128 → slice_index flash (128 * page + k) ≡ 0xFFFF
@@ -56,7 +53,7 @@ IsErased flash page = (k : ℕ) → k < 128 → slice_index flash (128 * page + 
 pub data AreFaithfulBut (image flash : List ℕ) : Type 0 where
   Whole : AreFaithful image flash → AreFaithfulBut image flash
   Lacking : (page : ℕ) → (words : List ℕ) → IsInPool image page → IsErased flash page → length words ≡ 128
-      → AreFaithful image (with_page flash page words) → AreFaithfulBut image flash
+      → AreFaithful image (set_page flash page words) → AreFaithfulBut image flash
 
 -- A page whose first word is below 192, as that of an erased one isn't, has an entry of the address t. The numbers of its
 -- entries stand from its third word on: the upper byte is the place of the address in its page of 128 words, whose number is

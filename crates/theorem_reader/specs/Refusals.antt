@@ -8,7 +8,7 @@ use Rattle.input_script.specs.Script.{Schedule, IsBad}
 use Rattle.input_script.specs.declared.fault.ScriptFault.{ScriptFault}
 use Rattle.task_input.specs.Images.{IsFirstMisplaced}
 use Rattle.task_input.specs.Scripts.{IsFirst, Schedules}
-use Rattle.flash_dump.specs.Dumps.{IsNoDump}
+use Rattle.flash_dump.specs.Dumps.{dump_fault}
 use Rattle.flash_dump.specs.declared.dump_line.DumpFault.{DumpFault}
 use Rattle.avr_asm.specs.AsmText.{AsmText, fault_of}
 use Rattle.avr_asm.specs.declared.fault.AsmFault.{AsmFault}
@@ -65,7 +65,7 @@ pub data IsRefused (words : List (List ℕ)) (text line : List ℕ) : Type 0 whe
   BadImage : (options : TaskOptions) → IsCommand words (Tasks options) → (image : List ℕ) → (front : HasHex text image) → (scripts : List Schedule)
       → Schedules options.count (lines_of (drop front.position text)) scripts → (a : ℕ) → IsFirstMisplaced options.count image a
       → line ≡ codes "bad task image " ++ address a ++ codes "\n" → IsRefused words text line
-  BadDump : IsCommand words Check → (image : List ℕ) → (front : HasHex text image) → (number : ℕ) → (fault : DumpFault) → IsNoDump (drop front.position text) number fault
+  BadDump : IsCommand words Check → (image : List ℕ) → (front : HasHex text image) → (number : ℕ) → (fault : DumpFault) → dump_fault (drop front.position text) ≡ Some (number, fault)
       → line ≡ bad_line (codes "dump") number (dump_word fault) → IsRefused words text line
   BadSource : IsCommand words Asm → length text ≤ 2097152 → (number : ℕ) → (fault : AsmFault) → fault_of text ≡ Some (number, fault)
       → line ≡ bad_line (codes "asm") number (asm_word fault) → IsRefused words text line

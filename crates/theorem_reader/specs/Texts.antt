@@ -11,10 +11,6 @@ use Rattle.hex.specs.Hex.{encode_upper}
 abbrev pub no_memory : List ℕ
 no_memory = codes "no memory\n"
 
--- the bytes in upper-case hexadecimal digits, two each
-abbrev pub hex : List ℕ → List ℕ
-hex bytes = encode_upper bytes
-
 -- the word of an output
 abbrev pub port_word : Port → List ℕ
 port_word PortA = codes "PORTA"
@@ -29,11 +25,11 @@ port_word Uart0 = codes "UART0"
 
 -- a device line, as `PORTA 0x0F`
 abbrev pub device_line : Line → List ℕ
-device_line line = port_word line.port ++ codes " " ++ (codes "0x" ++ hex (line.value ∷ [])) ++ codes "\n"
+device_line line = port_word line.port ++ codes " " ++ (codes "0x" ++ encode_upper (line.value ∷ [])) ++ codes "\n"
 
 -- an address, as `0x1234`
 abbrev pub address : ℕ → List ℕ
-address a = codes "0x" ++ hex ((a / 256) ∷ []) ++ hex ((a % 256) ∷ [])
+address a = codes "0x" ++ encode_upper (a / 256 ∷ []) ++ encode_upper (a % 256 ∷ [])
 
 -- how the run ended
 abbrev pub end_words : End → List ℕ

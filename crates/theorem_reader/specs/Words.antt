@@ -1,4 +1,4 @@
--- What words mean, by the manual's table of instructions (`avr_isa/Encoding`), whose rows go from an instruction to its words.
+-- What words mean, by the manual's table (`avr_isa/InstructionTable`), whose rows go from an instruction to its words.
 use Rattle.std.specs.Prelude.{◌≡◌, ℕ, ◌<◌, ◌⊎◌, ◌↔◌}
 use Rattle.avr_isa.specs.Encoding.{IsDecoded, BeginsTwoWords}
 use Rattle.avr_decode.specs.Decoding.{the_form, size_by_first_word}

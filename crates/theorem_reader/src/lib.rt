@@ -23,7 +23,7 @@
 //!   one that was requested is enabled.
 //! - `HexText text image position`, `IsScript text schedule`, `IsDump text flash`, `IsCommand words command`: the text of a HEX
 //!   file up to a position, of a script, of a dump, and the words of a command, as docs/FORMATS.md tells them; `HexBad`,
-//!   `IsBad`, `IsNoDump`: the first faulty line of these and its fault; `IsNoCommand`: words that are none; `written image`, the
+//!   `IsBad`, `dump_fault`: the first faulty line of these and its fault; `IsNoCommand`: words that are none; `written image`, the
 //!   text of a HEX file, and `usage_line`, `hex_word` and their like, what is printed of faults.
 //! - `Schedules count lines schedules`, `IsMisplaced count image address`: the script of so many programs, and that a word
 //!   stands in their image where none may, outside their 4,096 words or in the last two of these, as docs/TASKS.md tells them;

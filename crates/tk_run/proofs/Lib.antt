@@ -5,4 +5,4 @@ pub mod Gathered
 pub mod Booting
 pub mod WholeRun
 pub mod InTurn
-pub mod OneWalk
+mod Putting

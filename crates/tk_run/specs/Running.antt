@@ -1,6 +1,6 @@
 -- What `advance` says: the moves that it makes, and what they are of the original program
 -- (docs/MACHINE.md, "A run of n steps" and "The original program").
-use Rattle.std.specs.Prelude.{◌≡◌, ◌≢◌, ℕ, zero, suc, ◌+◌, ◌<◌, ◌≤◌, ◌^◌, Bool, true, false, List, [], ◌++◌, Option, Some, None, Result, Ok, Err}
+use Rattle.std.specs.Prelude.{◌≡◌, ◌≢◌, ℕ, zero, suc, ◌+◌, ◌<◌, ◌≤◌, ◌^◌, true, false, List, [], ◌++◌, is_err, Option, Some, None, Result, Ok, Err}
 use Rattle.mote_devices.specs.declared.line.Line.{Line}
 use Rattle.flat_machine.specs.FlatMachine.{Moment, End as FlatEnd, Run, run}
 use Rattle.flat_machine.specs.FlatMachine as flat_ends
@@ -115,10 +115,6 @@ pub record HasRun (old new : Machine) (n : ℕ) (moves : List Move) (lines : Lis
   pub by_step : IsByStep (states_of (original_from old)) old new done moves
   pub answers : Answers old new n done lines result
 
-abbrev pub is_failed : Result End Failed → Bool
-is_failed (Ok end) = false
-is_failed (Err e) = true
-
 -- What `advance` leaves. The text of the lines was put, or, where the sink failed, a shorter part of it from
 -- its front. An end that is kept is answered again, and nothing changes.
 pub record HasAdvanced (old new : Machine) (n : ℕ) (before after : Option (List ℕ)) (result : Result End Failed) : Type 0 where
@@ -126,7 +122,7 @@ pub record HasAdvanced (old new : Machine) (n : ℕ) (before after : Option (Lis
   pub leads : Leads old lines new
   pub put : Puts before after result (lines_text lines)
   pub stays : Stays old new
-  pub broken : new.broken ≡ is_failed result
+  pub broken : new.broken ≡ is_err result
   pub ran : old.end ≡ None → HasRun old new n leads.moves lines result
   pub keeps : old.steps + n ≤ 10 ^ 12 → IsKept old → IsKept new
   pub kept : (end : End) → old.end ≡ Some end → (result ≡ Ok end) × (new ≡ old) × (lines ≡ [])

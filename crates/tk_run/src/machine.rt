@@ -71,7 +71,8 @@ pub struct Machine {
     pub longest: u64,
     /// How many of `pages` the pool had when the run began.
     pub began: u64,
-    /// What its runs know of places, kept on the heap, if there is room for it there. Without it each run makes one of its own.
+    /// What its runs know of places, on the heap. A machine that is made over a flash takes no memory for it: unless it is
+    /// given one, each of its runs makes one on the stack.
     cursor: Option<Box<Cursor>>,
 }
 

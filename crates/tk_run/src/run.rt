@@ -3,7 +3,7 @@
 ghost use Rattle.std.specs.Prelude.{◌≡◌, ◌≤◌, ◌+◌, ◌-◌, ◌^◌, false, None, []};
 ghost use Rattle.byte_streams.specs.Faults.{HasCause};
 ghost use Rattle.page_cursor.specs.Cursors.{IsCursor};
-ghost use Rattle.tk_run.specs.Gathering.{HasGathered, HasPut};
+ghost use Rattle.tk_run.specs.Gathering.{MayRun, HasMade};
 ghost use Rattle.program_steps.specs.Ready.{IsGoing, IsQuiet};
 ghost use Rattle.tk_run.specs.InTurn.{GoOutInTurn};
 ghost use Rattle.tk_run.specs.Running.{HasAdvanced};
@@ -38,92 +38,50 @@ pub(crate) fn run_on<K: Sink>(
     if let Some(end) = p.end {
         return Ok(end);
     }
-    match put_steps(k, p, cursor, n, out) {
-        Ok(end) => Ok(end),
-        Err(failed) => {
-            p.broken = true;
-            Err(failed)
+    let result = match cursor {
+        Some(cursor) => {
+            cursor.forget();
+            put_steps(k, p, &mut **cursor, n, out)
         }
-    }
+        None => put_steps_anew(k, p, n, out),
+    };
+    p.broken = result.is_err();
+    result
 }
 
-/// The steps of a machine without an end, and all their lines.
+/// The steps of a machine without an end, and all their lines, by a cursor that is right for flash as it is.
 fn put_steps<K: Sink>(
     k: &mut Kernel,
     p: &mut Progress,
-    cursor: &mut Option<Box<Cursor>>,
+    cursor: &mut Cursor,
     n: u64,
     out: &mut K,
 ) -> Result<End, Failed>
-    requires going { p.old.end ≡ None }
-    requires whole { p.old.broken ≡ false }
-    requires ready { IsGoing (whole k.old p.old) }
-    requires quiet { IsQuiet (whole k.old p.old) }
-    requires steps { p.old.steps + n ≤ 10 ^ 12 }
-    requires unshut { k.old.part.shut ≡ false }
-    ensures put { HasPut (whole k.old p.old) (whole k.new p.new) n (K.taken out.old) (K.taken out.new) result }
-    ensures turns { GoOutInTurn K.taken (whole k.old p.old) out.old out.new (p.new.steps - p.old.steps) }
-    ensures cause { HasCause (K.faults out.old) (K.faults out.new) result }
+    requires may { MayRun (whole k.old p.old) n }
+    requires cursor { IsCursor k.old.layout k.old.mote.flash.words cursor.old }
+    ensures made { HasMade K.taken K.faults (whole k.old p.old) (whole k.new p.new) n [] out.old out.new result }
 {
     let mut gathered = Gathered::new();
-    let end = gathered_steps(k, p, cursor, n, &mut gathered, out)?;
+    let end = all_steps(k, p, cursor, n, &mut gathered, out)?;
     send(&mut gathered, out)?;
     Ok(end)
 }
 
-/// The steps, with the last lines still gathered. Where no cursor is kept one is made for this run.
-fn gathered_steps<K: Sink>(
-    k: &mut Kernel,
-    p: &mut Progress,
-    cursor: &mut Option<Box<Cursor>>,
-    n: u64,
-    gathered: &mut Gathered,
-    out: &mut K,
-) -> Result<End, Failed>
-    requires going { p.old.end ≡ None }
-    requires whole { p.old.broken ≡ false }
-    requires ready { IsGoing (whole k.old p.old) }
-    requires quiet { IsQuiet (whole k.old p.old) }
-    requires steps { p.old.steps + n ≤ 10 ^ 12 }
-    requires unshut { k.old.part.shut ≡ false }
-    requires empty { gathered.old.items ≡ [] }
-    ensures gathered { HasGathered (whole k.old p.old) (whole k.new p.new) n gathered.new.items (K.taken out.old) (K.taken out.new) result }
-    ensures turns { GoOutInTurn K.taken (whole k.old p.old) out.old out.new (p.new.steps - p.old.steps) }
-    ensures cause { HasCause (K.faults out.old) (K.faults out.new) result }
-{
-    match cursor {
-        Some(cursor) => {
-            cursor.forget();
-            all_steps(k, p, &mut **cursor, n, gathered, out)
-        }
-        None => all_steps_anew(k, p, n, gathered, out),
-    }
-}
-
-/// The steps, by a cursor that is kept on the stack. Not inlined, since it is large.
+/// The same for a machine that keeps no cursor: by one on the stack. Not inlined, since it is large.
 #[inline(never)]
-fn all_steps_anew<K: Sink>(
+fn put_steps_anew<K: Sink>(
     k: &mut Kernel,
     p: &mut Progress,
     n: u64,
-    gathered: &mut Gathered,
     out: &mut K,
 ) -> Result<End, Failed>
-    requires going { p.old.end ≡ None }
-    requires whole { p.old.broken ≡ false }
-    requires ready { IsGoing (whole k.old p.old) }
-    requires quiet { IsQuiet (whole k.old p.old) }
-    requires steps { p.old.steps + n ≤ 10 ^ 12 }
-    requires unshut { k.old.part.shut ≡ false }
-    requires empty { gathered.old.items ≡ [] }
-    ensures gathered { HasGathered (whole k.old p.old) (whole k.new p.new) n gathered.new.items (K.taken out.old) (K.taken out.new) result }
-    ensures turns { GoOutInTurn K.taken (whole k.old p.old) out.old out.new (p.new.steps - p.old.steps) }
-    ensures cause { HasCause (K.faults out.old) (K.faults out.new) result }
+    requires may { MayRun (whole k.old p.old) n }
+    ensures made { HasMade K.taken K.faults (whole k.old p.old) (whole k.new p.new) n [] out.old out.new result }
 {
-    all_steps(k, p, &mut Cursor::new(), n, gathered, out)
+    put_steps(k, p, &mut Cursor::new(), n, out)
 }
 
-/// The steps, by a cursor that is right for flash as it is.
+/// The steps, with the last lines still gathered.
 fn all_steps<K: Sink>(
     k: &mut Kernel,
     p: &mut Progress,
@@ -132,17 +90,10 @@ fn all_steps<K: Sink>(
     gathered: &mut Gathered,
     out: &mut K,
 ) -> Result<End, Failed>
-    requires going { p.old.end ≡ None }
-    requires whole { p.old.broken ≡ false }
-    requires ready { IsGoing (whole k.old p.old) }
-    requires quiet { IsQuiet (whole k.old p.old) }
-    requires steps { p.old.steps + n ≤ 10 ^ 12 }
-    requires unshut { k.old.part.shut ≡ false }
+    requires may { MayRun (whole k.old p.old) n }
     requires cursor { IsCursor k.old.layout k.old.mote.flash.words cursor.old }
     requires empty { gathered.old.items ≡ [] }
-    ensures gathered { HasGathered (whole k.old p.old) (whole k.new p.new) n gathered.new.items (K.taken out.old) (K.taken out.new) result }
-    ensures turns { GoOutInTurn K.taken (whole k.old p.old) out.old out.new (p.new.steps - p.old.steps) }
-    ensures cause { HasCause (K.faults out.old) (K.faults out.new) result }
+    ensures made { HasMade K.taken K.faults (whole k.old p.old) (whole k.new p.new) n gathered.new.items out.old out.new result }
 {
     let mut done = 0;
     'steps: while done < n {

@@ -4,7 +4,7 @@ use Rattle.std.specs.Prelude.{slice_get, is_some, sum_by}
 use Rattle.std.proofs.lemmas.List.{append_assoc, append-nil}
 use Rattle.flat_machine.specs.FlatMachine.{End}
 use Rattle.parked_tasks.specs.declared.task.Task.{Task}
-use Rattle.task_turns.specs.Turns.{Player, Turns, Told, After, once, continued, go_on, tries, turns, alone, own_told, Follows, Ended, Going, Over, HaveEnded}
+use Rattle.task_turns.specs.Turns.{Player, Turns, Told, After, once, with_told, go_on, tries, turns, alone, own_told, Follows, Ended, Going, Over, HaveEnded}
 use Rattle.tk_tasks.specs.States.{Tasks, player_of, players_from, turns_of}
 use Rattle.parked_tasks.specs.Ends.{flat_end_of}
 use Rattle.tk_tasks.specs.Plays.{Play, TaskPath, told_of, AreInTurn, EndsAsAlone, HaveRun}
@@ -31,21 +31,21 @@ player_here n t i task is =
 -- ---- plays and tries
 
 go_by : (t : Turns) (p : Player) (rest : Turns → After) (end : Option End) → p.end ≡ end → end ≡ None
-    → cond (is_some p.end) (record { told = []; turns = t }) (continued (once t p) (rest (once t p).turns)) ≡ continued (once t p) (rest (once t p).turns)
-go_by t p rest end is none = ap (λ e. cond (is_some e) (record { told = []; turns = t }) (continued (once t p) (rest (once t p).turns))) (is ∙ none)
+    → cond (is_some p.end) (record { told = []; turns = t }) (with_told (once t p).told (rest (once t p).turns)) ≡ with_told (once t p).told (rest (once t p).turns)
+go_by t p rest end is none = ap (λ e. cond (is_some e) (record { told = []; turns = t }) (with_told (once t p).told (rest (once t p).turns))) (is ∙ none)
 
-pub go_now : (t : Turns) (p : Player) (rest : Turns → After) → slice_get t.players t.running ≡ Some p → p.end ≡ None → go_on t (slice_get t.players t.running) rest ≡ continued (once t p) (rest (once t p).turns)
+pub go_now : (t : Turns) (p : Player) (rest : Turns → After) → slice_get t.players t.running ≡ Some p → p.end ≡ None → go_on t (slice_get t.players t.running) rest ≡ with_told (once t p).told (rest (once t p).turns)
 go_now t p rest there going = ap (λ found. go_on t found rest) there ∙ go_by t p rest None going refl
 
-after_told : (told : List Told) (t : Turns) (a follows : After) → told ≡ a.told → t ≡ a.turns → (rest : Turns → After) → rest t ≡ follows → continued a (rest a.turns) ≡ continued (record { told = told; turns = t }) follows
+after_told : (told : List Told) (t : Turns) (a follows : After) → told ≡ a.told → t ≡ a.turns → (rest : Turns → After) → rest t ≡ follows → with_told a.told (rest a.turns) ≡ with_told told follows
 after_told told t a follows is stands rest same =
-    ap (λ z. continued a (rest z)) (sym stands) ∙ ap (continued a) same ∙ ap (λ l. record { told = l ++ follows.told; turns = follows.turns }) (sym is)
+    ap (λ z. with_told a.told (rest z)) (sym stands) ∙ ap (with_told a.told) same ∙ ap (λ l. with_told l follows) (sym is)
 
-told_before : (front told : List Told) (t u : Turns) (a : After) → continued (record { told = front; turns = t }) (continued (record { told = told; turns = u }) a) ≡ continued (record { told = front ++ told; turns = u }) a
-told_before front told t u a = ap (λ l. record { told = l; turns = a.turns }) (sym (append_assoc front told a.told))
+told_before : (front told : List Told) (a : After) → with_told front (with_told told a) ≡ with_told (front ++ told) a
+told_before front told a = ap (λ l. record { told = l; turns = a.turns }) (sym (append_assoc front told a.told))
 
 -- plays, and any number of tries behind them
-path_more : (n : ℕ) (t : Tasks) (plays : List Play) (new : Tasks) (m : ℕ) → TaskPath n t plays new → tries (length plays + m) (turns_of n t) ≡ continued (record { told = told_of plays; turns = turns_of n new }) (tries m (turns_of n new))
+path_more : (n : ℕ) (t : Tasks) (plays : List Play) (new : Tasks) (m : ℕ) → TaskPath n t plays new → tries (length plays + m) (turns_of n t) ≡ with_told (told_of plays) (tries m (turns_of n new))
 unfolding tries
 path_more n t [] new m is =
     let none : 0 + m ≡ m = omega arith in
@@ -56,8 +56,8 @@ path_more n t (play ∷ plays) new m (mid, one, rest) =
     let one_more : suc (length plays) + m ≡ suc (length plays + m) = omega arith in
     ap (λ j. tries j (turns_of n t)) one_more
     ∙ go_now (turns_of n t) p (tries (length plays + m)) (player_here n t t.running one.task one.here) (ap flat_end_of one.going)
-    ∙ after_told play.told (turns_of n mid) (once (turns_of n t) p) (continued (record { told = told_of plays; turns = turns_of n new }) later) one.told one.in_turn (tries (length plays + m)) (path_more n mid plays new m rest)
-    ∙ told_before play.told (told_of plays) (turns_of n mid) (turns_of n new) later
+    ∙ after_told play.told (turns_of n mid) (once (turns_of n t) p) (with_told (told_of plays) later) one.told one.in_turn (tries (length plays + m)) (path_more n mid plays new m rest)
+    ∙ told_before play.told (told_of plays) later
 
 pub path_tries : (n : ℕ) (t : Tasks) (plays : List Play) (new : Tasks) → TaskPath n t plays new → tries (length plays) (turns_of n t) ≡ record { told = told_of plays; turns = turns_of n new }
 unfolding tries
@@ -122,7 +122,7 @@ path_in_turn n t plays new path =
 
 ended_by : (t : Turns) (found : Option Player) (rest : Turns → After) → slice_get t.players t.running ≡ found → HaveEnded t → go_on t found rest ≡ record { told = []; turns = t }
 ended_by t None rest is ended = refl
-ended_by t (Some p) rest is ended = ap (λ b. cond b (record { told = []; turns = t }) (continued (once t p) (rest (once t p).turns))) (ended t.running p is)
+ended_by t (Some p) rest is ended = ap (λ b. cond b (record { told = []; turns = t }) (with_told (once t p).told (rest (once t p).turns))) (ended t.running p is)
 
 ended_tries : (k : ℕ) (t : Turns) → HaveEnded t → tries k t ≡ record { told = []; turns = t }
 unfolding tries
@@ -130,10 +130,10 @@ ended_tries zero t ended = refl
 ended_tries (suc k) t ended = ended_by t (slice_get t.players t.running) (tries k) refl ended
 
 more_by : (k m : ℕ) (t : Turns) (p : Player) (b : Bool) → ((next : Turns) → HaveEnded (tries k next).turns → tries (k + m) next ≡ tries k next)
-    → HaveEnded (cond b (record { told = []; turns = t }) (continued (once t p) (tries k (once t p).turns))).turns
-    → cond b (record { told = []; turns = t }) (continued (once t p) (tries (k + m) (once t p).turns)) ≡ cond b (record { told = []; turns = t }) (continued (once t p) (tries k (once t p).turns))
+    → HaveEnded (cond b (record { told = []; turns = t }) (with_told (once t p).told (tries k (once t p).turns))).turns
+    → cond b (record { told = []; turns = t }) (with_told (once t p).told (tries (k + m) (once t p).turns)) ≡ cond b (record { told = []; turns = t }) (with_told (once t p).told (tries k (once t p).turns))
 more_by k m t p true rest ended = refl
-more_by k m t p false rest ended = ap (continued (once t p)) (rest (once t p).turns ended)
+more_by k m t p false rest ended = ap (with_told (once t p).told) (rest (once t p).turns ended)
 
 more_found : (k m : ℕ) (t : Turns) (found : Option Player) → ((next : Turns) → HaveEnded (tries k next).turns → tries (k + m) next ≡ tries k next)
     → HaveEnded (go_on t found (tries k)).turns → go_on t found (tries (k + m)) ≡ go_on t found (tries k)

@@ -28,7 +28,7 @@ use Rattle.parked_tasks.specs.declared.task.Task.{Task}
 use Rattle.parked_tasks.specs.declared.task.TaskEnd.{TaskEnd}
 use Rattle.parked_tasks.specs.declared.task.TaskEnd.TheVariants.{Spent, Wild}
 use Rattle.tk_tasks.specs.declared.trying.Tried.{Tried}
-use Rattle.task_turns.specs.Turns.{Turns, Stops, After, Over, played as outcome, rests_by, rests, played_by, tried_by, once_by, once, changed, with_player, told_line, stopped, at_checkpoint, stepped, after_line}
+use Rattle.task_turns.specs.Turns.{Turns, Stops, After, Over, played as outcome, rests_by, rests, played_by, tried_by, once_by, once, changed, with_player, told_line, stopped, at_checkpoint, stepped, with_told}
 use Rattle.tk_tasks.specs.States.{Tasks, machine_of, machine_end, AreSound, player_of, turns_of}
 use Rattle.parked_tasks.specs.Ends.{flat_end, flat_end_of}
 use Rattle.tk_tasks.specs.Changes.{IsFree}
@@ -229,11 +229,11 @@ next_player n u task m going program steps =
     ∙ ap₂ (λ p l. record { program = p; moment = flat_of m; left = l; end = None }) (sym program) less
 
 step_rests : (t : Turns) (n : ℕ) (m : Machine) (line : Option Line) (rest : Option TaskEnd) (found : Option FlatEnd) → found ≡ flat_end_of rest
-    → after_line (told_line t line) (at_checkpoint t (player_by n m None) found) ≡ record { told = told_line t line ++ end_told t.running rest m.steps m.crossings; turns = changed (with_player t (player_by n m rest)) }
-step_rests t n m line None found is = ap (λ o. after_line (told_line t line) (at_checkpoint t (player_by n m None) o)) is
-step_rests t n m line (Some end) found is = ap (λ o. after_line (told_line t line) (at_checkpoint t (player_by n m None) o)) is
+    → with_told (told_line t line) (at_checkpoint t (player_by n m None) found) ≡ record { told = told_line t line ++ end_told t.running rest m.steps m.crossings; turns = changed (with_player t (player_by n m rest)) }
+step_rests t n m line None found is = ap (λ o. with_told (told_line t line) (at_checkpoint t (player_by n m None) o)) is
+step_rests t n m line (Some end) found is = ap (λ o. with_told (told_line t line) (at_checkpoint t (player_by n m None) o)) is
 
-step_checks : (t : Turns) (n : ℕ) (m : Machine) (line : Option Line) (c : Bool) → after_line (told_line t line) (stepped t (player_by n m None) c)
+step_checks : (t : Turns) (n : ℕ) (m : Machine) (line : Option Line) (c : Bool) → with_told (told_line t line) (stepped t (player_by n m None) c)
     ≡ record { told = told_line t line ++ end_told t.running (rest_if c m.kernel.part m.at (n - m.steps)) m.steps m.crossings; turns = turned c (with_player t (player_by n m (rest_if c m.kernel.part m.at (n - m.steps)))) }
 step_checks t n m line false = refl
 step_checks t n m line true =
@@ -247,7 +247,7 @@ once_goes : (n : ℕ) (u : Tasks) (task : Task) (m : Machine) (line : Option Lin
 once_goes n u task m line going rest program steps is c checked =
     let t = turns_of n u in
     once_tries n u task (On line (flat_of m)) going rest is
-    ∙ ap₂ (λ p b. after_line (told_line t line) (stepped t p b)) (next_player n u task m going program steps) checked
+    ∙ ap₂ (λ p b. with_told (told_line t line) (stepped t p b)) (next_player n u task m going program steps) checked
     ∙ step_checks t n m line c
     ∙ ap (λ l. record { told = l ++ end_told u.running (rest_if c m.kernel.part m.at (n - m.steps)) m.steps m.crossings; turns = turned c (with_player t (player_by n m (rest_if c m.kernel.part m.at (n - m.steps)))) }) (line_is t line)
 

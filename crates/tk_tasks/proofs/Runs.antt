@@ -31,7 +31,7 @@ use Rattle.parked_tasks.specs.Handing.{parked_by}
 use Rattle.tk_tasks.specs.Changes.{given_by, given_to, next_task, changed_tasks}
 use Rattle.tk_tasks.specs.Plays.{Play, IsPlay, TaskPath, told_of, told_text, counted, HasRunTasks}
 use Rattle.tk_tasks.specs.Trying.{HasTried, stub_in, kept_task, kept_tasks, HasPlayed}
-use Rattle.tk_tasks.specs.Running.{IsUnderWay, IsCut, HaveGathered}
+use Rattle.tk_tasks.specs.Running.{IsUnderWay, IsCut, HavePut}
 use Rattle.task_turns.proofs.Isolation.{IsOnce, once_follows, weight, weight_going, weight_ended}
 use Rattle.task_turns.proofs.Ending.{Ready, still}
 use Rattle.step_laws.proofs.Ways.{walks_on}
@@ -146,17 +146,17 @@ keeps_to : (t : Tasks) (next : Option ℕ) → Keeps t.kernel (given_to t next).
 keeps_to t None = record { layout = refl; flash = refl; quantum = refl }
 keeps_to t (Some next) = keeps_given t next (parked_by (slice_get t.tasks next))
 
-pub changed_layout : (t : Tasks) → (changed_tasks t).kernel.layout ≡ t.kernel.layout
-changed_layout t = (keeps_to t (next_task t)).layout
-
-pub changed_flash : (t : Tasks) → (changed_tasks t).kernel.mote.flash ≡ t.kernel.mote.flash
-changed_flash t = (keeps_to t (next_task t)).flash
-
 pub changed_quantum : (t : Tasks) → (changed_tasks t).kernel.quantum ≡ t.kernel.quantum
 changed_quantum t = (keeps_to t (next_task t)).quantum
 
-pub cursor_on : (new k : Kernel) (cursor : Cursor) → new.layout ≡ k.layout → new.mote.flash ≡ k.mote.flash → IsCursor k.layout k.mote.flash.words cursor → IsCursor new.layout new.mote.flash.words cursor
-cursor_on new k cursor layout flash is = subst (λ l. IsCursor l new.mote.flash.words cursor) (sym layout) (subst (λ (f : Memory). IsCursor k.layout f.words cursor) (sym flash) is)
+-- so the cursor that was right is right
+pub cursor_changed : (t s : Tasks) (new : Kernel) (cursor : Cursor) → s ≡ t → new ≡ (changed_tasks t).kernel → IsCursor s.kernel.layout s.kernel.mote.flash.words cursor
+    → IsCursor new.layout new.mote.flash.words cursor
+cursor_changed t s new cursor same is right =
+    let keeps = keeps_to t (next_task t) in
+    let layout : new.layout ≡ s.kernel.layout = ap (λ (k : Kernel). k.layout) is ∙ keeps.layout ∙ sym (ap (λ (u : Tasks). u.kernel.layout) same) in
+    let flash : new.mote.flash ≡ s.kernel.mote.flash = ap (λ (k : Kernel). k.mote.flash) is ∙ keeps.flash ∙ sym (ap (λ (u : Tasks). u.kernel.mote.flash) same) in
+    subst (λ l. IsCursor l new.mote.flash.words cursor) (sym layout) (subst (λ (f : Memory). IsCursor s.kernel.layout f.words cursor) (sym flash) right)
 
 -- ---- what was kept
 
@@ -288,14 +288,16 @@ all_ended n old now gathered before after way sound still_sound going over =
 
 -- ---- what was put
 
-pub sent_all : (result : Result (Unit {0}) Failed) (n : ℕ) (old now : Tasks) (gathered : List ℕ) (before after later : Option (List ℕ)) → IsUnderWay n old now gathered before after × HaveEnded (turns_of n now) → Puts after later result gathered → HaveGathered n old now [] before later result
+pub sent_all : (result : Result (Unit {0}) Failed) (n : ℕ) (old now : Tasks) (gathered : List ℕ) (before after later : Option (List ℕ))
+    → IsUnderWay n old now gathered before after × HaveEnded (turns_of n now) → Puts after later result gathered → HavePut n old now before later result
 sent_all (Ok done) n old now gathered before after later (way, ended) put =
     let text = told_text old.kernel.quantum (told_of way.plays) in
     ((record { plays = way.plays; path = way.path; sent = record { sent = text; parts = sym (append-nil text); appended = all_on text gathered before after later way.sent put } }), ended)
 sent_all (Err e) n old now gathered before after later (way, ended) put =
     record { plays = way.plays; path = way.path; cut = rest_cut (told_text old.kernel.quantum (told_of way.plays)) gathered before after later way.sent put }
 
-pub has_run : (result : Result (Unit {0}) Failed) (n : ℕ) (old last new : Tasks) (before after : Option (List ℕ)) → HaveGathered n old last [] before after result → new ≡ counted last (is_err result) → HasRunTasks n old new before after result
+pub has_run : (result : Result (Unit {0}) Failed) (n : ℕ) (old last new : Tasks) (before after : Option (List ℕ)) → HavePut n old last before after result → new ≡ counted last (is_err result)
+    → HasRunTasks n old new before after result
 has_run (Ok done) n old last new before after (way, ended) counts = record {
   plays = way.plays;
   last = last;

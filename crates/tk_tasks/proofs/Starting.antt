@@ -57,12 +57,12 @@ going_at_boot words script quantum slots i others count long few below some low 
 
 player_by : (words : List ℕ) (script : Schedule) (quantum slots i others n : ℕ) → length words ≤ most_image_words
     → ◌≡◌ {A = Player} (record { program = program_of (first_machine words script quantum slots i others).kernel; moment = flat_of (first_machine words script quantum slots i others); left = n - 0; end = None })
-    (at_reset_in (record { image = words; part = quarter_part i; page_limit = slots; quantum = quantum }) (quarter * i) script.events n)
+    (at_reset_in (record { image = words; part = quarter_part i; page_limit = slots; quantum = quantum }) script.events n)
 player_by words script quantum slots i others n few =
     let all : n - 0 ≡ n = omega arith in
     ap₂ (λ p m. record { program = p; moment = m; left = n - 0; end = None }) (program_begun words (new_flash words []) script (quarter_part i) quantum slots 0 others (new_flash_faithful (layout_of (length words)) words (layout_right (length words) few) refl))
     (flat_begun (new_flash words []) script (length words) (quarter_part i) quantum slots 0 others)
-    ∙ ap (λ l. at_reset_in (record { image = words; part = quarter_part i; page_limit = slots; quantum = quantum }) (quarter * i) script.events l) all
+    ∙ ap (λ l. at_reset_in (record { image = words; part = quarter_part i; page_limit = slots; quantum = quantum }) script.events l) all
 
 -- The tasks at boot. --------------------------------------------------------------------------------------
 

@@ -1,4 +1,5 @@
 pub mod States
+pub mod Held
 pub mod Booted
 pub mod Changes
 pub mod Plays

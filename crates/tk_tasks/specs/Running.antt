@@ -1,5 +1,5 @@
 -- Serves private functions: the run of the tasks, with lines that are gathered before they go out.
-use Rattle.std.specs.Prelude.{ℕ, List, Option, Some, None, Result, Ok, Err}
+use Rattle.std.specs.Prelude.{ℕ, List, [], Option, Some, None, Result, Ok, Err}
 use Rattle.byte_streams.specs.declared.failure.Failed.{Failed}
 use Rattle.byte_streams.specs.Streams.{CutShort, IsSent}
 use Rattle.kernel_entry.specs.declared.kernel.End.{End}
@@ -34,7 +34,7 @@ pub record IsCut (n : ℕ) (old now : Tasks) (before after : Option (List ℕ)) 
   pub path : TaskPath n old plays now
   pub cut : CutShort before after (told_text old.kernel.quantum (told_of plays))
 
--- the plays until every task has ended
-abbrev pub HaveGathered : (n : ℕ) (old now : Tasks) (gathered : List ℕ) (before after : Option (List ℕ)) → Result (Unit {0}) Failed → Type 0
-HaveGathered n old now gathered before after (Ok done) = IsUnderWay n old now gathered before after × HaveEnded (turns_of n now)
-HaveGathered n old now gathered before after (Err e) = IsCut n old now before after
+-- the plays until every task has ended, and all that they told is put
+abbrev pub HavePut : (n : ℕ) (old now : Tasks) (before after : Option (List ℕ)) → Result (Unit {0}) Failed → Type 0
+HavePut n old now before after (Ok done) = IsUnderWay n old now [] before after × HaveEnded (turns_of n now)
+HavePut n old now before after (Err e) = IsCut n old now before after

@@ -1,7 +1,6 @@
 //! Plays of the running task, with the mote changed from one task to the next.
 
 ghost use Rattle.std.specs.Prelude.{◌≡◌, ◌+◌, ◌<◌, ◌≤◌, ◌^◌, ◌↔◌, false, Some, None, IsTrue, length, slice_get};
-ghost use Rattle.page_cursor.specs.Cursors.{IsCursor};
 ghost use Rattle.program_steps.specs.Wholes.{whole};
 ghost use Rattle.parked_tasks.specs.declared.task.Task.{Task as TaskOf};
 ghost use Rattle.tk_tasks.specs.States.{AreSound, machine_of, owed_of, Tasks as TasksOf};
@@ -11,7 +10,6 @@ use crate::tasks::Tasks;
 use crate::trying::try_on;
 use kernel_entry::Owed;
 use mote_devices::Line;
-use page_cursor::Cursor;
 use parked_tasks::{Task, TaskEnd, arrivals_of_others};
 use program_steps::Progress;
 
@@ -103,26 +101,24 @@ impl Tasks {
     }
 
     /// Some plays of the running task, which has not ended and may do n steps in all: at most `most` steps of its program.
-    pub(crate) fn play(&mut self, n: u64, most: u64, cursor: &mut Cursor) -> Shown
+    pub(crate) fn play(&mut self, n: u64, most: u64) -> Shown
         requires sound { AreSound self.old }
         requires whole { self.old.broken ≡ false }
         requires going { (task : TaskOf) → slice_get self.old.tasks self.old.running ≡ Some task → task.end ≡ None }
         requires steps { n ≤ 10 ^ 12 }
         requires some { 1 ≤ most }
         requires room { self.old.switches < 2 ^ 63 }
-        requires cursor { IsCursor self.old.kernel.layout self.old.kernel.mote.flash.words cursor.old }
         ensures sound { AreSound self.new }
         ensures whole { self.new.broken ≡ false }
         ensures played { HasPlayed n self.old self.new (tried_told result.task result.line result.end result.steps result.crossings) result.count }
         ensures task { result.task < 4 }
         ensures quantum { self.new.kernel.quantum ≡ self.old.kernel.quantum }
         ensures most { result.count ≤ most }
-        ensures cursor { IsCursor self.new.kernel.layout self.new.kernel.mote.flash.words cursor.new }
     {
         let running = self.running;
         let mut p = self.progress();
         let left = n.saturating_sub(p.steps);
-        let tried = try_on(&mut self.kernel, &mut p, cursor, left, most);
+        let tried = try_on(&mut self.kernel, &mut p, &mut *self.cursor, left, most);
         self.stub = stub_in(p.owed);
         self.pages = p.pages;
         keep(&mut self.tasks[usize::from(running)], &p, tried.end);

@@ -1,22 +1,21 @@
 //! The run of the tasks: plays, one after another, until every task has ended.
 
-ghost use Rattle.std.specs.Prelude.{◌≡◌, ℕ, ◌<◌, ◌≤◌, ◌^◌, false, Some, None, [], slice_get, sum_by};
+ghost use Rattle.std.specs.Prelude.{◌≡◌, ℕ, ◌<◌, ◌≤◌, ◌^◌, false, Some, None, slice_get, sum_by};
 ghost use Rattle.byte_streams.specs.Faults.{HasCause};
 ghost use Rattle.line_gathering.specs.Gathering.{Gathers};
 ghost use Rattle.parked_tasks.specs.declared.task.Task.{Task as TaskOf};
-ghost use Rattle.page_cursor.specs.Cursors.{IsCursor};
 ghost use Rattle.tk_tasks.specs.States.{AreSound};
+ghost use Rattle.tk_tasks.specs.Booted.{IsUnstarted};
 ghost use Rattle.tk_tasks.specs.InTurn.{WentOutInTurn};
 ghost use Rattle.tk_tasks.specs.Plays.{HasRunTasks, told_text};
 ghost use Rattle.tk_tasks.specs.Trying.{tried_told};
-ghost use Rattle.tk_tasks.specs.Running.{end_shown_of, HaveGathered};
+ghost use Rattle.tk_tasks.specs.Running.{end_shown_of, HavePut};
 
 use crate::play::Shown;
 use crate::tasks::Tasks;
 use byte_streams::{Failed, Sink};
 use kernel_entry::{End, Stop};
 use line_gathering::{Gathered, TURN, TaskLines, add_task, send, send_in_turn, up_to_turn};
-use page_cursor::Cursor;
 use parked_tasks::{Counts, TaskEnd, counts_of};
 
 /// A task's end, as its stop line shows it, if it ended.
@@ -90,127 +89,24 @@ impl Tasks {
     }
 }
 
-/// All plays, and all that they tell, by the cursor that is kept.
+/// All plays of tasks of which none was run, and all that they tell.
 fn put_plays<K: Sink>(t: &mut Tasks, n: u64, out: &mut K) -> Result<(), Failed>
     requires sound { AreSound t.old }
-    requires whole { t.old.broken ≡ false }
-    requires going { (i : ℕ) → (task : TaskOf) → slice_get t.old.tasks i ≡ Some task → task.end ≡ None }
-    requires switches { t.old.switches ≡ 0 }
+    requires unstarted { IsUnstarted t.old }
     requires steps { n ≤ 10 ^ 9 }
-    ensures gathered { HaveGathered n t.old t.new [] (K.taken out.old) (K.taken out.new) result }
-    ensures turns { WentOutInTurn K.taken n t.old t.new out.old out.new }
-    ensures sound { AreSound t.new }
-    ensures whole { t.new.broken ≡ false }
-    ensures cause { HasCause (K.faults out.old) (K.faults out.new) result }
-{
-    let mut kept = t.take_cursor();
-    let result = put_plays_by(t, &mut kept, n, out);
-    t.keep_cursor(kept);
-    result
-}
-
-/// The same by this cursor.
-fn put_plays_by<K: Sink>(
-    t: &mut Tasks,
-    kept: &mut Option<Box<Cursor>>,
-    n: u64,
-    out: &mut K,
-) -> Result<(), Failed>
-    requires sound { AreSound t.old }
-    requires whole { t.old.broken ≡ false }
-    requires going { (i : ℕ) → (task : TaskOf) → slice_get t.old.tasks i ≡ Some task → task.end ≡ None }
-    requires switches { t.old.switches ≡ 0 }
-    requires steps { n ≤ 10 ^ 9 }
-    ensures gathered { HaveGathered n t.old t.new [] (K.taken out.old) (K.taken out.new) result }
+    ensures put { HavePut n t.old t.new (K.taken out.old) (K.taken out.new) result }
     ensures turns { WentOutInTurn K.taken n t.old t.new out.old out.new }
     ensures sound { AreSound t.new }
     ensures whole { t.new.broken ≡ false }
     ensures cause { HasCause (K.faults out.old) (K.faults out.new) result }
 {
     let mut gathered = Gathered::new();
-    gathered_plays(t, kept, n, &mut gathered, out)?;
-    send(&mut gathered, out)
-}
-
-/// All plays, with what was told last still gathered. Where no cursor is kept one is made for this run.
-fn gathered_plays<K: Sink>(
-    t: &mut Tasks,
-    kept: &mut Option<Box<Cursor>>,
-    n: u64,
-    gathered: &mut Gathered,
-    out: &mut K,
-) -> Result<(), Failed>
-    requires sound { AreSound t.old }
-    requires whole { t.old.broken ≡ false }
-    requires going { (i : ℕ) → (task : TaskOf) → slice_get t.old.tasks i ≡ Some task → task.end ≡ None }
-    requires switches { t.old.switches ≡ 0 }
-    requires steps { n ≤ 10 ^ 9 }
-    requires empty { gathered.old.items ≡ [] }
-    ensures gathered { HaveGathered n t.old t.new gathered.new.items (K.taken out.old) (K.taken out.new) result }
-    ensures turns { WentOutInTurn K.taken n t.old t.new out.old out.new }
-    ensures sound { AreSound t.new }
-    ensures whole { t.new.broken ≡ false }
-    ensures cause { HasCause (K.faults out.old) (K.faults out.new) result }
-{
-    match kept {
-        Some(cursor) => {
-            cursor.forget();
-            all_plays(t, &mut **cursor, n, gathered, out)
-        }
-        None => all_plays_anew(t, n, gathered, out),
-    }
-}
-
-/// The plays, by a cursor that is kept on the stack. Not inlined, since it is large.
-#[inline(never)]
-fn all_plays_anew<K: Sink>(
-    t: &mut Tasks,
-    n: u64,
-    gathered: &mut Gathered,
-    out: &mut K,
-) -> Result<(), Failed>
-    requires sound { AreSound t.old }
-    requires whole { t.old.broken ≡ false }
-    requires going { (i : ℕ) → (task : TaskOf) → slice_get t.old.tasks i ≡ Some task → task.end ≡ None }
-    requires switches { t.old.switches ≡ 0 }
-    requires steps { n ≤ 10 ^ 9 }
-    requires empty { gathered.old.items ≡ [] }
-    ensures gathered { HaveGathered n t.old t.new gathered.new.items (K.taken out.old) (K.taken out.new) result }
-    ensures turns { WentOutInTurn K.taken n t.old t.new out.old out.new }
-    ensures sound { AreSound t.new }
-    ensures whole { t.new.broken ≡ false }
-    ensures cause { HasCause (K.faults out.old) (K.faults out.new) result }
-{
-    all_plays(t, &mut Cursor::new(), n, gathered, out)
-}
-
-/// The plays, by a cursor that is right for flash as it is.
-fn all_plays<K: Sink>(
-    t: &mut Tasks,
-    cursor: &mut Cursor,
-    n: u64,
-    gathered: &mut Gathered,
-    out: &mut K,
-) -> Result<(), Failed>
-    requires sound { AreSound t.old }
-    requires whole { t.old.broken ≡ false }
-    requires going { (i : ℕ) → (task : TaskOf) → slice_get t.old.tasks i ≡ Some task → task.end ≡ None }
-    requires switches { t.old.switches ≡ 0 }
-    requires steps { n ≤ 10 ^ 9 }
-    requires cursor { IsCursor t.old.kernel.layout t.old.kernel.mote.flash.words cursor.old }
-    requires empty { gathered.old.items ≡ [] }
-    ensures gathered { HaveGathered n t.old t.new gathered.new.items (K.taken out.old) (K.taken out.new) result }
-    ensures turns { WentOutInTurn K.taken n t.old t.new out.old out.new }
-    ensures sound { AreSound t.new }
-    ensures whole { t.new.broken ≡ false }
-    ensures cause { HasCause (K.faults out.old) (K.faults out.new) result }
-{
     let mut done = 0;
     'plays: while t.goes_on() {
-        send_in_turn(done, gathered, out)?;
-        let shown = t.play(n, up_to_turn(done), cursor);
+        send_in_turn(done, &mut gathered, out)?;
+        let shown = t.play(n, up_to_turn(done));
         done = (done + shown.count) % TURN;
-        put_shown(&shown, t.kernel.quantum, gathered, out)?;
+        put_shown(&shown, t.kernel.quantum, &mut gathered, out)?;
     }
-    Ok(())
+    send(&mut gathered, out)
 }

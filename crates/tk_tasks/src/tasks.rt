@@ -36,8 +36,8 @@ pub struct Tasks {
     pub pages: u64,
     /// Changes of the running task.
     pub switches: u64,
-    /// What a run knows of places, on the heap, while none is under way.
-    cursor: Option<Box<Cursor>>,
+    /// What is known of places, on the heap. It is right for flash as it is.
+    pub(crate) cursor: Box<Cursor>,
 }
 
 impl Model for Tasks {
@@ -45,7 +45,12 @@ impl Model for Tasks {
 
     ghost Value = { TasksValue };
 
-    ghost view = { λ t. record { kernel = t.kernel; running = t.running; stub = t.stub; tasks = t.tasks.items; broken = t.broken; natural = t.natural; entries = t.entries; pages = t.pages; switches = t.switches } };
+    ghost use Rattle.page_cursor.specs.Cursors.{IsCursor};
+    ghost use Rattle.tk_tasks.specs.Held.{value_of};
+
+    ghost view = { value_of };
+
+    ghost invariant = { λ t. IsCursor t.kernel.layout t.kernel.mote.flash.words t.cursor.value };
 }
 
 impl Tasks {
@@ -82,20 +87,7 @@ impl Tasks {
             entries: 0,
             pages: 0,
             switches: 0,
-            cursor: Some(cursor),
+            cursor,
         })
-    }
-    /// Gives away what a run knows of places.
-    pub(crate) fn take_cursor(&mut self) -> Option<Box<Cursor>>
-        ensures same { self.new ≡ self.old }
-    {
-        self.cursor.take()
-    }
-
-    /// Keeps this for what a run knows of places.
-    pub(crate) fn keep_cursor(&mut self, cursor: Option<Box<Cursor>>)
-        ensures same { self.new ≡ self.old }
-    {
-        self.cursor = cursor;
     }
 }

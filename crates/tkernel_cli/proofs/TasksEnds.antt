@@ -8,7 +8,7 @@ use Rattle.input_script.specs.Script.{Schedule, nothing}
 use Rattle.flat_machine.specs.FlatMachine.{Run}
 use Rattle.flat_machine.specs.Masked as masked
 use Rattle.parked_tasks.specs.declared.task.Task.{Task}
-use Rattle.task_input.specs.Images.{quarter, IsMisplaced, task_words}
+use Rattle.task_input.specs.Images.{IsMisplaced, task_words}
 use Rattle.tk_tasks.specs.Booted.{booted}
 use Rattle.task_turns.specs.Reset.{turns_at_reset}
 use Rattle.tk_tasks.specs.States.{Tasks, AreSound, player_of, turns_of}
@@ -79,7 +79,7 @@ own_alone request i may below =
     let options = request.options in
     let few : length request.scripts ≤ 4 = omega (arith, may.each_task, may.possible.1) in
     let placed : (address : ℕ) → ¬ IsMisplaced (length request.scripts) request.image address = subst (λ c. (address : ℕ) → ¬ IsMisplaced c request.image address) (sym may.each_task) may.placed in
-    let Alone : ℕ → Run = λ c. alone (at_reset_in (masked.alone (program_at (task_words c request.image) options.quantum options.swap i)) (quarter * i) (slice_index_or request.scripts i nothing).events options.steps) in
+    let Alone : ℕ → Run = λ c. alone (at_reset_in (masked.alone (program_at (task_words c request.image) options.quantum options.swap i)) (slice_index_or request.scripts i nothing).events options.steps) in
     sym (own_run (length request.scripts) request.image request.scripts options.quantum options.swap options.steps i below few placed) ∙ ap Alone may.each_task
 
 same_told : (request : TaskRequest) (start last : Tasks) (told : List Told) → Starts request start → HaveRun request.options.steps start told last → told ≡ all_told request

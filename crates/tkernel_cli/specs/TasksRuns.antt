@@ -8,7 +8,7 @@ use Rattle.flat_machine.specs.FlatMachine.{Program, Run}
 use Rattle.flat_machine.specs.Masked as masked
 use Rattle.parked_tasks.specs.declared.task.Task.{Task}
 use Rattle.parked_tasks.specs.declared.task.TaskEnd.{TaskEnd}
-use Rattle.task_input.specs.Images.{quarter, task_words}
+use Rattle.task_input.specs.Images.{task_words}
 use Rattle.task_turns.specs.Quarters.{quarter_part}
 use Rattle.tk_tasks.specs.Booted.{booted}
 use Rattle.task_turns.specs.Reset.{turns_at_reset}
@@ -34,7 +34,7 @@ program_in request task =
 -- bound that was asked for
 abbrev pub run_of_task : TaskRequest → ℕ → Run
 run_of_task request task =
-    alone (at_reset_in (masked.alone (program_in request task)) (quarter * task) (slice_index_or request.scripts task nothing).events request.options.steps)
+    alone (at_reset_in (masked.alone (program_in request task)) (slice_index_or request.scripts task nothing).events request.options.steps)
 
 -- the programs in turn, from reset. Nothing is shared there
 abbrev pub turns_by : TaskRequest → Turns

@@ -1,22 +1,24 @@
 //! What is done for a job.
-ghost use Rattle.std.specs.Prelude.{◌≡◌, ◌⊎◌, None, IfErr, IfOk, OnErr};
+ghost use Rattle.std.specs.Prelude.{◌≡◌, ◌⊎◌, None};
 ghost use Rattle.cli_words.specs.Commands.{IsPossibleJob, RunsAProgram};
-ghost use Rattle.cli_words.specs.declared.job.Job.TheVariants.{Tasks};
 ghost use Rattle.cli_words.specs.Printed.{no_memory};
 ghost use Rattle.cli_words.specs.Stream.{stream};
+ghost use Rattle.tkernel_cli.specs.Answer.{Does};
 ghost use Rattle.tkernel_cli.specs.Jobs.{DoesAlone};
 ghost use Rattle.tkernel_cli.specs.Runs.{Says};
 
 use crate::dumping::dump_request;
 use crate::restarting::restart_request;
 use crate::running::run_request;
+use crate::tasking::run_tasks;
+use crate::top::Exit;
 use byte_streams::{Sink, put};
-use cli_words::{Job, Status, TaskRequest};
+use cli_words::{Job, Status};
 use printed_text::NO_MEMORY;
 use std::alloc::Global;
 use tk_run::Machine;
 
-/// How a job ended.
+/// How a job of one program, or of none, ended.
 #[derive(Drop)]
 pub(crate) struct Outcome {
     pub(crate) status: Status,
@@ -24,23 +26,25 @@ pub(crate) struct Outcome {
     pub(crate) kept: Option<Machine>,
 }
 
-/// Does a job, but that of several tasks, whose request it hands back.
-pub(crate) fn do_job<K: Sink>(alloc: Global, job: Job, out: &mut K) -> Result<Outcome, TaskRequest>
+/// Does a job. What runs a program is done, or it is told that memory is wanted for it.
+pub(crate) fn do_job<K: Sink>(alloc: Global, job: Job, out: &mut K) -> Exit
     requires possible { IsPossibleJob job }
-    // What runs a program is done, or memory is wanted for it.
-    ensures done { IfOk result (λ outcome. DoesAlone job (stream K.taken K.faults out.old) (stream K.taken K.faults out.new) outcome.status outcome.kept
+    ensures done { Does job (stream K.taken K.faults out.old) (stream K.taken K.faults out.new) result
         ⊎ (RunsAProgram job
-        × DoesAlone no_memory (stream K.taken K.faults out.old) (stream K.taken K.faults out.new) outcome.status outcome.kept)) }
-    ensures tasks { IfErr result (λ request. job ≡ Tasks request) }
-    ensures untold { OnErr result (out.new ≡ out.old) }
+        × Does no_memory (stream K.taken K.faults out.old) (stream K.taken K.faults out.new) result) }
 {
-    match job {
-        Job::Print(status, line) => Ok(told(say(status, &line, out))),
-        Job::Write(text) => Ok(told(say(Status::Done, text.bytes(), out))),
-        Job::Run(request) => Ok(run_request(alloc, request, out)),
-        Job::Dump(request) => Ok(dump_request(alloc, request, out)),
-        Job::Restart(request, again) => Ok(restart_request(alloc, request, again, out)),
-        Job::Tasks(request) => Err(request),
+    let outcome = match job {
+        Job::Print(status, line) => told(say(status, &line, out)),
+        Job::Write(text) => told(say(Status::Done, text.bytes(), out)),
+        Job::Run(request) => run_request(alloc, request, out),
+        Job::Dump(request) => dump_request(alloc, request, out),
+        Job::Restart(request, again) => restart_request(alloc, request, again, out),
+        Job::Tasks(request) => return run_tasks(alloc, request, out),
+    };
+    Exit {
+        status: outcome.status,
+        kept: outcome.kept,
+        tasks: None,
     }
 }
 

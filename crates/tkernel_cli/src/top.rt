@@ -4,8 +4,7 @@ ghost use Rattle.tkernel_cli.specs.Answer.{IsAnswer, IsExact};
 ghost use Rattle.byte_streams.specs.Streams.{input_of};
 ghost use Rattle.cli_words.specs.Stream.{stream};
 
-use crate::job::{Outcome, do_job};
-use crate::tasking::run_tasks;
+use crate::job::do_job;
 use byte_streams::{Sink, Source};
 use cli_requests::job_of;
 use cli_words::Status;
@@ -66,12 +65,5 @@ pub fn tkernel<S: Source, K: Sink>(
         result }
 {
     let job = job_of(alloc, words, input);
-    match do_job(alloc, job, out) {
-        Ok(Outcome { status, kept }) => Exit {
-            status,
-            kept,
-            tasks: None,
-        },
-        Err(request) => run_tasks(alloc, request, out),
-    }
+    do_job(alloc, job, out)
 }

@@ -1,6 +1,5 @@
-use Rattle.std.proofs.Common.{◌≡◌, ◌∙◌, ◌<◌, refl, rules}
+use Rattle.std.proofs.Common.{◌<◌, rules}
 use Rattle.std.proofs.lemmas.Nat.{and_mask}
-use Rattle.avr_flags.specs.Sums.{sum_status}
 use Rattle.avr_flags.proofs.CarryLaws.{sum_told}
 use Rattle.avr_flags.proofs.sums.sum.Goals as goal
 
@@ -9,6 +8,4 @@ returns c =
     let fits-d : c.args.d < 256 = search rules in
     let fits-r : c.args.r < 256 = search rules in
     let told = rw (c.new.ensures, c.from.ensures, c.from-2.ensures, c.from-3.ensures, c.from-4.ensures, c.from-5.ensures, and_mask _ 8) at c.with_sum.ensures in
-    let status : c.sreg.result ≡ sum_status c.args.sreg c.args.d c.args.r c.args.carry =
-    c.sreg.ensures ∙ told ∙ sum_told c.args.sreg c.args.d c.args.r c.args.carry fits-d fits-r c.requires.carry_is_bit in
-    rw (status, c.from.ensures, c.from-2.ensures, c.from-3.ensures, and_mask _ 8) refl
+    rw (c.sreg.ensures, told, c.from.ensures, c.from-2.ensures, c.from-3.ensures, and_mask _ 8) (sum_told c.args.sreg c.args.d c.args.r c.args.carry fits-d fits-r c.requires.carry_is_bit)

@@ -1,6 +1,6 @@
-use Rattle.std.proofs.Common.{◌-◌, ◌∙◌, ap, drop, length, refl, rules, subst, take, Err, inl}
+use Rattle.std.proofs.Common.{◌≡◌, ◌-◌, ◌∙◌, ap, drop, length, refl, rules, subst, take, Err, Some, inl}
 use Rattle.flash_dump.specs.DumpAnswers.{IsRefusal}
-use Rattle.flash_dump.specs.Dumps.{IsDump, IsNoDump}
+use Rattle.flash_dump.specs.Dumps.{IsDump, dump_fault}
 use Rattle.printed_text.specs.FaultyLines.{dump_word, hex_word}
 use Rattle.cli_requests.specs.Reading.{Bad, Good}
 use Rattle.cli_requests.proofs.Judging.{position_inside, rest_whole}
@@ -26,7 +26,7 @@ returns-in-Err-Bad-read_dump-clause-asks c =
     let bad = subst (IsRefusal (take (length text - position) (drop position text))) c.in-Err-Bad-read_dump.field-0-is c.in-Err-Bad-read_dump.ensures.bad in
     inl (Good c.in-Ok.read c.in-Ok.ensures.found
     (Bad c.in-Err-Bad-read_dump.line (dump_word c.in-Err-Bad-read_dump.fault)
-    (c.in-Err-Bad-read_dump.fault, subst (λ z. IsNoDump z c.in-Err-Bad-read_dump.line c.in-Err-Bad-read_dump.fault) behind bad, refl)
+    (c.in-Err-Bad-read_dump.fault, subst (λ z. dump_fault z ≡ Some (c.in-Err-Bad-read_dump.line, c.in-Err-Bad-read_dump.fault)) behind bad, refl)
     (cc (c.bad_dump.ensures.job, c.in-Err-Bad-read_dump.line-is, c.in-Err-Bad-read_dump.fault-is))))
 
 pub returns-clause-asks : goal.returns-clause-asks

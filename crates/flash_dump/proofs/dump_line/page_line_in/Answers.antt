@@ -1,5 +1,5 @@
-use Rattle.std.proofs.Common.{arith, rules}
-use Rattle.flash_dump.proofs.DumpLineLaws.{number_fits}
+use Rattle.std.proofs.Common.{sym, ◌∙◌, arith, rules}
+use Rattle.flash_dump.proofs.DumpLineLaws.{number_fits, other_words, told_page}
 use Rattle.flash_dump.proofs.dump_line.page_line_in.Goals as goal
 
 pub overflow_cast-result : goal.overflow_cast-result
@@ -8,14 +8,11 @@ overflow_cast-result c = omega (arith, number_fits c.args.line.now c.if-line-ne-
 pub returns : goal.returns
 returns c = record {
   cases = record {
-    form = record {
-      size = c.if-line-ne-LINE_BYTES.false;
-      front = c.begins.ensures.value.0 c.if-not-begins.false;
-      number = c.in_ok-page.ensures.cases.0;
-      space = search rules;
-      words = c.in_ok-words.ensures.cases.0;
-    };
+    form = told_page c.args.line.now c.if-line-ne-LINE_BYTES.false (sym c.begins.ensures.value ∙ c.if-not-begins.false) (search rules) c.in_ok-page.ensures.cases.0 c.in_ok-words.ensures.cases.0;
     page_is = c.in_ok-page.ensures.cases.1;
     words_are = c.in_ok-words.ensures.cases.1;
   };
 }
+
+pub returns-in_err-words : goal.returns-in_err-words
+returns-in_err-words c = rw c.from_residual-in_err-words.ensures (record { cases = other_words c.args.line.now c.in_err-words.ensures.cases })

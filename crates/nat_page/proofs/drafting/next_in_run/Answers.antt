@@ -1,7 +1,7 @@
 use Rattle.std.proofs.Common.{◌≡◌, ◌+◌, ◌*◌, ◌/◌, ◌%◌, ℕ, subst, sym, ap, arith, ◌∙◌}
 use Rattle.page_index.specs.Entries.{IsEntry}
 use Rattle.nat_page.specs.Making.{HasNoEntry}
-use Rattle.nat_page.specs.Drafts.{StopsBehind}
+use Rattle.nat_page.specs.Drafted.{StopsBehind}
 use Rattle.nat_page.proofs.drafting.next_in_run.Goals as goal
 
 -- the address behind has an entry

@@ -1,5 +1,6 @@
-use Rattle.std.proofs.Common.{◌≡◌, sym, ap, ◌∙◌, subst}
+use Rattle.std.proofs.Common.{sym, ap, ◌∙◌, subst}
 use Rattle.tk_tasks.specs.States.{Tasks, AreSound}
+use Rattle.tk_tasks.specs.Held.{value_of}
 use Rattle.tk_tasks.specs.InTurn.{WentOutInTurn}
 use Rattle.tk_tasks.proofs.Runs.{has_run, sound_counts, counts_as}
 use Rattle.tk_tasks.proofs.tasks.Tasks.run.Goals as goal
@@ -7,11 +8,11 @@ use Rattle.tk_tasks.proofs.tasks.Tasks.run.Goals as goal
 pub returns-clause-run : goal.returns-clause-run
 returns-clause-run g c =
     let t = c.put_plays-result.new.t in
-    let s = c.self.inside in
     let written : Tasks → Tasks = λ u. record u { broken = c.is_err-self-inside.result; natural = c.all_counts-counts.result.natural; entries = c.all_counts-counts.result.entries } in
-    let seen : written (record { kernel = s.kernel; running = s.running; stub = s.stub; tasks = s.tasks.items; broken = s.broken; natural = s.natural; entries = s.entries; pages = s.pages; switches = s.switches }) ≡ written t = ap written c.self.view_is in
-    has_run c.put_plays-result.result c.args.n c.args.self.now t (written (record { kernel = s.kernel; running = s.running; stub = s.stub; tasks = s.tasks.items; broken = s.broken; natural = s.natural; entries = s.entries; pages = s.pages; switches = s.switches })) (g.K.Sink.taken c.args.out.now) (g.K.Sink.taken c.put_plays-result.new.out) c.put_plays-result.ensures.gathered
-    (seen ∙ counts_as t t c.is_err-self-inside.result c.all_counts-counts.result.natural c.all_counts-counts.result.entries c.put_plays-result.result c.is_err-self-inside.ensures.value c.all_counts-counts.ensures.natural c.all_counts-counts.ensures.entries)
+    has_run c.put_plays-result.result c.args.n c.args.self.now t (written (value_of c.self.inside)) (g.K.Sink.taken c.args.out.now) (g.K.Sink.taken c.put_plays-result.new.out)
+    c.put_plays-result.ensures.put
+    (ap written c.self.view_is ∙ counts_as t t c.is_err-self-inside.result c.all_counts-counts.result.natural c.all_counts-counts.result.entries c.put_plays-result.result
+    c.is_err-self-inside.ensures.value c.all_counts-counts.ensures.natural c.all_counts-counts.ensures.entries)
 
 pub returns-clause-sound : goal.returns-clause-sound
 returns-clause-sound g c =

@@ -1,0 +1,3 @@
+-- Laws of drafts that are kept.
+mod AlikeLaws
+mod KeepLaws

@@ -1,5 +1,0 @@
-use Rattle.flash_model.specs.DecodeCache.{StandForPage}
-use Rattle.nat_page.proofs.keeping.learn_words.Given as goal
-
-abbrev pub invariant-words : goal.invariant-words
-invariant-words l = StandForPage l.words l.micro_ops

@@ -1,0 +1,2 @@
+-- Walks from one state.
+pub mod OneWalk
